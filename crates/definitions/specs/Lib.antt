@@ -1,0 +1,19 @@
+-- The definitions, in the order to read them.
+pub mod Basics
+pub mod Expression
+pub mod Literals
+pub mod Encode
+pub mod Leaves
+pub mod Readers
+pub mod Decode
+pub mod Plans
+pub mod Match
+pub mod Extract
+pub mod Exchange
+pub mod Calls
+pub mod Machine
+pub mod Limits
+pub mod Meaning
+pub mod Logical
+pub mod Program
+pub mod Claims

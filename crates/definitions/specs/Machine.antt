@@ -1,0 +1,120 @@
+-- The two-bit machine, and the same list of calls made on lent buffers.
+use Prim.Native.Nat.{ℕ}
+use mathlib.Core.Bool.{Bool, true, false, not}
+use mathlib.Core.List.{List, [], _∷_}
+use mathlib.Core.Option.{Option, none, some}
+use lib.ListN.{length}
+use lib.Dec.{leb}
+use Rattle.definitions.specs.Basics.{if_then_else_, Result, ok, refused}
+use Rattle.definitions.specs.Expression.{Frame, Extraction, Plan, held, extracted}
+use Rattle.definitions.specs.Encode.{planBytes}
+use Rattle.definitions.specs.Extract.{extraction}
+use Rattle.definitions.specs.Exchange.{exchangePlan}
+use Rattle.definitions.specs.Calls.{Outcome, extract, exchange}
+
+-- The calls of a list.
+pub data Kind : Type 0 where
+  extractCall exchangeCall : Kind
+
+-- ---- the machine
+
+-- The extracted bit and the odd bit.
+pub record Bits : Type 0 where
+  pub isExtracted : Bool
+  pub isOdd : Bool
+
+-- One call as the machine is fed it: its kind and the length of its scratch.
+pub record Fed : Type 0 where
+  pub kind : Kind
+  pub room : ℕ
+
+-- An extraction as plan; the plan where there is none.
+unfoldable pub extractionOr : Plan → Option Extraction → Plan
+extractionOr plan none = plan
+extractionOr plan (some X) = extracted X
+
+-- F, or its extraction where that bit is 1; exchanged once where the odd bit is 1.
+unfoldable pub machinePlan : Frame → Bits → Plan
+machinePlan F bits =
+    let base : Plan = if bits .isExtracted then extractionOr (held F) (extraction F) else held F in
+    if bits .isOdd then exchangePlan base else base
+
+-- The length of the machine's plan.
+unfoldable pub machineLength : Frame → Bits → ℕ
+machineLength F bits = length (planBytes (machinePlan F bits))
+
+-- The machine's answer, and its bits afterwards.
+pub record Step : Type 0 where
+  pub answer : Result ℕ
+  pub bits : Bits
+
+-- A refused call gives its number and changes neither bit.
+unfoldable pub refuseStep : Bits → ℕ → Step
+refuseStep bits number = record { answer = refused number; bits = bits }
+
+-- An accepted call gives the length of the machine's new plan.
+unfoldable pub acceptStep : Frame → Bits → Step
+acceptStep F bits = record { answer = ok (machineLength F bits); bits = bits }
+
+-- 13 if no AND-leaf of F matches, else the extracted bit becomes 1.
+unfoldable pub takeStep : Frame → Bits → Option Extraction → Step
+takeStep F bits none = refuseStep bits 13
+takeStep F bits (some X) = acceptStep F (record { isExtracted = true; isOdd = bits .isOdd })
+
+-- Exchange: 9, else the odd bit flips. Extract: 12, 9, 13, else the extracted bit becomes 1.
+unfoldable pub machineStep : Frame → Bits → Kind → (room : ℕ) → Step
+machineStep F bits exchangeCall room =
+    if leb (machineLength F bits) room
+    then acceptStep F (record { isExtracted = bits .isExtracted; isOdd = not (bits .isOdd) })
+    else refuseStep bits 9
+machineStep F bits extractCall room =
+    if bits .isExtracted then refuseStep bits 12 else
+    if leb (machineLength F bits) room then takeStep F bits (extraction F) else
+    refuseStep bits 9
+
+-- The answers of a list of calls, and the bits at its end.
+pub record Run : Type 0 where
+  pub answers : List (Result ℕ)
+  pub bits : Bits
+
+-- The machine fed a list of calls.
+unfoldable pub machineRun : Frame → Bits → List Fed → Run
+machineRun F bits [] = record { answers = []; bits = bits }
+machineRun F bits (c ∷ cs) =
+    let step : Step = machineStep F bits (c .kind) (c .room) in
+    let after : Run = machineRun F (step .bits) cs in
+    record { answers = step .answer ∷ after .answers; bits = after .bits }
+
+-- Both bits are 0 at the start.
+unfoldable pub fresh : Bits
+fresh = record { isExtracted = false; isOdd = false }
+
+-- ---- the calls
+
+-- One call as it is made, with its own scratch.
+pub record Made : Type 0 where
+  pub kind : Kind
+  pub scratch : List ℕ
+
+-- A call as the machine is fed it.
+unfoldable pub fed : Made → Fed
+fed c = record { kind = c .kind; room = length (c .scratch) }
+
+-- The call of a kind.
+unfoldable pub make : Kind → (n : ℕ) → (buffer scratch : List ℕ) → Outcome
+make extractCall n buffer scratch = extract n buffer scratch
+make exchangeCall n buffer scratch = exchange n buffer scratch
+
+-- The answers of a list of calls, and n and the plan buffer at its end.
+pub record Calls : Type 0 where
+  pub answers : List (Result ℕ)
+  pub n : ℕ
+  pub buffer : List ℕ
+
+-- A list of calls, each given the last n and the plan buffer as it was left.
+unfoldable pub callsRun : (n : ℕ) → (buffer : List ℕ) → List Made → Calls
+callsRun n buffer [] = record { answers = []; n = n; buffer = buffer }
+callsRun n buffer (c ∷ cs) =
+    let one : Outcome = make (c .kind) n buffer (c .scratch) in
+    let after : Calls = callsRun (one .n) (one .buffer) cs in
+    record { answers = one .answer ∷ after .answers; n = after .n; buffer = after .buffer }

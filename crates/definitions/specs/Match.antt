@@ -1,0 +1,231 @@
+-- What an AND-leaf asks for, the sides of its arguments, and whether it matches.
+use Prim.Native.Nat.{ℕ}
+use mathlib.Core.Bool.{Bool, true, false, _&&_}
+use mathlib.Core.List.{List, [], _∷_, _++_, map}
+use mathlib.Core.Option.{Option, none, some}
+use lib.ListN.{getD}
+use Rattle.definitions.specs.Basics.{if_then_else_, ascii, sameName, all}
+use Rattle.definitions.specs.Expression.{Side, left, right, noSide, Relation, intersects, contains, within, covers, coveredBy, touches, crosses, overlaps, equals, Expr, column, literal, and, binary, call, other, field, Exprs, nil, cons, Record, Predicate, relation, distance, knn}
+use Rattle.definitions.specs.Literals.{numberU32, numberBool}
+use Rattle.definitions.specs.Leaves.{relationNamed, Comparison, compares, noComparison, comparison, distanceArguments}
+
+-- ---- what a leaf asks for, before its columns are looked at
+
+-- A relation of two geometries, a distance of two geometries and a bound, a KNN of a query and an object, or nothing.
+pub data Request : Type 0 where
+  askRelation : Relation → (first second : Expr) → Request
+  askDistance : (form : ℕ) → (first second bound : Expr) → Request
+  askKnn : (k spheroid ties : ℕ) → (query object : Expr) → Request
+  askNothing : Request
+
+-- A relation takes its first two arguments.
+unfoldable pub relationRequest : Option Relation → Exprs → Request
+relationRequest none arguments = askNothing
+relationRequest (some type) nil = askNothing
+relationRequest (some type) (cons a nil) = askNothing
+relationRequest (some type) (cons a (cons b more)) = askRelation type a b
+
+-- `st_dwithin` takes its first three arguments; its form is 0.
+unfoldable pub dwithinRequest : Exprs → Request
+dwithinRequest nil = askNothing
+dwithinRequest (cons a nil) = askNothing
+dwithinRequest (cons a (cons b nil)) = askNothing
+dwithinRequest (cons a (cons b (cons bound more))) = askDistance 0 a b bound
+
+-- A literal that is a whole number from 0 to 4,294,967,295.
+unfoldable pub literalU32 : Expr → Option ℕ
+literalU32 (literal type bytes) = numberU32 type bytes
+literalU32 (column index tag) = none
+literalU32 (and l r) = none
+literalU32 (binary operator l r) = none
+literalU32 (call name arguments) = none
+literalU32 (other tag children) = none
+literalU32 (field bits tag) = none
+
+-- A literal that is Boolean.
+unfoldable pub literalBool : Expr → Option ℕ
+literalBool (literal type bytes) = numberBool type bytes
+literalBool (column index tag) = none
+literalBool (and l r) = none
+literalBool (binary operator l r) = none
+literalBool (call name arguments) = none
+literalBool (other tag children) = none
+literalBool (field bits tag) = none
+
+-- KNN needs k and both flags.
+unfoldable pub knnLiterals : (k spheroid ties : Option ℕ) → (query object : Expr) → Request
+knnLiterals none spheroid ties a b = askNothing
+knnLiterals (some k) none ties a b = askNothing
+knnLiterals (some k) (some spheroid) none a b = askNothing
+knnLiterals (some k) (some spheroid) (some ties) a b = askKnn k spheroid ties a b
+
+-- `st_knn` has two to five arguments; k is 1, spheroid false (0) and ties absent (2) where they are missing.
+unfoldable pub knnRequest : Exprs → Request
+knnRequest nil = askNothing
+knnRequest (cons a nil) = askNothing
+knnRequest (cons a (cons b nil)) = askKnn 1 0 2 a b
+knnRequest (cons a (cons b (cons k nil))) = knnLiterals (literalU32 k) (some 0) (some 2) a b
+knnRequest (cons a (cons b (cons k (cons s nil)))) = knnLiterals (literalU32 k) (literalBool s) (some 2) a b
+knnRequest (cons a (cons b (cons k (cons s (cons t nil))))) = knnLiterals (literalU32 k) (literalBool s) (literalBool t) a b
+knnRequest (cons a (cons b (cons k (cons s (cons t (cons x more)))))) = askNothing
+
+-- A function asks by its name.
+unfoldable pub callRequest : (name : List ℕ) → Exprs → Request
+callRequest name arguments =
+    if sameName name (ascii "st_knn") then knnRequest arguments else
+    if sameName name (ascii "st_dwithin") then dwithinRequest arguments else
+    relationRequest (relationNamed name) arguments
+
+-- A comparison takes the first two arguments of `st_distance`.
+unfoldable pub distanceRequest : (form : ℕ) → (bound : Expr) → Option Exprs → Request
+distanceRequest form bound none = askNothing
+distanceRequest form bound (some nil) = askNothing
+distanceRequest form bound (some (cons a nil)) = askNothing
+distanceRequest form bound (some (cons a (cons b more))) = askDistance form a b bound
+
+-- The form of a comparison is its operator's number.
+unfoldable pub comparisonRequest : (form : ℕ) → Comparison → Request
+comparisonRequest form noComparison = askNothing
+comparisonRequest form (compares measured bound) = distanceRequest form bound (distanceArguments measured)
+
+-- What a leaf asks for.
+unfoldable pub request : Expr → Request
+request (call name arguments) = callRequest name arguments
+request (binary operator l r) = comparisonRequest operator (comparison operator l r)
+request (column index tag) = askNothing
+request (literal type bytes) = askNothing
+request (and l r) = askNothing
+request (other tag children) = askNothing
+request (field bits tag) = askNothing
+
+-- ---- sides
+
+unfoldable mutual
+  -- The indexes of an expression's column nodes, in prefix order.
+  pub columnsOf : Expr → List ℕ
+  columnsOf (column index tag) = index ∷ []
+  columnsOf (literal type bytes) = []
+  columnsOf (and l r) = columnsOf l ++ columnsOf r
+  columnsOf (binary operator l r) = columnsOf l ++ columnsOf r
+  columnsOf (call name arguments) = columnsOfAll arguments
+  columnsOf (other tag children) = columnsOfAll children
+  columnsOf (field bits tag) = []
+
+  -- Those of several expressions.
+  pub columnsOfAll : Exprs → List ℕ
+  columnsOfAll nil = []
+  columnsOfAll (cons e es) = columnsOf e ++ columnsOfAll es
+
+-- The record of a column index.
+unfoldable pub recordAt : List Record → (index : ℕ) → Record
+recordAt records index = getD records index (record { side = noSide; child = 0; tag = 0 })
+
+-- Whether two sides are the same.
+unfoldable pub sameSide : Side → Side → Bool
+sameSide left left = true
+sameSide left right = false
+sameSide left noSide = false
+sameSide right left = false
+sameSide right right = true
+sameSide right noSide = false
+sameSide noSide left = false
+sameSide noSide right = false
+sameSide noSide noSide = true
+
+-- The side of all columns, none (`noSide`) if there are none; undefined (`none`) if they differ.
+unfoldable pub commonSide : List Side → Option Side
+commonSide [] = some noSide
+commonSide (s ∷ ss) = if all (sameSide s) ss then some s else none
+
+-- An argument's side.
+unfoldable pub sideOf : List Record → Expr → Option Side
+sideOf records e = commonSide (map (λ index. recordAt records index .side) (columnsOf e))
+
+-- How two geometries lie: the first left and the second right, the other way round, or neither.
+pub data Order : Type 0 where
+  leftRight rightLeft noOrder : Order
+
+-- Whether a side is defined and this one.
+unfoldable pub isSide : Side → Option Side → Bool
+isSide s none = false
+isSide s (some t) = sameSide s t
+
+-- The order of two geometries by their sides.
+unfoldable pub orderOf : Option Side → Option Side → Order
+orderOf a b =
+    if isSide left a && isSide right b then leftRight else
+    if isSide right a && isSide left b then rightLeft else
+    noOrder
+
+-- ---- matching
+
+unfoldable mutual
+  -- The expression with each column index changed.
+  pub mapColumns : (ℕ → ℕ) → Expr → Expr
+  mapColumns f (column index tag) = column (f index) tag
+  mapColumns f (literal type bytes) = literal type bytes
+  mapColumns f (and l r) = and (mapColumns f l) (mapColumns f r)
+  mapColumns f (binary operator l r) = binary operator (mapColumns f l) (mapColumns f r)
+  mapColumns f (call name arguments) = call name (mapColumnsAll f arguments)
+  mapColumns f (other tag children) = other tag (mapColumnsAll f children)
+  mapColumns f (field bits tag) = field bits tag
+
+  -- Several expressions with each column index changed.
+  pub mapColumnsAll : (ℕ → ℕ) → Exprs → Exprs
+  mapColumnsAll f nil = nil
+  mapColumnsAll f (cons e es) = cons (mapColumns f e) (mapColumnsAll f es)
+
+-- Columns become their record's child index.
+unfoldable pub onChild : List Record → Expr → Expr
+onChild records e = mapColumns (λ index. recordAt records index .child) e
+
+-- The relation that holds of the exchanged arguments.
+unfoldable pub invert : Relation → Relation
+invert intersects = intersects
+invert contains = within
+invert within = contains
+invert covers = coveredBy
+invert coveredBy = covers
+invert touches = touches
+invert crosses = crosses
+invert overlaps = overlaps
+invert equals = equals
+
+-- The left geometry is stored first, the type inverted where that exchanges the arguments.
+unfoldable pub matchRelation : Relation → (first second : Expr) → Order → Option Predicate
+matchRelation type a b leftRight = some (relation type a b)
+matchRelation type a b rightLeft = some (relation (invert type) b a)
+matchRelation type a b noOrder = none
+
+-- A distance's bound on its child; one of side none is copied.
+unfoldable pub boundOn : List Record → Side → (bound : Expr) → Expr
+boundOn records left bound = onChild records bound
+boundOn records right bound = onChild records bound
+boundOn records noSide bound = bound
+
+-- A distance needs also a defined side of its bound.
+unfoldable pub matchDistance : List Record → (form : ℕ) → (first second bound : Expr) → Option Side → Order → Option Predicate
+matchDistance records form a b bound none order = none
+matchDistance records form a b bound (some side) leftRight = some (distance form side a b (boundOn records side bound))
+matchDistance records form a b bound (some side) rightLeft = some (distance form side b a (boundOn records side bound))
+matchDistance records form a b bound (some side) noOrder = none
+
+-- KNN stores its first argument first, with its side as probe side.
+unfoldable pub matchKnn : (k spheroid ties : ℕ) → (query object : Expr) → Order → Option Predicate
+matchKnn k spheroid ties a b leftRight = some (knn k spheroid left ties a b)
+matchKnn k spheroid ties a b rightLeft = some (knn k spheroid right ties a b)
+matchKnn k spheroid ties a b noOrder = none
+
+-- The predicate of a request, if the sides of its arguments let it match.
+unfoldable pub matchRequest : List Record → Request → Option Predicate
+matchRequest records (askRelation type a b) =
+    matchRelation type (onChild records a) (onChild records b) (orderOf (sideOf records a) (sideOf records b))
+matchRequest records (askDistance form a b bound) =
+    matchDistance records form (onChild records a) (onChild records b) bound (sideOf records bound) (orderOf (sideOf records a) (sideOf records b))
+matchRequest records (askKnn k spheroid ties a b) =
+    matchKnn k spheroid ties (onChild records a) (onChild records b) (orderOf (sideOf records a) (sideOf records b))
+matchRequest records askNothing = none
+
+-- The predicate of a leaf that matches.
+unfoldable pub matchLeaf : List Record → (leaf : Expr) → Option Predicate
+matchLeaf records leaf = matchRequest records (request leaf)
