@@ -170,9 +170,12 @@ same-side-refl left = refl
 same-side-refl right = refl
 same-side-refl noSide = refl
 
+same-number : (n : ℕ) → eqb n n ≡ true
+same-number n = eq-eqb n n refl
+
 same-column-refl : (r : Record) → sameColumn r r ≡ true
 unfolding sameColumn
-same-column-refl r = ap₂ _&&_ (same-side-refl (r .side)) (eq-eqb (r .child) (r .child) refl)
+same-column-refl r = simp (same-side-refl, same-number)
 
 -- Each element of a list is found in it, by a test that every element passes with itself.
 found : (g : ℕ → ℕ → Bool) → ((i : ℕ) → g i i ≡ true) → (xs ys : List ℕ)

@@ -1,13 +1,12 @@
 -- Tools without a subject of their own: choice, answers, names, numbers as bytes, lists under a test.
-use Prim.Native.Nat.{ℕ, zero, suc, _+_, _*_, _/_, _%_, _^_}
+use Prim.Native.Nat.{ℕ, zero, suc, _/_, _%_, _^_}
 use Prim.Native.String.{String, [] as no-text, _∷_ as _then_}
 use Prim.Native.Char.{code}
 use mathlib.Core.Bool.{Bool, true, false, _&&_, _||_}
-use mathlib.Core.List.{List, [], _∷_, _++_}
+use mathlib.Core.List.{List, [], _∷_}
 use lib.Dec.{eqb}
 
 infix 5 if_then_else_
-
 -- The first value if the test holds, else the second.
 abbrev pub if_then_else_ {ℓ} : {X : Type ℓ} → Bool → X → X → X
 if_then_else_ true x y = x

@@ -1,6 +1,5 @@
 -- The calls load, extract and exchange on lent buffers. (The logical call has no buffers: Logical.)
 use Prim.Native.Nat.{ℕ}
-use mathlib.Core.Bool.{Bool, true, false}
 use mathlib.Core.List.{List, _++_}
 use mathlib.Core.Option.{Option, none, some}
 use lib.ListN.{length, take, drop}

@@ -8,17 +8,15 @@ use lib.ListN.{length, take, getD}
 use lib.Dec.{leb}
 use lib.Count.{ones}
 use Rattle.definitions.specs.Basics.{if_then_else_, Result, ok, refused, any}
-use Rattle.definitions.specs.Expression.{Expr, literal, Record, Frame, Predicate, Extraction, Plan, empty, held, extracted}
+use Rattle.definitions.specs.Expression.{Expr, Frame, Predicate, Extraction, Plan, empty, held, extracted}
 use Rattle.definitions.specs.Encode.{exprBytes, frameBytes, extractionBytes, planBytes}
-use Rattle.definitions.specs.Leaves.{leaves}
 use Rattle.definitions.specs.Readers.{read}
 use Rattle.definitions.specs.Decode.{Columns, expression}
 use Rattle.definitions.specs.Plans.{frameOf, planOf}
-use Rattle.definitions.specs.Match.{matchLeaf}
-use Rattle.definitions.specs.Extract.{Pick, isKnn, pick, without, prune, matchesOf, extraction}
+use Rattle.definitions.specs.Extract.{isKnn, pick, without, prune, matchesOf, extraction}
 use Rattle.definitions.specs.Exchange.{exchangeFrame, exchangeExtraction, exchangePlan}
-use Rattle.definitions.specs.Calls.{LoadOutcome, load, heldPlan, Outcome}
-use Rattle.definitions.specs.Machine.{Kind, extractCall, exchangeCall, Bits, machinePlan, machineLength, Run, machineRun, fresh, Made, fed, make, Calls, callsRun}
+use Rattle.definitions.specs.Calls.{load, heldPlan, Outcome}
+use Rattle.definitions.specs.Machine.{Kind, extractCall, exchangeCall, machinePlan, machineLength, Run, machineRun, fresh, Made, fed, make, Calls, callsRun}
 use Rattle.definitions.specs.Limits.{AllBytes, nodes, Readable, GoodPlan, NoMarks}
 use Rattle.definitions.specs.Meaning.{Valuation, Meaning, Fair, andValue, frameValue, extractionValue, planValue, exchangedValues}
 use Rattle.definitions.specs.Logical.{mask, distinct}

@@ -1,14 +1,13 @@
 -- Nodes, records, frames and extractions read from bytes; the lines of a `do` block are refused in their order.
 use Prim.Native.Nat.{ℕ, zero, suc}
-use mathlib.Core.Bool.{Bool, true, false, _&&_}
-use mathlib.Core.List.{List}
+use mathlib.Core.Bool.{Bool, true, _&&_}
 use mathlib.Core.Option.{Option, none, some}
 use lib.Dec.{leb, ltb, eqb}
 use Rattle.definitions.specs.Basics.{if_then_else_}
 use Rattle.definitions.specs.Expression.{Side, left, right, noSide, Relation, intersects, contains, within, covers, coveredBy, touches, crosses, overlaps, equals, Expr, column, literal, and, binary, call, other, field, Exprs, nil, cons, Record, Frame, Predicate, relation, distance, knn, Extraction}
 use Rattle.definitions.specs.Literals.{literalInRange}
 use Rattle.definitions.specs.Leaves.{arity}
-use Rattle.definitions.specs.Readers.{Read, read, stopped, Reader, continue, _>>=_, _>>_, give, refuse, require, firstByte, byte, byteUpTo, byteBetween, number, repeat}
+use Rattle.definitions.specs.Readers.{read, stopped, Reader, _>>=_, _>>_, give, refuse, require, byte, byteUpTo, byteBetween, number, repeat}
 
 -- ---- nodes
 

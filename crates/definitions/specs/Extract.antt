@@ -1,14 +1,14 @@
 -- The pick, the remainder, and the extraction of a frame.
-use Prim.Native.Nat.{ℕ, zero, suc, _-_}
+use Prim.Native.Nat.{ℕ, suc, _-_}
 use mathlib.Core.Bool.{Bool, true, false, _&&_}
-use mathlib.Core.List.{List, [], _∷_, _++_, map}
+use mathlib.Core.List.{List, [], _∷_, map}
 use mathlib.Core.Option.{Option, none, some, Option·map}
 use lib.ListN.{length, take}
 use lib.Dec.{ltb, eqb}
 use Rattle.definitions.specs.Basics.{if_then_else_, any, keep}
-use Rattle.definitions.specs.Expression.{Side, left, right, noSide, Expr, column, literal, and, binary, call, other, field, Record, Frame, Predicate, relation, distance, knn, Extraction, Plan, empty, held, extracted}
+use Rattle.definitions.specs.Expression.{Expr, column, literal, and, binary, call, other, field, Record, Frame, Predicate, relation, distance, knn, Extraction}
 use Rattle.definitions.specs.Leaves.{leaves}
-use Rattle.definitions.specs.Match.{matchLeaf, columnsOf, recordAt, sameSide, mapColumns, invert}
+use Rattle.definitions.specs.Match.{matchLeaf, columnsOf, recordAt, sameSide, mapColumns}
 
 -- ---- the pick
 

@@ -1,11 +1,11 @@
 -- AND-leaves, the names and comparisons that they are read by, and the arity that they need (refusal 8).
 use Prim.Native.Nat.{ℕ}
-use mathlib.Core.Bool.{Bool, true, false, _||_}
+use mathlib.Core.Bool.{Bool, true, _||_}
 use mathlib.Core.List.{List, [], _∷_, _++_}
 use mathlib.Core.Option.{Option, none, some}
 use lib.Dec.{leb, eqb}
 use Rattle.definitions.specs.Basics.{if_then_else_, ascii, sameName, all}
-use Rattle.definitions.specs.Expression.{Relation, intersects, contains, within, covers, coveredBy, touches, crosses, overlaps, equals, Expr, column, literal, and, binary, call, other, field, Exprs, nil, cons, count}
+use Rattle.definitions.specs.Expression.{Relation, intersects, contains, within, covers, coveredBy, touches, crosses, overlaps, equals, Expr, column, literal, and, binary, call, other, field, Exprs, count}
 
 -- The nodes reached from the root through And nodes only, left to right.
 unfoldable pub leaves : Expr → List Expr

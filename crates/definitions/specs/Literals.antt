@@ -1,6 +1,6 @@
 -- Literals: types 0 null, 1 Boolean, 2 Int32, 3 Int64, 4 UInt32, 5 UInt64, 6 other; the eight bytes are one unsigned number.
 use Prim.Native.Nat.{ℕ, _-_}
-use mathlib.Core.Bool.{Bool, true, false, _&&_, _||_}
+use mathlib.Core.Bool.{Bool, true, _||_}
 use mathlib.Core.Option.{Option, none, some}
 use lib.Dec.{leb, ltb, eqb}
 use lib.IntN.{ℤ, pos, negsuc}

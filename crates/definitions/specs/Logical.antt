@@ -1,10 +1,10 @@
 -- The logical call: which spatial names a filter has, and the query side of its first KNN call.
-use Prim.Native.Nat.{ℕ, zero, suc, _+_, _*_, _/_, _%_}
-use mathlib.Core.Bool.{Bool, true, false, _&&_, _||_, not}
+use Prim.Native.Nat.{ℕ, _+_, _*_, _/_, _%_}
+use mathlib.Core.Bool.{Bool, _&&_, not}
 use mathlib.Core.List.{List, [], _∷_, _++_, map}
 use mathlib.Core.Option.{Option, none, some}
 use lib.Dec.{leb, eqb}
-use Rattle.definitions.specs.Basics.{if_then_else_, Result, ok, refused, mapResult, ascii, sameName, bigEndian, any, all}
+use Rattle.definitions.specs.Basics.{if_then_else_, Result, mapResult, ascii, sameName, bigEndian, any, all}
 use Rattle.definitions.specs.Expression.{Side, left, right, noSide, Expr, column, literal, and, binary, call, other, field, Exprs, nil, cons}
 use Rattle.definitions.specs.Encode.{sideNumber}
 use Rattle.definitions.specs.Leaves.{leaves, Comparison, compares, noComparison, comparison}

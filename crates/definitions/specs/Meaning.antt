@@ -4,9 +4,8 @@ use mathlib.Core.Path.{_≡_}
 use mathlib.Core.List.{List, [], _∷_}
 use mathlib.Core.Option.{Option, none, some}
 use lib.Dec.{eqb}
-use mathlib.Core.Bool.{Bool, true, false}
 use Rattle.definitions.specs.Basics.{if_then_else_, ascii}
-use Rattle.definitions.specs.Expression.{Side, left, right, noSide, Relation, Expr, column, literal, and, binary, call, other, field, Exprs, nil, cons, Record, Frame, Predicate, relation, distance, knn, Extraction, Plan, empty, held, extracted}
+use Rattle.definitions.specs.Expression.{Side, left, right, Relation, Expr, column, literal, and, binary, call, other, field, Exprs, nil, cons, Record, Frame, Predicate, relation, distance, knn, Extraction, Plan, empty, held, extracted}
 use Rattle.definitions.specs.Leaves.{relationNamed}
 use Rattle.definitions.specs.Match.{recordAt, invert, matchLeaf}
 use Rattle.definitions.specs.Exchange.{negate}

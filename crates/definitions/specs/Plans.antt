@@ -1,12 +1,11 @@
 -- Whole frames, extractions and held plans: what a list of bytes is, or its first refusal.
 use Prim.Native.Nat.{ℕ}
-use mathlib.Core.Bool.{Bool, true, false}
 use mathlib.Core.List.{List, [], _∷_}
 use lib.Dec.{eqb}
-use Rattle.definitions.specs.Basics.{if_then_else_, Result, ok, refused, mapResult}
+use Rattle.definitions.specs.Basics.{if_then_else_, Result, ok, mapResult}
 use Rattle.definitions.specs.Expression.{Expr, Frame, Extraction, Plan, empty, held, extracted}
 use Rattle.definitions.specs.Leaves.{arity}
-use Rattle.definitions.specs.Readers.{Read, read, stopped, Reader, continue, _>>=_, _>>_, give, require, byte, firstByte, frameLength, atEnd, answer}
+use Rattle.definitions.specs.Readers.{Reader, _>>=_, _>>_, give, require, byte, frameLength, atEnd, answer}
 use Rattle.definitions.specs.Decode.{frameBody, extractionBody, expression, fields}
 
 -- A physical frame: 1, 2, the first of 3 to 6, 7, 8.

@@ -21,7 +21,6 @@ continue (read a n s) next = next a n s
 continue (stopped number) next = stopped number
 
 infixl 30 _>>=_ _>>_
-
 -- `x ← first` reads x, then goes on; the first refusal ends the reading.
 abbrev pub _>>=_ : {A B : Type 0} → Reader A → (A → Reader B) → Reader B
 _>>=_ first next = λ n s. continue (first n s) next
