@@ -1,10 +1,9 @@
 -- What changing column indexes keeps.
-use Prim.Native.Nat.{ℕ, zero, suc, _+_, _*_, _≤_, _<_, max}
-use native.Mathlib.Omega.{arith}
-use mathlib.Core.Path.{_≡_, refl, sym, ap, ap₂, _∙_, subst}
+use Prim.Native.Nat.{ℕ, suc, _+_, max}
+use mathlib.Core.Path.{_≡_, refl, sym, ap, ap₂, _∙_}
 use mathlib.Core.Bool.{Bool, true, false, _&&_, _||_}
 use mathlib.Core.List.{List, [], _∷_, _++_, map, map-append}
-use mathlib.Core.Option.{Option, none, some}
+use mathlib.Core.Option.{none, some}
 use lib.ListN.{length, length-append}
 use lib.Dec.{leb, ltb, eqb}
 use borrow.Author.Tests.{lt-ltb}
@@ -12,7 +11,7 @@ use Rattle.definitions.specs.Basics.{if_then_else_, bigEndian, all, asci
 use Rattle.definitions.specs.Expression.{Expr, column, literal, and, binary, call, other, field, Exprs, nil, cons, count}
 use Rattle.definitions.specs.Encode.{exprBytes, exprsBytes}
 use Rattle.definitions.specs.Leaves.{leaves, callArity, leafArity, arity, comparison, Comparison, compares, noComparison, comparisonArity, distanceArguments, distanceArity}
-use Rattle.definitions.specs.Decode.{Columns, indexBelow, fields}
+use Rattle.definitions.specs.Decode.{indexBelow}
 use Rattle.definitions.specs.Match.{columnsOf, columnsOfAll, mapColumns, mapColumnsAll}
 use Rattle.definitions.specs.Limits.{All, nodes, nodesAll, depth, depthAll, InRange, InRangeAll, Short}
 

@@ -1,16 +1,15 @@
 -- Exchange twice is the identity, and extraction commutes with exchange.
 use Prim.Native.Nat.{ℕ, zero, suc}
-use mathlib.Core.Path.{_≡_, refl, sym, ap, ap₂, _∙_, fun-ext}
+use mathlib.Core.Path.{_≡_, refl, ap, ap₂, _∙_, fun-ext}
 use mathlib.Core.Bool.{Bool, true, false, _&&_, _||_}
-use mathlib.Core.List.{List, [], _∷_, _++_, map}
+use mathlib.Core.List.{List, [], _∷_, map}
 use mathlib.Core.Option.{Option, none, some, Option·map}
-use lib.ListN.{length, take, getD, List·getD-map}
-use lib.Dec.{eqb}
+use lib.ListN.{length, take, List·getD-map}
 use Rattle.definitions.specs.Basics.{if_then_else_, all, any, keep}
-use Rattle.definitions.specs.Expression.{Side, left, right, noSide, Relation, intersects, contains, within, covers, coveredBy, touches, crosses, overlaps, equals, Expr, Exprs, Record, Frame, Predicate, relation, distance, knn, Extraction, Plan, empty, held, extracted}
+use Rattle.definitions.specs.Expression.{Side, left, right, noSide, Relation, intersects, contains, within, covers, coveredBy, touches, crosses, overlaps, equals, Expr, Record, Frame, Predicate, relation, distance, knn, Extraction, Plan, empty, held, extracted}
 use Rattle.definitions.specs.Leaves.{leaves}
 use Rattle.definitions.specs.Match.{Order, leftRight, rightLeft, noOrder, Request, askRelation, askDistance, askKnn, askNothing, request, recordAt, onChild, mapColumns, columnsOf, sameSide, commonSide, sideOf, isSide, orderOf, boundOn, matchRelation, matchDistance, matchKnn, matchRequest, matchLeaf, invert}
-use Rattle.definitions.specs.Extract.{Pick, isKnn, later, firstMatch, firstOf, pick, without, sameColumn, referenced, newIndex, prune, takePick, matchesOf, extraction}
+use Rattle.definitions.specs.Extract.{Pick, isKnn, later, firstMatch, firstOf, pick, sameColumn, referenced, newIndex, prune, takePick, matchesOf, extraction}
 use Rattle.definitions.specs.Exchange.{negate, exchangeRecord, exchangeFrame, exchangePredicate, exchangeExtraction, exchangePlan}
 
 -- ---- exchange twice
@@ -297,10 +296,20 @@ unfolding takePick exchangeFrame exchangeExtraction exchangePick
 take-exchanged F none = refl
 take-exchanged F (some p) = rw (rest-swapped (F .records))
 
+-- The pick of the exchanged frame is the exchanged pick, at the same position.
+picked-exchanged : (F : Frame) → pick (matchesOf (exchangeFrame F)) ≡ Option·map exchangePick (pick (matchesOf F))
+unfolding matchesOf exchangeFrame
+picked-exchanged F = ap pick (leaves-swapped (F .records) (leaves (F .expr))) ∙ pick-exchanged (matchesOf F)
+
+same-position : (p : Option Pick) → Option·map (λ q. q .position) (Option·map exchangePick p) ≡ Option·map (λ q. q .position) p
+unfolding exchangePick
+same-position none = refl
+same-position (some p) = refl
+
+pub position-exchanged : (F : Frame) → Option·map (λ p. p .position) (pick (matchesOf (exchangeFrame F))) ≡ Option·map (λ p. p .position) (pick (matchesOf F))
+position-exchanged F = ap (Option·map (λ p. p .position)) (picked-exchanged F) ∙ same-position (pick (matchesOf F))
+
 -- The extraction of the exchanged frame is the exchanged extraction; where one is none so is the other.
 pub extraction-exchange : (F : Frame) → extraction (exchangeFrame F) ≡ Option·map exchangeExtraction (extraction F)
-unfolding extraction matchesOf exchangeFrame
-extraction-exchange F =
-    ap (λ (ms : List (Option Predicate)). takePick (exchangeFrame F) (pick ms)) (leaves-swapped (F .records) (leaves (F .expr)))
-    ∙ ap (takePick (exchangeFrame F)) (pick-exchanged (matchesOf F))
-    ∙ take-exchanged F (pick (matchesOf F))
+unfolding extraction
+extraction-exchange F = ap (takePick (exchangeFrame F)) (picked-exchanged F) ∙ take-exchanged F (pick (matchesOf F))

@@ -1,17 +1,15 @@
 -- The exchange of a good plan is good and as long.
-use Prim.Native.Nat.{ℕ, zero, suc, _+_, _*_, _≤_, _<_}
-use native.Mathlib.Nat.{add-comm, le-of-eq, le-trans}
+use Prim.Native.Nat.{ℕ, suc, _+_, _*_}
 use native.Mathlib.Omega.{arith}
-use mathlib.Core.Path.{_≡_, refl, sym, ap, ap₂, _∙_, subst}
-use mathlib.Core.List.{List, [], _∷_, _++_, map}
+use mathlib.Core.Path.{_≡_, refl, sym, ap, ap₂, _∙_}
+use mathlib.Core.List.{List, [], _∷_, map}
 use mathlib.Core.Option.{Option, none, some, Option·map}
 use lib.ListN.{length, length-append, length-map}
 use Rattle.definitions.specs.Basics.{bigEndian}
-use Rattle.definitions.specs.Expression.{Side, left, right, noSide, Expr, Record, Frame, Predicate, relation, distance, knn, Extraction, Plan, empty, held, extracted}
-use Rattle.definitions.specs.Encode.{exprBytes, recordBytes, recordsBytes, frameBytes, predicateKind, predicateFields, remainderBytes, extractionBytes, planBytes}
-use Rattle.definitions.specs.Decode.{indexBelow}
+use Rattle.definitions.specs.Expression.{Side, left, right, noSide, Record, Frame, Predicate, relation, distance, knn, Plan, empty, held, extracted}
+use Rattle.definitions.specs.Encode.{exprBytes, recordBytes, recordsBytes, frameBytes, predicateFields, remainderBytes, extractionBytes, planBytes}
 use Rattle.definitions.specs.Exchange.{negate, exchangeRecord, exchangeFrame, exchangePredicate, exchangeExtraction, exchangePlan}
-use Rattle.definitions.specs.Limits.{nodes, Readable, RecordsInRange, ReadableFrame, OneOfTwo, ReadablePredicate, ReadableRemainder, predicateNodes, remainderNodes, planNodes, ReadablePlan, GoodPlan}
+use Rattle.definitions.specs.Limits.{RecordsInRange, ReadableFrame, OneOfTwo, ReadablePredicate, ReadableRemainder, predicateNodes, remainderNodes, planNodes, ReadablePlan, GoodPlan}
 
 -- ---- lengths
 

@@ -1,24 +1,25 @@
 -- The extraction of a good frame is good, and no longer than the frame.
-use Prim.Native.Nat.{ℕ, zero, suc, _+_, _*_, _≤_, _<_, max}
-use native.Mathlib.Nat.{not-suc-le-zero, le-of-suc-le-suc, le-trans, zero-lt-suc}
+use Prim.Native.Nat.{ℕ, zero, suc, _+_, _*_, _≤_, _<_}
+use native.Mathlib.Nat.{not-suc-le-zero, le-of-suc-le-suc, zero-lt-suc}
 use native.Mathlib.Omega.{arith}
 use mathlib.Core.Path.{_≡_, refl, sym, ap, ap₂, _∙_, subst}
-use mathlib.Core.Bool.{Bool, true, false, _&&_, _||_, false≢true, or-true}
-use mathlib.Core.List.{List, [], _∷_, _++_, map}
+use mathlib.Core.Bool.{Bool, true, false, _&&_, _||_, or-true}
+use mathlib.Core.List.{List, [], _∷_}
 use mathlib.Core.Option.{Option, none, some, Option·map}
 use lib.ListN.{length, take, getD, length-append, length-map, List·getD-map}
-use lib.Dec.{leb, ltb, eqb, lit≤, lit<, T}
-use borrow.Author.Tests.{leb-true, eqb-true, ltb-true, lt-ltb, eq-eqb}
+use lib.Dec.{ltb, lit<, eqb}
+use borrow.Author.Tests.{ltb-true, lt-ltb, eq-eqb}
 use Rattle.definitions.specs.Basics.{if_then_else_, bigEndian, any, keep}
-use Rattle.definitions.specs.Expression.{Side, left, right, noSide, Relation, Expr, column, literal, and, binary, call, other, field, Exprs, nil, cons, Record, Frame, Predicate, relation, distance, knn, Extraction, Plan, empty, held, extracted}
-use Rattle.definitions.specs.Encode.{exprBytes, recordsBytes, frameBytes, predicateKind, predicateFields, remainderBytes, extractionBytes, planBytes}
+use Rattle.definitions.specs.Expression.{Side, left, right, noSide, Relation, Expr, literal, Record, Frame, Predicate, Extraction, held, extracted}
+use Rattle.definitions.specs.Encode.{exprBytes, frameBytes, predicateFields, remainderBytes, extractionBytes, planBytes}
 use Rattle.definitions.specs.Leaves.{leaves, arity}
-use Rattle.definitions.specs.Decode.{Columns, indexBelow}
-use Rattle.definitions.specs.Match.{Order, leftRight, rightLeft, noOrder, Request, askRelation, askDistance, askKnn, askNothing, request, recordAt, onChild, mapColumns, columnsOf, columnsOfAll, sameSide, sideOf, orderOf, boundOn, matchRelation, matchDistance, matchKnn, matchRequest, matchLeaf}
+use Rattle.definitions.specs.Decode.{indexBelow}
+use Rattle.definitions.specs.Match.{Order, leftRight, rightLeft, noOrder, Request, askRelation, askDistance, askKnn, askNothing, request, recordAt, onChild, columnsOf, sameSide, sideOf, orderOf, boundOn, matchRelation, matchDistance, matchKnn, matchRequest, matchLeaf}
 use Rattle.definitions.specs.Extract.{Pick, pick, without, sameColumn, referenced, newIndex, prune, takePick, matchesOf, extraction}
-use Rattle.definitions.specs.Limits.{All, nodes, depth, Short, InRange, InRangeAll, Readable, RecordsInRange, ReadableFrame, OneOfTwo, ReadablePredicate, ReadableRemainder, predicateNodes, remainderNodes, planNodes, ReadablePlan, GoodPlan}
-use Rattle.definitions.proofs.Columns.{all-left, all-right, all-every, Fits, map-length, map-nodes, map-depth, map-in-range, map-arity, widen, all-both, columns-below}
-use Rattle.definitions.proofs.Taken.{Taken, taken, taken-bytes, taken-nodes, leaf-depth, rest-depth, leaf-in-range, rest-in-range, rest-arity, restBytes, restNodes, RestIs, At, PickAt, pick-at}
+use Rattle.definitions.specs.Limits.{All, nodes, depth, Short, InRange, Readable, RecordsInRange, ReadableFrame, ReadablePredicate, ReadableRemainder, predicateNodes, remainderNodes, planNodes, GoodPlan}
+use Rattle.definitions.proofs.Columns.{all-every, Fits, map-length, map-nodes, map-depth, map-in-range, map-arity, widen, all-both, columns-below}
+use Rattle.definitions.proofs.Taken.{Taken, taken, taken-bytes, taken-nodes, leaf-depth, rest-depth, leaf-in-range, rest-in-range, rest-arity, restBytes, restNodes, RestIs}
+use Rattle.definitions.proofs.Pick.{Picked, picked}
 use Rattle.definitions.proofs.Requests.{Within, request-within, by-test}
 use Rattle.definitions.proofs.ExchangeGood.{frame-length}
 
@@ -258,7 +259,7 @@ pub match-at : (F : Frame) (i : ℕ) → getD (matchesOf F) i none ≡ matchLeaf
 unfolding matchesOf leafAt matchLeaf request matchRequest
 match-at F i = List·getD-map (matchLeaf (F .records)) (leaves (F .expr)) i (literal 0 0)
 
-pub pick-taken : (F : Frame) (p : Pick) → At (matchesOf F) p → Taken (F .expr) (leafAt F (p .position)) (without (p .position) (F .expr))
+pub pick-taken : (F : Frame) (p : Pick) → Picked F (some p) → Taken (F .expr) (leafAt F (p .position)) (without (p .position) (F .expr))
 unfolding matchesOf leafAt
 pick-taken F p h = taken (F .expr) (literal 0 0) (p .position) (rw (length-map (leaves (F .expr)) (matchLeaf (F .records))) at (h .0))
 
@@ -266,7 +267,7 @@ extraction-length : (X : Extraction) → length (extractionBytes X) ≡ suc (len
 unfolding extractionBytes
 extraction-length X = ap suc (length-append (predicateFields (X .predicate)) (remainderBytes (X .remainder)))
 
-take-good : (F : Frame) → GoodPlan (held F) → (p : Option Pick) → PickAt (matchesOf F) p → GoodExtraction F (takePick F p)
+take-good : (F : Frame) → GoodPlan (held F) → (p : Option Pick) → Picked F p → GoodExtraction F (takePick F p)
 unfolding takePick planBytes planNodes
 take-good F g none h = tt
 take-good F g (some p) h =
@@ -278,7 +279,7 @@ take-good F g (some p) h =
     let range : InRange (indexBelow (length rs)) (F .expr) = good .expr .inRange in
     let deep : depth (F .expr) ≤ 64 = good .expr .shallow in
     let sized : Sized (length (exprBytes leaf)) (nodes leaf) (p .predicate) =
-    subst (SizedMatch (length (exprBytes leaf)) (nodes leaf)) (sym (match-at F (p .position)) ∙ h .1)
+    subst (SizedMatch (length (exprBytes leaf)) (nodes leaf)) (sym (match-at F (p .position)) ∙ h .1 .match)
     (match-sized rs (length rs) leaf (good .recordsInRange) (leaf-in-range (indexBelow (length rs)) t range) (omega (arith, leaf-depth t))) in
     let short : length (extractionBytes (record { predicate = p .predicate; remainder = Option·map (prune rs) rest })) ≤ length (frameBytes F) =
     omega (arith, extraction-length (record { predicate = p .predicate; remainder = Option·map (prune rs) rest }), frame-length F, sized .1, rest-length rs rest, taken-bytes t) in (
@@ -297,4 +298,4 @@ take-good F g (some p) h =
 -- The extraction of a good frame is good, and never longer than the frame.
 pub extraction-good : (F : Frame) → GoodPlan (held F) → GoodExtraction F (extraction F)
 unfolding extraction
-extraction-good F g = take-good F g (pick (matchesOf F)) (pick-at (matchesOf F))
+extraction-good F g = take-good F g (pick (matchesOf F)) (picked F)

@@ -1,22 +1,21 @@
 -- What was read has the bytes that it was read from, and is in range.
-use Prim.Native.Nat.{ℕ, zero, suc, _+_, _*_, _/_, _%_, _^_, _≤_, _<_, max}
-use native.Mathlib.Nat.{pow-succ', mod-eq-of-lt, not-suc-le-zero}
+use Prim.Native.Nat.{ℕ, zero, suc, _+_, _*_, _/_, _%_, _^_, _≤_, _<_}
+use native.Mathlib.Nat.{pow-succ'}
 use native.Mathlib.Omega.{arith}
 use mathlib.Core.Path.{_≡_, refl, sym, ap, ap₂, _∙_, subst}
-use mathlib.Core.Bool.{Bool, true, false, _&&_, false≢true}
+use mathlib.Core.Bool.{Bool, true, false, _&&_}
 use mathlib.Core.List.{List, [], _∷_, _++_, append-assoc}
-use mathlib.Core.Option.{Option, none, some}
 use lib.ListN.{length}
-use lib.Dec.{leb, ltb, eqb, lit<, lit≤}
+use lib.Dec.{leb, ltb, eqb, lit<}
 use lib.Arith.{digits-lt, digits-div, digits-mod}
 use borrow.Author.Tests.{leb-true, ltb-true, eqb-true, eqb-false}
 use Rattle.definitions.specs.Basics.{if_then_else_, bigEndian}
-use Rattle.definitions.specs.Expression.{Side, left, right, noSide, Expr, column, literal, and, binary, call, other, field, Exprs, nil, cons, Record, Frame, count}
+use Rattle.definitions.specs.Expression.{Expr, column, literal, call, other, field, Exprs, nil, cons, count}
 use Rattle.definitions.specs.Literals.{literalInRange}
 use Rattle.definitions.specs.Encode.{exprBytes, exprsBytes}
-use Rattle.definitions.specs.Readers.{Read, read, stopped, Reader, continue, give, refuse, require, firstByte, byte, byteUpTo, byteBetween, numberAfter, number, repeat}
-use Rattle.definitions.specs.Decode.{exprs, Columns, indexBelow, fields, allowedKind, columnNode, fieldNode, literalNode, binaryExpr, binaryNode, callNode, otherNode, anyColumn, nodeOfKind, countNode, nodeKind, node, expression}
-use Rattle.definitions.specs.Limits.{AllBytes, nodes, depth, nodesAll, depthAll, InRange, InRangeAll, NameBytes, Short}
+use Rattle.definitions.specs.Readers.{read, stopped, Reader, give, firstByte, byteUpTo, byteBetween, numberAfter, number, repeat}
+use Rattle.definitions.specs.Decode.{exprs, Columns, indexBelow, fields, allowedKind, columnNode, fieldNode, literalNode, binaryExpr, binaryNode, callNode, otherNode, anyColumn, nodeOfKind, countNode, nodeKind, node}
+use Rattle.definitions.specs.Limits.{AllBytes, nodes, depth, nodesAll, depthAll, InRange, InRangeAll, NameBytes}
 use Rattle.definitions.proofs.ReaderLaws.{stopped-not-read, step, test, same-read, given}
 use Rattle.definitions.proofs.Columns.{all-right}
 use Rattle.definitions.proofs.Taken.{and-both}

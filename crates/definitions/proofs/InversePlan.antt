@@ -1,21 +1,21 @@
 -- A list of bytes that is a good plan is the bytes of that plan.
-use Prim.Native.Nat.{ℕ, zero, suc, _+_, _*_, _^_, _≤_, _<_}
+use Prim.Native.Nat.{ℕ, zero, suc, _+_, _^_, _≤_, _<_}
 use native.Mathlib.Omega.{arith}
 use mathlib.Core.Path.{_≡_, refl, sym, ap, ap₂, _∙_, subst}
 use mathlib.Core.Bool.{Bool, true, false, _&&_, false≢true}
-use mathlib.Core.List.{List, [], _∷_, _++_, append-assoc, append-nil}
+use mathlib.Core.List.{List, [], _∷_, _++_, append-nil}
 use mathlib.Core.Option.{Option, none, some}
 use lib.ListN.{length}
-use lib.Dec.{leb, ltb, eqb, lit<, lit≤}
-use borrow.Author.Tests.{leb-true, ltb-true, eqb-true, eqb-false}
+use lib.Dec.{leb, eqb, lit≤}
+use borrow.Author.Tests.{leb-true, eqb-true}
 use Rattle.definitions.specs.Basics.{if_then_else_, bigEndian, Result, ok, refused, mapResult}
-use Rattle.definitions.specs.Expression.{Side, left, right, noSide, Relation, intersects, contains, within, covers, coveredBy, touches, crosses, overlaps, equals, Expr, Record, Frame, Predicate, relation, distance, knn, Extraction, Plan, empty, held, extracted}
+use Rattle.definitions.specs.Expression.{Side, left, right, noSide, Expr, Record, Frame, Predicate, relation, distance, knn, Extraction, Plan, empty, held, extracted}
 use Rattle.definitions.specs.Encode.{exprBytes, sideNumber, recordBytes, recordsBytes, relationNumber, frameBytes, predicateKind, predicateFields, remainderBytes, extractionBytes, planBytes}
 use Rattle.definitions.specs.Leaves.{arity}
 use Rattle.definitions.specs.Readers.{Read, read, stopped, Reader, continue, give, number, byteUpTo, repeat, firstByte, refuse, frameLength, noneLeft, atEnd, answer}
 use Rattle.definitions.specs.Decode.{Columns, indexBelow, node, expression, sideNumbered, sideUpTo, oneRecord, recordCount, frameBody, relationNumbered, relationPredicate, distancePredicate, knnPredicate, predicateOfKind, someRemainder, remainderOfKind, remainder, extractionBody, argument}
 use Rattle.definitions.specs.Plans.{physicalFrame, wholeExtraction, frameOf, extractionOf, planOfKind, planOf}
-use Rattle.definitions.specs.Limits.{AllBytes, nodes, depth, Short, Readable, RecordsInRange, ReadableFrame, OneOfTwo, ReadablePredicate, ReadableRemainder, predicateNodes, remainderNodes, planNodes, ReadablePlan, GoodPlan}
+use Rattle.definitions.specs.Limits.{AllBytes, nodes, Short, Readable, RecordsInRange, OneOfTwo, ReadablePredicate, ReadableRemainder, predicateNodes, remainderNodes, planNodes, ReadablePlan, GoodPlan}
 use Rattle.definitions.proofs.ReaderLaws.{stopped-not-read, step, test, given}
 use Rattle.definitions.proofs.Taken.{and-both}
 use Rattle.definitions.proofs.Inverse.{byte-back, byte-up-to-back, number-back, after-bytes, join, NodeBack, node-back}

@@ -8,11 +8,16 @@ pub mod ExchangeGood
 pub mod Columns
 pub mod Taken
 pub mod Requests
+pub mod Pick
 pub mod ExtractGood
 pub mod Lists
 pub mod Inverse
 pub mod InversePlan
 pub mod ListTheorem
+pub mod Answers
+pub mod Machines
 pub mod Truth
+pub mod Names
+pub mod FairExample
 pub mod Proved
 pub mod Refusals

@@ -1,83 +1,81 @@
--- After an accepted load, any list of calls gives the machine's answers and leaves the machine's plan.
-use Prim.Native.Nat.{ℕ, zero, suc, _≤_}
+-- An accepted load leaves the machine's first plan in the buffer, so every list of calls from it agrees with the machine.
+use Prim.Native.Nat.{ℕ, _≤_}
 use native.Mathlib.Omega.{arith}
 use mathlib.Core.Path.{_≡_, refl, sym, ap, _∙_, subst}
-use mathlib.Core.Bool.{Bool, true, false}
-use mathlib.Core.List.{List, [], _∷_, _++_, map}
-use lib.ListN.{length, take, drop, length-append}
+use mathlib.Core.Bool.{Bool, true, false, false≢true}
+use mathlib.Core.List.{List}
+use lib.ListN.{length, drop, length-append}
 use lib.Seq.{take-append-seam}
 use lib.Dec.{leb}
-use borrow.Author.Tests.{leb-true, le-leb}
+use borrow.Author.Tests.{leb-true}
 use Rattle.definitions.specs.Basics.{if_then_else_, Result, ok, refused}
-use Rattle.definitions.specs.Expression.{Frame, Plan, held}
+use Rattle.definitions.specs.Expression.{Frame, held}
 use Rattle.definitions.specs.Encode.{planBytes, frameBytes}
 use Rattle.definitions.specs.Plans.{frameOf}
 use Rattle.definitions.specs.Calls.{LoadOutcome, writtenOver, loadBytes, loaded, load}
-use Rattle.definitions.specs.Machine.{Bits, machinePlan, machineLength, machineRun, fresh, Made, fed, Run, Calls, callsRun}
-use Rattle.definitions.specs.Limits.{AllBytes, GoodPlan}
+use Rattle.definitions.specs.Machine.{machinePlan, machineLength, fresh, Made}
+use Rattle.definitions.specs.Limits.{GoodPlan}
+use Rattle.definitions.specs.Claims.{accepted, Loads, callsAfter, machineAfter, Agree, ListOfCalls}
 use Rattle.definitions.proofs.InversePlan.{frame-back}
 use Rattle.definitions.proofs.Lists.{Holds, AgreesAll, run-agrees}
 
--- An accepted load of a frame F.
-pub record Accepted (frame : List ℕ) (n : ℕ) (buffer : List ℕ) (F : Frame) : Type 0 where
-  pub good : frameOf frame ≡ ok F
-  pub fits : length frame ≤ length buffer
+module _ (frame : List ℕ) (n : ℕ) (buffer : List ℕ) where
+  -- An accepted load found a frame that fits the plan buffer, and wrote it there.
+  abbrev Taken : Result Frame → Type 0
+  Taken r =
+      (F : Frame) × (r ≡ ok F) × (length frame ≤ length buffer)
+      × (loaded n buffer (loadBytes frame (length buffer) r) ≡ loaded n buffer (ok frame))
 
--- The claim about a whole list of calls, each with its own scratch.
-pub record ListClaim (frame : List ℕ) (n : ℕ) (buffer : List ℕ) (F : Frame) (calls : List Made) : Type 0 where
-  pub loadAnswer : load frame n buffer .answer ≡ ok (length frame)
-  pub answers : callsRun (load frame n buffer .n) (load frame n buffer .buffer) calls .answers ≡ machineRun F fresh (map fed calls) .answers
-  pub plan :
-      take (callsRun (load frame n buffer .n) (load frame n buffer .buffer) calls .n) (callsRun (load frame n buffer .n) (load frame n buffer .buffer) calls .buffer)
-      ≡ planBytes (machinePlan F (machineRun F fresh (map fed calls) .bits))
-  pub size :
-      callsRun (load frame n buffer .n) (load frame n buffer .buffer) calls .n
-      ≡ machineLength F (machineRun F fresh (map fed calls) .bits)
+  room-taken : (F : Frame) (b : Bool) → leb (length frame) (length buffer) ≡ b
+      → accepted (loaded n buffer (if b then ok frame else refused 9) .answer) ≡ true → Taken (ok F)
+  unfolding loadBytes loaded accepted
+  room-taken F true e a =
+      (F, refl, leb-true (length frame) (length buffer) e, ap (λ (b : Bool). loaded n buffer (if b then ok frame else refused 9)) e)
+  room-taken F false e a = absurd (false≢true a)
 
--- A load whose answer is a length was accepted.
-accepted-by : (frame : List ℕ) (n k : ℕ) (buffer : List ℕ) (b : Bool) → loaded n buffer (if b then ok frame else refused 9) .answer ≡ ok k → b ≡ true
-unfolding loaded
-accepted-by frame n k buffer true e = refl
-accepted-by frame n k buffer false e = let z : _≡_ {A = ℕ} 0 1 = cc in absurd (omega arith)
+  load-taken : (r : Result Frame) → accepted (loaded n buffer (loadBytes frame (length buffer) r) .answer) ≡ true → Taken r
+  unfolding loadBytes loaded accepted
+  load-taken (ok F) a = room-taken F (leb (length frame) (length buffer)) refl a
+  load-taken (refused number) a = absurd (false≢true a)
 
-pub accepted : (frame : List ℕ) (n k : ℕ) (buffer : List ℕ) (F : Frame) → frameOf frame ≡ ok F → load frame n buffer .answer ≡ ok k → Accepted frame n buffer F
-unfolding load loadBytes
-accepted frame n k buffer F g e = record {
-  good = g;
-  fits = leb-true (length frame) (length buffer) (accepted-by frame n k buffer (leb (length frame) (length buffer))
-      (sym (ap (λ (r : Result Frame). loaded n buffer (loadBytes frame (length buffer) r) .answer) g) ∙ e));
-}
+  taken-by : accepted (load frame n buffer .answer) ≡ true → Taken (frameOf frame)
+  unfolding load
+  taken-by a = load-taken (frameOf frame) a
 
-load-outcome : (frame : List ℕ) (n : ℕ) (buffer : List ℕ) (F : Frame) → Accepted frame n buffer F → load frame n buffer ≡ loaded n buffer (ok frame)
-unfolding load loadBytes
-load-outcome frame n buffer F a =
-    ap (λ (r : Result Frame). loaded n buffer (loadBytes frame (length buffer) r)) (a .good)
-    ∙ ap (λ (b : Bool). loaded n buffer (if b then ok frame else refused 9)) (le-leb (length frame) (length buffer) (a .fits))
+  -- The machine's first plan is the frame.
+  frame-holds : (F : Frame) → frame ≡ frameBytes F → length frame ≤ length buffer
+      → Holds F fresh (loaded n buffer (ok frame) .n) (loaded n buffer (ok frame) .buffer)
+  unfolding loaded writtenOver fresh machinePlan machineLength planBytes
+  frame-holds F same fits = record {
+    reached = tt;
+    size = ap length same;
+    bytes = take-append-seam frame (drop (length frame) buffer) ∙ same;
+    fits = simp length-append (omega arith);
+  }
 
-load-holds : (frame : List ℕ) (n : ℕ) (buffer : List ℕ) (F : Frame) → AllBytes frame → Accepted frame n buffer F
-    → Holds F fresh (loaded n buffer (ok frame) .n) (loaded n buffer (ok frame) .buffer)
-unfolding loaded writtenOver fresh machinePlan machineLength planBytes
-load-holds frame n buffer F h a =
-    let same : frame ≡ frameBytes F = frame-back frame F h (a .good) .0 in
-    record {
-      reached = tt;
-      size = ap length same;
-      bytes = take-append-seam frame (drop (length frame) buffer) ∙ same;
-      fits = simp length-append (omega arith);
-    }
+module _ (frame : List ℕ) (F : Frame) (n : ℕ) (buffer : List ℕ) (l : Loads frame n buffer F) where
+  pub load-good : GoodPlan (held F)
+  load-good = frame-back frame F (l .bytes) (l .good) .1
 
-pub list-theorem : (frame : List ℕ) (n : ℕ) (buffer : List ℕ) (F : Frame) → AllBytes frame → Accepted frame n buffer F → (calls : List Made)
-    → ListClaim frame n buffer F calls
-unfolding loaded
-list-theorem frame n buffer F h a calls =
-    let out : load frame n buffer ≡ loaded n buffer (ok frame) = load-outcome frame n buffer F a in
-    let holds : Holds F fresh (load frame n buffer .n) (load frame n buffer .buffer) =
-    subst (λ (o : LoadOutcome). Holds F fresh (o .n) (o .buffer)) (sym out) (load-holds frame n buffer F h a) in
-    let run : AgreesAll F (machineRun F fresh (map fed calls)) (callsRun (load frame n buffer .n) (load frame n buffer .buffer) calls) =
-    run-agrees F (frame-back frame F h (a .good) .1) calls fresh _ _ holds in
-    record {
-      loadAnswer = ap (λ (o : LoadOutcome). o .answer) out;
-      answers = run .answers;
-      plan = run .holds .bytes;
-      size = run .holds .size;
-    }
+  pub load-holds : Holds F fresh (load frame n buffer .n) (load frame n buffer .buffer)
+  unfolding load
+  load-holds =
+      let t : Taken frame n buffer (frameOf frame) = taken-by frame n buffer (l .taken) in
+      subst (λ (o : LoadOutcome). Holds F fresh (o .n) (o .buffer)) (sym (t .3))
+      (frame-holds frame n buffer F (frame-back frame F (l .bytes) (l .good) .0) (t .2))
+
+  -- After the load, any list of calls gives the machine's answers and leaves the machine's plan.
+  pub after-load : (calls : List Made) → AgreesAll F (machineAfter F calls) (callsAfter frame n buffer calls)
+  after-load calls = run-agrees F load-good calls fresh _ _ load-holds
+
+  agree-after-load : (calls : List Made) → Agree F (callsAfter frame n buffer calls) (machineAfter F calls)
+  agree-after-load calls = record {
+    answers = after-load calls .answers;
+    plan = after-load calls .holds .bytes;
+    size = after-load calls .holds .size;
+  }
+
+pub list-theorem : ListOfCalls
+list-theorem frame n buffer h a =
+    let t : Taken frame n buffer (frameOf frame) = taken-by frame n buffer a in
+    (t .0, t .1, agree-after-load frame (t .0) n buffer (record { bytes = h; good = t .1; taken = a }))

@@ -1,22 +1,22 @@
 -- Any list of calls gives the machine's answers and leaves the machine's plan.
-use Prim.Native.Nat.{ℕ, zero, suc, _+_, _-_, _≤_, _<_}
+use Prim.Native.Nat.{ℕ, _≤_}
 use native.Mathlib.Omega.{arith}
-use mathlib.Core.Path.{_≡_, refl, sym, ap, ap₂, _∙_, subst}
+use mathlib.Core.Path.{_≡_, refl, sym, ap, ap₂, _∙_}
 use mathlib.Core.Bool.{Bool, true, false, not}
-use mathlib.Core.List.{List, [], _∷_, _++_, map}
+use mathlib.Core.List.{List, [], _∷_, map}
 use mathlib.Core.Option.{Option, none, some, Option·map}
 use lib.ListN.{length, take, drop, length-append}
-use lib.Seq.{take-append-seam, take-length}
+use lib.Seq.{take-append-seam}
 use lib.Dec.{leb}
-use borrow.Author.Tests.{le-leb, leb-true}
+use borrow.Author.Tests.{le-leb}
 use Rattle.definitions.specs.Basics.{if_then_else_, Result, ok, refused}
 use Rattle.definitions.specs.Expression.{Frame, Extraction, Plan, empty, held, extracted}
-use Rattle.definitions.specs.Encode.{planBytes, frameBytes, extractionBytes}
-use Rattle.definitions.specs.Plans.{planOf, frameOf}
+use Rattle.definitions.specs.Encode.{planBytes}
+use Rattle.definitions.specs.Plans.{planOf}
 use Rattle.definitions.specs.Extract.{extraction}
 use Rattle.definitions.specs.Exchange.{exchangePlan, exchangeFrame, exchangeExtraction}
 use Rattle.definitions.specs.Calls.{Outcome, writtenOver, finish, heldPlan, exchangeBytes, exchange, extractedBytes, extractBytes, extract}
-use Rattle.definitions.specs.Machine.{Kind, extractCall, exchangeCall, Bits, Fed, extractionOr, machinePlan, machineLength, Step, refuseStep, acceptStep, takeStep, machineStep, Run, machineRun, fresh, Made, fed, make, Calls, callsRun}
+use Rattle.definitions.specs.Machine.{Kind, extractCall, exchangeCall, Bits, extractionOr, machinePlan, machineLength, Step, refuseStep, acceptStep, takeStep, machineStep, Run, machineRun, Made, fed, make, Calls, callsRun}
 use Rattle.definitions.specs.Limits.{GoodPlan}
 use Rattle.definitions.proofs.Exchange.{plan-twice, extraction-exchange}
 use Rattle.definitions.proofs.ExchangeGood.{plan-as-long, exchange-good}
@@ -24,7 +24,7 @@ use Rattle.definitions.proofs.ExtractGood.{GoodExtraction, extraction-g
 use Rattle.definitions.proofs.RoundTripPlan.{plan-reads}
 
 -- The extracted bit is 1 only where the frame has an extraction.
-abbrev Reached : Frame → Bool → Type 0
+abbrev pub Reached : Frame → Bool → Type 0
 Reached F true = (X : Extraction) × (extraction F ≡ some X)
 Reached F false = Unit {0}
 
@@ -44,7 +44,7 @@ or-none : (p : Plan) (x : Option Extraction) (X : Extraction) → x ≡ some X �
 unfolding extractionOr
 or-none p x X e = ap (extractionOr p) e
 
-plan-extracted : (F : Frame) (X : Extraction) (o : Bool) → extraction F ≡ some X
+pub plan-extracted : (F : Frame) (X : Extraction) (o : Bool) → extraction F ≡ some X
     → machinePlan F (bits true o) ≡ (if o then extracted (exchangeExtraction X) else extracted X)
 unfolding machinePlan exchangePlan
 plan-extracted F X true e = ap exchangePlan (or-none (held F) (extraction F) X e)
@@ -80,7 +80,7 @@ plan-size : (F : Frame) (b : Bits) (n : ℕ) (buffer : List ℕ) → Holds F b n
 unfolding machineLength
 plan-size F b n buffer h = h .size
 
-held-plan : (F : Frame) (e o : Bool) (n : ℕ) (buffer : List ℕ) → GoodPlan (held F) → Holds F (bits e o) n buffer → heldPlan n buffer ≡ ok (machinePlan F (bits e o))
+pub held-plan : (F : Frame) (e o : Bool) (n : ℕ) (buffer : List ℕ) → GoodPlan (held F) → Holds F (bits e o) n buffer → heldPlan n buffer ≡ ok (machinePlan F (bits e o))
 unfolding heldPlan
 held-plan F e o n buffer g h =
     ap (λ (b : Bool). if b then planOf (take n buffer) else refused 10) (le-leb n (length buffer) (h .fits))
@@ -88,9 +88,9 @@ held-plan F e o n buffer g h =
     ∙ plan-reads (machinePlan F (bits e o)) (plan-good F e o g)
 
 -- What one call must give.
-record Agrees (F : Frame) (s : Step) (o : Outcome) : Type 0 where
-  answer : o .answer ≡ s .answer
-  holds : Holds F (s .bits) (o .n) (o .buffer)
+pub record Agrees (F : Frame) (s : Step) (o : Outcome) : Type 0 where
+  pub answer : o .answer ≡ s .answer
+  pub holds : Holds F (s .bits) (o .n) (o .buffer)
 
 -- A refusal keeps everything.
 refuses : (F : Frame) (b : Bits) (n : ℕ) (buffer scratch : List ℕ) (number : ℕ) → Holds F b n buffer
@@ -217,7 +217,7 @@ extract-step F false o n buffer scratch g h =
 
 -- ---- lists of calls
 
-step-agrees : (F : Frame) (b : Bits) (k : Kind) (n : ℕ) (buffer scratch : List ℕ) → GoodPlan (held F) → Holds F b n buffer
+pub step-agrees : (F : Frame) (b : Bits) (k : Kind) (n : ℕ) (buffer scratch : List ℕ) → GoodPlan (held F) → Holds F b n buffer
     → Agrees F (machineStep F b k (length scratch)) (make k n buffer scratch)
 unfolding make
 step-agrees F b extractCall n buffer scratch g h = extract-step F (b .isExtracted) (b .isOdd) n buffer scratch g h

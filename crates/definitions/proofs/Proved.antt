@@ -1,28 +1,24 @@
 -- Each claim of specs/Claims.antt, proved.
-use Prim.Native.Nat.{ℕ, _≤_}
-use mathlib.Core.Path.{_≡_, refl, sym, ap, _∙_, subst}
-use mathlib.Core.Bool.{Bool, true, false}
-use mathlib.Core.List.{List, map}
-use mathlib.Core.Option.{Option, none, some}
-use lib.ListN.{length, take}
-use Rattle.definitions.specs.Basics.{if_then_else_, Result, ok}
-use Rattle.definitions.specs.Expression.{Frame, Extraction, Plan, held, extracted}
-use Rattle.definitions.specs.Encode.{planBytes}
+use mathlib.Core.Path.{_≡_, ap, _∙_, subst}
+use Rattle.definitions.specs.Basics.{ok}
+use Rattle.definitions.specs.Expression.{held}
 use Rattle.definitions.specs.Plans.{planOf}
-use Rattle.definitions.specs.Extract.{extraction}
-use Rattle.definitions.specs.Exchange.{exchangePlan}
 use Rattle.definitions.specs.Machine.{Bits, machinePlan}
 use Rattle.definitions.specs.Limits.{GoodPlan}
-use Rattle.definitions.specs.Meaning.{planValue}
-use Rattle.definitions.specs.Claims.{ExchangeTwice, ExtractExchanged, ExpressionReadBack, PlanReadBack, PlanOfBytes, ExtractionGood, ExchangeGood, AndAssociative, AndCommutative, ExtractionValue}
+use Rattle.definitions.specs.Claims.{ExchangeTwice, ExtractExchanged, ExpressionReadBack, PlanReadBack, PlanOfBytes, ExtractionGood, ExchangeGood, callsAfter, planLeft, ListOfCalls, SamePlan, ExchangeAccepted, ExtractAccepted, PickExactly, MachinesAgree, AndAssociative, AndCommutative, ExtractionValue, ListValue, FairMeaning, NamesAreOnes}
 use Rattle.definitions.proofs.Exchange.{plan-twice, extraction-exchange}
 use Rattle.definitions.proofs.RoundTripPlan.{expr-reads, plan-reads}
-use Rattle.definitions.proofs.InversePlan.{plan-back, frame-back}
+use Rattle.definitions.proofs.InversePlan.{plan-back}
 use Rattle.definitions.proofs.ExtractGood.{GoodExtraction, extraction-good}
 use Rattle.definitions.proofs.ExchangeGood.{exchange-good, plan-as-long}
 use Rattle.definitions.proofs.Lists.{plan-good}
-use Rattle.definitions.proofs.ListTheorem.{ListClaim, accepted, list-theorem}
+use Rattle.definitions.proofs.ListTheorem.{load-good, list-theorem}
+use Rattle.definitions.proofs.Answers.{told, plan-told, plans-same, exchange-among, extract-among}
+use Rattle.definitions.proofs.Pick.{took}
+use Rattle.definitions.proofs.Machines.{same-leaf, same-refusal}
 use Rattle.definitions.proofs.Truth.{and-value-assoc, and-value-comm, SameValue, extraction-value, machine-value}
+use Rattle.definitions.proofs.FairExample.{fair-points}
+use Rattle.definitions.proofs.Names.{names-ones}
 
 exchange-twice : ExchangeTwice
 exchange-twice = plan-twice
@@ -45,6 +41,24 @@ extraction-is-good F X g e = subst (GoodExtraction F) e (extraction-good F g)
 exchange-is-good : ExchangeGood
 exchange-is-good p g = (exchange-good p g, plan-as-long p)
 
+list-of-calls : ListOfCalls
+list-of-calls = list-theorem
+
+same-plan : SamePlan
+same-plan = plans-same
+
+exchange-accepted : ExchangeAccepted
+exchange-accepted = exchange-among
+
+extract-accepted : ExtractAccepted
+extract-accepted = extract-among
+
+pick-exactly : PickExactly
+pick-exactly = took
+
+machines-agree : MachinesAgree
+machines-agree = (same-leaf, same-refusal)
+
 and-associative : AndAssociative
 and-associative = and-value-assoc
 
@@ -53,3 +67,17 @@ and-commutative = and-value-comm
 
 extraction-has-value : ExtractionValue
 extraction-has-value M fair v F X m g e = subst (SameValue M v F) e (extraction-value M fair v F m (g .readable .expr .inRange))
+
+list-has-value : ListValue
+list-has-value M fair v frame F n buffer l m calls =
+    let good : GoodPlan (held F) = load-good frame F n buffer l in
+    let b : Bits = told calls (callsAfter frame n buffer calls .answers) in
+    let reads : planOf (planLeft (callsAfter frame n buffer calls)) ≡ ok (machinePlan F b) =
+    ap planOf (plan-told frame F n buffer l calls) ∙ plan-reads _ (plan-good F (b .isExtracted) (b .isOdd) good) in
+    (machinePlan F b, reads, machine-value M fair v F m (good .readable .expr .inRange) (b .isExtracted) (b .isOdd))
+
+fair-meaning : FairMeaning
+fair-meaning = fair-points
+
+names-are-ones : NamesAreOnes
+names-are-ones = names-ones

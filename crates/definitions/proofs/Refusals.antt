@@ -1,122 +1,151 @@
--- Each refusal on a small input, and which of two comes first, by computation.
+-- No definition is vacuous: small inputs for each refusal, which of two comes first, and accepted ones, by computation.
 use Prim.Native.Nat.{ℕ, zero, suc}
 use mathlib.Core.Path.{_≡_, refl}
-use mathlib.Core.List.{List, [], _∷_, _++_}
+use mathlib.Core.List.{List, [], _∷_, _++_, map}
 use lib.ListN.{replicate}
 use Rattle.definitions.specs.Basics.{Result, ok, refused, ascii, mapResult}
-use Rattle.definitions.specs.Expression.{Expr, column, literal, and, binary, call, other, field, Exprs, nil, cons, Frame}
+use Rattle.definitions.specs.Expression.{left, right, Expr, column, literal, and, binary, call, other, field, nil, cons}
 use Rattle.definitions.specs.Encode.{frameBytes, exprBytes}
-use Rattle.definitions.specs.Calls.{Outcome, load, extract, exchange}
-use Rattle.definitions.specs.Logical.{logical, LogicalAnswer}
+use Rattle.definitions.specs.Calls.{load}
+use Rattle.definitions.specs.Machine.{extractCall, exchangeCall, Made, callsRun}
+use Rattle.definitions.specs.Logical.{logical, logicalBytes}
+use Rattle.definitions.specs.Program.{lineOutcome, freshPlan, output}
+use Rattle.definitions.specs.Claims.{callsAfter}
 use Rattle.definitions.proofs.Everything.{everything}
 
-loads : List ℕ → Result ℕ
-loads frame = load frame 0 (replicate 1024 0) .answer
+-- An input and its answer.
+data Row (A : Type 0) : Type 0 where
+  row : List ℕ → Result A → Row A
+
+abbrev input : {A : Type 0} → Row A → List ℕ
+input (row i a) = i
+
+abbrev answerOf : {A : Type 0} → Row A → Result A
+answerOf (row i a) = a
+
+-- Each input of a table has its answer.
+abbrev Table : {A : Type 0} → (List ℕ → Result A) → List (Row A) → Type 0
+Table f rows = map (λ r. f (input r)) rows ≡ map answerOf rows
+
+-- ---- physical frames
 
 -- A frame without records.
 frame : Expr → List ℕ
 frame e = frameBytes (record { records = []; expr = e })
 
--- n And nodes, one in the other.
+-- The bytes of a frame without records up to its expression.
+start : List ℕ → List ℕ
+start bytes = 1 ∷ 0 ∷ 0 ∷ bytes
+
+-- n And nodes, one in the other; their bytes, the last right child not yet written.
 ands : ℕ → Expr
 ands zero = literal 0 0
 ands (suc n) = and (literal 0 0) (ands n)
 
--- The bytes of n And nodes, the last right child not yet written.
 openAnds : ℕ → List ℕ
 openAnds zero = []
 openAnds (suc n) = 2 ∷ 0 ∷ (exprBytes (literal 0 0) ++ openAnds n)
 
-onlyNumber : Result LogicalAnswer → Result ℕ
-onlyNumber r = mapResult (λ a. 0) r
+-- A full tree of And nodes, n levels above its leaves; a node with one child.
+tree : ℕ → Expr
+tree zero = other 0 nil
+tree (suc n) = and (tree n) (tree n)
 
-record Refusals : Type 0 where
-  empty-1 : loads [] ≡ refused 1
-  long-1 : loads (2 ∷ replicate 16384 0) ≡ refused 1
-  longest-2 : loads (2 ∷ replicate 16383 0) ≡ refused 2
-  count-3 : loads (1 ∷ 1 ∷ []) ≡ refused 3
-  count-4 : loads (1 ∷ 1 ∷ 1 ∷ []) ≡ refused 4
-  side-4-before-3 : loads (1 ∷ 0 ∷ 1 ∷ 3 ∷ []) ≡ refused 4
-  child-3 : loads (1 ∷ 0 ∷ 1 ∷ 2 ∷ 0 ∷ []) ≡ refused 3
-  kind-3 : loads (1 ∷ 0 ∷ 0 ∷ []) ≡ refused 3
-  logical-column-4 : loads (frame (field 1 1)) ≡ refused 4
-  column-3-before-6 : loads (1 ∷ 0 ∷ 0 ∷ 0 ∷ 0 ∷ 0 ∷ 0 ∷ []) ≡ refused 3
-  column-6 : loads (frame (column 0 0)) ≡ refused 6
-  type-4 : loads (1 ∷ 0 ∷ 0 ∷ 1 ∷ 7 ∷ []) ≡ refused 4
-  boolean-3 : loads (1 ∷ 0 ∷ 0 ∷ 1 ∷ 1 ∷ replicate 7 255) ≡ refused 3
-  boolean-4 : loads (1 ∷ 0 ∷ 0 ∷ 1 ∷ 1 ∷ replicate 8 255) ≡ refused 4
-  int32-4 : loads (frame (literal 2 2147483648)) ≡ refused 4
-  int32-good : loads (frame (literal 2 18446744071562067968)) ≡ ok 13
-  uint32-4 : loads (frame (literal 4 4294967296)) ≡ refused 4
-  operator-4 : loads (1 ∷ 0 ∷ 0 ∷ 2 ∷ 64 ∷ []) ≡ refused 4
-  name-4 : loads (1 ∷ 0 ∷ 0 ∷ 3 ∷ 0 ∷ []) ≡ refused 4
-  name-byte-4 : loads (1 ∷ 0 ∷ 0 ∷ 3 ∷ 2 ∷ 32 ∷ []) ≡ refused 4
-  name-byte-3 : loads (1 ∷ 0 ∷ 0 ∷ 3 ∷ 2 ∷ 97 ∷ []) ≡ refused 3
-  arguments-4 : loads (1 ∷ 0 ∷ 0 ∷ 4 ∷ 0 ∷ 0 ∷ 17 ∷ []) ≡ refused 4
-  depth-64 : loads (frame (ands 63)) ≡ ok 769
-  depth-5 : loads (frame (ands 64)) ≡ refused 5
-  depth-3-before-5 : loads (1 ∷ 0 ∷ 0 ∷ (openAnds 63 ++ (2 ∷ 0 ∷ []))) ≡ refused 3
-  depth-4-before-5 : loads (1 ∷ 0 ∷ 0 ∷ (openAnds 63 ++ (2 ∷ 0 ∷ 6 ∷ []))) ≡ refused 4
-  after-7-before-8 : loads (frame (call (ascii "st_within") nil) ++ (0 ∷ [])) ≡ refused 7
-  relation-8 : loads (frame (call (ascii "st_within") (cons (literal 0 0) nil))) ≡ refused 8
-  dwithin-8 : loads (frame (call (ascii "st_dwithin") (cons (literal 0 0) (cons (literal 0 0) nil)))) ≡ refused 8
-  distance-8 : loads (frame (binary 4 (literal 0 0) (call (ascii "st_distance") nil))) ≡ refused 8
-  distance-unread : loads (frame (binary 4 (call (ascii "st_distance") nil) (literal 0 0))) ≡ ok 29
-  other-side-unread : loads (frame (other 0 (cons (call (ascii "st_within") nil) nil))) ≡ ok 19
-  buffer-9 : load (frame (literal 0 0)) 0 (replicate 12 0) .answer ≡ refused 9
-  n-10 : exchange 14 (frame (literal 0 0)) (replicate 64 0) .answer ≡ refused 10
-  bytes-10 : extract 12 (frame (literal 0 0)) [] .answer ≡ refused 10
-  empty-11 : extract 0 (frame (literal 0 0)) [] .answer ≡ refused 11
-  scratch-9 : extract 13 (frame (literal 0 0)) (replicate 12 0) .answer ≡ refused 9
-  no-match-13 : extract 13 (frame (literal 0 0)) (replicate 13 0) .answer ≡ refused 13
-  logical-2 : onlyNumber (logical (frame (literal 0 0))) ≡ refused 2
-  physical-column-4 : onlyNumber (logical (2 ∷ 0 ∷ [])) ≡ refused 4
-  bits-4 : onlyNumber (logical (2 ∷ 5 ∷ 4 ∷ [])) ≡ refused 4
-  no-arity : onlyNumber (logical (2 ∷ exprBytes (call (ascii "st_within") nil))) ≡ ok 0
+over : Expr → Expr
+over e = other 0 (cons e nil)
 
-refusals : Refusals
-unfolding everything loads frame ands openAnds onlyNumber
+loads : List ℕ → Result ℕ
+loads bytes = load bytes 0 (replicate 16384 0) .answer
+
+physicalRows : List (Row ℕ)
+physicalRows =
+    -- 1 and 2, by length
+    row [] (refused 1) ∷ row (2 ∷ replicate 16384 0) (refused 1) ∷ row (2 ∷ replicate 16383 0) (refused 2) ∷
+    -- records: their count, a side before what is missing, a child index
+    row (1 ∷ 1 ∷ []) (refused 3) ∷ row (1 ∷ 1 ∷ 1 ∷ []) (refused 4) ∷ row (1 ∷ 1 ∷ 0 ∷ []) (refused 3) ∷
+    row (1 ∷ 0 ∷ 1 ∷ 3 ∷ []) (refused 4) ∷ row (1 ∷ 0 ∷ 1 ∷ 2 ∷ 0 ∷ []) (refused 3) ∷
+    -- a kind; a column
+    row (start []) (refused 3) ∷ row (frame (field 1 1)) (refused 4) ∷
+    row (start (0 ∷ 0 ∷ 0 ∷ 0 ∷ [])) (refused 3) ∷ row (frame (column 0 0)) (refused 6) ∷
+    -- literals: type, Boolean, Int32, UInt32
+    row (start (1 ∷ 7 ∷ [])) (refused 4) ∷ row (start (1 ∷ 1 ∷ replicate 7 255)) (refused 3) ∷ row (start (1 ∷ 1 ∷ replicate 8 255)) (refused 4) ∷
+    row (frame (literal 2 2147483648)) (refused 4) ∷ row (frame (literal 2 18446744071562067968)) (ok 13) ∷ row (frame (literal 4 4294967296)) (refused 4) ∷
+    -- an operator, a name's length, its bytes, a count of children
+    row (start (2 ∷ 64 ∷ [])) (refused 4) ∷ row (start (3 ∷ 0 ∷ [])) (refused 4) ∷ row (start (3 ∷ 2 ∷ 32 ∷ [])) (refused 4) ∷
+    row (start (3 ∷ 2 ∷ 97 ∷ [])) (refused 3) ∷ row (start (4 ∷ 0 ∷ 0 ∷ 17 ∷ [])) (refused 4) ∷
+    -- depth 64 and 65, after 3 and 4; 1,024 and 1,025 nodes
+    row (frame (ands 63)) (ok 769) ∷ row (frame (ands 64)) (refused 5) ∷
+    row (start (openAnds 63 ++ (2 ∷ 0 ∷ []))) (refused 3) ∷ row (start (openAnds 63 ++ (2 ∷ 0 ∷ 6 ∷ []))) (refused 4) ∷
+    row (frame (over (tree 9))) (ok 3077) ∷ row (frame (over (over (tree 9)))) (refused 5) ∷
+    -- 7 before 8; arity of a relation, of `st_dwithin`, of the side of a comparison that is read; not of the other, nor below a leaf
+    row (frame (call (ascii "st_within") nil) ++ (0 ∷ [])) (refused 7) ∷ row (frame (call (ascii "st_within") (cons (literal 0 0) nil))) (refused 8) ∷
+    row (frame (call (ascii "st_dwithin") (cons (literal 0 0) (cons (literal 0 0) nil)))) (refused 8) ∷
+    row (frame (binary 4 (literal 0 0) (call (ascii "st_distance") nil))) (refused 8) ∷
+    row (frame (binary 4 (call (ascii "st_distance") nil) (literal 0 0))) (ok 29) ∷ row (frame (over (call (ascii "st_within") nil))) (ok 19) ∷
+    []
+
+-- ---- logical frames
+
+logicalRows : List (Row (List ℕ))
+logicalRows =
+    row [] (refused 1) ∷ row (frame (literal 0 0)) (refused 2) ∷ row (2 ∷ []) (refused 3) ∷ row (2 ∷ 0 ∷ []) (refused 4) ∷ row (2 ∷ 5 ∷ 4 ∷ []) (refused 4) ∷
+    row (2 ∷ exprBytes (ands 64)) (refused 5) ∷ row (2 ∷ (exprBytes (literal 0 0) ++ (0 ∷ []))) (refused 7) ∷
+    -- arity is not asked
+    row (2 ∷ exprBytes (call (ascii "ST_Within") nil)) (ok (0 ∷ 4 ∷ 1 ∷ 2 ∷ [])) ∷
+    []
+
+-- ---- calls
+
+extractIn : ℕ → Made
+extractIn room = record { kind = extractCall; scratch = replicate room 0 }
+
+exchangeIn : ℕ → Made
+exchangeIn room = record { kind = exchangeCall; scratch = replicate room 0 }
+
+-- `st_within` of a left and a right column: 35 bytes, its extraction 13.
+matching : List ℕ
+matching = frameBytes (record {
+  records = record { side = left; child = 0; tag = 0 } ∷ record { side = right; child = 0; tag = 0 } ∷ [];
+  expr = call (ascii "st_within") (cons (column 0 0) (cons (column 1 0) nil));
+})
+
+-- ---- lines
+
+lines : List (List ℕ) → List ℕ
+lines [] = []
+lines (l ∷ ls) = l ++ (10 ∷ lines ls)
+
+pub record Refusals : Type 0 where
+  physical : Table loads physicalRows
+  buffer : load (frame (literal 0 0)) 0 (replicate 12 0) .answer ≡ refused 9
+  arity-before-buffer : load (frame (call (ascii "st_within") nil)) 0 [] .answer ≡ refused 8
+  logical : Table (λ bytes. mapResult logicalBytes (logical bytes)) logicalRows
+  -- n over the buffer's length, and bytes that are no plan
+  bad-plan : callsRun 14 (frame (literal 0 0)) (extractIn 64 ∷ exchangeIn 64 ∷ []) .answers ≡ refused 10 ∷ refused 10 ∷ []
+  other-bytes : callsRun 12 (frame (literal 0 0)) (extractIn 64 ∷ exchangeIn 64 ∷ []) .answers ≡ refused 10 ∷ refused 10 ∷ []
+  no-plan : callsRun 0 (frame (literal 0 0)) (extractIn 64 ∷ exchangeIn 64 ∷ []) .answers ≡ refused 11 ∷ refused 11 ∷ []
+  -- a scratch that is too short and one that is not, for each call; a second extract, whatever its scratch
+  calls :
+      callsAfter matching 0 (replicate 64 0)
+      (extractIn 34 ∷ exchangeIn 34 ∷ exchangeIn 35 ∷ extractIn 35 ∷ extractIn 0 ∷ exchangeIn 12 ∷ exchangeIn 13 ∷ []) .answers
+      ≡ refused 9 ∷ refused 9 ∷ ok 35 ∷ ok 13 ∷ refused 12 ∷ refused 9 ∷ ok 13 ∷ []
+  no-match : callsAfter (frame (literal 0 0)) 0 (replicate 64 0) (extractIn 12 ∷ extractIn 13 ∷ []) .answers ≡ refused 9 ∷ refused 13 ∷ []
+  long-line : lineOutcome (replicate 32770 48) freshPlan .answer ≡ refused 14
+  program : output (lines (ascii "0" ∷ ascii "0A" ∷ [] ∷ ascii "03" ∷ ascii "2100" ∷ ascii "21" ∷ ascii "0205" ∷ []))
+      ≡ lines (ascii "0e" ∷ ascii "0e" ∷ ascii "01" ∷ ascii "02" ∷ ascii "07" ∷ ascii "0b" ∷ ascii "03" ∷ [])
+
+pub refusals : Refusals
+unfolding everything frame start ands openAnds tree over loads physicalRows logicalRows extractIn exchangeIn matching lines
 refusals = record {
-  empty-1 = refl;
-  long-1 = refl;
-  longest-2 = refl;
-  count-3 = refl;
-  count-4 = refl;
-  side-4-before-3 = refl;
-  child-3 = refl;
-  kind-3 = refl;
-  logical-column-4 = refl;
-  column-3-before-6 = refl;
-  column-6 = refl;
-  type-4 = refl;
-  boolean-3 = refl;
-  boolean-4 = refl;
-  int32-4 = refl;
-  int32-good = refl;
-  uint32-4 = refl;
-  operator-4 = refl;
-  name-4 = refl;
-  name-byte-4 = refl;
-  name-byte-3 = refl;
-  arguments-4 = refl;
-  depth-64 = refl;
-  depth-5 = refl;
-  depth-3-before-5 = refl;
-  depth-4-before-5 = refl;
-  after-7-before-8 = refl;
-  relation-8 = refl;
-  dwithin-8 = refl;
-  distance-8 = refl;
-  distance-unread = refl;
-  other-side-unread = refl;
-  buffer-9 = refl;
-  n-10 = refl;
-  bytes-10 = refl;
-  empty-11 = refl;
-  scratch-9 = refl;
-  no-match-13 = refl;
-  logical-2 = refl;
-  physical-column-4 = refl;
-  bits-4 = refl;
-  no-arity = refl;
+  physical = refl;
+  buffer = refl;
+  arity-before-buffer = refl;
+  logical = refl;
+  bad-plan = refl;
+  other-bytes = refl;
+  no-plan = refl;
+  calls = refl;
+  no-match = refl;
+  long-line = refl;
+  program = refl;
 }

@@ -1,15 +1,15 @@
 -- What a leaf asks for is made of parts of the leaf, with numbers in range.
-use Prim.Native.Nat.{ℕ, zero, suc, _+_, _*_, _≤_, _<_, max}
+use Prim.Native.Nat.{ℕ, _+_, _≤_, _<_, max}
 use native.Mathlib.Omega.{arith}
-use mathlib.Core.Path.{_≡_, refl, sym, ap, ap₂, _∙_, subst}
-use mathlib.Core.Bool.{Bool, true, false, _&&_, _||_, false≢true}
-use mathlib.Core.List.{List, [], _∷_, _++_, map}
+use mathlib.Core.Path.{_≡_, refl, ap, ap₂, subst}
+use mathlib.Core.Bool.{Bool, true, false, _||_, false≢true}
+use mathlib.Core.List.{List, [], _∷_}
 use mathlib.Core.Option.{Option, none, some}
 use lib.ListN.{length, length-append}
-use lib.Dec.{leb, ltb, eqb, lit≤}
-use borrow.Author.Tests.{leb-true, eqb-true, ltb-true}
+use lib.Dec.{leb, eqb, lit≤}
+use borrow.Author.Tests.{leb-true, eqb-true}
 use Rattle.definitions.specs.Basics.{if_then_else_, ascii, sameName}
-use Rattle.definitions.specs.Expression.{Relation, Expr, column, literal, and, binary, call, other, field, Exprs, nil, cons, count}
+use Rattle.definitions.specs.Expression.{Relation, Expr, column, literal, and, binary, call, other, field, Exprs, nil, cons}
 use Rattle.definitions.specs.Literals.{signed, literalInRange, u32, numberU32, numberBool}
 use lib.IntN.{ℤ, pos, negsuc}
 use Rattle.definitions.specs.Encode.{exprBytes, exprsBytes}

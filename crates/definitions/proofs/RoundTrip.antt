@@ -1,23 +1,22 @@
 -- Decoding after encoding is the identity, with any bytes after it.
 use Prim.Native.Nat.{ℕ, zero, suc, _+_, _*_, _/_, _%_, _^_, _≤_, _<_, max}
-use native.Mathlib.Nat.{le-trans, le-max-left, le-max-right, pow-suc, pow-zero, pow-succ', one-le-pow, mod-eq-of-lt, mod-one, add-zero, add-assoc, mul-one, mul-assoc, add-mul, not-suc-le-zero, le-of-suc-le-suc, zero-add}
+use native.Mathlib.Nat.{pow-succ', one-le-pow, mod-eq-of-lt, not-suc-le-zero, le-of-suc-le-suc}
 use native.Mathlib.Omega.{arith}
-use mathlib.Core.Path.{_≡_, refl, sym, ap, ap₂, _∙_}
-use mathlib.Core.Bool.{Bool, true, false, _&&_}
+use mathlib.Core.Path.{_≡_, refl, ap, ap₂, _∙_}
+use mathlib.Core.Bool.{Bool, true, _&&_}
 use mathlib.Core.List.{List, [], _∷_, _++_, append-assoc}
-use mathlib.Core.Option.{Option, none, some}
 use lib.ListN.{length}
-use lib.Dec.{leb, ltb, eqb, lit<, lit≤}
+use lib.Dec.{leb, ltb, lit<, lit≤}
 use lib.Arith.{mod-mul}
 use borrow.Author.Tests.{lt-ltb, le-leb}
 use Rattle.definitions.specs.Basics.{if_then_else_, bigEndian}
-use Rattle.definitions.specs.Expression.{Side, left, right, noSide, Expr, column, literal, and, binary, call, other, field, Exprs, nil, cons, Record, Frame, Predicate, relation, distance, knn, Extraction, Plan, empty, held, extracted, count}
+use Rattle.definitions.specs.Expression.{Expr, column, literal, and, binary, call, other, field, Exprs, nil, cons, count}
 use Rattle.definitions.specs.Literals.{literalInRange}
 use Rattle.definitions.specs.Encode.{exprBytes, exprsBytes}
-use Rattle.definitions.specs.Readers.{Read, read, stopped, Reader, continue, _>>=_, _>>_, give, require, byte, byteUpTo, byteBetween, numberAfter, number, repeat}
-use Rattle.definitions.specs.Decode.{exprs, Columns, indexBelow, fields, allowedKind, columnNode, fieldNode, literalNode, binaryExpr, binaryNode, callNode, otherNode, anyColumn, nodeOfKind, countNode, nodeKind, node, expression}
+use Rattle.definitions.specs.Readers.{read, stopped, Reader, continue, give, byteUpTo, byteBetween, numberAfter, number, repeat}
+use Rattle.definitions.specs.Decode.{exprs, Columns, indexBelow, fields, allowedKind, columnNode, fieldNode, literalNode, binaryExpr, binaryNode, callNode, otherNode, anyColumn, nodeOfKind, nodeKind, node}
 use Rattle.definitions.proofs.ReaderLaws.{after, passes}
-use Rattle.definitions.specs.Limits.{nodes, depth, nodesAll, depthAll, InRange, InRangeAll, ColumnInRange, FieldInRange, NameBytes, Short}
+use Rattle.definitions.specs.Limits.{nodes, depth, nodesAll, depthAll, InRange, InRangeAll, NameBytes}
 
 -- ---- numbers of any width
 

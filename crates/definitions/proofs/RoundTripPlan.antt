@@ -1,22 +1,21 @@
 -- The bytes of a good plan are read back as that plan.
-use Prim.Native.Nat.{ℕ, zero, suc, _+_, _≤_, _<_}
-use native.Mathlib.Nat.{zero-add, add-zero, le-of-suc-le-suc}
+use Prim.Native.Nat.{ℕ, suc, _+_, _≤_}
 use native.Mathlib.Omega.{arith}
 use mathlib.Core.Path.{_≡_, refl, sym, ap, ap₂, _∙_}
-use mathlib.Core.Bool.{Bool, true, false, _&&_}
+use mathlib.Core.Bool.{Bool, false, _&&_}
 use mathlib.Core.List.{List, [], _∷_, _++_, append-assoc, append-nil}
 use mathlib.Core.Option.{Option, none, some}
 use lib.ListN.{length}
-use lib.Dec.{leb, ltb, eqb, lit<, lit≤}
-use borrow.Author.Tests.{lt-ltb, le-leb}
-use Rattle.definitions.specs.Basics.{if_then_else_, bigEndian, Result, ok, refused, mapResult}
+use lib.Dec.{eqb, lit≤}
+use borrow.Author.Tests.{le-leb}
+use Rattle.definitions.specs.Basics.{if_then_else_, bigEndian, ok, mapResult}
 use Rattle.definitions.specs.Expression.{Side, left, right, noSide, Relation, intersects, contains, within, covers, coveredBy, touches, crosses, overlaps, equals, Expr, Record, Frame, Predicate, relation, distance, knn, Extraction, Plan, empty, held, extracted}
 use Rattle.definitions.specs.Encode.{exprBytes, sideNumber, relationNumber, recordBytes, recordsBytes, frameBytes, predicateKind, predicateFields, remainderBytes, extractionBytes, planBytes}
 use Rattle.definitions.specs.Leaves.{arity}
-use Rattle.definitions.specs.Readers.{frameLength, noneLeft, answer, Read, read, stopped, Reader, continue, give, firstByte, number, byteUpTo, repeat, atEnd}
+use Rattle.definitions.specs.Readers.{frameLength, noneLeft, answer, read, Reader, continue, give, repeat, atEnd}
 use Rattle.definitions.specs.Decode.{Columns, indexBelow, expression, sideNumbered, sideUpTo, oneRecord, recordCount, frameBody, relationNumbered, relationPredicate, distancePredicate, knnPredicate, predicateOfKind, someRemainder, remainderOfKind, remainder, extractionBody, argument}
 use Rattle.definitions.specs.Plans.{physicalFrame, wholeExtraction, frameOf, extractionOf, planOfKind, planOf}
-use Rattle.definitions.specs.Limits.{nodes, depth, Short, Readable, RecordsInRange, ReadableFrame, OneOfTwo, ReadablePredicate, ReadableRemainder, predicateNodes, remainderNodes, planNodes, ReadablePlan, GoodPlan}
+use Rattle.definitions.specs.Limits.{nodes, Short, Readable, RecordsInRange, ReadableFrame, OneOfTwo, ReadablePredicate, ReadableRemainder, predicateNodes, remainderNodes, planNodes, ReadablePlan, GoodPlan}
 use Rattle.definitions.proofs.ReaderLaws.{after, passes}
 use Rattle.definitions.proofs.RoundTrip.{number-reads, byte-reads, node-reads}
 

@@ -1,15 +1,15 @@
 -- The worked run and the ten rows, by computation.
-use Prim.Native.Nat.{ℕ, zero, suc, _≤_}
+use Prim.Native.Nat.{ℕ, _≤_}
 use native.Mathlib.Omega.{arith}
-use mathlib.Core.Bool.{Bool, true, false}
+use mathlib.Core.Bool.{false}
 use lib.Dec.{eqb}
 use borrow.Author.Tests.{ne-eqb}
 use mathlib.Core.Path.{_≡_, refl, ap}
 use mathlib.Core.List.{List, [], _∷_, _++_}
-use mathlib.Core.Option.{Option, none, some}
-use lib.ListN.{length, take, replicate}
+use mathlib.Core.Option.{none, some}
+use lib.ListN.{take, replicate}
 use Rattle.definitions.specs.Basics.{Result, ok, refused, ascii, mapResult}
-use Rattle.definitions.specs.Expression.{Side, left, right, noSide, Relation, intersects, contains, within, Expr, column, literal, and, binary, call, other, field, Exprs, nil, cons, Record, Frame, Predicate, relation, distance, knn, Extraction, Plan, empty, held, extracted}
+use Rattle.definitions.specs.Expression.{Side, left, right, intersects, contains, within, Expr, column, literal, and, binary, call, other, field, Exprs, nil, cons, Record, Frame, Predicate, relation, knn}
 use Rattle.definitions.specs.Encode.{frameBytes, extractionBytes, exprBytes}
 use Rattle.definitions.specs.Leaves.{leaves, comparison, Comparison, noComparison}
 use Rattle.definitions.specs.Match.{matchLeaf, matchRequest, request, comparisonRequest}

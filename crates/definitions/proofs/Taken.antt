@@ -1,22 +1,21 @@
 -- The AND-leaf at a position, and the expression without it.
-use Prim.Native.Nat.{ℕ, zero, suc, _+_, _-_, _*_, _≤_, _<_, max}
-use native.Mathlib.Nat.{not-suc-le-zero, le-of-suc-le-suc, zero-lt-suc}
+use Prim.Native.Nat.{ℕ, zero, suc, _+_, _-_, _≤_, _<_, max}
+use native.Mathlib.Nat.{not-suc-le-zero, le-of-suc-le-suc}
 use native.Mathlib.Omega.{arith}
-use mathlib.Core.Path.{_≡_, refl, sym, ap, ap₂, _∙_, subst}
+use mathlib.Core.Path.{_≡_, refl, sym, ap, ap₂, _∙_}
 use mathlib.Core.Bool.{Bool, true, false, _&&_, and-assoc}
-use mathlib.Core.List.{List, [], _∷_, _++_, map}
+use mathlib.Core.List.{List, [], _∷_, _++_}
 use mathlib.Core.Option.{Option, none, some}
-use lib.ListN.{length, getD, length-append, List·getD-append, List·getD-map}
+use lib.ListN.{length, getD, length-append, List·getD-append}
 use lib.Seq.{getD-append-add}
-use lib.Dec.{leb, ltb, eqb}
+use lib.Dec.{ltb}
 use borrow.Author.Tests.{ltb-true, ltb-false}
 use Rattle.definitions.specs.Basics.{if_then_else_, all}
-use Rattle.definitions.specs.Expression.{Expr, column, literal, and, binary, call, other, field, Exprs, Predicate, Record}
+use Rattle.definitions.specs.Expression.{Expr, column, literal, and, binary, call, other, field}
 use Rattle.definitions.specs.Encode.{exprBytes}
 use Rattle.definitions.specs.Leaves.{leaves, leafArity, arity}
 use Rattle.definitions.specs.Decode.{Columns}
-use Rattle.definitions.specs.Match.{columnsOf}
-use Rattle.definitions.specs.Extract.{Pick, isKnn, later, firstMatch, firstOf, pick, andLeft, andRight, without}
+use Rattle.definitions.specs.Extract.{andLeft, andRight, without}
 use Rattle.definitions.specs.Limits.{nodes, depth, InRange}
 
 -- A leaf taken out of an expression, and what is left.
@@ -180,37 +179,3 @@ rest-arity (inLeft {l = l} {rest = rest} r t) h =
 rest-arity (inRight {r = r} {rest = rest} l t) h =
     let both : (arity l ≡ true) × (arity r ≡ true) = and-both (arity l) (arity r) (sym (arity-and l r) ∙ h) in
     right-arity l rest (both .0) (rest-arity t (both .1))
-
--- ---- the pick is a match at its position
-
-abbrev pub At : List (Option Predicate) → Pick → Type 0
-At ms p = (p .position < length ms) × (getD ms (p .position) none ≡ some (p .predicate))
-
-abbrev pub PickAt : List (Option Predicate) → Option Pick → Type 0
-PickAt ms none = Unit {0}
-PickAt ms (some p) = At ms p
-
-later-at : (m : Option Predicate) (ms : List (Option Predicate)) (p : Option Pick) → PickAt ms p → PickAt (m ∷ ms) (later p)
-unfolding later
-later-at m ms none h = tt
-later-at m ms (some p) h = (omega (arith, h .0), h .1)
-
-if-at : (b : Bool) (q : Predicate) (ms : List (Option Predicate)) (p : Option Pick) → PickAt (some q ∷ ms) p
-    → PickAt (some q ∷ ms) (if b then some (record { position = 0; predicate = q }) else p)
-if-at true q ms p h = (zero-lt-suc (length ms), refl)
-if-at false q ms p h = h
-
-first-at : (test : Predicate → Bool) (ms : List (Option Predicate)) → PickAt ms (firstMatch test ms)
-unfolding firstMatch
-first-at test [] = tt
-first-at test (none ∷ ms) = later-at none ms (firstMatch test ms) (first-at test ms)
-first-at test (some q ∷ ms) = if-at (test q) q ms (later (firstMatch test ms)) (later-at (some q) ms (firstMatch test ms) (first-at test ms))
-
-of-at : (ms : List (Option Predicate)) (p q : Option Pick) → PickAt ms p → PickAt ms q → PickAt ms (firstOf p q)
-unfolding firstOf
-of-at ms none q h k = k
-of-at ms (some p) q h k = h
-
-pub pick-at : (ms : List (Option Predicate)) → PickAt ms (pick ms)
-unfolding pick
-pick-at ms = of-at ms (firstMatch isKnn ms) (firstMatch (λ p. true) ms) (first-at isKnn ms) (first-at (λ p. true) ms)

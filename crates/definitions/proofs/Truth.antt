@@ -1,29 +1,30 @@
 -- The truth value of an extraction is that of its frame, and exchange reads the values of left and right exchanged.
-use Prim.Native.Nat.{ℕ, zero, suc, _+_, _≤_, _<_}
+use Prim.Native.Nat.{ℕ, zero, suc, _<_}
 use native.Mathlib.Nat.{not-suc-le-zero, le-of-suc-le-suc}
 use native.Mathlib.Omega.{arith}
 use mathlib.Core.Path.{_≡_, refl, sym, ap, ap₂, _∙_, subst, fun-ext}
-use mathlib.Core.Bool.{Bool, true, false, _&&_, _||_, false≢true}
-use mathlib.Core.List.{List, [], _∷_, _++_, map}
+use mathlib.Core.Bool.{Bool, true, false, _||_, false≢true}
+use mathlib.Core.List.{List, [], _∷_, map}
 use mathlib.Core.Option.{Option, none, some, Option·map}
 use lib.ListN.{length, take, getD}
-use lib.Dec.{leb, ltb, eqb}
+use lib.Dec.{ltb, eqb}
 use borrow.Author.Tests.{ltb-true, eqb-true}
 use Rattle.definitions.specs.Basics.{if_then_else_, ascii, sameName, all, keep}
 use Rattle.definitions.specs.Expression.{Side, left, right, noSide, Relation, Expr, column, literal, and, binary, call, other, field, Exprs, nil, cons, Record, Frame, Predicate, relation, distance, knn, Extraction, Plan, empty, held, extracted}
-use Rattle.definitions.specs.Leaves.{leaves, relationNamed, Comparison, compares, noComparison, comparison, distanceArguments}
+use Rattle.definitions.specs.Leaves.{relationNamed, Comparison, compares, noComparison, comparison, distanceArguments}
 use Rattle.definitions.specs.Decode.{indexBelow}
-use Rattle.definitions.specs.Match.{columnsOf, columnsOfAll, mapColumns, mapColumnsAll, recordAt, sameSide, commonSide, sideOf, isSide, Order, leftRight, rightLeft, noOrder, orderOf, onChild, boundOn, invert, Request, askRelation, askDistance, askKnn, askNothing, relationRequest, dwithinRequest, knnLiterals, knnRequest, callRequest, distanceRequest, comparisonRequest, request, matchRelation, matchDistance, matchKnn, matchRequest, matchLeaf}
+use Rattle.definitions.specs.Match.{columnsOf, columnsOfAll, mapColumns, mapColumnsAll, recordAt, sameSide, commonSide, sideOf, isSide, Order, leftRight, rightLeft, noOrder, orderOf, onChild, boundOn, Request, askRelation, askDistance, askKnn, askNothing, relationRequest, dwithinRequest, knnLiterals, knnRequest, callRequest, distanceRequest, comparisonRequest, request, matchRelation, matchDistance, matchKnn, matchRequest, matchLeaf}
 use Rattle.definitions.specs.Extract.{Pick, pick, andLeft, andRight, without, referenced, newIndex, prune, takePick, matchesOf, extraction}
 use Rattle.definitions.specs.Exchange.{negate, exchangeRecord, exchangeFrame, exchangePredicate, exchangeExtraction, exchangePlan}
-use Rattle.definitions.specs.Machine.{Bits, machinePlan, extractionOr}
-use Rattle.definitions.specs.Limits.{All, InRange, InRangeAll, ReadableFrame, NoMarks}
+use Rattle.definitions.specs.Machine.{machinePlan, extractionOr}
+use Rattle.definitions.specs.Limits.{All, InRange, NoMarks}
 use Rattle.definitions.specs.Meaning.{andValue, Valuation, Meaning, value, values, frameColumns, frameValue, distanceByForm, predicateValue, andRemainder, extractionValue, planValue, exchangedValues, Fair}
 use Rattle.definitions.proofs.Columns.{all-left, all-right, all-both, columns-below}
-use Rattle.definitions.proofs.Taken.{Taken, here, inLeft, inRight, leaf-in-range, rest-in-range, RestIs, At, PickAt, pick-at, and-both}
+use Rattle.definitions.proofs.Taken.{Taken, here, inLeft, inRight, leaf-in-range, rest-in-range, RestIs, and-both}
+use Rattle.definitions.proofs.Pick.{Picked, picked}
 use Rattle.definitions.proofs.Requests.{by-test, same-name, Within, request-within}
 use Rattle.definitions.proofs.ExtractGood.{leafAt, match-at, pick-taken, references}
-use Rattle.definitions.proofs.Exchange.{negate-negate, child-at, side-at}
+use Rattle.definitions.proofs.Exchange.{child-at, side-at}
 
 -- ---- And
 
@@ -467,7 +468,7 @@ SameValue M v F none = Unit {0}
 SameValue M v F (some X) = extractionValue M v X ≡ frameValue M v F
 
 take-value : (M : Meaning) → Fair M → (v : Valuation) (F : Frame) → NoMarks (F .records) → InRange (indexBelow (length (F .records))) (F .expr)
-    → (p : Option Pick) → PickAt (matchesOf F) p → SameValue M v F (takePick F p)
+    → (p : Option Pick) → Picked F p → SameValue M v F (takePick F p)
 unfolding takePick extractionValue frameValue
 take-value M fair v F m r none h = tt
 take-value M fair v F m r (some p) h =
@@ -477,7 +478,7 @@ take-value M fair v F m r (some p) h =
     let rest : Option Expr = without (p .position) (F .expr) in
     let t : Taken (F .expr) leaf rest = pick-taken F p h in
     let same : value M f leaf ≡ predicateValue M v (p .predicate) =
-    subst (MatchMeans M v (value M f leaf)) (sym (match-at F (p .position)) ∙ h .1) (leaf-match M fair v rs leaf m (leaf-in-range (indexBelow (length rs)) t r)) in
+    subst (MatchMeans M v (value M f leaf)) (sym (match-at F (p .position)) ∙ h .1 .match) (leaf-match M fair v rs leaf m (leaf-in-range (indexBelow (length rs)) t r)) in
     sym (taken-value M f t
     ∙ rest-value M v rs (value M f leaf) rest (rest-in-range (indexBelow (length rs)) t r)
     ∙ ap (λ (x : ℕ). andRemainder M v x (Option·map (prune rs) rest)) same)
@@ -486,7 +487,7 @@ take-value M fair v F m r (some p) h =
 pub extraction-value : (M : Meaning) → Fair M → (v : Valuation) (F : Frame) → NoMarks (F .records) → InRange (indexBelow (length (F .records))) (F .expr)
     → SameValue M v F (extraction F)
 unfolding extraction
-extraction-value M fair v F m r = take-value M fair v F m r (pick (matchesOf F)) (pick-at (matchesOf F))
+extraction-value M fair v F m r = take-value M fair v F m r (pick (matchesOf F)) (picked F)
 
 -- ---- the exchange
 

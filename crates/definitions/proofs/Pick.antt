@@ -1,0 +1,136 @@
+-- The first match under a test is at its position, and no earlier leaf passes the test; the pick is the first of two such.
+use Prim.Native.Nat.{ℕ, zero, suc, _<_}
+use native.Mathlib.Nat.{not-suc-le-zero, le-of-suc-le-suc, zero-lt-suc}
+use native.Mathlib.Omega.{arith}
+use mathlib.Core.Path.{_≡_, refl, sym, ap, ap₂, _∙_, subst}
+use mathlib.Core.Bool.{Bool, true, false, _||_, or-true, false≢true}
+use mathlib.Core.List.{List, [], _∷_}
+use mathlib.Core.Option.{Option, none, some, Option·map}
+use lib.ListN.{length, getD}
+use Rattle.definitions.specs.Basics.{any}
+use Rattle.definitions.specs.Expression.{Frame, Predicate, Extraction}
+use Rattle.definitions.specs.Extract.{Pick, isKnn, later, firstMatch, firstOf, pick, without, prune, takePick, matchesOf, extraction}
+use Rattle.definitions.specs.Claims.{isMatch, someLeafMatches, isKnnMatch, matchAt, Took, PickExactly}
+use Rattle.definitions.proofs.Requests.{by-test}
+
+-- Whether a leaf matches and passes a test.
+passes : (Predicate → Bool) → Option Predicate → Bool
+passes test none = false
+passes test (some p) = test p
+
+-- ---- the first match
+
+module _ (test : Predicate → Bool) where
+  -- No leaf passes below a position.
+  abbrev NoneBelow : List (Option Predicate) → ℕ → Type 0
+  NoneBelow ms k = (i : ℕ) → i < k → passes test (getD ms i none) ≡ false
+
+  -- What the first match is: at its position, and the first; if there is none, no leaf passes.
+  abbrev First : List (Option Predicate) → Option Pick → Type 0
+  First ms none = (i : ℕ) → passes test (getD ms i none) ≡ false
+  First ms (some p) =
+      (p .position < length ms) × (getD ms (p .position) none ≡ some (p .predicate)) × (test (p .predicate) ≡ true) × NoneBelow ms (p .position)
+
+  none-below : (m : Option Predicate) (ms : List (Option Predicate)) (k : ℕ) → passes test m ≡ false → NoneBelow ms k → NoneBelow (m ∷ ms) (suc k)
+  none-below m ms k e h zero b = e
+  none-below m ms k e h (suc i) b = h i (le-of-suc-le-suc b)
+
+  later-first : (m : Option Predicate) (ms : List (Option Predicate)) (p : Option Pick) → passes test m ≡ false → First ms p → First (m ∷ ms) (later p)
+  unfolding later
+  later-first m ms none e h = λ i. none-below m ms (suc i) e (λ j _. h j) i (omega arith)
+  later-first m ms (some p) e h = (omega (arith, h .0), h .1, h .2, none-below m ms (p .position) e (h .3))
+
+  first-is : (ms : List (Option Predicate)) → First ms (firstMatch test ms)
+  unfolding firstMatch passes
+  first-is [] = λ i. refl
+  first-is (none ∷ ms) = later-first none ms (firstMatch test ms) refl (first-is ms)
+  first-is (some q ∷ ms) =
+      by-test (First (some q ∷ ms)) (test q) _ _ (λ e. (zero-lt-suc (length ms), refl, e, λ i b. absurd (not-suc-le-zero b)))
+      (λ e. later-first (some q) ms (firstMatch test ms) e (first-is ms))
+
+-- ---- the pick
+
+-- The extraction that takes a pick.
+abbrev pub taking : Frame → Pick → Extraction
+taking F p = record { predicate = p .predicate; remainder = Option·map (prune (F .records)) (without (p .position) (F .expr)) }
+
+-- What the pick is; if there is none, no leaf matches.
+abbrev pub Picked : Frame → Option Pick → Type 0
+Picked F none = (i : ℕ) → matchAt F i ≡ none
+Picked F (some p) = (p .position < length (matchesOf F)) × Took F (taking F p) (p .position)
+
+no-match : (m : Option Predicate) → passes (λ p. true) m ≡ false → m ≡ none
+unfolding passes
+no-match none e = refl
+no-match (some p) e = absurd (false≢true (sym e))
+
+no-knn : (m : Option Predicate) → passes isKnn m ≡ false → isKnnMatch m ≡ false
+unfolding passes isKnnMatch
+no-knn none e = refl
+no-knn (some p) e = e
+
+first-picked : (F : Frame) (p q : Option Pick) → First isKnn (matchesOf F) p → First (λ p. true) (matchesOf F) q → Picked F (firstOf p q)
+unfolding firstOf
+first-picked F none none h k = λ i. no-match (matchAt F i) (k i)
+first-picked F none (some q) h k = (
+  k .0,
+  record {
+    match = k .1;
+    rest = refl;
+    firstKnn = λ _ i _. no-knn (matchAt F i) (h i);
+    noKnn = λ _ i. no-knn (matchAt F i) (h i);
+    firstMatch = λ _ i b. no-match (matchAt F i) (k .3 i b);
+  },
+)
+first-picked F (some p) q h k = (
+  h .0,
+  record {
+    match = h .1;
+    rest = refl;
+    firstKnn = λ _ i b. no-knn (matchAt F i) (h .3 i b);
+    noKnn = λ e i. absurd (false≢true (sym e ∙ h .2));
+    firstMatch = λ e i b. absurd (false≢true (sym e ∙ h .2));
+  },
+)
+
+pub picked : (F : Frame) → Picked F (pick (matchesOf F))
+unfolding pick
+picked F = first-picked F (firstMatch isKnn (matchesOf F)) (firstMatch (λ p. true) (matchesOf F)) (first-is isKnn (matchesOf F)) (first-is (λ p. true) (matchesOf F))
+
+took-by : (F : Frame) (p : Option Pick) → Picked F p → (X : Extraction) → takePick F p ≡ some X → (position : ℕ) × Took F X position
+unfolding takePick
+took-by F none h X e = let z : _≡_ {A = ℕ} 0 1 = cc in absurd (omega arith)
+took-by F (some p) h X e =
+    let same : taking F p ≡ X = cc in
+    (p .position, subst (λ (Y : Extraction). Took F Y (p .position)) same (h .1))
+
+pub took : PickExactly
+unfolding extraction
+took F X e = took-by F (pick (matchesOf F)) (picked F) X e
+
+-- ---- whether a leaf matches
+
+any-none : (ms : List (Option Predicate)) → ((i : ℕ) → getD ms i none ≡ none) → any isMatch ms ≡ false
+unfolding any isMatch
+any-none [] h = refl
+any-none (m ∷ ms) h = ap₂ _||_ (ap isMatch (h 0)) (any-none ms (λ i. h (suc i)))
+
+any-some : (ms : List (Option Predicate)) (i : ℕ) (p : Predicate) → getD ms i none ≡ some p → any isMatch ms ≡ true
+unfolding any isMatch
+any-some [] i p e = let z : _≡_ {A = ℕ} 0 1 = cc in absurd (omega arith)
+any-some (m ∷ ms) zero p e = ap (λ (x : Option Predicate). isMatch x || any isMatch ms) e
+any-some (m ∷ ms) (suc i) p e = ap (λ (b : Bool). isMatch m || b) (any-some ms i p e) ∙ or-true (isMatch m)
+
+-- A frame has an extraction exactly when a leaf matches.
+abbrev pub Matched : Frame → Option Extraction → Type 0
+Matched F none = someLeafMatches F ≡ false
+Matched F (some X) = someLeafMatches F ≡ true
+
+take-matched : (F : Frame) (p : Option Pick) → Picked F p → Matched F (takePick F p)
+unfolding takePick someLeafMatches
+take-matched F none h = any-none (matchesOf F) h
+take-matched F (some p) h = any-some (matchesOf F) (p .position) (p .predicate) (h .1 .match)
+
+pub matched : (F : Frame) → Matched F (extraction F)
+unfolding extraction
+matched F = take-matched F (pick (matchesOf F)) (picked F)
