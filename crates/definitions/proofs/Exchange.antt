@@ -301,14 +301,6 @@ picked-exchanged : (F : Frame) → pick (matchesOf (exchangeFrame F)) ≡ Option
 unfolding matchesOf exchangeFrame
 picked-exchanged F = ap pick (leaves-swapped (F .records) (leaves (F .expr))) ∙ pick-exchanged (matchesOf F)
 
-same-position : (p : Option Pick) → Option·map (λ q. q .position) (Option·map exchangePick p) ≡ Option·map (λ q. q .position) p
-unfolding exchangePick
-same-position none = refl
-same-position (some p) = refl
-
-pub position-exchanged : (F : Frame) → Option·map (λ p. p .position) (pick (matchesOf (exchangeFrame F))) ≡ Option·map (λ p. p .position) (pick (matchesOf F))
-position-exchanged F = ap (Option·map (λ p. p .position)) (picked-exchanged F) ∙ same-position (pick (matchesOf F))
-
 -- The extraction of the exchanged frame is the exchanged extraction; where one is none so is the other.
 pub extraction-exchange : (F : Frame) → extraction (exchangeFrame F) ≡ Option·map exchangeExtraction (extraction F)
 unfolding extraction

@@ -243,7 +243,8 @@ points-fair = record {
 }
 
 pub fair-points : FairMeaning
-fair-points = (points, points-fair)
+unfolding points related
+fair-points = (points, points-fair, refl, refl, refl, refl, refl, refl)
 
 -- ---- mark columns
 

@@ -15,7 +15,8 @@ use Rattle.definitions.specs.Plans.{frameOf}
 use Rattle.definitions.specs.Calls.{LoadOutcome, writtenOver, loadBytes, loaded, load}
 use Rattle.definitions.specs.Machine.{machinePlan, machineLength, fresh, Made}
 use Rattle.definitions.specs.Limits.{GoodPlan}
-use Rattle.definitions.specs.Claims.{accepted, Loads, callsAfter, machineAfter, Agree, ListOfCalls}
+use Rattle.definitions.specs.Claims.{accepted, Loads, LoadAccepted, callsAfter, machineAfter, Agree, ListOfCalls}
+use Rattle.definitions.proofs.RoundTripPlan.{frame-reads}
 use Rattle.definitions.proofs.InversePlan.{frame-back}
 use Rattle.definitions.proofs.Lists.{Holds, AgreesAll, run-agrees}
 
@@ -76,6 +77,19 @@ module _ (frame : List ℕ) (F : Frame) (n : ℕ) (buffer : List ℕ) (l : Loads
   }
 
 pub list-theorem : ListOfCalls
+unfolding load loaded
 list-theorem frame n buffer h a =
     let t : Taken frame n buffer (frameOf frame) = taken-by frame n buffer a in
-    (t .0, t .1, agree-after-load frame (t .0) n buffer (record { bytes = h; good = t .1; taken = a }))
+    (t .0, t .1, ap (λ (o : LoadOutcome). o .answer) (t .3), agree-after-load frame (t .0) n buffer (record { bytes = h; good = t .1; taken = a }))
+
+-- Whether the buffer has room decides, once the frame is read.
+room-decides : (frame : List ℕ) (n : ℕ) (buffer : List ℕ) (b : Bool) → accepted (loaded n buffer (if b then ok frame else refused 9) .answer) ≡ b
+unfolding accepted loaded
+room-decides frame n buffer true = refl
+room-decides frame n buffer false = refl
+
+pub load-accepts : LoadAccepted
+unfolding load loadBytes
+load-accepts F n buffer g =
+    ap (λ (r : Result Frame). accepted (loaded n buffer (loadBytes (frameBytes F) (length buffer) r) .answer)) (frame-reads F g)
+    ∙ room-decides (frameBytes F) n buffer (leb (length (frameBytes F)) (length buffer))

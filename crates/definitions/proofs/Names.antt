@@ -7,7 +7,8 @@ use mathlib.Core.List.{[], _∷_}
 use lib.Count.{ones, ones-step}
 use Rattle.definitions.specs.Basics.{if_then_else_, any, sameName}
 use Rattle.definitions.specs.Logical.{mask, distinct}
-use Rattle.definitions.specs.Claims.{NamesAreOnes}
+use Rattle.definitions.specs.Claims.{NamesAreOnes, NamesOnce, occurrences}
+use Rattle.definitions.proofs.Everything.{everything}
 
 lowest-digit : (found : Bool) (m : ℕ) → ones ((if found then 1 else 0) + 2 * m) ≡ (if found then 1 else 0) + ones m
 lowest-digit true m = ones-step (1 + 2 * m) ∙ ap₂ _+_ (omega arith) (ap ones (omega arith))
@@ -18,3 +19,7 @@ unfolding mask distinct ones
 names-ones [] found = refl
 names-ones (name ∷ names) found =
     ap (λ (n : ℕ). (if any (sameName name) found then 1 else 0) + n) (names-ones names found) ∙ sym (lowest-digit (any (sameName name) found) (mask names found))
+
+pub each-once : NamesOnce
+unfolding everything occurrences
+each-once = refl

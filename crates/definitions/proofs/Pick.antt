@@ -104,9 +104,18 @@ took-by F (some p) h X e =
     let same : taking F p ≡ X = cc in
     (p .position, subst (λ (Y : Extraction). Took F Y (p .position)) same (h .1))
 
+-- Where nothing was taken, nothing was picked.
+untaken : (F : Frame) (p : Option Pick) → Picked F p → takePick F p ≡ none → (i : ℕ) → matchAt F i ≡ none
+unfolding takePick
+untaken F none h e = h
+untaken F (some p) h e = let z : _≡_ {A = ℕ} 0 1 = cc in absurd (omega arith)
+
 pub took : PickExactly
 unfolding extraction
-took F X e = took-by F (pick (matchesOf F)) (picked F) X e
+took = (
+  λ F X e. took-by F (pick (matchesOf F)) (picked F) X e,
+  λ F e. untaken F (pick (matchesOf F)) (picked F) e,
+)
 
 -- ---- whether a leaf matches
 

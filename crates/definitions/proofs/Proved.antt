@@ -5,20 +5,21 @@ use Rattle.definitions.specs.Expression.{held}
 use Rattle.definitions.specs.Plans.{planOf}
 use Rattle.definitions.specs.Machine.{Bits, machinePlan}
 use Rattle.definitions.specs.Limits.{GoodPlan}
-use Rattle.definitions.specs.Claims.{ExchangeTwice, ExtractExchanged, ExpressionReadBack, PlanReadBack, PlanOfBytes, ExtractionGood, ExchangeGood, callsAfter, planLeft, ListOfCalls, SamePlan, ExchangeAccepted, ExtractAccepted, PickExactly, MachinesAgree, AndAssociative, AndCommutative, ExtractionValue, ListValue, FairMeaning, NamesAreOnes}
+use Rattle.definitions.specs.Claims.{LoadAccepted, RestOfLeaves, ExchangeValue, NamesOnce, ExchangeTwice, ExtractExchanged, ExpressionReadBack, PlanReadBack, PlanOfBytes, ExtractionGood, ExchangeGood, callsAfter, planLeft, ListOfCalls, SamePlan, ExchangeAccepted, ExtractAccepted, PickExactly, MachinesAgree, AndAssociative, AndCommutative, ExtractionValue, ListValue, FairMeaning, NamesAreOnes}
 use Rattle.definitions.proofs.Exchange.{plan-twice, extraction-exchange}
 use Rattle.definitions.proofs.RoundTripPlan.{expr-reads, plan-reads}
 use Rattle.definitions.proofs.InversePlan.{plan-back}
+use Rattle.definitions.proofs.Taken.{rest-of-leaves-are}
 use Rattle.definitions.proofs.ExtractGood.{GoodExtraction, extraction-good}
 use Rattle.definitions.proofs.ExchangeGood.{exchange-good, plan-as-long}
 use Rattle.definitions.proofs.Lists.{plan-good}
-use Rattle.definitions.proofs.ListTheorem.{load-good, list-theorem}
+use Rattle.definitions.proofs.ListTheorem.{load-accepts, load-good, list-theorem}
 use Rattle.definitions.proofs.Answers.{told, plan-told, plans-same, exchange-among, extract-among}
 use Rattle.definitions.proofs.Pick.{took}
 use Rattle.definitions.proofs.Machines.{same-leaf, same-refusal}
-use Rattle.definitions.proofs.Truth.{and-value-assoc, and-value-comm, SameValue, extraction-value, machine-value}
+use Rattle.definitions.proofs.Truth.{plan-exchange-value, and-value-assoc, and-value-comm, SameValue, extraction-value, machine-value}
 use Rattle.definitions.proofs.FairExample.{fair-points}
-use Rattle.definitions.proofs.Names.{names-ones}
+use Rattle.definitions.proofs.Names.{each-once, names-ones}
 
 exchange-twice : ExchangeTwice
 exchange-twice = plan-twice
@@ -41,6 +42,9 @@ extraction-is-good F X g e = subst (GoodExtraction F) e (extraction-good F g)
 exchange-is-good : ExchangeGood
 exchange-is-good p g = (exchange-good p g, plan-as-long p)
 
+load-accepted : LoadAccepted
+load-accepted = load-accepts
+
 list-of-calls : ListOfCalls
 list-of-calls = list-theorem
 
@@ -56,6 +60,9 @@ extract-accepted = extract-among
 pick-exactly : PickExactly
 pick-exactly = took
 
+rest-of-leaves : RestOfLeaves
+rest-of-leaves = rest-of-leaves-are
+
 machines-agree : MachinesAgree
 machines-agree = (same-leaf, same-refusal)
 
@@ -64,6 +71,9 @@ and-associative = and-value-assoc
 
 and-commutative : AndCommutative
 and-commutative = and-value-comm
+
+exchange-has-value : ExchangeValue
+exchange-has-value = plan-exchange-value
 
 extraction-has-value : ExtractionValue
 extraction-has-value M fair v F X m g e = subst (SameValue M v F) e (extraction-value M fair v F m (g .readable .expr .inRange))
@@ -81,3 +91,6 @@ fair-meaning = fair-points
 
 names-are-ones : NamesAreOnes
 names-are-ones = names-ones
+
+names-once : NamesOnce
+names-once = each-once

@@ -13,19 +13,13 @@ use Rattle.definitions.specs.Program.{lineOutcome, freshPlan, output}
 use Rattle.definitions.specs.Claims.{callsAfter}
 use Rattle.definitions.proofs.Everything.{everything}
 
--- An input and its answer.
-data Row (A : Type 0) : Type 0 where
-  row : List ℕ → Result A → Row A
+-- Inputs, each with its answer.
+abbrev Rows : Type 0 → Type 0
+Rows A = List (List ℕ × Result A)
 
-abbrev input : {A : Type 0} → Row A → List ℕ
-input (row i a) = i
-
-abbrev answerOf : {A : Type 0} → Row A → Result A
-answerOf (row i a) = a
-
--- Each input of a table has its answer.
-abbrev Table : {A : Type 0} → (List ℕ → Result A) → List (Row A) → Type 0
-Table f rows = map (λ r. f (input r)) rows ≡ map answerOf rows
+-- Each input has its answer.
+abbrev Given : {A : Type 0} → (List ℕ → Result A) → Rows A → Type 0
+Given f rows = map (λ r. f (r .0)) rows ≡ map (λ r. r .1) rows
 
 -- ---- physical frames
 
@@ -57,41 +51,41 @@ over e = other 0 (cons e nil)
 loads : List ℕ → Result ℕ
 loads bytes = load bytes 0 (replicate 16384 0) .answer
 
-physicalRows : List (Row ℕ)
+physicalRows : Rows ℕ
 physicalRows =
     -- 1 and 2, by length
-    row [] (refused 1) ∷ row (2 ∷ replicate 16384 0) (refused 1) ∷ row (2 ∷ replicate 16383 0) (refused 2) ∷
+    ([], refused 1) ∷ (2 ∷ replicate 16384 0, refused 1) ∷ (2 ∷ replicate 16383 0, refused 2) ∷
     -- records: their count, a side before what is missing, a child index
-    row (1 ∷ 1 ∷ []) (refused 3) ∷ row (1 ∷ 1 ∷ 1 ∷ []) (refused 4) ∷ row (1 ∷ 1 ∷ 0 ∷ []) (refused 3) ∷
-    row (1 ∷ 0 ∷ 1 ∷ 3 ∷ []) (refused 4) ∷ row (1 ∷ 0 ∷ 1 ∷ 2 ∷ 0 ∷ []) (refused 3) ∷
+    (1 ∷ 1 ∷ [], refused 3) ∷ (1 ∷ 1 ∷ 1 ∷ [], refused 4) ∷ (1 ∷ 1 ∷ 0 ∷ [], refused 3) ∷
+    (1 ∷ 0 ∷ 1 ∷ 3 ∷ [], refused 4) ∷ (1 ∷ 0 ∷ 1 ∷ 2 ∷ 0 ∷ [], refused 3) ∷
     -- a kind; a column
-    row (start []) (refused 3) ∷ row (frame (field 1 1)) (refused 4) ∷
-    row (start (0 ∷ 0 ∷ 0 ∷ 0 ∷ [])) (refused 3) ∷ row (frame (column 0 0)) (refused 6) ∷
+    (start [], refused 3) ∷ (frame (field 1 1), refused 4) ∷
+    (start (0 ∷ 0 ∷ 0 ∷ 0 ∷ []), refused 3) ∷ (frame (column 0 0), refused 6) ∷
     -- literals: type, Boolean, Int32, UInt32
-    row (start (1 ∷ 7 ∷ [])) (refused 4) ∷ row (start (1 ∷ 1 ∷ replicate 7 255)) (refused 3) ∷ row (start (1 ∷ 1 ∷ replicate 8 255)) (refused 4) ∷
-    row (frame (literal 2 2147483648)) (refused 4) ∷ row (frame (literal 2 18446744071562067968)) (ok 13) ∷ row (frame (literal 4 4294967296)) (refused 4) ∷
+    (start (1 ∷ 7 ∷ []), refused 4) ∷ (start (1 ∷ 1 ∷ replicate 7 255), refused 3) ∷ (start (1 ∷ 1 ∷ replicate 8 255), refused 4) ∷
+    (frame (literal 2 2147483648), refused 4) ∷ (frame (literal 2 18446744071562067968), ok 13) ∷ (frame (literal 4 4294967296), refused 4) ∷
     -- an operator, a name's length, its bytes, a count of children
-    row (start (2 ∷ 64 ∷ [])) (refused 4) ∷ row (start (3 ∷ 0 ∷ [])) (refused 4) ∷ row (start (3 ∷ 2 ∷ 32 ∷ [])) (refused 4) ∷
-    row (start (3 ∷ 2 ∷ 97 ∷ [])) (refused 3) ∷ row (start (4 ∷ 0 ∷ 0 ∷ 17 ∷ [])) (refused 4) ∷
+    (start (2 ∷ 64 ∷ []), refused 4) ∷ (start (3 ∷ 0 ∷ []), refused 4) ∷ (start (3 ∷ 2 ∷ 32 ∷ []), refused 4) ∷
+    (start (3 ∷ 2 ∷ 97 ∷ []), refused 3) ∷ (start (4 ∷ 0 ∷ 0 ∷ 17 ∷ []), refused 4) ∷
     -- depth 64 and 65, after 3 and 4; 1,024 and 1,025 nodes
-    row (frame (ands 63)) (ok 769) ∷ row (frame (ands 64)) (refused 5) ∷
-    row (start (openAnds 63 ++ (2 ∷ 0 ∷ []))) (refused 3) ∷ row (start (openAnds 63 ++ (2 ∷ 0 ∷ 6 ∷ []))) (refused 4) ∷
-    row (frame (over (tree 9))) (ok 3077) ∷ row (frame (over (over (tree 9)))) (refused 5) ∷
+    (frame (ands 63), ok 769) ∷ (frame (ands 64), refused 5) ∷
+    (start (openAnds 63 ++ (2 ∷ 0 ∷ [])), refused 3) ∷ (start (openAnds 63 ++ (2 ∷ 0 ∷ 6 ∷ [])), refused 4) ∷
+    (frame (over (tree 9)), ok 3077) ∷ (frame (over (over (tree 9))), refused 5) ∷
     -- 7 before 8; arity of a relation, of `st_dwithin`, of the side of a comparison that is read; not of the other, nor below a leaf
-    row (frame (call (ascii "st_within") nil) ++ (0 ∷ [])) (refused 7) ∷ row (frame (call (ascii "st_within") (cons (literal 0 0) nil))) (refused 8) ∷
-    row (frame (call (ascii "st_dwithin") (cons (literal 0 0) (cons (literal 0 0) nil)))) (refused 8) ∷
-    row (frame (binary 4 (literal 0 0) (call (ascii "st_distance") nil))) (refused 8) ∷
-    row (frame (binary 4 (call (ascii "st_distance") nil) (literal 0 0))) (ok 29) ∷ row (frame (over (call (ascii "st_within") nil))) (ok 19) ∷
+    (frame (call (ascii "st_within") nil) ++ (0 ∷ []), refused 7) ∷ (frame (call (ascii "st_within") (cons (literal 0 0) nil)), refused 8) ∷
+    (frame (call (ascii "st_dwithin") (cons (literal 0 0) (cons (literal 0 0) nil))), refused 8) ∷
+    (frame (binary 4 (literal 0 0) (call (ascii "st_distance") nil)), refused 8) ∷
+    (frame (binary 4 (call (ascii "st_distance") nil) (literal 0 0)), ok 29) ∷ (frame (over (call (ascii "st_within") nil)), ok 19) ∷
     []
 
 -- ---- logical frames
 
-logicalRows : List (Row (List ℕ))
+logicalRows : Rows (List ℕ)
 logicalRows =
-    row [] (refused 1) ∷ row (frame (literal 0 0)) (refused 2) ∷ row (2 ∷ []) (refused 3) ∷ row (2 ∷ 0 ∷ []) (refused 4) ∷ row (2 ∷ 5 ∷ 4 ∷ []) (refused 4) ∷
-    row (2 ∷ exprBytes (ands 64)) (refused 5) ∷ row (2 ∷ (exprBytes (literal 0 0) ++ (0 ∷ []))) (refused 7) ∷
+    ([], refused 1) ∷ (frame (literal 0 0), refused 2) ∷ (2 ∷ [], refused 3) ∷ (2 ∷ 0 ∷ [], refused 4) ∷ (2 ∷ 5 ∷ 4 ∷ [], refused 4) ∷
+    (2 ∷ exprBytes (ands 64), refused 5) ∷ (2 ∷ (exprBytes (literal 0 0) ++ (0 ∷ [])), refused 7) ∷
     -- arity is not asked
-    row (2 ∷ exprBytes (call (ascii "ST_Within") nil)) (ok (0 ∷ 4 ∷ 1 ∷ 2 ∷ [])) ∷
+    (2 ∷ exprBytes (call (ascii "ST_Within") nil), ok (0 ∷ 4 ∷ 1 ∷ 2 ∷ [])) ∷
     []
 
 -- ---- calls
@@ -116,10 +110,10 @@ lines [] = []
 lines (l ∷ ls) = l ++ (10 ∷ lines ls)
 
 pub record Refusals : Type 0 where
-  physical : Table loads physicalRows
+  physical : Given loads physicalRows
   buffer : load (frame (literal 0 0)) 0 (replicate 12 0) .answer ≡ refused 9
   arity-before-buffer : load (frame (call (ascii "st_within") nil)) 0 [] .answer ≡ refused 8
-  logical : Table (λ bytes. mapResult logicalBytes (logical bytes)) logicalRows
+  logical : Given (λ bytes. mapResult logicalBytes (logical bytes)) logicalRows
   -- n over the buffer's length, and bytes that are no plan
   bad-plan : callsRun 14 (frame (literal 0 0)) (extractIn 64 ∷ exchangeIn 64 ∷ []) .answers ≡ refused 10 ∷ refused 10 ∷ []
   other-bytes : callsRun 12 (frame (literal 0 0)) (extractIn 64 ∷ exchangeIn 64 ∷ []) .answers ≡ refused 10 ∷ refused 10 ∷ []

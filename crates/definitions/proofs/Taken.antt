@@ -4,10 +4,10 @@ use native.Mathlib.Nat.{not-suc-le-zero, le-of-suc-le-suc}
 use native.Mathlib.Omega.{arith}
 use mathlib.Core.Path.{_≡_, refl, sym, ap, ap₂, _∙_}
 use mathlib.Core.Bool.{Bool, true, false, _&&_, and-assoc}
-use mathlib.Core.List.{List, [], _∷_, _++_}
+use mathlib.Core.List.{List, [], _∷_, _++_, append-assoc, append-nil}
 use mathlib.Core.Option.{Option, none, some}
-use lib.ListN.{length, getD, length-append, List·getD-append}
-use lib.Seq.{getD-append-add}
+use lib.ListN.{length, take, drop, getD, length-append, List·getD-append}
+use lib.Seq.{getD-append-add, take-append-le, drop-append-le, take-append-add, drop-append-add}
 use lib.Dec.{ltb}
 use borrow.Author.Tests.{ltb-true, ltb-false}
 use Rattle.definitions.specs.Basics.{if_then_else_, all}
@@ -17,6 +17,7 @@ use Rattle.definitions.specs.Leaves.{leaves, leafArity, arity}
 use Rattle.definitions.specs.Decode.{Columns}
 use Rattle.definitions.specs.Extract.{andLeft, andRight, without}
 use Rattle.definitions.specs.Limits.{nodes, depth, InRange}
+use Rattle.definitions.specs.Claims.{RestOfLeaves}
 
 -- A leaf taken out of an expression, and what is left.
 pub data Taken : Expr → Expr → Option Expr → Type 0 where
@@ -54,6 +55,63 @@ taken (binary o l r) d i h = only (binary o l r) d i h
 taken (call name es) d i h = only (call name es) d i h
 taken (other tag es) d i h = only (other tag es) d i h
 taken (field b t) d i h = only (field b t) d i h
+
+-- ---- the leaves of what is left
+
+restLeaves : Option Expr → List Expr
+restLeaves none = []
+restLeaves (some r) = leaves r
+
+left-leaves : (rest : Option Expr) (r : Expr) → leaves (andLeft rest r) ≡ restLeaves rest ++ leaves r
+unfolding andLeft restLeaves leaves
+left-leaves none r = refl
+left-leaves (some l) r = refl
+
+right-leaves : (l : Expr) (rest : Option Expr) → leaves (andRight l rest) ≡ leaves l ++ restLeaves rest
+unfolding andRight restLeaves leaves
+right-leaves l none = sym (append-nil (leaves l))
+right-leaves l (some r) = refl
+
+-- A list without the element at a position.
+abbrev but : ℕ → List Expr → List Expr
+but i es = take i es ++ drop (suc i) es
+
+one-less : (e : Expr) (i : ℕ) → i < 1 → [] ≡ but i (e ∷ [])
+one-less e zero h = refl
+one-less e (suc i) h = absurd (not-suc-le-zero (le-of-suc-le-suc h))
+
+and-less : (l r : Expr) (i : ℕ) → i < length (leaves l ++ leaves r)
+    → ((j : ℕ) → j < length (leaves l) → restLeaves (without j l) ≡ but j (leaves l))
+    → ((j : ℕ) → j < length (leaves r) → restLeaves (without j r) ≡ but j (leaves r))
+    → (b : Bool) → ltb i (length (leaves l)) ≡ b
+    → leaves (if b then andLeft (without i l) r else andRight l (without (i - length (leaves l)) r)) ≡ but i (leaves l ++ leaves r)
+and-less l r i h f g true e =
+    let k : i < length (leaves l) = ltb-true i (length (leaves l)) e in
+    left-leaves (without i l) r ∙ ap (λ (x : List Expr). x ++ leaves r) (f i k) ∙ append-assoc (take i (leaves l)) _ _
+    ∙ sym (ap₂ _++_ (take-append-le i (leaves l) (leaves r) (omega arith)) (drop-append-le (suc i) (leaves l) (leaves r) k))
+and-less l r i h f g false e =
+    let k : length (leaves l) ≤ i = ltb-false i (length (leaves l)) e in
+    let j : ℕ = i - length (leaves l) in
+    let is : length (leaves l) + j ≡ i = omega arith in
+    let past : suc i ≡ length (leaves l) + suc j = omega arith in
+    right-leaves l (without j r) ∙ ap (λ (x : List Expr). leaves l ++ x) (g j (omega (arith, simp length-append at h)))
+    ∙ sym (append-assoc (leaves l) _ _)
+    ∙ sym (ap₂ _++_ (ap (λ (x : ℕ). take x (leaves l ++ leaves r)) (sym is) ∙ take-append-add (leaves l) (leaves r) j)
+    (ap (λ (x : ℕ). drop x (leaves l ++ leaves r)) past ∙ drop-append-add (leaves l) (leaves r) (suc j)))
+
+less : (e : Expr) (i : ℕ) → i < length (leaves e) → restLeaves (without i e) ≡ but i (leaves e)
+unfolding leaves without restLeaves
+less (column a t) i h = one-less (column a t) i h
+less (literal type v) i h = one-less (literal type v) i h
+less (and l r) i h = and-less l r i h (λ j k. less l j k) (λ j k. less r j k) (ltb i (length (leaves l))) refl
+less (binary o l r) i h = one-less (binary o l r) i h
+less (call name es) i h = one-less (call name es) i h
+less (other tag es) i h = one-less (other tag es) i h
+less (field b t) i h = one-less (field b t) i h
+
+pub rest-of-leaves-are : RestOfLeaves
+unfolding restLeaves
+rest-of-leaves-are e r i h is = ap restLeaves (sym is) ∙ less e i h
 
 -- ---- what the leaf and the rest have of the whole
 

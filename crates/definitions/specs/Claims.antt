@@ -1,25 +1,26 @@
 -- What is claimed of the definitions; proofs/Proved.antt proves each claim.
-use Prim.Native.Nat.{ℕ, _+_, _≤_, _<_}
+use Prim.Native.Nat.{ℕ, suc, _+_, _≤_, _<_}
 use mathlib.Core.Path.{_≡_}
 use mathlib.Core.Bool.{Bool, true, false, _&&_, _||_, not}
 use mathlib.Core.List.{List, [], _∷_, _++_, map}
 use mathlib.Core.Option.{Option, none, some, Option·map}
-use lib.ListN.{length, take, getD}
+use lib.ListN.{length, take, drop, getD, replicate}
 use lib.Dec.{leb}
 use lib.Count.{ones}
-use Rattle.definitions.specs.Basics.{if_then_else_, Result, ok, refused, any}
-use Rattle.definitions.specs.Expression.{Expr, Frame, Predicate, Extraction, Plan, empty, held, extracted}
+use Rattle.definitions.specs.Basics.{if_then_else_, Result, ok, refused, sameName, any}
+use Rattle.definitions.specs.Expression.{within, Expr, Frame, Predicate, Extraction, Plan, held, extracted}
 use Rattle.definitions.specs.Encode.{exprBytes, frameBytes, extractionBytes, planBytes}
+use Rattle.definitions.specs.Leaves.{leaves}
 use Rattle.definitions.specs.Readers.{read}
 use Rattle.definitions.specs.Decode.{Columns, expression}
 use Rattle.definitions.specs.Plans.{frameOf, planOf}
-use Rattle.definitions.specs.Extract.{isKnn, pick, without, prune, matchesOf, extraction}
+use Rattle.definitions.specs.Extract.{isKnn, without, prune, matchesOf, extraction}
 use Rattle.definitions.specs.Exchange.{exchangeFrame, exchangeExtraction, exchangePlan}
-use Rattle.definitions.specs.Calls.{load, heldPlan, Outcome}
-use Rattle.definitions.specs.Machine.{Kind, extractCall, exchangeCall, machinePlan, machineLength, Run, machineRun, fresh, Made, fed, make, Calls, callsRun}
+use Rattle.definitions.specs.Calls.{load}
+use Rattle.definitions.specs.Machine.{Kind, extractCall, exchangeCall, machinePlan, machineLength, Run, machineRun, fresh, Made, fed, Calls, callsRun}
 use Rattle.definitions.specs.Limits.{AllBytes, nodes, Readable, GoodPlan, NoMarks}
 use Rattle.definitions.specs.Meaning.{Valuation, Meaning, Fair, andValue, frameValue, extractionValue, planValue, exchangedValues}
-use Rattle.definitions.specs.Logical.{mask, distinct}
+use Rattle.definitions.specs.Logical.{spatialNames, mask, distinct}
 
 -- ---- exchange
 
@@ -90,11 +91,18 @@ pub record Agree (F : Frame) (c : Calls) (m : Run) : Type 0 where
   pub plan : planLeft c ≡ planBytes (machinePlan F (m .bits))
   pub size : c .n ≡ machineLength F (m .bits)
 
--- Demand 3: an accepted load is of a good frame, and from it every list of calls gives what the machine gives.
+-- A good frame is loaded exactly when the plan buffer has room for its bytes.
+abbrev pub LoadAccepted : Type 0
+LoadAccepted =
+    (F : Frame) (n : ℕ) (buffer : List ℕ) → GoodPlan (held F)
+    → accepted (load (frameBytes F) n buffer .answer) ≡ leb (length (frameBytes F)) (length buffer)
+
+-- Demand 3: an accepted load is of a good frame and gives its length, and from it every list of calls gives what the machine gives.
 abbrev pub ListOfCalls : Type 0
 ListOfCalls =
     (frame : List ℕ) (n : ℕ) (buffer : List ℕ) → AllBytes frame → accepted (load frame n buffer .answer) ≡ true
-    → (F : Frame) × (frameOf frame ≡ ok F) × ((calls : List Made) → Agree F (callsAfter frame n buffer calls) (machineAfter F calls))
+    → (F : Frame) × (frameOf frame ≡ ok F) × (load frame n buffer .answer ≡ ok (length frame))
+    × ((calls : List Made) → Agree F (callsAfter frame n buffer calls) (machineAfter F calls))
 
 -- Whether a call is an extract.
 unfoldable pub isExtract : Kind → Bool
@@ -170,38 +178,37 @@ pub record Took (F : Frame) (X : Extraction) (position : ℕ) : Type 0 where
   pub noKnn : isKnn (X .predicate) ≡ false → (i : ℕ) → isKnnMatch (matchAt F i) ≡ false
   pub firstMatch : isKnn (X .predicate) ≡ false → (i : ℕ) → i < position → matchAt F i ≡ none
 
--- Every extraction takes its leaf so.
+-- Every extraction takes its leaf so, and where there is none no leaf matches.
 abbrev pub PickExactly : Type 0
-PickExactly = (F : Frame) (X : Extraction) → extraction F ≡ some X → (position : ℕ) × Took F X position
+PickExactly =
+    ((F : Frame) (X : Extraction) → extraction F ≡ some X → (position : ℕ) × Took F X position)
+    × ((F : Frame) → extraction F ≡ none → (position : ℕ) → matchAt F position ≡ none)
+
+-- What is left of an expression has its AND-leaves but for the one that was taken, in their order.
+abbrev pub RestOfLeaves : Type 0
+RestOfLeaves =
+    (e r : Expr) (position : ℕ) → position < length (leaves e) → without position e ≡ some r
+    → leaves r ≡ take position (leaves e) ++ drop (suc position) (leaves e)
 
 -- ---- both machines
 
--- The position of the leaf that extract picks of a held plan.
-unfoldable pub pickedIn : Result Plan → Option ℕ
-pickedIn (refused number) = none
-pickedIn (ok empty) = none
-pickedIn (ok (held F)) = Option·map (λ p. p .position) (pick (matchesOf F))
-pickedIn (ok (extracted X)) = none
+-- The plan after a list in which an extract was accepted: the extraction, exchanged where accepted exchanges are odd in number.
+abbrev pub extractedPlan : Extraction → (odd : Bool) → Plan
+extractedPlan X odd = if odd then extracted (exchangeExtraction X) else extracted X
 
--- The AND-leaf that the accepted extract of a list took, as a position in the plan that was held then.
-unfoldable pub takenBy : (n : ℕ) → (buffer : List ℕ) → List Made → Option ℕ
-takenBy n buffer [] = none
-takenBy n buffer (c ∷ cs) =
-    let o : Outcome = make (c .kind) n buffer (c .scratch) in
-    if isExtract (c .kind) && accepted (o .answer) then pickedIn (heldPlan n buffer) else takenBy (o .n) (o .buffer) cs
-
--- The same after a load.
-abbrev pub takenAfter : (frame : List ℕ) → (n : ℕ) → (buffer : List ℕ) → List Made → Option ℕ
-takenAfter frame n buffer calls = takenBy (load frame n buffer .n) (load frame n buffer .buffer) calls
-
--- Whatever one machine exchanged and the other did not: where both extracted, both took the same AND-leaf, at the same rate.
+-- Whatever one machine exchanged and the other did not: where both extracted, both hold the extraction of one and the same
+-- AND-leaf, exchanged or not, and with it the same first byte, which sets the rate.
 abbrev pub SameLeaf : Type 0
 SameLeaf =
     (frame : List ℕ) (F : Frame) (n n′ : ℕ) (buffer buffer′ : List ℕ) → Loads frame n buffer F → Loads frame n′ buffer′ F
     → (calls calls′ : List Made)
     → extractAccepted calls (callsAfter frame n buffer calls .answers) ≡ true
     → extractAccepted calls′ (callsAfter frame n′ buffer′ calls′ .answers) ≡ true
-    → (position : ℕ) × (takenAfter frame n buffer calls ≡ some position) × (takenAfter frame n′ buffer′ calls′ ≡ some position)
+    → (X : Extraction) × (position : ℕ) × Took F X position
+    × (planLeft (callsAfter frame n buffer calls)
+    ≡ planBytes (extractedPlan X (exchangesOdd calls (callsAfter frame n buffer calls .answers))))
+    × (planLeft (callsAfter frame n′ buffer′ calls′)
+    ≡ planBytes (extractedPlan X (exchangesOdd calls′ (callsAfter frame n′ buffer′ calls′ .answers))))
     × (getD (planLeft (callsAfter frame n buffer calls)) 0 0 ≡ getD (planLeft (callsAfter frame n′ buffer′ calls′)) 0 0)
 
 -- Where one machine refuses a filter with 13, so does the other, wherever its scratch is long enough.
@@ -227,6 +234,10 @@ AndAssociative = (a b c : ℕ) → andValue (andValue a b) c ≡ andValue a (and
 abbrev pub AndCommutative : Type 0
 AndCommutative = (a b : ℕ) → andValue a b ≡ andValue b a
 
+-- An exchanged plan has the plan's value with those of left and right columns exchanged.
+abbrev pub ExchangeValue : Type 0
+ExchangeValue = (M : Meaning) → Fair M → (v : Valuation) (p : Plan) → planValue M v (exchangePlan p) ≡ planValue M (exchangedValues v) p
+
 -- The extraction of a good frame without mark columns has the frame's value.
 abbrev pub ExtractionValue : Type 0
 ExtractionValue =
@@ -241,12 +252,25 @@ ListValue =
     → (p : Plan) × (planOf (planLeft (callsAfter frame n buffer calls)) ≡ ok p)
     × (planValue M v p ≡ frameValue M (if exchangesOdd calls (callsAfter frame n buffer calls .answers) then exchangedValues v else v) F)
 
--- A fair meaning exists.
+-- A fair meaning exists, and one in which a relation, a distance and KNN hold of some arguments and not of others.
 abbrev pub FairMeaning : Type 0
-FairMeaning = (M : Meaning) × Fair M
+FairMeaning =
+    (M : Meaning) × Fair M
+    × (M .relationValue within 0 1 ≡ 1) × (M .relationValue within 1 0 ≡ 0)
+    × (M .dwithinValue 3 5 2 ≡ 1) × (M .dwithinValue 3 5 1 ≡ 0)
+    × (M .knnValue 3 5 2 0 2 ≡ 1) × (M .knnValue 3 5 1 0 2 ≡ 0)
 
 -- ---- the logical call
 
 -- How many distinct names is the count of ones of the mask.
 abbrev pub NamesAreOnes : Type 0
 NamesAreOnes = (names found : List (List ℕ)) → distinct names found ≡ ones (mask names found)
+
+-- How many places of a list of names have this one.
+unfoldable pub occurrences : List (List ℕ) → (name : List ℕ) → ℕ
+occurrences [] name = 0
+occurrences (one ∷ names) name = (if sameName one name then 1 else 0) + occurrences names name
+
+-- The 15 names are told apart: each occurs once.
+abbrev pub NamesOnce : Type 0
+NamesOnce = map (occurrences spatialNames) spatialNames ≡ replicate 15 1
