@@ -1,0 +1,159 @@
+//! Runs the planner on cases and holds each of its lines to the reading's and the original's.
+
+use std::path::{Path, PathBuf};
+use std::{io, iter};
+
+use reading::program::Program;
+
+use crate::make::{self, Case};
+use crate::original::{Original, try_refused};
+use crate::planner::Planner;
+use crate::report::Report;
+use crate::shrink::shrink;
+
+/// Frames for one run of the planner.
+const FRAMES_PER_RUN: u64 = 5_000;
+
+pub struct Options {
+    pub planner: PathBuf,
+    pub frames: u64,
+    pub seed: u64,
+    /// How many differences to show with their smallest input.
+    pub show: usize,
+}
+
+/// What a line is to be answered with.
+pub struct Expected {
+    pub reading: Vec<u8>,
+    /// Nothing where the original has no part in the answer.
+    pub original: Option<Vec<u8>>,
+}
+
+/// Reading and original, each with its own plan.
+#[derive(Default)]
+pub struct References {
+    reading: Program,
+    original: Original,
+}
+
+impl References {
+    pub fn expect(&mut self, line: &[u8]) -> Expected {
+        Expected {
+            reading: self.reading.answer(line),
+            original: self.original.answer(line),
+        }
+    }
+}
+
+/// A line in, the lines out.
+pub struct Compared {
+    pub line: Vec<u8>,
+    pub expected: Expected,
+    pub planner: Vec<u8>,
+}
+
+impl Compared {
+    pub fn agrees(&self) -> bool {
+        let original = self.expected.original.as_ref();
+        self.expected.reading == self.planner && original.is_none_or(|line| *line == self.planner)
+    }
+}
+
+/// Runs the planner on these lines alone.
+pub fn compare_lines(planner: &Path, lines: &[Vec<u8>]) -> io::Result<Vec<Compared>> {
+    let running = Planner::start(planner)?;
+    running.send(joined(lines, true));
+    let mut references = References::default();
+    let expected: Vec<Expected> = lines.iter().map(|line| references.expect(line)).collect();
+    let mut output = running.finish()?.lines().into_iter();
+    let compared = |(line, expected): (&Vec<u8>, Expected)| Compared {
+        line: line.clone(),
+        expected,
+        planner: output.next().unwrap_or_default(),
+    };
+    Ok(lines.iter().zip(expected).map(compared).collect())
+}
+
+fn joined(lines: &[Vec<u8>], last_line_feed: bool) -> Vec<u8> {
+    let mut bytes = lines.join(&b'\n');
+    if last_line_feed && !lines.is_empty() {
+        bytes.push(b'\n');
+    }
+    bytes
+}
+
+/// Compares as many frames as the options say.
+pub fn compare(options: &Options) -> io::Result<Report> {
+    let mut report = Report::default();
+    let mut first = 0;
+    while first < options.frames {
+        let end = options.frames.min(first + FRAMES_PER_RUN);
+        one_run(options, first, end, &mut report)?;
+        first = end;
+    }
+    for difference in &mut report.shown {
+        difference.smallest = shrink(&options.planner, &difference.case)?;
+    }
+    Ok(report)
+}
+
+/// One run of the planner: a few lines on a fresh plan, then the frames of these numbers.
+fn one_run(options: &Options, first: u64, end: u64, report: &mut Report) -> io::Result<()> {
+    let planner = Planner::start(&options.planner)?;
+    let mut references = References::default();
+    let fresh = make::fresh_case(!options.seed, first);
+    let frames = (first + 1..=end).map(|number| make::case(options.seed, number));
+    let mut cases = Vec::new();
+    for (number, case) in (first..).zip(iter::once(fresh).chain(frames)) {
+        let cut = number == end && ends_without_line_feed(end, &case);
+        planner.send(joined(&case.lines, !cut));
+        let expect = |line: &Vec<u8>| references.expect(line);
+        let expected: Vec<Expected> = case.lines.iter().map(expect).collect();
+        cases.push((number, case, expected));
+    }
+    let output = planner.finish()?;
+    let mut lines = output.lines().into_iter();
+    for (number, case, expected) in cases {
+        hold(number, &case, expected, &mut lines, options.show, report);
+    }
+    report.end_of_run(lines.count(), output.status);
+    Ok(())
+}
+
+/// Every other run does, unless its last line is empty and would be none.
+fn ends_without_line_feed(end: u64, last: &Case) -> bool {
+    let empty = last.lines.last().is_none_or(|line| line.is_empty());
+    end / FRAMES_PER_RUN % 2 == 1 && !empty
+}
+
+/// Holds the planner's next lines to what a case expects.
+fn hold(
+    number: u64,
+    case: &Case,
+    expected: Vec<Expected>,
+    planner: &mut impl Iterator<Item = Vec<u8>>,
+    show: usize,
+    report: &mut Report,
+) {
+    let mut differences = 0;
+    for (line, expected) in case.lines.iter().zip(expected) {
+        let compared = Compared {
+            line: line.clone(),
+            expected,
+            planner: planner.next().unwrap_or_default(),
+        };
+        report.count_line(&compared);
+        if matches!(&compared.expected.reading[..], b"06" | b"08")
+            && let Some(tried) = try_refused(line)
+        {
+            report.count_tried(&compared.expected.reading, tried);
+        }
+        if !compared.agrees() {
+            differences += 1;
+            if differences == 1 && report.shown.len() < show {
+                report.show(number, case, compared);
+            }
+        }
+    }
+    report.count_case(number, case, differences);
+}

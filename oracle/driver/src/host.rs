@@ -1,0 +1,188 @@
+//! From a frame to what the original is given: a join filter, or a logical expression with the
+//! schemas of both children.
+
+use std::collections::HashSet;
+use std::sync::Arc;
+
+use datafusion_common::arrow::datatypes::{DataType, Field, Schema};
+use datafusion_common::config::ConfigOptions;
+use datafusion_common::{Column as LogicalColumn, DFSchema, JoinSide, ScalarValue};
+use datafusion_expr::expr::{BinaryExpr as LogicalBinary, GroupingSet, ScalarFunction};
+use datafusion_expr::{ColumnarValue, Expr as LogicalExpr, ScalarUDF, Volatility, create_udf};
+use datafusion_physical_expr::expressions::{BinaryExpr, Column, Literal};
+use datafusion_physical_expr::{PhysicalExpr, ScalarFunctionExpr};
+use datafusion_physical_plan::joins::utils::{ColumnIndex, JoinFilter};
+use reading::frame::{Expr, Frame, Record, Side, operator};
+
+use crate::opaque::{Meaning, Opaque};
+use crate::scalars::{self, scalar};
+
+/// A column's name carries its tag and the position of the AND-leaf where it stands. The original
+/// keeps names as they are, so they tell in the end which leaf was taken.
+pub fn column_name(tag: u16, leaf: usize) -> String {
+    format!("{tag}/{leaf}")
+}
+
+pub fn tag_and_leaf(name: &str) -> (u16, usize) {
+    let parsed = name.split_once('/').and_then(|(tag, leaf)| {
+        let (tag, leaf) = (tag.parse().ok()?, leaf.parse().ok()?);
+        Some((tag, leaf))
+    });
+    parsed.expect("the name came from a frame")
+}
+
+pub fn join_filter(frame: &Frame) -> JoinFilter {
+    let field = |record: &Record| Field::new(record.tag.to_string(), DataType::Null, true);
+    let fields: Vec<Field> = frame.records.iter().map(field).collect();
+    let index = |record: &Record| ColumnIndex {
+        index: usize::from(record.index),
+        side: join_side(record.side),
+    };
+    JoinFilter::new(
+        and_tree(&frame.expr, &mut 0),
+        frame.records.iter().map(index).collect(),
+        Arc::new(Schema::new(fields)),
+    )
+}
+
+fn join_side(side: Side) -> JoinSide {
+    match side {
+        Side::Left => JoinSide::Left,
+        Side::Right => JoinSide::Right,
+        Side::None => JoinSide::None,
+    }
+}
+
+/// The expression, its AND-leaves counted on the way.
+fn and_tree(expr: &Expr, leaf: &mut usize) -> Arc<dyn PhysicalExpr> {
+    match expr {
+        Expr::Binary { op, left, right } if *op == operator::AND => {
+            let left = and_tree(left, leaf);
+            binary(*op, left, and_tree(right, leaf))
+        }
+        _ => {
+            *leaf += 1;
+            physical(expr, *leaf - 1)
+        }
+    }
+}
+
+fn physical(expr: &Expr, leaf: usize) -> Arc<dyn PhysicalExpr> {
+    let all = |exprs: &[Expr]| exprs.iter().map(|e| physical(e, leaf)).collect();
+    match expr {
+        Expr::Column { index, tag } => {
+            Arc::new(Column::new(&column_name(*tag, leaf), usize::from(*index)))
+        }
+        Expr::Literal { kind, bytes } => Arc::new(Literal::new(scalar(*kind, *bytes))),
+        Expr::Binary { op, left, right } => {
+            binary(*op, physical(left, leaf), physical(right, leaf))
+        }
+        Expr::Function { name, args } => function(name, all(args)),
+        Expr::Other { tag, children } => Arc::new(Opaque {
+            meaning: Meaning::Other(*tag),
+            children: all(children),
+        }),
+        Expr::LogicalColumn { .. } => panic!("a physical frame has no logical column"),
+    }
+}
+
+fn binary(
+    op: u8,
+    left: Arc<dyn PhysicalExpr>,
+    right: Arc<dyn PhysicalExpr>,
+) -> Arc<dyn PhysicalExpr> {
+    match scalars::operator(op) {
+        Some(operator) => Arc::new(BinaryExpr::new(left, operator, right)),
+        None => Arc::new(Opaque {
+            meaning: Meaning::Operator(op),
+            children: vec![left, right],
+        }),
+    }
+}
+
+fn function(name: &[u8], args: Vec<Arc<dyn PhysicalExpr>>) -> Arc<dyn PhysicalExpr> {
+    let fun = udf(name);
+    Arc::new(ScalarFunctionExpr::new(
+        fun.name(),
+        Arc::clone(&fun),
+        args,
+        Arc::new(Field::new("", DataType::Null, true)),
+        Arc::new(ConfigOptions::default()),
+    ))
+}
+
+fn udf(name: &[u8]) -> Arc<ScalarUDF> {
+    let name = str::from_utf8(name).expect("names are ASCII");
+    let never_called = Arc::new(|_: &[ColumnarValue]| Ok(ColumnarValue::Scalar(ScalarValue::Null)));
+    Arc::new(create_udf(
+        name,
+        Vec::new(),
+        DataType::Null,
+        Volatility::Immutable,
+        never_called,
+    ))
+}
+
+/// A logical frame as the original sees it.
+pub struct LogicalJoin {
+    pub filter: LogicalExpr,
+    pub left: DFSchema,
+    pub right: DFSchema,
+}
+
+pub fn logical_join(expr: &Expr) -> LogicalJoin {
+    let mut columns = HashSet::new();
+    let filter = logical(expr, &mut columns);
+    let schema = |bit: u8| {
+        let there = columns.iter().filter(|(bits, _)| bits & bit != 0);
+        let field = |&(bits, tag)| Field::new(logical_name(bits, tag), DataType::Null, true);
+        DFSchema::try_from(Schema::new(there.map(field).collect::<Vec<_>>()))
+            .expect("the names differ")
+    };
+    LogicalJoin {
+        filter,
+        left: schema(1),
+        right: schema(2),
+    }
+}
+
+/// Columns of different bits are different columns, even with one tag.
+fn logical_name(bits: u8, tag: u16) -> String {
+    format!("{bits}/{tag}")
+}
+
+fn logical(expr: &Expr, columns: &mut HashSet<(u8, u16)>) -> LogicalExpr {
+    match expr {
+        Expr::LogicalColumn { bits, tag } => {
+            columns.insert((*bits, *tag));
+            LogicalExpr::Column(LogicalColumn::from_name(logical_name(*bits, *tag)))
+        }
+        Expr::Literal { kind, bytes } => LogicalExpr::Literal(scalar(*kind, *bytes), None),
+        Expr::Binary { op, left, right } => {
+            let (left, right) = (logical(left, columns), logical(right, columns));
+            logical_binary(*op, left, right)
+        }
+        Expr::Function { name, args } => {
+            let args = args.iter().map(|arg| logical(arg, columns)).collect();
+            LogicalExpr::ScalarFunction(ScalarFunction::new_udf(udf(name), args))
+        }
+        Expr::Other { children, .. } => {
+            other(children.iter().map(|e| logical(e, columns)).collect())
+        }
+        Expr::Column { .. } => panic!("a logical frame has no physical column"),
+    }
+}
+
+fn logical_binary(op: u8, left: LogicalExpr, right: LogicalExpr) -> LogicalExpr {
+    match scalars::operator(op) {
+        Some(operator) => {
+            let (left, right) = (Box::new(left), Box::new(right));
+            LogicalExpr::BinaryExpr(LogicalBinary::new(left, operator, right))
+        }
+        None => other(vec![left, right]),
+    }
+}
+
+fn other(children: Vec<LogicalExpr>) -> LogicalExpr {
+    LogicalExpr::GroupingSet(GroupingSet::Rollup(children))
+}

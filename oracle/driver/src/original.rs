@@ -1,0 +1,221 @@
+//! The original behind the program's line protocol. What it has no part in, loads, refusals and
+//! the exchange of a held frame, is done as document 01 says; only its own answers are given out.
+
+use std::cell::Cell;
+use std::panic::{self, AssertUnwindSafe};
+
+use datafusion_physical_plan::joins::utils::{ColumnIndex, JoinFilter};
+use reading::decode;
+use reading::frame::{Expr, Frame, LOGICAL, PHYSICAL};
+use reading::physical::exchange_frame;
+use reading::program::{hex, parse};
+use reading::refusal::Refusal;
+use sedona_query_planner::reach::{
+    collect_spatial_predicate_names, find_knn_query_side, transform_join_filter,
+};
+use sedona_query_planner::spatial_predicate::{
+    DistancePredicate, SpatialPredicate, SpatialPredicateTrait,
+};
+
+use crate::answer::{extraction, side_number, taken_leaf};
+use crate::host::{join_filter, logical_join};
+
+/// The names in the order of the original's list, which gives them their bits.
+const NAMES: [&str; 15] = [
+    "st_intersects",
+    "st_contains",
+    "st_within",
+    "st_covers",
+    "st_covered_by",
+    "st_coveredby",
+    "st_touches",
+    "st_crosses",
+    "st_overlaps",
+    "st_equals",
+    "st_dwithin",
+    "st_knn",
+    "rs_intersects",
+    "rs_contains",
+    "rs_within",
+];
+
+/// In place of a line where the original panicked.
+pub const PANIC: &[u8] = b"panic";
+
+/// The form where there is no distance; no answer has it.
+const NO_FORM: u8 = 0xff;
+
+#[derive(Default)]
+enum Held {
+    #[default]
+    Nothing,
+    Frame(Frame),
+    Extraction(Extracted),
+}
+
+struct Extracted {
+    predicate: SpatialPredicate,
+    form: u8,
+    remainder: Option<JoinFilter>,
+}
+
+/// What the original does with a frame that document 01 refuses.
+pub enum Tried {
+    Panics,
+    Extracts,
+    FindsNothing,
+}
+
+#[derive(Default)]
+pub struct Original {
+    held: Held,
+}
+
+impl Original {
+    /// The original's line for this line, or nothing where it isn't asked.
+    pub fn answer(&mut self, line: &[u8]) -> Option<Vec<u8>> {
+        let bytes = parse(line).ok()?;
+        match bytes[..] {
+            [PHYSICAL, ..] => {
+                if let Ok(frame) = decode::physical(&bytes) {
+                    self.held = Held::Frame(frame);
+                }
+                None
+            }
+            [LOGICAL, ..] => decode::logical(&bytes)
+                .ok()
+                .map(|expr| names_and_side(&expr)),
+            [0x21] => self.extract(),
+            [0x22] => self.exchange(),
+            _ => None,
+        }
+    }
+
+    fn extract(&mut self) -> Option<Vec<u8>> {
+        let Held::Frame(frame) = &self.held else {
+            return None;
+        };
+        let Some(found) = guarded(|| transform(frame)) else {
+            return Some(PANIC.to_vec());
+        };
+        let Some(extracted) = found else {
+            return Some(hex(&[Refusal::NoMatch.number()]));
+        };
+        let line = extracted.line();
+        self.held = Held::Extraction(extracted);
+        Some(line)
+    }
+
+    fn exchange(&mut self) -> Option<Vec<u8>> {
+        match &mut self.held {
+            Held::Nothing => None,
+            Held::Frame(frame) => {
+                *frame = exchange_frame(frame);
+                None
+            }
+            Held::Extraction(extracted) => {
+                extracted.exchange();
+                Some(extracted.line())
+            }
+        }
+    }
+}
+
+impl Extracted {
+    fn line(&self) -> Vec<u8> {
+        let bytes = || extraction(&self.predicate, self.form, self.remainder.as_ref());
+        guarded(bytes).map_or(PANIC.to_vec(), |bytes| accepted(&bytes))
+    }
+
+    /// The predicate is exchanged by the original. The join filter's own swap isn't among the
+    /// files: document 01 gives its rule.
+    fn exchange(&mut self) {
+        self.predicate = self.predicate.swap_for_swapped_children();
+        self.remainder = self.remainder.as_ref().map(|filter| {
+            let negated = |column: &ColumnIndex| ColumnIndex {
+                index: column.index,
+                side: column.side.negate(),
+            };
+            JoinFilter::new(
+                filter.expression().clone(),
+                filter.column_indices().iter().map(negated).collect(),
+                filter.schema().clone(),
+            )
+        });
+    }
+}
+
+fn accepted(bytes: &[u8]) -> Vec<u8> {
+    hex(&[&[0], bytes].concat())
+}
+
+fn transform(frame: &Frame) -> Option<Extracted> {
+    let (predicate, remainder) = transform_join_filter(&join_filter(frame))?;
+    let form = match &predicate {
+        SpatialPredicate::Distance(distance) => form(frame, distance),
+        _ => NO_FORM,
+    };
+    Some(Extracted {
+        predicate,
+        form,
+        remainder,
+    })
+}
+
+/// The form byte is document 01's: the original forgets how a distance was written, so it is read
+/// off the leaf that the original took.
+fn form(frame: &Frame, distance: &DistancePredicate) -> u8 {
+    let leaf = taken_leaf(&distance.left).expect("a matched geometry has a column");
+    match frame.expr.and_leaves()[leaf] {
+        Expr::Binary { op, .. } => *op,
+        Expr::Function { name, .. } if name == b"st_dwithin" => 0,
+        _ => NO_FORM,
+    }
+}
+
+fn names_and_side(expr: &Expr) -> Vec<u8> {
+    let answer = guarded(|| {
+        let join = logical_join(expr);
+        let names = collect_spatial_predicate_names(&join.filter);
+        let bit = |(bit, name): (usize, &&str)| u16::from(names.contains(*name)) << bit;
+        let mask: u16 = NAMES.iter().enumerate().map(bit).sum();
+        let side = find_knn_query_side(&join.filter, &join.left, &join.right);
+        let [high, low] = mask.to_be_bytes();
+        [high, low, names.len() as u8, side_number(side)]
+    });
+    answer.map_or(PANIC.to_vec(), |bytes| accepted(&bytes))
+}
+
+/// Hands the original a frame that document 01 refuses with 6 or 8.
+pub fn try_refused(line: &[u8]) -> Option<Tried> {
+    let bytes = parse(line).ok()?;
+    let frame = decode::physical_shape(&bytes).ok()?;
+    let filter = join_filter(&frame);
+    Some(match guarded(|| transform_join_filter(&filter)) {
+        None => Tried::Panics,
+        Some(Some(_)) => Tried::Extracts,
+        Some(None) => Tried::FindsNothing,
+    })
+}
+
+thread_local! {
+    static GUARDED: Cell<bool> = const { Cell::new(false) };
+}
+
+/// A panic of the original is an answer too, and not to be printed.
+fn guarded<T>(ask: impl FnOnce() -> T) -> Option<T> {
+    GUARDED.set(true);
+    let answer = panic::catch_unwind(AssertUnwindSafe(ask)).ok();
+    GUARDED.set(false);
+    answer
+}
+
+/// To be called once, before anything is asked.
+pub fn keep_guarded_panics_quiet() {
+    let print = panic::take_hook();
+    panic::set_hook(Box::new(move |info| {
+        if !GUARDED.get() {
+            print(info);
+        }
+    }));
+}

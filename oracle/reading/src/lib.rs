@@ -1,0 +1,11 @@
+//! A reading of document 01 in plain Rust, written from the document and not from the sources.
+//! It stands beside the port and the original as a third opinion.
+
+pub mod calls;
+pub mod decode;
+pub mod encode;
+pub mod frame;
+pub mod logical;
+pub mod physical;
+pub mod program;
+pub mod refusal;

@@ -1,0 +1,6 @@
+use std::io::{self, BufWriter};
+
+fn main() -> io::Result<()> {
+    let output = BufWriter::new(io::stdout().lock());
+    reading::program::run(io::stdin().lock(), output)
+}

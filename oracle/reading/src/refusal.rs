@@ -1,0 +1,38 @@
+/// The numbered refusals of document 01.
+#[derive(Clone, Copy, Debug, PartialEq, Eq)]
+pub enum Refusal {
+    /// Frame empty or over 16,384 bytes.
+    FrameLength = 1,
+    /// Wrong first byte.
+    FirstByte = 2,
+    /// Frame ends inside a field.
+    Ends = 3,
+    /// Field out of its range.
+    Range = 4,
+    /// Over 1,024 nodes, or depth over 64.
+    Limit = 5,
+    /// A column node's index is not below the column count.
+    ColumnIndex = 6,
+    /// Bytes after the end.
+    BytesAfter = 7,
+    /// An AND-leaf with too few arguments.
+    Arity = 8,
+    /// Plan buffer or scratch too short.
+    NoRoom = 9,
+    /// The held bytes are no plan.
+    BadPlan = 10,
+    /// Plan empty.
+    EmptyPlan = 11,
+    /// Plan already extracted.
+    Extracted = 12,
+    /// No leaf matches.
+    NoMatch = 13,
+    /// A line that is no hexadecimal frame.
+    BadLine = 14,
+}
+
+impl Refusal {
+    pub fn number(self) -> u8 {
+        self as u8
+    }
+}

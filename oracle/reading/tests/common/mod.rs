@@ -1,0 +1,60 @@
+//! Frames in few words.
+
+use reading::encode;
+use reading::frame::{Expr, Frame, Record, Side, operator};
+use reading::program::Program;
+
+/// Column 0 is of the left child, column 1 of the right.
+pub fn left() -> Expr {
+    Expr::Column { index: 0, tag: 8 }
+}
+
+pub fn right() -> Expr {
+    Expr::Column { index: 1, tag: 7 }
+}
+
+pub fn literal(kind: u8, value: i64) -> Expr {
+    Expr::Literal {
+        kind,
+        bytes: value.to_be_bytes(),
+    }
+}
+
+pub fn call(name: &str, args: Vec<Expr>) -> Expr {
+    Expr::Function {
+        name: name.into(),
+        args,
+    }
+}
+
+pub fn other(children: Vec<Expr>) -> Expr {
+    Expr::Other { tag: 0, children }
+}
+
+pub fn and(left: Expr, right: Expr) -> Expr {
+    Expr::binary(operator::AND, left, right)
+}
+
+pub fn record(side: Side, index: u16) -> Record {
+    Record {
+        side,
+        index,
+        tag: 9,
+    }
+}
+
+/// A frame of one left and one right record.
+pub fn frame(expr: Expr) -> Vec<u8> {
+    frame_of(vec![record(Side::Left, 5), record(Side::Right, 6)], expr)
+}
+
+pub fn frame_of(records: Vec<Record>, expr: Expr) -> Vec<u8> {
+    encode::physical(&Frame { records, expr })
+}
+
+/// What the program writes for these lines.
+pub fn answers(lines: &[&str]) -> Vec<String> {
+    let mut program = Program::default();
+    let answer = |line: &&str| String::from_utf8(program.answer(line.as_bytes())).unwrap();
+    lines.iter().map(answer).collect()
+}

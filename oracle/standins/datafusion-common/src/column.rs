@@ -1,0 +1,11 @@
+/// A logical column; here always without a table's name.
+#[derive(Clone, Debug, PartialEq, Eq, Hash)]
+pub struct Column {
+    pub name: String,
+}
+
+impl Column {
+    pub fn from_name(name: impl Into<String>) -> Self {
+        Column { name: name.into() }
+    }
+}

@@ -1,0 +1,6 @@
+use datafusion_common::ScalarValue;
+
+#[derive(Clone, Debug)]
+pub enum ColumnarValue {
+    Scalar(ScalarValue),
+}
