@@ -1,0 +1,11 @@
+-- Laws that several proofs use.
+pub mod Placed
+pub mod OfKind
+pub mod Standing
+pub mod HeadLaws
+pub mod LeafLaws
+pub mod EndWalk
+pub mod NameLaws
+pub mod WordLaws
+pub mod Parts
+pub mod Reading

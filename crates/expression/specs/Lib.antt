@@ -1,0 +1,6 @@
+-- What the contracts cite, in the order to read them.
+pub mod Places
+pub mod Nodes
+pub mod Heads
+pub mod Names
+pub mod Leaves

@@ -1,0 +1,6 @@
+// Walks over bytes that are known to hold an expression.
+pub mod ends;
+pub mod fields;
+pub mod heads;
+pub mod leaves;
+pub mod names;
