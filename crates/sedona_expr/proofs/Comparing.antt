@@ -1,0 +1,61 @@
+-- The side of a comparison that is read, and the arguments of `st_distance`.
+use Prim.Native.Nat.{ℕ, suc, _+_, _≤_, _<_}
+use native.Mathlib.Omega.{arith}
+use mathlib.Core.Path.{_≡_, refl, ap, _∙_}
+use mathlib.Core.Bool.{Bool, true, false, _||_}
+use mathlib.Core.List.{List}
+use mathlib.Core.Option.{none, some}
+use lib.Dec.{eqb}
+use borrow.Author.Tests.{eqb-false, eq-eqb, ne-eqb}
+use Rattle.definitions.specs.Basics.{if_then_else_, ascii, sameName}
+use Rattle.definitions.specs.Expression.{Expr, column, literal, and, binary, call, other, field}
+use Rattle.definitions.specs.Leaves.{compares, noComparison, comparison, distanceArguments}
+use Rattle.definitions.specs.Decode.{Columns}
+use Rattle.expression.specs.Places.{part}
+use Rattle.expression.specs.Nodes.{kindOf}
+use Rattle.expression.specs.Leaves.{CallIs}
+use Rattle.expression.specs.declared.leaves.Called.{Called}
+use Rattle.sedona_expr.specs.Parsed.{Arguments}
+
+-- An operator is one of two that follow each other, or lies outside of them.
+within : (o k : ℕ) → k ≤ o → o < k + 2 → (t : Bool) → eqb o k ≡ t → (eqb o k || eqb o (suc k)) ≡ true
+within o k h i true e = rw e
+within o k h i false e = rw (e, eq-eqb o (suc k) (omega (arith, eqb-false o k e)))
+
+outside : (o k : ℕ) → (k ≤ o → k + 2 ≤ o) → (eqb o k || eqb o (suc k)) ≡ false
+outside o k h = rw (ne-eqb o k (λ e. omega (arith, h (omega arith))), ne-eqb o (suc k) (λ e. omega (arith, h (omega arith))))
+
+module _ (l r : Expr) (operator : ℕ) where
+  pub reads-left : 1 ≤ operator → operator < 3 → comparison operator l r ≡ compares l r
+  unfolding comparison
+  reads-left h k = rw (within operator 1 h k (eqb operator 1) refl)
+
+  pub reads-right : 3 ≤ operator → operator < 5 → comparison operator l r ≡ compares r l
+  unfolding comparison
+  reads-right h k = rw (outside operator 1 (λ i. h), within operator 3 h k (eqb operator 3) refl)
+
+  pub reads-neither : (1 ≤ operator → 5 ≤ operator) → comparison operator l r ≡ noComparison
+  unfolding comparison
+  reads-neither h = rw (outside operator 1 (λ i. omega (arith, h i)), outside operator 3 (λ i. h (omega arith)))
+
+pub no-arguments : (t : Expr) → (kindOf t ≡ 3 → ⊥) → distanceArguments t ≡ none
+unfolding kindOf distanceArguments
+no-arguments (column i g) k = refl
+no-arguments (literal y v) k = refl
+no-arguments (and l r) k = refl
+no-arguments (binary o l r) k = refl
+no-arguments (call name args) k = absurd (k refl)
+no-arguments (other g cs) k = refl
+no-arguments (field b g) k = refl
+
+module _ {c : Columns} {s : List ℕ} {at : ℕ} {k : Called} {t : Expr} (b : CallIs c s at k t) (same : Bool)
+    (e : same ≡ sameName (part s (k .name) (k .end)) (ascii "st_distance")) where
+  arguments-are : distanceArguments t ≡ (if same then some (b .arguments) else none)
+  unfolding distanceArguments
+  arguments-are = ap distanceArguments (b .is) ∙ rw (← b .stands .spelling, ← e)
+
+  pub distance-found : same ≡ true → Arguments c s (k .first) (k .count) (distanceArguments t)
+  distance-found f = record { all = b .arguments; is = arguments-are ∙ rw f; row = b .stands .row }
+
+  pub distance-other : same ≡ false → distanceArguments t ≡ none
+  distance-other f = arguments-are ∙ rw f

@@ -1,0 +1,86 @@
+-- `parse_comparison`: the side that is read must be `st_distance`, and its first two arguments stand one after the other.
+use borrow.Author.Needs.{needs}
+use native.Mathlib.Omega.{arith}
+use Rattle.definitions.specs.Expression.{Expr, nil, cons}
+use Rattle.definitions.specs.Leaves.{comparison}
+use Rattle.definitions.specs.Decode.{Columns}
+use Rattle.expression.specs.Nodes.{Row}
+use Rattle.sedona_expr.specs.Parsed.{BothSides}
+use Rattle.expression.proofs.Standing.{first-stands}
+use Rattle.expression.proofs.EndWalk.{first-there}
+use Rattle.expression.proofs.Parts.{pair-right}
+use Rattle.sedona_expr.proofs.Distances.{not-compared, not-measured, too-few, compared-distance}
+use Rattle.sedona_expr.proofs.utils.parse_comparison.Statement.{statement}
+use Rattle.sedona_expr.proofs.utils.parse_comparison.Tie as tie
+
+end-node-requires : tie.Need-end-node-requires
+end-node-requires c κs =
+    let pair = c .before .pre in
+    (pair .0, pair .1, first-stands (pair .3))
+
+returns : tie.Need-returns
+returns c = λ d l r row.
+    let start = c .before .before .before .before .before in
+    not-compared (start .args .operator)
+    (rw (c .enum-told .given .1) at (c .before .before .comparison .ensures d (start .args .s .now) l r (first-stands row)
+    (pair-right row (c .before .before .before .end-node .result) (c .before .before .before .end-node .ensures))))
+
+-- Where a comparison was found, its sides stand.
+sides : (c : tie.After-known-told) (d : Columns) (l r : Expr)
+    → Row d (c .before .before .before .before .before .before .args .s .now) (c .before .before .before .before .before .before .args .left) 2 (cons l (cons r nil))
+    → BothSides d (c .before .before .before .before .before .before .args .s .now) (c .before .measured .given .0 .0) (c .before .measured .given .0 .1 .0)
+    (comparison (c .before .before .before .before .before .before .args .operator) l r)
+sides c d l r row =
+    let ended = c .before .before .before .before .end-node in
+    rw (c .before .measured .given .1) at
+    (c .before .before .before .comparison .ensures d (c .before .before .before .before .before .before .args .s .now) l r (first-stands row)
+    (pair-right row (ended .result) (ended .ensures)))
+
+distance-arguments-requires : tie.Need-distance-arguments-requires
+distance-arguments-requires c κs =
+    let pair = c .before .before .before .before .before .before .pre in
+    let both = sides c (pair .0) (pair .1) (pair .2) (pair .3) in
+    (pair .0, both .m, both .standsMeasured)
+
+returns-2 : tie.Need-returns-2
+returns-2 c = λ d l r row.
+    let both = sides (c .before .before .before) d l r row in
+    not-measured _ both (rw (c .enum-told2 .given .1) at (c .before .before .distance-arguments .ensures d (both .m) (both .standsMeasured)))
+
+returns-3 : tie.Need-returns-3
+returns-3 c = λ d l r row.
+    let arm = c .before .before in
+    let both = sides (arm .before .before .before) d l r row in
+    too-few _ both (rw (arm .first .given .1) at (arm .before .before .distance-arguments .ensures d (both .m) (both .standsMeasured))) (c .if1 .taken)
+
+end-node-requires-2 : tie.Need-end-node-requires-2
+end-node-requires-2 c κs =
+    let arm = c .before .before in
+    let pair = arm .before .before .before .before .before .before .before .before .before .pre in
+    let both = sides (arm .before .before .before) (pair .0) (pair .1) (pair .2) (pair .3) in
+    let found = rw (arm .first .given .1) at (arm .before .before .distance-arguments .ensures (pair .0) (both .m) (both .standsMeasured)) in
+    first-there (pair .0, found .all, found .row) (omega arith)
+
+returns-4 : tie.Need-returns-4
+returns-4 c = λ d l r row.
+    let arm = c .before .before .before in
+    let both = sides (arm .before .before .before) d l r row in
+    compared-distance _ both (rw (arm .first .given .1) at (arm .before .before .distance-arguments .ensures d (both .m) (both .standsMeasured)))
+    (c .before .if1 .left) (c .end-node2 .result) (c .end-node2 .ensures)
+
+pub parse-comparison-spec : {M : Type 1} → statement M
+parse-comparison-spec =
+    tie.close
+    (tie.spec
+    end-node-requires
+    (λ c κs. search needs)
+    (λ c. search needs)
+    (λ c. search needs)
+    returns
+    distance-arguments-requires
+    (λ c. search needs)
+    (λ c. search needs)
+    returns-2
+    returns-3
+    end-node-requires-2
+    returns-4)

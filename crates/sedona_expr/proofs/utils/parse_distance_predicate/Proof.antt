@@ -1,0 +1,53 @@
+-- `parse_distance_predicate`: what a node asks for is what its operator or its name asks for; the other nodes ask for no distance.
+use borrow.Author.Needs.{needs}
+use Rattle.sedona_expr.proofs.Distances.{plain-asks, and-asks, binary-asks, call-asks}
+use Rattle.sedona_expr.proofs.utils.parse_distance_predicate.Statement.{statement}
+use Rattle.sedona_expr.proofs.utils.parse_distance_predicate.Tie as tie
+
+parse-comparison-requires : tie.Need-parse-comparison-requires
+parse-comparison-requires c κs =
+    let arm = c .before in
+    let tree = arm .before .before .before .before .pre in
+    let pair = rw (arm .operator .given .1) at (arm .before .before .node-at .ensures (tree .0) (tree .1) (tree .2)) in
+    (tree .0, pair .l, pair .r, pair .row)
+
+parse-dwithin-requires : tie.Need-parse-dwithin-requires
+parse-dwithin-requires c κs =
+    let arm = c .before in
+    let tree = arm .before .before .before .before .pre in
+    let call = rw (arm .call .given .1) at (arm .before .before .node-at .ensures (tree .0) (tree .1) (tree .2)) in
+    (tree .0, call .name, call .arguments, call .stands)
+
+returns : tie.Need-returns
+returns c = λ d t h.
+    let arm = c .before .before in
+    let pair = rw (arm .operator .given .1) at (arm .before .before .node-at .ensures d t h) in
+    rw (binary-asks pair) (c .parse-comparison .ensures d (pair .l) (pair .r) (pair .row))
+
+returns-2 : tie.Need-returns-2
+returns-2 c = λ d t h.
+    let arm = c .before .before in
+    let call = rw (arm .call .given .1) at (arm .before .before .node-at .ensures d t h) in
+    rw (call-asks call) (c .parse-dwithin .ensures d (call .name) (call .arguments) (call .stands))
+
+returns-3 : tie.Need-returns-3
+returns-3 c = λ d t h. and-asks (rw (c .enum-told .given .1) at (c .before .before .node-at .ensures d t h))
+
+returns-4 : tie.Need-returns-4
+returns-4 c = λ d t h. plain-asks ((rw (c .enum-told2 .given .1) at (c .before .before .node-at .ensures d t h)) .0)
+
+pub parse-distance-predicate-spec : {M : Type 1} → statement M
+parse-distance-predicate-spec =
+    tie.close
+    (tie.spec
+    (λ c κs. search needs)
+    (λ c. search needs)
+    parse-comparison-requires
+    (λ c. search needs)
+    parse-dwithin-requires
+    (λ c. search needs)
+    (λ c. search needs)
+    returns
+    returns-2
+    returns-3
+    returns-4)
