@@ -1,0 +1,10 @@
+pub mod Reading
+pub mod Numbers
+pub mod Repeats
+pub mod Signed
+pub mod Children
+pub mod Walks
+pub mod Recorded
+pub mod Standing
+pub mod Wholes
+pub mod Predicated

@@ -1,0 +1,138 @@
+use Rattle.frame.specs.Nodes.{columnsOf}
+use Rattle.definitions.specs.Decode as decode
+use borrow.Author.Needs.{needs}
+use native.Mathlib.Omega.{arith}
+use mathlib.Core.Path.{_∙_}
+use Rattle.frame.proofs.Walks.{kind-stops, too-deep, too-many, inside, node-walks, counted-node, none-walked, first-stops, others-walked, counted-nodes}
+use Prim.Native.Nat.{ℕ, _+_, _-_, _*_, _<_}
+use borrow.Fn.Kinds.{In}
+use borrow.Fn.PlainCycle.{Measures, is, falls, and}
+use Rattle.frame.proofs.walk.node.Reads as node
+use Rattle.frame.proofs.walk.node.Kinds as node-kinds
+use Rattle.frame.proofs.walk.+node+nodes.Lts-node as node-lts
+use Rattle.frame.proofs.walk.nodes.Reads as nodes
+use Rattle.frame.proofs.walk.nodes.Kinds as nodes-kinds
+use Rattle.frame.proofs.walk.+node+nodes.Lts-nodes as nodes-lts
+use Rattle.frame.proofs.heads.head_of_kind.Reads as head-of-kind-reads
+use Rattle.frame.proofs.heads.node_kind.Reads as node-kind-reads
+use Rattle.frame.proofs.walk.+node+nodes.{statement}
+use Rattle.frame.proofs.walk.+node+nodes.Tie.{close}
+
+abbrev μ-node : Measures 1 node-kinds.ps ℕ
+μ-node κs a = 2 * (1024 - a .1 .1 .1 .0)
+
+abbrev μ-nodes : Measures 1 nodes-kinds.ps ℕ
+μ-nodes κs a = 2 * (1024 - a .1 .1 .1 .0) + 1
+
+-- What each walk is given at the measure t, what a call of it asks below t, and the claims of what it calls.
+abbrev node-at : ℕ → In 1 node-kinds.ps
+node-at t = and 1 node-kinds.ps (is 1 node-kinds.ps μ-node t) node.Pre
+
+abbrev node-below : ℕ → In 1 node-kinds.ps
+node-below t = and 1 node-kinds.ps (falls 1 node-kinds.ps _<_ μ-node t) node.Pre
+
+abbrev nodes-at : ℕ → In 1 nodes-kinds.ps
+nodes-at t = and 1 nodes-kinds.ps (is 1 nodes-kinds.ps μ-nodes t) nodes.Pre
+
+abbrev nodes-below : ℕ → In 1 nodes-kinds.ps
+nodes-below t = and 1 nodes-kinds.ps (falls 1 nodes-kinds.ps _<_ μ-nodes t) nodes.Pre
+
+abbrev node-claims : ℕ → node-lts.Claims
+node-claims t =
+    (node-kind-reads.Asked, node-kind-reads.Learnt, head-of-kind-reads.Asked, head-of-kind-reads.Learnt, nodes-below t, nodes.Post)
+
+abbrev nodes-claims : ℕ → nodes-lts.Claims
+nodes-claims t = (node-below t, node.Post, nodes-below t, nodes.Post)
+
+node-returns : (t : ℕ) → node-lts.Need-returns (node-claims t) (node-at t) node.Post
+node-returns t c =
+    let kind = rw (c .before .before .kind .given .1) at (c .before .before .before .before .node-kind .ensures) in
+    (too-deep _ _ _ _ _ (kind .1 _) _ (c .if1 .taken), tt)
+
+node-returns-2 : (t : ℕ) → node-lts.Need-returns-2 (node-claims t) (node-at t) node.Post
+node-returns-2 t c =
+    let kind = rw (c .before .before .before .kind .given .1) at (c .before .before .before .before .before .node-kind .ensures) in
+    (too-many _ _ _ _ _ (kind .1 _) _ (c .if2 .taken), tt)
+
+node-head-of-kind-requires : (t : ℕ) → node-lts.Need-head-of-kind-requires (node-claims t) (node-at t) node.Post
+node-head-of-kind-requires t c κs = (rw (c .before .before .before .kind .given .1) at (c .before .before .before .before .before .node-kind .ensures)) .0
+
+node-nodes-requires : (t : ℕ) → node-lts.Need-nodes-requires (node-claims t) (node-at t) node.Post
+node-nodes-requires t c κs =
+    let head = rw (c .before .first .given .1) at (c .before .before .before .head-of-kind .ensures) in
+    (omega (arith, c .before .before .before .before .before .before .before .before .before .before .before .pre .0), (head .0, omega arith))
+
+node-returns-3 : (t : ℕ) → node-lts.Need-returns-3 (node-claims t) (node-at t) node.Post
+node-returns-3 t c = (kind-stops _ _ _ _ _ ((rw (c .before .why .given .1) at (c .before .before .before .node-kind .ensures)) _), tt)
+
+node-returns-4 : (t : ℕ) → node-lts.Need-returns-4 (node-claims t) (node-at t) node.Post
+node-returns-4 t c =
+    let at-why2 = c .before in
+    let at-kind = at-why2 .before .before .before .before .before .before in
+    let kind = rw (at-kind .kind .given .1) at (at-kind .before .before .node-kind .ensures) in
+    let stop = rw (at-why2 .why2 .given .1) at (at-why2 .before .before .head-of-kind .ensures) in
+    (inside _ _ _ _ _ (kind .1 _) _ (c .before .before .before .before .before .if1 .left) (c .before .before .before .before .if2 .left) ∙ stop _ _, tt)
+
+node-returns-5 : (t : ℕ) → node-lts.Need-returns-5 (node-claims t) (node-at t) node.Post
+node-returns-5 t c =
+    let at-first = c .before .before in
+    let at-kind = at-first .before .before .before .before .before .before in
+    let kind = rw (at-kind .kind .given .1) at (at-kind .before .before .node-kind .ensures) in
+    let head = rw (at-first .first .given .1) at (at-first .before .before .head-of-kind .ensures) in
+    let a = c .before .before .before .before .before .before .before .before .before .before .before .before .args in
+    let child = decode.node (columnsOf (a .columns)) (a .levels - 1) in
+    let e = inside _ _ _ _ _ (kind .1 (a .count)) (a .levels) (c .before .before .before .before .before .before .if1 .left) (c .before .before .before .before .before .if2 .left) ∙ head .2 child (a .count + 1) in
+    (node-walks (a .s .now) (a .at) _ (a .count) (decode.node (columnsOf (a .columns)) (a .levels)) (decode.exprs _ child) (head .1) e (c .nodes .result) (c .nodes .ensures .0), counted-node (a .count) (c .nodes .result) (c .nodes .ensures .1))
+
+nodes-returns : (t : ℕ) → nodes-lts.Need-returns (nodes-claims t) (nodes-at t) nodes.Post
+nodes-returns t c = (none-walked _ _ _ _ _ (c .if1 .taken) (c .before .before .pre .1 .0), omega arith)
+
+nodes-node-requires : (t : ℕ) → nodes-lts.Need-node-requires (nodes-claims t) (nodes-at t) nodes.Post
+nodes-node-requires t c κs = (omega (arith, c .before .before .pre .0), c .before .before .pre .1 .0)
+
+nodes-nodes-requires : (t : ℕ) → nodes-lts.Need-nodes-requires (nodes-claims t) (nodes-at t) nodes.Post
+nodes-nodes-requires t c κs =
+    let one = rw (c .before .next .given .1) at (c .before .before .before .node .ensures) in
+    (omega (arith, one .1, c .before .before .before .before .before .before .pre .0), (one .0 .0, one .1 .1))
+
+nodes-returns-2 : (t : ℕ) → nodes-lts.Need-returns-2 (nodes-claims t) (nodes-at t) nodes.Post
+nodes-returns-2 t c =
+    let stop = rw (c .before .why .given .1) at (c .before .before .before .node .ensures) in
+    let a = c .before .before .before .before .before .before .args in
+    (first-stops (a .s .now) (a .at) _ _ _ (c .before .before .before .before .if1 .left) _ (stop .0), tt)
+
+nodes-returns-3 : (t : ℕ) → nodes-lts.Need-returns-3 (nodes-claims t) (nodes-at t) nodes.Post
+nodes-returns-3 t c =
+    let one = rw (c .before .before .next .given .1) at (c .before .before .before .before .node .ensures) in
+    let a = c .before .before .before .before .before .before .before .args in
+    let child = decode.node (columnsOf (a .columns)) (a .levels) in
+    (others-walked (a .s .now) (a .at) (a .count) child _ _ _ (one .0 .2) (a .many) (c .before .before .before .before .before .if1 .left) (c .nodes .result) (c .nodes .ensures .0), counted-nodes _ _ (c .nodes .result) (one .1) (c .nodes .ensures .1))
+
+pub +node+nodes-spec : {M : Type 1} → statement M
++node+nodes-spec = close μ-node μ-nodes (λ t. node-lts.spec (node-claims t) (node-at t) node.Post
+    (λ c κs. search needs)
+    (λ c. search needs)
+    (λ c. search needs)
+    (node-returns t)
+    (node-returns-2 t)
+    (node-head-of-kind-requires t)
+    (λ c. search needs)
+    (λ c. search needs)
+    (λ c. omega arith)
+    (λ c. omega arith)
+    (node-nodes-requires t)
+    (node-returns-3 t)
+    (node-returns-4 t)
+    (node-returns-5 t))
+    λ t. nodes-lts.spec
+    (nodes-claims t)
+    (nodes-at t)
+    nodes.Post
+    (nodes-returns t)
+    (nodes-node-requires t)
+    (λ c. search needs)
+    (λ c. search needs)
+    (λ c. omega arith)
+    (nodes-nodes-requires t)
+    (nodes-returns-2 t)
+    (nodes-returns-3 t)

@@ -1,0 +1,44 @@
+-- What the answers about fields, sides and records say of the definitions' readers, at a place of the bytes.
+use Prim.Native.Nat.{ℕ, _≤_}
+use mathlib.Core.Path.{_≡_}
+use mathlib.Core.List.{List}
+use lib.ListN.{length, drop}
+use Rattle.definitions.specs.Readers.{read, stopped, Reader}
+use Rattle.definitions.specs.Expression as tree
+use Rattle.frame.specs.Refusals.{numberOf}
+use Rattle.frame.specs.declared.fields.Field.{Field}
+use Rattle.frame.specs.declared.fields.Field.the-variants as field
+use Rattle.frame.specs.declared.fields.Skipped.{Skipped}
+use Rattle.frame.specs.declared.fields.Skipped.the-variants as skipped
+use Rattle.frame.specs.declared.records.Side.{Side}
+use Rattle.frame.specs.declared.records.Side.the-variants.{Left, Right, Neither}
+use Rattle.frame.specs.declared.records.Sided.{Sided}
+use Rattle.frame.specs.declared.records.Sided.the-variants as sided
+
+-- It stops there with this refusal, whatever was counted before.
+abbrev pub StopsAt : {A : Type 0} → List ℕ → (at number : ℕ) → Reader A → Type 0
+StopsAt s at number reader = (n : ℕ) → reader n (drop at s) ≡ stopped number
+
+-- It reads this value there, whatever was counted before, and what is left starts at the place after it.
+abbrev pub ReadsAt : {A : Type 0} → List ℕ → (at next : ℕ) → A → Reader A → Type 0
+ReadsAt s at next value reader = (n : ℕ) → reader n (drop at s) ≡ read value n (drop next s)
+
+-- A field was read.
+abbrev pub FieldIs : List ℕ → (at : ℕ) → Field → Reader ℕ → Type 0
+FieldIs s at (field.Value value next) reader = (next ≤ length s) × ReadsAt s at next value reader
+FieldIs s at (field.Refused why) reader = StopsAt s at (numberOf why) reader
+
+-- Something without nodes was passed.
+abbrev pub SkippedIs : {A : Type 0} → List ℕ → (at : ℕ) → Skipped → Reader A → Type 0
+SkippedIs {A = A} s at (skipped.To next) reader = (next ≤ length s) × (a : A) × ReadsAt s at next a reader
+SkippedIs {A = A} s at (skipped.Refused why) reader = StopsAt s at (numberOf why) reader
+
+abbrev pub sideOf : Side → tree.Side
+sideOf Left = tree.left
+sideOf Right = tree.right
+sideOf Neither = tree.noSide
+
+-- A side was read.
+abbrev pub SideIs : List ℕ → (at : ℕ) → Sided → Reader tree.Side → Type 0
+SideIs s at (sided.Value side next) reader = (next ≤ length s) × ReadsAt s at next (sideOf side) reader
+SideIs s at (sided.Refused why) reader = StopsAt s at (numberOf why) reader

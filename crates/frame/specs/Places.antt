@@ -1,0 +1,29 @@
+-- What stands where: bytes, and the expression that they are of.
+use Prim.Native.Nat.{ℕ, _+_, _≤_}
+use mathlib.Core.Path.{_≡_}
+use mathlib.Core.List.{List, _++_}
+use lib.ListN.{length, drop}
+use Rattle.definitions.specs.Expression.{Expr}
+use Rattle.definitions.specs.Encode.{exprBytes}
+use Rattle.definitions.specs.Readers.{read, stopped}
+use Rattle.definitions.specs.Decode.{Columns, expression}
+use Rattle.definitions.specs.Limits.{Readable}
+use Rattle.frame.specs.Refusals.{numberOf}
+use Rattle.frame.specs.declared.walk.Walked.{Walked}
+use Rattle.frame.specs.declared.walk.Walked.the-variants.{To, Refused}
+
+-- The bytes x stand in s from `at` up to `end`.
+pub record Between (s : List ℕ) (at end : ℕ) (x : List ℕ) : Type 0 where
+  pub bytes : drop at s ≡ x ++ drop end s
+  pub ends : end ≡ at + length x
+  pub within : end ≤ length s
+
+-- The expression e does, its fields in their ranges and its depth at most 64.
+pub record ExprAt (c : Columns) (s : List ℕ) (at end : ℕ) (e : Expr) : Type 0 where
+  pub bytes : Between s at end (exprBytes e)
+  pub readable : Readable c e
+
+-- An expression was read, `before` nodes counted up to its place.
+abbrev pub ExpressionIs : List ℕ → (at before : ℕ) → Walked → Columns → Type 0
+ExpressionIs s at before (To next count) c = (e : Expr) × (expression c before (drop at s) ≡ read e count (drop next s)) × ExprAt c s at next e
+ExpressionIs s at before (Refused why) c = expression c before (drop at s) ≡ stopped (numberOf why)

@@ -1,0 +1,112 @@
+// Fields: a byte, a number of some width, a byte in a range.
+use crate::refusals::Refusal;
+
+ghost use mathlib.Core.Path.{_≡_};
+ghost use Prim.Native.Nat.{_≤_, _<_};
+ghost use lib.ListN.{length};
+ghost use Rattle.definitions.specs.Readers as readers;
+ghost use Rattle.frame.specs.Fields.{FieldIs, SkippedIs};
+
+// A field's value and the place after it.
+pub enum Field {
+    Value(u64, usize),
+    Refused(Refusal),
+}
+
+// The place after something that has no nodes.
+pub enum Skipped {
+    To(usize),
+    Refused(Refusal),
+}
+
+fn wide(x: u8) -> u64
+    ensures { λ r. ⌜ (r ≡ x) × (r < 256) ⌝ }
+{
+    x as u64
+}
+
+// A number of `width` bytes.
+pub fn number(s: &[u8], at: usize, width: usize) -> Field
+    requires { ⌜ (at ≤ length (now s)) × (width ≤ 8) ⌝ }
+    ensures { λ r. ⌜ FieldIs (now (s .entry)) at r (readers.number width) ⌝ }
+{
+    if s.len() - at < width {
+        return Field::Refused(Refusal::EndsInsideField);
+    }
+    let mut value: u64 = 0;
+    let mut i: usize = 0;
+    while i < width {
+        value = value * 256 + wide(s[at + i]);
+        i += 1;
+    }
+    Field::Value(value, at + width)
+}
+
+// The byte at a place.
+pub fn byte(s: &[u8], at: usize) -> Field
+    requires { ⌜ at ≤ length (now s) ⌝ }
+    ensures { λ r. ⌜ FieldIs (now (s .entry)) at r readers.byte ⌝ }
+{
+    if s.len() <= at {
+        return Field::Refused(Refusal::EndsInsideField);
+    }
+    Field::Value(wide(s[at]), at + 1)
+}
+
+// A byte of at most `most`.
+pub fn byte_up_to(s: &[u8], at: usize, most: u64) -> Field
+    requires { ⌜ at ≤ length (now s) ⌝ }
+    ensures { λ r. ⌜ FieldIs (now (s .entry)) at r (readers.byteUpTo most) ⌝ }
+{
+    match byte(s, at) {
+        Field::Refused(why) => Field::Refused(why),
+        Field::Value(value, next) => {
+            if value <= most {
+                Field::Value(value, next)
+            } else {
+                Field::Refused(Refusal::OutOfRange)
+            }
+        }
+    }
+}
+
+// A byte from `least` to `most`.
+pub fn byte_between(s: &[u8], at: usize, least: u64, most: u64) -> Field
+    requires { ⌜ at ≤ length (now s) ⌝ }
+    ensures { λ r. ⌜ FieldIs (now (s .entry)) at r (readers.byteBetween least most) ⌝ }
+{
+    match byte(s, at) {
+        Field::Refused(why) => Field::Refused(why),
+        Field::Value(value, next) => {
+            if value < least {
+                return Field::Refused(Refusal::OutOfRange);
+            }
+            if value <= most {
+                Field::Value(value, next)
+            } else {
+                Field::Refused(Refusal::OutOfRange)
+            }
+        }
+    }
+}
+
+// A name's bytes, each 33 to 126.
+pub fn name_bytes(s: &[u8], at: usize, size: u64) -> Skipped
+    requires { ⌜ at ≤ length (now s) ⌝ }
+    ensures { λ r. ⌜ SkippedIs (now (s .entry)) at r (readers.repeat size (readers.byteBetween 33 126)) ⌝ }
+{
+    let mut next = at;
+    let mut left = size;
+    while 0 < left {
+        match byte_between(s, next, 33, 126) {
+            Field::Refused(why) => {
+                return Skipped::Refused(why);
+            }
+            Field::Value(_, after) => {
+                next = after;
+                left -= 1;
+            }
+        }
+    }
+    Skipped::To(next)
+}

@@ -1,0 +1,100 @@
+// Sides and the records of columns.
+use crate::fields::{Field, Skipped, byte_up_to, number};
+use crate::refusals::Refusal;
+
+ghost use mathlib.Core.Path.{_≡_};
+ghost use Prim.Native.Nat.{_≤_};
+ghost use lib.ListN.{length};
+ghost use Rattle.definitions.specs.Readers as readers;
+ghost use Rattle.definitions.specs.Decode as decode;
+ghost use Rattle.frame.specs.Fields.{FieldIs, SkippedIs, SideIs, sideOf};
+
+// A side of the join.
+pub enum Side {
+    Left,
+    Right,
+    Neither,
+}
+
+// A side and the place after it.
+pub enum Sided {
+    Value(Side, usize),
+    Refused(Refusal),
+}
+
+fn side_numbered(number: u64) -> Side
+    ensures { λ r. ⌜ sideOf r ≡ decode.sideNumbered number ⌝ }
+{
+    match number {
+        0 => Side::Left,
+        1 => Side::Right,
+        _ => Side::Neither,
+    }
+}
+
+// A side with a number of at most `most`.
+pub fn side_up_to(s: &[u8], at: usize, most: u64) -> Sided
+    requires { ⌜ at ≤ length (now s) ⌝ }
+    ensures { λ r. ⌜ SideIs (now (s .entry)) at r (decode.sideUpTo most) ⌝ }
+{
+    match byte_up_to(s, at, most) {
+        Field::Refused(why) => Sided::Refused(why),
+        Field::Value(number, next) => Sided::Value(side_numbered(number), next),
+    }
+}
+
+// A column's record: side, child index, field tag.
+fn one_record(s: &[u8], at: usize) -> Skipped
+    requires { ⌜ at ≤ length (now s) ⌝ }
+    ensures { λ r. ⌜ SkippedIs (now (s .entry)) at r decode.oneRecord ⌝ }
+{
+    match side_up_to(s, at, 2) {
+        Sided::Refused(why) => Skipped::Refused(why),
+        Sided::Value(_, child) => match number(s, child, 2) {
+            Field::Refused(why) => Skipped::Refused(why),
+            Field::Value(_, tag) => match number(s, tag, 2) {
+                Field::Refused(why) => Skipped::Refused(why),
+                Field::Value(_, end) => Skipped::To(end),
+            },
+        },
+    }
+}
+
+// So many records.
+pub fn records(s: &[u8], at: usize, many: u64) -> Skipped
+    requires { ⌜ at ≤ length (now s) ⌝ }
+    ensures { λ r. ⌜ SkippedIs (now (s .entry)) at r (readers.repeat many decode.oneRecord) ⌝ }
+{
+    let mut next = at;
+    let mut left = many;
+    while 0 < left {
+        match one_record(s, next) {
+            Skipped::Refused(why) => {
+                return Skipped::Refused(why);
+            }
+            Skipped::To(after) => {
+                next = after;
+                left -= 1;
+            }
+        }
+    }
+    Skipped::To(next)
+}
+
+// How many records a frame has, at most 256.
+pub fn record_count(s: &[u8], at: usize) -> Field
+    requires { ⌜ at ≤ length (now s) ⌝ }
+    ensures { λ r. ⌜ FieldIs (now (s .entry)) at r decode.recordCount ⌝ }
+{
+    match number(s, at, 2) {
+        Field::Refused(why) => Field::Refused(why),
+        Field::Value(value, next) => {
+            if value <= 256 {
+                Field::Value(value, next)
+            } else {
+                Field::Refused(Refusal::OutOfRange)
+            }
+        }
+    }
+}
+
