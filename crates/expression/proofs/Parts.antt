@@ -7,7 +7,7 @@ use lib.ListN.{length, length-append}
 use Rattle.definitions.specs.Expression.{Expr, Exprs, nil, cons, count}
 use Rattle.definitions.specs.Encode.{exprBytes, exprsBytes}
 use Rattle.definitions.specs.Decode.{Columns}
-use Rattle.expression.specs.Nodes.{headBytes, childrenOf, Stands, Row, OfTree, OfTrees}
+use Rattle.expression.specs.Nodes.{headBytes, childrenOf, Stands, Row, OfTree}
 use Rattle.expression.specs.Leaves.{Both, CallIs}
 use Rattle.expression.specs.declared.leaves.Called.{Called}
 use Rattle.expression.proofs.Standing.{tree-length, first-stands, rest-stands, some-children}
@@ -26,6 +26,11 @@ module _ {c : Columns} {s : List ℕ} {at : ℕ} where
 
   pub pair-right : {l r : Expr} → Row c s at 2 (cons l (cons r nil)) → (p : ℕ) → OfTree s at (λ t. p ≡ at + length (exprBytes t)) → Stands c s p r
   pair-right row p ends = first-stands (rest-row row p ends)
+
+  pub pair-ends : {l r : Expr} → Row c s at 2 (cons l (cons r nil)) → (p q : ℕ) → OfTree s at (λ t. p ≡ at + length (exprBytes t))
+      → OfTree s p (λ t. q ≡ p + length (exprBytes t)) → q ≡ at + length (exprsBytes (cons l (cons r nil)))
+  unfolding exprsBytes
+  pair-ends {l} {r} row p q ends end = simp length-append (omega (arith, ends c l (first-stands row), end c r (pair-right row p ends)))
 
 -- At least two, and at least three.
 pub two-of : (P : Exprs → Type 0) → ((a b : Expr) (more : Exprs) → P (cons a (cons b more))) → (ts : Exprs) → 2 ≤ count ts → P ts
@@ -49,14 +54,13 @@ module _ {build : Expr → Expr → Expr} {c : Columns} {s : List ℕ} {at first
   pub right-stands : (p : ℕ) → OfTree s first (λ l. p ≡ first + length (exprBytes l)) → Stands c s p (b .r)
   right-stands p ends = pair-right (b .row) p ends
 
+  pub both-end : (r : ℕ) → r ≡ first + length (exprsBytes (cons (b .l) (cons (b .r) nil))) → r ≡ at + length (exprBytes t)
+  both-end r e = row-ends t at first r (b .begins) (rw (b .children) e)
+
   pub both-ends : (p r : ℕ) → OfTree s first (λ l. p ≡ first + length (exprBytes l)) → OfTree s p (λ k. r ≡ p + length (exprBytes k)) → r ≡ at + length (exprBytes t)
-  unfolding exprsBytes
-  both-ends p r ends end =
-      row-ends t at first r (b .begins)
-      (rw (b .children) (simp length-append (omega (arith, ends c (b .l) left-stands, end c (b .r) (right-stands p ends)))))
+  both-ends p r ends end = both-end r (pair-ends (b .row) p r ends end)
 
 module _ {c : Columns} {s : List ℕ} {at : ℕ} {k : Called} {t : Expr} (b : CallIs c s at k t) where
-  pub call-ends : (r : ℕ) → OfTrees s (k .first) (k .count) (λ ts. r ≡ k .first + length (exprsBytes ts)) → r ≡ at + length (exprBytes t)
+  pub call-end : (r : ℕ) → r ≡ k .first + length (exprsBytes (b .arguments)) → r ≡ at + length (exprBytes t)
   unfolding childrenOf
-  call-ends r end = row-ends t at (k .first) r (b .begins)
-      (end c (b .arguments) (b .stands .row) ∙ ap (λ (t : Expr). k .first + length (exprsBytes (childrenOf t))) (sym (b .is)))
+  call-end r e = row-ends t at (k .first) r (b .begins) (e ∙ ap (λ (t : Expr). k .first + length (exprsBytes (childrenOf t))) (sym (b .is)))

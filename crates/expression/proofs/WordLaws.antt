@@ -6,19 +6,35 @@ use mathlib.Core.Path.{_≡_, refl, ap, _∙_}
 use mathlib.Core.Bool.{Bool, true, false}
 use mathlib.Core.List.{List, [], _∷_, _++_}
 use lib.ListN.{length, drop, getD, length-drop, drop-of-length-le}
+use lib.Dec.{eqb}
 use lib.Seq.{drop-cons, take-suc, getD-drop}
 use borrow.Author.Tests.{eq-eqb, ne-eqb}
 use Rattle.definitions.specs.Basics.{if_then_else_, sameName}
 use Rattle.expression.specs.Places.{part}
-use Rattle.expression.specs.Names.{wordsAfter, words, position, WordIs}
+use Rattle.expression.specs.Names.{before, wordsBy, words, position, WordIs}
 
 -- ---- the end of a word
+
+-- Bytes before the first of some words.
+pub inFront : List ℕ → List (List ℕ) → List (List ℕ)
+inFront [] words = words
+inFront (b ∷ s) words = before b (inFront s words)
+
+front-more : (s : List ℕ) (b : ℕ) (words : List (List ℕ)) → inFront s (before b words) ≡ inFront (s ++ (b ∷ [])) words
+unfolding inFront
+front-more [] b words = refl
+front-more (a ∷ s) b words = ap (before a) (front-more s b words)
+
+front-all : (s : List ℕ) (words : List (List ℕ)) → inFront s ([] ∷ words) ≡ s ∷ words
+unfolding inFront
+front-all [] words = refl
+front-all (b ∷ s) words = ap (before b) (front-all s words)
 
 -- What the loop keeps: the bytes passed are the beginning of the first word.
 pub record InWord (s : List ℕ) (from to : ℕ) : Type 0 where
   pub low : from ≤ to
   pub high : to ≤ length s
-  pub begun : words (drop from s) ≡ wordsAfter (part s from to) (drop to s)
+  pub begun : words (drop from s) ≡ inFront (part s from to) (words (drop to s))
 
 part-none : (s : List ℕ) (at : ℕ) → part s at at ≡ []
 unfolding part
@@ -35,35 +51,39 @@ part-more s from to low h =
 
 module _ (s : List ℕ) (from : ℕ) where
   pub word-begins : from ≤ length s → InWord s from from
+  unfolding inFront
   word-begins h = record { low = omega arith; high = h; begun = rw (part-none s from) }
 
   module _ (to : ℕ) (inv : InWord s from to) where
+    here : to < length s → (space : Bool) → eqb (getD s to 0) 32 ≡ space → words (drop to s) ≡ wordsBy space (getD s to 0) (words (drop (to + 1) s))
+    unfolding words
+    here h space e = rw (drop-cons s to 0 h, e, add-one)
+
     pub word-grows : to < length s → (getD s to 0 ≡ 32 → ⊥) → InWord s from (to + 1)
-    unfolding wordsAfter
     word-grows h k = record {
       low = omega arith;
       high = omega arith;
-      begun = inv .begun ∙ rw (drop-cons s to 0 h, ne-eqb (getD s to 0) 32 k, part-more s from to (inv .low) h, add-one);
+      begun = inv .begun ∙ ap (inFront (part s from to)) (here h false (ne-eqb (getD s to 0) 32 k))
+          ∙ rw (front-more, part-more s from to (inv .low) h);
     }
 
     pub word-stops : to < length s → getD s to 0 ≡ 32 → WordIs s from to
-    unfolding wordsAfter
     word-stops h k = record {
       low = inv .low;
       high = inv .high;
       later = words (drop (to + 1) s);
-      first = inv .begun ∙ rw (drop-cons s to 0 h, eq-eqb (getD s to 0) 32 k, add-one);
+      first = inv .begun ∙ ap (inFront (part s from to)) (here h true (eq-eqb (getD s to 0) 32 k)) ∙ front-all (part s from to) (words (drop (to + 1) s));
       more = λ b. refl;
       last = λ e. absurd (omega arith);
     }
 
     pub word-is-last : length s ≤ to → WordIs s from to
-    unfolding wordsAfter
+    unfolding words
     word-is-last h = record {
       low = inv .low;
       high = inv .high;
       later = [];
-      first = inv .begun ∙ rw (drop-of-length-le s {i = to} h);
+      first = inv .begun ∙ rw (drop-of-length-le s {i = to} h) (front-all (part s from to) []);
       more = λ b. absurd (omega arith);
       last = λ e. refl;
     }

@@ -1,8 +1,8 @@
 -- Names as they are compared, and tables of names.
 use Prim.Native.Nat.{ℕ, suc, _+_, _≤_, _<_}
 use mathlib.Core.Path.{_≡_}
-use mathlib.Core.Bool.{_&&_}
-use mathlib.Core.List.{List, [], _∷_, _++_}
+use mathlib.Core.Bool.{Bool, true, false, _&&_}
+use mathlib.Core.List.{List, [], _∷_}
 use lib.ListN.{length, drop}
 use lib.Dec.{leb, eqb}
 use Rattle.definitions.specs.Basics.{if_then_else_, sameName}
@@ -21,14 +21,20 @@ abbrev pub letter : Case → ℕ → ℕ
 letter Exact b = b
 letter Ignored b = if leb 65 b && leb b 90 then b + 32 else b
 
--- What stands between the spaces (byte 32), the bytes of `word` before the first of them.
-unfoldable pub wordsAfter : (word : List ℕ) → List ℕ → List (List ℕ)
-wordsAfter word [] = word ∷ []
-wordsAfter word (b ∷ s) = if eqb b 32 then word ∷ wordsAfter [] s else wordsAfter (word ++ (b ∷ [])) s
+-- A byte before the first of some words.
+abbrev pub before : (b : ℕ) → List (List ℕ) → List (List ℕ)
+before b [] = (b ∷ []) ∷ []
+before b (word ∷ words) = (b ∷ word) ∷ words
 
--- The names of a table: what stands between its spaces.
-abbrev pub words : List ℕ → List (List ℕ)
-words s = wordsAfter [] s
+-- The same, where a space ends a word of no bytes.
+abbrev pub wordsBy : (space : Bool) → (b : ℕ) → List (List ℕ) → List (List ℕ)
+wordsBy true b words = [] ∷ words
+wordsBy false b words = before b words
+
+-- The names of a table: what stands between its spaces (byte 32).
+unfoldable pub words : List ℕ → List (List ℕ)
+words [] = [] ∷ []
+words (b ∷ s) = wordsBy (eqb b 32) b (words s)
 
 -- How many names stand before the first that is this one; all of them if none is.
 unfoldable pub position : (name : List ℕ) → List (List ℕ) → ℕ

@@ -1,13 +1,11 @@
 -- What a node's fields leave to read: no child, two, or as many as they say.
 use Prim.Native.Nat.{ℕ, _≤_}
 use mathlib.Core.Path.{_≡_, refl, _∙_}
-use mathlib.Core.Bool.{Bool, true, false, _&&_}
-use mathlib.Core.List.{List, [], _∷_}
+use mathlib.Core.List.{List}
 use lib.ListN.{length, drop}
-use lib.Dec.{leb}
 use borrow.Author.Tests.{ne-eqb}
 use Rattle.definitions.specs.Expression.{Expr, column, Exprs, nil, cons}
-use Rattle.definitions.specs.Readers.{Read, read, stopped, Reader, continue, _>>=_, _>>_, give, require, byte, byteUpTo}
+use Rattle.definitions.specs.Readers.{Read, read, stopped, Reader, continue, _>>=_, give, byteUpTo}
 use Rattle.definitions.specs.Decode.{exprs, Columns, nodeOfKind, anyColumn, binaryExpr, binaryNode}
 use Rattle.frame.specs.declared.heads.Head.the-variants.{Children}
 use Rattle.frame.specs.Nodes.{HeadIs}

@@ -8,3 +8,4 @@ pub mod Recorded
 pub mod Standing
 pub mod Wholes
 pub mod Predicated
+pub mod Extractions

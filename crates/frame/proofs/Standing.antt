@@ -1,12 +1,11 @@
 -- What was read at a place stands there: its bytes are those up to the place after it.
-use Prim.Native.Nat.{ℕ, zero, suc, _+_, _≤_}
+use Prim.Native.Nat.{ℕ, zero, suc, _≤_}
 use native.Mathlib.Omega.{arith}
 use mathlib.Core.Path.{_≡_, ap}
 use mathlib.Core.List.{List, [], _∷_, _++_}
 use lib.ListN.{length, drop, getD, length-drop, length-append}
 use mir.Syntax.{w8}
 use mir.Val.{Fits}
-use Rattle.definitions.specs.Readers.{read}
 use Rattle.definitions.specs.Decode.{Columns, node, expression}
 use Rattle.definitions.specs.Limits.{AllBytes}
 use Rattle.definitions.proofs.Inverse.{NodeBack, node-back}
@@ -34,9 +33,12 @@ pub expression-stands : (c : Columns) (s : List ℕ) (at before : ℕ) (r : Walk
 unfolding expression
 expression-stands c s at before (To next count) bytes within (place, e, reads) counted =
     let back : NodeBack c 64 before count (drop at s) (drop next s) e =
-    node-back c 64 before count (drop at s) (drop next s) e (bytes-from at s bytes) (omega arith) reads in
-    (e, reads, record {
-      bytes = between s _ at next within place (back .bytes);
-      readable = record { inRange = back .inRange; shallow = back .shallow };
-    })
+    node-back c 64 before count (drop at s) (drop next s) e (bytes-from at s bytes) (omega arith) reads in (
+      e,
+      reads,
+      record {
+        bytes = between s _ at next within place (back .bytes);
+        readable = record { inRange = back .inRange; shallow = back .shallow };
+      },
+    )
 expression-stands c s at before (Refused why) bytes within stops counted = stops

@@ -8,7 +8,6 @@ use lib.ListN.{length, drop, length-drop, drop-of-length-le}
 use lib.Dec.{eqb}
 use Rattle.definitions.specs.Basics.{if_then_else_, ok, refused}
 use Rattle.definitions.specs.Expression.{Expr, Record}
-use Rattle.definitions.specs.Expression as tree
 use Rattle.definitions.specs.Encode.{recordsBytes}
 use Rattle.definitions.specs.Readers.{Read, read, stopped, Reader, continue, _>>=_, _>>_, give, require, byte, repeat, frameLength, noneLeft, atEnd, answer}
 use Rattle.definitions.specs.Decode.{indexBelow, oneRecord}

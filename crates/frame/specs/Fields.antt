@@ -3,11 +3,15 @@ use Prim.Native.Nat.{ℕ, _≤_}
 use mathlib.Core.Path.{_≡_}
 use mathlib.Core.List.{List}
 use lib.ListN.{length, drop}
-use Rattle.definitions.specs.Readers.{read, stopped, Reader}
+use Rattle.definitions.specs.Readers.{read, stopped, Reader, continue, _>>_, byteUpTo, number}
 use Rattle.definitions.specs.Expression as tree
 use Rattle.frame.specs.Refusals.{numberOf}
 use Rattle.frame.specs.declared.fields.Field.{Field}
 use Rattle.frame.specs.declared.fields.Field.the-variants as field
+use Rattle.frame.specs.declared.fields.Sort.{Sort}
+use Rattle.frame.specs.declared.fields.Sort.the-variants as sort
+use Rattle.frame.specs.declared.fields.Two.{Two}
+use Rattle.frame.specs.declared.fields.Two.the-variants as two
 use Rattle.frame.specs.declared.fields.Skipped.{Skipped}
 use Rattle.frame.specs.declared.fields.Skipped.the-variants as skipped
 use Rattle.frame.specs.declared.records.Side.{Side}
@@ -27,6 +31,21 @@ ReadsAt s at next value reader = (n : ℕ) → reader n (drop at s) ≡ read val
 abbrev pub FieldIs : List ℕ → (at : ℕ) → Field → Reader ℕ → Type 0
 FieldIs s at (field.Value value next) reader = (next ≤ length s) × ReadsAt s at next value reader
 FieldIs s at (field.Refused why) reader = StopsAt s at (numberOf why) reader
+
+-- How a field of a sort is read, and that its number fits eight bytes.
+abbrev pub readerOf : Sort → Reader ℕ
+readerOf (sort.Bytes width) = number width
+readerOf (sort.UpTo most) = byteUpTo most
+
+abbrev pub Narrow : Sort → Type 0
+Narrow (sort.Bytes width) = width ≤ 8
+Narrow (sort.UpTo most) = Unit {0}
+
+-- Two fields were read, the second from where the first ended.
+abbrev pub TwoIs : List ℕ → (at : ℕ) → Two → (first second : Reader ℕ) → Type 0
+TwoIs s at (two.Values a b next) first second =
+    (next ≤ length s) × (middle : ℕ) × ReadsAt s at middle a first × ReadsAt s middle next b second
+TwoIs s at (two.Refused why) first second = StopsAt s at (numberOf why) (first >> second)
 
 -- Something without nodes was passed.
 abbrev pub SkippedIs : {A : Type 0} → List ℕ → (at : ℕ) → Skipped → Reader A → Type 0

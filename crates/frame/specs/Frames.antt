@@ -1,7 +1,7 @@
 -- What the answers about whole frames say: where records and expression stand, and what is left to test.
 use Prim.Native.Nat.{ℕ, _≤_}
 use mathlib.Core.Path.{_≡_}
-use mathlib.Core.Bool.{Bool, true, false}
+use mathlib.Core.Bool.{Bool}
 use mathlib.Core.List.{List}
 use lib.ListN.{length, drop}
 use lib.Dec.{eqb}
@@ -9,7 +9,7 @@ use Rattle.definitions.specs.Basics.{if_then_else_, Result, ok, refused}
 use Rattle.definitions.specs.Expression as tree
 use Rattle.definitions.specs.Encode.{recordsBytes}
 use Rattle.definitions.specs.Leaves.{arity}
-use Rattle.definitions.specs.Readers.{read, stopped, Reader, continue, _>>=_, _>>_, require, byte, frameLength}
+use Rattle.definitions.specs.Readers.{read, stopped, Reader, _>>=_, _>>_, require, byte, frameLength}
 use Rattle.definitions.specs.Decode.{indexBelow, fields}
 use Rattle.frame.specs.Refusals.{numberOf}
 use Rattle.frame.specs.Places.{Between, ExprAt}

@@ -5,3 +5,4 @@ pub mod Nodes
 pub mod Places
 pub mod Frames
 pub mod Predicates
+pub mod Plans

@@ -5,8 +5,8 @@ use mathlib.Core.List.{List}
 use lib.ListN.{length, drop}
 use Rattle.definitions.specs.Expression as tree
 use Rattle.definitions.specs.Expression.{Expr}
-use Rattle.definitions.specs.Readers.{read, stopped, Reader, continue, _>>=_, give, byteUpTo}
-use Rattle.definitions.specs.Decode.{Columns, indexBelow, sideUpTo, argument}
+use Rattle.definitions.specs.Readers.{read, stopped, Reader, _>>=_, give, byteUpTo}
+use Rattle.definitions.specs.Decode.{indexBelow, sideUpTo, argument}
 use Rattle.frame.specs.Refusals.{numberOf}
 use Rattle.frame.specs.Fields.{sideOf}
 use Rattle.frame.specs.Places.{ExprAt}

@@ -1,16 +1,27 @@
 // Fields: a byte, a number of some width, a byte in a range.
 use crate::refusals::Refusal;
-
 ghost use mathlib.Core.Path.{_≡_};
 ghost use Prim.Native.Nat.{_≤_, _<_};
 ghost use lib.ListN.{length};
 ghost use Rattle.definitions.specs.Readers as readers;
-ghost use Rattle.frame.specs.Fields.{FieldIs, SkippedIs};
+ghost use Rattle.frame.specs.Fields.{FieldIs, TwoIs, SkippedIs, readerOf, Narrow};
 
 // A field's value and the place after it.
 pub enum Field {
     Value(u64, usize),
     Refused(Refusal),
+}
+
+// Two fields' values and the place after them.
+pub enum Two {
+    Values(u64, u64, usize),
+    Refused(Refusal),
+}
+
+// What a field may be: a number of so many bytes, or a byte of at most so much.
+pub enum Sort {
+    Bytes(usize),
+    UpTo(u64),
 }
 
 // The place after something that has no nodes.
@@ -67,6 +78,31 @@ pub fn byte_up_to(s: &[u8], at: usize, most: u64) -> Field
                 Field::Refused(Refusal::OutOfRange)
             }
         }
+    }
+}
+
+// A field of a sort.
+fn field_of(s: &[u8], at: usize, sort: Sort) -> Field
+    requires { ⌜ (at ≤ length (now s)) × Narrow sort ⌝ }
+    ensures { λ r. ⌜ FieldIs (now (s .entry)) at r (readerOf sort) ⌝ }
+{
+    match sort {
+        Sort::Bytes(width) => number(s, at, width),
+        Sort::UpTo(most) => byte_up_to(s, at, most),
+    }
+}
+
+// Two fields, one after the other.
+pub fn two_fields(s: &[u8], at: usize, first: Sort, second: Sort) -> Two
+    requires { ⌜ (at ≤ length (now s)) × Narrow first × Narrow second ⌝ }
+    ensures { λ r. ⌜ TwoIs (now (s .entry)) at r (readerOf first) (readerOf second) ⌝ }
+{
+    match field_of(s, at, first) {
+        Field::Refused(why) => Two::Refused(why),
+        Field::Value(a, middle) => match field_of(s, middle, second) {
+            Field::Refused(why) => Two::Refused(why),
+            Field::Value(b, end) => Two::Values(a, b, end),
+        },
     }
 }
 

@@ -1,8 +1,15 @@
 // A node's head: its kind, and the fields before its children.
-use crate::fields::{Field, Skipped, byte, byte_between, byte_up_to, name_bytes, number};
+use crate::fields::Field;
+use crate::fields::Skipped;
+use crate::fields::Sort;
+use crate::fields::Two;
+use crate::fields::byte;
+use crate::fields::byte_between;
+use crate::fields::byte_up_to;
+use crate::fields::name_bytes;
+use crate::fields::two_fields;
 use crate::literals::literal_in_range;
 use crate::refusals::Refusal;
-
 ghost use mathlib.Core.Path.{_≡_};
 ghost use Prim.Native.Nat.{_≤_};
 ghost use lib.ListN.{length};
@@ -60,18 +67,15 @@ fn column_head(s: &[u8], at: usize, bound: u64) -> Head
     requires { ⌜ at ≤ length (now s) ⌝ }
     ensures { λ r. ⌜ HeadIs (now (s .entry)) at r (λ child. decode.columnNode bound) ⌝ }
 {
-    match number(s, at, 2) {
-        Field::Refused(why) => Head::Refused(why),
-        Field::Value(index, tag) => match number(s, tag, 2) {
-            Field::Refused(why) => Head::Refused(why),
-            Field::Value(_, end) => {
-                if index < bound {
-                    Head::Children(end, 0)
-                } else {
-                    Head::Refused(Refusal::NoSuchColumn)
-                }
+    match two_fields(s, at, Sort::Bytes(2), Sort::Bytes(2)) {
+        Two::Refused(why) => Head::Refused(why),
+        Two::Values(index, _, end) => {
+            if index < bound {
+                Head::Children(end, 0)
+            } else {
+                Head::Refused(Refusal::NoSuchColumn)
             }
-        },
+        }
     }
 }
 
@@ -80,12 +84,9 @@ fn field_head(s: &[u8], at: usize) -> Head
     requires { ⌜ at ≤ length (now s) ⌝ }
     ensures { λ r. ⌜ HeadIs (now (s .entry)) at r (λ child. decode.fieldNode) ⌝ }
 {
-    match byte_up_to(s, at, 3) {
-        Field::Refused(why) => Head::Refused(why),
-        Field::Value(_, tag) => match number(s, tag, 2) {
-            Field::Refused(why) => Head::Refused(why),
-            Field::Value(_, end) => Head::Children(end, 0),
-        },
+    match two_fields(s, at, Sort::UpTo(3), Sort::Bytes(2)) {
+        Two::Refused(why) => Head::Refused(why),
+        Two::Values(_, _, end) => Head::Children(end, 0),
     }
 }
 
@@ -105,18 +106,15 @@ fn literal_head(s: &[u8], at: usize) -> Head
     requires { ⌜ at ≤ length (now s) ⌝ }
     ensures { λ r. ⌜ HeadIs (now (s .entry)) at r (λ child. decode.literalNode) ⌝ }
 {
-    match byte_up_to(s, at, 6) {
-        Field::Refused(why) => Head::Refused(why),
-        Field::Value(kind, bytes) => match number(s, bytes, 8) {
-            Field::Refused(why) => Head::Refused(why),
-            Field::Value(value, end) => {
-                if literal_in_range(kind, value) {
-                    Head::Children(end, 0)
-                } else {
-                    Head::Refused(Refusal::OutOfRange)
-                }
+    match two_fields(s, at, Sort::UpTo(6), Sort::Bytes(8)) {
+        Two::Refused(why) => Head::Refused(why),
+        Two::Values(kind, bytes, end) => {
+            if literal_in_range(kind, bytes) {
+                Head::Children(end, 0)
+            } else {
+                Head::Refused(Refusal::OutOfRange)
             }
-        },
+        }
     }
 }
 
@@ -156,12 +154,9 @@ fn other_head(s: &[u8], at: usize) -> Head
     requires { ⌜ at ≤ length (now s) ⌝ }
     ensures { λ r. ⌜ HeadIs (now (s .entry)) at r decode.otherNode ⌝ }
 {
-    match number(s, at, 2) {
-        Field::Refused(why) => Head::Refused(why),
-        Field::Value(_, children) => match byte_up_to(s, children, 16) {
-            Field::Refused(why) => Head::Refused(why),
-            Field::Value(many, end) => Head::Children(end, many),
-        },
+    match two_fields(s, at, Sort::Bytes(2), Sort::UpTo(16)) {
+        Two::Refused(why) => Head::Refused(why),
+        Two::Values(_, many, end) => Head::Children(end, many),
     }
 }
 

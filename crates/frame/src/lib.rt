@@ -1,10 +1,11 @@
 // Reading byte frames. Each answer is a place or a count, or why the bytes are refused; each contract says which reader of
 // the definitions the answer is of.
-pub mod refusals;
 pub mod fields;
-pub mod literals;
 pub mod heads;
-pub mod walk;
-pub mod records;
-pub mod whole;
+pub mod literals;
+pub mod plans;
 pub mod predicates;
+pub mod records;
+pub mod refusals;
+pub mod walk;
+pub mod whole;

@@ -1,10 +1,14 @@
 // The predicate of an extraction.
-use crate::fields::{Field, byte_up_to, number};
+use crate::fields::Field;
+use crate::fields::byte_up_to;
+use crate::fields::number;
 use crate::heads::Columns;
-use crate::records::{Side, Sided, side_up_to};
+use crate::records::Side;
+use crate::records::Sided;
+use crate::records::side_up_to;
 use crate::refusals::Refusal;
-use crate::walk::{Walked, expression};
-
+use crate::walk::Walked;
+use crate::walk::expression;
 ghost use mathlib.Core.Path.{_≡_};
 ghost use Prim.Native.Nat.{_≤_};
 ghost use lib.ListN.{length};

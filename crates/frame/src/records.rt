@@ -1,7 +1,12 @@
 // Sides and the records of columns.
-use crate::fields::{Field, Skipped, byte_up_to, number};
+use crate::fields::Field;
+use crate::fields::Skipped;
+use crate::fields::Sort;
+use crate::fields::Two;
+use crate::fields::byte_up_to;
+use crate::fields::number;
+use crate::fields::two_fields;
 use crate::refusals::Refusal;
-
 ghost use mathlib.Core.Path.{_≡_};
 ghost use Prim.Native.Nat.{_≤_};
 ghost use lib.ListN.{length};
@@ -50,12 +55,9 @@ fn one_record(s: &[u8], at: usize) -> Skipped
 {
     match side_up_to(s, at, 2) {
         Sided::Refused(why) => Skipped::Refused(why),
-        Sided::Value(_, child) => match number(s, child, 2) {
-            Field::Refused(why) => Skipped::Refused(why),
-            Field::Value(_, tag) => match number(s, tag, 2) {
-                Field::Refused(why) => Skipped::Refused(why),
-                Field::Value(_, end) => Skipped::To(end),
-            },
+        Sided::Value(_, child) => match two_fields(s, child, Sort::Bytes(2), Sort::Bytes(2)) {
+            Two::Refused(why) => Skipped::Refused(why),
+            Two::Values(_, _, end) => Skipped::To(end),
         },
     }
 }
@@ -97,4 +99,3 @@ pub fn record_count(s: &[u8], at: usize) -> Field
         }
     }
 }
-

@@ -1,8 +1,10 @@
 // The walk over a node and the walk over its children, which call each other. Nodes left to count fall.
 use crate::fields::Field;
-use crate::heads::{Columns, Head, head_of_kind, node_kind};
+use crate::heads::Columns;
+use crate::heads::Head;
+use crate::heads::head_of_kind;
+use crate::heads::node_kind;
 use crate::refusals::Refusal;
-
 ghost use Prim.Native.Nat.{_≤_};
 ghost use lib.ListN.{length};
 ghost use Rattle.definitions.specs.Decode as decode;

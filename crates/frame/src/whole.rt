@@ -1,10 +1,13 @@
 // Whole frames, physical and logical.
-use crate::fields::{Field, Skipped, byte};
+use crate::fields::Field;
+use crate::fields::Skipped;
+use crate::fields::byte;
 use crate::heads::Columns;
-use crate::records::{record_count, records};
+use crate::records::record_count;
+use crate::records::records;
 use crate::refusals::Refusal;
-use crate::walk::{Walked, expression};
-
+use crate::walk::Walked;
+use crate::walk::expression;
 ghost use Prim.Native.Nat.{_≤_};
 ghost use lib.ListN.{length};
 ghost use Rattle.definitions.specs.Decode as decode;
@@ -38,15 +41,15 @@ pub enum Logical {
 }
 
 // A physical frame after its first byte, with so many nodes counted before it.
-pub fn frame_body(s: &[u8], at: usize, before: usize) -> Body
+pub fn frame_body(s: &[u8], at: usize, nodes: usize) -> Body
     requires { ⌜ at ≤ length (now s) ⌝ }
-    ensures { λ r. ⌜ BodyIs (now (s .entry)) at before r decode.frameBody ⌝ }
+    ensures { λ r. ⌜ BodyIs (now (s .entry)) at nodes r decode.frameBody ⌝ }
 {
     match record_count(s, at) {
         Field::Refused(why) => Body::Refused(why),
         Field::Value(columns, first) => match records(s, first, columns) {
             Skipped::Refused(why) => Body::Refused(why),
-            Skipped::To(root) => match expression(s, root, before, Columns::Below(columns)) {
+            Skipped::To(root) => match expression(s, root, nodes, Columns::Below(columns)) {
                 Walked::Refused(why) => Body::Refused(why),
                 Walked::To { next, count } => Body::Read(
                     Frame {

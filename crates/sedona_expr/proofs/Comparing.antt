@@ -5,17 +5,23 @@ use mathlib.Core.Path.{_≡_, refl, ap, _∙_}
 use mathlib.Core.Bool.{Bool, true, false, _||_}
 use mathlib.Core.List.{List}
 use mathlib.Core.Option.{none, some}
+use lib.ListN.{length}
 use lib.Dec.{eqb}
 use borrow.Author.Tests.{eqb-false, eq-eqb, ne-eqb}
 use Rattle.definitions.specs.Basics.{if_then_else_, ascii, sameName}
-use Rattle.definitions.specs.Expression.{Expr, column, literal, and, binary, call, other, field}
+use Rattle.definitions.specs.Expression.{Expr, column, literal, and, binary, call, other, field, nil, cons}
+use Rattle.definitions.specs.Encode.{exprBytes}
 use Rattle.definitions.specs.Leaves.{compares, noComparison, comparison, distanceArguments}
 use Rattle.definitions.specs.Decode.{Columns}
 use Rattle.expression.specs.Places.{part}
-use Rattle.expression.specs.Nodes.{kindOf}
+use Rattle.expression.specs.Nodes.{kindOf, Row, OfTree}
 use Rattle.expression.specs.Leaves.{CallIs}
 use Rattle.expression.specs.declared.leaves.Called.{Called}
-use Rattle.sedona_expr.specs.Parsed.{Arguments}
+use Rattle.expression.proofs.Standing.{first-stands}
+use Rattle.expression.proofs.Parts.{pair-right}
+use Rattle.sedona_expr.specs.Parsed.{BothSides, ComparisonIs, Arguments}
+use Rattle.sedona_expr.specs.declared.utils.Compared.{Compared}
+use Rattle.sedona_expr.specs.declared.utils.Compared.the-variants.{Sides, Nothing}
 
 -- An operator is one of two that follow each other, or lies outside of them.
 within : (o k : ℕ) → k ≤ o → o < k + 2 → (t : Bool) → eqb o k ≡ t → (eqb o k || eqb o (suc k)) ≡ true
@@ -37,6 +43,15 @@ module _ (l r : Expr) (operator : ℕ) where
   pub reads-neither : (1 ≤ operator → 5 ≤ operator) → comparison operator l r ≡ noComparison
   unfolding comparison
   reads-neither h = rw (outside operator 1 (λ i. omega (arith, h i)), outside operator 3 (λ i. h (omega arith)))
+
+-- The sides of two expressions in a row.
+module _ {c : Columns} {s : List ℕ} {left : ℕ} {l r : Expr} (row : Row c s left 2 (cons l (cons r nil))) (right : ℕ)
+    (ends : OfTree s left (λ t. right ≡ left + length (exprBytes t))) (operator : ℕ) {answer : Compared} where
+  pub sides-found : {measured bound : ℕ} → answer ≡ Sides measured bound → ComparisonIs operator left right answer → BothSides c s measured bound (comparison operator l r)
+  sides-found e is = rw e at (is c s l r (first-stands row) (pair-right row right ends))
+
+  pub sides-missing : answer ≡ Nothing → ComparisonIs operator left right answer → comparison operator l r ≡ noComparison
+  sides-missing e is = rw e at (is c s l r (first-stands row) (pair-right row right ends))
 
 pub no-arguments : (t : Expr) → (kindOf t ≡ 3 → ⊥) → distanceArguments t ≡ none
 unfolding kindOf distanceArguments

@@ -1,6 +1,5 @@
 -- The lower half are the numbers from 0 on, and the upper half count down from −1.
 use borrow.Author.Needs.{needs}
-use mathlib.Core.Path.{_∙_}
 use mir.Facts.{toZ-ofZ}
 use Rattle.frame.proofs.Signed.{lower, upper, upper-fits}
 use Rattle.frame.proofs.literals.signed.Statement.{statement}

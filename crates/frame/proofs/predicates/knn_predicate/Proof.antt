@@ -1,5 +1,4 @@
 -- KNN is k, its flags and then two arguments.
-use native.Mathlib.Omega.{arith}
 use borrow.Author.Needs.{needs}
 use mathlib.Core.Path.{refl, _∙_}
 use Rattle.definitions.specs.Decode.{knnPredicate}

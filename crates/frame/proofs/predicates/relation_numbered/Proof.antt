@@ -41,8 +41,16 @@ unfolding relationNumbered
 returns-9 c =
     let no = c .match .rest in
     let low = no .0 .0 .0 .0 in
-    rw (ne-eqb _ _ (low .0 .0 .0 .1), ne-eqb _ _ (low .0 .0 .1), ne-eqb _ _ (low .0 .1), ne-eqb _ _ (low .1),
-    ne-eqb _ _ (no .0 .0 .0 .1), ne-eqb _ _ (no .0 .0 .1), ne-eqb _ _ (no .0 .1), ne-eqb _ _ (no .1))
+    rw (
+      ne-eqb _ _ (low .0 .0 .0 .1),
+      ne-eqb _ _ (low .0 .0 .1),
+      ne-eqb _ _ (low .0 .1),
+      ne-eqb _ _ (low .1),
+      ne-eqb _ _ (no .0 .0 .0 .1),
+      ne-eqb _ _ (no .0 .0 .1),
+      ne-eqb _ _ (no .0 .1),
+      ne-eqb _ _ (no .1),
+    )
 
 pub relation-numbered-spec : {M : Type 1} → statement M
 relation-numbered-spec =

@@ -3,7 +3,7 @@ use borrow.Author.Needs.{needs}
 use mathlib.Core.Path.{ap, _∙_}
 use Rattle.definitions.specs.Expression.{Frame}
 use Rattle.definitions.specs.Leaves.{arity}
-use Rattle.definitions.specs.Readers.{Reader, continue, _>>_, give, require, answer}
+use Rattle.definitions.specs.Readers.{Reader, _>>_, give, require, answer}
 use Rattle.definitions.specs.Decode.{frameBody}
 use Rattle.definitions.specs.Plans.{physicalFrame, frameOf}
 use Rattle.frame.proofs.Wholes.{unopened, body-stops, ends, goes-on, left-to-test}
@@ -35,8 +35,7 @@ returns-3 c =
     let at-frame = c .before .before in
     let at-at = at-frame .before .before .before .before in
     let start = rw (at-at .at .given .1) at (at-at .before .before .opened .ensures) in
-    let body = rw (at-frame .frame .given .1) at (at-frame .before .before .frame-body .ensures) in
-    (
+    let body = rw (at-frame .frame .given .1) at (at-frame .before .before .frame-body .ensures) in (
       body .1,
       rw (c .if1 .taken) at (body .3),
       ap answer (ends 1 frameBody last _ (at-at .at .given .0 .0) _ (start .2 0) _ _ _ (body .2) (c .if1 .taken)) ∙ left-to-test 8 (arity (body .1 .expr)) _ _ _,

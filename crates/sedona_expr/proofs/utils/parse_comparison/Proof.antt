@@ -8,7 +8,7 @@ use Rattle.expression.specs.Nodes.{Row}
 use Rattle.sedona_expr.specs.Parsed.{BothSides}
 use Rattle.expression.proofs.Standing.{first-stands}
 use Rattle.expression.proofs.EndWalk.{first-there}
-use Rattle.expression.proofs.Parts.{pair-right}
+use Rattle.sedona_expr.proofs.Comparing.{sides-found, sides-missing}
 use Rattle.sedona_expr.proofs.Distances.{not-compared, not-measured, too-few, compared-distance}
 use Rattle.sedona_expr.proofs.utils.parse_comparison.Statement.{statement}
 use Rattle.sedona_expr.proofs.utils.parse_comparison.Tie as tie
@@ -20,10 +20,8 @@ end-node-requires c κs =
 
 returns : tie.Need-returns
 returns c = λ d l r row.
-    let start = c .before .before .before .before .before in
-    not-compared (start .args .operator)
-    (rw (c .enum-told .given .1) at (c .before .before .comparison .ensures d (start .args .s .now) l r (first-stands row)
-    (pair-right row (c .before .before .before .end-node .result) (c .before .before .before .end-node .ensures))))
+    let ended = c .before .before .before in
+    not-compared _ (sides-missing row (ended .end-node .result) (ended .end-node .ensures) _ (c .enum-told .given .1) (c .before .before .comparison .ensures))
 
 -- Where a comparison was found, its sides stand.
 sides : (c : tie.After-known-told) (d : Columns) (l r : Expr)
@@ -32,9 +30,7 @@ sides : (c : tie.After-known-told) (d : Columns) (l r : Expr)
     (comparison (c .before .before .before .before .before .before .args .operator) l r)
 sides c d l r row =
     let ended = c .before .before .before .before .end-node in
-    rw (c .before .measured .given .1) at
-    (c .before .before .before .comparison .ensures d (c .before .before .before .before .before .before .args .s .now) l r (first-stands row)
-    (pair-right row (ended .result) (ended .ensures)))
+    sides-found row (ended .result) (ended .ensures) _ (c .before .measured .given .1) (c .before .before .before .comparison .ensures)
 
 distance-arguments-requires : tie.Need-distance-arguments-requires
 distance-arguments-requires c κs =
