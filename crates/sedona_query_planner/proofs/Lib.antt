@@ -1,0 +1,4 @@
+-- Laws that several proofs use.
+pub mod RelationNames
+pub mod AndLeaves
+pub mod ArityLaws

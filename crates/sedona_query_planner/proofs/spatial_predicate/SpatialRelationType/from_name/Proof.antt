@@ -1,0 +1,51 @@
+-- `from_name`: the names stand in a row, and the type of a name is that at its position.
+use Prim.Native.Nat.{ℕ, suc, _+_, _≤_, _<_}
+use native.Mathlib.Omega.{arith}
+use mathlib.Core.Path.{_≡_, refl, sym, ap, _∙_}
+use mathlib.Core.List.{List}
+use mathlib.Core.Option.{none}
+use lib.ListN.{length, getD, List·getD-eq-default}
+use borrow.Author.Needs.{needs}
+use Rattle.definitions.specs.Basics.{ascii}
+use Rattle.definitions.specs.Leaves.{relationNamed}
+use Rattle.expression.specs.Places.{part}
+use Rattle.expression.specs.Names.{words}
+use Rattle.sedona_query_planner.proofs.RelationNames.{relations, relationNames, relation-at, neighbours}
+use Rattle.sedona_query_planner.proofs.spatial_predicate.SpatialRelationType.from_name.Statement.{statement}
+use Rattle.sedona_query_planner.proofs.spatial_predicate.SpatialRelationType.from_name.Tie as tie
+
+-- The type of the name is that at the position that was found: at k, at one of two neighbours of the same type, or past the last.
+module _ (c : tie.After-name-index) where
+  abbrev name : List ℕ
+  name = part (c .before .before .before .before .args .s .now) (c .before .before .before .before .args .at) (c .before .before .before .before .args .end)
+
+  found : getD relations (c .name-index .result) none ≡ relationNamed name
+  unfolding words ascii relationNames
+  found = ap (λ (i : ℕ). getD relations i none) (c .name-index .ensures) ∙ sym (relation-at name)
+
+  one : {k : ℕ} → c .name-index .result ≡ k → getD relations k none ≡ relationNamed name
+  one e = ap (λ (i : ℕ). getD relations i none) (sym e) ∙ found
+
+  two : (k : ℕ) → getD relations (suc k) none ≡ getD relations k none → k ≤ c .name-index .result → c .name-index .result < k + 2
+      → getD relations k none ≡ relationNamed name
+  two k e low high = sym (neighbours relations none k (c .name-index .result) e low high) ∙ found
+
+  past : length relations ≤ c .name-index .result → none ≡ relationNamed name
+  past h = sym (List·getD-eq-default relations none h) ∙ found
+
+pub from-name-spec : {M : Type 1} → statement M
+unfolding relations
+from-name-spec =
+    tie.close
+    (tie.spec
+    (λ c κs. search needs)
+    (λ c. one (c .before) (c .match .keys1))
+    (λ c. one (c .before) (c .match .keys2))
+    (λ c. one (c .before) (c .match .keys3))
+    (λ c. one (c .before) (c .match .keys4))
+    (λ c. one (c .before) (c .match .keys5))
+    (λ c. two (c .before .before) 0 refl (omega arith) (omega arith))
+    (λ c. two (c .before .before .before) 2 refl (omega arith) (omega arith))
+    (λ c. two (c .before .before .before .before) 4 refl (omega arith) (omega arith))
+    (λ c. two (c .before .before .before .before .before) 7 refl (omega arith) (omega arith))
+    (λ c. past (c .before .before .before .before .before) (omega arith)))

@@ -1,0 +1,3 @@
+// The join filter planner: a port of rust/sedona-query-planner.
+pub mod arity;
+pub mod spatial_predicate;
