@@ -1,0 +1,186 @@
+-- What each return of `reproject_column_references` and `reproject_children` answers, and what their calls require.
+use Prim.Native.Nat.{ℕ, _+_, _-_, _/_, _%_, _^_, _≤_, _<_}
+use native.Mathlib.Omega.{arith}
+use mathlib.Core.Path.{_≡_, refl, sym, ap, ap₂, _∙_}
+use mathlib.Core.List.{List, [], _∷_, _++_, append-nil, append-assoc}
+use lib.ListN.{length, getD, take, drop, set, length-append}
+use Rattle.definitions.specs.Basics.{bigEndian}
+use Rattle.definitions.specs.Expression.{Expr, column, literal, and, binary, call, other, field, Exprs, count}
+use Rattle.definitions.specs.Encode.{exprBytes, exprsBytes}
+use Rattle.definitions.specs.Decode.{indexBelow}
+use Rattle.definitions.specs.Match.{mapColumns, mapColumnsAll}
+use Rattle.definitions.proofs.Columns.{map-count}
+use Rattle.expression.specs.Places.{Holds, shortAt}
+use Rattle.expression.specs.Nodes.{headBytes, childrenOf, kindOf, Stands, Row, Tree, OfTree}
+use Rattle.expression.specs.Heads.{HeadIs}
+use Rattle.expression.specs.declared.heads.Head.{Head}
+use Rattle.expression.proofs.Placed.{fits}
+use Rattle.expression.proofs.Standing.{tree-length, head-stands, kind-is, children-stand, first-stands, rest-stands, some-children, no-children, head-fits, after-node}
+use Rattle.plan_writer.specs.Written.{Wrote}
+use Rattle.plan_writer.specs.Copies.{copyOf, copiesOf, ColumnThere, ColumnPut, CopyFits, CopiesFit, CopyFitsAt, CopyIs, NodeCopied, RowCopied, CopiedAt}
+use Rattle.plan_writer.specs.declared.copies.Copied.{Copied}
+use Rattle.plan_writer.proofs.Written.{behind, together, behind-length, part-wrote, then-wrote, copied-wrote}
+use Rattle.plan_writer.proofs.Fields.{column-is, column-size}
+
+-- ---- what is written for a node
+
+-- Its head, and its children with their indexes changed.
+map-node : (f : ℕ → ℕ) (t : Expr) → (kindOf t ≡ 0 → ⊥) → exprBytes (mapColumns f t) ≡ headBytes t ++ exprsBytes (mapColumnsAll f (childrenOf t))
+unfolding kindOf exprBytes headBytes childrenOf mapColumns
+map-node f (column i g) n = absurd (n refl)
+map-node f (literal y v) n = sym (append-nil _)
+map-node f (and l r) n = rw (append-nil (exprBytes (mapColumns f r)))
+map-node f (binary o l r) n = rw (append-nil (exprBytes (mapColumns f r)))
+map-node f (call name args) n = rw (append-assoc name (count args ∷ []) (exprsBytes (mapColumnsAll f args)), map-count f args)
+map-node f (other g cs) n = rw (append-assoc (bigEndian 2 g) (count cs ∷ []) (exprsBytes (mapColumnsAll f cs)), map-count f cs)
+map-node f (field b g) n = sym (append-nil _)
+
+pub column-within : {s : List ℕ} {at : ℕ} → ColumnThere s at → at + 5 ≤ length s
+column-within p = omega (arith, fits (p .2), column-size (p .0) (p .1))
+
+-- A copied column with the two bytes of its index overwritten.
+pub column-put : (v : ℕ) → v < 65536 → (before : List ℕ) {middle s : List ℕ} {at : ℕ} (index tag : ℕ) → Holds s at (exprBytes (column index tag))
+    → middle ≡ take 5 (drop at s) ++ drop 5 before → Wrote (exprBytes (column v tag)) before (set (set middle 1 (v / 256)) 2 (v % 256))
+unfolding exprBytes bigEndian
+column-put v short before {middle} {s} {at} index tag there is =
+    ap (λ (l : List ℕ). set (set l 1 (v / 256)) 2 (v % 256)) (copied-wrote before 5 there refl is)
+    ∙ ap₂ (λ (a b : ℕ). 0 ∷ a ∷ b ∷ (bigEndian 2 tag ++ drop 5 before)) high low
+  where
+    high : v / 256 ≡ v / 256 ^ 1 % 256
+    high = omega (arith, short)
+
+    low : v % 256 ≡ v / 256 ^ 0 % 256
+    low = omega arith
+
+module _ (to : List ℕ) {s : List ℕ} {at : ℕ} where
+  no-column : (t : Expr) → Stands (indexBelow (length to)) s at t → (getD s at 0 ≡ 0 → ⊥) → copyOf to t ≡ headBytes t ++ copiesOf to (childrenOf t)
+  no-column t h n = map-node (λ index. getD to index 0) t (λ k. n (sym (kind-is h) ∙ k))
+
+  pub copy-column : (t : Expr) → Stands (indexBelow (length to)) s at t → getD s at 0 ≡ 0 → (index : ℕ) → index ≡ shortAt s (at + 1)
+      → (before after : List ℕ) → ColumnPut s at (getD to index 0) before after
+      → CopyIs at (length (exprBytes t)) (copyOf to t) before after (record { read = at + 5; wrote = 5 })
+  unfolding mapColumns
+  copy-column t h e index is before after put =
+      let own = column-is h e in
+      let tag : ℕ = shortAt s (at + 3) in
+      rw (own .tree, ← is) (record {
+        read = ap (λ (n : ℕ). at + n) (sym (column-size index tag));
+        wrote = sym (column-size (getD to index 0) tag);
+        out = put (shortAt s (at + 1)) tag (own .bytes);
+      })
+
+  pub copy-other : (t : Expr) → Stands (indexBelow (length to)) s at t → (getD s at 0 ≡ 0 → ⊥) → (h : Head) → OfTree s at (HeadIs at h)
+      → (before middle part : List ℕ) (w : ℕ) → w ≡ h .next - at → middle ≡ take w (drop at s) ++ drop w before
+      → (q : Copied) → RowCopied s (h .next) (h .children) to (behind w middle) part q
+      → CopyIs at (length (exprBytes t)) (copyOf to t) before (together w middle part) (record { read = q .read; wrote = w + q .wrote })
+  copy-other t stands n h its before middle part w size copied q is =
+      let head : HeadIs at h t = its (indexBelow (length to)) t stands in
+      let below : CopyIs (h .next) (length (exprsBytes (childrenOf t))) (copiesOf to (childrenOf t)) (behind w middle) part q =
+      is (childrenOf t) (children-stand stands (h .next) (h .children) (head .next) (head .children)) in
+      let long : w ≡ length (headBytes t) = omega (arith, head .next) in
+      rw (no-column t stands n) (record {
+        read = omega (arith, below .read, head .next, tree-length t);
+        wrote = simp length-append (omega (arith, below .wrote));
+        out = then-wrote (headBytes t) (copiesOf to (childrenOf t)) before middle part w long (copied-wrote before w (head-stands stands) long copied) (below .out);
+      })
+
+  pub copies-some : {n : ℕ} (ts : Exprs) → Row (indexBelow (length to)) s at n ts → (n ≡ 0 → ⊥) → (before middle part : List ℕ) (r q : Copied)
+      → NodeCopied s at to before middle r → RowCopied s (r .read) (n - 1) to (behind (r .wrote) middle) part q
+      → CopyIs at (length (exprsBytes ts)) (copiesOf to ts) before (together (r .wrote) middle part) (record { read = q .read; wrote = r .wrote + q .wrote })
+  unfolding exprsBytes mapColumnsAll
+  copies-some {n} ts row some before middle part r q one others = some-children
+      (λ ts. Row (indexBelow (length to)) s at n ts → CopyIs at (length (exprsBytes ts)) (copiesOf to ts) before (together (r .wrote) middle part) (record { read = q .read; wrote = r .wrote + q .wrote }))
+      (λ t ts o.
+      let a : CopyIs at (length (exprBytes t)) (copyOf to t) before middle r = one t (first-stands o) in
+      let b : CopyIs (r .read) (length (exprsBytes ts)) (copiesOf to ts) (behind (r .wrote) middle) part q = others ts (rest-stands o (r .read) (n - 1) (a .read) (omega arith)) in
+      record {
+        read = simp length-append (omega (arith, a .read, b .read));
+        wrote = simp length-append (omega (arith, a .wrote, b .wrote));
+        out = then-wrote (copyOf to t) (copiesOf to ts) before middle part (r .wrote) (a .wrote) (a .out) (b .out);
+      }) ts (omega (arith, row .counted)) row
+
+  pub copies-none : {n : ℕ} (ts : Exprs) → Row (indexBelow (length to)) s at n ts → n ≡ 0 → (out : List ℕ)
+      → CopyIs at (length (exprsBytes ts)) (copiesOf to ts) out out (record { read = at; wrote = 0 })
+  unfolding exprsBytes mapColumnsAll
+  copies-none ts row e out = no-children (λ ts. CopyIs at (length (exprsBytes ts)) (copiesOf to ts) out out (record { read = at; wrote = 0 }))
+      (record { read = omega arith; wrote = refl; out = refl }) ts (row .counted ∙ e)
+
+-- ---- what the calls require
+
+-- A column's bytes, its index in the table, and room for it.
+pub record ColumnFits (s : List ℕ) (at : ℕ) (to out : List ℕ) : Type 0 where
+  pub there : ColumnThere s at
+  pub within : at + 5 ≤ length s
+  pub below : shortAt s (at + 1) < length to
+  pub room : 5 ≤ length out
+
+module _ {s : List ℕ} {at : ℕ} {to : List ℕ} where
+  pub fits-tree : {out : List ℕ} → CopyFits s at to out → Tree s at
+  fits-tree p = (indexBelow (length to), p .tree, p .stands)
+
+  pub column-fits : {out : List ℕ} → CopyFits s at to out → getD s at 0 ≡ 0 → ColumnFits s at to out
+  unfolding mapColumns
+  column-fits p e =
+      let own = column-is (p .stands) e in
+      let index : ℕ = shortAt s (at + 1) in
+      let tag : ℕ = shortAt s (at + 3) in
+      record {
+        there = (index, tag, own .bytes);
+        within = omega (arith, fits (own .bytes), column-size index tag);
+        below = own .below;
+        room = omega (arith, p .room, ap (λ (t : Expr). length (copyOf to t)) (own .tree), column-size (getD to index 0) tag);
+      }
+
+  room-split : {out : List ℕ} (p : CopyFits s at to out) → (getD s at 0 ≡ 0 → ⊥)
+      → length (copyOf to (p .tree)) ≡ length (headBytes (p .tree)) + length (copiesOf to (childrenOf (p .tree)))
+  room-split p n = ap length (no-column to (p .tree) (p .stands) n) ∙ simp length-append
+
+  pub head-room : {out : List ℕ} → CopyFits s at to out → (getD s at 0 ≡ 0 → ⊥) → (h : Head) → OfTree s at (HeadIs at h)
+      → (at ≤ h .next) × (h .next ≤ length s) × (h .next - at ≤ length out)
+  head-room p n h is =
+      let next = is (indexBelow (length to)) (p .tree) (p .stands) .next in
+      (omega (arith, next), omega (arith, next, head-fits (p .stands)), omega (arith, next, room-split p n, p .room))
+
+  pub children-fit : {before : List ℕ} → CopyFits s at to before → (getD s at 0 ≡ 0 → ⊥) → (h : Head) → OfTree s at (HeadIs at h)
+      → (middle : List ℕ) → length middle ≡ length before → CopiesFit s (h .next) (h .children) to (behind (h .next - at) middle)
+  children-fit p n h is middle same =
+      let head = is (indexBelow (length to)) (p .tree) (p .stands) in
+      record {
+        trees = childrenOf (p .tree);
+        row = children-stand (p .stands) (h .next) (h .children) (head .next) (head .children);
+        room = omega (arith, head .next, room-split p n, p .room, behind-length (h .next - at) middle);
+      }
+
+  pub first-fits : {n : ℕ} {out : List ℕ} → CopiesFit s at n to out → (n ≡ 0 → ⊥) → CopyFits s at to out
+  unfolding exprsBytes mapColumnsAll
+  first-fits {n} {out} p some = some-children (λ ts. Row (indexBelow (length to)) s at n ts → length (copiesOf to ts) ≤ length out → CopyFits s at to out)
+      (λ t ts o room. record { tree = t; stands = first-stands o; room = omega (arith, simp length-append at room) })
+      (p .trees) (omega (arith, p .row .counted)) (p .row) (p .room)
+
+  pub rest-fits : {n : ℕ} {before : List ℕ} → CopiesFit s at n to before → (n ≡ 0 → ⊥) → (middle : List ℕ) (r : Copied) → NodeCopied s at to before middle r
+      → length middle ≡ length before → CopiesFit s (r .read) (n - 1) to (behind (r .wrote) middle)
+  unfolding exprsBytes mapColumnsAll
+  rest-fits {n} {before} p some middle r is same =
+      some-children (λ ts. Row (indexBelow (length to)) s at n ts → length (copiesOf to ts) ≤ length before → CopiesFit s (r .read) (n - 1) to (behind (r .wrote) middle))
+      (λ t ts o room.
+      let a = is t (first-stands o) in
+      record {
+        trees = ts;
+        row = rest-stands o (r .read) (n - 1) (a .read) (omega arith);
+        room = omega (arith, a .wrote, behind-length (r .wrote) middle, simp length-append at room);
+      }) (p .trees) (omega (arith, p .row .counted)) (p .row) (p .room)
+
+  pub first-room : {before : List ℕ} → CopyFits s at to before → (middle : List ℕ) (r : Copied) → NodeCopied s at to before middle r → r .wrote ≤ length before
+  first-room p middle r is = omega (arith, p .room, is (p .tree) (p .stands) .wrote)
+
+  pub first-later : {before : List ℕ} → CopyFits s at to before → (middle : List ℕ) (r : Copied) → NodeCopied s at to before middle r → at < r .read
+  first-later p middle r is = after-node (p .stands) (r .read) (is (p .tree) (p .stands) .read)
+
+-- ---- a copy that begins at w
+
+module _ {s : List ℕ} {at w : ℕ} {out : List ℕ} where
+  pub part-fits : {to : List ℕ} → CopyFitsAt s at to w out → CopyFits s at to (behind w out)
+  part-fits p = record { tree = p .tree; stands = p .stands; room = omega (arith, p .room, behind-length w out) }
+
+  pub copied-at : (to part : List ℕ) (a : Copied) → NodeCopied s at to (behind w out) part a → CopiedAt s at to w out (together w out part) (w + a .wrote)
+  copied-at to part a is t stands = let copied = is t stands in part-wrote (copyOf to t) out part w (copied .out) (a .wrote) (copied .wrote)

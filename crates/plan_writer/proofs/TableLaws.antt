@@ -1,0 +1,69 @@
+-- Tables filled entry by entry, and what they make of an expression.
+use Prim.Native.Nat.{ℕ, _+_, _*_, _≤_, _<_}
+use native.Mathlib.Omega.{arith}
+use native.Mathlib.Nat.{not-suc-le-zero}
+use mathlib.Core.Path.{_≡_, refl, sym, ap, _∙_, subst}
+use mathlib.Core.List.{List, [], _∷_, _++_}
+use lib.ListN.{length, getD, set}
+use lib.Seq.{getD-set-same, getD-set-other}
+use borrow.Author.Count.{below-more}
+use Rattle.definitions.specs.Basics.{bigEndian}
+use Rattle.definitions.specs.Expression.{Expr, Record}
+use Rattle.definitions.specs.Encode.{exprBytes, recordBytes, sideNumber}
+use Rattle.definitions.specs.Decode.{indexBelow}
+use Rattle.definitions.specs.Match.{recordAt, mapColumns, onChild}
+use Rattle.definitions.specs.Limits.{InRange, RecordsInRange}
+use Rattle.definitions.proofs.ExchangeGood.{records-length}
+use Rattle.expression.specs.Places.{Holds, shortAt}
+use Rattle.expression.proofs.Placed.{fits, front, next}
+use Rattle.plan_writer.specs.Copies.{copyOf}
+use Rattle.plan_writer.specs.Tables.{Table, Entries, Recorded, ChildTable, childOf}
+use Rattle.plan_writer.proofs.Fields.{short-is, entry-at, child-short}
+use Rattle.plan_writer.proofs.Ranges.{map-agrees, map-same}
+
+-- None yet, one entry more, and all of them.
+pub table-none : {new : ℕ → ℕ} {to : List ℕ} → Table new 0 to
+table-none = record { entry = λ k b. absurd (not-suc-le-zero b) }
+
+pub table-whole : {new : ℕ → ℕ} {a b : ℕ} {to : List ℕ} → a ≡ b → Table new a to → Table new b to
+table-whole {new} {a} {b} {to} e h = subst (λ (n : ℕ). Table new n to) e h
+
+pub table-more : (new : ℕ → ℕ) (to : List ℕ) (i : ℕ) → i < length to → Table new i to → Table new (i + 1) (set to i (new i))
+table-more new to i room h = record {
+  entry = below-more (λ k. getD (set to i (new i)) k 0 ≡ new k) i
+      (λ k b. getD-set-other to i k (new i) 0 (λ e. omega (arith, e)) ∙ h .entry k b) (getD-set-same to i (new i) 0 room);
+}
+
+-- ---- child indexes
+
+pub records-within : {s : List ℕ} {rec count : ℕ} → Recorded s rec count → rec + 5 * count ≤ length s
+records-within p = omega (arith, fits (p .1 .bytes), records-length (p .0), p .1 .counted)
+
+pub child-is : {s : List ℕ} {rec count : ℕ} {records : List Record} → Entries s rec count records → (j : ℕ) → j < count
+    → shortAt s (rec + 5 * j + 1) ≡ childOf records j
+unfolding recordBytes
+child-is {s} {rec} {count} {records} h j b =
+    let r : Record = recordAt records j in
+    let entry : Holds s (rec + 5 * j) (recordBytes r) = entry-at records (h .bytes) j (omega (arith, h .counted)) (rec + 5 * j) refl in
+    short-is (front (bigEndian 2 (r .child)) (bigEndian 2 (r .tag)) (next entry (rec + 5 * j + 1) refl)) (child-short records j (h .inRange))
+
+pub child-fits : {s : List ℕ} {rec count : ℕ} → Recorded s rec count → (j : ℕ) → j < count → shortAt s (rec + 5 * j + 1) < 65536
+child-fits p j b = omega (arith, child-is (p .1) j b, child-short (p .0) j (p .1 .inRange))
+
+pub child-table : {s : List ℕ} {rec : ℕ} (count : ℕ) {to : List ℕ} → Table (λ j. shortAt s (rec + 5 * j + 1)) count to → ChildTable s rec count to
+child-table count h records entries = record { entry = λ j b. h .entry j b ∙ child-is entries j b }
+
+-- ---- what a table makes of an expression
+
+-- It renumbers as it says, below its bound.
+pub table-copies : {new : ℕ → ℕ} {count : ℕ} {to : List ℕ} → Table new count to → (t : Expr) → InRange (indexBelow count) t
+    → copyOf to t ≡ exprBytes (mapColumns new t)
+table-copies {new} {count} {to} h t range = ap exprBytes (map-agrees count (λ i. getD to i 0) new (h .entry) t range)
+
+pub children-copied : (records : List Record) {to : List ℕ} → Table (childOf records) (length records) to → (t : Expr) → InRange (indexBelow (length records)) t
+    → copyOf to t ≡ exprBytes (onChild records t)
+unfolding onChild
+children-copied records h t range = table-copies h t range
+
+pub own-copied : {count : ℕ} {to : List ℕ} → Table (λ j. j) count to → (t : Expr) → InRange (indexBelow count) t → copyOf to t ≡ exprBytes t
+own-copied h t range = table-copies h t range ∙ ap exprBytes (map-same t)

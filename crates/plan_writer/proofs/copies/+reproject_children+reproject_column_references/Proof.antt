@@ -1,0 +1,259 @@
+-- `reproject_column_references` and `reproject_children`: a head is copied and its children after it, a column is put with its new index.
+use Prim.Native.Nat.{ℕ, _<_, _+_, _-_, _*_}
+use native.Mathlib.Omega.{arith}
+use mathlib.Core.Path.{refl, _∙_}
+use lib.ListN.{length}
+use borrow.Author.Needs.{needs}
+use borrow.Fn.Kinds.{In}
+use borrow.Fn.PlainCycle.{Measures, is, falls, and}
+use Rattle.expression.proofs.Standing.{node-some, after-head}
+use Rattle.plan_writer.proofs.Written.{together-length}
+use Rattle.plan_writer.proofs.CopyWalk.{copy-column, copy-other, copies-none, copies-some, fits-tree, column-fits, head-room, children-fit, first-fits, rest-fits, first-room, first-later}
+use Rattle.plan_writer.proofs.copies.reproject_children.Reads as row
+use Rattle.plan_writer.proofs.copies.reproject_children.Kinds as row-kinds
+use Rattle.plan_writer.proofs.copies.+reproject_children+reproject_column_references.Lts-reproject_children as row-lts
+use Rattle.plan_writer.proofs.copies.reproject_column_references.Reads as node
+use Rattle.plan_writer.proofs.copies.reproject_column_references.Kinds as node-kinds
+use Rattle.plan_writer.proofs.copies.+reproject_children+reproject_column_references.Lts-reproject_column_references as node-lts
+use Rattle.expression.proofs.fields.short_at.Reads as short-at-reads
+use Rattle.expression.proofs.heads.head_at.Reads as head-at-reads
+use Rattle.plan_writer.proofs.copies.copy_bytes.Reads as copy-bytes-reads
+use Rattle.plan_writer.proofs.copies.put_column.Reads as put-column-reads
+use Rattle.plan_writer.proofs.copies.+reproject_children+reproject_column_references.{statement}
+use Rattle.plan_writer.proofs.copies.+reproject_children+reproject_column_references.Tie.{close}
+
+-- Bytes left; for a row one more.
+abbrev μ-row : Measures 3 row-kinds.ps ℕ
+μ-row κs a = 2 * (length (a .1 .0 .now) - a .1 .1 .0) + 1
+
+abbrev μ-node : Measures 3 node-kinds.ps ℕ
+μ-node κs a = 2 * (length (a .1 .0 .now) - a .1 .1 .0)
+
+abbrev row-at : ℕ → In 3 row-kinds.ps
+row-at t = and 3 row-kinds.ps (is 3 row-kinds.ps μ-row t) row.Pre
+
+abbrev row-below : ℕ → In 3 row-kinds.ps
+row-below t = and 3 row-kinds.ps (falls 3 row-kinds.ps _<_ μ-row t) row.Pre
+
+abbrev node-at : ℕ → In 3 node-kinds.ps
+node-at t = and 3 node-kinds.ps (is 3 node-kinds.ps μ-node t) node.Pre
+
+abbrev node-below : ℕ → In 3 node-kinds.ps
+node-below t = and 3 node-kinds.ps (falls 3 node-kinds.ps _<_ μ-node t) node.Pre
+
+abbrev row-claims : ℕ → row-lts.Claims
+row-claims t = (node-below t, node.Post, row-below t, row.Post)
+
+abbrev node-claims : ℕ → node-lts.Claims
+node-claims t = (
+  short-at-reads.Asked,
+  short-at-reads.Learnt,
+  put-column-reads.Asked,
+  put-column-reads.Learnt,
+  head-at-reads.Asked,
+  head-at-reads.Learnt,
+  copy-bytes-reads.Asked,
+  copy-bytes-reads.Learnt,
+  row-below t,
+  row.Post,
+)
+
+-- ---- the row
+
+row-returns : (t : ℕ) → row-lts.Need-returns (row-claims t) (row-at t) row.Post
+row-returns t c = λ ts row. let start = c .before .before .before .before in copies-none (start .args .to .now) ts row (c .if1 .taken) (start .args .out .now)
+
+row-first : (t : ℕ) → row-lts.Need-reproject-column-references-requires (row-claims t) (row-at t) row.Post
+row-first t c κs =
+    let start = c .before .before .before .before .before in
+    (omega (arith, start .pre .0), first-fits (start .pre .1) (c .before .if1 .left))
+
+row-part : (t : ℕ) → row-lts.Need-part-reproject-children-start (row-claims t) (row-at t) row.Post
+row-part t c =
+    let call = c .before .before .reproject-column-references in
+    let fits = first-fits (c .before .before .before .before .before .before .before .before .pre .1) (c .before .before .before .before .if1 .left) in
+    omega (arith, call .kept .0, first-room fits (call .last .0) (call .result) (call .ensures))
+
+row-less : (t : ℕ) → row-lts.Need-sub-reproject-children-2 (row-claims t) (row-at t) row.Post
+row-less t c = omega (arith, c .before .before .before .before .before .if1 .left)
+
+row-rest : (t : ℕ) → row-lts.Need-reproject-children-requires (row-claims t) (row-at t) row.Post
+row-rest t c κs =
+    let start = c .before .before .before .before .before .before .before .before .before in
+    let some = c .before .before .before .before .before .if1 .left in
+    let fits = first-fits (start .pre .1) some in
+    let call = c .before .before .before .reproject-column-references in (
+      omega (arith, start .pre .0, node-some (fits .stands), first-later fits (call .last .0) (call .result) (call .ensures)),
+      rest-fits (start .pre .1) some (call .last .0) (call .result) (call .ensures) (call .kept .0),
+    )
+
+row-sum : (t : ℕ) → row-lts.Need-add-t14 (row-claims t) (row-at t) row.Post
+row-sum t c =
+    let start = c .before .before .before .before .before .before .before .before .before .before .before .before .before in
+    let some = c .before .before .before .before .before .before .before .before .before .if1 .left in
+    let one = c .before .before .before .before .before .before .before .reproject-column-references in
+    let others = c .before .before .before .reproject-children in
+    let p = start .pre .1 in
+    omega (
+      arith,
+      start .good,
+      p .room,
+      copies-some (start .args .to .now) (p .trees) (p .row) some (start .args .out .now) (one .last .0) (others .last .0) (one .result) (others .result) (one .ensures)
+          (others .ensures) .wrote,
+    )
+
+row-long : (t : ℕ) → row-lts.Need-same-length (row-claims t) (row-at t) row.Post
+row-long t c =
+    let start = c .before .before .before .before .before .before .before .before .before .before .before .before .before in
+    let some = c .before .before .before .before .before .before .before .before .before .if1 .left in
+    let one = c .before .before .before .before .before .before .before .reproject-column-references in
+    let others = c .before .before .before .reproject-children in
+    let room = first-room (first-fits (start .pre .1) some) (one .last .0) (one .result) (one .ensures) in
+    together-length (one .result .wrote) (one .last .0) (others .last .0) (omega (arith, one .kept .0)) (others .kept .0) ∙ one .kept .0
+
+row-returns-2 : (t : ℕ) → row-lts.Need-returns-2 (row-claims t) (row-at t) row.Post
+row-returns-2 t c = λ ts row.
+    let start = c .before .before .before .before .before .before .before .before .before .before .before .before .before in
+    let some = c .before .before .before .before .before .before .before .before .before .if1 .left in
+    let one = c .before .before .before .before .before .before .before .reproject-column-references in
+    let others = c .before .before .before .reproject-children in
+    copies-some (start .args .to .now) ts row some (start .args .out .now) (one .last .0) (others .last .0) (one .result) (others .result) (one .ensures) (others .ensures)
+
+-- ---- the node
+
+node-kind : (t : ℕ) → node-lts.Need-shared-slice-read-if1 (node-claims t) (node-at t) node.Post
+node-kind t c = node-some (c .before .before .before .before .pre .1 .stands)
+
+node-index-at : (t : ℕ) → node-lts.Need-add-short-at (node-claims t) (node-at t) node.Post
+node-index-at t c = omega (arith, column-fits (c .before .before .before .before .before .pre .1) (c .if1 .taken) .within)
+
+node-index : (t : ℕ) → node-lts.Need-short-at-requires (node-claims t) (node-at t) node.Post
+node-index t c κs = omega (arith, column-fits (c .before .before .before .before .before .pre .1) (c .if1 .taken) .within)
+
+node-scaled : (t : ℕ) → node-lts.Need-mul-v (node-claims t) (node-at t) node.Post
+node-scaled t c =
+    let start = c .before .before .before .before .before .before in
+    omega (arith, start .good, c .short-at .ensures, column-fits (start .pre .1) (c .before .if1 .taken) .below)
+
+node-new : (t : ℕ) → node-lts.Need-shared-slice-read-v (node-claims t) (node-at t) node.Post
+node-new t c =
+    let start = c .before .before .before .before .before .before .before in
+    omega (arith, c .before .short-at .ensures, column-fits (start .pre .1) (c .before .before .if1 .taken) .below)
+
+node-put : (t : ℕ) → node-lts.Need-put-column-requires (node-claims t) (node-at t) node.Post
+node-put t c κs =
+    let start = c .before .before .before .before .before .before .before .before in
+    let fits = column-fits (start .pre .1) (c .before .before .before .if1 .taken) in
+    (fits .there, fits .room)
+
+node-after : (t : ℕ) → node-lts.Need-add-t15 (node-claims t) (node-at t) node.Post
+node-after t c =
+    let start = c .before .before .before .before .before .before .before .before .before .before .before in
+    omega (arith, column-fits (start .pre .1) (c .before .before .before .before .before .before .if1 .taken) .within)
+
+node-returns : (t : ℕ) → node-lts.Need-returns (node-claims t) (node-at t) node.Post
+node-returns t c = λ t stands.
+    let start = c .before .before .before .before .before .before .before .before .before .before .before in
+    let kind = c .before .before .before .before .before .before .if1 .taken in
+    let index = c .before .before .before .before .before .short-at in
+    let put = c .before .before .put-column in
+    copy-column (start .args .to .now) t stands kind (index .result) (index .ensures) (start .args .out .now) (put .last .0) (put .ensures)
+
+node-head : (t : ℕ) → node-lts.Need-head-at-requires (node-claims t) (node-at t) node.Post
+node-head t c κs = fits-tree (c .before .before .before .before .before .pre .1)
+
+node-width : (t : ℕ) → node-lts.Need-sub-w (node-claims t) (node-at t) node.Post
+node-width t c = head-room (c .before .before .before .before .before .before .pre .1) (c .before .if1 .left) (c .head-at .result) (c .head-at .ensures) .0
+
+node-copy : (t : ℕ) → node-lts.Need-copy-bytes-requires (node-claims t) (node-at t) node.Post
+node-copy t c κs =
+    let call = c .before .head-at in
+    omega (arith, head-room (c .before .before .before .before .before .before .before .pre .1) (c .before .before .if1 .left) (call .result) (call .ensures))
+
+node-part : (t : ℕ) → node-lts.Need-part-reproject-children-start (node-claims t) (node-at t) node.Post
+node-part t c =
+    let call = c .before .before .before .before .head-at in
+    let start = c .before .before .before .before .before .before .before .before .before .before in
+    omega (arith, c .before .before .copy-bytes .kept .0, head-room (start .pre .1) (c .before .before .before .before .before .if1 .left) (call .result) (call .ensures))
+
+node-children : (t : ℕ) → node-lts.Need-reproject-children-requires (node-claims t) (node-at t) node.Post
+node-children t c κs =
+    let start = c .before .before .before .before .before .before .before .before .before .before .before in
+    let some = c .before .before .before .before .before .before .if1 .left in
+    let head = c .before .before .before .before .before .head-at in
+    let copy = c .before .before .before .copy-bytes in
+    let tree = fits-tree (start .pre .1) in (
+      omega (arith, start .pre .0, node-some (tree .2), after-head (tree .2) (head .result .next) (head .ensures (tree .0) (tree .1) (tree .2) .next)),
+      children-fit (start .pre .1) some (head .result) (head .ensures) (copy .last .0) (copy .kept .0),
+    )
+
+node-sum : (t : ℕ) → node-lts.Need-add-t25 (node-claims t) (node-at t) node.Post
+node-sum t c =
+    let start = c .before .before .before .before .before .before .before .before .before .before .before .before .before .before .before in
+    let some = c .before .before .before .before .before .before .before .before .before .before .if1 .left in
+    let head = c .before .before .before .before .before .before .before .before .before .head-at in
+    let copy = c .before .before .before .before .before .before .before .copy-bytes in
+    let others = c .before .before .before .reproject-children in
+    let p = start .pre .1 in
+    omega (
+      arith,
+      start .good,
+      p .room,
+      copy-other (start .args .to .now) (p .tree) (p .stands) some (head .result) (head .ensures) (start .args .out .now) (copy .last .0) (others .last .0)
+          (head .result .next - start .args .at) refl (copy .ensures) (others .result) (others .ensures) .wrote,
+    )
+
+node-long : (t : ℕ) → node-lts.Need-same-length-2 (node-claims t) (node-at t) node.Post
+node-long t c =
+    let start = c .before .before .before .before .before .before .before .before .before .before .before .before .before .before .before in
+    let some = c .before .before .before .before .before .before .before .before .before .before .if1 .left in
+    let head = c .before .before .before .before .before .before .before .before .before .head-at in
+    let copy = c .before .before .before .before .before .before .before .copy-bytes in
+    let others = c .before .before .before .reproject-children in
+    let room = head-room (start .pre .1) some (head .result) (head .ensures) in
+    together-length (head .result .next - start .args .at) (copy .last .0) (others .last .0) (omega (arith, room, copy .kept .0)) (others .kept .0) ∙ copy .kept .0
+
+node-returns-2 : (t : ℕ) → node-lts.Need-returns-2 (node-claims t) (node-at t) node.Post
+node-returns-2 t c = λ t stands.
+    let start = c .before .before .before .before .before .before .before .before .before .before .before .before .before .before .before in
+    let some = c .before .before .before .before .before .before .before .before .before .before .if1 .left in
+    let head = c .before .before .before .before .before .before .before .before .before .head-at in
+    let copy = c .before .before .before .before .before .before .before .copy-bytes in
+    let others = c .before .before .before .reproject-children in
+    copy-other (start .args .to .now) t stands some (head .result) (head .ensures) (start .args .out .now) (copy .last .0) (others .last .0)
+    (head .result .next - start .args .at) refl (copy .ensures) (others .result) (others .ensures)
+
+pub +reproject-children+reproject-column-references-spec : {M : Type 1} → statement M
++reproject-children+reproject-column-references-spec = close μ-row μ-node (λ t. row-lts.spec (row-claims t) (row-at t)
+    row.Post
+    (row-returns t)
+    (row-first t)
+    (row-part t)
+    (row-part t)
+    (λ c. search needs)
+    (row-less t)
+    (row-rest t)
+    (row-sum t)
+    (row-long t)
+    (row-returns-2 t))
+    λ t. node-lts.spec (node-claims t) (node-at t)
+    node.Post
+    (node-kind t)
+    (node-index-at t)
+    (node-index t)
+    (node-scaled t)
+    (node-new t)
+    (node-put t)
+    (node-after t)
+    (λ c. c .before .before .put-column .kept .0)
+    (node-returns t)
+    (node-head t)
+    (node-width t)
+    (node-copy t)
+    (node-part t)
+    (node-part t)
+    (λ c. search needs)
+    (node-children t)
+    (node-sum t)
+    (node-long t)
+    (node-returns-2 t)

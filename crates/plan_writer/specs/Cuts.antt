@@ -1,0 +1,71 @@
+-- An expression at a place without one of its AND-leaves.
+use Prim.Native.Nat.{ℕ, _+_}
+use mathlib.Core.Path.{_≡_}
+use mathlib.Core.List.{List, [], _∷_, _++_}
+use lib.ListN.{length}
+use lib.Dec.{eqb}
+use Rattle.definitions.specs.Basics.{if_then_else_}
+use Rattle.definitions.specs.Expression.{Expr, column, literal, and, binary, call, other, field, Exprs}
+use Rattle.definitions.specs.Encode.{exprBytes}
+use Rattle.definitions.specs.Leaves.{leaves}
+use Rattle.plan_writer.specs.declared.cuts.Cut.{Cut}
+
+-- Where the children of an And begin.
+abbrev pub leftOf : (at : ℕ) → ℕ
+leftOf at = at + 2
+
+abbrev pub rightOf : (at : ℕ) → (l : Expr) → ℕ
+rightOf at l = at + 2 + length (exprBytes l)
+
+-- ---- which AND-leaf is cut out
+
+-- The AND-leaf at a position, from 0, of the expression at a place is the one that the cut says, and it has a parent And.
+pub data CutBelow (cut : Cut) : Expr → (at position : ℕ) → Type 0 where
+  leftLeaf : {l r : Expr} {at : ℕ} → leaves l ≡ l ∷ []
+      → cut .leaf ≡ leftOf at → cut .end ≡ leftOf at + length (exprBytes l) → cut .parent ≡ at → CutBelow cut (and l r) at 0
+  rightLeaf : {l r : Expr} {at : ℕ} → leaves r ≡ r ∷ []
+      → cut .leaf ≡ rightOf at l → cut .end ≡ rightOf at l + length (exprBytes r) → cut .parent ≡ at → CutBelow cut (and l r) at (length (leaves l))
+  inLeft : {l r : Expr} {at position : ℕ} → CutBelow cut l (leftOf at) position → CutBelow cut (and l r) at position
+  inRight : {l r : Expr} {at position : ℕ} → CutBelow cut r (rightOf at l) position → CutBelow cut (and l r) at (length (leaves l) + position)
+
+-- The same, or the expression is that leaf.
+pub data CutAt (cut : Cut) : Expr → (at position : ℕ) → Type 0 where
+  whole : {t : Expr} {at : ℕ} → leaves t ≡ t ∷ [] → cut .leaf ≡ at → CutAt cut t at 0
+  below : {t : Expr} {at position : ℕ} → CutBelow cut t at position → CutAt cut t at position
+
+-- ---- what a walk over the And nodes makes of it
+
+-- Nothing at the leaf.
+abbrev pub unless : (at leaf : ℕ) → List ℕ → List ℕ
+unless at leaf x = if eqb at leaf then [] else x
+
+-- Of each AND-leaf `one`, before those of an And its `head`.
+unfoldable pub inside : (leaf : ℕ) → (head : ℕ → List ℕ) → (one : Expr → List ℕ) → (at : ℕ) → Expr → List ℕ
+inside leaf head one at (and l r) =
+    head at ++ (unless (leftOf at) leaf (inside leaf head one (leftOf at) l) ++ unless (rightOf at l) leaf (inside leaf head one (rightOf at l) r))
+inside leaf head one at (column index tag) = one (column index tag)
+inside leaf head one at (literal type value) = one (literal type value)
+inside leaf head one at (binary operator l r) = one (binary operator l r)
+inside leaf head one at (call name arguments) = one (call name arguments)
+inside leaf head one at (other tag children) = one (other tag children)
+inside leaf head one at (field bits tag) = one (field bits tag)
+
+abbrev pub around : (leaf : ℕ) → (head : ℕ → List ℕ) → (one : Expr → List ℕ) → (at : ℕ) → Expr → List ℕ
+around leaf head one at t = unless at leaf (inside leaf head one at t)
+
+-- Where such a walk meets the leaf, the cut says where the leaf ends.
+abbrev pub EndsThere : Cut → (at : ℕ) → Expr → Type 0
+EndsThere cut at t = at ≡ cut .leaf → cut .end ≡ at + length (exprBytes t)
+
+abbrev pub EndsInside : Cut → (at : ℕ) → Expr → Type 0
+EndsInside cut at (and l r) =
+    (EndsThere cut (leftOf at) l × EndsInside cut (leftOf at) l) × (EndsThere cut (rightOf at l) r × EndsInside cut (rightOf at l) r)
+EndsInside cut at (column index tag) = Unit {0}
+EndsInside cut at (literal type value) = Unit {0}
+EndsInside cut at (binary operator l r) = Unit {0}
+EndsInside cut at (call name arguments) = Unit {0}
+EndsInside cut at (other tag children) = Unit {0}
+EndsInside cut at (field bits tag) = Unit {0}
+
+abbrev pub Ends : Cut → (at : ℕ) → Expr → Type 0
+Ends cut at t = EndsThere cut at t × EndsInside cut at t

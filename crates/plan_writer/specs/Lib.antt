@@ -1,0 +1,6 @@
+-- What the contracts cite, in the order to read them.
+pub mod Written
+pub mod Copies
+pub mod Tables
+pub mod Cuts
+pub mod References
