@@ -1,0 +1,8 @@
+// What load, extract and exchange answer.
+use frame::refusals::Refusal;
+
+// The new plan's length, or why the call is refused.
+pub enum Answer {
+    Length(usize),
+    Refused(Refusal),
+}

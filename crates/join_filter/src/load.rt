@@ -1,0 +1,32 @@
+// The call load.
+use crate::answers::Answer;
+use frame::refusals::Refusal;
+use frame::whole::Physical;
+use frame::whole::physical_frame;
+use plan_writer::copies::copy_bytes;
+use sedona_query_planner::arity::Arity;
+use sedona_query_planner::arity::check_arity;
+ghost use Rattle.join_filter.specs.Outcomes.{LoadIs};
+
+// Copies a good frame to the plan's start and gives its length; reads nothing of the old plan.
+pub fn load(plan: &mut [u8], frame: &[u8]) -> Answer
+    ensures { λ r. ⌜ LoadIs (now (frame .entry)) (now (plan .entry)) (now (plan .exit)) r ⌝ }
+{
+    match physical_frame(frame) {
+        Physical::Refused(why) => Answer::Refused(why),
+        Physical::Good(f) => {
+            let root = f.root;
+            match check_arity(frame, root) {
+                Arity::Short => Answer::Refused(Refusal::TooFewArguments),
+                Arity::Enough(_) => {
+                    let n = frame.len();
+                    if plan.len() < n {
+                        return Answer::Refused(Refusal::BufferTooShort);
+                    }
+                    copy_bytes(plan, frame, 0, n);
+                    Answer::Length(n)
+                }
+            }
+        }
+    }
+}
