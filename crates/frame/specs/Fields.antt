@@ -3,7 +3,7 @@ use Prim.Native.Nat.{ℕ, _≤_}
 use mathlib.Core.Path.{_≡_}
 use mathlib.Core.List.{List}
 use lib.ListN.{length, drop}
-use Rattle.definitions.specs.Readers.{read, stopped, Reader, continue, _>>_, byteUpTo, number}
+use Rattle.definitions.specs.Readers.{read, stopped, Reader, _>>_, byteUpTo, number}
 use Rattle.definitions.specs.Expression as tree
 use Rattle.frame.specs.Refusals.{numberOf}
 use Rattle.frame.specs.declared.fields.Field.{Field}

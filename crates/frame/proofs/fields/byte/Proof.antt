@@ -1,3 +1,4 @@
+-- The byte at a place is the first of those left there.
 use Rattle.frame.proofs.Reading.{there, missing}
 use borrow.Author.Needs.{needs}
 use Rattle.frame.proofs.fields.byte.Statement.{statement}

@@ -1,5 +1,5 @@
-use Rattle.definitions.proofs.ReaderLaws.{after, passes}
-use Rattle.definitions.proofs.ReaderLaws.{halts, fails}
+-- A byte, tested against its least and then its greatest value.
+use Rattle.definitions.proofs.ReaderLaws.{after, halts, passes, fails}
 use Rattle.frame.proofs.Reading.{within, below, above}
 use mathlib.Core.Path.{_∙_}
 use Rattle.definitions.specs.Readers.{byteBetween}

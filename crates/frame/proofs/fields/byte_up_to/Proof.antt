@@ -1,8 +1,8 @@
+-- A byte, tested against its greatest value.
 use mathlib.Core.Path.{_∙_}
 use borrow.Author.Tests.{le-leb, lt-leb}
 use Rattle.definitions.specs.Readers.{byteUpTo}
-use Rattle.definitions.proofs.ReaderLaws.{after, passes}
-use Rattle.definitions.proofs.ReaderLaws.{halts, fails}
+use Rattle.definitions.proofs.ReaderLaws.{after, halts, passes, fails}
 use borrow.Author.Needs.{needs}
 use Rattle.frame.proofs.fields.byte_up_to.Statement.{statement}
 use Rattle.frame.proofs.fields.byte_up_to.Tie as tie

@@ -1,3 +1,4 @@
+-- The loop has read the first digits, and the rest are left to read from the place reached.
 use borrow.Author.Needs.{needs}
 use Prim.Native.Nat.{_-_}
 use native.Mathlib.Omega.{arith}

@@ -1,3 +1,4 @@
+-- The ranges of the arms are the definition's tests.
 use native.Mathlib.Omega.{arith}
 use borrow.Author.Tests.{le-leb, lt-leb}
 use Rattle.definitions.specs.Decode.{allowedKind}

@@ -1,3 +1,4 @@
+-- Each mode's arm is its column.
 use Rattle.definitions.specs.Decode.{anyColumn}
 use borrow.Author.Needs.{needs}
 use Rattle.frame.proofs.heads.any_column_head.Statement.{statement}

@@ -1,8 +1,8 @@
+-- Name length, name and argument count, each from where the last ended, and then so many arguments.
 use mathlib.Core.Path.{_∙_}
 use Rattle.definitions.specs.Expression.{call}
 use Rattle.definitions.specs.Decode.{callNode}
-use Rattle.definitions.proofs.ReaderLaws.{after}
-use Rattle.definitions.proofs.ReaderLaws.{halts}
+use Rattle.definitions.proofs.ReaderLaws.{after, halts}
 use borrow.Author.Needs.{needs}
 use Rattle.frame.proofs.heads.call_head.Statement.{statement}
 use Rattle.frame.proofs.heads.call_head.Tie as tie

@@ -1,3 +1,4 @@
+-- Each kind's arm is its line of the definition.
 use Rattle.frame.specs.Nodes.{columnsOf}
 use Rattle.definitions.specs.Decode.{nodeOfKind}
 use Rattle.frame.proofs.Children.{column-kind}

@@ -1,8 +1,9 @@
+-- A number of two bytes, tested against 256.
+use native.Mathlib.Omega.{arith}
 use mathlib.Core.Path.{_∙_}
 use borrow.Author.Tests.{le-leb, lt-leb}
 use Rattle.definitions.specs.Decode.{recordCount}
-use Rattle.definitions.proofs.ReaderLaws.{after, passes}
-use Rattle.definitions.proofs.ReaderLaws.{halts, fails}
+use Rattle.definitions.proofs.ReaderLaws.{after, halts, passes, fails}
 use borrow.Author.Needs.{needs}
 use Rattle.frame.proofs.records.record_count.Statement.{statement}
 use Rattle.frame.proofs.records.record_count.Tie as tie
@@ -14,14 +15,16 @@ returns c n = halts _ ((rw (c .before .why .given .1) at (c .before .before .bef
 returns-2 : tie.Need-returns-2
 unfolding recordCount
 returns-2 c =
-    let many = rw (c .before .before .value .given .1) at (c .before .before .before .before .number .ensures) in
-    (many .0, λ n. after _ (many .1 n) ∙ passes 4 _ n _ (le-leb _ _ (c .if1 .taken)))
+    let p = c .before .before in
+    let many = rw (p .value .given .1) at (p .before .before .number .ensures) in
+    (many .0, λ n. after _ (many .1 n) ∙ passes 4 _ n _ (le-leb (p .value .given .0 .0) 256 (omega arith)))
 
 returns-3 : tie.Need-returns-3
 unfolding recordCount
 returns-3 c n =
-    let many = rw (c .before .before .value .given .1) at (c .before .before .before .before .number .ensures) in
-    after _ (many .1 n) ∙ fails 4 _ n _ (lt-leb _ _ (c .if1 .left))
+    let p = c .before .before in
+    let many = rw (p .value .given .1) at (p .before .before .number .ensures) in
+    after _ (many .1 n) ∙ fails 4 _ n _ (lt-leb (p .value .given .0 .0) 256 (omega arith))
 
 pub record-count-spec : {M : Type 1} → statement M
 record-count-spec =

@@ -1,3 +1,4 @@
+-- One record and then the others: what is right for those left is right for all.
 use borrow.Author.Needs.{needs}
 use native.Mathlib.Omega.{arith}
 use Prim.Native.Nat.{_≤_}

@@ -1,3 +1,4 @@
+-- A node is its kind, its head and a row of children; a row is a node and the rest of the row. Nodes left to count fall with each node.
 use Rattle.frame.specs.Nodes.{columnsOf}
 use Rattle.definitions.specs.Decode as decode
 use borrow.Author.Needs.{needs}
@@ -52,7 +53,8 @@ node-returns t c =
 node-returns-2 : (t : ℕ) → node-lts.Need-returns-2 (node-claims t) (node-at t) node.Post
 node-returns-2 t c =
     let kind = rw (c .before .before .before .kind .given .1) at (c .before .before .before .before .before .node-kind .ensures) in
-    (too-many _ _ _ _ _ (kind .1 _) _ (c .if2 .taken), tt)
+    let a = c .before .before .before .before .before .before .before .args in
+    (too-many _ (a .count) _ _ _ (kind .1 _) _ (omega arith), tt)
 
 node-head-of-kind-requires : (t : ℕ) → node-lts.Need-head-of-kind-requires (node-claims t) (node-at t) node.Post
 node-head-of-kind-requires t c κs = (rw (c .before .before .before .kind .given .1) at (c .before .before .before .before .before .node-kind .ensures)) .0

@@ -8,7 +8,7 @@ returns : tie.Need-returns
 returns c = empty-refused _ (c .if1 .taken)
 
 returns-2 : tie.Need-returns-2
-returns-2 c = long-refused _ (omega arith) (c .if2 .taken)
+returns-2 c = long-refused _ (omega arith) (omega arith)
 
 returns-3 : tie.Need-returns-3
 returns-3 c = length-passes _ (omega arith) (omega arith) (c .byte .result) (c .byte .ensures)
