@@ -9,3 +9,4 @@ pub mod NameLaws
 pub mod WordLaws
 pub mod Parts
 pub mod Reading
+pub mod There

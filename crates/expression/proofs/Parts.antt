@@ -1,5 +1,5 @@
 -- Laws of what `node_at` found: where a node's children stand, and where the node ends.
-use Prim.Native.Nat.{ℕ, _+_, _-_, _≤_}
+use Prim.Native.Nat.{ℕ, _+_, _-_, _≤_, _<_}
 use native.Mathlib.Omega.{arith}
 use mathlib.Core.Path.{_≡_, sym, ap, _∙_}
 use mathlib.Core.List.{List}
@@ -7,10 +7,10 @@ use lib.ListN.{length, length-append}
 use Rattle.definitions.specs.Expression.{Expr, Exprs, nil, cons, count}
 use Rattle.definitions.specs.Encode.{exprBytes, exprsBytes}
 use Rattle.definitions.specs.Decode.{Columns}
-use Rattle.expression.specs.Nodes.{headBytes, childrenOf, Stands, Row, OfTree}
+use Rattle.expression.specs.Nodes.{headBytes, childrenOf, Stands, Row, Tree, OfTree}
 use Rattle.expression.specs.Leaves.{Both, CallIs}
 use Rattle.expression.specs.declared.leaves.Called.{Called}
-use Rattle.expression.proofs.Standing.{tree-length, first-stands, rest-stands, some-children}
+use Rattle.expression.proofs.Standing.{tree-length, node-some, after-head, first-stands, rest-stands, some-children}
 
 -- A node ends where the row of its children does.
 pub row-ends : (t : Expr) (at first r : ℕ) → first ≡ at + length (headBytes t) → r ≡ first + length (exprsBytes (childrenOf t)) → r ≡ at + length (exprBytes t)
@@ -59,6 +59,16 @@ module _ {build : Expr → Expr → Expr} {c : Columns} {s : List ℕ} {at first
 
   pub both-ends : (p r : ℕ) → OfTree s first (λ l. p ≡ first + length (exprBytes l)) → OfTree s p (λ k. r ≡ p + length (exprBytes k)) → r ≡ at + length (exprBytes t)
   both-ends p r ends end = both-end r (pair-ends (b .row) p r ends end)
+
+-- What a walk to the children requires, where the bytes left fall.
+module _ {build : Expr → Expr → Expr} {c : Columns} {s : List ℕ} {at first : ℕ} {t : Expr} (st : Stands c s at t) (b : Both build c s at first t)
+    {m : ℕ} (e : length s - at ≡ m) where
+  pub left-there : (length s - first < m) × Tree s first
+  left-there = (omega (arith, node-some st, after-head st first (b .begins)), (c, b .l, left-stands b))
+
+  pub right-there : (p : ℕ) → OfTree s first (λ l. p ≡ first + length (exprBytes l)) → (length s - p < m) × Tree s p
+  right-there p ends =
+      (omega (arith, node-some st, after-head st first (b .begins), ends c (b .l) (left-stands b)), (c, b .r, right-stands b p ends))
 
 module _ {c : Columns} {s : List ℕ} {at : ℕ} {k : Called} {t : Expr} (b : CallIs c s at k t) where
   pub call-end : (r : ℕ) → r ≡ k .first + length (exprsBytes (b .arguments)) → r ≡ at + length (exprBytes t)

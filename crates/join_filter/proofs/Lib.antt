@@ -1,2 +1,7 @@
 pub mod Standing
 pub mod Loading
+pub mod Naming
+pub mod Keeping
+pub mod Exchanging
+pub mod Taking
+pub mod Extracting

@@ -1,3 +1,4 @@
 -- What the contracts cite.
 pub mod Good
 pub mod Outcomes
+pub mod Extractions

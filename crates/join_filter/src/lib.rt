@@ -1,4 +1,8 @@
 // The calls of the join filter planner: what a host calls.
 pub mod answers;
+pub mod exchange;
+pub mod extract;
+pub mod extraction;
 pub mod held;
 pub mod load;
+pub mod logical;

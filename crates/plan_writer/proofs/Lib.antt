@@ -7,3 +7,10 @@ pub mod NumberLaws
 pub mod TableLaws
 pub mod AroundLaws
 pub mod ReferenceWalk
+pub mod CutLaws
+pub mod RecordLaws
+pub mod RemainderWalk
+pub mod FlagLaws
+pub mod RemainderLaws
+pub mod PredicateLaws
+pub mod ExtractionLaws

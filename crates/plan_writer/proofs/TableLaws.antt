@@ -60,10 +60,11 @@ pub table-copies : {new : ℕ → ℕ} {count : ℕ} {to : List ℕ} → Table n
     → copyOf to t ≡ exprBytes (mapColumns new t)
 table-copies {new} {count} {to} h t range = ap exprBytes (map-agrees count (λ i. getD to i 0) new (h .entry) t range)
 
-pub children-copied : (records : List Record) {to : List ℕ} → Table (childOf records) (length records) to → (t : Expr) → InRange (indexBelow (length records)) t
-    → copyOf to t ≡ exprBytes (onChild records t)
+-- Child indexes put it on its child, the columns' own leave it as it is.
+pub children-copied : {s : List ℕ} {rec count : ℕ} (to : List ℕ) → ChildTable s rec count to → {records : List Record} → Entries s rec count records
+    → (t : Expr) → InRange (indexBelow count) t → copyOf to t ≡ exprBytes (onChild records t)
 unfolding onChild
-children-copied records h t range = table-copies h t range
+children-copied to h {records} entries t range = table-copies (h records entries) t range
 
 pub own-copied : {count : ℕ} {to : List ℕ} → Table (λ j. j) count to → (t : Expr) → InRange (indexBelow count) t → copyOf to t ≡ exprBytes t
 own-copied h t range = table-copies h t range ∙ ap exprBytes (map-same t)

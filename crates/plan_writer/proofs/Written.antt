@@ -2,10 +2,10 @@
 use Prim.Native.Nat.{ℕ, suc, _+_, _-_, _≤_, _<_}
 use native.Mathlib.Omega.{arith}
 use native.Mathlib.Numerals.{add-one}
-use native.Mathlib.Nat.{zero-add}
+use native.Mathlib.Nat.{zero-add, add-zero}
 use mathlib.Core.Path.{_≡_, refl, sym, ap, ap₂, _∙_}
 use mathlib.Core.List.{List, [], _∷_, _++_, append-assoc, append-nil}
-use lib.ListN.{length, take, drop, getD, set, length-append, length-drop, length-take, drop-of-length-le}
+use lib.ListN.{length, take, drop, getD, set, length-append, length-set, length-drop, length-take, drop-of-length-le, take-append-drop}
 use lib.Seq.{drop-cons, take-suc, append-snoc, set-at, set-split, length-take-le, take-all, take-at, drop-at, drop-drop, take-append-seam}
 use Rattle.expression.specs.Places.{Holds}
 use Rattle.plan_writer.specs.Written.{Wrote, WroteAt}
@@ -33,6 +33,10 @@ copied-wrote {s} {x} before {after} {at} n h e is =
 
 -- ---- one part after another
 
+pub nothing-wrote : (before : List ℕ) (w : ℕ) → WroteAt w [] before before w
+nothing-wrote before w =
+    record { ends = sym (add-zero w); out = sym (take-append-drop w before) ∙ ap (λ (k : ℕ). take w before ++ drop k before) (sym (add-zero w)) }
+
 -- A store writes one byte.
 pub store : (before : List ℕ) (w b : ℕ) → w < length before → WroteAt w (b ∷ []) before (set before w b) (w + 1)
 store before w b room = record { ends = refl; out = set-split before w b room ∙ ap (λ (k : ℕ). take w before ++ (b ∷ drop k before)) (sym (add-one w)) }
@@ -54,6 +58,28 @@ chain {a} {b} {r} {x} {y} {before} {middle} {after} room one two =
       ends = simp length-append (omega (arith, one .ends, two .ends));
       out = two .out ∙ ap₂ _++_ front (ap (λ (l : List ℕ). y ++ l) kept) ∙ append-assoc (take a before) x (y ++ drop (a + length (x ++ y)) before)
           ∙ ap (λ (l : List ℕ). take a before ++ l) (sym (append-assoc x y (drop (a + length (x ++ y)) before)));
+    }
+
+pub two-stores : (before : List ℕ) (w a b : ℕ) → w + 2 ≤ length before → WroteAt w (a ∷ b ∷ []) before (set (set before w a) (w + 1) b) (w + 1 + 1)
+two-stores before w a b room = chain (omega arith) (store before w a (omega arith)) (store (set before w a) (w + 1) b (simp length-set (omega arith)))
+
+pub three-stores : (before : List ℕ) (w a b c : ℕ) → w + 3 ≤ length before
+    → WroteAt w (a ∷ b ∷ c ∷ []) before (set (set (set before w a) (w + 1) b) (w + 1 + 1) c) (w + 1 + 1 + 1)
+three-stores before w a b c room =
+    chain (omega arith) (two-stores before w a b (omega arith)) (store (set (set before w a) (w + 1) b) (w + 1 + 1) c (simp length-set (omega arith)))
+
+-- x may also be written to the start once y is written after it.
+pub under : {w r : ℕ} {x y before middle after : List ℕ} → w ≤ length before → WroteAt w y before middle r → WroteAt 0 x middle after w → WroteAt 0 (x ++ y) before after r
+under {w} {r} {x} {y} {before} {middle} {after} room first second =
+    let size : length x ≡ w = omega (arith, second .ends) in
+    let start : 0 + length x ≡ w = omega arith in
+    let both : w + length y ≡ 0 + length (x ++ y) = simp length-append (omega arith) in
+    let rest : drop (0 + length x) middle ≡ y ++ drop (0 + length (x ++ y)) before =
+    ap₂ drop start (first .out) ∙ drop-at (take w before) (y ++ drop (w + length y) before) w (length-take-le w before room)
+    ∙ ap (λ (k : ℕ). y ++ drop k before) both in
+    record {
+      ends = simp length-append (omega (arith, first .ends, size));
+      out = second .out ∙ ap (λ (l : List ℕ). x ++ l) rest ∙ sym (append-assoc x y (drop (0 + length (x ++ y)) before));
     }
 
 -- What was written from 0 on was written to the start.

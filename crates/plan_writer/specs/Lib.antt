@@ -4,3 +4,6 @@ pub mod Copies
 pub mod Tables
 pub mod Cuts
 pub mod References
+pub mod Records
+pub mod Remainders
+pub mod Predicates

@@ -2,5 +2,8 @@
 pub mod copies;
 pub mod cuts;
 pub mod numbers;
+pub mod predicates;
+pub mod records;
 pub mod references;
+pub mod remainder;
 pub mod tables;

@@ -14,8 +14,8 @@ use Rattle.definitions.specs.Encode.{exprBytes}
 use Rattle.definitions.specs.Leaves.{compares, noComparison, comparison, distanceArguments}
 use Rattle.definitions.specs.Decode.{Columns}
 use Rattle.expression.specs.Places.{part}
-use Rattle.expression.specs.Nodes.{kindOf, Row, OfTree}
-use Rattle.expression.specs.Leaves.{CallIs}
+use Rattle.expression.specs.Nodes.{kindOf, Row, Tree, OfTree}
+use Rattle.expression.specs.Leaves.{Pair, CallIs}
 use Rattle.expression.specs.declared.leaves.Called.{Called}
 use Rattle.expression.proofs.Standing.{first-stands}
 use Rattle.expression.proofs.Parts.{pair-right}
@@ -52,6 +52,13 @@ module _ {c : Columns} {s : List ℕ} {left : ℕ} {l r : Expr} (row : Row c s l
 
   pub sides-missing : answer ≡ Nothing → ComparisonIs operator left right answer → comparison operator l r ≡ noComparison
   sides-missing e is = rw e at (is c s l r (first-stands row) (pair-right row right ends))
+
+-- So there is something to measure.
+pub measured-there : {s : List ℕ} {left : ℕ} (pair : Pair s left) (right : ℕ) → OfTree s left (λ t. right ≡ left + length (exprBytes t))
+    → (operator : ℕ) {answer : Compared} {measured bound : ℕ} → answer ≡ Sides measured bound → ComparisonIs operator left right answer → Tree s measured
+measured-there pair right ends operator e is =
+    let sides = sides-found (pair .3) right ends operator e is in
+    (pair .0, sides .m, sides .standsMeasured)
 
 pub no-arguments : (t : Expr) → (kindOf t ≡ 3 → ⊥) → distanceArguments t ≡ none
 unfolding kindOf distanceArguments

@@ -2,3 +2,6 @@
 pub mod RelationNames
 pub mod AndLeaves
 pub mod ArityLaws
+pub mod NameMasks
+pub mod NameWalk
+pub mod QueryWalk

@@ -1,3 +1,4 @@
 -- What the contracts cite, in the order to read them.
 pub mod Relations
 pub mod Arities
+pub mod Logicals

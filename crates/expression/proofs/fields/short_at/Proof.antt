@@ -27,8 +27,7 @@ short-at-spec =
     (λ c. search needs)
     cast-result
     mul-result
-    (λ c. search needs)
-    (λ c. search needs)
+    (λ c. search needs) (λ c. search needs)
     cast-result-2
     add-result-2
     (λ c. search needs))

@@ -60,10 +60,7 @@ head-at-spec =
     tie.close
     (tie.spec
     shared-slice-read-match
-    (λ c. search needs)
-    (λ c. search needs)
-    (λ c. search needs)
-    (λ c. search needs)
+    (λ c. search needs) (λ c. search needs) (λ c. search needs) (λ c. search needs)
     shared-slice-read-name
     cast-name
     add-count
@@ -71,8 +68,7 @@ head-at-spec =
     add-t12
     shared-slice-read-t14
     cast-t16
-    (λ c. search needs)
-    (λ c. search needs)
+    (λ c. search needs) (λ c. search needs)
     shared-slice-read-t20
     cast-t21
     (λ c. search needs)

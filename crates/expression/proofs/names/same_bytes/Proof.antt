@@ -55,12 +55,8 @@ same-bytes-spec =
     (λ c. search needs)
     returns
     (λ c. (omega arith, refl))
-    (λ c. omega arith)
-    (λ c. omega arith)
-    (λ c κs. search needs)
-    (λ c. omega arith)
+    (λ c. omega arith) (λ c. omega arith) (λ c κs. search needs) (λ c. omega arith)
     returns-2
-    (λ c. omega arith)
-    (λ c. omega arith)
+    (λ c. omega arith) (λ c. omega arith)
     loop-again
     returns-3)

@@ -2,6 +2,7 @@
 use borrow.Author.Needs.{needs}
 use Rattle.definitions.specs.Basics.{ascii}
 use Rattle.expression.proofs.LeafLaws.{no-call}
+use Rattle.expression.proofs.There.{call-there, name-there}
 use Rattle.sedona_expr.proofs.Comparing.{no-arguments, distance-found, distance-other}
 use Rattle.sedona_expr.proofs.utils.distance_arguments.Statement.{statement}
 use Rattle.sedona_expr.proofs.utils.distance_arguments.Tie as tie
@@ -12,9 +13,7 @@ returns c = λ d t h. no-arguments t (no-call h (c .before .node-at .result) (c 
 same-name-requires : tie.Need-same-name-requires
 same-name-requires c κs =
     let arm = c .before .before in
-    let tree = arm .before .before .before .before .pre in
-    let call = rw (arm .call .given .1) at (arm .before .before .node-at .ensures (tree .0) (tree .1) (tree .2)) in
-    (call .stands .low, call .stands .high)
+    name-there (call-there (arm .before .before .before .before .pre) (arm .before .before .node-at .ensures) (arm .call .given .1))
 
 returns-2 : tie.Need-returns-2
 unfolding ascii
@@ -34,8 +33,7 @@ pub distance-arguments-spec : {M : Type 1} → statement M
 distance-arguments-spec =
     tie.close
     (tie.spec
-    (λ c κs. search needs)
-    (λ c. search needs)
+    (λ c κs. search needs) (λ c. search needs)
     returns
     (λ c. search needs)
     same-name-requires

@@ -6,17 +6,15 @@ use Rattle.definitions.specs.Leaves.{comparison}
 use Rattle.definitions.specs.Decode.{Columns}
 use Rattle.expression.specs.Nodes.{Row}
 use Rattle.sedona_expr.specs.Parsed.{BothSides}
-use Rattle.expression.proofs.Standing.{first-stands}
+use Rattle.expression.proofs.There.{first-of-pair}
 use Rattle.expression.proofs.EndWalk.{first-there}
-use Rattle.sedona_expr.proofs.Comparing.{sides-found, sides-missing}
+use Rattle.sedona_expr.proofs.Comparing.{sides-found, sides-missing, measured-there}
 use Rattle.sedona_expr.proofs.Distances.{not-compared, not-measured, too-few, compared-distance}
 use Rattle.sedona_expr.proofs.utils.parse_comparison.Statement.{statement}
 use Rattle.sedona_expr.proofs.utils.parse_comparison.Tie as tie
 
 end-node-requires : tie.Need-end-node-requires
-end-node-requires c κs =
-    let pair = c .before .pre in
-    (pair .0, pair .1, first-stands (pair .3))
+end-node-requires c κs = first-of-pair (c .before .pre)
 
 returns : tie.Need-returns
 returns c = λ d l r row.
@@ -34,9 +32,9 @@ sides c d l r row =
 
 distance-arguments-requires : tie.Need-distance-arguments-requires
 distance-arguments-requires c κs =
-    let pair = c .before .before .before .before .before .before .pre in
-    let both = sides c (pair .0) (pair .1) (pair .2) (pair .3) in
-    (pair .0, both .m, both .standsMeasured)
+    let ended = c .before .before .before .before in
+    measured-there (ended .before .before .pre) (ended .end-node .result) (ended .end-node .ensures) _ (c .before .measured .given .1)
+    (c .before .before .before .comparison .ensures)
 
 returns-2 : tie.Need-returns-2
 returns-2 c = λ d l r row.
@@ -69,13 +67,10 @@ parse-comparison-spec =
     tie.close
     (tie.spec
     end-node-requires
-    (λ c κs. search needs)
-    (λ c. search needs)
-    (λ c. search needs)
+    (λ c κs. search needs) (λ c. search needs) (λ c. search needs)
     returns
     distance-arguments-requires
-    (λ c. search needs)
-    (λ c. search needs)
+    (λ c. search needs) (λ c. search needs)
     returns-2
     returns-3
     end-node-requires-2

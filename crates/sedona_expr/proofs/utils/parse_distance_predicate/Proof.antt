@@ -1,5 +1,6 @@
 -- `parse_distance_predicate`: what a node asks for is what its operator or its name asks for; the other nodes ask for no distance.
 use borrow.Author.Needs.{needs}
+use Rattle.expression.proofs.There.{pair-there, call-there}
 use Rattle.sedona_expr.proofs.Distances.{plain-asks, and-asks, binary-asks, call-asks}
 use Rattle.sedona_expr.proofs.utils.parse_distance_predicate.Statement.{statement}
 use Rattle.sedona_expr.proofs.utils.parse_distance_predicate.Tie as tie
@@ -7,16 +8,12 @@ use Rattle.sedona_expr.proofs.utils.parse_distance_predicate.Tie as tie
 parse-comparison-requires : tie.Need-parse-comparison-requires
 parse-comparison-requires c κs =
     let arm = c .before in
-    let tree = arm .before .before .before .before .pre in
-    let pair = rw (arm .operator .given .1) at (arm .before .before .node-at .ensures (tree .0) (tree .1) (tree .2)) in
-    (tree .0, pair .l, pair .r, pair .row)
+    pair-there (arm .before .before .before .before .pre) (arm .before .before .node-at .ensures) (arm .operator .given .1)
 
 parse-dwithin-requires : tie.Need-parse-dwithin-requires
 parse-dwithin-requires c κs =
     let arm = c .before in
-    let tree = arm .before .before .before .before .pre in
-    let call = rw (arm .call .given .1) at (arm .before .before .node-at .ensures (tree .0) (tree .1) (tree .2)) in
-    (tree .0, call .name, call .arguments, call .stands)
+    call-there (arm .before .before .before .before .pre) (arm .before .before .node-at .ensures) (arm .call .given .1)
 
 returns : tie.Need-returns
 returns c = λ d t h.
@@ -40,13 +37,11 @@ pub parse-distance-predicate-spec : {M : Type 1} → statement M
 parse-distance-predicate-spec =
     tie.close
     (tie.spec
-    (λ c κs. search needs)
-    (λ c. search needs)
+    (λ c κs. search needs) (λ c. search needs)
     parse-comparison-requires
     (λ c. search needs)
     parse-dwithin-requires
-    (λ c. search needs)
-    (λ c. search needs)
+    (λ c. search needs) (λ c. search needs)
     returns
     returns-2
     returns-3

@@ -3,6 +3,7 @@ use borrow.Author.Needs.{needs}
 use borrow.Author.Tests.{not-true, not-false}
 use native.Mathlib.Omega.{arith}
 use Rattle.definitions.specs.Basics.{ascii}
+use Rattle.expression.proofs.There.{arguments-there}
 use Rattle.expression.proofs.EndWalk.{first-there, rest-there}
 use Rattle.sedona_expr.proofs.Distances.{not-dwithin, dwithin-too-few, dwithin-distance}
 use Rattle.sedona_expr.proofs.utils.parse_dwithin.Statement.{statement}
@@ -19,12 +20,12 @@ returns-2 c = λ d name args st. dwithin-too-few st (c .before .before .before .
 end-node-requires : tie.Need-end-node-requires
 end-node-requires c κs =
     let call = c .before .before .before .before .before .before .pre in
-    first-there (call .0, call .2, call .3 .row) (omega arith)
+    first-there (arguments-there call) (omega arith)
 
 end-node-requires-2 : tie.Need-end-node-requires-2
 end-node-requires-2 c κs =
     let call = c .before .before .before .before .before .before .before .pre in
-    first-there (rest-there (call .0, call .2, call .3 .row) (omega arith) (c .end-node .result) (c .end-node .ensures)) (omega arith)
+    first-there (rest-there (arguments-there call) (omega arith) (c .end-node .result) (c .end-node .ensures)) (omega arith)
 
 returns-3 : tie.Need-returns-3
 unfolding ascii
@@ -36,8 +37,7 @@ pub parse-dwithin-spec : {M : Type 1} → statement M
 parse-dwithin-spec =
     tie.close
     (tie.spec
-    (λ c. search needs)
-    (λ c κs. search needs)
+    (λ c. search needs) (λ c κs. search needs)
     returns
     returns-2
     end-node-requires

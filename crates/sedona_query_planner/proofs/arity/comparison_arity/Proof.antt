@@ -3,24 +3,21 @@ use mathlib.Core.Path.{sym, _∙_}
 use mathlib.Core.Logic.{⊎-elim}
 use borrow.Author.Needs.{needs}
 use borrow.Author.Tests.{not-true, not-false}
-use Rattle.expression.proofs.Standing.{first-stands}
-use Rattle.expression.proofs.Parts.{pair-right, pair-ends}
-use Rattle.sedona_expr.proofs.Comparing.{sides-found, sides-missing}
+use Rattle.expression.proofs.Parts.{pair-ends}
+use Rattle.expression.proofs.There.{first-of-pair, second-of-pair}
+use Rattle.sedona_expr.proofs.Comparing.{sides-found, sides-missing, measured-there}
 use Rattle.sedona_query_planner.proofs.ArityLaws.{not-asked, asked}
 use Rattle.sedona_query_planner.proofs.arity.comparison_arity.Statement.{statement}
 use Rattle.sedona_query_planner.proofs.arity.comparison_arity.Tie as tie
 
 end-node-requires : tie.Need-end-node-requires
-end-node-requires c κs =
-    let pair = c .before .pre in
-    (pair .0, pair .1, first-stands (pair .3))
+end-node-requires c κs = first-of-pair (c .before .pre)
 
 enough-to-measure-requires : tie.Need-enough-to-measure-requires
 enough-to-measure-requires c κs =
     let found = c .before .before .before in
-    let pair = found .before .before .before .pre in
-    let sides = sides-found (pair .3) (found .before .end-node .result) (found .before .end-node .ensures) _ (c .before .measured .given .1) (found .comparison .ensures) in
-    (pair .0, sides .m, sides .standsMeasured)
+    let right = found .before .end-node in
+    measured-there (found .before .before .before .pre) (right .result) (right .ensures) _ (c .before .measured .given .1) (found .comparison .ensures)
 
 returns : tie.Need-returns
 returns c = λ d l r row.
@@ -30,9 +27,7 @@ returns c = λ d l r row.
     asked _ l r sides ∙ sym (c .before .enough-to-measure .ensures d (sides .m) (sides .standsMeasured)) ∙ not-true _ (c .if1 .taken)
 
 end-node-requires-2 : tie.Need-end-node-requires-2
-end-node-requires-2 c κs =
-    let pair = c .before .before .before .before .pre in
-    (pair .0, pair .2, pair-right (pair .3) _ (c .before .before .end-node .ensures))
+end-node-requires-2 c κs = second-of-pair (c .before .before .before .before .pre) _ (c .before .before .end-node .ensures)
 
 returns-2 : tie.Need-returns-2
 returns-2 c = λ d l r row.
@@ -51,8 +46,7 @@ comparison-arity-spec =
     tie.close
     (tie.spec
     end-node-requires
-    (λ c κs. search needs)
-    (λ c. search needs)
+    (λ c κs. search needs) (λ c. search needs)
     enough-to-measure-requires
     returns
     (λ c. search needs)

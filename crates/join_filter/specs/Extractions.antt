@@ -1,0 +1,72 @@
+-- What the writer of an extraction is given, and what it writes.
+use Prim.Native.Nat.{ℕ, _≤_}
+use mathlib.Core.Path.{_≡_}
+use mathlib.Core.List.{List}
+use mathlib.Core.Option.{Option·map}
+use lib.ListN.{length, take}
+use Rattle.definitions.specs.Basics.{ok}
+use Rattle.definitions.specs.Expression as tree
+use Rattle.definitions.specs.Encode.{extractionBytes}
+use Rattle.definitions.specs.Decode.{indexBelow}
+use Rattle.definitions.specs.Plans.{planOf}
+use Rattle.definitions.specs.Extract.{without, prune}
+use Rattle.expression.specs.Nodes.{Stands}
+use Rattle.frame.specs.Frames.{FrameAt}
+use Rattle.frame.specs.declared.whole.Frame.{Frame}
+use Rattle.spatial_expr_utils.specs.Matches.{PredicateIs}
+use Rattle.spatial_expr_utils.specs.Picks.{PickIs}
+use Rattle.spatial_expr_utils.specs.declared.predicates.SpatialPredicate.{SpatialPredicate}
+use Rattle.spatial_expr_utils.specs.declared.pick.Parent.{Parent}
+use Rattle.spatial_expr_utils.specs.declared.pick.Parent.the-variants.{Root, And}
+use Rattle.spatial_expr_utils.specs.declared.pick.Pick.{Pick}
+use Rattle.plan_writer.specs.Written.{Wrote}
+use Rattle.plan_writer.specs.Tables.{Entries}
+use Rattle.plan_writer.specs.declared.cuts.Cut.{Cut}
+
+-- The predicate q is what p says, over `count` records that stand at their place.
+pub record PredicateOf (s : List ℕ) (rec count : ℕ) (p : SpatialPredicate) (q : tree.Predicate) : Type 0 where
+  pub records : List tree.Record
+  pub entries : Entries s rec count records
+  pub few : count ≤ 256
+  pub stands : PredicateIs s rec records p q
+
+-- The place of a parent And; a leaf without one has none, and 0 stands in.
+abbrev pub parentPlace : Parent → ℕ
+parentPlace Root = 0
+parentPlace (And at) = at
+
+-- The cut that a pick makes.
+pub record CutOf (p : Pick) (cut : Cut) : Type 0 where
+  pub leaf : cut .leaf ≡ p .leaf
+  pub end : cut .end ≡ p .«leaf_end»
+  pub parent : cut .parent ≡ parentPlace (p .parent)
+
+-- The frame F stands in s, and the pick takes its leaf at the pick's position, which is the predicate q.
+pub record Taking (s : List ℕ) (f : Frame) (p : Pick) (F : tree.Frame) (q : tree.Predicate) : Type 0 where
+  pub entries : Entries s (f .records) (f .columns) (F .records)
+  pub few : f .columns ≤ 256
+  pub expr : Stands (indexBelow (length (F .records))) s (f .root) (F .expr)
+  pub taken : PickIs s (f .records) (f .root) Root p (F .records) (F .expr) (p .position) q
+
+-- The extraction that it takes.
+abbrev pub takes : tree.Frame → Pick → tree.Predicate → tree.Extraction
+takes F p q = record { predicate = q; remainder = Option·map (prune (F .records)) (without (p .position) (F .expr)) }
+
+-- There is one such, and room for it; each such was written.
+pub record ExtractionFits (s : List ℕ) (f : Frame) (p : Pick) (out : List ℕ) : Type 0 where
+  pub frame : tree.Frame
+  pub predicate : tree.Predicate
+  pub taking : Taking s f p frame predicate
+  pub room : length (extractionBytes (takes frame p predicate)) ≤ length out
+
+abbrev pub ExtractionPut : (s : List ℕ) (f : Frame) (p : Pick) (before after : List ℕ) → ℕ → Type 0
+ExtractionPut s f p before after answer =
+    (F : tree.Frame) (q : tree.Predicate) → Taking s f p F q
+    → (answer ≡ length (extractionBytes (takes F p q))) × Wrote (extractionBytes (takes F p q)) before after
+
+-- The plan's first n bytes are a good frame, which stands there.
+pub record HoldsFrame (n : ℕ) (plan : List ℕ) (f : Frame) : Type 0 where
+  pub frame : tree.Frame
+  pub fits : n ≤ length plan
+  pub stands : FrameAt (take n plan) f (length (take n plan)) frame
+  pub is : planOf (take n plan) ≡ ok (tree.held frame)

@@ -1,0 +1,44 @@
+// The call extract.
+use crate::answers::Answer;
+use crate::extraction::put_extraction;
+use crate::held::good_plan;
+use frame::plans::Held;
+use frame::refusals::Refusal;
+use frame::whole::Frame;
+use plan_writer::copies::copy_bytes;
+use spatial_expr_utils::pick::Picked;
+use spatial_expr_utils::pick::extract_spatial_predicate;
+ghost use Rattle.definitions.specs.Calls as definitions;
+ghost use Rattle.join_filter.specs.Outcomes.{OutcomeIs};
+ghost use Rattle.join_filter.specs.Extractions.{HoldsFrame};
+
+// A held frame: copies it to the scratch, then writes its extraction over the plan's start.
+fn extract_frame(plan: &mut [u8], n: usize, scratch: &mut [u8], f: Frame) -> Answer
+    requires { ⌜ HoldsFrame n (now plan) f ⌝ }
+    ensures { λ r. ⌜ OutcomeIs (definitions.extract n (now (plan .entry)) (now (scratch .entry))) n (now (plan .exit)) (now (scratch .exit)) r ⌝ }
+{
+    if scratch.len() < n {
+        return Answer::Refused(Refusal::BufferTooShort);
+    }
+    match extract_spatial_predicate(&plan[..n], f.records, f.root) {
+        Picked::Nothing => Answer::Refused(Refusal::NoLeafMatches),
+        Picked::Leaf(pick) => {
+            copy_bytes(scratch, plan, 0, n);
+            Answer::Length(put_extraction(plan, &scratch[..n], f, pick))
+        }
+    }
+}
+
+pub fn extract(plan: &mut [u8], n: usize, scratch: &mut [u8]) -> Answer
+    ensures { λ r. ⌜ OutcomeIs (definitions.extract n (now (plan .entry)) (now (scratch .entry))) n (now (plan .exit)) (now (scratch .exit)) r ⌝ }
+{
+    if plan.len() < n {
+        return Answer::Refused(Refusal::NoGoodPlan);
+    }
+    match good_plan(&plan[..n]) {
+        Held::Bad => Answer::Refused(Refusal::NoGoodPlan),
+        Held::Empty => Answer::Refused(Refusal::PlanEmpty),
+        Held::Extraction(_) => Answer::Refused(Refusal::AlreadyExtracted),
+        Held::Frame(f) => extract_frame(plan, n, scratch, f),
+    }
+}

@@ -1,0 +1,8 @@
+-- Laws that several proofs use.
+pub mod Sequence
+pub mod SideLaws
+pub mod SpanLaws
+pub mod RecordLaws
+pub mod Views
+pub mod FrameViews
+pub mod HeldLaws

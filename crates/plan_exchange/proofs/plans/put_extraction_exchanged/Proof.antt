@@ -1,0 +1,60 @@
+-- `put_extraction_exchanged`: the exchanged predicate, and the remainder where it ended.
+use native.Mathlib.Omega.{arith}
+use borrow.Author.Needs.{needs}
+use Rattle.plan_exchange.specs.Exchanged.{remainderExchanged}
+use Rattle.plan_exchange.proofs.Sequence.{from-zero, part-room, part-put, ends-within, first-room, second-room, both-put, stored-room, stored-put}
+use Rattle.plan_exchange.proofs.FrameViews.{extraction-view}
+use Rattle.plan_exchange.proofs.plans.put_extraction_exchanged.Statement.{statement}
+use Rattle.plan_exchange.proofs.plans.put_extraction_exchanged.Tie as tie
+
+swap-for-swapped-children-requires : tie.Need-swap-for-swapped-children-requires
+swap-for-swapped-children-requires c κs =
+    let start = c .before .before .before in
+    first-room remainderExchanged (stored-room (extraction-view (start .args .end) (start .args .x)) (start .pre))
+
+sub-put-remainder-exchanged : tie.Need-sub-put-remainder-exchanged
+sub-put-remainder-exchanged c =
+    let one = c .before .before .swap-for-swapped-children in
+    let start = c .before .before .before .before .before .before in
+    let room = stored-room (extraction-view (start .args .end) (start .args .x)) (start .pre) in
+    omega (arith, one .kept .0, ends-within (first-room remainderExchanged room) (from-zero (one .ensures)))
+
+part-put-remainder-exchanged-start : tie.Need-part-put-remainder-exchanged-start
+part-put-remainder-exchanged-start c = omega (arith, sub-put-remainder-exchanged c)
+
+put-remainder-exchanged-requires : tie.Need-put-remainder-exchanged-requires
+put-remainder-exchanged-requires c κs =
+    let one = c .before .before .before .swap-for-swapped-children in
+    let start = c .before .before .before .before .before .before .before in
+    part-room (second-room (stored-room (extraction-view (start .args .end) (start .args .x)) (start .pre)) (from-zero (one .ensures)) (one .kept .0))
+
+add-result : tie.Need-add-result
+add-result c =
+    let rest = c .before .before .put-remainder-exchanged in
+    let at-one = c .before .before .before .before .before .before in
+    let one = at-one .swap-for-swapped-children in
+    let start = at-one .before .before .before .before in
+    let room = second-room (stored-room (extraction-view (start .args .end) (start .args .x)) (start .pre)) (from-zero (one .ensures)) (one .kept .0) in
+    omega (arith, start .good, one .kept .0, ends-within room (part-put (one .last .0) (rest .last .0) (one .result) (rest .ensures)))
+
+returns : tie.Need-returns
+returns c =
+    let rest = c .before .before .put-remainder-exchanged in
+    let at-one = c .before .before .before .before .before .before in
+    let one = at-one .swap-for-swapped-children in
+    let start = at-one .before .before .before .before in
+    stored-put (extraction-view (start .args .end) (start .args .x)) (start .pre)
+    (both-put (omega arith) (from-zero (one .ensures)) (part-put (one .last .0) (rest .last .0) (one .result) (rest .ensures)))
+
+pub put-extraction-exchanged-spec : {M : Type 1} → statement M
+put-extraction-exchanged-spec =
+    tie.close
+    (tie.spec
+    swap-for-swapped-children-requires
+    sub-put-remainder-exchanged
+    part-put-remainder-exchanged-start
+    (λ c. search needs)
+    put-remainder-exchanged-requires
+    add-result
+    (λ c. search needs)
+    returns)

@@ -1,0 +1,40 @@
+-- `swap_relation`: kind and the inverse's number, then right and left.
+use native.Mathlib.Omega.{arith}
+use borrow.Author.Needs.{needs}
+use mathlib.Core.Path.{_∙_}
+use lib.ListN.{length-set}
+use Rattle.frame.specs.Predicates.{relationOf}
+use Rattle.plan_exchange.proofs.Sequence.{stored-room, stored-put}
+use Rattle.plan_exchange.proofs.Views.{relation-view, relation-fits}
+use Rattle.plan_exchange.proofs.predicates.swap_relation.Statement.{statement}
+use Rattle.plan_exchange.proofs.predicates.swap_relation.Tie as tie
+
+copy-both-requires : tie.Need-copy-both-requires
+copy-both-requires c κs =
+    let inverse = c .before .invert-number in
+    let number = c .before .before .relation-number in
+    let start = c .before .before .before .before .before in
+    let p = start .args .p in
+    stored-room (relation-view p (inverse .result) (inverse .ensures (relationOf (p .relation)) (number .ensures))) (start .pre)
+
+returns : tie.Need-returns
+returns c =
+    let at-inverse = c .before .before .before .before in
+    let inverse = at-inverse .invert-number in
+    let number = at-inverse .before .relation-number in
+    let start = at-inverse .before .before .before .before in
+    let p = start .args .p in
+    stored-put (relation-view p (inverse .result) (inverse .ensures (relationOf (p .relation)) (number .ensures))) (start .pre)
+    (c .before .before .copy-both .ensures)
+
+pub swap-relation-spec : {M : Type 1} → statement M
+swap-relation-spec =
+    tie.close
+    (tie.spec
+    (λ c κs. search needs)
+    (λ c κs. search needs)
+    (λ c. omega (arith, relation-fits (c .before .before .before .before .pre)))
+    (λ c. simp length-set (relation-fits (c .before .before .before .before .pre)))
+    copy-both-requires
+    (λ c. c .before .before .copy-both .kept .0 ∙ simp length-set)
+    returns)

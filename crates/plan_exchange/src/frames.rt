@@ -1,0 +1,82 @@
+// Frames written with the side of each record negated.
+use crate::copies::Span;
+use crate::copies::copy_at;
+use crate::numbers::negate;
+use crate::numbers::side_number;
+use crate::numbers::side_numbered;
+use frame::plans::Remainder;
+use frame::whole::Frame;
+use plan_writer::copies::copy_bytes;
+use plan_writer::numbers::put_number;
+ghost use mathlib.Core.List.{_∷_};
+ghost use Prim.Native.Nat.{_≤_};
+ghost use lib.ListN.{length};
+ghost use Rattle.definitions.specs.Basics.{bigEndian};
+ghost use Rattle.frame.specs.Frames.{FrameAt};
+ghost use Rattle.frame.specs.Plans.{RemainderAt};
+ghost use Rattle.plan_writer.specs.Written.{WroteAt};
+ghost use Rattle.plan_exchange.specs.Writing.{Room, Puts, PutsAt};
+ghost use Rattle.plan_exchange.specs.Held.{RecordsAt};
+ghost use Rattle.plan_exchange.specs.Exchanged.{recordsExchanged, frameExchanged, remainderExchanged};
+
+// Records are copied, then the side of each is negated where it stands.
+fn put_records_exchanged(out: &mut [u8], src: &[u8], rec: usize, count: usize) -> usize
+    requires { ⌜ Room (RecordsAt (now src) rec count) recordsExchanged 0 (now out) ⌝ }
+    ensures { λ r. ⌜ Puts (RecordsAt (now (src .entry)) rec count) recordsExchanged (now (out .entry)) (now (out .exit)) r ⌝ }
+{
+    let n = 5 * count;
+    copy_bytes(out, src, rec, n);
+    let mut i = 0;
+    while i < count {
+        let at = 5 * i;
+        let side = side_numbered(out[at]);
+        let other = negate(side);
+        out[at] = side_number(other);
+        i += 1;
+    }
+    n
+}
+
+// The same from w on; answers where they ended.
+fn put_records_at(out: &mut [u8], w: usize, src: &[u8], rec: usize, count: usize) -> usize
+    requires { ⌜ Room (RecordsAt (now src) rec count) recordsExchanged w (now out) ⌝ }
+    ensures { λ r. ⌜ PutsAt (RecordsAt (now (src .entry)) rec count) recordsExchanged w (now (out .entry)) (now (out .exit)) r ⌝ }
+{
+    w + put_records_exchanged(&mut out[w..], src, rec, count)
+}
+
+// `01` and the column count; answers where they end.
+fn put_frame_head(out: &mut [u8], count: usize) -> usize
+    requires { ⌜ 3 ≤ length (now out) ⌝ }
+    ensures { λ r. ⌜ WroteAt 0 (1 ∷ bigEndian 2 count) (now (out .entry)) (now (out .exit)) r ⌝ }
+{
+    out[0] = 1;
+    put_number(out, 1, 2, count)
+}
+
+// The frame that stands up to `end`, exchanged, to the start of `out`; answers its length.
+pub fn put_frame_exchanged(out: &mut [u8], src: &[u8], f: Frame, end: usize) -> usize
+    requires { ⌜ Room (FrameAt (now src) f end) frameExchanged 0 (now out) ⌝ }
+    ensures { λ r. ⌜ Puts (FrameAt (now (src .entry)) f end) frameExchanged (now (out .entry)) (now (out .exit)) r ⌝ }
+{
+    let count = f.columns as usize;
+    let rec = f.records;
+    let expr = Span(f.root, end);
+    let w = put_frame_head(out, count);
+    let v = put_records_at(out, w, src, rec, count);
+    copy_at(out, v, src, expr)
+}
+
+// `00`, or the frame exchanged.
+pub fn put_remainder_exchanged(out: &mut [u8], src: &[u8], rest: Remainder, end: usize) -> usize
+    requires { ⌜ Room (RemainderAt (now src) rest end) remainderExchanged 0 (now out) ⌝ }
+    ensures { λ r. ⌜ Puts (RemainderAt (now (src .entry)) rest end) remainderExchanged (now (out .entry)) (now (out .exit)) r ⌝ }
+{
+    match rest {
+        Remainder::Nothing => {
+            out[0] = 0;
+            1
+        }
+        Remainder::Frame(f) => put_frame_exchanged(out, src, f, end),
+    }
+}

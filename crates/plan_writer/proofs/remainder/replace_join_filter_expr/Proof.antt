@@ -1,0 +1,70 @@
+-- `replace_join_filter_expr`: the flags mark the columns that are left, their records are written, and the expression over them after those.
+use native.Mathlib.Omega.{arith}
+use lib.ListN.{replicate}
+use lib.Dec.{lit≤}
+use borrow.Author.Needs.{needs}
+use Rattle.plan_writer.proofs.FlagLaws.{no-flag}
+use Rattle.plan_writer.proofs.RemainderLaws.{rest-flagged, rest-marked, records-fit, records-end, expr-fits, frame-put}
+use Rattle.plan_writer.proofs.remainder.replace_join_filter_expr.Statement.{statement}
+use Rattle.plan_writer.proofs.remainder.replace_join_filter_expr.Tie as tie
+
+collected : tie.Need-collect-remainder-requires
+collected c κs = let p = c .before .before .before .pre in rest-flagged (p .frame) (p .cutting) (replicate 256 0) (lit≤ tt)
+
+records : tie.Need-put-records-requires
+records c κs =
+    let start = c .before .before .before .before .before .before .before .before in
+    let p = start .pre in
+    let flags = c .before .before .before .before .collect-remainder in
+    let m = rest-marked (p .frame) (p .cutting) (replicate 256 0) (flags .last .0) (flags .result) (lit≤ tt) (no-flag 256) (flags .ensures) in
+    (records-fit (p .frame) (p .cutting) m (start .args .out .now) (p .room), omega (arith, flags .kept .0, p .frame .few))
+
+room : tie.Need-sub-reproject-remainder
+room c =
+    let start = c .before .before .before .before .before .before .before .before .before .before .before .before in
+    let p = start .pre in
+    let flags = c .before .before .before .before .before .before .before .before .collect-remainder in
+    let put = c .before .before .before .put-records in
+    let m = rest-marked (p .frame) (p .cutting) (replicate 256 0) (flags .last .0) (flags .result) (lit≤ tt) (no-flag 256) (flags .ensures) in
+    omega (arith, put .kept .0, records-end (p .frame) (p .cutting) m (put .ensures) (p .room))
+
+expression : tie.Need-reproject-remainder-requires
+expression c κs =
+    let start = c .before .before .before .before .before .before .before .before .before .before .before .before .before .before in
+    let p = start .pre in
+    let flags = c .before .before .before .before .before .before .before .before .before .before .collect-remainder in
+    let put = c .before .before .before .before .before .put-records in
+    let m = rest-marked (p .frame) (p .cutting) (replicate 256 0) (flags .last .0) (flags .result) (lit≤ tt) (no-flag 256) (flags .ensures) in
+    expr-fits (p .frame) (p .cutting) m (put .ensures) (omega (arith, put .kept .1 .0)) (put .kept .0) (p .room)
+
+returns : tie.Need-returns
+returns c = λ records t position frame cutting.
+    let flags = c .before .before .before .before .before .before .before .before .before .before .before .before .before .before .collect-remainder in
+    let put = c .before .before .before .before .before .before .before .before .before .put-records in
+    let expr = c .before .before .before .reproject-remainder in
+    let m = rest-marked frame cutting (replicate 256 0) (flags .last .0) (flags .result) (lit≤ tt) (no-flag 256) (flags .ensures) in
+    frame-put frame cutting m (put .ensures) (expr .last .0) (expr .result) (omega (arith, put .kept .1 .0)) (expr .ensures)
+
+add-result : tie.Need-add-result
+add-result c =
+    let start = c .before .before .before .before .before .before .before .before .before .before .before .before .before .before .before .before .before .before in
+    let p = start .pre in
+    omega (arith, start .good, p .room, returns c (p .records) (p .tree) (p .position) (p .frame) (p .cutting) .0)
+
+pub replace-join-filter-expr-spec : {M : Type 1} → statement M
+replace-join-filter-expr-spec =
+    tie.close
+    (tie.spec
+    (λ c. search needs)
+    collected
+    (λ c. search needs)
+    (λ c. search needs)
+    records
+    room
+    room
+    (λ c. search needs)
+    (λ c. search needs)
+    expression
+    add-result
+    (λ c. search needs)
+    returns)

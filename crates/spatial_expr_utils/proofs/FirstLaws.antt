@@ -1,0 +1,187 @@
+-- What each return of `first_match` answers, and what its calls require.
+use Prim.Native.Nat.{ℕ, suc, _+_, _≤_, _<_}
+use native.Mathlib.Nat.{zero-add}
+use native.Mathlib.Omega.{arith}
+use mathlib.Core.Path.{_≡_, refl, sym, ap, ap₂, _∙_, subst, subst⁻¹}
+use mathlib.Core.Bool.{Bool}
+use mathlib.Core.List.{List, [], _∷_, _++_, map, map-append}
+use mathlib.Core.Option.{Option, none, some}
+use lib.ListN.{length, length-append, length-map}
+use Rattle.definitions.specs.Expression.{Expr, column, literal, and, binary, call, other, field, Record, Predicate}
+use Rattle.definitions.specs.Encode.{exprBytes}
+use Rattle.definitions.specs.Leaves.{leaves}
+use Rattle.definitions.specs.Decode.{Columns, indexBelow}
+use Rattle.definitions.specs.Match.{matchLeaf}
+use Rattle.definitions.specs.Extract as definition
+use Rattle.definitions.specs.Extract.{firstMatch, firstOf, matchesOf}
+use Rattle.expression.specs.Nodes.{headBytes, Stands, OfTree, OfTreeIn}
+use Rattle.expression.specs.Leaves.{Both, NodeIs}
+use Rattle.expression.specs.declared.leaves.Node.{Node}
+use Rattle.expression.specs.declared.leaves.Node.the-variants as node
+use Rattle.expression.proofs.Standing.{first-stands, rest-stands, after-node}
+use Rattle.spatial_expr_utils.specs.Frames.{Over, Framed, OfFrame}
+use Rattle.spatial_expr_utils.specs.Matches.{Lacks, Matches}
+use Rattle.spatial_expr_utils.specs.Picks.{wants, matches, leftOf, rightOf, LeafAt, itself, inLeft, inRight, PickIs, FirstIs, NothingIs, FoundIs, TakenIs}
+use Rattle.spatial_expr_utils.specs.declared.predicates.SpatialPredicate.{SpatialPredicate}
+use Rattle.spatial_expr_utils.specs.declared.pick.Wanted.{Wanted}
+use Rattle.spatial_expr_utils.specs.declared.pick.Parent.{Parent}
+use Rattle.spatial_expr_utils.specs.declared.pick.Parent.the-variants.{Root, And}
+use Rattle.spatial_expr_utils.specs.declared.pick.Pick.{Pick}
+use Rattle.spatial_expr_utils.specs.declared.pick.Found.{Found}
+use Rattle.spatial_expr_utils.specs.declared.pick.Found.the-variants.{Leaf, Nothing}
+use Rattle.spatial_expr_utils.proofs.PickLaws.{at-position, moved, first-append, first-match, first-lacks}
+
+-- ---- leaves and matches of an And
+
+pub leaves-few : (t : Expr) → length (leaves t) ≤ length (exprBytes t)
+unfolding leaves exprBytes
+leaves-few (column i g) = omega arith
+leaves-few (literal y v) = omega arith
+leaves-few (and l r) = simp length-append (omega (arith, leaves-few l, leaves-few r))
+leaves-few (binary o l r) = omega arith
+leaves-few (call name args) = omega arith
+leaves-few (other g cs) = omega arith
+leaves-few (field b g) = omega arith
+
+module _ (test : Predicate → Bool) (records : List Record) (l r : Expr) where
+  and-first : firstMatch test (matches records (and l r))
+      ≡ firstOf (firstMatch test (matches records l)) (moved (length (leaves l)) (firstMatch test (matches records r)))
+  unfolding leaves
+  and-first = ap (firstMatch test) (map-append (matchLeaf records) (leaves l) (leaves r)) ∙ first-append test (matches records l) (matches records r)
+      ∙ ap (λ (n : ℕ). firstOf (firstMatch test (matches records l)) (moved n (firstMatch test (matches records r)))) (length-map (leaves l) (matchLeaf records))
+
+  and-left : {p : definition.Pick} → firstMatch test (matches records l) ≡ some p → firstMatch test (matches records (and l r)) ≡ some p
+  unfolding firstOf
+  and-left e = and-first ∙ rw e
+
+  and-right : firstMatch test (matches records l) ≡ none
+      → firstMatch test (matches records (and l r)) ≡ moved (length (leaves l)) (firstMatch test (matches records r))
+  unfolding firstOf
+  and-right e = and-first ∙ rw e
+
+-- ---- a leaf
+
+one-match : (records : List Record) (t : Expr) → leaves t ≡ t ∷ [] → matches records t ≡ matchLeaf records t ∷ []
+one-match records t single = ap (map (matchLeaf records)) single
+
+module _ (wanted : Wanted) {s : List ℕ} {rec at : ℕ} {records : List Record} {t : Expr} (over : Over s rec at records t) (single : leaves t ≡ t ∷ []) where
+  pub leaf-matched : {before : ℕ} {parent : Parent} (p : SpatialPredicate) (end : ℕ) → Matches (wants wanted) s rec records p (matchLeaf records t) × (end ≡ at + length (exprBytes t))
+      → FirstIs wanted s rec at before parent (record { predicate = p; position = before; leaf = at; «leaf_end» = end; parent = parent }) records t
+  leaf-matched {before} p end m = record {
+    i = 0;
+    q = m .0 .q;
+    first = ap (firstMatch (wants wanted)) (one-match records t single) ∙ first-match (wants wanted) (matchLeaf records t) (m .0 .q) (m .0 .is) (m .0 .passes);
+    counted = omega arith;
+    taken = record { leaf = t; stands = m .0 .stands; reached = itself single; ends = m .1 };
+  }
+
+  pub leaf-lacks : {before : ℕ} (end : ℕ) → Lacks (wants wanted) (matchLeaf records t) → end ≡ at + length (exprBytes t) → NothingIs wanted at before end (before + 1) records t
+  leaf-lacks {before} end m e = record {
+    first = ap (firstMatch (wants wanted)) (one-match records t single) ∙ first-lacks (wants wanted) (matchLeaf records t) m;
+    ends = e;
+    counted = ap (λ (n : ℕ). before + n) (sym (ap length single));
+  }
+
+-- ---- an And
+
+-- Its children.
+pub record Children (s : List ℕ) (rec at left : ℕ) (records : List Record) (t : Expr) : Type 0 where
+  pub l : Expr
+  pub r : Expr
+  pub is : t ≡ and l r
+  pub begins : left ≡ leftOf at
+  pub first : Over s rec left records l
+  pub second : (p : ℕ) → p ≡ left + length (exprBytes l) → Over s rec p records r
+
+module _ {s : List ℕ} {rec at left : ℕ} {found : Node} (is : OfTreeIn s at (λ c t. NodeIs c s at found t)) (told : found ≡ node.And left) where
+  pub its-children : {records : List Record} {t : Expr} → Over s rec at records t → Children s rec at left records t
+  unfolding headBytes
+  its-children {records} {t} over =
+      let b : Both and (indexBelow (length records)) s at left t = rw told at (is (indexBelow (length records)) t (over .tree)) in
+      record {
+        l = b .l;
+        r = b .r;
+        is = b .is;
+        begins = b .begins ∙ ap (λ (t : Expr). at + length (headBytes t)) (b .is);
+        first = record { entries = over .entries; tree = first-stands (b .row) };
+        second = λ p e. record { entries = over .entries; tree = first-stands (rest-stands (b .row) p 1 e refl) };
+      }
+
+  pub left-framed : Framed s rec at → Framed s rec left
+  left-framed p = (p .0, its-children (p .2) .l, its-children (p .2) .first)
+
+  pub left-after : Framed s rec at → at < left
+  left-after p = omega (arith, its-children (p .2) .begins)
+
+  module _ {wanted : Wanted} {before : ℕ} where
+    pub match-left : {parent : Parent} {p : Pick} → OfFrame s rec left (FirstIs wanted s rec left before (And at) p)
+        → OfFrame s rec at (FirstIs wanted s rec at before parent p)
+    match-left {parent} {p} inner records t over =
+        let c : Children s rec at left records t = its-children over in
+        let f : FirstIs wanted s rec left before (And at) p records (c .l) = inner records (c .l) (c .first) in
+        subst⁻¹ (FirstIs wanted s rec at before parent p records) (c .is) (record {
+          i = f .i;
+          q = f .q;
+          first = and-left (wants wanted) records (c .l) (c .r) (f .first);
+          counted = f .counted;
+          taken = record {
+            leaf = f .taken .leaf;
+            stands = f .taken .stands;
+            reached = inLeft (subst (λ (a : ℕ). LeafAt (c .l) a (And at) (f .taken .leaf) (f .i) (p .leaf) (p .parent)) (c .begins) (f .taken .reached));
+            ends = f .taken .ends;
+          };
+        })
+
+    module _ {right count : ℕ} (inner : OfFrame s rec left (NothingIs wanted left before right count)) where
+      pub right-framed : Framed s rec at → before ≤ at → Framed s rec right × (at < right) × (count ≤ right)
+      right-framed p h =
+          let c : Children s rec at left (p .0) (p .1) = its-children (p .2) in
+          let n : NothingIs wanted left before right count (p .0) (c .l) = inner (p .0) (c .l) (c .first) in (
+            (p .0, c .r, c .second right (n .ends)),
+            omega (arith, c .begins, n .ends),
+            omega (arith, c .begins, n .ends, n .counted, leaves-few (c .l)),
+          )
+
+      pub match-right : (parent : Parent) (r : Found) → OfFrame s rec right (FoundIs wanted s rec right count (And at) r)
+          → OfFrame s rec at (FoundIs wanted s rec at before parent r)
+      unfolding moved leaves exprBytes
+      match-right parent (Leaf p) outer records t over =
+          let c : Children s rec at left records t = its-children over in
+          let n : NothingIs wanted left before right count records (c .l) = inner records (c .l) (c .first) in
+          let f : FirstIs wanted s rec right count (And at) p records (c .r) = outer records (c .r) (c .second right (n .ends)) in
+          let place : right ≡ rightOf at (c .l) = n .ends ∙ ap (λ (a : ℕ). a + length (exprBytes (c .l))) (c .begins) in
+          subst⁻¹ (FirstIs wanted s rec at before parent p records) (c .is) (record {
+            i = length (leaves (c .l)) + f .i;
+            q = f .q;
+            first = and-right (wants wanted) records (c .l) (c .r) (n .first) ∙ ap (moved (length (leaves (c .l)))) (f .first);
+            counted = omega (arith, f .counted, n .counted);
+            taken = record {
+              leaf = f .taken .leaf;
+              stands = f .taken .stands;
+              reached = inRight (subst (λ (a : ℕ). LeafAt (c .r) a (And at) (f .taken .leaf) (f .i) (p .leaf) (p .parent)) place (f .taken .reached));
+              ends = f .taken .ends;
+            };
+          })
+      match-right parent (Nothing next many) outer records t over =
+          let c : Children s rec at left records t = its-children over in
+          let n : NothingIs wanted left before right count records (c .l) = inner records (c .l) (c .first) in
+          let f : NothingIs wanted right count next many records (c .r) = outer records (c .r) (c .second right (n .ends)) in
+          subst⁻¹ (NothingIs wanted at before next many records) (c .is) (record {
+            first = and-right (wants wanted) records (c .l) (c .r) (n .first) ∙ ap (moved (length (leaves (c .l)))) (f .first);
+            ends = simp length-append (omega (arith, c .begins, n .ends, f .ends));
+            counted = simp length-append (omega (arith, n .counted, f .counted));
+          })
+
+-- ---- two passes
+
+-- The first match of a pass is the pick.
+pub taken-is : {s : List ℕ} {rec at : ℕ} {wanted : Wanted} {p : Pick} {records : List Record} {t : Expr} → FirstIs wanted s rec at 0 Root p records t
+    → definition.pick (matches records t) ≡ firstMatch (wants wanted) (matches records t) → TakenIs s rec at p records t
+unfolding matchesOf
+taken-is {s} {rec} {at} {wanted} {p} {records} {t} f e =
+    let same : p .position ≡ f .i = f .counted ∙ zero-add (f .i) in
+    record {
+      q = f .q;
+      is = e ∙ f .first ∙ ap (λ (i : ℕ). at-position i (f .q)) (sym same);
+      taken = subst⁻¹ (λ (i : ℕ). PickIs s rec at Root p records t i (f .q)) same (f .taken);
+    }

@@ -1,0 +1,72 @@
+-- `extract_literal_u32`: the type says whether the eight bytes have a sign.
+use Prim.Native.Nat.{_+_}
+use native.Mathlib.Omega.{arith}
+use mathlib.Core.Path.{_≡_, ap, _∙_}
+use lib.IntN.{pos}
+use mir.Syntax.{w64}
+use mir.Facts.{toZ-ofZ}
+use Rattle.definitions.specs.Literals.{signed, u32}
+use Rattle.expression.proofs.Standing.{node-some}
+use Rattle.spatial_expr_utils.proofs.LiteralLaws.{literal-is, no-literal, literal-number, number-below, number-signed, number-unsigned, number-above}
+use borrow.Author.Needs.{needs}
+use Rattle.spatial_expr_utils.proofs.literals.extract_literal_u32.Statement.{statement}
+use Rattle.spatial_expr_utils.proofs.literals.extract_literal_u32.Tie as tie
+
+shared-slice-read-if1 : tie.Need-shared-slice-read-if1
+shared-slice-read-if1 c = node-some (c .before .before .pre .2)
+
+returns : tie.Need-returns
+returns c = λ d t h. no-literal h (c .if1 .taken) .0
+
+add-long-at : tie.Need-add-long-at
+add-long-at c = search needs
+
+long-at-requires : tie.Need-long-at-requires
+long-at-requires c κs = omega (arith, literal-is (c .before .before .before .pre .2) (c .if1 .left) .fits)
+
+add-if2 : tie.Need-add-if2
+add-if2 c = search needs
+
+shared-slice-read-if2 : tie.Need-shared-slice-read-if2
+shared-slice-read-if2 c = omega (arith, literal-is (c .before .before .before .before .before .pre .2) (c .before .before .if1 .left) .fits)
+
+signed-requires : tie.Need-signed-requires
+signed-requires c κs = search needs
+
+u32-of-i64-requires : tie.Need-u32-of-i64-requires
+u32-of-i64-requires c κs = search needs
+
+u32-of-u64-requires : tie.Need-u32-of-u64-requires
+u32-of-u64-requires c κs = search needs
+
+returns-2 : tie.Need-returns-2
+returns-2 c = λ d t h. literal-number h (c .before .before .before .before .before .before .if1 .left) _
+    (c .u32-of-i64 .ensures ∙ ap u32 (toZ-ofZ {w = w64} (record { sfits = c .before .signed .ok }) ∙ c .before .signed .ensures ∙ ap signed (c .before .before .before .before .before .long-at .ensures)) ∙ number-signed _ _ (c .before .before .before .if2 .left) (c .before .before .if3 .taken))
+
+returns-3 : tie.Need-returns-3
+returns-3 c = λ d t h. literal-number h (c .before .before .before .before .before .before .if1 .left) _
+    (c .u32-of-u64 .ensures ∙ ap (λ n. u32 (pos n)) (c .before .before .before .before .before .long-at .ensures) ∙ number-unsigned _ _ (c .before .before .if3 .left) (c .before .if4 .taken))
+
+returns-4 : tie.Need-returns-4
+returns-4 c = λ d t h. literal-number h (c .before .before .before .if1 .left) _ (number-below _ _ (c .if2 .taken))
+
+returns-5 : tie.Need-returns-5
+returns-5 c = λ d t h. literal-number h (c .before .before .before .before .before .if1 .left) _ (number-above _ _ (c .if4 .left))
+
+pub extract-literal-u32-spec : {M : Type 1} → statement M
+extract-literal-u32-spec =
+    tie.close
+    (tie.spec
+    shared-slice-read-if1
+    returns
+    add-long-at
+    long-at-requires
+    add-if2
+    shared-slice-read-if2
+    signed-requires
+    u32-of-i64-requires
+    u32-of-u64-requires
+    returns-2
+    returns-3
+    returns-4
+    returns-5)

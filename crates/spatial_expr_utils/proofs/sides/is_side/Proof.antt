@@ -1,0 +1,28 @@
+-- `is_side`: an undefined side is none of the three.
+use mathlib.Core.Path.{sym, ap, _∙_}
+use Rattle.definitions.specs.Match.{isSide}
+use Rattle.spatial_expr_utils.specs.Sides.{joinSide, commonSide}
+use Rattle.spatial_expr_utils.specs.declared.sides.CommonSide.{CommonSide}
+use borrow.Author.Needs.{needs}
+use Rattle.spatial_expr_utils.proofs.sides.is_side.Statement.{statement}
+use Rattle.spatial_expr_utils.proofs.sides.is_side.Tie as tie
+
+enum-known-of : tie.Need-enum-known-of
+enum-known-of c = search needs
+
+same-side-requires : tie.Need-same-side-requires
+same-side-requires c κs = search needs
+
+enum-told : tie.Need-enum-told
+enum-told c = search needs
+
+returns : tie.Need-returns
+unfolding isSide
+returns c = c .same-side .ensures ∙ sym (ap (λ (x : CommonSide). isSide (joinSide (c .before .before .before .before .args .side)) (commonSide x)) (c .before .before .of .given .1))
+
+returns-2 : tie.Need-returns-2
+unfolding isSide
+returns-2 c = sym (ap (λ (x : CommonSide). isSide (joinSide (c .before .before .args .side)) (commonSide x)) (c .enum-told .given .1))
+
+pub is-side-spec : {M : Type 1} → statement M
+is-side-spec = tie.close (tie.spec enum-known-of same-side-requires enum-told returns returns-2)

@@ -1,0 +1,33 @@
+-- `side_number`: each side has its number.
+use mathlib.Core.Path.{sym, ap}
+use Rattle.definitions.specs.Encode.{sideNumber}
+use Rattle.spatial_expr_utils.specs.Sides.{joinSide}
+use Rattle.spatial_expr_utils.specs.declared.sides.JoinSide.{JoinSide}
+use borrow.Author.Needs.{needs}
+use Rattle.spatial_expr_utils.proofs.sides.side_number.Statement.{statement}
+use Rattle.spatial_expr_utils.proofs.sides.side_number.Tie as tie
+
+enum-told : tie.Need-enum-told
+enum-told c = search needs
+
+enum-told-2 : tie.Need-enum-told-2
+enum-told-2 c = search needs
+
+enum-told-3 : tie.Need-enum-told-3
+enum-told-3 c = search needs
+
+returns : tie.Need-returns
+unfolding sideNumber
+returns c = sym (ap (λ (x : JoinSide). sideNumber (joinSide x)) (c .enum-told .given .1))
+
+returns-2 : tie.Need-returns-2
+unfolding sideNumber
+returns-2 c = sym (ap (λ (x : JoinSide). sideNumber (joinSide x)) (c .enum-told2 .given .1))
+
+returns-3 : tie.Need-returns-3
+unfolding sideNumber
+returns-3 c = sym (ap (λ (x : JoinSide). sideNumber (joinSide x)) (c .enum-told3 .given .1))
+
+pub side-number-spec : {M : Type 1} → statement M
+side-number-spec =
+    tie.close (tie.spec enum-told enum-told-2 enum-told-3 returns returns-2 returns-3)

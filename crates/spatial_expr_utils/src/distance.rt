@@ -1,0 +1,52 @@
+// Distance predicates.
+ghost use Rattle.spatial_expr_utils.specs.Frames.{Framed, OfFrame};
+ghost use Rattle.spatial_expr_utils.specs.Matches.{isDistance, LeafMatching};
+use super::predicates::DistancePredicate;
+use super::predicates::Matching;
+use super::predicates::SpatialPredicate;
+use super::sides::CommonSide;
+use super::sides::Order;
+use super::sides::resolve_column_reference_sides;
+use super::sides::side_of_column_references;
+use expression::ends::end_node;
+use sedona_expr::utils::Parsed;
+use sedona_expr::utils::parse_distance_predicate;
+
+// The left geometry is stored first; the distance needs a defined side.
+pub fn match_distance_predicate(s: &[u8], rec: usize, at: usize) -> Matching
+    requires { ⌜ Framed (now s) rec at ⌝ }
+    ensures { λ r. ⌜ OfFrame (now (s .entry)) rec at (LeafMatching isDistance (now (s .entry)) rec at r) ⌝ }
+{
+    let Parsed::Distance(parsed) = parse_distance_predicate(s, at) else {
+        return Matching::NotAsked;
+    };
+    let end = end_node(s, at);
+    let distance = side_of_column_references(s, rec, parsed.arg_distance);
+    let arg0 = side_of_column_references(s, rec, parsed.arg0);
+    let arg1 = side_of_column_references(s, rec, parsed.arg1);
+    let side = distance.side;
+    let CommonSide::Known(distance_side) = side else {
+        return Matching::Unmatched(end);
+    };
+    let mut predicate = DistancePredicate {
+        left: parsed.arg0,
+        left_end: arg0.end,
+        right: parsed.arg1,
+        right_end: arg1.end,
+        distance: parsed.arg_distance,
+        distance_end: distance.end,
+        distance_side,
+        form: parsed.form,
+    };
+    match resolve_column_reference_sides(arg0, arg1) {
+        Order::LeftRight => {}
+        Order::RightLeft => {
+            predicate.left = parsed.arg1;
+            predicate.left_end = arg1.end;
+            predicate.right = parsed.arg0;
+            predicate.right_end = arg0.end;
+        }
+        Order::Neither => return Matching::Unmatched(end),
+    }
+    Matching::Matched(SpatialPredicate::Distance(predicate), end)
+}

@@ -1,0 +1,141 @@
+// The AND-leaf that is taken: the first KNN match, else the first other match.
+ghost use Prim.Native.Nat.{_≤_};
+ghost use Rattle.expression.specs.Nodes.{OfTreeIn};
+ghost use Rattle.expression.specs.Leaves.{NodeIs};
+ghost use Rattle.spatial_expr_utils.specs.Frames.{Framed, OfFrame};
+ghost use Rattle.spatial_expr_utils.specs.Matches.{LeafMatching};
+ghost use Rattle.spatial_expr_utils.specs.Picks.{isOther, wants, FoundIs, PickedIs};
+use super::distance::match_distance_predicate;
+use super::knn::match_knn_predicate;
+use super::predicates::Matching;
+use super::predicates::SpatialPredicate;
+use super::relation::match_relation_predicate;
+use expression::ends::end_node;
+use expression::leaves::Node;
+use expression::leaves::node_at;
+
+// Which matches a pass over the AND-leaves is for: KNN, or relations and distances.
+pub enum Wanted {
+    Knn,
+    Other,
+}
+
+// The And that has a node as a child, unless it is the root.
+pub enum Parent {
+    Root,
+    And(usize),
+}
+
+// An AND-leaf that is taken: its predicate, its position among the AND-leaves, where it stands and ends.
+pub struct Pick {
+    pub predicate: SpatialPredicate,
+    pub position: usize,
+    pub leaf: usize,
+    pub leaf_end: usize,
+    pub parent: Parent,
+}
+
+// What a pass found below a node; if nothing, where the node ends and how many AND-leaves there are up to its end.
+pub enum Found {
+    Leaf(Pick),
+    Nothing(usize, usize),
+}
+
+pub enum Picked {
+    Leaf(Pick),
+    Nothing,
+}
+
+// A leaf as a relation, else as a distance.
+fn match_other(s: &[u8], rec: usize, at: usize, node: Node) -> Matching
+    requires { ⌜ Framed (now s) rec at ⌝ }
+    requires { ⌜ OfTreeIn (now s) at (λ c t. NodeIs c (now s) at node t) ⌝ }
+    ensures { λ r. ⌜ OfFrame (now (s .entry)) rec at (LeafMatching isOther (now (s .entry)) rec at r) ⌝ }
+{
+    let Node::Call(called) = node else {
+        return match_distance_predicate(s, rec, at);
+    };
+    match match_relation_predicate(s, rec, called) {
+        Matching::Matched(predicate, end) => Matching::Matched(predicate, end),
+        Matching::Unmatched(end) => Matching::Unmatched(end),
+        Matching::NotAsked => match_distance_predicate(s, rec, at),
+    }
+}
+
+fn match_wanted(s: &[u8], rec: usize, at: usize, node: Node, wanted: Wanted) -> Matching
+    requires { ⌜ Framed (now s) rec at ⌝ }
+    requires { ⌜ OfTreeIn (now s) at (λ c t. NodeIs c (now s) at node t) ⌝ }
+    ensures { λ r. ⌜ OfFrame (now (s .entry)) rec at (LeafMatching (wants wanted) (now (s .entry)) rec at r) ⌝ }
+{
+    match wanted {
+        Wanted::Other => match_other(s, rec, at, node),
+        Wanted::Knn => {
+            let Node::Call(called) = node else {
+                return Matching::NotAsked;
+            };
+            match_knn_predicate(s, rec, called)
+        }
+    }
+}
+
+// The first match that is wanted below a node, `position` AND-leaves being before it.
+fn first_match(
+    s: &[u8],
+    rec: usize,
+    at: usize,
+    wanted: Wanted,
+    position: usize,
+    parent: Parent,
+) -> Found
+    requires { ⌜ Framed (now s) rec at ⌝ }
+    requires { ⌜ position ≤ at ⌝ }
+    ensures { λ r. ⌜ OfFrame (now (s .entry)) rec at (FoundIs wanted (now (s .entry)) rec at position parent r) ⌝ }
+{
+    let node = node_at(s, at);
+    if let Node::And(left) = node {
+        return match first_match(s, rec, left, wanted, position, Parent::And(at)) {
+            Found::Leaf(pick) => Found::Leaf(pick),
+            Found::Nothing(right, count) => first_match(
+                s,
+                rec,
+                right,
+                wanted,
+                count,
+                Parent::And(at),
+            ),
+        };
+    }
+    match match_wanted(s, rec, at, node, wanted) {
+        Matching::Matched(predicate, leaf_end) => Found::Leaf(Pick {
+            predicate,
+            position,
+            leaf: at,
+            leaf_end,
+            parent,
+        }),
+        Matching::Unmatched(end) => Found::Nothing(end, position + 1),
+        Matching::NotAsked => Found::Nothing(end_node(s, at), position + 1),
+    }
+}
+
+// The first KNN match.
+pub fn extract_knn_predicate_prioritized(s: &[u8], rec: usize, at: usize) -> Found
+    requires { ⌜ Framed (now s) rec at ⌝ }
+    ensures { λ r. ⌜ OfFrame (now (s .entry)) rec at (FoundIs Wanted.Knn (now (s .entry)) rec at 0 Parent.Root r) ⌝ }
+{
+    first_match(s, rec, at, Wanted::Knn, 0, Parent::Root)
+}
+
+// A first pass for KNN, which cannot be a filter, and another for the rest.
+pub fn extract_spatial_predicate(s: &[u8], rec: usize, at: usize) -> Picked
+    requires { ⌜ Framed (now s) rec at ⌝ }
+    ensures { λ r. ⌜ OfFrame (now (s .entry)) rec at (PickedIs (now (s .entry)) rec at r) ⌝ }
+{
+    if let Found::Leaf(pick) = extract_knn_predicate_prioritized(s, rec, at) {
+        return Picked::Leaf(pick);
+    }
+    match first_match(s, rec, at, Wanted::Other, 0, Parent::Root) {
+        Found::Leaf(pick) => Picked::Leaf(pick),
+        Found::Nothing(_, _) => Picked::Nothing,
+    }
+}

@@ -1,0 +1,202 @@
+// The side of the columns that an argument references.
+ghost use mathlib.Core.Path.{_≡_};
+ghost use Prim.Native.Nat.{_<_};
+ghost use lib.ListN.{length, getD};
+ghost use Rattle.definitions.specs.Encode.{sideNumber};
+ghost use Rattle.definitions.specs.Decode.{sideNumbered};
+ghost use Rattle.definitions.specs.Match.{sameSide, isSide, orderOf};
+ghost use Rattle.spatial_expr_utils.specs.Frames.{Framed, OfFrame, FramedAll, OfFrameAll, FramedTwo, OfFrameTwo};
+ghost use Rattle.spatial_expr_utils.specs.Sides.{joinSide, commonSide, order, see, SideIs, SidesAre, ArgumentIs, GeometriesAre};
+use expression::fields::short_at;
+use expression::heads::head_at;
+
+// A side of the join; none is a mark column's, and that of an argument without columns.
+pub enum JoinSide {
+    Left,
+    Right,
+    None,
+}
+
+// What the columns seen so far have in common.
+pub enum Sides {
+    Unseen,
+    All(JoinSide),
+    Differ,
+}
+
+// Where a walk ended, and what it has seen.
+pub struct SideTo {
+    pub next: usize,
+    pub sides: Sides,
+}
+
+// The side of all columns of an argument, undefined if they differ.
+pub enum CommonSide {
+    Known(JoinSide),
+    Undefined,
+}
+
+// Where an argument ends, and its side.
+pub struct Argument {
+    pub end: usize,
+    pub side: CommonSide,
+}
+
+// How two geometries lie: the first left and the second right, the other way round, or neither.
+pub enum Order {
+    LeftRight,
+    RightLeft,
+    Neither,
+}
+
+// Two geometries in a row: where the second begins and ends, and how they lie.
+pub struct Geometries {
+    pub second: usize,
+    pub end: usize,
+    pub order: Order,
+}
+
+// The side of the record at a place.
+fn side_at(s: &[u8], at: usize) -> JoinSide
+    requires { ⌜ at < length (now s) ⌝ }
+    ensures { λ r. ⌜ joinSide r ≡ sideNumbered (getD (now (s .entry)) at 0) ⌝ }
+{
+    match s[at] {
+        0 => JoinSide::Left,
+        1 => JoinSide::Right,
+        _ => JoinSide::None,
+    }
+}
+
+pub fn side_number(side: JoinSide) -> u8
+    ensures { λ r. ⌜ r ≡ sideNumber (joinSide side) ⌝ }
+{
+    match side {
+        JoinSide::Left => 0,
+        JoinSide::Right => 1,
+        JoinSide::None => 2,
+    }
+}
+
+fn same_side(a: JoinSide, b: JoinSide) -> bool
+    ensures { λ r. ⌜ r ≡ sameSide (joinSide a) (joinSide b) ⌝ }
+{
+    side_number(a) == side_number(b)
+}
+
+// One column more.
+fn see_side(seen: Sides, side: JoinSide) -> Sides
+    ensures { λ r. ⌜ r ≡ see seen (joinSide side) ⌝ }
+{
+    match seen {
+        Sides::Unseen => Sides::All(side),
+        Sides::All(one) => {
+            if same_side(one, side) {
+                Sides::All(one)
+            } else {
+                Sides::Differ
+            }
+        }
+        Sides::Differ => Sides::Differ,
+    }
+}
+
+// The columns of one expression, after those seen before it.
+fn side_node(s: &[u8], rec: usize, at: usize, seen: Sides) -> SideTo
+    requires { ⌜ Framed (now s) rec at ⌝ }
+    ensures { λ r. ⌜ OfFrame (now (s .entry)) rec at (SideIs at seen r) ⌝ }
+{
+    if s[at] == 0 {
+        let index = short_at(s, at + 1);
+        let side = side_at(s, rec + 5 * index);
+        let sides = see_side(seen, side);
+        return SideTo {
+            next: at + 5,
+            sides,
+        };
+    }
+    let head = head_at(s, at);
+    let next = head.next;
+    let n = head.children;
+    side_children(s, rec, next, n, seen)
+}
+
+// The columns of n expressions in a row.
+fn side_children(s: &[u8], rec: usize, at: usize, n: usize, seen: Sides) -> SideTo
+    requires { ⌜ FramedAll (now s) rec at n ⌝ }
+    ensures { λ r. ⌜ OfFrameAll (now (s .entry)) rec at n (SidesAre at seen r) ⌝ }
+{
+    if n == 0 {
+        return SideTo {
+            next: at,
+            sides: seen,
+        };
+    }
+    let first = side_node(s, rec, at, seen);
+    let next = first.next;
+    let sides = first.sides;
+    side_children(s, rec, next, n - 1, sides)
+}
+
+// Where the argument at a place ends, and the side of its columns.
+pub fn side_of_column_references(s: &[u8], rec: usize, at: usize) -> Argument
+    requires { ⌜ Framed (now s) rec at ⌝ }
+    ensures { λ r. ⌜ OfFrame (now (s .entry)) rec at (ArgumentIs at r) ⌝ }
+{
+    let all = side_node(s, rec, at, Sides::Unseen);
+    let end = all.next;
+    let sides = all.sides;
+    match sides {
+        Sides::Unseen => Argument {
+            end,
+            side: CommonSide::Known(JoinSide::None),
+        },
+        Sides::All(side) => Argument {
+            end,
+            side: CommonSide::Known(side),
+        },
+        Sides::Differ => Argument {
+            end,
+            side: CommonSide::Undefined,
+        },
+    }
+}
+
+// Whether a side is defined and this one.
+fn is_side(side: JoinSide, of: CommonSide) -> bool
+    ensures { λ r. ⌜ r ≡ isSide (joinSide side) (commonSide of) ⌝ }
+{
+    match of {
+        CommonSide::Known(known) => same_side(side, known),
+        CommonSide::Undefined => false,
+    }
+}
+
+pub fn resolve_column_reference_sides(first: Argument, second: Argument) -> Order
+    ensures { λ r. ⌜ order r ≡ orderOf (commonSide (first .side)) (commonSide (second .side)) ⌝ }
+{
+    let a = first.side;
+    let b = second.side;
+    if is_side(JoinSide::Left, a) && is_side(JoinSide::Right, b) {
+        return Order::LeftRight;
+    }
+    if is_side(JoinSide::Right, a) && is_side(JoinSide::Left, b) {
+        return Order::RightLeft;
+    }
+    Order::Neither
+}
+
+// The geometries at a place and after it, each walked once.
+pub fn resolve_geometries(s: &[u8], rec: usize, at: usize) -> Geometries
+    requires { ⌜ FramedTwo (now s) rec at ⌝ }
+    ensures { λ r. ⌜ OfFrameTwo (now (s .entry)) rec at (GeometriesAre at r) ⌝ }
+{
+    let first = side_of_column_references(s, rec, at);
+    let next = first.end;
+    let second = side_of_column_references(s, rec, next);
+    Geometries {
+        second: next,
+        end: second.end,
+        order: resolve_column_reference_sides(first, second),
+    }
+}
