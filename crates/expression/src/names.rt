@@ -20,7 +20,7 @@ fn letter_in(case: Case, b: u8) -> u8
     match case {
         Case::Exact => b,
         Case::Ignored => match b {
-            65..=90 => b + 32,
+            b'A'..=b'Z' => b + 32,
             _ => b,
         },
     }

@@ -1,5 +1,4 @@
--- The cycle {end_children, end_node}. A node walk goes to a place further on, and a walk of a row to a node at its own place; so the measure is
--- twice the bytes left, and one more for a row.
+-- `end_node` and `end_children`: a node walk goes further on, a row walk to a node at its own place; so the measure is twice the bytes left, one more for a row.
 use Prim.Native.Nat.{ℕ, _<_, _+_, _-_, _*_}
 use native.Mathlib.Omega.{arith}
 use lib.ListN.{length}
