@@ -1,7 +1,7 @@
 -- What an exchange is, once the held plan and the scratch's length are known.
 use Prim.Native.Nat.{ℕ, _≤_, _<_}
 use native.Mathlib.Omega.{arith}
-use mathlib.Core.Path.{_≡_, refl, sym, ap, ap₂, _∙_}
+use mathlib.Core.Path.{_≡_, refl, ap, _∙_}
 use mathlib.Core.Bool.{Bool, true, false}
 use mathlib.Core.List.{List, _++_}
 use lib.ListN.{length, take, drop}
@@ -12,7 +12,7 @@ use Rattle.definitions.specs.Expression.{Frame, Extraction, Plan, empty, held, 
 use Rattle.definitions.specs.Encode.{planBytes}
 use Rattle.definitions.specs.Plans.{planOf}
 use Rattle.definitions.specs.Exchange.{exchangePlan}
-use Rattle.definitions.specs.Calls.{Outcome, writtenOver, finish, heldPlan, exchangeBytes, exchange}
+use Rattle.definitions.specs.Calls.{finish, heldPlan, exchangeBytes, exchange}
 use Rattle.definitions.specs.Limits.{AllBytes}
 use Rattle.frame.specs.Frames.{FrameAt}
 use Rattle.frame.specs.Plans.{ExtractionAt}

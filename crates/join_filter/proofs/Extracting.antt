@@ -4,13 +4,12 @@ use native.Mathlib.Omega.{arith}
 use mathlib.Core.Path.{_≡_, refl, sym, ap, _∙_, subst}
 use mathlib.Core.Bool.{Bool, true, false}
 use mathlib.Core.List.{List, _++_}
-use mathlib.Core.Option.{Option, none, some, Option·map}
+use mathlib.Core.Option.{Option, none, some}
 use lib.ListN.{length, take, drop}
 use lib.Dec.{leb}
 use borrow.Author.Tests.{le-leb, lt-leb}
 use Rattle.definitions.specs.Basics.{if_then_else_, Result, ok, refused}
-use Rattle.definitions.specs.Expression as tree
-use Rattle.definitions.specs.Expression.{Frame, Extraction, Predicate, Plan, empty, held, extracted}
+use Rattle.definitions.specs.Expression.{Frame, Extraction, Plan, empty, extracted}
 use Rattle.definitions.specs.Encode.{planBytes, extractionBytes}
 use Rattle.definitions.specs.Plans.{planOf}
 use Rattle.definitions.specs.Extract.{Pick, pick, takePick, matchesOf, extraction}
@@ -21,10 +20,9 @@ use Rattle.frame.specs.declared.whole.Frame as places
 use Rattle.spatial_expr_utils.specs.Frames.{Over}
 use Rattle.spatial_expr_utils.specs.Picks.{TakenIs}
 use Rattle.spatial_expr_utils.specs.declared.pick.Pick as picks
-use Rattle.plan_writer.specs.Written.{Wrote}
 use Rattle.join_filter.specs.Extractions.{Taking, takes, ExtractionFits, ExtractionPut, HoldsFrame}
 use Rattle.join_filter.proofs.Standing.{between-holds, expr-stands}
-use Rattle.join_filter.proofs.Keeping.{plan-length, held-is, plan-size, kept, kept-over}
+use Rattle.join_filter.proofs.Keeping.{held-is, plan-size, kept, kept-over}
 
 module _ (n : ℕ) (before scratch : List ℕ) where
   -- A call that is refused keeps everything.
@@ -101,7 +99,8 @@ module _ (n : ℕ) (before scratch : List ℕ) {f : places.Frame} (h : HoldsFram
           entries = record { bytes = over .entries; inRange = good .recordsInRange; counted = sym (h .stands .counted) };
           few = omega (arith, good .few, h .stands .counted);
           expr = over .tree;
-          taken = t .taken;
+          predicate = t .stands;
+          cut = t .cut;
         }
 
     module _ (after : List ℕ) (copied : after ≡ take n (drop 0 before) ++ drop n scratch) where

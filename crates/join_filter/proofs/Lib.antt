@@ -5,3 +5,4 @@ pub mod Keeping
 pub mod Exchanging
 pub mod Taking
 pub mod Extracting
+pub mod DemandThree

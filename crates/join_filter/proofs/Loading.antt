@@ -1,7 +1,6 @@
 -- What a load is, once the frame's answer and the buffer's length are known.
 use Prim.Native.Nat.{ℕ, _≤_, _<_}
-use native.Mathlib.Omega.{arith}
-use mathlib.Core.Path.{_≡_, refl, sym, ap, _∙_}
+use mathlib.Core.Path.{_≡_, sym, ap, _∙_}
 use mathlib.Core.Bool.{Bool, true, false}
 use mathlib.Core.List.{List, _++_}
 use lib.ListN.{length, take, drop}
@@ -12,7 +11,7 @@ use Rattle.definitions.specs.Basics.{if_then_else_, Result, ok, refused}
 use Rattle.definitions.specs.Expression.{Frame}
 use Rattle.definitions.specs.Leaves.{arity}
 use Rattle.definitions.specs.Plans.{frameOf}
-use Rattle.definitions.specs.Calls.{LoadOutcome, writtenOver, loadBytes, loaded, load}
+use Rattle.definitions.specs.Calls.{writtenOver, loadBytes, loaded, load}
 use Rattle.frame.specs.Frames.{arityLeft}
 
 pub with-arity : (r : Result Frame) (F : Frame) → r ≡ arityLeft F → arity (F .expr) ≡ true → r ≡ ok F

@@ -14,10 +14,8 @@ use Rattle.expression.specs.Nodes.{Stands}
 use Rattle.frame.specs.Frames.{FrameAt}
 use Rattle.frame.specs.declared.whole.Frame.{Frame}
 use Rattle.spatial_expr_utils.specs.Matches.{PredicateIs}
-use Rattle.spatial_expr_utils.specs.Picks.{PickIs}
+use Rattle.spatial_expr_utils.specs.Picks.{CutAt}
 use Rattle.spatial_expr_utils.specs.declared.predicates.SpatialPredicate.{SpatialPredicate}
-use Rattle.spatial_expr_utils.specs.declared.pick.Parent.{Parent}
-use Rattle.spatial_expr_utils.specs.declared.pick.Parent.the-variants.{Root, And}
 use Rattle.spatial_expr_utils.specs.declared.pick.Pick.{Pick}
 use Rattle.plan_writer.specs.Written.{Wrote}
 use Rattle.plan_writer.specs.Tables.{Entries}
@@ -30,23 +28,19 @@ pub record PredicateOf (s : List ℕ) (rec count : ℕ) (p : SpatialPredicate) (
   pub few : count ≤ 256
   pub stands : PredicateIs s rec records p q
 
--- The place of a parent And; a leaf without one has none, and 0 stands in.
-abbrev pub parentPlace : Parent → ℕ
-parentPlace Root = 0
-parentPlace (And at) = at
-
 -- The cut that a pick makes.
 pub record CutOf (p : Pick) (cut : Cut) : Type 0 where
   pub leaf : cut .leaf ≡ p .leaf
   pub end : cut .end ≡ p .«leaf_end»
-  pub parent : cut .parent ≡ parentPlace (p .parent)
+  pub parent : cut .parent ≡ p .parent
 
 -- The frame F stands in s, and the pick takes its leaf at the pick's position, which is the predicate q.
 pub record Taking (s : List ℕ) (f : Frame) (p : Pick) (F : tree.Frame) (q : tree.Predicate) : Type 0 where
   pub entries : Entries s (f .records) (f .columns) (F .records)
   pub few : f .columns ≤ 256
   pub expr : Stands (indexBelow (length (F .records))) s (f .root) (F .expr)
-  pub taken : PickIs s (f .records) (f .root) Root p (F .records) (F .expr) (p .position) q
+  pub predicate : PredicateIs s (f .records) (F .records) (p .predicate) q
+  pub cut : CutAt p (f .root) (F .expr) (f .root) (p .position)
 
 -- The extraction that it takes.
 abbrev pub takes : tree.Frame → Pick → tree.Predicate → tree.Extraction

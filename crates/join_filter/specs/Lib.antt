@@ -1,4 +1,5 @@
--- What the contracts cite.
+-- What the contracts cite, and what is claimed of them.
 pub mod Good
 pub mod Outcomes
 pub mod Extractions
+pub mod Lists

@@ -6,7 +6,6 @@ use plan_writer::predicates::put_knn;
 use plan_writer::predicates::put_relation;
 use plan_writer::remainder::put_remainder;
 use sedona_query_planner::spatial_predicate::SpatialRelationType;
-use spatial_expr_utils::pick::Parent;
 use spatial_expr_utils::pick::Pick;
 use spatial_expr_utils::predicates::SpatialPredicate;
 use spatial_expr_utils::predicates::TieBreakers;
@@ -98,20 +97,14 @@ fn put_predicate(out: &mut [u8], src: &[u8], rec: usize, count: usize, p: Spatia
     }
 }
 
-// Where the taken leaf is cut out of the expression; a leaf that is all of it has no parent.
+// Where the taken leaf is cut out of the expression.
 fn cut_of(pick: Pick) -> Cut
     ensures { λ r. ⌜ CutOf pick r ⌝ }
 {
-    let above = pick.parent;
-    let leaf = pick.leaf;
-    let end = pick.leaf_end;
-    match above {
-        Parent::Root => Cut {
-            leaf,
-            end,
-            parent: 0,
-        },
-        Parent::And(parent) => Cut { leaf, end, parent },
+    Cut {
+        leaf: pick.leaf,
+        end: pick.leaf_end,
+        parent: pick.parent,
     }
 }
 

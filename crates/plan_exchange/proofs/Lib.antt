@@ -1,6 +1,6 @@
 -- Laws that several proofs use.
 pub mod Sequence
-pub mod SideLaws
+pub mod NumberLaws
 pub mod SpanLaws
 pub mod RecordLaws
 pub mod Views

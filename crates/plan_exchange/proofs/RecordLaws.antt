@@ -3,36 +3,34 @@ use Prim.Native.Nat.{ℕ, zero, suc, _+_, _*_, _≤_, _<_}
 use native.Mathlib.Omega.{arith}
 use native.Mathlib.Nat.{not-suc-le-zero}
 use native.Mathlib.Numerals.{add-one}
-use mathlib.Core.Path.{_≡_, sym, ap, _∙_}
+use mathlib.Core.Path.{_≡_, refl, sym, ap, _∙_}
 use mathlib.Core.List.{List, [], _∷_, _++_, map, append-nil}
 use lib.ListN.{length, take, drop, getD, set, length-map}
 use lib.Seq.{take-length, drop-length}
 use Rattle.definitions.specs.Basics.{bigEndian}
 use Rattle.definitions.specs.Expression.{Record}
 use Rattle.definitions.specs.Encode.{sideNumber, recordBytes, recordsBytes}
-use Rattle.definitions.specs.Decode.{sideNumbered}
 use Rattle.definitions.specs.Exchange.{negate, exchangeRecord}
 use Rattle.definitions.proofs.ExchangeGood.{records-length}
 use Rattle.expression.proofs.Placed.{fits}
 use Rattle.plan_exchange.specs.Writing.{Room, Puts}
 use Rattle.plan_exchange.specs.Held.{RecordsAt}
-use Rattle.plan_exchange.specs.Exchanged.{recordsExchanged}
+use Rattle.plan_exchange.specs.Exchanged.{Renumbered, recordsExchanged}
 use Rattle.plan_writer.proofs.Written.{taken}
-use Rattle.plan_exchange.proofs.SideLaws.{side-back}
 
 -- The bytes of records of which the first i are exchanged.
 abbrev pub begun : ℕ → List Record → List ℕ
 begun i rs = recordsBytes (map exchangeRecord (take i rs) ++ drop i rs)
 
 -- The next one's side is negated.
-negate-next : (rs : List Record) (rest : List ℕ) (i : ℕ) → i < length rs
-    → set (begun i rs ++ rest) (5 * i) (sideNumber (negate (sideNumbered (getD (begun i rs ++ rest) (5 * i) 0)))) ≡ begun (suc i) rs ++ rest
+negate-next : (rs : List Record) (rest : List ℕ) (i b : ℕ) → i < length rs → Renumbered sideNumber negate (getD (begun i rs ++ rest) (5 * i) 0) b
+    → set (begun i rs ++ rest) (5 * i) b ≡ begun (suc i) rs ++ rest
 unfolding recordsBytes recordBytes bigEndian exchangeRecord
-negate-next [] rest i b = absurd (not-suc-le-zero b)
-negate-next (r ∷ rs) rest zero b = rw side-back
-negate-next (r ∷ rs) rest (suc i) b =
+negate-next [] rest i b below other = absurd (not-suc-le-zero below)
+negate-next (r ∷ rs) rest zero b below other = rw (other (r .side) refl)
+negate-next (r ∷ rs) rest (suc i) b below other =
     let on : 5 * suc i ≡ suc (suc (suc (suc (suc (5 * i))))) = omega arith in
-    rw on (ap (λ (l : List ℕ). recordBytes (exchangeRecord r) ++ l) (negate-next rs rest i (omega arith)))
+    rw on (ap (λ (l : List ℕ). recordBytes (exchangeRecord r) ++ l) (negate-next rs rest i b (omega arith) (rw on at other)))
 
 -- What a turn of the loop keeps: wherever the records stood at first, the first i are exchanged.
 abbrev pub Negated : (s : List ℕ) (rec count : ℕ) (before after : List ℕ) → ℕ → Type 0
@@ -47,10 +45,11 @@ module _ {s : List ℕ} {rec count : ℕ} where
       let h = p .stands in
       (omega (arith, fits (h .bytes), records-length (p .it), h .counted), omega (arith, p .room, records-size h))
 
-  pub negated-next : (before out : List ℕ) (i b : ℕ) → i < count → b ≡ sideNumber (negate (sideNumbered (getD out (5 * i) 0)))
+  pub negated-next : (before out : List ℕ) (i b : ℕ) → i < count → Renumbered sideNumber negate (getD out (5 * i) 0) b
       → Negated s rec count before out i → Negated s rec count before (set out (5 * i) b) (i + 1)
-  negated-next before out i b below e so rs rest h is =
-      rw (so rs rest h is, add-one i) (ap (set (begun i rs ++ rest) (5 * i)) (e ∙ rw (so rs rest h is)) ∙ negate-next rs rest i (omega (arith, h .counted)))
+  negated-next before out i b below other so rs rest h is =
+      let now = so rs rest h is in
+      rw (now, add-one i) (negate-next rs rest i b (omega (arith, h .counted)) (rw now at other))
 
   pub records-put : (before middle after : List ℕ) → middle ≡ take (5 * count) (drop rec s) ++ drop (5 * count) before
       → (i : ℕ) → i ≡ count → Negated s rec count middle after i → Puts (RecordsAt s rec count) recordsExchanged before after (5 * count)

@@ -1,22 +1,23 @@
 -- Laws of the writers' contracts: from the start or from w on, in a lent part, one after another, and by another view of the same bytes.
 use Prim.Native.Nat.{ℕ, _+_, _≤_, _<_}
 use native.Mathlib.Omega.{arith}
+use native.Mathlib.Nat.{zero-add}
 use mathlib.Core.Path.{_≡_, refl, sym, ap, _∙_}
 use mathlib.Core.List.{List, _∷_, _++_, append-assoc}
 use lib.ListN.{length, take, drop, set, length-append}
 use lib.Seq.{sets, sets-eq, length-sets}
 use Rattle.plan_writer.specs.Written.{Wrote, WroteAt}
 use Rattle.plan_exchange.specs.Writing.{Room, Puts, PutsAt, Both, joined}
-use Rattle.plan_writer.proofs.Written.{store, chain, from-start, to-start, behind, together, behind-length, part-wrote}
+use Rattle.plan_writer.proofs.Written.{store, chain, to-start, behind, together, behind-length, part-wrote}
 
 -- ---- from the start, and in a lent part
 
 module _ {A : Type 0} {At : A → Type 0} {bytes : A → List ℕ} where
   pub from-zero : {before after : List ℕ} {r : ℕ} → Puts At bytes before after r → PutsAt At bytes 0 before after r
-  from-zero {before} {after} {r} p = record { wrote = λ a h. from-start (bytes a) before (p .wrote a h) r (p .size a h) }
-
-  pub to-zero : {before after : List ℕ} {r : ℕ} → PutsAt At bytes 0 before after r → Puts At bytes before after r
-  to-zero p = record { size = λ a h. to-start (p .wrote a h) .0; wrote = λ a h. to-start (p .wrote a h) .1 }
+  from-zero {before} p = record {
+    wrote = λ a h.
+        record { ends = omega (arith, p .size a h); out = p .wrote a h ∙ ap (λ (k : ℕ). bytes a ++ drop k before) (sym (zero-add (length (bytes a)))) };
+  }
 
   pub part-room : {w : ℕ} {out : List ℕ} → Room At bytes w out → Room At bytes 0 (behind w out)
   part-room {w} {out} p = record { it = p .it; stands = p .stands; room = omega (arith, p .room, behind-length w out) }

@@ -4,16 +4,15 @@ use mathlib.Core.Path.{_≡_}
 use mathlib.Core.List.{List, map}
 use mathlib.Core.Option.{Option, Option·map}
 use lib.ListN.{length}
-use Rattle.definitions.specs.Expression.{Relation, Record, Frame, Predicate, Extraction, Plan}
-use Rattle.definitions.specs.Encode.{relationNumber, recordsBytes, frameBytes, remainderBytes, extractionBytes, planBytes}
-use Rattle.definitions.specs.Match.{invert}
+use Rattle.definitions.specs.Expression.{Record, Frame, Predicate, Extraction, Plan}
+use Rattle.definitions.specs.Encode.{recordsBytes, frameBytes, remainderBytes, extractionBytes, planBytes}
 use Rattle.definitions.specs.Exchange.{exchangeRecord, exchangeFrame, exchangePredicate, exchangeExtraction, exchangePlan}
 use Rattle.definitions.specs.Calls.{writtenOver}
 use Rattle.plan_exchange.specs.Held.{predicateBytes}
 
--- The number of a relation becomes that of its inverse.
-abbrev pub Inverted : (number answer : ℕ) → Type 0
-Inverted number answer = (type : Relation) → number ≡ relationNumber type → answer ≡ relationNumber (invert type)
+-- Whatever a number says, the answer is the number of what f makes of that.
+abbrev pub Renumbered : {A : Type 0} → (numberOf : A → ℕ) → (f : A → A) → (number answer : ℕ) → Type 0
+Renumbered {A = A} numberOf f number answer = (a : A) → number ≡ numberOf a → answer ≡ numberOf (f a)
 
 -- The bytes of what is exchanged.
 abbrev pub recordsExchanged : List Record → List ℕ

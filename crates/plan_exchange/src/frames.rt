@@ -1,9 +1,7 @@
 // Frames written with the side of each record negated.
 use crate::copies::Span;
 use crate::copies::copy_at;
-use crate::numbers::negate;
-use crate::numbers::side_number;
-use crate::numbers::side_numbered;
+use crate::numbers::negate_number;
 use frame::plans::Remainder;
 use frame::whole::Frame;
 use plan_writer::copies::copy_bytes;
@@ -29,9 +27,9 @@ fn put_records_exchanged(out: &mut [u8], src: &[u8], rec: usize, count: usize) -
     let mut i = 0;
     while i < count {
         let at = 5 * i;
-        let side = side_numbered(out[at]);
-        let other = negate(side);
-        out[at] = side_number(other);
+        let side = out[at];
+        let other = negate_number(side);
+        out[at] = other;
         i += 1;
     }
     n

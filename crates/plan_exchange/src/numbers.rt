@@ -3,23 +3,13 @@ use frame::predicates::Relation;
 use frame::records::Side;
 ghost use mathlib.Core.Path.{_≡_};
 ghost use Rattle.definitions.specs.Encode.{sideNumber, relationNumber};
-ghost use Rattle.definitions.specs.Decode as decode;
-ghost use Rattle.definitions.specs.Exchange as definitions;
+ghost use Rattle.definitions.specs.Match.{invert};
+ghost use Rattle.definitions.specs.Exchange.{negate};
 ghost use Rattle.frame.specs.Fields.{sideOf};
 ghost use Rattle.frame.specs.Predicates.{relationOf};
-ghost use Rattle.plan_exchange.specs.Exchanged.{Inverted};
+ghost use Rattle.plan_exchange.specs.Exchanged.{Renumbered};
 
-// The side that a byte says: 0 left, 1 right, any other none.
-pub fn side_numbered(number: u8) -> Side
-    ensures { λ r. ⌜ sideOf r ≡ decode.sideNumbered number ⌝ }
-{
-    match number {
-        0 => Side::Left,
-        1 => Side::Right,
-        _ => Side::Neither,
-    }
-}
-
+// 0 left, 1 right, 2 none.
 pub fn side_number(side: Side) -> u8
     ensures { λ r. ⌜ r ≡ sideNumber (sideOf side) ⌝ }
 {
@@ -30,17 +20,18 @@ pub fn side_number(side: Side) -> u8
     }
 }
 
-// The other side; that of none is none.
-pub fn negate(side: Side) -> Side
-    ensures { λ r. ⌜ sideOf r ≡ definitions.negate (sideOf side) ⌝ }
+// The number of the other side; that of none stays.
+pub fn negate_number(number: u8) -> u8
+    ensures { λ r. ⌜ Renumbered sideNumber negate number r ⌝ }
 {
-    match side {
-        Side::Left => Side::Right,
-        Side::Right => Side::Left,
-        Side::Neither => Side::Neither,
+    match number {
+        0 => 1,
+        1 => 0,
+        _ => number,
     }
 }
 
+// In declaration order, from 0.
 pub fn relation_number(relation: Relation) -> u8
     ensures { λ r. ⌜ r ≡ relationNumber (relationOf relation) ⌝ }
 {
@@ -59,7 +50,7 @@ pub fn relation_number(relation: Relation) -> u8
 
 // The number of the relation that holds of the exchanged arguments.
 pub fn invert_number(number: u8) -> u8
-    ensures { λ r. ⌜ Inverted number r ⌝ }
+    ensures { λ r. ⌜ Renumbered relationNumber invert number r ⌝ }
 {
     match number {
         1 => 2,

@@ -3,7 +3,7 @@ use crate::copies::Span;
 use crate::copies::copy_at;
 use crate::copies::copy_both;
 use crate::numbers::invert_number;
-use crate::numbers::negate;
+use crate::numbers::negate_number;
 use crate::numbers::relation_number;
 use crate::numbers::side_number;
 use frame::predicates::DistanceAt;
@@ -39,13 +39,14 @@ fn swap_distance(out: &mut [u8], src: &[u8], p: DistanceAt) -> usize
     ensures { λ r. ⌜ Puts (PredicateHeld (now (src .entry)) (Predicate.Distance p)) predicateExchanged (now (out .entry)) (now (out .exit)) r ⌝ }
 {
     let side = p.side;
-    let other = negate(side);
+    let number = side_number(side);
+    let other = negate_number(number);
     let left = Span(p.left, p.right);
     let right = Span(p.right, p.distance);
     let distance = Span(p.distance, p.end);
     out[0] = 0x12;
     out[1] = p.form as u8;
-    out[2] = side_number(other);
+    out[2] = other;
     let w = copy_both(out, 3, src, right, left);
     copy_at(out, w, src, distance)
 }
@@ -70,15 +71,15 @@ fn swap_knn(out: &mut [u8], src: &[u8], p: KnnAt) -> usize
 {
     let flags = p.flags;
     let probe = flags.probe;
-    let other = negate(probe);
-    let number = side_number(other);
+    let number = side_number(probe);
+    let other = negate_number(number);
     let left = Span(p.left, p.right);
     let right = Span(p.right, p.end);
     let w = put_knn_head(
         out,
         p.k as usize,
         flags.spheroid as u8,
-        number,
+        other,
         flags.ties as u8,
     );
     copy_both(out, w, src, left, right)

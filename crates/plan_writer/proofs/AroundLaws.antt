@@ -1,5 +1,5 @@
 -- A walk over And nodes: what it makes of the leaf, of another AND-leaf, and of an And by its sides.
-use Prim.Native.Nat.{ℕ, _+_, _≤_, _<_}
+use Prim.Native.Nat.{ℕ, _+_, _<_}
 use native.Mathlib.Omega.{arith}
 use mathlib.Core.Path.{_≡_, refl, sym, ap, ap₂, _∙_, subst}
 use mathlib.Core.List.{List, [], _∷_, _++_}
@@ -8,7 +8,7 @@ use types.Run.{OneOf}
 use denote.Enum.Declared.{tagOf}
 use lib.ListN.{length, length-append}
 use borrow.Author.Tests.{eq-eqb, ne-eqb}
-use Rattle.definitions.specs.Expression.{Expr, column, literal, and, binary, call, other, field, Exprs}
+use Rattle.definitions.specs.Expression.{Expr, column, literal, and, binary, call, other, field}
 use Rattle.definitions.specs.Encode.{exprBytes}
 use Rattle.definitions.specs.Leaves.{leaves}
 use Rattle.definitions.specs.Decode.{Columns}
@@ -58,7 +58,7 @@ at-leaf {at} {leaf} x e = rw (eq-eqb at leaf e)
 pub not-leaf : {at leaf : ℕ} (x : List ℕ) → (at ≡ leaf → ⊥) → unless at leaf x ≡ x
 not-leaf {at} {leaf} x n = rw (ne-eqb at leaf n)
 
-pub lone-inside : (leaf : ℕ) (head : ℕ → List ℕ) (one : Expr → List ℕ) (at : ℕ) (t : Expr) → leaves t ≡ t ∷ [] → inside leaf head one at t ≡ one t
+lone-inside : (leaf : ℕ) (head : ℕ → List ℕ) (one : Expr → List ℕ) (at : ℕ) (t : Expr) → leaves t ≡ t ∷ [] → inside leaf head one at t ≡ one t
 unfolding inside
 lone-inside leaf head one at (column i g) e = refl
 lone-inside leaf head one at (literal y v) e = refl
@@ -86,7 +86,7 @@ module _ {c : Columns} {s : List ℕ} {at first : ℕ} {t : Expr} (b : Both and 
 
   -- Its right side stands where its left side ends, at p.
   module _ (p : ℕ) (ends : p ≡ first + length (exprBytes (b .l))) where
-    pub right-at : p ≡ rightOf at (b .l)
+    right-at : p ≡ rightOf at (b .l)
     right-at = omega (arith, left-at)
 
     pub right-there : Stands c s p (b .r)

@@ -1,9 +1,9 @@
 -- What each return of `reproject_column_references` and `reproject_children` answers, and what their calls require.
-use Prim.Native.Nat.{ℕ, _+_, _-_, _/_, _%_, _^_, _≤_, _<_}
+use Prim.Native.Nat.{ℕ, _+_, _-_, _≤_, _<_}
 use native.Mathlib.Omega.{arith}
-use mathlib.Core.Path.{_≡_, refl, sym, ap, ap₂, _∙_}
+use mathlib.Core.Path.{_≡_, refl, sym, ap, _∙_}
 use mathlib.Core.List.{List, [], _∷_, _++_, append-nil, append-assoc}
-use lib.ListN.{length, getD, take, drop, set, length-append}
+use lib.ListN.{length, getD, take, drop, length-append}
 use Rattle.definitions.specs.Basics.{bigEndian}
 use Rattle.definitions.specs.Expression.{Expr, column, literal, and, binary, call, other, field, Exprs, count}
 use Rattle.definitions.specs.Encode.{exprBytes, exprsBytes}
@@ -16,7 +16,7 @@ use Rattle.expression.specs.Heads.{HeadIs}
 use Rattle.expression.specs.declared.heads.Head.{Head}
 use Rattle.expression.proofs.Placed.{fits}
 use Rattle.expression.proofs.Standing.{tree-length, head-stands, kind-is, children-stand, first-stands, rest-stands, some-children, no-children, head-fits, after-node}
-use Rattle.plan_writer.specs.Written.{Wrote}
+use Rattle.plan_writer.specs.Written.{Wrote, WroteAt}
 use Rattle.plan_writer.specs.Copies.{copyOf, copiesOf, ColumnThere, ColumnPut, CopyFits, CopiesFit, CopyFitsAt, CopyIs, NodeCopied, RowCopied, CopiedAt}
 use Rattle.plan_writer.specs.declared.copies.Copied.{Copied}
 use Rattle.plan_writer.proofs.Written.{behind, together, behind-length, part-wrote, then-wrote, copied-wrote}
@@ -39,18 +39,10 @@ pub column-within : {s : List ℕ} {at : ℕ} → ColumnThere s at → at + 5 �
 column-within p = omega (arith, fits (p .2), column-size (p .0) (p .1))
 
 -- A copied column with the two bytes of its index overwritten.
-pub column-put : (v : ℕ) → v < 65536 → (before : List ℕ) {middle s : List ℕ} {at : ℕ} (index tag : ℕ) → Holds s at (exprBytes (column index tag))
-    → middle ≡ take 5 (drop at s) ++ drop 5 before → Wrote (exprBytes (column v tag)) before (set (set middle 1 (v / 256)) 2 (v % 256))
+pub column-put : (v : ℕ) (before : List ℕ) {middle after s : List ℕ} {at r : ℕ} (index tag : ℕ) → Holds s at (exprBytes (column index tag))
+    → middle ≡ take 5 (drop at s) ++ drop 5 before → WroteAt 1 (bigEndian 2 v) middle after r → Wrote (exprBytes (column v tag)) before after
 unfolding exprBytes bigEndian
-column-put v short before {middle} {s} {at} index tag there is =
-    ap (λ (l : List ℕ). set (set l 1 (v / 256)) 2 (v % 256)) (copied-wrote before 5 there refl is)
-    ∙ ap₂ (λ (a b : ℕ). 0 ∷ a ∷ b ∷ (bigEndian 2 tag ++ drop 5 before)) high low
-  where
-    high : v / 256 ≡ v / 256 ^ 1 % 256
-    high = omega (arith, short)
-
-    low : v % 256 ≡ v / 256 ^ 0 % 256
-    low = omega arith
+column-put v before index tag there is put = put .out ∙ ap (λ (m : List ℕ). take 1 m ++ (bigEndian 2 v ++ drop 3 m)) (copied-wrote before 5 there refl is)
 
 module _ (to : List ℕ) {s : List ℕ} {at : ℕ} where
   no-column : (t : Expr) → Stands (indexBelow (length to)) s at t → (getD s at 0 ≡ 0 → ⊥) → copyOf to t ≡ headBytes t ++ copiesOf to (childrenOf t)

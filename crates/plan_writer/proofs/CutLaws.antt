@@ -1,12 +1,11 @@
 -- What a cut leaves: where it lies, which expression is left, and what a walk over the And nodes makes of it.
 use Prim.Native.Nat.{ℕ, _+_, _-_, _≤_, _<_}
 use native.Mathlib.Omega.{arith}
-use mathlib.Core.Path.{_≡_, refl, sym, ap, ap₂, _∙_}
-use mathlib.Core.Bool.{Bool, true, false}
+use mathlib.Core.Path.{_≡_, refl, sym, ap, ap₂, _∙_, subst}
+use mathlib.Core.Bool.{Bool}
 use mathlib.Core.List.{List, [], _∷_, _++_, append-nil}
 use mathlib.Core.Option.{Option, none, some}
 use lib.ListN.{length, length-append}
-use lib.Dec.{ltb}
 use borrow.Author.Tests.{lt-ltb, le-ltb}
 use Rattle.definitions.specs.Basics.{if_then_else_}
 use Rattle.definitions.specs.Expression.{Expr, column, literal, and, binary, call, other, field}
@@ -15,12 +14,13 @@ use Rattle.definitions.specs.Leaves.{leaves}
 use Rattle.definitions.specs.Decode.{Columns}
 use Rattle.definitions.specs.Extract.{without, andLeft, andRight}
 use Rattle.definitions.specs.Limits.{InRange}
-use Rattle.plan_writer.specs.Cuts.{leftOf, rightOf, CutBelow, leftLeaf, rightLeaf, inLeft, inRight, inside, around, EndsInside, Ends}
+use Rattle.definitions.proofs.Taken.{Taken, RestIs, rest-in-range}
+use Rattle.plan_writer.specs.Cuts.{leftOf, rightOf, CutAt, here, inLeft, inRight, inside, around, EndsInside, Ends}
 use Rattle.plan_writer.specs.declared.cuts.Cut.{Cut}
 use Rattle.plan_writer.proofs.AroundLaws.{leaves-some, no-and, at-leaf, not-leaf, lone-around}
 
 -- An expression has bytes, an And those of its sides and two more.
-pub size-some : (t : Expr) → 0 < length (exprBytes t)
+size-some : (t : Expr) → 0 < length (exprBytes t)
 unfolding exprBytes
 size-some (column i g) = omega arith
 size-some (literal y v) = omega arith
@@ -37,13 +37,23 @@ size-and l r = simp length-append (omega arith)
 -- ---- what is left
 
 -- The other AND-leaves, as they were joined.
-pub rest : {cut : Cut} {t : Expr} {at position : ℕ} → CutBelow cut t at position → Expr
-rest (leftLeaf {r = r} lone leaf end parent) = r
-rest (rightLeaf {l = l} lone leaf end parent) = l
-rest (inLeft {r = r} c) = and (rest c) r
-rest (inRight {l = l} c) = and l (rest c)
+rest : {cut : Cut} {up : ℕ} {t : Expr} {at position : ℕ} → CutAt cut up t at position → Option Expr
+rest (here lone leaf end parent) = none
+rest (inLeft {r = r} c) = some (andLeft (rest c) r)
+rest (inRight {l = l} c) = some (andRight l (rest c))
 
-pub lone-without : (t : Expr) → leaves t ≡ t ∷ [] → (i : ℕ) → without i t ≡ none
+taken-leaf : {cut : Cut} {up : ℕ} {t : Expr} {at position : ℕ} → CutAt cut up t at position → Expr
+taken-leaf (here {t = t} lone leaf end parent) = t
+taken-leaf (inLeft c) = taken-leaf c
+taken-leaf (inRight c) = taken-leaf c
+
+cut-taken : {cut : Cut} {up : ℕ} {t : Expr} {at position : ℕ} (c : CutAt cut up t at position) → Taken t (taken-leaf c) (rest c)
+unfolding rest taken-leaf
+cut-taken (here lone leaf end parent) = Taken.here
+cut-taken (inLeft {r = r} c) = Taken.inLeft r (cut-taken c)
+cut-taken (inRight {l = l} c) = Taken.inRight l (cut-taken c)
+
+lone-without : (t : Expr) → leaves t ≡ t ∷ [] → (i : ℕ) → without i t ≡ none
 unfolding without
 lone-without (column i g) e p = refl
 lone-without (literal y v) e p = refl
@@ -65,51 +75,40 @@ without-right j i l r e =
     ap (λ (b : Bool). some (if b then andLeft (without i l) r else andRight l (without (i - length (leaves l)) r))) (le-ltb i (length (leaves l)) (omega arith))
     ∙ ap (λ (k : ℕ). some (andRight l (without k r))) on
 
--- It is the definition's expression without the leaf.
-pub position-below : {cut : Cut} {t : Expr} {at position : ℕ} → CutBelow cut t at position → position < length (leaves t)
+position-below : {cut : Cut} {up : ℕ} {t : Expr} {at position : ℕ} → CutAt cut up t at position → position < length (leaves t)
 unfolding leaves
-position-below (leftLeaf {l = l} lone leaf end parent) = simp length-append (omega (arith, leaves-some l))
-position-below (rightLeaf {r = r} lone leaf end parent) = simp length-append (omega (arith, leaves-some r))
+position-below (here {t = t} lone leaf end parent) = leaves-some t
 position-below (inLeft c) = simp length-append (omega (arith, position-below c))
 position-below (inRight c) = simp length-append (omega (arith, position-below c))
 
-pub rest-without : {cut : Cut} {t : Expr} {at position : ℕ} (c : CutBelow cut t at position) → without position t ≡ some (rest c)
-unfolding rest andLeft andRight
-rest-without (leftLeaf {l = l} {r = r} lone leaf end parent) =
-    without-left 0 l r (leaves-some l) ∙ ap (λ (o : Option Expr). some (andLeft o r)) (lone-without l lone 0)
-rest-without (rightLeaf {l = l} {r = r} lone leaf end parent) =
-    without-right 0 (length (leaves l)) l r (omega arith) ∙ ap (λ (o : Option Expr). some (andRight l o)) (lone-without r lone 0)
-rest-without (inLeft {l = l} {r = r} {position = i} c) =
-    without-left i l r (position-below c) ∙ ap (λ (o : Option Expr). some (andLeft o r)) (rest-without c)
+-- It is the definition's expression without the leaf.
+rest-without : {cut : Cut} {up : ℕ} {t : Expr} {at position : ℕ} (c : CutAt cut up t at position) → without position t ≡ rest c
+unfolding rest
+rest-without (here {t = t} lone leaf end parent) = lone-without t lone 0
+rest-without (inLeft {l = l} {r = r} {position = i} c) = without-left i l r (position-below c) ∙ ap (λ (o : Option Expr). some (andLeft o r)) (rest-without c)
 rest-without (inRight {l = l} {r = r} {position = i} c) =
     without-right i (length (leaves l) + i) l r refl ∙ ap (λ (o : Option Expr). some (andRight l o)) (rest-without c)
 
-pub rest-in-range : {cut : Cut} {t : Expr} {at position : ℕ} (d : Columns) (c : CutBelow cut t at position) → InRange d t → InRange d (rest c)
-unfolding rest
-rest-in-range d (leftLeaf lone leaf end parent) h = h .1
-rest-in-range d (rightLeaf lone leaf end parent) h = h .0
-rest-in-range d (inLeft c) h = (rest-in-range d c (h .0), h .1)
-rest-in-range d (inRight c) h = (h .0, rest-in-range d c (h .1))
-
 -- ---- where it lies
 
-pub record Spans (cut : Cut) (t : Expr) (at : ℕ) : Type 0 where
-  pub parent : at ≤ cut .parent
-  pub leaf : cut .parent < cut .leaf
-  pub some : cut .leaf < cut .end
-  pub end : cut .end ≤ at + length (exprBytes t)
+-- Below the And above; its parent is that And, or lies in the expression.
+record Spans (cut : Cut) (up : ℕ) (t : Expr) (at : ℕ) : Type 0 where
+  low : up ≤ cut .parent
+  gap : up < cut .parent → cut .parent < at → ⊥
+  parent : cut .parent < cut .leaf
+  leaf : at ≤ cut .leaf
+  some : cut .leaf < cut .end
+  end : cut .end ≤ at + length (exprBytes t)
 
-pub spans : {cut : Cut} {t : Expr} {at position : ℕ} → CutBelow cut t at position → Spans cut t at
-spans (leftLeaf {l = l} {r = r} lone leaf end parent) =
-    record { parent = omega arith; leaf = omega arith; some = omega (arith, size-some l); end = omega (arith, size-and l r) }
-spans (rightLeaf {l = l} {r = r} lone leaf end parent) =
-    record { parent = omega arith; leaf = omega arith; some = omega (arith, size-some r); end = omega (arith, size-and l r) }
-spans (inLeft {l = l} {r = r} c) =
-    let s = spans c in
-    record { parent = omega (arith, s .parent); leaf = s .leaf; some = s .some; end = omega (arith, s .end, size-and l r) }
-spans (inRight {l = l} {r = r} c) =
-    let s = spans c in
-    record { parent = omega (arith, s .parent); leaf = s .leaf; some = s .some; end = omega (arith, s .end, size-and l r) }
+spans : {cut : Cut} {up : ℕ} {t : Expr} {at position : ℕ} → up < at → CutAt cut up t at position → Spans cut up t at
+spans lt (here {t = t} lone leaf end parent) =
+    record { low = omega arith; gap = λ a b. omega arith; parent = omega arith; leaf = omega arith; some = omega (arith, size-some t); end = omega arith }
+spans {at = at} lt (inLeft {l = l} {r = r} c) =
+    let s = spans {at = leftOf at} (omega arith) c in
+    record { low = omega (arith, s .low); gap = λ a b. omega (arith, s .low); parent = s .parent; leaf = omega (arith, s .leaf); some = s .some; end = omega (arith, s .end, size-and l r) }
+spans {at = at} lt (inRight {l = l} {r = r} c) =
+    let s = spans {at = rightOf at l} (omega arith) c in
+    record { low = omega (arith, s .low); gap = λ a b. omega (arith, s .low); parent = s .parent; leaf = omega (arith, s .leaf); some = s .some; end = omega (arith, s .end, size-and l r) }
 
 -- ---- what a walk over the And nodes makes of it
 
@@ -129,7 +128,7 @@ away-here t far e = far (omega arith) (omega (arith, size-some t))
 
 -- `head` is h but at the leaf's parent, where it is empty, and `one` is made of an And as of its sides.
 pub record Joins (cut : Cut) (head : ℕ → List ℕ) (one : Expr → List ℕ) (h : List ℕ) : Type 0 where
-  pub here : head (cut .parent) ≡ []
+  pub none-there : head (cut .parent) ≡ []
   pub elsewhere : (place : ℕ) → (place ≡ cut .parent → ⊥) → head place ≡ h
   pub joined : (l r : Expr) → h ++ (one l ++ one r) ≡ one (and l r)
 
@@ -157,22 +156,44 @@ module _ {cut : Cut} {head : ℕ → List ℕ} {one : Expr → List ℕ} {h : Li
   outside (field bits g) at a b = lone-around head one (away-here (field bits g) a) refl
 
   -- With the cut in it, what is left.
-  pub around-rest : {t : Expr} {at position : ℕ} (c : CutBelow cut t at position) → around (cut .leaf) head one at t ≡ one (rest c)
-  unfolding rest made
-  around-rest {at = at} (leftLeaf {l = l} {r = r} lone leaf end parent) =
-      by-sides l r [] (λ e. omega arith) (ap head (sym parent) ∙ j .here) (at-leaf (inside (cut .leaf) head one (leftOf at) l) (sym leaf))
-      (outside r (rightOf at l) (λ a b. omega (arith, size-some l)) (λ a b. omega arith))
-  around-rest {at = at} (rightLeaf {l = l} {r = r} lone leaf end parent) =
-      by-sides l r [] (λ e. omega arith) (ap head (sym parent) ∙ j .here) (outside l (leftOf at) (λ a b. omega arith) (λ a b. omega arith))
-      (at-leaf (inside (cut .leaf) head one (rightOf at l) r) (sym leaf)) ∙ append-nil (one l)
+  left-made : Option Expr → List ℕ
+  left-made none = []
+  left-made (some e) = one e
+
+  -- At the And above, whose head is there unless it is the parent.
+  made-left : {up : ℕ} {t : Expr} {at position : ℕ} → up < at → (c : CutAt cut up t at position) → (r : Expr)
+      → head up ++ (left-made (rest c) ++ one r) ≡ one (andLeft (rest c) r)
+  unfolding rest left-made andLeft
+  made-left lt (here lone leaf end parent) r = ap (λ (x : List ℕ). x ++ one r) (ap head (sym parent) ∙ j .none-there)
+  made-left {up} {at = at} lt (inLeft {r = k} c) r =
+      let s = spans {at = leftOf at} (omega arith) c in
+      ap (λ (x : List ℕ). x ++ (one (andLeft (rest c) k) ++ one r)) (j .elsewhere up (λ e. omega (arith, s .low))) ∙ j .joined (andLeft (rest c) k) r
+  made-left {up} {at = at} lt (inRight {l = l} c) r =
+      let s = spans {at = rightOf at l} (omega arith) c in
+      ap (λ (x : List ℕ). x ++ (one (andRight l (rest c)) ++ one r)) (j .elsewhere up (λ e. omega (arith, s .low))) ∙ j .joined (andRight l (rest c)) r
+
+  made-right : {up : ℕ} {t : Expr} {at position : ℕ} → up < at → (c : CutAt cut up t at position) → (l : Expr)
+      → head up ++ (one l ++ left-made (rest c)) ≡ one (andRight l (rest c))
+  unfolding rest left-made andRight
+  made-right lt (here lone leaf end parent) l = ap (λ (x : List ℕ). x ++ (one l ++ [])) (ap head (sym parent) ∙ j .none-there) ∙ append-nil (one l)
+  made-right {up} {at = at} lt (inLeft {r = r} c) l =
+      let s = spans {at = leftOf at} (omega arith) c in
+      ap (λ (x : List ℕ). x ++ (one l ++ one (andLeft (rest c) r))) (j .elsewhere up (λ e. omega (arith, s .low))) ∙ j .joined l (andLeft (rest c) r)
+  made-right {up} {at = at} lt (inRight {l = k} c) l =
+      let s = spans {at = rightOf at k} (omega arith) c in
+      ap (λ (x : List ℕ). x ++ (one l ++ one (andRight k (rest c)))) (j .elsewhere up (λ e. omega (arith, s .low))) ∙ j .joined l (andRight k (rest c))
+
+  around-rest : {up : ℕ} {t : Expr} {at position : ℕ} (c : CutAt cut up t at position) → made at t ≡ left-made (rest c)
+  unfolding rest made left-made
+  around-rest {at = at} (here {t = t} lone leaf end parent) = at-leaf (inside (cut .leaf) head one at t) (sym leaf)
   around-rest {at = at} (inLeft {l = l} {r = r} c) =
-      let s = spans c in
-      by-sides l r h (λ e. omega (arith, s .parent, s .leaf)) (j .elsewhere at (λ e. omega (arith, s .parent))) (around-rest c)
-      (outside r (rightOf at l) (λ a b. omega (arith, s .some, s .end)) (λ a b. omega (arith, s .leaf, s .some, s .end))) ∙ j .joined (rest c) r
+      let s = spans {at = leftOf at} (omega arith) c in
+      by-sides l r (head at) (λ e. omega (arith, s .leaf)) refl (around-rest c)
+      (outside r (rightOf at l) (λ a b. omega (arith, s .some, s .end)) (λ a b. omega (arith, s .parent, s .some, s .end))) ∙ made-left (omega arith) c r
   around-rest {at = at} (inRight {l = l} {r = r} c) =
-      let s = spans c in
-      by-sides l r h (λ e. omega (arith, s .parent, s .leaf)) (j .elsewhere at (λ e. omega (arith, s .parent)))
-      (outside l (leftOf at) (λ a b. omega (arith, s .parent, s .leaf)) (λ a b. omega (arith, s .parent))) (around-rest c) ∙ j .joined l (rest c)
+      let s = spans {at = rightOf at l} (omega arith) c in
+      by-sides l r (head at) (λ e. omega (arith, s .leaf)) refl
+      (outside l (leftOf at) (λ a b. omega (arith, s .leaf)) (λ a b. s .gap (omega arith) (omega arith))) (around-rest c) ∙ made-right (omega arith) c l
 
 -- ---- the leaf ends where the cut says
 
@@ -202,14 +223,41 @@ module _ (cut : Cut) where
   ends-leaf : (t : Expr) (at : ℕ) → cut .leaf ≡ at → cut .end ≡ at + length (exprBytes t) → Ends cut at t
   ends-leaf t at e f = (λ k. f, ends-inside t at (λ a b. omega arith))
 
-pub cut-ends : (cut : Cut) {t : Expr} {at position : ℕ} → CutBelow cut t at position → Ends cut at t
-cut-ends cut {at = at} (leftLeaf {l = l} {r = r} lone leaf end parent) =
-    (λ e. absurd (omega arith), (ends-leaf cut l (leftOf at) leaf end, ends-away cut r (rightOf at l) (λ a b. omega (arith, size-some l))))
-cut-ends cut {at = at} (rightLeaf {l = l} {r = r} lone leaf end parent) =
-    (λ e. absurd (omega arith), (ends-away cut l (leftOf at) (λ a b. omega arith), ends-leaf cut r (rightOf at l) leaf end))
+cut-ends : (cut : Cut) {up : ℕ} {t : Expr} {at position : ℕ} → CutAt cut up t at position → Ends cut at t
+cut-ends cut {at = at} (here {t = t} lone leaf end parent) = ends-leaf cut t at leaf end
 cut-ends cut {at = at} (inLeft {l = l} {r = r} c) =
-    let s = spans c in
-    (λ e. absurd (omega (arith, s .parent, s .leaf)), (cut-ends cut c, ends-away cut r (rightOf at l) (λ a b. omega (arith, s .some, s .end))))
+    let s = spans {at = leftOf at} (omega arith) c in
+    (λ e. absurd (omega (arith, s .leaf)), (cut-ends cut c, ends-away cut r (rightOf at l) (λ a b. omega (arith, s .some, s .end))))
 cut-ends cut {at = at} (inRight {l = l} {r = r} c) =
-    let s = spans c in
-    (λ e. absurd (omega (arith, s .parent, s .leaf)), (ends-away cut l (leftOf at) (λ a b. omega (arith, s .parent, s .leaf)), cut-ends cut c))
+    let s = spans {at = rightOf at l} (omega arith) c in
+    (λ e. absurd (omega (arith, s .leaf)), (ends-away cut l (leftOf at) (λ a b. omega (arith, s .leaf)), cut-ends cut c))
+
+-- ---- all of it
+
+-- The expression e is left.
+pub record Remains (cut : Cut) (t : Expr) (at position : ℕ) (e : Expr) : Type 0 where
+  pub without-leaf : without position t ≡ some e
+  pub ends : Ends cut at t
+  pub inRange : (d : Columns) → InRange d t → InRange d e
+  pub walked : {head : ℕ → List ℕ} {one : Expr → List ℕ} {h : List ℕ} → Joins cut head one h → around (cut .leaf) head one at t ≡ one e
+
+-- Nothing is left where the leaf is the whole expression, and something where it is not.
+pub nothing-left : {cut : Cut} {up : ℕ} {t : Expr} {at position : ℕ} → CutAt cut up t at position → at ≡ cut .leaf → without position t ≡ none
+nothing-left (here {t = t} lone leaf end parent) e = lone-without t lone 0
+nothing-left {at = at} (inLeft c) e = absurd (omega (arith, spans {at = leftOf at} (omega arith) c .leaf))
+nothing-left {at = at} (inRight {l = l} c) e = absurd (omega (arith, spans {at = rightOf at l} (omega arith) c .leaf))
+
+remaining : {cut : Cut} {up : ℕ} {t : Expr} {at position : ℕ} (c : CutAt cut up t at position) {e : Expr} → rest c ≡ some e → Remains cut t at position e
+unfolding left-made made
+remaining {cut} c {e} is = record {
+  without-leaf = rest-without c ∙ is;
+  ends = cut-ends cut c;
+  inRange = λ d h. subst (RestIs (InRange d)) is (rest-in-range d (cut-taken c) h);
+  walked = λ j. around-rest j c ∙ ap (left-made j) is;
+}
+
+pub something-left : {cut : Cut} {up : ℕ} {t : Expr} {at position : ℕ} → CutAt cut up t at position → (at ≡ cut .leaf → ⊥) → (e : Expr) × Remains cut t at position e
+unfolding rest
+something-left (here lone leaf end parent) n = absurd (n (sym leaf))
+something-left {up = up} (inLeft {r = r} c) n = (andLeft (rest c) r, remaining (inLeft {up = up} c) refl)
+something-left {up = up} (inRight {l = l} c) n = (andRight l (rest c), remaining (inRight {up = up} c) refl)

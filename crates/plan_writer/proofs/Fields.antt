@@ -1,5 +1,5 @@
 -- Numbers of two bytes, records and columns at a place.
-use Prim.Native.Nat.{ℕ, zero, suc, _+_, _*_, _/_, _%_, _≤_, _<_}
+use Prim.Native.Nat.{ℕ, zero, suc, _+_, _*_, _/_, _%_, _<_}
 use native.Mathlib.Omega.{arith}
 use native.Mathlib.Nat.{not-suc-le-zero, add-zero}
 use mathlib.Core.Path.{_≡_, refl, sym, ap, ap₂, _∙_, subst}
@@ -26,7 +26,7 @@ short-is {s} {at} {v} h b =
     let low : getD s (at + 1) 0 ≡ v / 1 % 256 = byte-at h 1 (omega arith) in
     omega (arith, ap (λ (p : ℕ). getD s p 0) (add-zero at))
 
-pub short-length : (v : ℕ) → length (bigEndian 2 v) ≡ 2
+short-length : (v : ℕ) → length (bigEndian 2 v) ≡ 2
 unfolding bigEndian
 short-length v = refl
 

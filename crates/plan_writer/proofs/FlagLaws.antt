@@ -13,11 +13,6 @@ use Rattle.definitions.specs.Limits.{All}
 use Rattle.plan_writer.specs.References.{marked}
 use Rattle.plan_writer.specs.Records.{Flags}
 
-pub marked-length : (columns flags : List ℕ) → length (marked columns flags) ≡ length flags
-unfolding marked
-marked-length [] flags = refl
-marked-length (i ∷ columns) flags = marked-length columns (set flags i 1) ∙ length-set flags i 1
-
 -- A flag that is set stays so.
 set-keeps : (flags : List ℕ) (c i : ℕ) → i < length flags → getD flags i 0 ≡ 1 → (b : Bool) → eqb c i ≡ b → getD (set flags c 1) i 0 ≡ 1
 set-keeps flags c i h e true same = ap (λ (c : ℕ). getD (set flags c 1) i 0) (eqb-true c i same) ∙ getD-set-same flags i 1 0 h

@@ -1,12 +1,12 @@
 -- Predicates part by part: arguments through a table, then the numbers before them.
-use Prim.Native.Nat.{ℕ, _+_, _≤_, _<_}
+use Prim.Native.Nat.{ℕ, _+_, _≤_}
 use native.Mathlib.Omega.{arith}
 use mathlib.Core.Path.{_≡_, refl, sym, ap, ap₂, _∙_, subst}
 use mathlib.Core.List.{List, [], _∷_, _++_, append-assoc}
 use lib.ListN.{length, set, length-append, length-set}
 use Rattle.definitions.specs.Basics.{bigEndian}
-use Rattle.definitions.specs.Expression.{Side, left, right, noSide, Relation, Expr, Record, Predicate, relation, distance, knn}
-use Rattle.definitions.specs.Encode.{sideNumber, relationNumber, exprBytes, predicateKind, predicateFields}
+use Rattle.definitions.specs.Expression.{Side, left, right, noSide, Expr, Record, Predicate}
+use Rattle.definitions.specs.Encode.{sideNumber, exprBytes, predicateKind, predicateFields}
 use Rattle.definitions.specs.Decode.{indexBelow}
 use Rattle.definitions.specs.Match.{onChild, boundOn}
 use Rattle.expression.specs.Nodes.{Stands}
@@ -23,10 +23,10 @@ use Rattle.plan_writer.proofs.TableLaws.{children-copied, own-copied}
 
 module _ {s : List ℕ} {at count : ℕ} {t : Expr} (stands : Stands (indexBelow count) s at t) (to : List ℕ) (wide : count ≤ length to) {x : List ℕ} (is : copyOf to t ≡ x)
   where
-    pub argument-fits : (w : ℕ) (out : List ℕ) → w + length x ≤ length out → CopyFitsAt s at to w out
+    argument-fits : (w : ℕ) (out : List ℕ) → w + length x ≤ length out → CopyFitsAt s at to w out
     argument-fits w out room = record { tree = t; stands = wider-stands wide stands; room = omega (arith, ap length is) }
 
-    pub argument-put : {w r : ℕ} {before after : List ℕ} → CopiedAt s at to w before after r → WroteAt w x before after r
+    argument-put : {w r : ℕ} {before after : List ℕ} → CopiedAt s at to w before after r → WroteAt w x before after r
     argument-put {w} {r} {before} {after} copied = subst (λ (y : List ℕ). WroteAt w y before after r) is (copied t (wider-stands wide stands))
 
 -- ---- two arguments on their child
@@ -35,11 +35,11 @@ module _ {s : List ℕ} {rec count : ℕ} (to : List ℕ) (wide : 256 ≤ length
   on-child : {at : ℕ} {records : List Record} {t : Expr} → FrameAt s rec count at records t → copyOf to t ≡ exprBytes (onChild records t)
   on-child {t = t} f = children-copied to table (f .entries) t (f .tree .inRange)
 
-  pub child-fits : {at : ℕ} {records : List Record} {t : Expr} → FrameAt s rec count at records t → (w : ℕ) (out : List ℕ)
+  child-fits : {at : ℕ} {records : List Record} {t : Expr} → FrameAt s rec count at records t → (w : ℕ) (out : List ℕ)
       → w + length (exprBytes (onChild records t)) ≤ length out → CopyFitsAt s at to w out
   child-fits f w out room = argument-fits (f .tree) to (omega (arith, f .few)) (on-child f) w out room
 
-  pub child-put : {at : ℕ} {records : List Record} {t : Expr} → FrameAt s rec count at records t → {w r : ℕ} {before after : List ℕ}
+  child-put : {at : ℕ} {records : List Record} {t : Expr} → FrameAt s rec count at records t → {w r : ℕ} {before after : List ℕ}
       → CopiedAt s at to w before after r → WroteAt w (exprBytes (onChild records t)) before after r
   child-put f copied = argument-put (f .tree) to (omega (arith, f .few)) (on-child f) copied
 

@@ -1,5 +1,5 @@
 -- Which records stay: two records compared, one among the marked ones, all that stay in order.
-use Prim.Native.Nat.{ℕ, suc, _+_, _*_, _≤_, _<_}
+use Prim.Native.Nat.{ℕ, _+_, _*_, _≤_, _<_}
 use native.Mathlib.Omega.{arith}
 use native.Mathlib.Numerals.{add-one}
 use mathlib.Core.Path.{_≡_, refl, sym, ap, ap₂, _∙_, subst}
@@ -16,17 +16,15 @@ use Rattle.definitions.specs.Match.{recordAt, sameSide}
 use Rattle.definitions.specs.Extract.{sameColumn, newIndex}
 use Rattle.definitions.specs.Limits.{All}
 use Rattle.definitions.proofs.ExchangeGood.{records-length}
-use Rattle.definitions.proofs.Requests.{by-test}
 use Rattle.expression.specs.Places.{shortAt}
-use Rattle.expression.proofs.Placed.{front, next}
 use Rattle.expression.proofs.Placed as placed
-use Rattle.plan_writer.specs.Written.{Wrote, WroteAt}
-use Rattle.plan_writer.specs.Tables.{Entries, OfRecords, Table}
-use Rattle.plan_writer.specs.Records.{Entry, stays, Flags, Marked, OfMarked, keptOne, Referenced, OneFits, OneKept, keptAll, RecordsKept, RecordsPut, AllFit, AllKept, columnsPart}
-use Rattle.plan_writer.proofs.Fields.{short-is, entry-at, child-short, record-length}
+use Rattle.plan_writer.specs.Written.{WroteAt}
+use Rattle.plan_writer.specs.Tables.{Entry, OfRecords, Table}
+use Rattle.plan_writer.specs.Records.{stays, MarkedBy, OfMarked, Referenced, OneFits, OneKept, keptAll, RecordsKept, RecordsPut, AllFit, AllKept}
+use Rattle.plan_writer.proofs.Fields.{record-length}
 use Rattle.plan_writer.proofs.Written.{behind, together, chain, copied-wrote, part-wrote, nothing-wrote, behind-length, to-start, store, under}
 use Rattle.plan_writer.proofs.NumberLaws.{number-length}
-use Rattle.plan_writer.proofs.TableLaws.{table-none, table-more, table-whole}
+use Rattle.plan_writer.proofs.TableLaws.{entry-of, entry-child, table-none, table-more, table-whole}
 
 -- ---- two records
 
@@ -42,20 +40,15 @@ same-side noSide left = refl
 same-side noSide right = refl
 same-side noSide noSide = refl
 
-module _ {s : List ℕ} {at : ℕ} {r : Record} (h : Entry s at r) where
-  side-is : getD s at 0 ≡ sideNumber (r .side)
-  unfolding recordBytes
-  side-is = placed.first (h .bytes)
-
-  child-is : shortAt s (at + 1) ≡ r .child
-  unfolding recordBytes
-  child-is = short-is (front (bigEndian 2 (r .child)) (bigEndian 2 (r .tag)) (next (h .bytes) (at + 1) refl)) (h .short)
+side-is : {s : List ℕ} {at : ℕ} {r : Record} → Entry s at r → getD s at 0 ≡ sideNumber (r .side)
+unfolding recordBytes
+side-is h = placed.first (h .bytes)
 
 same-by-bytes : {s : List ℕ} {a b : ℕ} {x y : Record} → Entry s a x → Entry s b y
     → sameColumn x y ≡ (eqb (getD s a 0) (getD s b 0) && eqb (shortAt s (a + 1)) (shortAt s (b + 1)))
 unfolding sameColumn
 same-by-bytes {s} {a} {b} {x} {y} h k =
-    ap₂ _&&_ (same-side (x .side) (y .side) ∙ sym (ap₂ eqb (side-is h) (side-is k))) (sym (ap₂ eqb (child-is h) (child-is k)))
+    ap₂ _&&_ (same-side (x .side) (y .side) ∙ sym (ap₂ eqb (side-is h) (side-is k))) (sym (ap₂ eqb (entry-child h) (entry-child k)))
 
 module _ {s : List ℕ} {a b : ℕ} {x y : Record} (h : Entry s a x) (k : Entry s b y) where
   pub sides-differ : (getD s a 0 ≡ getD s b 0 → ⊥) → false ≡ sameColumn x y
@@ -80,11 +73,6 @@ unfolding any
 any-none test P f [] h = refl
 any-none test P f (c ∷ cs) h = ap₂ _||_ (f c (h .0)) (any-none test P f cs (h .1))
 
-module _ {s : List ℕ} {rec count : ℕ} where
-  pub entry-of : {records : List Record} → Entries s rec count records → (j : ℕ) → j < count → Entry s (rec + 5 * j) (recordAt records j)
-  entry-of {records} h j b =
-      record { bytes = entry-at records (h .bytes) j (omega (arith, h .counted)) (rec + 5 * j) refl; short = child-short records j (h .inRange) }
-
 -- The record k is not that of a marked column, or not equal to j.
 abbrev pub Apart : (s : List ℕ) (rec count : ℕ) (flags : List ℕ) (j k : ℕ) → Type 0
 Apart s rec count flags j k = getD flags k 0 ≡ 1 → OfRecords s rec count (λ records. sameColumn (recordAt records k) (recordAt records j) ≡ false)
@@ -92,7 +80,7 @@ Apart s rec count flags j k = getD flags k 0 ≡ 1 → OfRecords s rec count (λ
 abbrev pub Passed : (s : List ℕ) (rec count : ℕ) (flags : List ℕ) (j i : ℕ) → Type 0
 Passed s rec count flags j i = (k : ℕ) → k < i → Apart s rec count flags j k
 
-module _ {s : List ℕ} {rec count : ℕ} {flags : List ℕ} {records : List Record} {columns : List ℕ} (m : Marked s rec count flags records columns) (j : ℕ) where
+module _ {s : List ℕ} {rec count : ℕ} {flags : List ℕ} {records : List Record} {columns : List ℕ} (m : MarkedBy s rec count flags records columns) (j : ℕ) where
   pub referenced-here : (i : ℕ) → i < count → getD flags i 0 ≡ 1 → sameColumn (recordAt records i) (recordAt records j) ≡ true
       → true ≡ stays records columns (recordAt records j)
   referenced-here i b e same = sym (any-found (λ index. sameColumn (recordAt records index) (recordAt records j)) i columns (m .flagged .only i b e) same)
@@ -194,7 +182,7 @@ module _ {s : List ℕ} {rec count : ℕ} {flags before : List ℕ} where
 
   module _ {room : ℕ} {out to : List ℕ} {kept j : ℕ} (k : Keeping s rec count flags before room out to kept j) (less : j < count) where
     -- How many there are is the next new index.
-    next-index : (records : List Record) (columns : List ℕ) → Marked s rec count flags records columns → kept ≡ newIndex (stays records columns) records j
+    next-index : (records : List Record) (columns : List ℕ) → MarkedBy s rec count flags records columns → kept ≡ newIndex (stays records columns) records j
     unfolding newIndex
     next-index records columns m = omega (arith, k .done records columns m .out .ends, records-length (keep (stays records columns) (take j records)))
 

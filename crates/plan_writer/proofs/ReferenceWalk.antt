@@ -3,14 +3,14 @@ use Prim.Native.Nat.{ℕ, _+_, _-_, _≤_, _<_}
 use native.Mathlib.Omega.{arith}
 use mathlib.Core.Path.{_≡_, refl, sym, ap, _∙_}
 use mathlib.Core.List.{List, [], _∷_, _++_, append-nil}
-use lib.ListN.{length, getD, set, length-append, length-set}
+use lib.ListN.{length, getD, set, length-append}
 use Rattle.definitions.specs.Expression.{Expr, column, literal, and, binary, call, other, field, Exprs}
 use Rattle.definitions.specs.Encode.{exprBytes, exprsBytes}
 use Rattle.definitions.specs.Decode.{indexBelow}
 use Rattle.definitions.specs.Match.{columnsOf, columnsOfAll}
 use Rattle.definitions.specs.Leaves.{leaves}
 use Rattle.expression.specs.Places.{shortAt}
-use Rattle.expression.specs.Nodes.{headBytes, childrenOf, kindOf, Stands, Row, Tree, OfTree}
+use Rattle.expression.specs.Nodes.{childrenOf, kindOf, Stands, Row, Tree, OfTree}
 use Rattle.expression.specs.Heads.{HeadIs}
 use Rattle.expression.specs.Leaves.{Both}
 use Rattle.expression.specs.declared.heads.Head.{Head}
@@ -25,7 +25,7 @@ use Rattle.plan_writer.proofs.Ranges.{wider-stands, wider-row}
 
 -- ---- flags
 
-pub marked-append : (x y flags : List ℕ) → marked (x ++ y) flags ≡ marked y (marked x flags)
+marked-append : (x y flags : List ℕ) → marked (x ++ y) flags ≡ marked y (marked x flags)
 unfolding marked
 marked-append [] y flags = refl
 marked-append (i ∷ x) y flags = marked-append x y (set flags i 1)
@@ -44,7 +44,7 @@ no-own-columns (other g ts) n = refl
 no-own-columns (field b g) n = refl
 
 -- One walk after another.
-pub collected-both : {at p r size more : ℕ} {x y before middle after : List ℕ} → Collected at size x before middle p → Collected p more y middle after r
+collected-both : {at p r size more : ℕ} {x y before middle after : List ℕ} → Collected at size x before middle p → Collected p more y middle after r
     → Collected at (size + more) (x ++ y) before after r
 collected-both {at} {p} {r} {size} {more} {x} {y} {before} {middle} {after} a b = record {
   ends = omega (arith, a .ends, b .ends);

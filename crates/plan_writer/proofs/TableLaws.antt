@@ -2,22 +2,22 @@
 use Prim.Native.Nat.{ℕ, _+_, _*_, _≤_, _<_}
 use native.Mathlib.Omega.{arith}
 use native.Mathlib.Nat.{not-suc-le-zero}
-use mathlib.Core.Path.{_≡_, refl, sym, ap, _∙_, subst}
-use mathlib.Core.List.{List, [], _∷_, _++_}
+use mathlib.Core.Path.{_≡_, refl, ap, _∙_, subst}
+use mathlib.Core.List.{List}
 use lib.ListN.{length, getD, set}
 use lib.Seq.{getD-set-same, getD-set-other}
 use borrow.Author.Count.{below-more}
 use Rattle.definitions.specs.Basics.{bigEndian}
 use Rattle.definitions.specs.Expression.{Expr, Record}
-use Rattle.definitions.specs.Encode.{exprBytes, recordBytes, sideNumber}
+use Rattle.definitions.specs.Encode.{exprBytes, recordBytes}
 use Rattle.definitions.specs.Decode.{indexBelow}
 use Rattle.definitions.specs.Match.{recordAt, mapColumns, onChild}
-use Rattle.definitions.specs.Limits.{InRange, RecordsInRange}
+use Rattle.definitions.specs.Limits.{InRange}
 use Rattle.definitions.proofs.ExchangeGood.{records-length}
-use Rattle.expression.specs.Places.{Holds, shortAt}
+use Rattle.expression.specs.Places.{shortAt}
 use Rattle.expression.proofs.Placed.{fits, front, next}
 use Rattle.plan_writer.specs.Copies.{copyOf}
-use Rattle.plan_writer.specs.Tables.{Table, Entries, Recorded, ChildTable, childOf}
+use Rattle.plan_writer.specs.Tables.{Table, Entry, Entries, Recorded, ChildTable}
 use Rattle.plan_writer.proofs.Fields.{short-is, entry-at, child-short}
 use Rattle.plan_writer.proofs.Ranges.{map-agrees, map-same}
 
@@ -39,19 +39,19 @@ table-more new to i room h = record {
 pub records-within : {s : List ℕ} {rec count : ℕ} → Recorded s rec count → rec + 5 * count ≤ length s
 records-within p = omega (arith, fits (p .1 .bytes), records-length (p .0), p .1 .counted)
 
-pub child-is : {s : List ℕ} {rec count : ℕ} {records : List Record} → Entries s rec count records → (j : ℕ) → j < count
-    → shortAt s (rec + 5 * j + 1) ≡ childOf records j
+pub entry-of : {s : List ℕ} {rec count : ℕ} {records : List Record} → Entries s rec count records → (j : ℕ) → j < count → Entry s (rec + 5 * j) (recordAt records j)
+entry-of {s} {rec} {count} {records} h j b =
+    record { bytes = entry-at records (h .bytes) j (omega (arith, h .counted)) (rec + 5 * j) refl; short = child-short records j (h .inRange) }
+
+pub entry-child : {s : List ℕ} {at : ℕ} {r : Record} → Entry s at r → shortAt s (at + 1) ≡ r .child
 unfolding recordBytes
-child-is {s} {rec} {count} {records} h j b =
-    let r : Record = recordAt records j in
-    let entry : Holds s (rec + 5 * j) (recordBytes r) = entry-at records (h .bytes) j (omega (arith, h .counted)) (rec + 5 * j) refl in
-    short-is (front (bigEndian 2 (r .child)) (bigEndian 2 (r .tag)) (next entry (rec + 5 * j + 1) refl)) (child-short records j (h .inRange))
+entry-child {s} {at} {r} h = short-is (front (bigEndian 2 (r .child)) (bigEndian 2 (r .tag)) (next (h .bytes) (at + 1) refl)) (h .short)
 
 pub child-fits : {s : List ℕ} {rec count : ℕ} → Recorded s rec count → (j : ℕ) → j < count → shortAt s (rec + 5 * j + 1) < 65536
-child-fits p j b = omega (arith, child-is (p .1) j b, child-short (p .0) j (p .1 .inRange))
+child-fits p j b = let entry = entry-of (p .1) j b in omega (arith, entry-child entry, entry .short)
 
 pub child-table : {s : List ℕ} {rec : ℕ} (count : ℕ) {to : List ℕ} → Table (λ j. shortAt s (rec + 5 * j + 1)) count to → ChildTable s rec count to
-child-table count h records entries = record { entry = λ j b. h .entry j b ∙ child-is entries j b }
+child-table count h records entries = record { entry = λ j b. h .entry j b ∙ entry-child (entry-of entries j b) }
 
 -- ---- what a table makes of an expression
 

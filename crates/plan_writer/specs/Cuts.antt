@@ -5,7 +5,7 @@ use mathlib.Core.List.{List, [], _∷_, _++_}
 use lib.ListN.{length}
 use lib.Dec.{eqb}
 use Rattle.definitions.specs.Basics.{if_then_else_}
-use Rattle.definitions.specs.Expression.{Expr, column, literal, and, binary, call, other, field, Exprs}
+use Rattle.definitions.specs.Expression.{Expr, column, literal, and, binary, call, other, field}
 use Rattle.definitions.specs.Encode.{exprBytes}
 use Rattle.definitions.specs.Leaves.{leaves}
 use Rattle.plan_writer.specs.declared.cuts.Cut.{Cut}
@@ -19,19 +19,11 @@ rightOf at l = at + 2 + length (exprBytes l)
 
 -- ---- which AND-leaf is cut out
 
--- The AND-leaf at a position, from 0, of the expression at a place is the one that the cut says, and it has a parent And.
-pub data CutBelow (cut : Cut) : Expr → (at position : ℕ) → Type 0 where
-  leftLeaf : {l r : Expr} {at : ℕ} → leaves l ≡ l ∷ []
-      → cut .leaf ≡ leftOf at → cut .end ≡ leftOf at + length (exprBytes l) → cut .parent ≡ at → CutBelow cut (and l r) at 0
-  rightLeaf : {l r : Expr} {at : ℕ} → leaves r ≡ r ∷ []
-      → cut .leaf ≡ rightOf at l → cut .end ≡ rightOf at l + length (exprBytes r) → cut .parent ≡ at → CutBelow cut (and l r) at (length (leaves l))
-  inLeft : {l r : Expr} {at position : ℕ} → CutBelow cut l (leftOf at) position → CutBelow cut (and l r) at position
-  inRight : {l r : Expr} {at position : ℕ} → CutBelow cut r (rightOf at l) position → CutBelow cut (and l r) at (length (leaves l) + position)
-
--- The same, or the expression is that leaf.
-pub data CutAt (cut : Cut) : Expr → (at position : ℕ) → Type 0 where
-  whole : {t : Expr} {at : ℕ} → leaves t ≡ t ∷ [] → cut .leaf ≡ at → CutAt cut t at 0
-  below : {t : Expr} {at position : ℕ} → CutBelow cut t at position → CutAt cut t at position
+-- The AND-leaf at a position, from 0, of the expression at a place is the one that the cut says; `up` is the place of the And above.
+pub data CutAt (cut : Cut) : (up : ℕ) → Expr → (at position : ℕ) → Type 0 where
+  here : {up : ℕ} {t : Expr} {at : ℕ} → leaves t ≡ t ∷ [] → cut .leaf ≡ at → cut .end ≡ at + length (exprBytes t) → cut .parent ≡ up → CutAt cut up t at 0
+  inLeft : {up : ℕ} {l r : Expr} {at position : ℕ} → CutAt cut at l (leftOf at) position → CutAt cut up (and l r) at position
+  inRight : {up : ℕ} {l r : Expr} {at position : ℕ} → CutAt cut at r (rightOf at l) position → CutAt cut up (and l r) at (length (leaves l) + position)
 
 -- ---- what a walk over the And nodes makes of it
 

@@ -9,7 +9,6 @@ use Rattle.definitions.specs.Decode.{indexBelow}
 use Rattle.definitions.specs.Match.{onChild, boundOn}
 use Rattle.expression.specs.Nodes.{Stands}
 use Rattle.plan_writer.specs.Written.{Wrote, WroteAt}
-use Rattle.plan_writer.specs.Tables.{Entries}
 use Rattle.plan_writer.specs.Remainders.{FrameAt}
 
 -- ---- arguments

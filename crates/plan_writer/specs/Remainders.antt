@@ -12,7 +12,7 @@ use Rattle.expression.specs.Nodes.{Stands, Row}
 use Rattle.plan_writer.specs.Written.{Wrote}
 use Rattle.plan_writer.specs.Tables.{Entries}
 use Rattle.plan_writer.specs.Copies.{copyOf, CopyIs}
-use Rattle.plan_writer.specs.Cuts.{unless, around, Ends}
+use Rattle.plan_writer.specs.Cuts.{CutAt, unless, around, Ends}
 use Rattle.plan_writer.specs.declared.cuts.Cut.{Cut}
 use Rattle.plan_writer.specs.declared.copies.Copied.{Copied}
 
@@ -66,20 +66,17 @@ pub record FrameAt (s : List ℕ) (rec count at : ℕ) (records : List Record) (
 abbrev pub remainderOf : List Record → Expr → (position : ℕ) → List ℕ
 remainderOf records t position = remainderBytes (Option·map (prune records) (without position t))
 
--- How a cut lies in an expression at a place, and at which position: `CutAt`, or `CutBelow` where something is left.
-abbrev pub Cutting : Type 1
-Cutting = Cut → Expr → (at position : ℕ) → Type 0
-
 -- Such a frame, its leaf where the cut says, and room for the remainder.
-pub record RemainderFits (lies : Cutting) (s : List ℕ) (rec count at : ℕ) (cut : Cut) (out : List ℕ) : Type 0 where
+pub record RemainderFits (s : List ℕ) (rec count at : ℕ) (cut : Cut) (out : List ℕ) : Type 0 where
   pub records : List Record
   pub tree : Expr
+  pub up : ℕ
   pub position : ℕ
   pub frame : FrameAt s rec count at records tree
-  pub cutting : lies cut tree at position
+  pub cutting : CutAt cut up tree at position
   pub room : length (remainderOf records tree position) ≤ length out
 
-abbrev pub RemainderPut : Cutting → (s : List ℕ) (rec count at : ℕ) → Cut → (before after : List ℕ) → ℕ → Type 0
-RemainderPut lies s rec count at cut before after r =
-    (records : List Record) (t : Expr) (position : ℕ) → FrameAt s rec count at records t → lies cut t at position
+abbrev pub RemainderPut : (s : List ℕ) (rec count at : ℕ) → Cut → (before after : List ℕ) → ℕ → Type 0
+RemainderPut s rec count at cut before after r =
+    (records : List Record) (t : Expr) (up position : ℕ) → FrameAt s rec count at records t → CutAt cut up t at position
     → (r ≡ length (remainderOf records t position)) × Wrote (remainderOf records t position) before after

@@ -4,7 +4,7 @@ use mathlib.Core.Path.{_≡_}
 use mathlib.Core.List.{List}
 use lib.ListN.{length, getD}
 use Rattle.definitions.specs.Expression.{Record}
-use Rattle.definitions.specs.Encode.{recordsBytes}
+use Rattle.definitions.specs.Encode.{recordBytes, recordsBytes}
 use Rattle.definitions.specs.Match.{recordAt}
 use Rattle.definitions.specs.Limits.{RecordsInRange}
 use Rattle.expression.specs.Places.{Holds}
@@ -12,6 +12,11 @@ use Rattle.expression.specs.Places.{Holds}
 -- A table has the new index of each of `count` columns.
 pub record Table (new : ℕ → ℕ) (count : ℕ) (to : List ℕ) : Type 0 where
   pub entry : (index : ℕ) → index < count → getD to index 0 ≡ new index
+
+-- A record stands at a place, its child index in its range.
+pub record Entry (s : List ℕ) (at : ℕ) (r : Record) : Type 0 where
+  pub bytes : Holds s at (recordBytes r)
+  pub short : r .child < 65536
 
 -- `count` records stand at a place, their fields in their ranges.
 pub record Entries (s : List ℕ) (rec count : ℕ) (records : List Record) : Type 0 where

@@ -4,6 +4,7 @@ ghost use Prim.Native.Nat.{_+_, _≤_};
 ghost use mathlib.Core.Path.{_≡_};
 ghost use lib.ListN.{length, take, drop};
 ghost use Rattle.plan_writer.specs.Copies.{ColumnThere, ColumnPut, CopyFits, NodeCopied, CopiesFit, RowCopied, CopyFitsAt, CopiedAt};
+use super::numbers::put_number;
 use expression::fields::short_at;
 use expression::heads::head_at;
 
@@ -33,8 +34,7 @@ fn put_column(out: &mut [u8], src: &[u8], at: usize, v: u16)
     ensures { λ _. ⌜ ColumnPut (now (src .entry)) at v (now (out .entry)) (now (out .exit)) ⌝ }
 {
     copy_bytes(out, src, at, 5);
-    out[1] = (v / 256) as u8;
-    out[2] = (v % 256) as u8;
+    put_number(out, 1, 2, v as usize);
 }
 
 // Writes the expression at a place to the start of `out`; `to` has the new index of each column.

@@ -1,5 +1,5 @@
 // The remainder: the expression without the AND-leaf that was taken and its parent And.
-ghost use Rattle.plan_writer.specs.Cuts.{CutBelow, CutAt};
+ghost use mathlib.Core.Path.{_≡_};
 ghost use Rattle.plan_writer.specs.Remainders.{RestFits, RestCopied, SidesFit, SidesCopied, RemainderFits, RemainderPut};
 use super::copies::Copied;
 use super::copies::reproject_column_references;
@@ -59,8 +59,9 @@ fn replace_join_filter_expr(
     at: usize,
     cut: Cut,
 ) -> usize
-    requires { ⌜ RemainderFits CutBelow (now src) rec count at cut (now out) ⌝ }
-    ensures { λ r. ⌜ RemainderPut CutBelow (now (src .entry)) rec count at cut (now (out .entry)) (now (out .exit)) r ⌝ }
+    requires { ⌜ RemainderFits (now src) rec count at cut (now out) ⌝ }
+    requires { ⌜ (at ≡ cut .leaf → ⊥) ⌝ }
+    ensures { λ r. ⌜ RemainderPut (now (src .entry)) rec count at cut (now (out .entry)) (now (out .exit)) r ⌝ }
 {
     let mut used = [0u8; 256];
     let mut to = [0u16; 256];
@@ -79,8 +80,8 @@ pub fn put_remainder(
     at: usize,
     cut: Cut,
 ) -> usize
-    requires { ⌜ RemainderFits CutAt (now src) rec count at cut (now out) ⌝ }
-    ensures { λ r. ⌜ RemainderPut CutAt (now (src .entry)) rec count at cut (now (out .entry)) (now (out .exit)) r ⌝ }
+    requires { ⌜ RemainderFits (now src) rec count at cut (now out) ⌝ }
+    ensures { λ r. ⌜ RemainderPut (now (src .entry)) rec count at cut (now (out .entry)) (now (out .exit)) r ⌝ }
 {
     if at == cut.leaf {
         out[0] = 0;

@@ -1,12 +1,12 @@
 -- Which kind of predicate a request asks for: a leaf has no match of another kind.
 use Prim.Native.Nat.{ℕ}
 use mathlib.Core.Path.{_≡_, refl, ap, _∙_}
-use mathlib.Core.Bool.{Bool, true, false}
+use mathlib.Core.Bool.{Bool, false}
 use mathlib.Core.List.{List}
 use mathlib.Core.Logic.{_⊎_, inl, inr, ⊎-elim}
 use mathlib.Core.Option.{Option, none, some, Option·some-ne-none}
 use lib.Dec.{eqb}
-use Rattle.definitions.specs.Basics.{if_then_else_, ascii, sameName}
+use Rattle.definitions.specs.Basics.{ascii, sameName}
 use Rattle.definitions.specs.Expression.{Relation, Expr, Exprs, nil, cons, call, Side, Record, Predicate, relation, distance, knn}
 use Rattle.definitions.specs.Leaves.{relationNamed, Comparison, compares, noComparison, distanceArguments}
 use Rattle.definitions.specs.Match.{Request, askRelation, askDistance, askKnn, askNothing, relationRequest, dwithinRequest, knnLiterals, knnRequest, callRequest, distanceRequest, comparisonRequest, request, Order, leftRight, rightLeft, noOrder, matchRelation, matchDistance, matchKnn, matchRequest, matchLeaf}
@@ -23,7 +23,8 @@ pub record Kind (kind : Predicate → Bool) (asks : Request → Bool) : Type 0 w
   pub ofKnn : (k spheroid ties : ℕ) (probe : Side) (a b l r : Expr) → kind (knn k spheroid probe ties l r) ≡ asks (askKnn k spheroid ties a b)
 
 module _ (kind : Predicate → Bool) (records : List Record) where
-  relation-lacks : (type : Relation) (l r : Expr) (o : Order) → ((t : Relation) (l r : Expr) → kind (relation t l r) ≡ false) → Lacks kind (matchRelation type l r o)
+  relation-lacks : (type : Relation) (l r : Expr) (o : Order)
+      → ((t : Relation) (l r : Expr) → kind (relation t l r) ≡ false) → Lacks kind (matchRelation type l r o)
   unfolding matchRelation
   relation-lacks type l r leftRight f = f _ _ _
   relation-lacks type l r rightLeft f = f _ _ _

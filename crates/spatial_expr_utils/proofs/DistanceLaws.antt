@@ -3,13 +3,12 @@ use Prim.Native.Nat.{ℕ, _+_}
 use mathlib.Core.Path.{_≡_, refl, sym, ap, ap₂, _∙_}
 use mathlib.Core.Bool.{false}
 use mathlib.Core.List.{List}
-use mathlib.Core.Option.{Option, none, some}
+use mathlib.Core.Option.{some}
 use lib.ListN.{length}
-use Rattle.definitions.specs.Expression.{Side, Expr, Record, distance}
+use Rattle.definitions.specs.Expression.{Expr, Record, distance}
 use Rattle.definitions.specs.Encode.{exprBytes}
 use Rattle.definitions.specs.Decode.{indexBelow}
 use Rattle.definitions.specs.Match.{request, sideOf, orderOf, onChild, boundOn, matchDistance, matchRequest, matchLeaf}
-use Rattle.definitions.specs.Match as definition
 use Rattle.expression.specs.Nodes.{Stands, OfTree, OfTreeIn}
 use Rattle.sedona_expr.specs.Parsed as parsed
 use Rattle.sedona_expr.specs.Parsed.{ParsedIs}

@@ -1,31 +1,29 @@
 -- What each return of `first_match` answers, and what its calls require.
-use Prim.Native.Nat.{ℕ, suc, _+_, _≤_, _<_}
+use Prim.Native.Nat.{ℕ, _+_, _≤_, _<_}
 use native.Mathlib.Nat.{zero-add}
 use native.Mathlib.Omega.{arith}
-use mathlib.Core.Path.{_≡_, refl, sym, ap, ap₂, _∙_, subst, subst⁻¹}
+use mathlib.Core.Path.{_≡_, refl, sym, ap, _∙_, subst, subst⁻¹}
 use mathlib.Core.Bool.{Bool}
-use mathlib.Core.List.{List, [], _∷_, _++_, map, map-append}
-use mathlib.Core.Option.{Option, none, some}
+use mathlib.Core.List.{List, [], _∷_, map, map-append}
+use mathlib.Core.Option.{none, some}
 use lib.ListN.{length, length-append, length-map}
 use Rattle.definitions.specs.Expression.{Expr, column, literal, and, binary, call, other, field, Record, Predicate}
 use Rattle.definitions.specs.Encode.{exprBytes}
 use Rattle.definitions.specs.Leaves.{leaves}
-use Rattle.definitions.specs.Decode.{Columns, indexBelow}
+use Rattle.definitions.specs.Decode.{indexBelow}
 use Rattle.definitions.specs.Match.{matchLeaf}
 use Rattle.definitions.specs.Extract as definition
 use Rattle.definitions.specs.Extract.{firstMatch, firstOf, matchesOf}
-use Rattle.expression.specs.Nodes.{headBytes, Stands, OfTree, OfTreeIn}
+use Rattle.expression.specs.Nodes.{headBytes, OfTreeIn}
 use Rattle.expression.specs.Leaves.{Both, NodeIs}
 use Rattle.expression.specs.declared.leaves.Node.{Node}
 use Rattle.expression.specs.declared.leaves.Node.the-variants as node
-use Rattle.expression.proofs.Standing.{first-stands, rest-stands, after-node}
+use Rattle.expression.proofs.Standing.{first-stands, rest-stands}
 use Rattle.spatial_expr_utils.specs.Frames.{Over, Framed, OfFrame}
 use Rattle.spatial_expr_utils.specs.Matches.{Lacks, Matches}
-use Rattle.spatial_expr_utils.specs.Picks.{wants, matches, leftOf, rightOf, LeafAt, itself, inLeft, inRight, PickIs, FirstIs, NothingIs, FoundIs, TakenIs}
+use Rattle.spatial_expr_utils.specs.Picks.{wants, matches, leftOf, rightOf, CutAt, here, inLeft, inRight, FirstIs, NothingIs, FoundIs, TakenIs}
 use Rattle.spatial_expr_utils.specs.declared.predicates.SpatialPredicate.{SpatialPredicate}
 use Rattle.spatial_expr_utils.specs.declared.pick.Wanted.{Wanted}
-use Rattle.spatial_expr_utils.specs.declared.pick.Parent.{Parent}
-use Rattle.spatial_expr_utils.specs.declared.pick.Parent.the-variants.{Root, And}
 use Rattle.spatial_expr_utils.specs.declared.pick.Pick.{Pick}
 use Rattle.spatial_expr_utils.specs.declared.pick.Found.{Found}
 use Rattle.spatial_expr_utils.specs.declared.pick.Found.the-variants.{Leaf, Nothing}
@@ -65,17 +63,20 @@ one-match : (records : List Record) (t : Expr) → leaves t ≡ t ∷ [] → mat
 one-match records t single = ap (map (matchLeaf records)) single
 
 module _ (wanted : Wanted) {s : List ℕ} {rec at : ℕ} {records : List Record} {t : Expr} (over : Over s rec at records t) (single : leaves t ≡ t ∷ []) where
-  pub leaf-matched : {before : ℕ} {parent : Parent} (p : SpatialPredicate) (end : ℕ) → Matches (wants wanted) s rec records p (matchLeaf records t) × (end ≡ at + length (exprBytes t))
-      → FirstIs wanted s rec at before parent (record { predicate = p; position = before; leaf = at; «leaf_end» = end; parent = parent }) records t
+  pub leaf-matched : {before up : ℕ} (p : SpatialPredicate) (end : ℕ)
+      → Matches (wants wanted) s rec records p (matchLeaf records t) × (end ≡ at + length (exprBytes t))
+      → FirstIs wanted s rec at before up (record { predicate = p; position = before; leaf = at; «leaf_end» = end; parent = up }) records t
   leaf-matched {before} p end m = record {
     i = 0;
     q = m .0 .q;
     first = ap (firstMatch (wants wanted)) (one-match records t single) ∙ first-match (wants wanted) (matchLeaf records t) (m .0 .q) (m .0 .is) (m .0 .passes);
     counted = omega arith;
-    taken = record { leaf = t; stands = m .0 .stands; reached = itself single; ends = m .1 };
+    stands = m .0 .stands;
+    cut = here single refl (m .1) refl;
   }
 
-  pub leaf-lacks : {before : ℕ} (end : ℕ) → Lacks (wants wanted) (matchLeaf records t) → end ≡ at + length (exprBytes t) → NothingIs wanted at before end (before + 1) records t
+  pub leaf-lacks : {before : ℕ} (end : ℕ) → Lacks (wants wanted) (matchLeaf records t)
+      → end ≡ at + length (exprBytes t) → NothingIs wanted at before end (before + 1) records t
   leaf-lacks {before} end m e = record {
     first = ap (firstMatch (wants wanted)) (one-match records t single) ∙ first-lacks (wants wanted) (matchLeaf records t) m;
     ends = e;
@@ -114,22 +115,18 @@ module _ {s : List ℕ} {rec at left : ℕ} {found : Node} (is : OfTreeIn s at (
   left-after p = omega (arith, its-children (p .2) .begins)
 
   module _ {wanted : Wanted} {before : ℕ} where
-    pub match-left : {parent : Parent} {p : Pick} → OfFrame s rec left (FirstIs wanted s rec left before (And at) p)
-        → OfFrame s rec at (FirstIs wanted s rec at before parent p)
-    match-left {parent} {p} inner records t over =
+    pub match-left : {up : ℕ} {p : Pick} → OfFrame s rec left (FirstIs wanted s rec left before at p)
+        → OfFrame s rec at (FirstIs wanted s rec at before up p)
+    match-left {up} {p} inner records t over =
         let c : Children s rec at left records t = its-children over in
-        let f : FirstIs wanted s rec left before (And at) p records (c .l) = inner records (c .l) (c .first) in
-        subst⁻¹ (FirstIs wanted s rec at before parent p records) (c .is) (record {
+        let f : FirstIs wanted s rec left before at p records (c .l) = inner records (c .l) (c .first) in
+        subst⁻¹ (FirstIs wanted s rec at before up p records) (c .is) (record {
           i = f .i;
           q = f .q;
           first = and-left (wants wanted) records (c .l) (c .r) (f .first);
           counted = f .counted;
-          taken = record {
-            leaf = f .taken .leaf;
-            stands = f .taken .stands;
-            reached = inLeft (subst (λ (a : ℕ). LeafAt (c .l) a (And at) (f .taken .leaf) (f .i) (p .leaf) (p .parent)) (c .begins) (f .taken .reached));
-            ends = f .taken .ends;
-          };
+          stands = f .stands;
+          cut = inLeft (subst (λ (a : ℕ). CutAt p at (c .l) a (f .i)) (c .begins) (f .cut));
         })
 
     module _ {right count : ℕ} (inner : OfFrame s rec left (NothingIs wanted left before right count)) where
@@ -142,27 +139,23 @@ module _ {s : List ℕ} {rec at left : ℕ} {found : Node} (is : OfTreeIn s at (
             omega (arith, c .begins, n .ends, n .counted, leaves-few (c .l)),
           )
 
-      pub match-right : (parent : Parent) (r : Found) → OfFrame s rec right (FoundIs wanted s rec right count (And at) r)
-          → OfFrame s rec at (FoundIs wanted s rec at before parent r)
+      pub match-right : (up : ℕ) (r : Found) → OfFrame s rec right (FoundIs wanted s rec right count at r)
+          → OfFrame s rec at (FoundIs wanted s rec at before up r)
       unfolding moved leaves exprBytes
-      match-right parent (Leaf p) outer records t over =
+      match-right up (Leaf p) outer records t over =
           let c : Children s rec at left records t = its-children over in
           let n : NothingIs wanted left before right count records (c .l) = inner records (c .l) (c .first) in
-          let f : FirstIs wanted s rec right count (And at) p records (c .r) = outer records (c .r) (c .second right (n .ends)) in
+          let f : FirstIs wanted s rec right count at p records (c .r) = outer records (c .r) (c .second right (n .ends)) in
           let place : right ≡ rightOf at (c .l) = n .ends ∙ ap (λ (a : ℕ). a + length (exprBytes (c .l))) (c .begins) in
-          subst⁻¹ (FirstIs wanted s rec at before parent p records) (c .is) (record {
+          subst⁻¹ (FirstIs wanted s rec at before up p records) (c .is) (record {
             i = length (leaves (c .l)) + f .i;
             q = f .q;
             first = and-right (wants wanted) records (c .l) (c .r) (n .first) ∙ ap (moved (length (leaves (c .l)))) (f .first);
             counted = omega (arith, f .counted, n .counted);
-            taken = record {
-              leaf = f .taken .leaf;
-              stands = f .taken .stands;
-              reached = inRight (subst (λ (a : ℕ). LeafAt (c .r) a (And at) (f .taken .leaf) (f .i) (p .leaf) (p .parent)) place (f .taken .reached));
-              ends = f .taken .ends;
-            };
+            stands = f .stands;
+            cut = inRight (subst (λ (a : ℕ). CutAt p at (c .r) a (f .i)) place (f .cut));
           })
-      match-right parent (Nothing next many) outer records t over =
+      match-right up (Nothing next many) outer records t over =
           let c : Children s rec at left records t = its-children over in
           let n : NothingIs wanted left before right count records (c .l) = inner records (c .l) (c .first) in
           let f : NothingIs wanted right count next many records (c .r) = outer records (c .r) (c .second right (n .ends)) in
@@ -175,7 +168,7 @@ module _ {s : List ℕ} {rec at left : ℕ} {found : Node} (is : OfTreeIn s at (
 -- ---- two passes
 
 -- The first match of a pass is the pick.
-pub taken-is : {s : List ℕ} {rec at : ℕ} {wanted : Wanted} {p : Pick} {records : List Record} {t : Expr} → FirstIs wanted s rec at 0 Root p records t
+pub taken-is : {s : List ℕ} {rec at : ℕ} {wanted : Wanted} {p : Pick} {records : List Record} {t : Expr} → FirstIs wanted s rec at 0 at p records t
     → definition.pick (matches records t) ≡ firstMatch (wants wanted) (matches records t) → TakenIs s rec at p records t
 unfolding matchesOf
 taken-is {s} {rec} {at} {wanted} {p} {records} {t} f e =
@@ -183,5 +176,6 @@ taken-is {s} {rec} {at} {wanted} {p} {records} {t} f e =
     record {
       q = f .q;
       is = e ∙ f .first ∙ ap (λ (i : ℕ). at-position i (f .q)) (sym same);
-      taken = subst⁻¹ (λ (i : ℕ). PickIs s rec at Root p records t i (f .q)) same (f .taken);
+      stands = f .stands;
+      cut = subst⁻¹ (CutAt p at t at) same (f .cut);
     }

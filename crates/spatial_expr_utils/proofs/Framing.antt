@@ -7,7 +7,7 @@ use mathlib.Core.List.{List, [], _∷_, _++_}
 use lib.ListN.{length, getD, length-append}
 use borrow.Author.Tests.{ltb-true}
 use Rattle.definitions.specs.Basics.{bigEndian}
-use Rattle.definitions.specs.Expression.{Expr, column, and, Exprs, cons, Record, count}
+use Rattle.definitions.specs.Expression.{Expr, column, Exprs, cons, Record, count}
 use Rattle.definitions.specs.Encode.{exprBytes, recordBytes, recordsBytes}
 use Rattle.definitions.specs.Decode.{indexBelow}
 use Rattle.definitions.specs.Match.{recordAt}

@@ -1,18 +1,15 @@
 -- What each return of `match_knn_predicate` answers.
-use Prim.Native.Nat.{ℕ, suc, _+_, _-_, _≤_, _<_}
+use Prim.Native.Nat.{ℕ, _+_, _-_, _≤_, _<_}
 use native.Mathlib.Omega.{arith}
 use mathlib.Core.Path.{_≡_, refl, sym, ap, _∙_}
-use mathlib.Core.Bool.{Bool, true, false}
+use mathlib.Core.Bool.{Bool, true}
 use mathlib.Core.List.{List}
-use mathlib.Core.Option.{Option, none, some}
+use mathlib.Core.Option.{none, some}
 use lib.ListN.{length}
-use Rattle.definitions.specs.Basics.{if_then_else_, ascii, sameName}
-use Rattle.definitions.specs.Expression.{Relation, Expr, call, Exprs, nil, cons, count, Record, Predicate, knn}
-use Rattle.definitions.specs.Leaves.{relationNamed}
-use Rattle.definitions.specs.Decode.{indexBelow}
-use Rattle.definitions.specs.Match.{Request, askRelation, askDistance, askKnn, askNothing, relationRequest, dwithinRequest, knnRequest, callRequest, request, onChild, matchKnn, matchRequest, matchLeaf}
+use Rattle.definitions.specs.Basics.{ascii, sameName}
+use Rattle.definitions.specs.Expression.{call, Exprs, nil, cons, count, Record, knn}
+use Rattle.definitions.specs.Match.{askNothing, knnRequest, callRequest, request, onChild, matchKnn, matchRequest, matchLeaf}
 use Rattle.definitions.specs.Extract.{isKnn}
-use Rattle.definitions.proofs.Requests.{by-test}
 use Rattle.expression.specs.Nodes.{OfTrees}
 use Rattle.spatial_expr_utils.specs.Sides.{joinSide, order, GeometriesAre}
 use Rattle.spatial_expr_utils.specs.Literals.{flag}

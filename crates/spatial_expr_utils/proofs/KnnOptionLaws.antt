@@ -1,23 +1,21 @@
 -- What each return of `knn_flags` and `knn_options` answers, and what their calls require.
-use Prim.Native.Nat.{ℕ, suc, _+_, _-_, _≤_}
+use Prim.Native.Nat.{ℕ, _+_, _-_, _≤_}
 use native.Mathlib.Omega.{arith}
 use mathlib.Core.Path.{_≡_, refl, sym, ap, ap₂, _∙_}
 use mathlib.Core.Bool.{Bool, false}
 use mathlib.Core.List.{List}
 use mathlib.Core.Option.{Option, none, some}
 use lib.ListN.{length}
-use Rattle.definitions.specs.Basics.{bigEndian}
-use Rattle.definitions.specs.Expression.{Expr, column, literal, and, binary, call, other, field, Exprs, nil, cons, count}
+use Rattle.definitions.specs.Expression.{Expr, Exprs, nil, cons, count}
 use Rattle.definitions.specs.Encode.{exprBytes}
 use Rattle.definitions.specs.Decode.{Columns}
-use Rattle.definitions.specs.Match.{literalU32, literalBool, Request, askNothing, knnLiterals, knnRequest}
-use Rattle.expression.specs.Nodes.{Row, Trees, OfTree, OfTrees}
+use Rattle.definitions.specs.Match.{literalU32, literalBool, askNothing, knnLiterals, knnRequest}
+use Rattle.expression.specs.Nodes.{Row, OfTree, OfTrees}
 use Rattle.expression.proofs.Standing.{first-stands, rest-stands, no-children, some-children}
 use Rattle.expression.proofs.Parts.{two-of}
-use Rattle.expression.proofs.EndWalk.{first-there, rest-there}
 use Rattle.spatial_expr_utils.proofs.LiteralLaws.{number-ten, flag-ten}
 use Rattle.spatial_expr_utils.specs.Literals.{flag, numberIs, flagIs}
-use Rattle.spatial_expr_utils.specs.KnnOptions.{tiesNumber, spheroidOf, tiesOf, FlagsAre, OptionsAre}
+use Rattle.spatial_expr_utils.specs.KnnOptions.{spheroidOf, tiesOf, FlagsAre, OptionsAre}
 use Rattle.spatial_expr_utils.specs.declared.literals.LiteralU32.{LiteralU32}
 use Rattle.spatial_expr_utils.specs.declared.literals.LiteralU32.the-variants as number
 use Rattle.spatial_expr_utils.specs.declared.literals.LiteralBool.{LiteralBool}

@@ -1,11 +1,11 @@
 -- Matching of a leaf, from that of the function that it is, and of both kinds that are not KNN from that of each.
 use Prim.Native.Nat.{ℕ, _+_}
-use mathlib.Core.Path.{_≡_, refl, sym, ap, _∙_, subst}
-use mathlib.Core.Bool.{Bool, true, false, not, false≢true}
+use mathlib.Core.Path.{_≡_, refl, sym, ap, subst}
+use mathlib.Core.Bool.{Bool, true, false}
 use mathlib.Core.List.{List}
 use mathlib.Core.Option.{Option, none, some}
 use lib.ListN.{length}
-use Rattle.definitions.specs.Expression.{Expr, call, Exprs, Record, Predicate, relation, distance, knn}
+use Rattle.definitions.specs.Expression.{Expr, Record, Predicate, relation, distance, knn}
 use Rattle.definitions.specs.Encode.{exprBytes, exprsBytes}
 use Rattle.definitions.specs.Decode.{indexBelow}
 use Rattle.definitions.specs.Match.{matchLeaf}
@@ -17,7 +17,7 @@ use Rattle.expression.specs.declared.leaves.Node.{Node}
 use Rattle.expression.specs.declared.leaves.Node.the-variants.{Call}
 use Rattle.expression.proofs.Parts.{row-ends}
 use Rattle.spatial_expr_utils.specs.Frames.{Over, Framed, CallOver, CallFramed, OfCallFrame}
-use Rattle.spatial_expr_utils.specs.Matches.{isRelation, isDistance, Lacks, Matches, MatchingIs, LeafMatching, CallMatching}
+use Rattle.spatial_expr_utils.specs.Matches.{isRelation, isDistance, Lacks, MatchingIs, LeafMatching, CallMatching}
 use Rattle.spatial_expr_utils.specs.Picks.{isOther}
 use Rattle.spatial_expr_utils.specs.declared.predicates.SpatialPredicate.{SpatialPredicate}
 use Rattle.spatial_expr_utils.specs.declared.predicates.Matching.{Matching}

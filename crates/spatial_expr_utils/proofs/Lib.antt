@@ -12,4 +12,5 @@ pub mod Nodes
 pub mod LeafLaws
 pub mod PickLaws
 pub mod FirstLaws
+pub mod CutLaws
 pub mod KnnLaws

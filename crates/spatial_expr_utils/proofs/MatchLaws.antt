@@ -1,22 +1,21 @@
 -- Laws of matching: two geometries of a function, where it ends, and requests that ask for no predicate of a kind.
-use Prim.Native.Nat.{ℕ, suc, _+_, _-_, _≤_}
+use Prim.Native.Nat.{ℕ, _+_, _-_, _≤_}
 use native.Mathlib.Omega.{arith}
 use mathlib.Core.Path.{_≡_, refl, sym, ap, _∙_, subst}
-use mathlib.Core.Bool.{Bool, true, false}
+use mathlib.Core.Bool.{Bool}
 use mathlib.Core.List.{List}
-use mathlib.Core.Option.{Option, none, some, Option·some-ne-none}
 use lib.ListN.{length, length-append}
 use Rattle.definitions.specs.Basics.{sameName}
-use Rattle.definitions.specs.Expression.{Relation, Expr, Exprs, cons, count, Side, Record, Predicate, relation, distance, knn}
+use Rattle.definitions.specs.Expression.{Expr, Exprs, cons, count, Record}
 use Rattle.definitions.specs.Encode.{exprBytes, exprsBytes}
 use Rattle.definitions.specs.Decode.{indexBelow}
-use Rattle.definitions.specs.Match.{Request, askRelation, askDistance, askKnn, askNothing, sideOf, Order, leftRight, rightLeft, noOrder, orderOf, onChild, matchRelation, matchDistance, matchKnn, matchRequest}
+use Rattle.definitions.specs.Match.{sideOf, orderOf}
 use Rattle.expression.specs.Places.{part}
 use Rattle.expression.specs.Nodes.{Row, Trees, OfTrees}
 use Rattle.expression.specs.declared.leaves.Called.{Called}
 use Rattle.spatial_expr_utils.specs.Frames.{Over, OverAll, OverTwo, FramedTwo, OfFrameTwo, CallOver, CallFramed}
 use Rattle.spatial_expr_utils.specs.Sides.{order, GeometriesAre}
-use Rattle.spatial_expr_utils.specs.Matches.{Spans, Lacks}
+use Rattle.spatial_expr_utils.specs.Matches.{Spans}
 use Rattle.spatial_expr_utils.specs.declared.sides.Geometries.{Geometries}
 use Rattle.spatial_expr_utils.proofs.Framing.{first-over, rest-over}
 use Rattle.expression.proofs.Parts.{two-of}
@@ -67,7 +66,8 @@ module _ {s : List ℕ} {rec at n : ℕ} {records : List Record} where
       rw (pair .is) (simp (length-append, length-append) (omega (arith, is _ (pair .more) (pair .rest), pair .first .ends, pair .second .ends)))
 
 module _ {s : List ℕ} {rec : ℕ} {k : Called} where
-  arguments-over : {records : List Record} {name : List ℕ} {arguments : Exprs} → CallOver s rec k records name arguments → OverAll s rec (k .first) (k .count) records arguments
+  arguments-over : {records : List Record} {name : List ℕ} {arguments : Exprs} → CallOver s rec k records name arguments
+      → OverAll s rec (k .first) (k .count) records arguments
   arguments-over o = record { entries = o .entries; row = o .stands .row }
 
   pub call-pair : (g : Geometries) → OfFrameTwo s rec (k .first) (GeometriesAre (k .first) g) → 2 ≤ k .count

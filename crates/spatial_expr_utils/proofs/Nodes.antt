@@ -52,5 +52,6 @@ module _ {c : Columns} {s : List ℕ} {at : ℕ} {t : Expr} (node : Node) (is : 
   pub single-leaf : OneOf (1 ∷ 2 ∷ 3 ∷ []) (tagOf the-type node) → leaves t ≡ t ∷ []
   single-leaf tag = leaf-node c s at t node tag (is c t stands)
 
-  pub no-function : OneOf (0 ∷ 1 ∷ 3 ∷ []) (tagOf the-type node) → (records : List Record) → Lacks isKnn (matchLeaf records t) × Lacks isRelation (matchLeaf records t)
+  pub no-function : OneOf (0 ∷ 1 ∷ 3 ∷ []) (tagOf the-type node)
+      → (records : List Record) → Lacks isKnn (matchLeaf records t) × Lacks isRelation (matchLeaf records t)
   no-function tag records = only-distance records t (node-only c s at t node tag (is c t stands))

@@ -4,14 +4,14 @@ use native.Mathlib.Omega.{arith}
 use mathlib.Core.Path.{_≡_, refl, sym, ap, _∙_}
 use mathlib.Core.Bool.{Bool, true, false}
 use mathlib.Core.List.{List}
-use mathlib.Core.Option.{Option, none, some, Option·none-ne-some}
+use mathlib.Core.Option.{none, some, Option·none-ne-some}
 use lib.ListN.{length}
-use Rattle.definitions.specs.Basics.{if_then_else_, ascii, sameName}
-use Rattle.definitions.specs.Expression.{Expr, call, Exprs, nil, cons, count, Record, relation}
+use Rattle.definitions.specs.Basics.{ascii, sameName}
+use Rattle.definitions.specs.Expression.{call, Exprs, nil, cons, count, Record, relation}
 use Rattle.definitions.specs.Expression as definition
 use Rattle.definitions.specs.Encode.{exprsBytes}
 use Rattle.definitions.specs.Leaves.{relationNamed}
-use Rattle.definitions.specs.Match.{relationRequest, callRequest, request, askRelation, askNothing, invert, onChild, matchRelation, matchRequest, matchLeaf}
+use Rattle.definitions.specs.Match.{relationRequest, callRequest, request, askNothing, invert, onChild, matchRelation, matchRequest, matchLeaf}
 use Rattle.definitions.proofs.Requests.{same-name}
 use Rattle.expression.specs.Places.{part}
 use Rattle.expression.specs.Nodes.{OfTrees}

@@ -1,11 +1,11 @@
--- What each return of `side_node` and `side_children` answers.
+-- What each return of `collect_column_references` and `collect_children` answers.
 use Prim.Native.Nat.{ℕ, _+_, _-_, _*_}
 use native.Mathlib.Omega.{arith}
 use mathlib.Core.Path.{_≡_, refl, sym, ap, ap₂, _∙_, subst}
 use mathlib.Core.List.{List, [], _∷_, _++_, append-nil}
 use lib.ListN.{length, getD, length-append}
 use Rattle.definitions.specs.Basics.{bigEndian}
-use Rattle.definitions.specs.Expression.{Side, left, right, noSide, Expr, column, literal, and, binary, call, other, field, Exprs, Record}
+use Rattle.definitions.specs.Expression.{Side, Expr, column, literal, and, binary, call, other, field, Exprs, Record}
 use Rattle.definitions.specs.Encode.{exprBytes, exprsBytes, recordBytes}
 use Rattle.definitions.specs.Decode.{sideNumbered, indexBelow}
 use Rattle.definitions.specs.Match.{columnsOf, columnsOfAll, recordAt, sideOf, orderOf}

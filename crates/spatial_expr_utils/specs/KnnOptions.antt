@@ -1,7 +1,7 @@
 -- What the answers about KNN's literals mean.
 use Prim.Native.Nat.{ℕ}
 use mathlib.Core.Path.{_≡_}
-use mathlib.Core.Option.{Option, none, some}
+use mathlib.Core.Option.{Option, some}
 use Rattle.definitions.specs.Expression.{Expr, Exprs, nil, cons}
 use Rattle.definitions.specs.Match.{literalBool, Request, askKnn, askNothing, knnLiterals, knnRequest}
 use Rattle.spatial_expr_utils.specs.Literals.{flag}

@@ -11,7 +11,7 @@ use Rattle.spatial_expr_utils.specs.declared.literals.LiteralBool.the-va
 
 -- The number in the eight bytes at a place.
 abbrev pub longAt : List ℕ → ℕ → ℕ
-longAt s at = (shortAt s at * 65536 + shortAt s (at + 2)) * 4294967296 + (shortAt s (at + 4) * 65536 + shortAt s (at + 6))
+longAt s at = ((shortAt s at * 65536 + shortAt s (at + 2)) * 65536 + shortAt s (at + 4)) * 65536 + shortAt s (at + 6)
 
 -- False is 0, true 1.
 abbrev pub flag : Bool → ℕ

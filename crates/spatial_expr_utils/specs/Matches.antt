@@ -93,6 +93,7 @@ abbrev pub LeafMatching : (kind : Predicate → Bool) (s : List ℕ) (rec at : �
 LeafMatching kind s rec at r records leaf = MatchingIs kind s rec records (matchLeaf records leaf) (at + length (exprBytes leaf)) r
 
 -- The answer for a function, which ends where its arguments do.
-abbrev pub CallMatching : (kind : Predicate → Bool) (s : List ℕ) (rec : ℕ) (k : Called) → Matching → (records : List Record) (name : List ℕ) (arguments : Exprs) → Type 0
+abbrev pub CallMatching : (kind : Predicate → Bool) (s : List ℕ) (rec : ℕ) (k : Called) → Matching
+    → (records : List Record) (name : List ℕ) (arguments : Exprs) → Type 0
 CallMatching kind s rec k r records name arguments =
     MatchingIs kind s rec records (matchLeaf records (call name arguments)) (k .first + length (exprsBytes arguments)) r

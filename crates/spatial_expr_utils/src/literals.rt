@@ -25,9 +25,12 @@ fn long_at(s: &[u8], at: usize) -> u64
     requires { ⌜ at + 8 ≤ length (now s) ⌝ }
     ensures { λ r. ⌜ r ≡ longAt (now (s .entry)) at ⌝ }
 {
-    let high = short_at(s, at) * 65536 + short_at(s, at + 2);
-    let low = short_at(s, at + 4) * 65536 + short_at(s, at + 6);
-    high as u64 * 4294967296 + low as u64
+    let first = short_at(s, at);
+    let second = short_at(s, at + 2);
+    let third = short_at(s, at + 4);
+    let fourth = short_at(s, at + 6);
+    let number = ((first * 65536 + second) * 65536 + third) * 65536 + fourth;
+    number as u64
 }
 
 // A whole number from 0 to 4,294,967,295.

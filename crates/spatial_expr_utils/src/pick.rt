@@ -20,19 +20,14 @@ pub enum Wanted {
     Other,
 }
 
-// The And that has a node as a child, unless it is the root.
-pub enum Parent {
-    Root,
-    And(usize),
-}
-
-// An AND-leaf that is taken: its predicate, its position among the AND-leaves, where it stands and ends.
+// An AND-leaf that is taken: its predicate, its position among the AND-leaves, where it stands and ends, and where its parent And
+// stands; the root counts as its own parent.
 pub struct Pick {
     pub predicate: SpatialPredicate,
     pub position: usize,
     pub leaf: usize,
     pub leaf_end: usize,
-    pub parent: Parent,
+    pub parent: usize,
 }
 
 // What a pass found below a node; if nothing, where the node ends and how many AND-leaves there are up to its end.
@@ -85,7 +80,7 @@ fn first_match(
     at: usize,
     wanted: Wanted,
     position: usize,
-    parent: Parent,
+    parent: usize,
 ) -> Found
     requires { ⌜ Framed (now s) rec at ⌝ }
     requires { ⌜ position ≤ at ⌝ }
@@ -93,16 +88,9 @@ fn first_match(
 {
     let node = node_at(s, at);
     if let Node::And(left) = node {
-        return match first_match(s, rec, left, wanted, position, Parent::And(at)) {
+        return match first_match(s, rec, left, wanted, position, at) {
             Found::Leaf(pick) => Found::Leaf(pick),
-            Found::Nothing(right, count) => first_match(
-                s,
-                rec,
-                right,
-                wanted,
-                count,
-                Parent::And(at),
-            ),
+            Found::Nothing(right, count) => first_match(s, rec, right, wanted, count, at),
         };
     }
     match match_wanted(s, rec, at, node, wanted) {
@@ -121,9 +109,9 @@ fn first_match(
 // The first KNN match.
 pub fn extract_knn_predicate_prioritized(s: &[u8], rec: usize, at: usize) -> Found
     requires { ⌜ Framed (now s) rec at ⌝ }
-    ensures { λ r. ⌜ OfFrame (now (s .entry)) rec at (FoundIs Wanted.Knn (now (s .entry)) rec at 0 Parent.Root r) ⌝ }
+    ensures { λ r. ⌜ OfFrame (now (s .entry)) rec at (FoundIs Wanted.Knn (now (s .entry)) rec at 0 at r) ⌝ }
 {
-    first_match(s, rec, at, Wanted::Knn, 0, Parent::Root)
+    first_match(s, rec, at, Wanted::Knn, 0, at)
 }
 
 // A first pass for KNN, which cannot be a filter, and another for the rest.
@@ -134,7 +122,7 @@ pub fn extract_spatial_predicate(s: &[u8], rec: usize, at: usize) -> Picked
     if let Found::Leaf(pick) = extract_knn_predicate_prioritized(s, rec, at) {
         return Picked::Leaf(pick);
     }
-    match first_match(s, rec, at, Wanted::Other, 0, Parent::Root) {
+    match first_match(s, rec, at, Wanted::Other, 0, at) {
         Found::Leaf(pick) => Picked::Leaf(pick),
         Found::Nothing(_, _) => Picked::Nothing,
     }

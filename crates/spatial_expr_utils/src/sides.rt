@@ -102,7 +102,7 @@ fn see_side(seen: Sides, side: JoinSide) -> Sides
 }
 
 // The columns of one expression, after those seen before it.
-fn side_node(s: &[u8], rec: usize, at: usize, seen: Sides) -> SideTo
+fn collect_column_references(s: &[u8], rec: usize, at: usize, seen: Sides) -> SideTo
     requires { ⌜ Framed (now s) rec at ⌝ }
     ensures { λ r. ⌜ OfFrame (now (s .entry)) rec at (SideIs at seen r) ⌝ }
 {
@@ -118,11 +118,11 @@ fn side_node(s: &[u8], rec: usize, at: usize, seen: Sides) -> SideTo
     let head = head_at(s, at);
     let next = head.next;
     let n = head.children;
-    side_children(s, rec, next, n, seen)
+    collect_children(s, rec, next, n, seen)
 }
 
 // The columns of n expressions in a row.
-fn side_children(s: &[u8], rec: usize, at: usize, n: usize, seen: Sides) -> SideTo
+fn collect_children(s: &[u8], rec: usize, at: usize, n: usize, seen: Sides) -> SideTo
     requires { ⌜ FramedAll (now s) rec at n ⌝ }
     ensures { λ r. ⌜ OfFrameAll (now (s .entry)) rec at n (SidesAre at seen r) ⌝ }
 {
@@ -132,10 +132,10 @@ fn side_children(s: &[u8], rec: usize, at: usize, n: usize, seen: Sides) -> Side
             sides: seen,
         };
     }
-    let first = side_node(s, rec, at, seen);
+    let first = collect_column_references(s, rec, at, seen);
     let next = first.next;
     let sides = first.sides;
-    side_children(s, rec, next, n - 1, sides)
+    collect_children(s, rec, next, n - 1, sides)
 }
 
 // Where the argument at a place ends, and the side of its columns.
@@ -143,7 +143,7 @@ pub fn side_of_column_references(s: &[u8], rec: usize, at: usize) -> Argument
     requires { ⌜ Framed (now s) rec at ⌝ }
     ensures { λ r. ⌜ OfFrame (now (s .entry)) rec at (ArgumentIs at r) ⌝ }
 {
-    let all = side_node(s, rec, at, Sides::Unseen);
+    let all = collect_column_references(s, rec, at, Sides::Unseen);
     let end = all.next;
     let sides = all.sides;
     match sides {

@@ -1,11 +1,9 @@
 -- `put_records_exchanged`: the records are copied, and a turn negates the side of the next.
 use Prim.Native.Nat.{_*_, _-_, _≤_}
 use native.Mathlib.Omega.{arith}
-use mathlib.Core.Path.{_≡_, refl, ap, _∙_}
 use borrow.Author.Needs.{needs}
+use mathlib.Core.Path.{_≡_, refl}
 use lib.ListN.{length, length-set}
-use Rattle.definitions.specs.Encode.{sideNumber}
-use Rattle.definitions.specs.Exchange as definitions
 use Rattle.plan_exchange.proofs.RecordLaws.{Negated, records-fit, negated-next, records-put}
 use Rattle.plan_exchange.proofs.frames.put_records_exchanged.Statement.{statement}
 use Rattle.plan_exchange.proofs.frames.put_records_exchanged.Tie as tie
@@ -33,15 +31,12 @@ loop-holds c =
 
 loop-again : tie.Need-loop-again Inv-loop μ-loop
 loop-again c =
-    let number = c .side-number .ensures in
-    let negated = c .before .negate .ensures in
-    let read = c .before .before .side-numbered .ensures in
-    let loop = c .before .before .before .before .before .loop in (
+    let other = c .negate-number in
+    let loop = c .before .before .before .loop in (
       omega arith,
       simp length-set (loop .inv .1),
       simp length-set (loop .inv .2),
-      negated-next _ (loop .out) (loop .i) (c .side-number .result) (c .before .before .before .before .loop-test .taken)
-          (number ∙ ap sideNumber (negated ∙ ap definitions.negate read)) (loop .inv .3),
+      negated-next _ (loop .out) (loop .i) (other .result) (c .before .before .loop-test .taken) (other .ensures) (loop .inv .3),
     )
 
 returns : tie.Need-returns Inv-loop μ-loop
@@ -61,8 +56,6 @@ put-records-exchanged-spec =
     loop-holds
     (λ c. omega arith)
     (λ c. omega arith)
-    (λ c κs. search needs)
-    (λ c κs. search needs)
     (λ c κs. search needs)
     (λ c. omega arith)
     (λ c. omega arith)

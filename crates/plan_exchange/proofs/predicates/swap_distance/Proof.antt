@@ -1,9 +1,9 @@
 -- `swap_distance`: kind, form and the other side, then right, left and the distance.
 use native.Mathlib.Omega.{arith}
 use borrow.Author.Needs.{needs}
-use mathlib.Core.Path.{ap, _∙_}
+use mathlib.Core.Path.{_∙_}
 use lib.ListN.{length-set}
-use Rattle.definitions.specs.Encode.{sideNumber}
+use Rattle.frame.specs.Fields.{sideOf}
 use Rattle.plan_exchange.specs.Writing.{same}
 use Rattle.plan_exchange.proofs.Sequence.{stored-room, stored-put, first-room, second-room, both-put}
 use Rattle.plan_exchange.proofs.Views.{distance-view, distance-fits, form-fits}
@@ -12,28 +12,31 @@ use Rattle.plan_exchange.proofs.predicates.swap_distance.Tie as tie
 
 copy-both-requires : tie.Need-copy-both-requires
 copy-both-requires c κs =
-    let number = c .before .side-number in
-    let other = c .before .before .before .negate in
+    let other = c .before .before .negate-number in
+    let number = c .before .before .before .side-number in
     let start = c .before .before .before .before .before .before in
-    first-room same (stored-room (distance-view (start .args .p) (number .result) (number .ensures ∙ ap sideNumber (other .ensures))) (start .pre))
+    let p = start .args .p in
+    first-room same (stored-room (distance-view p (other .result) (other .ensures (sideOf (p .side)) (number .ensures))) (start .pre))
 
 copy-at-requires : tie.Need-copy-at-requires
 copy-at-requires c κs =
     let both = c .before .before .before .copy-both in
-    let at-number = c .before .before .before .before .before in
-    let number = at-number .side-number in
-    let other = at-number .before .before .negate in
-    let start = at-number .before .before .before .before .before in
-    second-room (stored-room (distance-view (start .args .p) (number .result) (number .ensures ∙ ap sideNumber (other .ensures))) (start .pre)) (both .ensures) (both .kept .0)
+    let at-other = c .before .before .before .before .before .before in
+    let other = at-other .negate-number in
+    let number = at-other .before .side-number in
+    let start = at-other .before .before .before .before in
+    let p = start .args .p in
+    second-room (stored-room (distance-view p (other .result) (other .ensures (sideOf (p .side)) (number .ensures))) (start .pre)) (both .ensures) (both .kept .0)
 
 returns : tie.Need-returns
 returns c =
     let both = c .before .before .before .before .before .before .copy-both in
-    let at-number = c .before .before .before .before .before .before .before .before in
-    let number = at-number .side-number in
-    let other = at-number .before .before .negate in
-    let start = at-number .before .before .before .before .before in
-    stored-put (distance-view (start .args .p) (number .result) (number .ensures ∙ ap sideNumber (other .ensures))) (start .pre)
+    let at-other = c .before .before .before .before .before .before .before .before .before in
+    let other = at-other .negate-number in
+    let number = at-other .before .side-number in
+    let start = at-other .before .before .before .before in
+    let p = start .args .p in
+    stored-put (distance-view p (other .result) (other .ensures (sideOf (p .side)) (number .ensures))) (start .pre)
     (both-put (simp length-set (distance-fits (start .pre))) (both .ensures) (c .before .before .copy-at .ensures))
 
 pub swap-distance-spec : {M : Type 1} → statement M
@@ -41,10 +44,10 @@ swap-distance-spec =
     tie.close
     (tie.spec
     (λ c κs. search needs)
-    (λ c. omega (arith, distance-fits (c .before .before .before .pre)))
-    (λ c. omega (arith, form-fits (c .before .before .before .before .pre .stands)))
-    (λ c. simp length-set (omega (arith, distance-fits (c .before .before .before .before .pre))))
     (λ c κs. search needs)
+    (λ c. omega (arith, distance-fits (c .before .before .before .before .pre)))
+    (λ c. omega (arith, form-fits (c .before .before .before .before .before .pre .stands)))
+    (λ c. simp length-set (omega (arith, distance-fits (c .before .before .before .before .before .pre))))
     (λ c. simp length-set (distance-fits (c .before .before .before .before .before .pre)))
     copy-both-requires
     copy-at-requires

@@ -87,20 +87,19 @@ row-rest t c κs =
       rest-fits (start .pre .1) some (call .last .0) (call .result) (call .ensures) (call .kept .0),
     )
 
-row-sum : (t : ℕ) → row-lts.Need-add-t14 (row-claims t) (row-at t) row.Post
-row-sum t c =
+row-returns-2 : (t : ℕ) → row-lts.Need-returns-2 (row-claims t) (row-at t) row.Post
+row-returns-2 t c = λ ts row.
     let start = c .before .before .before .before .before .before .before .before .before .before .before .before .before in
     let some = c .before .before .before .before .before .before .before .before .before .if1 .left in
     let one = c .before .before .before .before .before .before .before .reproject-column-references in
     let others = c .before .before .before .reproject-children in
+    copies-some (start .args .to .now) ts row some (start .args .out .now) (one .last .0) (others .last .0) (one .result) (others .result) (one .ensures) (others .ensures)
+
+row-sum : (t : ℕ) → row-lts.Need-add-t14 (row-claims t) (row-at t) row.Post
+row-sum t c =
+    let start = c .before .before .before .before .before .before .before .before .before .before .before .before .before in
     let p = start .pre .1 in
-    omega (
-      arith,
-      start .good,
-      p .room,
-      copies-some (start .args .to .now) (p .trees) (p .row) some (start .args .out .now) (one .last .0) (others .last .0) (one .result) (others .result) (one .ensures)
-          (others .ensures) .wrote,
-    )
+    omega (arith, start .good, p .room, row-returns-2 t c (p .trees) (p .row) .wrote)
 
 row-long : (t : ℕ) → row-lts.Need-same-length (row-claims t) (row-at t) row.Post
 row-long t c =
@@ -110,14 +109,6 @@ row-long t c =
     let others = c .before .before .before .reproject-children in
     let room = first-room (first-fits (start .pre .1) some) (one .last .0) (one .result) (one .ensures) in
     together-length (one .result .wrote) (one .last .0) (others .last .0) (omega (arith, one .kept .0)) (others .kept .0) ∙ one .kept .0
-
-row-returns-2 : (t : ℕ) → row-lts.Need-returns-2 (row-claims t) (row-at t) row.Post
-row-returns-2 t c = λ ts row.
-    let start = c .before .before .before .before .before .before .before .before .before .before .before .before .before in
-    let some = c .before .before .before .before .before .before .before .before .before .if1 .left in
-    let one = c .before .before .before .before .before .before .before .reproject-column-references in
-    let others = c .before .before .before .reproject-children in
-    copies-some (start .args .to .now) ts row some (start .args .out .now) (one .last .0) (others .last .0) (one .result) (others .result) (one .ensures) (others .ensures)
 
 -- ---- the node
 
@@ -187,21 +178,21 @@ node-children t c κs =
       children-fit (start .pre .1) some (head .result) (head .ensures) (copy .last .0) (copy .kept .0),
     )
 
-node-sum : (t : ℕ) → node-lts.Need-add-t25 (node-claims t) (node-at t) node.Post
-node-sum t c =
+node-returns-2 : (t : ℕ) → node-lts.Need-returns-2 (node-claims t) (node-at t) node.Post
+node-returns-2 t c = λ u stands.
     let start = c .before .before .before .before .before .before .before .before .before .before .before .before .before .before .before in
     let some = c .before .before .before .before .before .before .before .before .before .before .if1 .left in
     let head = c .before .before .before .before .before .before .before .before .before .head-at in
     let copy = c .before .before .before .before .before .before .before .copy-bytes in
     let others = c .before .before .before .reproject-children in
+    copy-other (start .args .to .now) u stands some (head .result) (head .ensures) (start .args .out .now) (copy .last .0) (others .last .0)
+    (head .result .next - start .args .at) refl (copy .ensures) (others .result) (others .ensures)
+
+node-sum : (t : ℕ) → node-lts.Need-add-t25 (node-claims t) (node-at t) node.Post
+node-sum t c =
+    let start = c .before .before .before .before .before .before .before .before .before .before .before .before .before .before .before in
     let p = start .pre .1 in
-    omega (
-      arith,
-      start .good,
-      p .room,
-      copy-other (start .args .to .now) (p .tree) (p .stands) some (head .result) (head .ensures) (start .args .out .now) (copy .last .0) (others .last .0)
-          (head .result .next - start .args .at) refl (copy .ensures) (others .result) (others .ensures) .wrote,
-    )
+    omega (arith, start .good, p .room, node-returns-2 t c (p .tree) (p .stands) .wrote)
 
 node-long : (t : ℕ) → node-lts.Need-same-length-2 (node-claims t) (node-at t) node.Post
 node-long t c =
@@ -212,16 +203,6 @@ node-long t c =
     let others = c .before .before .before .reproject-children in
     let room = head-room (start .pre .1) some (head .result) (head .ensures) in
     together-length (head .result .next - start .args .at) (copy .last .0) (others .last .0) (omega (arith, room, copy .kept .0)) (others .kept .0) ∙ copy .kept .0
-
-node-returns-2 : (t : ℕ) → node-lts.Need-returns-2 (node-claims t) (node-at t) node.Post
-node-returns-2 t c = λ t stands.
-    let start = c .before .before .before .before .before .before .before .before .before .before .before .before .before .before .before in
-    let some = c .before .before .before .before .before .before .before .before .before .before .if1 .left in
-    let head = c .before .before .before .before .before .before .before .before .before .head-at in
-    let copy = c .before .before .before .before .before .before .before .copy-bytes in
-    let others = c .before .before .before .reproject-children in
-    copy-other (start .args .to .now) t stands some (head .result) (head .ensures) (start .args .out .now) (copy .last .0) (others .last .0)
-    (head .result .next - start .args .at) refl (copy .ensures) (others .result) (others .ensures)
 
 pub +reproject-children+reproject-column-references-spec : {M : Type 1} → statement M
 +reproject-children+reproject-column-references-spec = close μ-row μ-node (λ t. row-lts.spec (row-claims t) (row-at t)

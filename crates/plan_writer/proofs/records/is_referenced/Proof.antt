@@ -1,15 +1,13 @@
 -- `is_referenced`: the marked columns passed so far are not equal to j.
 use Prim.Native.Nat.{_≤_, _-_, _+_, _*_}
 use native.Mathlib.Omega.{arith}
-use mathlib.Core.Path.{_≡_, sym, _∙_}
+use mathlib.Core.Path.{sym, _∙_}
 use mathlib.Core.Logic.{⊎-elim}
-use lib.ListN.{length, getD}
+use lib.ListN.{length}
 use borrow.Author.Count.{below-none, below-more}
-use Rattle.definitions.specs.Extract.{sameColumn}
 use Rattle.definitions.specs.Match.{recordAt}
-use Rattle.plan_writer.specs.Tables.{OfRecords}
-use Rattle.plan_writer.proofs.TableLaws.{records-within}
-use Rattle.plan_writer.proofs.RecordLaws.{Apart, Passed, entry-of, referenced-here, referenced-none}
+use Rattle.plan_writer.proofs.TableLaws.{records-within, entry-of}
+use Rattle.plan_writer.proofs.RecordLaws.{Apart, Passed, referenced-here, referenced-none}
 use Rattle.plan_writer.proofs.records.is_referenced.Statement.{statement}
 use Rattle.plan_writer.proofs.records.is_referenced.Tie as tie
 

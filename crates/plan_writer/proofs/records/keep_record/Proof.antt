@@ -1,7 +1,6 @@
 -- `keep_record`: a record that stays is copied after those kept, any other changes nothing.
 use Prim.Native.Nat.{_+_, _*_, _≤_}
 use native.Mathlib.Omega.{arith}
-use mathlib.Core.Path.{_∙_}
 use lib.ListN.{length}
 use borrow.Author.Needs.{needs}
 use Rattle.plan_writer.proofs.Written.{behind-length}

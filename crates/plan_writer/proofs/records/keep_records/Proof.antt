@@ -2,7 +2,6 @@
 use Prim.Native.Nat.{_-_}
 use native.Mathlib.Omega.{arith}
 use lib.ListN.{length}
-use borrow.Author.Needs.{needs}
 use Rattle.plan_writer.proofs.RecordLaws.{Keeping, keeping-none, next-fits, keeping-more, keeping-all}
 use Rattle.plan_writer.proofs.records.keep_records.Statement.{statement}
 use Rattle.plan_writer.proofs.records.keep_records.Tie as tie

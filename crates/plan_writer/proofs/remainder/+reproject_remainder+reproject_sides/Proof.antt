@@ -6,7 +6,10 @@ use lib.ListN.{length, set, length-set}
 use borrow.Author.Needs.{needs}
 use borrow.Fn.Kinds.{In}
 use borrow.Fn.PlainCycle.{Measures, is, falls, and}
+use Rattle.definitions.specs.Expression.{Expr, and as expr-and}
 use Rattle.definitions.specs.Decode.{indexBelow}
+use Rattle.expression.specs.Nodes.{Stands}
+use Rattle.expression.specs.Leaves.{Both}
 use Rattle.expression.proofs.Standing.{first-stands, node-some}
 use Rattle.plan_writer.proofs.Written.{together-length}
 use Rattle.plan_writer.proofs.AroundLaws.{lone-leaf, left-at}
@@ -79,23 +82,32 @@ whole-returns t c = λ t stands ends.
     copy-lone to (start .args .cut) (arm .before .before .if1 .left)
     (lone-leaf stands (node .result) (arm .match .keys2) (node .ensures (indexBelow (length to)) t stands)) (c .before .before .reproject-column-references .ensures t stands)
 
+-- The And that was found.
+found-and : (t : ℕ) (c : node-lts.After-left (node-claims t) (node-at t) node.Post) (u : Expr)
+    → let start = c .before .before .before .before .before .before .before .before in
+    let d = indexBelow (length (start .args .to .now)) in
+    Stands d (start .args .src .now) (start .args .at) u → Both expr-and d (start .args .src .now) (start .args .at) (c .left .given .0 .0) u
+found-and t c u stands =
+    let start = c .before .before .before .before .before .before .before .before in
+    rw (c .left .given .1) at (c .before .before .node-at .ensures (indexBelow (length (start .args .to .now))) u stands)
+
 parent-sides : (t : ℕ) → node-lts.Need-reproject-sides-requires (node-claims t) (node-at t) node.Post
 parent-sides t c κs =
     let arm = c .before .before .before .before in
     let start = arm .before .before .before .before .before .before .before .before in
     let p = start .pre .1 in
     let to = start .args .to .now in
-    let both = rw (arm .left .given .1) at (arm .before .before .node-at .ensures (indexBelow (length to)) (p .tree) (p .stands)) in (
+    let both = found-and t arm (p .tree) (p .stands) in (
       omega (arith, start .pre .0, node-some (p .stands), left-at both),
       parent-fits to (start .args .cut) both (p .ends) (arm .before .before .before .if1 .left) (c .before .if2 .taken) (p .room),
     )
 
 parent-returns : (t : ℕ) → node-lts.Need-returns-3 (node-claims t) (node-at t) node.Post
-parent-returns t c = λ t stands ends.
+parent-returns t c = λ u stands ends.
     let arm = c .before .before .before .before .before .before .before in
     let start = arm .before .before .before .before .before .before .before .before in
     let to = start .args .to .now in
-    let both = rw (arm .left .given .1) at (arm .before .before .node-at .ensures (indexBelow (length to)) t stands) in
+    let both = found-and t arm u stands in
     copy-parent to (start .args .cut) both ends (arm .before .before .before .if1 .left) (c .before .before .before .before .if2 .taken)
     (c .before .before .reproject-sides .ensures)
 
@@ -106,7 +118,7 @@ room t c =
     let start = arm .before .before .before .before .before .before .before .before in
     let p = start .pre .1 in
     let to = start .args .to .now in
-    let both = rw (arm .left .given .1) at (arm .before .before .node-at .ensures (indexBelow (length to)) (p .tree) (p .stands)) in
+    let both = found-and t arm (p .tree) (p .stands) in
     and-room to (start .args .cut) both (p .ends) (arm .before .before .before .if1 .left) (c .if2 .left) (start .args .out .now) (p .room)
 
 and-sides : (t : ℕ) → node-lts.Need-reproject-sides-requires-2 (node-claims t) (node-at t) node.Post
@@ -115,7 +127,7 @@ and-sides t c κs =
     let start = arm .before .before .before .before .before .before .before .before in
     let p = start .pre .1 in
     let to = start .args .to .now in
-    let both = rw (arm .left .given .1) at (arm .before .before .node-at .ensures (indexBelow (length to)) (p .tree) (p .stands)) in (
+    let both = found-and t arm (p .tree) (p .stands) in (
       omega (arith, start .pre .0, node-some (p .stands), left-at both),
       and-fits to (start .args .cut) both (p .ends) (arm .before .before .before .if1 .left) (c .before .if2 .left) (start .args .out .now) (p .room),
     )
@@ -127,7 +139,7 @@ and-returns t c = λ u stands ends.
     let start = arm .before .before .before .before .before .before .before .before in
     let to = start .args .to .now in
     let call = c .before .before .before .reproject-sides2 in
-    let both = rw (arm .left .given .1) at (arm .before .before .node-at .ensures (indexBelow (length to)) u stands) in
+    let both = found-and t arm u stands in
     copy-and to (start .args .cut) both ends (arm .before .before .before .if1 .left) (other .if2 .left) (start .args .out .now) (call .last .0) (room t other) (call .ensures)
 
 and-sum : (t : ℕ) → node-lts.Need-add-t17 (node-claims t) (node-at t) node.Post

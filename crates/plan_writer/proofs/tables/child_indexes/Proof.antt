@@ -1,7 +1,7 @@
 -- `child_indexes`: the entries before j are the numbers that stand in the records before j.
 use Prim.Native.Nat.{_≤_, _-_, _+_, _*_}
 use native.Mathlib.Omega.{arith}
-use mathlib.Core.Path.{_≡_, refl, subst}
+use mathlib.Core.Path.{_≡_, refl}
 use lib.ListN.{length, length-set}
 use Rattle.expression.specs.Places.{shortAt}
 use Rattle.plan_writer.specs.Tables.{Table}

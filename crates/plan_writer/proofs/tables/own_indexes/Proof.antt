@@ -1,7 +1,7 @@
 -- `own_indexes`: the entries before j are their own indexes.
 use Prim.Native.Nat.{_≤_, _-_}
 use native.Mathlib.Omega.{arith}
-use mathlib.Core.Path.{_≡_, refl, subst}
+use mathlib.Core.Path.{_≡_, refl}
 use lib.ListN.{length, length-set}
 use Rattle.plan_writer.specs.Tables.{Table}
 use Rattle.plan_writer.proofs.TableLaws.{table-none, table-more, table-whole}

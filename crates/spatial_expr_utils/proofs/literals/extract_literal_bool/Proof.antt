@@ -1,7 +1,7 @@
 -- `extract_literal_bool`: the eight bytes of a Boolean are 0 or 1.
 use Prim.Native.Nat.{_+_, ℕ}
 use native.Mathlib.Omega.{arith}
-use mathlib.Core.Path.{_≡_, ap, sym, _∙_}
+use mathlib.Core.Path.{ap, sym, _∙_}
 use mathlib.Core.Option.{some}
 use lib.Dec.{eqb}
 use Rattle.definitions.specs.Literals.{numberBool}
@@ -18,25 +18,23 @@ shared-slice-read-if1 c = node-some (c .before .before .pre .2)
 returns : tie.Need-returns
 returns c = λ d t h. no-literal h (c .if1 .taken) .1
 
-add-long-at : tie.Need-add-long-at
-add-long-at c = search needs
-
 long-at-requires : tie.Need-long-at-requires
 long-at-requires c κs = omega (arith, literal-is (c .before .before .before .pre .2) (c .if1 .left) .fits)
-
-add-match : tie.Need-add-match
-add-match c = search needs
 
 shared-slice-read-match : tie.Need-shared-slice-read-match
 shared-slice-read-match c = omega (arith, literal-is (c .before .before .before .before .before .pre .2) (c .before .before .if1 .left) .fits)
 
 returns-2 : tie.Need-returns-2
-returns-2 c = λ d t h.
+returns-2 c =
+    let at-long-at = c .before .before in
+    let at-if1 = at-long-at .before in
+    λ d t h.
     let start = c .before .before .before .before .before .before in
-    let kind = c .before .before .before .if1 .left in
+    let kind = at-if1 .if1 .left in
     let bytes = longAt (start .args .s .now) (start .args .at + 2) in
     literal-flag h kind _
-    (ap (λ (n : ℕ). some (flag (eqb n 1))) (c .before .before .long-at .ensures) ∙ flag-is bytes (flag-small h kind (c .match .keys1)) ∙ ap (λ (y : ℕ). numberBool y bytes) (sym (c .match .keys1)))
+    (ap (λ (n : ℕ). some (flag (eqb n 1))) (at-long-at .long-at .ensures) ∙ flag-is bytes (flag-small h kind (c .match .keys1)) ∙ ap
+    (λ (y : ℕ). numberBool y bytes) (sym (c .match .keys1)))
 
 returns-3 : tie.Need-returns-3
 returns-3 c = λ d t h. literal-flag h (c .before .before .before .if1 .left) _ (no-flag _ _ (c .match .rest .1))
@@ -47,9 +45,9 @@ extract-literal-bool-spec =
     (tie.spec
     shared-slice-read-if1
     returns
-    add-long-at
+    (λ c. search needs)
     long-at-requires
-    add-match
+    (λ c. search needs)
     shared-slice-read-match
     returns-2
     returns-3)

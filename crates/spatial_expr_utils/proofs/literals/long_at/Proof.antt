@@ -1,6 +1,6 @@
 -- `long_at`: four numbers of two bytes, each below 65,536.
 use native.Mathlib.Omega.{arith}
-use Prim.Native.Nat.{_+_}
+use Prim.Native.Nat.{_+_, _<_}
 use Rattle.spatial_expr_utils.proofs.LiteralLaws.{short-below}
 use borrow.Author.Needs.{needs}
 use Rattle.spatial_expr_utils.proofs.literals.long_at.Statement.{statement}
@@ -9,17 +9,11 @@ use Rattle.spatial_expr_utils.proofs.literals.long_at.Tie as tie
 short-at-requires : tie.Need-short-at-requires
 short-at-requires c κs = search needs
 
-mul-high : tie.Need-mul-high
-mul-high c = let start = c .before .before in let bytes = c .before .shared-slice-known .given in omega (arith, short-below (start .args .s .now) bytes (start .args .at) (c .short-at .result) (c .short-at .ensures))
-
 add-short-at : tie.Need-add-short-at
 add-short-at c = search needs
 
 short-at-requires-2 : tie.Need-short-at-requires-2
 short-at-requires-2 c κs = search needs
-
-add-high : tie.Need-add-high
-add-high c = let start = c .before .before .before in let bytes = c .before .before .shared-slice-known .given in omega (arith, short-below (start .args .s .now) bytes (start .args .at) (c .before .short-at .result) (c .before .short-at .ensures), short-below (start .args .s .now) bytes (start .args .at + 2) (c .short-at2 .result) (c .short-at2 .ensures))
 
 add-short-at-2 : tie.Need-add-short-at-2
 add-short-at-2 c = search needs
@@ -27,23 +21,41 @@ add-short-at-2 c = search needs
 short-at-requires-3 : tie.Need-short-at-requires-3
 short-at-requires-3 c κs = search needs
 
-mul-low : tie.Need-mul-low
-mul-low c = let start = c .before .before .before .before in let bytes = c .before .before .before .shared-slice-known .given in omega (arith, short-below (start .args .s .now) bytes (start .args .at + 4) (c .short-at3 .result) (c .short-at3 .ensures))
-
 add-short-at-3 : tie.Need-add-short-at-3
 add-short-at-3 c = search needs
 
 short-at-requires-4 : tie.Need-short-at-requires-4
 short-at-requires-4 c κs = search needs
 
-add-low : tie.Need-add-low
-add-low c = let start = c .before .before .before .before .before in let bytes = c .before .before .before .before .shared-slice-known .given in omega (arith, short-below (start .args .s .now) bytes (start .args .at + 4) (c .before .short-at3 .result) (c .before .short-at3 .ensures), short-below (start .args .s .now) bytes (start .args .at + 6) (c .short-at4 .result) (c .short-at4 .ensures))
+below : (c : tie.After-short-at4)
+    → (c .before .before .before .short-at .result < 65536) × (c .before .before .short-at2 .result < 65536)
+    × (c .before .short-at3 .result < 65536) × (c .short-at4 .result < 65536)
+below c =
+    let start = c .before .before .before .before .before in
+    let small = short-below (start .args .s .now) (c .before .before .before .before .shared-slice-known .given) in (
+      small (start .args .at) _ (c .before .before .before .short-at .ensures),
+      small (start .args .at + 2) _ (c .before .before .short-at2 .ensures),
+      small (start .args .at + 4) _ (c .before .short-at3 .ensures),
+      small (start .args .at + 6) _ (c .short-at4 .ensures),
+    )
 
-mul-result : tie.Need-mul-result
-mul-result c = let start = c .before .before .before .before .before in let bytes = c .before .before .before .before .shared-slice-known .given in omega (arith, short-below (start .args .s .now) bytes (start .args .at) (c .before .before .before .short-at .result) (c .before .before .before .short-at .ensures), short-below (start .args .s .now) bytes (start .args .at + 2) (c .before .before .short-at2 .result) (c .before .before .short-at2 .ensures))
+mul-number : tie.Need-mul-number
+mul-number c = let b = below c in omega arith
 
-add-result : tie.Need-add-result
-add-result c = let start = c .before .before .before .before .before in let bytes = c .before .before .before .before .shared-slice-known .given in omega (arith, short-below (start .args .s .now) bytes (start .args .at) (c .before .before .before .short-at .result) (c .before .before .before .short-at .ensures), short-below (start .args .s .now) bytes (start .args .at + 2) (c .before .before .short-at2 .result) (c .before .before .short-at2 .ensures), short-below (start .args .s .now) bytes (start .args .at + 4) (c .before .short-at3 .result) (c .before .short-at3 .ensures), short-below (start .args .s .now) bytes (start .args .at + 6) (c .short-at4 .result) (c .short-at4 .ensures))
+add-number : tie.Need-add-number
+add-number c = let b = below c in omega arith
+
+mul-number-2 : tie.Need-mul-number-2
+mul-number-2 c = let b = below c in omega arith
+
+add-number-2 : tie.Need-add-number-2
+add-number-2 c = let b = below c in omega arith
+
+mul-number-3 : tie.Need-mul-number-3
+mul-number-3 c = let b = below c in omega arith
+
+add-number-3 : tie.Need-add-number-3
+add-number-3 c = let b = below c in omega arith
 
 returns : tie.Need-returns
 returns c = search needs
@@ -53,16 +65,16 @@ long-at-spec =
     tie.close
     (tie.spec
     short-at-requires
-    mul-high
     add-short-at
     short-at-requires-2
-    add-high
     add-short-at-2
     short-at-requires-3
-    mul-low
     add-short-at-3
     short-at-requires-4
-    add-low
-    mul-result
-    add-result
+    mul-number
+    add-number
+    mul-number-2
+    add-number-2
+    mul-number-3
+    add-number-3
     returns)

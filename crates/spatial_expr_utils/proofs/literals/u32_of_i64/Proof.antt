@@ -1,4 +1,4 @@
--- `u32_of_i64`: by the sign, and by the bound.
+-- `u32_of_i64`: a negative number is none, and the rest is tested against the bound of the definition.
 use mathlib.Core.Path.{ap, _∙_}
 use mir.Syntax.{w64}
 use mir.Val.{toZ, ofZ}

@@ -1,12 +1,9 @@
--- `u32_of_u64`: by the bound.
+-- `u32_of_u64`: the test is the bound of the definition.
 use borrow.Author.Tests.{le-leb, lt-leb}
 use Rattle.definitions.specs.Literals.{u32}
 use borrow.Author.Needs.{needs}
 use Rattle.spatial_expr_utils.proofs.literals.u32_of_u64.Statement.{statement}
 use Rattle.spatial_expr_utils.proofs.literals.u32_of_u64.Tie as tie
-
-cast-t4 : tie.Need-cast-t4
-cast-t4 c = search needs
 
 returns : tie.Need-returns
 unfolding u32
@@ -17,4 +14,4 @@ unfolding u32
 returns-2 c = rw (lt-leb (c .before .args .value) 4294967295 (c .if1 .left))
 
 pub u32-of-u64-spec : {M : Type 1} → statement M
-u32-of-u64-spec = tie.close (tie.spec cast-t4 returns returns-2)
+u32-of-u64-spec = tie.close (tie.spec (λ c. search needs) returns returns-2)

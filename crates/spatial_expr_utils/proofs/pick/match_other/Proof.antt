@@ -7,58 +7,53 @@ use borrow.Author.Needs.{needs}
 use Rattle.spatial_expr_utils.proofs.pick.match_other.Statement.{statement}
 use Rattle.spatial_expr_utils.proofs.pick.match_other.Tie as tie
 
-enum-known-node : tie.Need-enum-known-node
-enum-known-node c = search needs
-
-match-distance-predicate-requires : tie.Need-match-distance-predicate-requires
-match-distance-predicate-requires c κs = search needs
-
 returns : tie.Need-returns
-returns c = λ records t over. distance-matching over (c .match-distance-predicate .result)
-    (no-function (c .before .before .before .args .node) (c .before .before .before .pre .1) (over .tree) (c .before .match .keys2) records .1) (c .match-distance-predicate .ensures records t over)
+returns c =
+    let start = c .before .before .before in
+    λ records t over. distance-matching over (c .match-distance-predicate .result)
+    (no-function (start .args .node) (start .pre .1) (over .tree) (c .before .match .keys2) records .1)
+    (c .match-distance-predicate .ensures records t over)
 
 match-relation-predicate-requires : tie.Need-match-relation-predicate-requires
-match-relation-predicate-requires c κs = call-framed (c .before .before .before .before .pre .1) (c .before .node .given .1) (c .before .before .before .before .pre .0)
+match-relation-predicate-requires c κs =
+    let start = c .before .before .before .before in
+    call-framed (start .pre .1) (c .before .node .given .1) (start .pre .0)
 
 -- What `match_relation_predicate` answered, said of the leaf.
-as-relation : (c : tie.After-match-relation-predicate) → let start = c .before .before .before .before .before .args in OfFrame (start .s .now) (start .rec) (start .at)
+as-relation : (c : tie.After-match-relation-predicate)
+    → let start = c .before .before .before .before .before .args in
+    OfFrame (start .s .now) (start .rec) (start .at)
     (LeafMatching isRelation (start .s .now) (start .rec) (start .at) (c .match-relation-predicate .result))
-as-relation c records t over = call-leaf (c .before .before .before .before .before .pre .1) (c .before .before .node .given .1) isRelation (c .match-relation-predicate .result) (c .match-relation-predicate .ensures) over
-
-enum-known-predicate : tie.Need-enum-known-predicate
-enum-known-predicate c = search needs
-
-enum-known-end : tie.Need-enum-known-end
-enum-known-end c = search needs
-
-enum-told : tie.Need-enum-told
-enum-told c = search needs
-
-match-distance-predicate-requires-2 : tie.Need-match-distance-predicate-requires-2
-match-distance-predicate-requires-2 c κs = search needs
+as-relation c records t over =
+    let at-node = c .before .before in
+    let start = at-node .before .before .before in
+    call-leaf (start .pre .1) (at-node .node .given .1) isRelation (c .match-relation-predicate .result) (c .match-relation-predicate .ensures) over
 
 returns-2 : tie.Need-returns-2
-returns-2 c = λ records t over. relation-matched over _ _ (rw (c .before .predicate .given .1) at (as-relation (c .before .before .before) records t over))
+returns-2 c =
+    λ records t over. relation-matched over _ _ (rw (c .before .predicate .given .1) at (as-relation (c .before .before .before) records t over))
 
 returns-3 : tie.Need-returns-3
 returns-3 c = λ records t over. rw (c .before .end .given .1) at (as-relation (c .before .before .before) records t over)
 
 returns-4 : tie.Need-returns-4
-returns-4 c = λ records t over. distance-matching over (c .match-distance-predicate2 .result)
-    (rw (c .before .enum-told .given .1) at (as-relation (c .before .before .before) records t over)) (c .match-distance-predicate2 .ensures records t over)
+returns-4 c =
+    λ records t over. distance-matching over (c .match-distance-predicate2 .result)
+    (rw (c .before .enum-told .given .1) at (as-relation (c .before .before .before) records t over))
+    (c .match-distance-predicate2 .ensures records t over)
 
 pub match-other-spec : {M : Type 1} → statement M
 match-other-spec =
     tie.close
     (tie.spec
-    enum-known-node
-    match-distance-predicate-requires
+    (λ c. search needs)
+    (λ c κs. search needs)
     returns
     match-relation-predicate-requires
-    enum-known-predicate
-    enum-known-end
-    enum-told
-    match-distance-predicate-requires-2
+    (λ c. search needs)
+    (λ c. search needs)
+    (λ c. search needs)
+    (λ c κs. search needs)
     returns-2
     returns-3
     returns-4)

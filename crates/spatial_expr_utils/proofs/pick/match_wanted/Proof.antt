@@ -1,49 +1,41 @@
--- `match_wanted`: each pass has its own matching.
-use mathlib.Core.Path.{sym, subst}
-use mathlib.Core.Bool.{Bool}
-use Rattle.definitions.specs.Expression.{Predicate}
+-- `match_wanted`: a leaf that is no function is no KNN; a function and the other kinds have their own matching.
 use Rattle.definitions.specs.Extract.{isKnn}
-use Rattle.spatial_expr_utils.specs.Matches.{LeafMatching}
-use Rattle.spatial_expr_utils.specs.Picks.{wants}
-use Rattle.spatial_expr_utils.specs.declared.pick.Wanted.{Wanted}
 use Rattle.spatial_expr_utils.proofs.Nodes.{no-function}
 use Rattle.spatial_expr_utils.proofs.LeafLaws.{call-framed, call-leaf}
 use borrow.Author.Needs.{needs}
 use Rattle.spatial_expr_utils.proofs.pick.match_wanted.Statement.{statement}
 use Rattle.spatial_expr_utils.proofs.pick.match_wanted.Tie as tie
 
-enum-told : tie.Need-enum-told
-enum-told c = search needs
-
-match-other-requires : tie.Need-match-other-requires
-match-other-requires c κs = search needs
-
-enum-told-2 : tie.Need-enum-told-2
-enum-told-2 c = search needs
-
-enum-known-node : tie.Need-enum-known-node
-enum-known-node c = search needs
-
 returns : tie.Need-returns
-returns c = λ records t over. rw (c .before .enum-told2 .given .1) (no-function (c .before .before .before .before .args .node) (c .before .before .before .before .pre .1) (over .tree) (c .match2 .keys2) records .0)
+returns c =
+    let start = c .before .before .before .before in
+    λ records t over. rw (c .before .enum-told2 .given .1) (no-function (start .args .node) (start .pre .1) (over .tree)
+    (c .match2 .keys2) records .0)
 
 match-knn-predicate-requires : tie.Need-match-knn-predicate-requires
-match-knn-predicate-requires c κs = call-framed (c .before .before .before .before .before .before .pre .1) (c .before .node .given .1) (c .before .before .before .before .before .before .pre .0)
+match-knn-predicate-requires c κs =
+    let start = c .before .before .before .before .before .before in
+    call-framed (start .pre .1) (c .before .node .given .1) (start .pre .0)
 
 returns-2 : tie.Need-returns-2
 returns-2 c = λ records t over. rw (c .before .enum-told .given .1) (c .match-other .ensures records t over)
 
 returns-3 : tie.Need-returns-3
-returns-3 c = λ records t over. rw (c .before .before .before .before .enum-told2 .given .1) (call-leaf (c .before .before .before .before .before .before .before .pre .1) (c .before .before .node .given .1) isKnn (c .match-knn-predicate .result) (c .match-knn-predicate .ensures) over)
+returns-3 c =
+    let at-node = c .before .before in
+    let at-enum-told2 = at-node .before .before in
+    let start = at-enum-told2 .before .before .before in
+    λ records t over. rw (at-enum-told2 .enum-told2 .given .1)
+    (call-leaf (start .pre .1) (at-node .node .given .1) isKnn (c .match-knn-predicate .result) (c .match-knn-predicate .ensures) over)
 
 pub match-wanted-spec : {M : Type 1} → statement M
 match-wanted-spec =
     tie.close
     (tie.spec
-    enum-told
-    match-other-requires
-    enum-told-2
-    enum-known-node
+    (λ c. search needs)
+    (λ c κs. search needs)
+    (λ c. search needs)
+    (λ c. search needs)
     returns
     match-knn-predicate-requires
     returns-2

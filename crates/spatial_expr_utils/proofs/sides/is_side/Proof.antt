@@ -7,22 +7,16 @@ use borrow.Author.Needs.{needs}
 use Rattle.spatial_expr_utils.proofs.sides.is_side.Statement.{statement}
 use Rattle.spatial_expr_utils.proofs.sides.is_side.Tie as tie
 
-enum-known-of : tie.Need-enum-known-of
-enum-known-of c = search needs
-
-same-side-requires : tie.Need-same-side-requires
-same-side-requires c κs = search needs
-
-enum-told : tie.Need-enum-told
-enum-told c = search needs
-
 returns : tie.Need-returns
 unfolding isSide
-returns c = c .same-side .ensures ∙ sym (ap (λ (x : CommonSide). isSide (joinSide (c .before .before .before .before .args .side)) (commonSide x)) (c .before .before .of .given .1))
+returns c =
+    let at-of = c .before .before in
+    let start = at-of .before .before in
+    c .same-side .ensures ∙ sym (ap (λ (x : CommonSide). isSide (joinSide (start .args .side)) (commonSide x)) (at-of .of .given .1))
 
 returns-2 : tie.Need-returns-2
 unfolding isSide
 returns-2 c = sym (ap (λ (x : CommonSide). isSide (joinSide (c .before .before .args .side)) (commonSide x)) (c .enum-told .given .1))
 
 pub is-side-spec : {M : Type 1} → statement M
-is-side-spec = tie.close (tie.spec enum-known-of same-side-requires enum-told returns returns-2)
+is-side-spec = tie.close (tie.spec (λ c. search needs) (λ c κs. search needs) (λ c. search needs) returns returns-2)

@@ -12,41 +12,42 @@ use Rattle.spatial_expr_utils.proofs.sides.resolve_column_reference_sid
 }
 use Rattle.spatial_expr_utils.proofs.sides.resolve_column_reference_sides.Tie as tie
 
-is-side-requires : tie.Need-is-side-requires
-is-side-requires c κs = search needs
-
-is-side-requires-2 : tie.Need-is-side-requires-2
-is-side-requires-2 c κs = search needs
-
 returns : tie.Need-returns
-returns c = order-left _ _ (sym (c .before .before .before .is-side .ensures) ∙ c .before .before .if1 .taken) (sym (c .before .is-side2 .ensures) ∙ c .if2 .taken)
-
-is-side-requires-3 : tie.Need-is-side-requires-3
-is-side-requires-3 c κs = search needs
-
-is-side-requires-4 : tie.Need-is-side-requires-4
-is-side-requires-4 c κs = search needs
+returns c =
+    let at-if1 = c .before .before in
+    let at-is-side = at-if1 .before in
+    order-left _ _ (sym (at-is-side .is-side .ensures) ∙ at-if1 .if1 .taken) (sym (c .before .is-side2 .ensures) ∙ c .if2 .taken)
 
 -- After the first test: the geometries are not left and right.
-left-fails : (c : tie.Joined1) → (isSide left (commonSide (c .before .before .args .first .side)) && isSide right (commonSide (c .before .before .args .second .side))) ≡ false
+left-fails : (c : tie.Joined1)
+    → (isSide left (commonSide (c .before .before .args .first .side)) && isSide right (commonSide (c .before .before .args .second .side))) ≡ false
 left-fails c =
-    ⊎-elim (λ w. not-second (isSide left (commonSide (c .before .before .args .first .side))) _ (sym (w .1 .ensures) ∙ w .2 .left)) (λ w. not-first _ _ (sym (c .before .is-side .ensures) ∙ w .left)) (c .if1 .came)
+    let start = c .before .before in
+    ⊎-elim (λ w. not-second (isSide left (commonSide (start .args .first .side))) _ (sym (w .1 .ensures) ∙ w .2 .left))
+    (λ w. not-first _ _ (sym (c .before .is-side .ensures) ∙ w .left)) (c .if1 .came)
 
 returns-2 : tie.Need-returns-2
-returns-2 c = order-right _ _ (left-fails (c .before .before .before .before)) (sym (c .before .before .before .is-side3 .ensures) ∙ c .before .before .if3 .taken) (sym (c .before .is-side4 .ensures) ∙ c .if4 .taken)
+returns-2 c =
+    let at-if3 = c .before .before in
+    let at-before = at-if3 .before in
+    order-right _ _ (left-fails (c .before .before .before .before)) (sym (at-before .is-side3 .ensures) ∙ at-if3 .if3 .taken)
+    (sym (c .before .is-side4 .ensures) ∙ c .if4 .taken)
 
 returns-3 : tie.Need-returns-3
-returns-3 c = order-none _ _ (left-fails (c .before .before))
-    (⊎-elim (λ w. not-second (isSide right (commonSide (c .before .before .before .before .args .first .side))) _ (sym (w .1 .ensures) ∙ w .2 .left)) (λ w. not-first _ _ (sym (c .before .is-side3 .ensures) ∙ w .left)) (c .if3 .came))
+returns-3 c =
+    let start = c .before .before .before .before in
+    order-none _ _ (left-fails (c .before .before))
+    (⊎-elim (λ w. not-second (isSide right (commonSide (start .args .first .side))) _ (sym (w .1 .ensures) ∙ w .2 .left))
+    (λ w. not-first _ _ (sym (c .before .is-side3 .ensures) ∙ w .left)) (c .if3 .came))
 
 pub resolve-column-reference-sides-spec : {M : Type 1} → statement M
 resolve-column-reference-sides-spec =
     tie.close
     (tie.spec
-    is-side-requires
-    is-side-requires-2
+    (λ c κs. search needs)
+    (λ c κs. search needs)
     returns
-    is-side-requires-3
-    is-side-requires-4
+    (λ c κs. search needs)
+    (λ c κs. search needs)
     returns-2
     returns-3)

@@ -10,11 +10,11 @@ side-of-column-references-requires c κs = let p = c .before .pre in (p .0, p .1
 side-of-column-references-requires-2 : tie.Need-side-of-column-references-requires-2
 side-of-column-references-requires-2 c κs = second-framed (c .before .before .pre) _ (c .side-of-column-references .ensures)
 
-resolve-column-reference-sides-requires : tie.Need-resolve-column-reference-sides-requires
-resolve-column-reference-sides-requires c κs = search needs
-
 returns : tie.Need-returns
-returns c = geometries-are _ _ (c .before .before .side-of-column-references .ensures) (c .before .side-of-column-references2 .ensures) _ (c .resolve-column-reference-sides .ensures)
+returns c =
+    let at-side-of-column-references = c .before .before in
+    geometries-are _ _ (at-side-of-column-references .side-of-column-references .ensures) (c .before .side-of-column-references2 .ensures) _
+    (c .resolve-column-reference-sides .ensures)
 
 pub resolve-geometries-spec : {M : Type 1} → statement M
 resolve-geometries-spec =
@@ -22,5 +22,5 @@ resolve-geometries-spec =
     (tie.spec
     side-of-column-references-requires
     side-of-column-references-requires-2
-    resolve-column-reference-sides-requires
+    (λ c κs. search needs)
     returns)

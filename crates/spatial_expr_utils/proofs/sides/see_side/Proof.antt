@@ -1,21 +1,9 @@
--- `see_side`: one column more.
+-- `see_side`: each case of what was seen is one of the definition.
 use mathlib.Core.Path.{sym, _∙_}
 use Rattle.spatial_expr_utils.proofs.SideLaws.{see-first, see-same, see-other, see-none}
 use borrow.Author.Needs.{needs}
 use Rattle.spatial_expr_utils.proofs.sides.see_side.Statement.{statement}
 use Rattle.spatial_expr_utils.proofs.sides.see_side.Tie as tie
-
-enum-told : tie.Need-enum-told
-enum-told c = search needs
-
-enum-known-seen : tie.Need-enum-known-seen
-enum-known-seen c = search needs
-
-same-side-requires : tie.Need-same-side-requires
-same-side-requires c κs = search needs
-
-enum-told-2 : tie.Need-enum-told-2
-enum-told-2 c = search needs
 
 returns : tie.Need-returns
 returns c = see-first _ (c .enum-told .given .1)
@@ -37,10 +25,10 @@ pub see-side-spec : {M : Type 1} → statement M
 see-side-spec =
     tie.close
     (tie.spec
-    enum-told
-    enum-known-seen
-    same-side-requires
-    enum-told-2
+    (λ c. search needs)
+    (λ c. search needs)
+    (λ c κs. search needs)
+    (λ c. search needs)
     returns
     returns-2
     returns-3

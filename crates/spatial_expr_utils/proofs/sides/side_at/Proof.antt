@@ -4,9 +4,6 @@ use borrow.Author.Needs.{needs}
 use Rattle.spatial_expr_utils.proofs.sides.side_at.Statement.{statement}
 use Rattle.spatial_expr_utils.proofs.sides.side_at.Tie as tie
 
-shared-slice-read-match : tie.Need-shared-slice-read-match
-shared-slice-read-match c = search needs
-
 returns : tie.Need-returns
 returns c = numbered-0 _ (c .match .keys1)
 
@@ -17,4 +14,4 @@ returns-3 : tie.Need-returns-3
 returns-3 c = numbered-2 _ (c .match .rest .0 .1) (c .match .rest .1)
 
 pub side-at-spec : {M : Type 1} → statement M
-side-at-spec = tie.close (tie.spec shared-slice-read-match returns returns-2 returns-3)
+side-at-spec = tie.close (tie.spec (λ c. search needs) returns returns-2 returns-3)

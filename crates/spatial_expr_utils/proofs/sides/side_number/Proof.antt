@@ -7,15 +7,6 @@ use borrow.Author.Needs.{needs}
 use Rattle.spatial_expr_utils.proofs.sides.side_number.Statement.{statement}
 use Rattle.spatial_expr_utils.proofs.sides.side_number.Tie as tie
 
-enum-told : tie.Need-enum-told
-enum-told c = search needs
-
-enum-told-2 : tie.Need-enum-told-2
-enum-told-2 c = search needs
-
-enum-told-3 : tie.Need-enum-told-3
-enum-told-3 c = search needs
-
 returns : tie.Need-returns
 unfolding sideNumber
 returns c = sym (ap (λ (x : JoinSide). sideNumber (joinSide x)) (c .enum-told .given .1))
@@ -30,4 +21,4 @@ returns-3 c = sym (ap (λ (x : JoinSide). sideNumber (joinSide x)) (c .enum-told
 
 pub side-number-spec : {M : Type 1} → statement M
 side-number-spec =
-    tie.close (tie.spec enum-told enum-told-2 enum-told-3 returns returns-2 returns-3)
+    tie.close (tie.spec (λ c. search needs) (λ c. search needs) (λ c. search needs) returns returns-2 returns-3)
