@@ -1,0 +1,10 @@
+-- Laws that several proofs use.
+pub mod DigitLaws
+pub mod DecodeLaws
+pub mod EncodeLaws
+pub mod CollectLaws
+pub mod Whole
+pub mod LineLaws
+pub mod PieceLaws
+pub mod SessionLaws
+pub mod CallLaws

@@ -1,0 +1,73 @@
+-- What a line gives, by its first byte and by what was decoded.
+use Prim.Native.Nat.{ℕ, zero, suc, _≤_}
+use native.Mathlib.Omega.{arith}
+use mathlib.Core.Path.{_≡_, refl}
+use mathlib.Core.Bool.{Bool, true, false}
+use mathlib.Core.List.{List, [], _∷_}
+use lib.ListN.{length, take, drop, getD}
+use lib.Dec.{leb}
+use borrow.Author.Tests.{ne-eqb, leb-true}
+use Rattle.definitions.specs.Basics.{if_then_else_, ok, refused}
+use Rattle.definitions.specs.Machine.{extractCall, exchangeCall}
+use Rattle.definitions.specs.Program.{Kept, refusedLine, loadLine, logicalLine, callLine, lineOf, digitBytes, orRefused, lineBytes, readLine, lineOutcome}
+use Rattle.frame.specs.Refusals.{numberOf}
+use Rattle.frame.specs.declared.refusals.Refusal.{Refusal}
+use Rattle.lines.specs.declared.answers.Answer.the-variants.{Refused}
+use Rattle.lines.specs.Answers.{keptAs, AnswerIs}
+
+-- A refusal keeps the plan.
+pub refused-line : (n : ℕ) (plan : List ℕ) (why : Refusal) → AnswerIs (refusedLine (numberOf why) (keptAs n plan)) n plan (Refused why)
+unfolding refusedLine
+refused-line n plan why = record { answer = refl; kept = refl; fits = omega arith }
+
+-- ---- by the first byte
+
+pub no-bytes : (size : ℕ) (bytes : List ℕ) (kept : Kept) → size ≡ 0 → refusedLine 1 kept ≡ lineOf (take size bytes) kept
+unfolding lineOf
+no-bytes size bytes kept e = rw e
+
+pub begins : (size : ℕ) (bytes : List ℕ) → (size ≡ 0 → ⊥) → size ≤ length bytes → take size bytes ≡ getD bytes 0 0 ∷ drop 1 (take size bytes)
+begins zero bytes h k = absurd (h refl)
+begins (suc size) [] h k = absurd (omega arith)
+begins (suc size) (b ∷ bytes) h k = refl
+
+module _ {bytes more : List ℕ} {first : ℕ} (kept : Kept) (e : bytes ≡ first ∷ more) where
+  pub load-byte : first ≡ 1 → loadLine bytes kept ≡ lineOf bytes kept
+  unfolding lineOf
+  load-byte is = rw (e, is)
+
+  pub logical-byte : first ≡ 2 → logicalLine bytes kept ≡ lineOf bytes kept
+  unfolding lineOf
+  logical-byte is = rw (e, is)
+
+  pub extract-byte : first ≡ 0x21 → callLine extractCall (drop 1 bytes) kept ≡ lineOf bytes kept
+  unfolding lineOf
+  extract-byte is = rw (e, is)
+
+  pub exchange-byte : first ≡ 0x22 → callLine exchangeCall (drop 1 bytes) kept ≡ lineOf bytes kept
+  unfolding lineOf
+  exchange-byte is = rw (e, is)
+
+  pub other-byte : (first ≡ 1 → ⊥) → (first ≡ 2 → ⊥) → (first ≡ 0x21 → ⊥) → (first ≡ 0x22 → ⊥) → refusedLine 2 kept ≡ lineOf bytes kept
+  unfolding lineOf
+  other-byte a b c d = rw e (simp (ne-eqb first 1 a, ne-eqb first 2 b, ne-eqb first 0x21 c, ne-eqb first 0x22 d))
+
+-- ---- by what was decoded
+
+pub good-bytes : (line : List ℕ) (kept : Kept) {bytes : List ℕ} → ok bytes ≡ lineBytes line → lineOf bytes kept ≡ lineOutcome line kept
+unfolding readLine lineOutcome
+good-bytes line kept e = rw (← e)
+
+pub bad-line : (line : List ℕ) (kept : Kept) → refused 14 ≡ lineBytes line → refusedLine 14 kept ≡ lineOutcome line kept
+unfolding readLine lineOutcome
+bad-line line kept e = rw (← e)
+
+-- A line that has bytes has at most 32,768 digits.
+short : (line : List ℕ) {bytes : List ℕ} (b : Bool) → leb (length line) 32768 ≡ b
+    → ok bytes ≡ (if b then orRefused 14 (digitBytes line) else refused 14) → length line ≤ 32768
+short line true is e = leb-true (length line) 32768 is
+short line false is e = absurd (let z : _≡_ {A = ℕ} 0 1 = cc in omega arith)
+
+pub short-line : (line : List ℕ) {bytes : List ℕ} → ok bytes ≡ lineBytes line → length line ≤ 32768
+unfolding lineBytes
+short-line line e = short line (leb (length line) 32768) refl e

@@ -1,0 +1,7 @@
+-- What the contracts cite, in the order to read them.
+pub mod Hex
+pub mod Answers
+pub mod Pieces
+pub mod Collecting
+pub mod Calling
+pub mod Sessions

@@ -1,0 +1,7 @@
+// What the program does with its input: lines of hexadecimal in, a line out for each.
+mod answers;
+mod calls;
+mod collecting;
+mod hex;
+pub mod sessions;
+mod writing;

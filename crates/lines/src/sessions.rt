@@ -1,0 +1,135 @@
+// The program between two pieces of its input.
+use super::answers::Answer;
+use super::answers::put_answer;
+use super::calls::answer_line;
+use super::collecting::collect;
+use frame::refusals::Refusal;
+ghost use mathlib.Core.Path.{_≡_};
+ghost use mathlib.Core.List.{List};
+ghost use Prim.Native.Nat.{ℕ, _+_, _*_, _≤_};
+ghost use lib.ListN.{length, take, replicate};
+ghost use Rattle.definitions.specs.Program.{lineOutcome};
+ghost use Rattle.lines.specs.Answers.{planLength, lengthAfter, keptAs, AnswerIs};
+ghost use Rattle.lines.specs.Pieces as pieces;
+ghost use Rattle.lines.specs.Collecting.{Begun};
+ghost use Rattle.lines.specs.Sessions.{lent, Stands, Makes, Taken, Ends};
+
+// The most bytes that may wait to be written where a line is answered.
+pub const MOST_FILLED: usize = 32757;
+
+// The plan's length, how many characters the line has, and how many bytes are to be written.
+pub struct State {
+    pub n: usize,
+    pub count: usize,
+    pub filled: usize,
+}
+
+// How much of a piece was taken, and the state afterwards.
+pub struct Fed {
+    pub taken: usize,
+    pub state: State,
+}
+
+// The state at the start, over a plan buffer of zeros.
+pub fn fresh() -> State
+    ensures { λ r. ⌜ r .filled ≡ 0 ⌝ }
+    ensures { λ r. ⌜ ((out line : List ℕ) → Stands (lent out (replicate 16384 0) line) r pieces.freshSession) ⌝ }
+{
+    State {
+        n: 0,
+        count: 0,
+        filled: 0,
+    }
+}
+
+// The plan's length after an answer.
+fn length_after(n: usize, answer: Answer) -> usize
+    ensures { λ r. ⌜ r ≡ lengthAfter n answer ⌝ }
+{
+    match answer {
+        Answer::Plan(size) => size,
+        Answer::Logical(_, _, _, _) => n,
+        Answer::Refused(_) => n,
+    }
+}
+
+// What the line that has begun gives; one that the buffer does not hold is too long.
+fn answer_begun(plan: &mut [u8], scratch: &mut [u8], line: &[u8], count: usize, n: usize) -> Answer
+    requires { ⌜ (length (now scratch) ≡ 16384) × (length (now line) ≡ 32768) ⌝ }
+    ensures { λ r. ⌜ planLength r ≤ length (now (plan .entry)) ⌝ }
+    ensures { λ r. ⌜ ((begun : List ℕ) → Begun (now (line .entry)) count begun → AnswerIs (lineOutcome begun (keptAs n (now (plan .entry)))) n (now (plan .exit)) r) ⌝ }
+{
+    if line.len() < count {
+        return Answer::Refused(Refusal::NotHexadecimal);
+    }
+    answer_line(plan, scratch, &line[..count], n)
+}
+
+// The line that has begun is at its end.
+fn end_line(out: &mut [u8], plan: &mut [u8], scratch: &mut [u8], line: &[u8], state: State) -> State
+    requires { ⌜ (length (now scratch) ≡ 16384) × (length (now line) ≡ 32768) ⌝ }
+    requires { ⌜ state .filled + 2 * length (now plan) + 11 ≤ length (now out) ⌝ }
+    ensures { λ r. ⌜ r .filled ≤ length (now (out .entry)) ⌝ }
+    ensures { λ r. ⌜ Makes pieces.endLine (lent (now (out .entry)) (now (plan .entry)) (now (line .entry))) state (lent (now (out .exit)) (now (plan .exit)) (now (line .entry))) r ⌝ }
+{
+    let n = state.n;
+    let answer = answer_begun(plan, scratch, line, state.count, n);
+    let filled = put_answer(out, state.filled, plan, answer);
+    State {
+        n: length_after(n, answer),
+        count: 0,
+        filled,
+    }
+}
+
+// Takes a piece of the input up to the end of a line; nothing where there is no room for what a line gives.
+pub fn feed(
+    out: &mut [u8; 65536],
+    plan: &mut [u8; 16384],
+    scratch: &mut [u8; 16384],
+    line: &mut [u8; 32768],
+    piece: &[u8],
+    state: State,
+) -> Fed
+    ensures { λ r. ⌜ Taken (now (piece .entry)) state r ⌝ }
+    ensures { λ r. ⌜ Makes (λ s. pieces.piece s (take (r .taken) (now (piece .entry)))) (lent (now (out .entry)) (now (plan .entry)) (now (line .entry))) state (lent (now (out .exit)) (now (plan .exit)) (now (line .exit))) (r .state) ⌝ }
+{
+    if MOST_FILLED < state.filled {
+        return Fed { taken: 0, state };
+    }
+    let collected = collect(line, piece, state.count);
+    let taken = collected.taken;
+    let joined = State {
+        n: state.n,
+        count: collected.count,
+        filled: state.filled,
+    };
+    if collected.ended {
+        let next = end_line(out, plan, scratch, line, joined);
+        return Fed { taken, state: next };
+    }
+    Fed {
+        taken,
+        state: joined,
+    }
+}
+
+// The end of the input ends a line that has begun; nothing is done where there is no room for what it gives.
+pub fn finish(
+    out: &mut [u8; 65536],
+    plan: &mut [u8; 16384],
+    scratch: &mut [u8; 16384],
+    line: &mut [u8; 32768],
+    state: State,
+) -> State
+    ensures { λ r. ⌜ (state .filled ≤ 65536 → r .filled ≤ 65536) ⌝ }
+    ensures { λ r. ⌜ Ends (lent (now (out .entry)) (now (plan .entry)) (now (line .entry))) state (now (out .exit)) (r .filled) ⌝ }
+{
+    if state.count == 0 {
+        return state;
+    }
+    if MOST_FILLED < state.filled {
+        return state;
+    }
+    end_line(out, plan, scratch, line, state)
+}
