@@ -22,12 +22,13 @@ use Rattle.join_filter.specs.declared.answers.Answer.the-variants.{Length, Refu
 use Rattle.lines.specs.declared.answers.Answer.the-variants.{Logical, Refused}
 use Rattle.lines.specs.Answers.{planLength, keptAs, AnswerIs}
 use Rattle.lines.specs.Calling.{lineAnswer}
+use Rattle.lines.proofs.LineLaws.{refused-not-ok}
+
+-- ---- the answer of a call
 
 -- What a line gives for a call's answer, n and plan buffer.
 abbrev given : (answer : Result ℕ) (n : ℕ) (plan : List ℕ) → LineOutcome
 given answer n plan = record { answer = mapResult (λ m. take m plan) answer; kept = record { n = n; buffer = plan } }
-
--- ---- load
 
 answer-given : (a : CallAnswer) (n : ℕ) (plan : List ℕ) → planLength (lineAnswer a) ≤ length plan → AnswerIs (given (answerOf a) (nAfter n a) plan) n plan (lineAnswer a)
 answer-given (Length m) n plan h = record { answer = refl; kept = refl; fits = h }
@@ -40,13 +41,12 @@ plan-written bytes before {after} {m} e f =
     let size : length bytes ≡ m = cc in
     omega (arith, simp length-append at (ap length f))
 
-no-length : {A : Type 0} {number : ℕ} {a : A} → refused number ≡ ok a → ⊥
-no-length e = let z : _≡_ {A = ℕ} 0 1 = cc in omega arith
+-- ---- load
 
 loaded-fits : (x : Result (List ℕ)) (n : ℕ) (before : List ℕ) {m k : ℕ} {after : List ℕ} → loaded n before x ≡ record { answer = ok m; n = k; buffer = after } → m ≤ length after
 unfolding loaded
 loaded-fits (ok bytes) n before e = plan-written bytes before (ap (λ (o : LoadOutcome). o .answer) e) (ap (λ (o : LoadOutcome). o .buffer) e)
-loaded-fits (refused number) n before e = absurd (no-length (ap (λ (o : LoadOutcome). o .answer) e))
+loaded-fits (refused number) n before e = absurd (refused-not-ok (ap (λ (o : LoadOutcome). o .answer) e))
 
 load-fits : (frame before : List ℕ) {after : List ℕ} (a : CallAnswer) → LoadIs frame before after a → planLength (lineAnswer a) ≤ length after
 unfolding load
@@ -78,7 +78,7 @@ finish-fits : (x : Result (List ℕ)) (n : ℕ) (before s : List ℕ) {m k : ℕ
     → finish n before s x ≡ record { answer = ok m; n = k; buffer = after; scratch = t } → m ≤ length after
 unfolding finish
 finish-fits (ok bytes) n before s e = plan-written bytes before (ap (λ (o : Outcome). o .answer) e) (ap (λ (o : Outcome). o .buffer) e)
-finish-fits (refused number) n before s e = absurd (no-length (ap (λ (o : Outcome). o .answer) e))
+finish-fits (refused number) n before s e = absurd (refused-not-ok (ap (λ (o : Outcome). o .answer) e))
 
 call-fits : (kind : Kind) (n : ℕ) (before s : List ℕ) {after t : List ℕ} (a : CallAnswer) → OutcomeIs (make kind n before s) n after t a → planLength (lineAnswer a) ≤ length after
 unfolding make extract exchange
@@ -127,7 +127,7 @@ unfolding logicalAnswer
 names-below (ok e) {found} is =
     let same : found ≡ logicalAnswer e = cc in
     rw same (omega (arith, distinct-below spatialNames (map leafName (leaves e)), all-names))
-names-below (refused number) is = absurd (no-length (sym is))
+names-below (refused number) is = absurd (refused-not-ok (sym is))
 
 pub few-names : (frame : List ℕ) {found : LogicalAnswer} → ok found ≡ logical frame → found .names < 256
 unfolding logical

@@ -8,3 +8,4 @@ pub mod LineLaws
 pub mod PieceLaws
 pub mod SessionLaws
 pub mod CallLaws
+pub mod Runs

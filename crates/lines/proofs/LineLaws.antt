@@ -1,7 +1,7 @@
 -- What a line gives, by its first byte and by what was decoded.
 use Prim.Native.Nat.{ℕ, zero, suc, _≤_}
 use native.Mathlib.Omega.{arith}
-use mathlib.Core.Path.{_≡_, refl}
+use mathlib.Core.Path.{_≡_, refl, sym}
 use mathlib.Core.Bool.{Bool, true, false}
 use mathlib.Core.List.{List, [], _∷_}
 use lib.ListN.{length, take, drop, getD}
@@ -14,6 +14,9 @@ use Rattle.frame.specs.Refusals.{numberOf}
 use Rattle.frame.specs.declared.refusals.Refusal.{Refusal}
 use Rattle.lines.specs.declared.answers.Answer.the-variants.{Refused}
 use Rattle.lines.specs.Answers.{keptAs, AnswerIs}
+
+pub refused-not-ok : {A : Type 0} {number : ℕ} {a : A} → refused number ≡ ok a → ⊥
+refused-not-ok e = let z : _≡_ {A = ℕ} 0 1 = cc in omega arith
 
 -- A refusal keeps the plan.
 pub refused-line : (n : ℕ) (plan : List ℕ) (why : Refusal) → AnswerIs (refusedLine (numberOf why) (keptAs n plan)) n plan (Refused why)
@@ -66,7 +69,7 @@ bad-line line kept e = rw (← e)
 short : (line : List ℕ) {bytes : List ℕ} (b : Bool) → leb (length line) 32768 ≡ b
     → ok bytes ≡ (if b then orRefused 14 (digitBytes line) else refused 14) → length line ≤ 32768
 short line true is e = leb-true (length line) 32768 is
-short line false is e = absurd (let z : _≡_ {A = ℕ} 0 1 = cc in omega arith)
+short line false is e = absurd (refused-not-ok (sym e))
 
 pub short-line : (line : List ℕ) {bytes : List ℕ} → ok bytes ≡ lineBytes line → length line ≤ 32768
 unfolding lineBytes

@@ -1,12 +1,12 @@
--- However an input is cut, what is written for its pieces is what the program writes for it.
+-- A whole input: what is written for it as one piece, and at its end, is what the definition says; and a piece may be cut.
 use Prim.Native.Nat.{ℕ}
-use mathlib.Core.Path.{_≡_, refl, sym, ap, ap₂, _∙_, subst}
+use mathlib.Core.Path.{_≡_, refl, sym, ap, _∙_, subst}
 use mathlib.Core.Bool.{Bool, true, false}
 use mathlib.Core.List.{List, [], _∷_, _++_, append-assoc, append-nil}
 use lib.Dec.{eqb}
 use borrow.Author.Tests.{eqb-true, eqb-false, ne-eqb}
 use Rattle.definitions.specs.Program.{Kept, intoFirst, linesOf, outputFrom, output}
-use Rattle.lines.specs.Pieces.{Session, Step, endLine, join, character, piece, inputEnd, pieces, freshSession, together, CutAnywhere}
+use Rattle.lines.specs.Pieces.{Session, Step, endLine, join, character, piece, inputEnd, freshSession}
 
 -- ---- lines
 
@@ -82,9 +82,9 @@ whole : (input : List ℕ) → Whole input
 whole [] = whole-none
 whole (c ∷ input) = whole-one c input (eqb c 10) refl (whole input)
 
--- ---- pieces
+-- ---- a piece that is cut
 
-piece-append : (s : Session) (p q : List ℕ)
+pub piece-append : (s : Session) (p q : List ℕ)
     → (piece s (p ++ q) .out ≡ piece s p .out ++ piece (piece s p .after) q .out) × (piece s (p ++ q) .after ≡ piece (piece s p .after) q .after)
 unfolding piece
 piece-append s [] q = (refl, refl)
@@ -94,15 +94,8 @@ piece-append s (c ∷ p) q =
       one .1,
     )
 
-pieces-together : (s : Session) (ps : List (List ℕ)) → pieces s ps ≡ piece s (together ps) .out ++ atEnd (piece s (together ps) .after)
-unfolding pieces together piece
-pieces-together s [] = refl
-pieces-together s (p ∷ ps) =
-    let both = piece-append s p (together ps) in
-    ap (λ (l : List ℕ). piece s p .out ++ l) (pieces-together (piece s p .after) ps)
-    ∙ sym (append-assoc (piece s p .out) _ _)
-    ∙ sym (ap₂ (λ (l : List ℕ) (t : Session). l ++ atEnd t) (both .0) (both .1))
+-- ---- the program
 
-pub cut-anywhere : CutAnywhere
-unfolding CutAnywhere freshSession output Whole
-cut-anywhere ps = pieces-together freshSession ps ∙ sym (whole (together ps) freshSession none)
+pub whole-input : (input : List ℕ) → (let last = piece freshSession input in last .out ++ inputEnd (last .after .kept) (last .after .begun) ≡ output input)
+unfolding freshSession output Whole
+whole-input input = sym (whole input freshSession none)

@@ -12,6 +12,7 @@ abbrev pub lineAnswer : CallAnswer → Answer
 lineAnswer (Length n) = Plan n
 lineAnswer (CallRefused why) = Refused why
 
+-- The definition's kind of a call.
 abbrev pub kindOf : Call → Kind
 kindOf Extract = extractCall
 kindOf Exchange = exchangeCall

@@ -5,3 +5,4 @@ pub mod Pieces
 pub mod Collecting
 pub mod Calling
 pub mod Sessions
+pub mod Runs

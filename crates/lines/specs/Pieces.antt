@@ -1,11 +1,10 @@
 -- The input in pieces, cut anywhere: what is kept between two of them, and what is written for each.
 use Prim.Native.Nat.{ℕ}
-use mathlib.Core.Path.{_≡_}
 use mathlib.Core.Bool.{Bool, true, false}
 use mathlib.Core.List.{List, [], _∷_, _++_}
 use lib.Dec.{eqb}
 use Rattle.definitions.specs.Basics.{if_then_else_}
-use Rattle.definitions.specs.Program.{Kept, LineOutcome, lineOutcome, written, freshPlan, output}
+use Rattle.definitions.specs.Program.{Kept, LineOutcome, lineOutcome, written, freshPlan}
 
 -- Between two pieces: the plan that is kept, and the characters of the line that has begun.
 pub record Session : Type 0 where
@@ -44,25 +43,9 @@ unfoldable pub inputEnd : Kept → (begun : List ℕ) → List ℕ
 inputEnd kept [] = []
 inputEnd kept (c ∷ begun) = endLine (record { kept = kept; begun = c ∷ begun }) .out
 
--- Pieces one after another, and the end of the input.
-unfoldable pub pieces : Session → List (List ℕ) → List ℕ
-pieces s [] = inputEnd (s .kept) (s .begun)
-pieces s (p ∷ ps) =
-    let one : Step = piece s p in
-    one .out ++ pieces (one .after) ps
-
 -- The program starts with a fresh plan and no line begun.
 unfoldable pub freshSession : Session
 freshSession = record { kept = freshPlan; begun = [] }
-
--- The input that pieces make up.
-unfoldable pub together : List (List ℕ) → List ℕ
-together [] = []
-together (p ∷ ps) = p ++ together ps
-
--- However an input is cut, what is written for its pieces is what the program writes for it.
-unfoldable pub CutAnywhere : Type 0
-CutAnywhere = (ps : List (List ℕ)) → pieces freshSession ps ≡ output (together ps)
 
 -- ---- up to a line feed
 

@@ -1,8 +1,9 @@
 // Reads lines of hexadecimal from standard input and writes a line for each to standard output.
 //
-// `lines::sessions` says what is written for a piece of the input, wherever that is cut. What is
+// `lines::sessions` says what is written for a piece of the input, and `runs-write` that this is
+// the program's output, wherever the input is cut and whenever what waits is written out. What is
 // left here, and no contract can say, is that each piece is read once and handed over once, in
-// order, and that what it gives is written once, before the next is read.
+// order, and that what waits is written once.
 use libc::STDIN_FILENO;
 use libc::STDOUT_FILENO;
 use lines::sessions::MOST_FILLED;
@@ -105,7 +106,8 @@ fn write_last(
     flush(out, last);
 }
 
-// A proved loop has to end, and nothing says that the input does: so the loop counts its turns down, from a number that no run uses up.
+// A proved loop has to end, and nothing says that the input does: so the loop counts its turns
+// down, from a number that no run uses up.
 fn main() {
     let mut out = [0u8; 65536];
     let mut plan = [0u8; 16384];
