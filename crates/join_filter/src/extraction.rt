@@ -7,6 +7,7 @@ use plan_writer::predicates::put_relation;
 use plan_writer::remainder::put_remainder;
 use sedona_query_planner::spatial_predicate::SpatialRelationType;
 use spatial_expr_utils::pick::Pick;
+use spatial_expr_utils::predicates::KNNPredicate;
 use spatial_expr_utils::predicates::SpatialPredicate;
 use spatial_expr_utils::predicates::TieBreakers;
 use spatial_expr_utils::sides::side_number;
@@ -49,6 +50,30 @@ fn ties_number(ties: TieBreakers) -> u8
     }
 }
 
+// Writes a KNN, its arguments on their child; answers its length.
+fn put_knn_predicate(out: &mut [u8], src: &[u8], rec: usize, count: usize, p: KNNPredicate) -> usize
+    requires { ⌜ PredicateFits (PredicateOf (now src) rec count (SpatialPredicate.KNearestNeighbors p)) (now out) ⌝ }
+    ensures { λ r. ⌜ PredicatePut (PredicateOf (now (src .entry)) rec count (SpatialPredicate.KNearestNeighbors p)) (now (out .entry)) (now (out .exit)) r ⌝ }
+{
+    let spheroid = flag_number(p.use_spheroid);
+    let of = p.probe_side;
+    let probe = side_number(of);
+    let given = p.include_tie_breakers;
+    let ties = ties_number(given);
+    put_knn(
+        out,
+        src,
+        rec,
+        count,
+        p.k,
+        spheroid,
+        probe,
+        ties,
+        p.left,
+        p.right,
+    )
+}
+
 // Writes a predicate, its arguments on their child; answers its length.
 fn put_predicate(out: &mut [u8], src: &[u8], rec: usize, count: usize, p: SpatialPredicate) -> usize
     requires { ⌜ PredicateFits (PredicateOf (now src) rec count p) (now out) ⌝ }
@@ -75,25 +100,7 @@ fn put_predicate(out: &mut [u8], src: &[u8], rec: usize, count: usize, p: Spatia
                 p.distance,
             )
         }
-        SpatialPredicate::KNearestNeighbors(p) => {
-            let spheroid = flag_number(p.use_spheroid);
-            let of = p.probe_side;
-            let probe = side_number(of);
-            let given = p.include_tie_breakers;
-            let ties = ties_number(given);
-            put_knn(
-                out,
-                src,
-                rec,
-                count,
-                p.k,
-                spheroid,
-                probe,
-                ties,
-                p.left,
-                p.right,
-            )
-        }
+        SpatialPredicate::KNearestNeighbors(p) => put_knn_predicate(out, src, rec, count, p),
     }
 }
 

@@ -2,7 +2,7 @@
 use borrow.Author.Needs.{needs}
 use Rattle.join_filter.proofs.extraction.put_predicate.Statement.{statement}
 use Rattle.join_filter.proofs.extraction.put_predicate.Tie as tie
-use Rattle.join_filter.proofs.Taking.{fits-as, relation-of, distance-of, knn-of}
+use Rattle.join_filter.proofs.Taking.{fits-as, relation-of, distance-of}
 
 put-relation-requires : tie.Need-put-relation-requires
 put-relation-requires c κs =
@@ -14,13 +14,10 @@ put-distance-requires c κs =
     let at-p = c .before .before .before in
     fits-as (λ q h. distance-of (c .before .side-number .ensures) (rw (at-p .p2 .given .1) at h)) (at-p .before .before .before .before .pre)
 
-put-knn-requires : tie.Need-put-knn-requires
-put-knn-requires c κs =
-    let ties = c .before in
-    let at-p = ties .before .before .before .before in
-    fits-as
-    (λ q h. knn-of (ties .before .before .flag-number .ensures) (ties .before .side-number2 .ensures) (ties .ties-number .ensures) (rw (at-p .p3 .given .1) at h))
-    (at-p .before .before .before .before .pre)
+put-knn-predicate-requires : tie.Need-put-knn-predicate-requires
+put-knn-predicate-requires c κs =
+    let at-p = c .before .before in
+    fits-as (λ q h. rw (at-p .p3 .given .1) at h) (at-p .before .before .before .before .pre)
 
 returns : tie.Need-returns
 returns c =
@@ -37,9 +34,7 @@ returns-2 c =
 returns-3 : tie.Need-returns-3
 returns-3 c =
     let put = c .before .before in
-    let ties = put .before .before in
-    λ q h. put .put-knn .ensures q (knn-of (ties .before .before .flag-number .ensures) (ties .before .side-number2 .ensures) (ties .ties-number .ensures)
-    (rw (ties .before .before .before .before .p3 .given .1) at h))
+    λ q h. put .put-knn-predicate .ensures q (rw (put .before .before .before .p3 .given .1) at h)
 
 pub put-predicate-spec : {M : Type 1} → statement M
 put-predicate-spec =
@@ -52,10 +47,7 @@ put-predicate-spec =
     (λ c κs. search needs)
     put-distance-requires
     (λ c. search needs)
-    (λ c κs. search needs)
-    (λ c κs. search needs)
-    (λ c κs. search needs)
-    put-knn-requires
+    put-knn-predicate-requires
     (λ c. search needs)
     returns
     (λ c. search needs)
