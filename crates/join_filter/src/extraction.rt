@@ -116,7 +116,7 @@ fn cut_of(pick: Pick) -> Cut
 }
 
 // Writes the extraction of the frame in `src`; answers its length.
-pub fn put_extraction(out: &mut [u8], src: &[u8], f: Frame, pick: Pick) -> usize
+pub(crate) fn put_extraction(out: &mut [u8], src: &[u8], f: Frame, pick: Pick) -> usize
     requires { ⌜ ExtractionFits (now src) f pick (now out) ⌝ }
     ensures { λ r. ⌜ ExtractionPut (now (src .entry)) f pick (now (out .entry)) (now (out .exit)) r ⌝ }
 {

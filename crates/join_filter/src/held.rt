@@ -27,7 +27,7 @@ fn enough_arguments(s: &[u8], rest: Remainder) -> bool
 }
 
 // An empty plan, a good physical frame, a good extraction, or none of these.
-pub fn good_plan(s: &[u8]) -> Held
+pub(crate) fn good_plan(s: &[u8]) -> Held
     ensures { λ r. ⌜ GoodIs (now (s .entry)) r (plans.planOf (now (s .entry))) ⌝ }
 {
     match held_plan(s) {

@@ -2,7 +2,7 @@
 pub mod answers;
 pub mod exchange;
 pub mod extract;
-pub mod extraction;
-pub mod held;
+mod extraction;
+mod held;
 pub mod load;
 pub mod logical;
