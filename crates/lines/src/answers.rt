@@ -1,11 +1,10 @@
 // What a line gives, and how it is written.
 use super::writing::put_line;
 use frame::refusals::Refusal;
-ghost use mathlib.Core.Path.{_≡_};
+use frame::refusals::refusal_number;
 ghost use Prim.Native.Nat.{_+_, _*_, _≤_};
 ghost use lib.ListN.{length};
 ghost use Rattle.definitions.specs.Program.{written};
-ghost use Rattle.frame.specs.Refusals.{numberOf};
 ghost use Rattle.plan_writer.specs.Written.{WroteAt};
 ghost use Rattle.lines.specs.Answers.{answerBytes, planLength};
 
@@ -14,28 +13,6 @@ pub enum Answer {
     Plan(usize),
     Logical(u8, u8, u8, u8),
     Refused(Refusal),
-}
-
-// Document 01's number of a refusal.
-pub fn refusal_number(why: Refusal) -> u8
-    ensures { λ r. ⌜ r ≡ numberOf why ⌝ }
-{
-    match why {
-        Refusal::EmptyOrTooLong => 1,
-        Refusal::WrongFirstByte => 2,
-        Refusal::EndsInsideField => 3,
-        Refusal::OutOfRange => 4,
-        Refusal::TooManyOrTooDeep => 5,
-        Refusal::NoSuchColumn => 6,
-        Refusal::BytesAfterEnd => 7,
-        Refusal::TooFewArguments => 8,
-        Refusal::BufferTooShort => 9,
-        Refusal::NoGoodPlan => 10,
-        Refusal::PlanEmpty => 11,
-        Refusal::AlreadyExtracted => 12,
-        Refusal::NoLeafMatches => 13,
-        Refusal::NotHexadecimal => 14,
-    }
 }
 
 // The line out for an answer, from a place on; gives where it ends.

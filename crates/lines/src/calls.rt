@@ -9,14 +9,12 @@ use join_filter::extract::extract;
 use join_filter::load::load;
 use join_filter::logical::Names;
 use join_filter::logical::logical;
-use sedona_query_planner::spatial_expr_utils::logical::KNNJoinQuerySide;
+use sedona_query_planner::spatial_expr_utils::logical::query_side_number;
 ghost use mathlib.Core.Path.{_≡_};
 ghost use mathlib.Core.List.{List};
 ghost use Prim.Native.Nat.{ℕ, _≤_};
 ghost use lib.ListN.{length, take, drop};
-ghost use Rattle.definitions.specs.Encode.{sideNumber};
 ghost use Rattle.definitions.specs.Program as program;
-ghost use Rattle.sedona_query_planner.specs.Logicals.{querySideIs};
 ghost use Rattle.lines.specs.Answers.{keptAs, AnswerIs};
 ghost use Rattle.lines.specs.Calling.{kindOf, lineAnswer};
 
@@ -43,17 +41,6 @@ fn load_line(plan: &mut [u8], bytes: &[u8], n: usize) -> Answer
     of_call(load(plan, bytes))
 }
 
-// The number of a side.
-fn side_number(side: KNNJoinQuerySide) -> u8
-    ensures { λ r. ⌜ r ≡ sideNumber (querySideIs side) ⌝ }
-{
-    match side {
-        KNNJoinQuerySide::Left => 0,
-        KNNJoinQuerySide::Right => 1,
-        KNNJoinQuerySide::None => 2,
-    }
-}
-
 // `02..`: logical.
 fn logical_line(bytes: &[u8]) -> Answer
     ensures { λ r. ⌜ ((n : ℕ) (plan : List ℕ) → AnswerIs (program.logicalLine (now (bytes .entry)) (keptAs n plan)) n plan r) ⌝ }
@@ -67,7 +54,7 @@ fn logical_line(bytes: &[u8]) -> Answer
                 (mask / 256) as u8,
                 (mask % 256) as u8,
                 names as u8,
-                side_number(side),
+                query_side_number(side),
             )
         }
     }

@@ -5,7 +5,7 @@ ghost use Prim.Native.Nat.{_+_, _≤_};
 ghost use lib.ListN.{length};
 ghost use Rattle.definitions.specs.Basics.{ascii, sameName};
 ghost use Rattle.definitions.specs.Expression.{binary, nil, cons};
-ghost use Rattle.definitions.specs.Encode.{exprBytes, exprsBytes};
+ghost use Rattle.definitions.specs.Encode.{sideNumber, exprBytes, exprsBytes};
 ghost use Rattle.definitions.specs.Leaves.{leaves};
 ghost use Rattle.definitions.specs.Logical.{lowerCase, spatialNames, functionName, leafName, mask, bitsOf, bitsOfAll, querySide};
 ghost use Rattle.expression.specs.Places.{part};
@@ -192,6 +192,17 @@ pub enum KNNJoinQuerySide {
     Left,
     Right,
     None,
+}
+
+// Document 01's number of a query side.
+pub fn query_side_number(side: KNNJoinQuerySide) -> u8
+    ensures { λ r. ⌜ r ≡ sideNumber (querySideIs side) ⌝ }
+{
+    match side {
+        KNNJoinQuerySide::Left => 0,
+        KNNJoinQuerySide::Right => 1,
+        KNNJoinQuerySide::None => 2,
+    }
 }
 
 pub fn find_knn_query_side(s: &[u8], at: usize) -> KNNJoinQuerySide

@@ -23,7 +23,7 @@ returns : tie.Need-returns
 returns c = refusal-gives _ _ (sym (ap namesOf (c .before .why .given .1)) ∙ c .before .before .before .logical .ensures)
 
 returns-2 : tie.Need-returns-2
-returns-2 c = rw (c .side-number .ensures) (names-give _ (found (c .before)) (omega arith))
+returns-2 c = rw (c .query-side-number .ensures) (names-give _ (found (c .before)) (omega arith))
 
 pub logical-line-spec : {M : Type 1} → statement M
 logical-line-spec =
