@@ -14,6 +14,7 @@ pub mod Lists
 pub mod Inverse
 pub mod InversePlan
 pub mod ListTheorem
+pub mod Lengths
 pub mod Answers
 pub mod Machines
 pub mod Truth

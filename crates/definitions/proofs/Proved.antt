@@ -5,7 +5,7 @@ use Rattle.definitions.specs.Expression.{held}
 use Rattle.definitions.specs.Plans.{planOf}
 use Rattle.definitions.specs.Machine.{Bits, machinePlan}
 use Rattle.definitions.specs.Limits.{GoodPlan}
-use Rattle.definitions.specs.Claims.{LoadAccepted, RestOfLeaves, ExchangeValue, NamesOnce, ExchangeTwice, ExtractExchanged, ExpressionReadBack, PlanReadBack, PlanOfBytes, ExtractionGood, ExchangeGood, callsAfter, planLeft, ListOfCalls, SamePlan, ExchangeAccepted, ExtractAccepted, PickExactly, MachinesAgree, AndAssociative, AndCommutative, ExtractionValue, ListValue, FairMeaning, NamesAreOnes}
+use Rattle.definitions.specs.Claims.{LoadAccepted, RestOfLeaves, ExchangeValue, NamesOnce, ExchangeTwice, ExtractExchanged, ExpressionReadBack, PlanReadBack, PlanOfBytes, ExtractionGood, ExchangeGood, LengthsShort, callsAfter, planLeft, ListOfCalls, SamePlan, ExchangeAccepted, ExtractAccepted, PickExactly, MachinesAgree, AndAssociative, AndCommutative, ExtractionValue, ListValue, FairMeaning, NamesAreOnes}
 use Rattle.definitions.proofs.Exchange.{plan-twice, extraction-exchange}
 use Rattle.definitions.proofs.RoundTripPlan.{expr-reads, plan-reads}
 use Rattle.definitions.proofs.InversePlan.{plan-back}
@@ -14,6 +14,7 @@ use Rattle.definitions.proofs.ExtractGood.{GoodExtraction, extraction-g
 use Rattle.definitions.proofs.ExchangeGood.{exchange-good, plan-as-long}
 use Rattle.definitions.proofs.Lists.{plan-good}
 use Rattle.definitions.proofs.ListTheorem.{load-accepts, load-good, list-theorem}
+use Rattle.definitions.proofs.Lengths.{lengths-are-short}
 use Rattle.definitions.proofs.Answers.{told, plan-told, plans-same, exchange-among, extract-among}
 use Rattle.definitions.proofs.Pick.{took}
 use Rattle.definitions.proofs.Machines.{same-leaf, same-refusal}
@@ -41,6 +42,9 @@ extraction-is-good F X g e = subst (GoodExtraction F) e (extraction-good F g)
 
 exchange-is-good : ExchangeGood
 exchange-is-good p g = (exchange-good p g, plan-as-long p)
+
+lengths-short : LengthsShort
+lengths-short = lengths-are-short
 
 load-accepted : LoadAccepted
 load-accepted = load-accepts

@@ -17,7 +17,7 @@ use Rattle.definitions.specs.Plans.{frameOf, planOf}
 use Rattle.definitions.specs.Extract.{isKnn, without, prune, matchesOf, extraction}
 use Rattle.definitions.specs.Exchange.{exchangeFrame, exchangeExtraction, exchangePlan}
 use Rattle.definitions.specs.Calls.{load}
-use Rattle.definitions.specs.Machine.{Kind, extractCall, exchangeCall, machinePlan, machineLength, Run, machineRun, fresh, Made, fed, Calls, callsRun}
+use Rattle.definitions.specs.Machine.{Kind, extractCall, exchangeCall, make, machinePlan, machineLength, Run, machineRun, fresh, Made, fed, Calls, callsRun}
 use Rattle.definitions.specs.Limits.{AllBytes, nodes, Readable, GoodPlan, NoMarks}
 use Rattle.definitions.specs.Meaning.{Valuation, Meaning, Fair, andValue, frameValue, extractionValue, planValue, exchangedValues}
 use Rattle.definitions.specs.Logical.{spatialNames, mask, distinct}
@@ -59,6 +59,12 @@ ExtractionGood =
 -- The exchange of a good plan is good, and as long.
 abbrev pub ExchangeGood : Type 0
 ExchangeGood = (p : Plan) → GoodPlan p → GoodPlan (exchangePlan p) × (length (planBytes (exchangePlan p)) ≡ length (planBytes p))
+
+-- The length that a call gives is at most 16,384.
+abbrev pub LengthsShort : Type 0
+LengthsShort =
+    ((frame : List ℕ) (n : ℕ) (buffer : List ℕ) (m : ℕ) → AllBytes frame → load frame n buffer .answer ≡ ok m → m ≤ 16384)
+    × ((kind : Kind) (n : ℕ) (buffer scratch : List ℕ) (m : ℕ) → AllBytes buffer → make kind n buffer scratch .answer ≡ ok m → m ≤ 16384)
 
 -- ---- lists of calls
 

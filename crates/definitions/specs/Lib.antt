@@ -16,4 +16,5 @@ pub mod Limits
 pub mod Meaning
 pub mod Logical
 pub mod Program
+pub mod Hosts
 pub mod Claims

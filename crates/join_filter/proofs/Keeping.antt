@@ -1,8 +1,8 @@
 -- The old plan kept in the scratch: its bytes stand there as they stood in the plan buffer.
-use Prim.Native.Nat.{ℕ, zero, suc, _≤_}
+use Prim.Native.Nat.{ℕ, _≤_}
 use mathlib.Core.Path.{_≡_, sym, ap, _∙_}
 use mathlib.Core.Bool.{Bool}
-use mathlib.Core.List.{List, [], _∷_, _++_}
+use mathlib.Core.List.{List, _++_}
 use lib.ListN.{length, take, drop}
 use lib.Seq.{length-take-le, take-append-seam}
 use borrow.Author.Tests.{le-leb}
@@ -13,11 +13,7 @@ use Rattle.definitions.specs.Plans.{planOf}
 use Rattle.definitions.specs.Calls.{writtenOver, heldPlan}
 use Rattle.definitions.specs.Limits.{AllBytes, GoodPlan}
 use Rattle.definitions.proofs.InversePlan.{plan-back}
-
-bytes-up-to : (n : ℕ) (s : List ℕ) → AllBytes s → AllBytes (take n s)
-bytes-up-to zero s h = tt
-bytes-up-to (suc n) [] h = tt
-bytes-up-to (suc n) (b ∷ s) h = (h .0, bytes-up-to n s (h .1))
+use Rattle.definitions.proofs.Lengths.{bytes-up-to}
 
 module _ (n : ℕ) (before : List ℕ) (fits : n ≤ length before) where
   pub plan-length : length (take n before) ≡ n

@@ -1,0 +1,114 @@
+-- A plan that a call leaves is a good plan's bytes, and those are at most 16,384.
+use Prim.Native.Nat.{ℕ, zero, suc, _≤_}
+use native.Mathlib.Omega.{arith}
+use mathlib.Core.Path.{_≡_, refl, sym, ap, _∙_, subst}
+use mathlib.Core.Bool.{Bool, true, false, false≢true}
+use mathlib.Core.List.{List, [], _∷_}
+use mathlib.Core.Option.{Option, none, some}
+use lib.ListN.{length, take}
+use lib.Dec.{leb}
+use Rattle.definitions.specs.Basics.{if_then_else_, Result, ok, refused}
+use Rattle.definitions.specs.Expression.{Frame, Extraction, Plan, empty, held, extracted}
+use Rattle.definitions.specs.Encode.{planBytes}
+use Rattle.definitions.specs.Plans.{frameOf, planOf}
+use Rattle.definitions.specs.Extract.{extraction}
+use Rattle.definitions.specs.Exchange.{exchangePlan}
+use Rattle.definitions.specs.Calls.{loadBytes, loaded, load, finish, heldPlan, exchangeBytes, exchange, extractedBytes, extractBytes, extract}
+use Rattle.definitions.specs.Machine.{Kind, extractCall, exchangeCall, make}
+use Rattle.definitions.specs.Limits.{AllBytes, GoodPlan}
+use Rattle.definitions.specs.Claims.{accepted, LengthsShort}
+use Rattle.definitions.proofs.InversePlan.{frame-back, plan-back}
+use Rattle.definitions.proofs.ExtractGood.{GoodExtraction, extraction-good}
+use Rattle.definitions.proofs.ExchangeGood.{exchange-good}
+
+-- Bytes, if there are any, are at most 16,384.
+abbrev Short : Result (List ℕ) → Type 0
+Short (ok bytes) = length bytes ≤ 16384
+Short (refused number) = Unit {0}
+
+same : (a b : ℕ) → _≡_ {A = Result ℕ} (ok a) (ok b) → a ≡ b
+same a b e = cc
+
+if-short : (b : Bool) (x : Result (List ℕ)) (number : ℕ) → Short x → Short (if b then x else refused number)
+if-short true x number h = h
+if-short false x number h = tt
+
+not-both : {number m : ℕ} → _≡_ {A = Result ℕ} (refused number) (ok m) → ⊥
+unfolding accepted
+not-both e = false≢true (ap accepted e)
+
+-- ---- load
+
+load-short : (frame : List ℕ) (room : ℕ) (r : Result Frame) → AllBytes frame → frameOf frame ≡ r → Short (loadBytes frame room r)
+unfolding loadBytes planBytes
+load-short frame room (ok F) bytes e =
+    let back = frame-back frame F bytes e in
+    if-short (leb (length frame) room) (ok frame) 9 (subst (λ (s : List ℕ). length s ≤ 16384) (sym (back .0)) (back .1 .fewBytes))
+load-short frame room (refused number) bytes e = tt
+
+loaded-short : (n : ℕ) (buffer : List ℕ) (x : Result (List ℕ)) {m : ℕ} → Short x → loaded n buffer x .answer ≡ ok m → m ≤ 16384
+unfolding loaded
+loaded-short n buffer (ok bytes) h e = subst (λ k. k ≤ 16384) (same _ _ e) h
+loaded-short n buffer (refused number) h e = absurd (not-both e)
+
+-- ---- extract and exchange
+
+finish-short : (n : ℕ) (buffer scratch : List ℕ) (x : Result (List ℕ)) {m : ℕ} → Short x → finish n buffer scratch x .answer ≡ ok m → m ≤ 16384
+unfolding finish
+finish-short n buffer scratch (ok bytes) h e = subst (λ k. k ≤ 16384) (same _ _ e) h
+finish-short n buffer scratch (refused number) h e = absurd (not-both e)
+
+-- The first of some bytes are bytes.
+pub bytes-up-to : (n : ℕ) (s : List ℕ) → AllBytes s → AllBytes (take n s)
+bytes-up-to zero s h = tt
+bytes-up-to (suc n) [] h = tt
+bytes-up-to (suc n) (b ∷ s) h = (h .0, bytes-up-to n s (h .1))
+
+-- What is held, if anything is, is a good plan.
+abbrev Good : Result Plan → Type 0
+Good (ok p) = GoodPlan p
+Good (refused number) = Unit {0}
+
+plan-good : (s : List ℕ) (r : Result Plan) → AllBytes s → planOf s ≡ r → Good r
+plan-good s (ok p) bytes e = plan-back s p bytes e .1
+plan-good s (refused number) bytes e = tt
+
+held-good : (n : ℕ) (buffer : List ℕ) → AllBytes buffer → Good (heldPlan n buffer)
+unfolding heldPlan
+held-good n buffer bytes = held-if (leb n (length buffer)) where
+  held-if : (b : Bool) → Good (if b then planOf (take n buffer) else refused 10)
+  held-if true = plan-good (take n buffer) (planOf (take n buffer)) (bytes-up-to n buffer bytes) refl
+  held-if false = tt
+
+extracted-short : (F : Frame) (x : Option Extraction) → GoodExtraction F x → Short (extractedBytes x)
+unfolding extractedBytes
+extracted-short F (some X) g = g .0 .fewBytes
+extracted-short F none g = tt
+
+extract-short : (n room : ℕ) (r : Result Plan) → Good r → Short (extractBytes n room r)
+unfolding extractBytes
+extract-short n room (ok empty) g = tt
+extract-short n room (ok (held F)) g = if-short (leb n room) (extractedBytes (extraction F)) 9 (extracted-short F (extraction F) (extraction-good F g))
+extract-short n room (ok (extracted X)) g = tt
+extract-short n room (refused number) g = tt
+
+exchange-short : (n room : ℕ) (r : Result Plan) → Good r → Short (exchangeBytes n room r)
+unfolding exchangeBytes
+exchange-short n room (ok empty) g = tt
+exchange-short n room (ok (held F)) g = if-short (leb n room) (ok (planBytes (exchangePlan (held F)))) 9 (exchange-good (held F) g .fewBytes)
+exchange-short n room (ok (extracted X)) g = if-short (leb n room) (ok (planBytes (exchangePlan (extracted X)))) 9 (exchange-good (extracted X) g .fewBytes)
+exchange-short n room (refused number) g = tt
+
+make-short : (kind : Kind) (n : ℕ) (buffer scratch : List ℕ) {m : ℕ} → AllBytes buffer → make kind n buffer scratch .answer ≡ ok m → m ≤ 16384
+unfolding make extract exchange
+make-short extractCall n buffer scratch bytes e =
+    finish-short n buffer scratch _ (extract-short n (length scratch) _ (held-good n buffer bytes)) e
+make-short exchangeCall n buffer scratch bytes e =
+    finish-short n buffer scratch _ (exchange-short n (length scratch) _ (held-good n buffer bytes)) e
+
+pub lengths-are-short : LengthsShort
+unfolding load
+lengths-are-short = (
+  λ frame n buffer m bytes e. loaded-short n buffer _ (load-short frame (length buffer) (frameOf frame) bytes refl) e,
+  λ kind n buffer scratch m bytes e. make-short kind n buffer scratch bytes e,
+)

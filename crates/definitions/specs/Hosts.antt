@@ -1,0 +1,16 @@
+-- The calls' answers as C and Rust hosts get them: one whole number. (Ours: 01 leaves open how a host gets an answer.)
+use Prim.Native.Nat.{ℕ, _+_, _*_}
+use lib.IntN.{ℤ, pos, negℤ}
+use Rattle.definitions.specs.Basics.{Result, ok, refused}
+use Rattle.definitions.specs.Encode.{sideNumber}
+use Rattle.definitions.specs.Logical.{LogicalAnswer}
+
+-- A length, or minus the refusal's number. (Ours.)
+unfoldable pub hosted : Result ℕ → ℤ
+hosted (ok length) = pos length
+hosted (refused number) = negℤ (pos number)
+
+-- The logical call's: mask · 65,536 + names · 256 + side, or minus the refusal's number. (Ours.)
+unfoldable pub hostedNames : Result LogicalAnswer → ℤ
+hostedNames (ok a) = pos (a .mask * 65536 + a .names * 256 + sideNumber (a .side))
+hostedNames (refused number) = negℤ (pos number)

@@ -1,0 +1,34 @@
+-- A call that met its contract gives the definition's answer, and that, as one number, is the host's.
+use Prim.Native.Nat.{ℕ}
+use mathlib.Core.Path.{_≡_, refl, ap}
+use mathlib.Core.List.{List}
+use lib.IntN.{ℤ}
+use Rattle.definitions.specs.Calls.{LoadOutcome, Outcome}
+use Rattle.definitions.specs.Hosts.{hosted}
+use Rattle.definitions.specs.Machine.{Kind, make}
+use Rattle.definitions.specs.Limits.{AllBytes}
+use Rattle.definitions.proofs.Lengths.{lengths-are-short}
+use Rattle.join_filter.specs.Outcomes.{answerOf, LoadIs, OutcomeIs}
+use Rattle.join_filter.specs.declared.answers.Answer.{Answer}
+use Rattle.join_filter.specs.declared.answers.Answer.the-variants.{Length, Refused}
+use Rattle.spatialjoin_c.specs.Hosted.{Short, LoadHosted, CallHosted}
+
+module _ (frame before after : List ℕ) (r : Answer) (is : LoadIs frame before after r) where
+  pub load-short : AllBytes frame → Short r
+  load-short = short r is where
+    short : (r : Answer) → LoadIs frame before after r → AllBytes frame → Short r
+    short (Length m) is bytes = lengths-are-short .0 frame 0 before m bytes (ap (λ (o : LoadOutcome). o .answer) (is 0))
+    short (Refused why) is bytes = tt
+
+  pub load-hosted : (z : ℤ) → z ≡ hosted (answerOf r) → LoadHosted frame before after z
+  load-hosted z e n = rw (e, ap (λ (o : LoadOutcome). o .answer) (is n), ap (λ (o : LoadOutcome). o .buffer) (is n)) (refl, refl)
+
+module _ (kind : Kind) (n : ℕ) (before scratch after kept : List ℕ) (r : Answer) (is : OutcomeIs (make kind n before scratch) n after kept r) where
+  pub call-short : AllBytes before → Short r
+  call-short = short r is where
+    short : (r : Answer) → OutcomeIs (make kind n before scratch) n after kept r → AllBytes before → Short r
+    short (Length m) is bytes = lengths-are-short .1 kind n before scratch m bytes (ap (λ (o : Outcome). o .answer) is)
+    short (Refused why) is bytes = tt
+
+  pub call-hosted : (z : ℤ) → z ≡ hosted (answerOf r) → CallHosted (make kind n before scratch) after kept z
+  call-hosted z e = rw (e, is) (refl, refl, refl)

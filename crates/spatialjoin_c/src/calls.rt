@@ -1,0 +1,54 @@
+// What a host calls. Each answer is a number of 64 bits; the buffers are as the definitions' calls leave them.
+use crate::answers::answer_number;
+use crate::answers::minus_refusal;
+use join_filter::exchange::exchange;
+use join_filter::extract::extract;
+use join_filter::load::load;
+use join_filter::logical::Names;
+use join_filter::logical::logical;
+use sedona_query_planner::spatial_expr_utils::logical::query_side_number;
+ghost use mathlib.Core.Path.{_≡_};
+ghost use Rattle.definitions.specs.Calls as definitions;
+ghost use Rattle.definitions.specs.Hosts.{hostedNames};
+ghost use Rattle.definitions.specs.Logical as logicals;
+ghost use Rattle.spatialjoin_c.specs.Hosted.{LoadHosted, CallHosted};
+
+// Loads a frame as the new plan; reads nothing of the old one.
+#[no_mangle]
+pub extern "C" fn spatialjoin_load(frame: &[u8], plan: &mut [u8]) -> i64
+    ensures { λ r. ⌜ LoadHosted (now (frame .entry)) (now (plan .entry)) (now (plan .exit)) r ⌝ }
+{
+    answer_number(load(plan, frame))
+}
+
+// Pulls the predicate out of the plan in the first n bytes.
+#[no_mangle]
+pub extern "C" fn spatialjoin_extract(plan: &mut [u8], n: usize, scratch: &mut [u8]) -> i64
+    ensures { λ r. ⌜ CallHosted (definitions.extract n (now (plan .entry)) (now (scratch .entry))) (now (plan .exit)) (now (scratch .exit)) r ⌝ }
+{
+    answer_number(extract(plan, n, scratch))
+}
+
+// Exchanges the join's children in the plan in the first n bytes.
+#[no_mangle]
+pub extern "C" fn spatialjoin_exchange(plan: &mut [u8], n: usize, scratch: &mut [u8]) -> i64
+    ensures { λ r. ⌜ CallHosted (definitions.exchange n (now (plan .entry)) (now (scratch .entry))) (now (plan .exit)) (now (scratch .exit)) r ⌝ }
+{
+    answer_number(exchange(plan, n, scratch))
+}
+
+// The spatial names of a logical frame, how many they are, and its KNN query side.
+#[no_mangle]
+pub extern "C" fn spatialjoin_logical(frame: &[u8]) -> i64
+    ensures { λ r. ⌜ r ≡ hostedNames (logicals.logical (now (frame .entry))) ⌝ }
+{
+    match logical(frame) {
+        Names::Refused(why) => minus_refusal(why),
+        Names::Found(found, side) => {
+            let mask = found.mask as u64;
+            let names = found.names as u64;
+            let side = query_side_number(side) as u64;
+            (mask * 65536 + names * 256 + side) as i64
+        }
+    }
+}
