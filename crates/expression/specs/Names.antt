@@ -36,6 +36,19 @@ unfoldable pub words : List ℕ → List (List ℕ)
 words [] = [] ∷ []
 words (b ∷ s) = wordsBy (eqb b 32) b (words s)
 
+-- The place of a space before the ends after it; of another byte, those alone.
+abbrev pub endsBy : (space : Bool) → (k : ℕ) → List ℕ → List ℕ
+endsBy true k later = k ∷ later
+endsBy false k later = later
+
+-- Where those names end, the table's first byte being at k.
+unfoldable pub endsFrom : (k : ℕ) → List ℕ → List ℕ
+endsFrom k [] = k ∷ []
+endsFrom k (b ∷ s) = endsBy (eqb b 32) k (endsFrom (suc k) s)
+
+abbrev pub wordEnds : List ℕ → List ℕ
+wordEnds s = endsFrom 0 s
+
 -- How many names stand before the first that is this one; all of them if none is.
 unfoldable pub position : (name : List ℕ) → List (List ℕ) → ℕ
 position name [] = 0

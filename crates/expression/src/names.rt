@@ -5,7 +5,7 @@ ghost use lib.ListN.{length};
 ghost use Rattle.definitions.specs.Basics.{sameName};
 ghost use Rattle.definitions.specs.Logical.{lowerCase};
 ghost use Rattle.expression.specs.Places.{part};
-ghost use Rattle.expression.specs.Names.{letter, spelled, words, position, WordIs};
+ghost use Rattle.expression.specs.Names.{letter, spelled, words, wordEnds, position};
 
 // Whether the letters A to Z are taken as they are or as small ones.
 pub enum Case {
@@ -59,30 +59,16 @@ pub fn same_name_ignore_case(s: &[u8], at: usize, end: usize, name: &[u8]) -> bo
     same_bytes(s, at, end, name, Case::Ignored)
 }
 
-// Where the word that begins at a place ends: at the next space, or with the last byte.
-fn word_end(names: &[u8], from: usize) -> usize
-    requires { ⌜ from ≤ length (now names) ⌝ }
-    ensures { λ r. ⌜ WordIs (now (names .entry)) from r ⌝ }
-{
-    let mut to = from;
-    while to < names.len() {
-        if names[to] == b' ' {
-            return to;
-        }
-        to += 1;
-    }
-    to
-}
-
-// Which of the names in a row with spaces between them it is, from 0; how many there are if it is none of them.
-pub fn name_index(s: &[u8], at: usize, end: usize, names: &[u8], case: Case) -> usize
-    requires { ⌜ (at ≤ end) × (end ≤ length (now s)) ⌝ }
+// Which of the names in a row with spaces between them it is, from 0; how many there are if it is none of them. `ends` has where
+// each name ends, so that no space is looked for.
+pub fn name_index(s: &[u8], at: usize, end: usize, names: &[u8], ends: &[u8], case: Case) -> usize
+    requires { ⌜ (at ≤ end) × (end ≤ length (now s)) × (now ends ≡ wordEnds (now names)) ⌝ }
     ensures { λ r. ⌜ r ≡ position (spelled case (part (now (s .entry)) at end)) (words (now (names .entry))) ⌝ }
 {
     let mut from = 0;
     let mut i = 0;
     loop {
-        let to = word_end(names, from);
+        let to = ends[i] as usize;
         if same_bytes(s, at, end, &names[from..to], case) {
             return i;
         }

@@ -35,7 +35,8 @@ impl SpatialRelationType {
     {
         let names =
             b"st_intersects rs_intersects st_contains rs_contains st_within rs_within st_covers st_coveredby st_covered_by st_touches st_crosses st_overlaps st_equals";
-        match name_index(s, at, end, names, Case::Exact) {
+        let ends = [13, 27, 39, 51, 61, 71, 81, 94, 108, 119, 130, 142, 152];
+        match name_index(s, at, end, names, &ends, Case::Exact) {
             0 | 1 => NamedRelation::Relation(SpatialRelationType::Intersects),
             2 | 3 => NamedRelation::Relation(SpatialRelationType::Contains),
             4 | 5 => NamedRelation::Relation(SpatialRelationType::Within),

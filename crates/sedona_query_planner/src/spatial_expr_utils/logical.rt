@@ -41,7 +41,24 @@ fn name_bit(s: &[u8], at: usize, end: usize) -> u16
 {
     let names =
         b"st_intersects st_contains st_within st_covers st_covered_by st_coveredby st_touches st_crosses st_overlaps st_equals st_dwithin st_knn rs_intersects rs_contains rs_within";
-    let index = name_index(s, at, end, names, Case::Ignored);
+    let ends = [
+        13,
+        25,
+        35,
+        45,
+        59,
+        72,
+        83,
+        94,
+        106,
+        116,
+        127,
+        134,
+        148,
+        160,
+        170,
+    ];
+    let index = name_index(s, at, end, names, &ends, Case::Ignored);
     if index < 15 { 1 << index } else { 0 }
 }
 

@@ -9,7 +9,7 @@ use borrow.Author.Needs.{needs}
 use Rattle.definitions.specs.Basics.{ascii}
 use Rattle.definitions.specs.Leaves.{relationNamed}
 use Rattle.expression.specs.Places.{part}
-use Rattle.expression.specs.Names.{words}
+use Rattle.expression.specs.Names.{words, endsFrom}
 use Rattle.sedona_query_planner.proofs.RelationNames.{relations, relationNames, relation-at, neighbours}
 use Rattle.sedona_query_planner.proofs.spatial_predicate.SpatialRelationType.from_name.Statement.{statement}
 use Rattle.sedona_query_planner.proofs.spatial_predicate.SpatialRelationType.from_name.Tie as tie
@@ -17,7 +17,9 @@ use Rattle.sedona_query_planner.proofs.spatial_predicate.SpatialRelatio
 -- The type of the name is that at the position that was found: at k, at one of two neighbours of the same type, or past the last.
 module _ (c : tie.After-name-index) where
   abbrev name : List ℕ
-  name = part (c .before .before .before .before .args .s .now) (c .before .before .before .before .args .at) (c .before .before .before .before .args .end)
+  name =
+      let start = c .before .before .before .before .before in
+      part (start .args .s .now) (start .args .at) (start .args .end)
 
   found : getD relations (c .name-index .result) none ≡ relationNamed name
   unfolding words ascii relationNames
@@ -33,12 +35,20 @@ module _ (c : tie.After-name-index) where
   past : length relations ≤ c .name-index .result → none ≡ relationNamed name
   past h = sym (List·getD-eq-default relations none h) ∙ found
 
+-- The names' ends are where they are said to be.
+name-index-requires : tie.Need-name-index-requires
+unfolding endsFrom
+name-index-requires c κs =
+    let start = c .before .before .before .before in
+    (start .pre .0, start .pre .1, refl)
+
 pub from-name-spec : {M : Type 1} → statement M
 unfolding relations
 from-name-spec =
     tie.close
     (tie.spec
-    (λ c κs. search needs)
+    (λ c. search needs)
+    name-index-requires
     (λ c. one (c .before) (c .match .keys1))
     (λ c. one (c .before) (c .match .keys2))
     (λ c. one (c .before) (c .match .keys3))
