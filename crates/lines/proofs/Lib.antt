@@ -1,7 +1,4 @@
 -- Laws that several proofs use.
-pub mod DigitLaws
-pub mod DecodeLaws
-pub mod EncodeLaws
 pub mod CollectLaws
 pub mod Whole
 pub mod LineLaws

@@ -18,9 +18,9 @@ use Rattle.lines.specs.Pieces.{Session, endLine, piece, inputEnd, freshS
 use Rattle.lines.specs.Collecting.{Begun, CollectedIs}
 use Rattle.lines.specs.Sessions.{Lent, lent, Stands, Makes, Taken, Ends}
 use Rattle.lines.specs.declared.collecting.Collected.{Collected}
-use Rattle.lines.proofs.EncodeLaws.{length-digits, wrote-nothing}
+use Rattle.hexadecimal.proofs.DecodeLaws.{long-line}
+use Rattle.hexadecimal.proofs.EncodeLaws.{length-digits, wrote-nothing}
 use Rattle.lines.proofs.PieceLaws.{joined, stopped, upto}
-use Rattle.lines.proofs.DecodeLaws.{long-line}
 use Rattle.lines.proofs.LineLaws.{refused-line, bad-line}
 
 abbrev stateOf : (n count filled : ℕ) → State

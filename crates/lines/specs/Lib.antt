@@ -1,5 +1,4 @@
 -- What the contracts cite, in the order to read them.
-pub mod Hex
 pub mod Answers
 pub mod Pieces
 pub mod Collecting

@@ -1,7 +1,7 @@
 // What a line gives, and how it is written.
-use super::writing::put_line;
 use frame::refusals::Refusal;
 use frame::refusals::refusal_number;
+use hexadecimal::writing::put_line;
 ghost use Prim.Native.Nat.{_+_, _*_, _≤_};
 ghost use lib.ListN.{length};
 ghost use Rattle.definitions.specs.Program.{written};

@@ -1,8 +1,8 @@
 // The call that a line asks for.
 use super::answers::Answer;
-use super::hex::Decoded;
-use super::hex::decode;
 use frame::refusals::Refusal;
+use hexadecimal::hex::Decoded;
+use hexadecimal::hex::decode;
 use join_filter::answers;
 use join_filter::exchange::exchange;
 use join_filter::extract::extract;

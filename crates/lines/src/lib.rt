@@ -2,6 +2,4 @@
 mod answers;
 mod calls;
 mod collecting;
-mod hex;
 pub mod sessions;
-mod writing;

@@ -5,7 +5,7 @@ use native.Mathlib.Omega.{arith}
 use lib.ListN.{take}
 use Rattle.definitions.specs.Basics.{ok}
 use Rattle.definitions.specs.Program.{lineBytes}
-use Rattle.lines.specs.Hex.{decodedBytes}
+use Rattle.hexadecimal.specs.Hex.{decodedBytes}
 use Rattle.lines.proofs.LineLaws.{refused-line, good-bytes, bad-line, short-line}
 use Rattle.lines.proofs.calls.answer_line.Statement.{statement}
 use Rattle.lines.proofs.calls.answer_line.Tie as tie

@@ -1,9 +1,9 @@
 -- `digit_value`: each range of characters is a case of the definition.
 use borrow.Author.Needs.{needs}
 use native.Mathlib.Omega.{arith}
-use Rattle.lines.proofs.DigitLaws.{is-number, is-letter, below-numbers, between, above-letters}
-use Rattle.lines.proofs.hex.digit_value.Statement.{statement}
-use Rattle.lines.proofs.hex.digit_value.Tie as tie
+use Rattle.hexadecimal.proofs.DigitLaws.{is-number, is-letter, below-numbers, between, above-letters}
+use Rattle.hexadecimal.proofs.hex.digit_value.Statement.{statement}
+use Rattle.hexadecimal.proofs.hex.digit_value.Tie as tie
 
 pub digit-value-spec : {M : Type 1} → statement M
 digit-value-spec =

@@ -2,9 +2,9 @@
 use borrow.Author.Needs.{needs}
 use native.Mathlib.Omega.{arith}
 use lib.ListN.{length-set}
-use Rattle.lines.proofs.EncodeLaws.{digits-room, feed-room, line-written}
-use Rattle.lines.proofs.writing.put_line.Statement.{statement}
-use Rattle.lines.proofs.writing.put_line.Tie as tie
+use Rattle.hexadecimal.proofs.EncodeLaws.{digits-room, feed-room, line-written}
+use Rattle.hexadecimal.proofs.writing.put_line.Statement.{statement}
+use Rattle.hexadecimal.proofs.writing.put_line.Tie as tie
 
 encode-requires-2 : tie.Need-encode-requires-2
 encode-requires-2 c κs =

@@ -8,8 +8,8 @@ use mathlib.Core.Option.{Option, none, some}
 use lib.ListN.{length, take, drop, getD, set, length-set, drop-of-length-le}
 use lib.Seq.{drop-cons, take-suc-set, drop-set-lt, drop-drop}
 use borrow.Author.Tests.{le-leb, lt-leb}
-use Rattle.lines.specs.Hex.{DecodedIs}
-use Rattle.lines.specs.declared.hex.Decoded.the-variants.{Bytes, Bad}
+use Rattle.hexadecimal.specs.Hex.{DecodedIs}
+use Rattle.hexadecimal.specs.declared.hex.Decoded.the-variants.{Bytes, Bad}
 use Rattle.definitions.specs.Basics.{ok, refused}
 use Rattle.definitions.specs.Program.{digitValue, pairBytes, digitBytes, orRefused, lineBytes}
 

@@ -3,9 +3,9 @@ use Prim.Native.Nat.{_+_, _-_, _<_}
 use borrow.Author.Needs.{needs}
 use native.Mathlib.Omega.{arith}
 use lib.ListN.{length, length-set}
-use Rattle.lines.proofs.EncodeLaws.{Encoded, encoded-none, encoded-room, encoded-more, all-encoded}
-use Rattle.lines.proofs.hex.encode.Statement.{statement}
-use Rattle.lines.proofs.hex.encode.Tie as tie
+use Rattle.hexadecimal.proofs.EncodeLaws.{Encoded, encoded-none, encoded-room, encoded-more, all-encoded}
+use Rattle.hexadecimal.proofs.hex.encode.Statement.{statement}
+use Rattle.hexadecimal.proofs.hex.encode.Tie as tie
 
 abbrev Inv-loop : tie.InvT-loop
 Inv-loop out₀ at bytes next₀ i₀ out next i = Encoded bytes at i out₀ out next

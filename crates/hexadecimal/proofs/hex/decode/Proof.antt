@@ -3,10 +3,10 @@ use Prim.Native.Nat.{_-_}
 use borrow.Author.Needs.{needs}
 use native.Mathlib.Omega.{arith}
 use mathlib.Core.Path.{sym, ap, _∙_}
-use Rattle.lines.specs.Hex.{bytesOf}
-use Rattle.lines.proofs.DecodeLaws.{DecodedSoFar, decoded-none, decoded-more, too-long, odd-count, bad-pair, all-decoded}
-use Rattle.lines.proofs.hex.decode.Statement.{statement}
-use Rattle.lines.proofs.hex.decode.Tie as tie
+use Rattle.hexadecimal.specs.Hex.{bytesOf}
+use Rattle.hexadecimal.proofs.DecodeLaws.{DecodedSoFar, decoded-none, decoded-more, too-long, odd-count, bad-pair, all-decoded}
+use Rattle.hexadecimal.proofs.hex.decode.Statement.{statement}
+use Rattle.hexadecimal.proofs.hex.decode.Tie as tie
 
 abbrev Inv-loop : tie.InvT-loop
 Inv-loop out₀ line size i₀ out i = DecodedSoFar line out₀ out i

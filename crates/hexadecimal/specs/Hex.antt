@@ -6,10 +6,10 @@ use mathlib.Core.Option.{Option, none, some}
 use lib.ListN.{length, take, drop}
 use Rattle.definitions.specs.Basics.{Result, ok, refused}
 use Rattle.definitions.specs.Program.{lineBytes}
-use Rattle.lines.specs.declared.hex.Digits.{Digits}
-use Rattle.lines.specs.declared.hex.Digits.the-variants.{Value, Other}
-use Rattle.lines.specs.declared.hex.Decoded.{Decoded}
-use Rattle.lines.specs.declared.hex.Decoded.the-variants.{Bytes, Bad}
+use Rattle.hexadecimal.specs.declared.hex.Digits.{Digits}
+use Rattle.hexadecimal.specs.declared.hex.Digits.the-variants.{Value, Other}
+use Rattle.hexadecimal.specs.declared.hex.Decoded.{Decoded}
+use Rattle.hexadecimal.specs.declared.hex.Decoded.the-variants.{Bytes, Bad}
 
 -- The value of a digit, if it is one.
 abbrev pub valueOf : Digits → Option ℕ

@@ -4,10 +4,10 @@ use native.Mathlib.Omega.{arith}
 use mathlib.Core.Path.{_≡_, sym, ap, _∙_}
 use mathlib.Core.Option.{some}
 use Rattle.definitions.specs.Program.{digitValue}
-use Rattle.lines.specs.Hex.{valueOf}
-use Rattle.lines.proofs.DigitLaws.{value-below, high-other, low-other, both-digits}
-use Rattle.lines.proofs.hex.digit_pair.Statement.{statement}
-use Rattle.lines.proofs.hex.digit_pair.Tie as tie
+use Rattle.hexadecimal.specs.Hex.{valueOf}
+use Rattle.hexadecimal.proofs.DigitLaws.{value-below, high-other, low-other, both-digits}
+use Rattle.hexadecimal.proofs.hex.digit_pair.Statement.{statement}
+use Rattle.hexadecimal.proofs.hex.digit_pair.Tie as tie
 
 -- The first character's value, and the second's.
 high : (c : tie.After-known-told) → some (c .before .h .given .0 .0) ≡ digitValue (c .before .before .before .before .args .high)

@@ -5,11 +5,11 @@ ghost use mathlib.Core.Option.{some};
 ghost use Prim.Native.Nat.{_+_, _*_, _≤_, _<_};
 ghost use lib.ListN.{length};
 ghost use Rattle.definitions.specs.Program as program;
-ghost use Rattle.lines.specs.Hex.{valueOf, bytesOf, DecodedIs};
+ghost use Rattle.hexadecimal.specs.Hex.{valueOf, bytesOf, DecodedIs};
 ghost use Rattle.plan_writer.specs.Written.{WroteAt};
 
 // What one or two characters stand for.
-pub enum Digits {
+enum Digits {
     Value(u8),
     Other,
 }
@@ -21,7 +21,7 @@ pub enum Decoded {
 }
 
 // The value of a digit 0-9 or a-f.
-pub fn digit_value(c: u8) -> Digits
+fn digit_value(c: u8) -> Digits
     ensures { λ r. ⌜ valueOf r ≡ program.digitValue c ⌝ }
 {
     match c {
@@ -32,7 +32,7 @@ pub fn digit_value(c: u8) -> Digits
 }
 
 // The byte of two digits.
-pub fn digit_pair(high: u8, low: u8) -> Digits
+fn digit_pair(high: u8, low: u8) -> Digits
     ensures { λ r. ⌜ bytesOf r ≡ program.pairBytes (program.digitValue high) (program.digitValue low) (some []) ⌝ }
 {
     match digit_value(high) {
@@ -72,7 +72,7 @@ pub fn decode(out: &mut [u8], line: &[u8]) -> Decoded
 }
 
 // The digit of a value below 16.
-pub fn digit(value: u8) -> u8
+fn digit(value: u8) -> u8
     requires { ⌜ value < 16 ⌝ }
     ensures { λ r. ⌜ r ≡ program.digit value ⌝ }
 {
@@ -80,7 +80,7 @@ pub fn digit(value: u8) -> u8
 }
 
 // The digits of bytes go to `out` from a place on; gives where they end.
-pub fn encode(out: &mut [u8], at: usize, bytes: &[u8]) -> usize
+pub(crate) fn encode(out: &mut [u8], at: usize, bytes: &[u8]) -> usize
     requires { ⌜ at + 2 * length (now bytes) ≤ length (now out) ⌝ }
     ensures { λ r. ⌜ WroteAt at (program.digits (now (bytes .entry))) (now (out .entry)) (now (out .exit)) r ⌝ }
 {

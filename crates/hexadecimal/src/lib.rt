@@ -1,0 +1,3 @@
+// Hexadecimal: bytes from the digits of a line, and lines out.
+pub mod hex;
+pub mod writing;
