@@ -7,5 +7,3 @@ pub mod Walks
 pub mod Recorded
 pub mod Standing
 pub mod Wholes
-pub mod Predicated
-pub mod Extractions

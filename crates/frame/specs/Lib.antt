@@ -4,5 +4,3 @@ pub mod Fields
 pub mod Nodes
 pub mod Places
 pub mod Frames
-pub mod Predicates
-pub mod Plans

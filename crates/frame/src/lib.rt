@@ -3,8 +3,6 @@
 pub mod fields;
 pub mod heads;
 pub mod literals;
-pub mod plans;
-pub mod predicates;
 pub mod records;
 pub mod refusals;
 pub mod walk;

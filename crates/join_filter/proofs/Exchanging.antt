@@ -15,9 +15,9 @@ use Rattle.definitions.specs.Exchange.{exchangePlan}
 use Rattle.definitions.specs.Calls.{finish, heldPlan, exchangeBytes, exchange}
 use Rattle.definitions.specs.Limits.{AllBytes}
 use Rattle.frame.specs.Frames.{FrameAt}
-use Rattle.frame.specs.Plans.{ExtractionAt}
+use Rattle.plan_reader.specs.Plans.{ExtractionAt}
 use Rattle.frame.specs.declared.whole.Frame as places
-use Rattle.frame.specs.declared.plans.Extraction.{Extraction as Places}
+use Rattle.plan_reader.specs.declared.plans.Extraction.{Extraction as Places}
 use Rattle.plan_exchange.specs.Held.{ExtractionHeld}
 use Rattle.plan_exchange.specs.Exchanged.{HeldPlan, PlanIs}
 use Rattle.join_filter.proofs.Keeping.{plan-length, held-is, plan-size, kept, kept-over}

@@ -7,10 +7,10 @@ use lib.ListN.{length}
 use Rattle.definitions.specs.Basics.{Result, ok, refused}
 use Rattle.definitions.specs.Expression as tree
 use Rattle.frame.specs.Frames.{FrameAt}
-use Rattle.frame.specs.Plans.{RemainderAt, ExtractionAt}
-use Rattle.frame.specs.declared.plans.Remainder.{Remainder}
-use Rattle.frame.specs.declared.plans.Held.{Held}
-use Rattle.frame.specs.declared.plans.Held.the-variants as held
+use Rattle.plan_reader.specs.Plans.{RemainderAt, ExtractionAt}
+use Rattle.plan_reader.specs.declared.plans.Remainder.{Remainder}
+use Rattle.plan_reader.specs.declared.plans.Held.{Held}
+use Rattle.plan_reader.specs.declared.plans.Held.the-variants as held
 
 -- Some remainder stands there; what is claimed of each that does.
 abbrev pub Remains : List ℕ → Remainder → Type 0

@@ -1,10 +1,10 @@
 // The call exchange.
 use crate::answers::Answer;
 use crate::held::good_plan;
-use frame::plans::Held;
 use frame::refusals::Refusal;
 use plan_exchange::plans::exchange_extraction;
 use plan_exchange::plans::exchange_frame;
+use plan_reader::plans::Held;
 use plan_writer::copies::copy_bytes;
 ghost use Rattle.definitions.specs.Calls as definitions;
 ghost use Rattle.join_filter.specs.Outcomes.{OutcomeIs};

@@ -2,9 +2,9 @@
 use crate::answers::Answer;
 use crate::extraction::put_extraction;
 use crate::held::good_plan;
-use frame::plans::Held;
 use frame::refusals::Refusal;
 use frame::whole::Frame;
+use plan_reader::plans::Held;
 use plan_writer::copies::copy_bytes;
 use spatial_expr_utils::pick::Picked;
 use spatial_expr_utils::pick::extract_spatial_predicate;

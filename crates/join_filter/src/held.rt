@@ -1,12 +1,12 @@
 // What a plan's bytes hold, the arity of AND-leaves included.
-use frame::plans::Held;
-use frame::plans::Remainder;
-use frame::plans::held_plan;
+use plan_reader::plans::Held;
+use plan_reader::plans::Remainder;
+use plan_reader::plans::held_plan;
 use sedona_query_planner::arity::Arity;
 use sedona_query_planner::arity::check_arity;
 ghost use mathlib.Core.Path.{_≡_};
 ghost use Rattle.definitions.specs.Plans as plans;
-ghost use Rattle.frame.specs.Plans.{remainderArity};
+ghost use Rattle.plan_reader.specs.Plans.{remainderArity};
 ghost use Rattle.join_filter.specs.Good.{Remains, OfRemainder, GoodIs};
 
 // Whether the AND-leaves of a frame, or of no frame, have the arguments that they need.

@@ -10,10 +10,10 @@ use Rattle.definitions.specs.Encode.{exprBytes, frameBytes, remainderBytes, ext
 use Rattle.definitions.specs.Exchange.{exchangeRecord, exchangeFrame, exchangeExtraction}
 use Rattle.frame.specs.Places.{Between}
 use Rattle.frame.specs.Frames.{FrameAt}
-use Rattle.frame.specs.Plans.{RemainderAt}
+use Rattle.plan_reader.specs.Plans.{RemainderAt}
 use Rattle.frame.specs.declared.whole.Frame.{Frame}
-use Rattle.frame.specs.declared.plans.Remainder.the-variants as remainder
-use Rattle.frame.specs.declared.plans.Extraction.{Extraction}
+use Rattle.plan_reader.specs.declared.plans.Remainder.the-variants as remainder
+use Rattle.plan_reader.specs.declared.plans.Extraction.{Extraction}
 use Rattle.plan_exchange.specs.Writing.{Both, joined, same}
 use Rattle.plan_exchange.specs.Held.{RecordsAt, PredicateHeld, predicateBytes, ExtractionHeld}
 use Rattle.plan_exchange.specs.Exchanged.{recordsExchanged, frameExchanged, remainderExchanged, predicateExchanged, extractionExchanged}

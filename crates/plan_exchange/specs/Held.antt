@@ -9,10 +9,10 @@ use Rattle.definitions.specs.Encode.{recordsBytes, predicateKind, predicateFiel
 use Rattle.definitions.specs.Limits.{ReadablePredicate}
 use Rattle.expression.specs.Places.{Holds}
 use Rattle.frame.specs.Places.{Between}
-use Rattle.frame.specs.Predicates.{PredicateAt}
-use Rattle.frame.specs.Plans.{ExtractionAt}
-use Rattle.frame.specs.declared.predicates.Predicate.{Predicate}
-use Rattle.frame.specs.declared.plans.Extraction.{Extraction}
+use Rattle.plan_reader.specs.Predicates.{PredicateAt}
+use Rattle.plan_reader.specs.Plans.{ExtractionAt}
+use Rattle.plan_reader.specs.declared.predicates.Predicate.{Predicate}
+use Rattle.plan_reader.specs.declared.plans.Extraction.{Extraction}
 use Rattle.plan_exchange.specs.declared.copies.Span.{Span}
 
 -- The bytes x stand in the span.

@@ -2,8 +2,8 @@
 use crate::copies::Span;
 use crate::copies::copy_at;
 use crate::numbers::negate_number;
-use frame::plans::Remainder;
 use frame::whole::Frame;
+use plan_reader::plans::Remainder;
 use plan_writer::copies::copy_bytes;
 use plan_writer::numbers::put_number;
 ghost use mathlib.Core.List.{_∷_};
@@ -11,7 +11,7 @@ ghost use Prim.Native.Nat.{_≤_};
 ghost use lib.ListN.{length};
 ghost use Rattle.definitions.specs.Basics.{bigEndian};
 ghost use Rattle.frame.specs.Frames.{FrameAt};
-ghost use Rattle.frame.specs.Plans.{RemainderAt};
+ghost use Rattle.plan_reader.specs.Plans.{RemainderAt};
 ghost use Rattle.plan_writer.specs.Written.{WroteAt};
 ghost use Rattle.plan_exchange.specs.Writing.{Room, Puts, PutsAt};
 ghost use Rattle.plan_exchange.specs.Held.{RecordsAt};

@@ -1,12 +1,12 @@
 // The numbers of sides and relation types, and what an exchange makes of them.
-use frame::predicates::Relation;
 use frame::records::Side;
+use plan_reader::predicates::Relation;
 ghost use mathlib.Core.Path.{_≡_};
 ghost use Rattle.definitions.specs.Encode.{sideNumber, relationNumber};
 ghost use Rattle.definitions.specs.Match.{invert};
 ghost use Rattle.definitions.specs.Exchange.{negate};
 ghost use Rattle.frame.specs.Fields.{sideOf};
-ghost use Rattle.frame.specs.Predicates.{relationOf};
+ghost use Rattle.plan_reader.specs.Predicates.{relationOf};
 ghost use Rattle.plan_exchange.specs.Exchanged.{Renumbered};
 
 // 0 left, 1 right, 2 none.

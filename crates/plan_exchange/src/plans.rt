@@ -2,8 +2,8 @@
 use crate::frames::put_frame_exchanged;
 use crate::frames::put_remainder_exchanged;
 use crate::predicates::swap_for_swapped_children;
-use frame::plans::Extraction;
 use frame::whole::Frame;
+use plan_reader::plans::Extraction;
 ghost use Rattle.definitions.specs.Expression.{held, extracted};
 ghost use Rattle.frame.specs.Frames.{FrameAt};
 ghost use Rattle.plan_exchange.specs.Writing.{Room, Puts};

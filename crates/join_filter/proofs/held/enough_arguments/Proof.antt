@@ -1,7 +1,7 @@
 -- No frame lacks nothing; a frame's arity is what the walk over its AND-leaves found.
 use borrow.Author.Needs.{needs}
 use mathlib.Core.Path.{sym, ap, _∙_}
-use Rattle.frame.specs.Plans.{remainderArity}
+use Rattle.plan_reader.specs.Plans.{remainderArity}
 use Rattle.join_filter.proofs.held.enough_arguments.Statement.{statement}
 use Rattle.join_filter.proofs.held.enough_arguments.Tie as tie
 use Rattle.join_filter.proofs.Standing.{expr-stands, frame-tree}

@@ -3,7 +3,7 @@ use native.Mathlib.Omega.{arith}
 use borrow.Author.Needs.{needs}
 use mathlib.Core.Path.{_∙_}
 use lib.ListN.{length-set}
-use Rattle.frame.specs.Predicates.{relationOf}
+use Rattle.plan_reader.specs.Predicates.{relationOf}
 use Rattle.plan_exchange.proofs.Sequence.{stored-room, stored-put}
 use Rattle.plan_exchange.proofs.Views.{relation-view, relation-fits}
 use Rattle.plan_exchange.proofs.predicates.swap_relation.Statement.{statement}

@@ -1,0 +1,96 @@
+-- What the answers about predicates say: where their arguments stand.
+use Prim.Native.Nat.{ℕ, _≤_}
+use mathlib.Core.Path.{_≡_}
+use mathlib.Core.List.{List}
+use lib.ListN.{length, drop}
+use Rattle.definitions.specs.Expression as tree
+use Rattle.definitions.specs.Expression.{Expr}
+use Rattle.definitions.specs.Readers.{read, stopped, Reader, _>>=_, give, byteUpTo}
+use Rattle.definitions.specs.Decode.{indexBelow, sideUpTo, argument}
+use Rattle.frame.specs.Refusals.{numberOf}
+use Rattle.frame.specs.Fields.{sideOf}
+use Rattle.frame.specs.Places.{ExprAt}
+use Rattle.plan_reader.specs.declared.predicates.Relation.{Relation}
+use Rattle.plan_reader.specs.declared.predicates.Relation.the-variants.{Intersects, Contains, Within, Covers, CoveredBy, Touches, Crosses, Overlaps, Equals}
+use Rattle.plan_reader.specs.declared.predicates.Predicate.{Predicate}
+use Rattle.plan_reader.specs.declared.predicates.Predicate.the-variants as predicate
+use Rattle.plan_reader.specs.declared.predicates.Predicated.{Predicated}
+use Rattle.plan_reader.specs.declared.predicates.Predicated.the-variants as predicated
+use Rattle.plan_reader.specs.declared.predicates.Pair.{Pair}
+use Rattle.plan_reader.specs.declared.predicates.Pair.the-variants as pair
+use Rattle.plan_reader.specs.declared.predicates.Flagged.{Flagged}
+use Rattle.plan_reader.specs.declared.predicates.Flagged.the-variants as flagged
+
+abbrev pub relationOf : Relation → tree.Relation
+relationOf Intersects = tree.intersects
+relationOf Contains = tree.contains
+relationOf Within = tree.within
+relationOf Covers = tree.covers
+relationOf CoveredBy = tree.coveredBy
+relationOf Touches = tree.touches
+relationOf Crosses = tree.crosses
+relationOf Overlaps = tree.overlaps
+relationOf Equals = tree.equals
+
+-- An argument stands from `at` up to `end`.
+abbrev pub ArgumentAt : List ℕ → (at end : ℕ) → Expr → Type 0
+ArgumentAt s at end e = ExprAt (indexBelow 65536) s at end e
+
+-- ---- two arguments
+
+-- Left and right, and what comes after them.
+abbrev pub thenBoth : (Expr → Expr → Reader tree.Predicate) → Reader tree.Predicate
+thenBoth next = do
+  l ← argument
+  r ← argument
+  next l r
+
+-- Two arguments were read.
+abbrev pub PairIs : List ℕ → (at : ℕ) → Pair → Type 0
+PairIs s at (pair.Read right end count) =
+    (l r : Expr) × ArgumentAt s at right l × ArgumentAt s right end r
+    × ((next : Expr → Expr → Reader tree.Predicate) → thenBoth next 0 (drop at s) ≡ next l r count (drop end s))
+PairIs s at (pair.Refused why) = (next : Expr → Expr → Reader tree.Predicate) → thenBoth next 0 (drop at s) ≡ stopped (numberOf why)
+
+-- ---- the flags of KNN
+
+-- Spheroid, probe side and ties, and what comes after them.
+abbrev pub thenFlags : ((spheroid : ℕ) → tree.Side → (ties : ℕ) → Reader tree.Predicate) → Reader tree.Predicate
+thenFlags next = do
+  spheroid ← byteUpTo 1
+  probe ← sideUpTo 1
+  ties ← byteUpTo 2
+  next spheroid probe ties
+
+-- Flags were read.
+abbrev pub FlagsIs : List ℕ → (at : ℕ) → Flagged → Type 0
+FlagsIs s at (flagged.Read f end) =
+    (end ≤ length s)
+    × ((next : ℕ → tree.Side → ℕ → Reader tree.Predicate) (n : ℕ)
+    → thenFlags next n (drop at s) ≡ next (f .spheroid) (sideOf (f .probe)) (f .ties) n (drop end s))
+FlagsIs s at (flagged.Refused why) =
+    (next : ℕ → tree.Side → ℕ → Reader tree.Predicate) (n : ℕ) → thenFlags next n (drop at s) ≡ stopped (numberOf why)
+
+-- ---- predicates
+
+-- What follows the form and the side of a distance.
+abbrev pub distanceArguments : (form : ℕ) → tree.Side → Reader tree.Predicate
+distanceArguments form side = thenBoth (λ l r. argument >>= λ bound. give (tree.distance form side l r bound))
+
+-- The predicate P stands in s: each argument from its place up to the next.
+abbrev pub PredicateAt : List ℕ → Predicate → tree.Predicate → Type 0
+PredicateAt s (predicate.Relation p) P =
+    (l r : Expr) × (P ≡ tree.relation (relationOf (p .relation)) l r)
+    × ArgumentAt s (p .left) (p .right) l × ArgumentAt s (p .right) (p .end) r
+PredicateAt s (predicate.Distance p) P =
+    (l r bound : Expr) × (P ≡ tree.distance (p .form) (sideOf (p .side)) l r bound)
+    × ArgumentAt s (p .left) (p .right) l × ArgumentAt s (p .right) (p .distance) r × ArgumentAt s (p .distance) (p .end) bound
+PredicateAt s (predicate.Knn p) P =
+    (l r : Expr) × (P ≡ tree.knn (p .k) (p .flags .spheroid) (sideOf (p .flags .probe)) (p .flags .ties) l r)
+    × ArgumentAt s (p .left) (p .right) l × ArgumentAt s (p .right) (p .end) r
+
+-- A predicate was read.
+abbrev pub PredicateIs : List ℕ → (at : ℕ) → Predicated → Reader tree.Predicate → Type 0
+PredicateIs s at (predicated.Read p next count) reader =
+    (next ≤ length s) × (P : tree.Predicate) × PredicateAt s p P × (reader 0 (drop at s) ≡ read P count (drop next s))
+PredicateIs s at (predicated.Refused why) reader = reader 0 (drop at s) ≡ stopped (numberOf why)
