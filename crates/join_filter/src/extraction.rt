@@ -5,35 +5,17 @@ use plan_writer::predicates::put_distance;
 use plan_writer::predicates::put_knn;
 use plan_writer::predicates::put_relation;
 use plan_writer::remainder::put_remainder;
-use sedona_query_planner::spatial_predicate::SpatialRelationType;
+use sedona_query_planner::spatial_predicate::relation_number;
 use spatial_expr_utils::pick::Pick;
 use spatial_expr_utils::predicates::KNNPredicate;
 use spatial_expr_utils::predicates::SpatialPredicate;
 use spatial_expr_utils::predicates::TieBreakers;
 use spatial_expr_utils::sides::side_number;
 ghost use mathlib.Core.Path.{_≡_};
-ghost use Rattle.definitions.specs.Encode.{relationNumber};
-ghost use Rattle.sedona_query_planner.specs.Relations.{relationOf};
 ghost use Rattle.spatial_expr_utils.specs.Literals.{flag};
 ghost use Rattle.spatial_expr_utils.specs.KnnOptions.{tiesNumber};
 ghost use Rattle.plan_writer.specs.Predicates.{PredicateFits, PredicatePut};
 ghost use Rattle.join_filter.specs.Extractions.{PredicateOf, CutOf, ExtractionFits, ExtractionPut};
-
-fn relation_number(relation: SpatialRelationType) -> u8
-    ensures { λ r. ⌜ r ≡ relationNumber (relationOf relation) ⌝ }
-{
-    match relation {
-        SpatialRelationType::Intersects => 0,
-        SpatialRelationType::Contains => 1,
-        SpatialRelationType::Within => 2,
-        SpatialRelationType::Covers => 3,
-        SpatialRelationType::CoveredBy => 4,
-        SpatialRelationType::Touches => 5,
-        SpatialRelationType::Crosses => 6,
-        SpatialRelationType::Overlaps => 7,
-        SpatialRelationType::Equals => 8,
-    }
-}
 
 fn flag_number(value: bool) -> u8
     ensures { λ r. ⌜ r ≡ flag value ⌝ }

@@ -1,12 +1,11 @@
--- The arms of `negate_number` and `invert_number` as functions of the number.
+-- The arms of `negate_number` as a function of the number.
 use Prim.Native.Nat.{ℕ}
 use mathlib.Core.Path.{_≡_, refl, ap, _∙_}
 use lib.Dec.{eqb}
 use borrow.Author.Tests.{ne-eqb}
 use Rattle.definitions.specs.Basics.{if_then_else_}
-use Rattle.definitions.specs.Expression.{Side, left, right, noSide, Relation, intersects, contains, within, covers, coveredBy, touches, crosses, overlaps, equals}
-use Rattle.definitions.specs.Encode.{sideNumber, relationNumber}
-use Rattle.definitions.specs.Match.{invert}
+use Rattle.definitions.specs.Expression.{Side, left, right, noSide}
+use Rattle.definitions.specs.Encode.{sideNumber}
 use Rattle.definitions.specs.Exchange.{negate}
 use Rattle.plan_exchange.specs.Exchanged.{Renumbered}
 
@@ -30,25 +29,3 @@ negate-arm arm = by-arm sideNumber negate negateOf negate-is arm
 pub negate-rest : (number : ℕ) → (number ≡ 0 → ⊥) → (number ≡ 1 → ⊥) → number ≡ negateOf number
 unfolding negateOf
 negate-rest number a b = rw (ne-eqb number 0 a, ne-eqb number 1 b)
-
-unfoldable pub invertOf : ℕ → ℕ
-invertOf n = if eqb n 1 then 2 else if eqb n 2 then 1 else if eqb n 3 then 4 else if eqb n 4 then 3 else n
-
-invert-is : (type : Relation) → invertOf (relationNumber type) ≡ relationNumber (invert type)
-unfolding invertOf relationNumber invert
-invert-is intersects = refl
-invert-is contains = refl
-invert-is within = refl
-invert-is covers = refl
-invert-is coveredBy = refl
-invert-is touches = refl
-invert-is crosses = refl
-invert-is overlaps = refl
-invert-is equals = refl
-
-pub invert-arm : {number answer : ℕ} → answer ≡ invertOf number → Renumbered relationNumber invert number answer
-invert-arm arm = by-arm relationNumber invert invertOf invert-is arm
-
-pub invert-rest : (number : ℕ) → (number ≡ 1 → ⊥) → (number ≡ 2 → ⊥) → (number ≡ 3 → ⊥) → (number ≡ 4 → ⊥) → number ≡ invertOf number
-unfolding invertOf
-invert-rest number a b c d = rw (ne-eqb number 1 a, ne-eqb number 2 b, ne-eqb number 3 c, ne-eqb number 4 d)

@@ -12,11 +12,11 @@ use Rattle.definitions.specs.Match.{invert}
 use Rattle.definitions.specs.Exchange.{negate, exchangePredicate}
 use Rattle.frame.specs.Fields.{sideOf}
 use Rattle.frame.specs.Places.{Between}
-use Rattle.plan_reader.specs.Predicates.{relationOf}
 use Rattle.plan_reader.specs.declared.predicates.RelationAt.{RelationAt}
 use Rattle.plan_reader.specs.declared.predicates.DistanceAt.{DistanceAt}
 use Rattle.plan_reader.specs.declared.predicates.KnnAt.{KnnAt}
 use Rattle.plan_reader.specs.declared.predicates.Predicate.the-variants as predicate
+use Rattle.sedona_query_planner.specs.Relations.{relationOf}
 use Rattle.plan_writer.specs.Written.{WroteAt}
 use Rattle.plan_writer.proofs.Written.{chain}
 use Rattle.plan_exchange.specs.Writing.{Room, Both, joined, same}

@@ -2,15 +2,14 @@
 use crate::copies::Span;
 use crate::copies::copy_at;
 use crate::copies::copy_both;
-use crate::numbers::invert_number;
 use crate::numbers::negate_number;
-use crate::numbers::relation_number;
 use crate::numbers::side_number;
 use plan_reader::predicates::DistanceAt;
 use plan_reader::predicates::KnnAt;
 use plan_reader::predicates::Predicate;
 use plan_reader::predicates::RelationAt;
 use plan_writer::numbers::put_number;
+use sedona_query_planner::spatial_predicate::relation_number;
 ghost use Prim.Native.Nat.{_≤_};
 ghost use lib.ListN.{length};
 ghost use Rattle.plan_writer.specs.Written.{WroteAt};
@@ -24,12 +23,12 @@ fn swap_relation(out: &mut [u8], src: &[u8], p: RelationAt) -> usize
     ensures { λ r. ⌜ Puts (PredicateHeld (now (src .entry)) (Predicate.Relation p)) predicateExchanged (now (out .entry)) (now (out .exit)) r ⌝ }
 {
     let relation = p.relation;
-    let number = relation_number(relation);
-    let inverse = invert_number(number);
+    let inverse = relation.invert();
+    let number = relation_number(inverse);
     let left = Span(p.left, p.right);
     let right = Span(p.right, p.end);
     out[0] = 0x11;
-    out[1] = inverse;
+    out[1] = number;
     copy_both(out, 2, src, right, left)
 }
 

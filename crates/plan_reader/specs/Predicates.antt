@@ -10,8 +10,7 @@ use Rattle.definitions.specs.Decode.{indexBelow, sideUpTo, argument}
 use Rattle.frame.specs.Refusals.{numberOf}
 use Rattle.frame.specs.Fields.{sideOf}
 use Rattle.frame.specs.Places.{ExprAt}
-use Rattle.plan_reader.specs.declared.predicates.Relation.{Relation}
-use Rattle.plan_reader.specs.declared.predicates.Relation.the-variants.{Intersects, Contains, Within, Covers, CoveredBy, Touches, Crosses, Overlaps, Equals}
+use Rattle.sedona_query_planner.specs.Relations.{relationOf}
 use Rattle.plan_reader.specs.declared.predicates.Predicate.{Predicate}
 use Rattle.plan_reader.specs.declared.predicates.Predicate.the-variants as predicate
 use Rattle.plan_reader.specs.declared.predicates.Predicated.{Predicated}
@@ -20,17 +19,6 @@ use Rattle.plan_reader.specs.declared.predicates.Pair.{Pair}
 use Rattle.plan_reader.specs.declared.predicates.Pair.the-variants as pair
 use Rattle.plan_reader.specs.declared.predicates.Flagged.{Flagged}
 use Rattle.plan_reader.specs.declared.predicates.Flagged.the-variants as flagged
-
-abbrev pub relationOf : Relation → tree.Relation
-relationOf Intersects = tree.intersects
-relationOf Contains = tree.contains
-relationOf Within = tree.within
-relationOf Covers = tree.covers
-relationOf CoveredBy = tree.coveredBy
-relationOf Touches = tree.touches
-relationOf Crosses = tree.crosses
-relationOf Overlaps = tree.overlaps
-relationOf Equals = tree.equals
 
 -- An argument stands from `at` up to `end`.
 abbrev pub ArgumentAt : List ℕ → (at end : ℕ) → Expr → Type 0

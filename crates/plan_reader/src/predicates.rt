@@ -9,30 +9,19 @@ use frame::records::side_up_to;
 use frame::refusals::Refusal;
 use frame::walk::Walked;
 use frame::walk::expression;
+use sedona_query_planner::spatial_predicate::SpatialRelationType;
 ghost use mathlib.Core.Path.{_≡_};
 ghost use Prim.Native.Nat.{_≤_};
 ghost use lib.ListN.{length};
 ghost use Rattle.definitions.specs.Decode as decode;
 ghost use Rattle.frame.specs.Fields.{sideOf};
 ghost use Rattle.frame.specs.Places.{ExpressionIs};
-ghost use Rattle.plan_reader.specs.Predicates.{PairIs, FlagsIs, PredicateIs, relationOf, distanceArguments};
-
-// The nine spatial relations, in the order of their numbers.
-pub enum Relation {
-    Intersects,
-    Contains,
-    Within,
-    Covers,
-    CoveredBy,
-    Touches,
-    Crosses,
-    Overlaps,
-    Equals,
-}
+ghost use Rattle.sedona_query_planner.specs.Relations.{relationOf};
+ghost use Rattle.plan_reader.specs.Predicates.{PairIs, FlagsIs, PredicateIs, distanceArguments};
 
 // A relation: where its left and right start, and where the right ends.
 pub struct RelationAt {
-    pub relation: Relation,
+    pub relation: SpatialRelationType,
     pub left: usize,
     pub right: usize,
     pub end: usize,
@@ -89,19 +78,19 @@ pub enum Flagged {
 }
 
 // The relation of a number, 0 to 8.
-fn relation_numbered(number: u64) -> Relation
+fn relation_numbered(number: u64) -> SpatialRelationType
     ensures { λ r. ⌜ relationOf r ≡ decode.relationNumbered number ⌝ }
 {
     match number {
-        0 => Relation::Intersects,
-        1 => Relation::Contains,
-        2 => Relation::Within,
-        3 => Relation::Covers,
-        4 => Relation::CoveredBy,
-        5 => Relation::Touches,
-        6 => Relation::Crosses,
-        7 => Relation::Overlaps,
-        _ => Relation::Equals,
+        0 => SpatialRelationType::Intersects,
+        1 => SpatialRelationType::Contains,
+        2 => SpatialRelationType::Within,
+        3 => SpatialRelationType::Covers,
+        4 => SpatialRelationType::CoveredBy,
+        5 => SpatialRelationType::Touches,
+        6 => SpatialRelationType::Crosses,
+        7 => SpatialRelationType::Overlaps,
+        _ => SpatialRelationType::Equals,
     }
 }
 

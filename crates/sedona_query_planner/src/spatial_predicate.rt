@@ -2,6 +2,7 @@
 ghost use mathlib.Core.Path.{_≡_};
 ghost use Prim.Native.Nat.{_≤_};
 ghost use lib.ListN.{length};
+ghost use Rattle.definitions.specs.Encode.{relationNumber};
 ghost use Rattle.definitions.specs.Leaves.{relationNamed};
 ghost use Rattle.definitions.specs.Match as definitions;
 ghost use Rattle.expression.specs.Places.{part};
@@ -65,5 +66,22 @@ impl SpatialRelationType {
             SpatialRelationType::Overlaps => SpatialRelationType::Overlaps,
             SpatialRelationType::Equals => SpatialRelationType::Equals,
         }
+    }
+}
+
+// Document 01's number of a relation type.
+pub fn relation_number(relation: SpatialRelationType) -> u8
+    ensures { λ r. ⌜ r ≡ relationNumber (relationOf relation) ⌝ }
+{
+    match relation {
+        SpatialRelationType::Intersects => 0,
+        SpatialRelationType::Contains => 1,
+        SpatialRelationType::Within => 2,
+        SpatialRelationType::Covers => 3,
+        SpatialRelationType::CoveredBy => 4,
+        SpatialRelationType::Touches => 5,
+        SpatialRelationType::Crosses => 6,
+        SpatialRelationType::Overlaps => 7,
+        SpatialRelationType::Equals => 8,
     }
 }

@@ -1,8 +1,8 @@
 -- `relation_number`: each relation has its number.
 use borrow.Author.Needs.{needs}
 use Rattle.definitions.specs.Encode.{relationNumber}
-use Rattle.plan_exchange.proofs.numbers.relation_number.Statement.{statement}
-use Rattle.plan_exchange.proofs.numbers.relation_number.Tie as tie
+use Rattle.sedona_query_planner.proofs.spatial_predicate.relation_number.Statement.{statement}
+use Rattle.sedona_query_planner.proofs.spatial_predicate.relation_number.Tie as tie
 
 pub relation-number-spec : {M : Type 1} → statement M
 unfolding relationNumber
