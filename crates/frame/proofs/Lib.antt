@@ -1,6 +1,7 @@
 pub mod Reading
 pub mod Numbers
 pub mod Repeats
+pub mod NameBytes
 pub mod Signed
 pub mod Children
 pub mod Walks

@@ -1,8 +1,11 @@
 -- What the answers about fields, sides and records say of the definitions' readers, at a place of the bytes.
 use Prim.Native.Nat.{ℕ, _≤_}
 use mathlib.Core.Path.{_≡_}
+use mathlib.Core.Bool.{Bool, _&&_}
 use mathlib.Core.List.{List}
 use lib.ListN.{length, drop}
+use lib.Dec.{leb}
+use Rattle.definitions.specs.Basics.{all}
 use Rattle.definitions.specs.Readers.{read, stopped, Reader, _>>_, byteUpTo, number}
 use Rattle.definitions.specs.Expression as tree
 use Rattle.frame.specs.Refusals.{numberOf}
@@ -46,6 +49,10 @@ abbrev pub TwoIs : List ℕ → (at : ℕ) → Two → (first second : Reader �
 TwoIs s at (two.Values a b next) first second =
     (next ≤ length s) × (middle : ℕ) × ReadsAt s at middle a first × ReadsAt s middle next b second
 TwoIs s at (two.Refused why) first second = StopsAt s at (numberOf why) (first >> second)
+
+-- Whether each byte is one that a name may have.
+unfoldable pub nameLike : List ℕ → Bool
+nameLike s = all (λ b. leb 33 b && leb b 126) s
 
 -- Something without nodes was passed.
 abbrev pub SkippedIs : {A : Type 0} → List ℕ → (at : ℕ) → Skipped → Reader A → Type 0

@@ -1,10 +1,10 @@
 // Fields: a byte, a number of some width, a byte in a range.
 use crate::refusals::Refusal;
 ghost use mathlib.Core.Path.{_≡_};
-ghost use Prim.Native.Nat.{_≤_, _<_};
-ghost use lib.ListN.{length};
+ghost use Prim.Native.Nat.{_+_, _≤_, _<_};
+ghost use lib.ListN.{length, take, drop};
 ghost use Rattle.definitions.specs.Readers as readers;
-ghost use Rattle.frame.specs.Fields.{FieldIs, TwoIs, SkippedIs, readerOf, Narrow};
+ghost use Rattle.frame.specs.Fields.{FieldIs, TwoIs, SkippedIs, readerOf, Narrow, nameLike};
 
 // A field's value and the place after it.
 pub enum Field {
@@ -126,23 +126,37 @@ pub fn byte_between(s: &[u8], at: usize, least: u64, most: u64) -> Field
     }
 }
 
+// Whether each of n bytes is from 33 to 126. It looks at all of them, so that several are compared at once.
+fn name_like(s: &[u8], at: usize, n: usize) -> bool
+    requires { ⌜ at + n ≤ length (now s) ⌝ }
+    ensures { λ r. ⌜ r ≡ nameLike (take n (drop at (now (s .entry)))) ⌝ }
+{
+    let mut like = true;
+    let mut i: usize = 0;
+    while i < n {
+        let b = s[at + i];
+        like = like & (33 <= b) & (b <= 126);
+        i += 1;
+    }
+    like
+}
+
 // A name's bytes, each 33 to 126.
 pub fn name_bytes(s: &[u8], at: usize, size: u64) -> Skipped
     requires { ⌜ at ≤ length (now s) ⌝ }
     ensures { λ r. ⌜ SkippedIs (now (s .entry)) at r (readers.repeat size (readers.byteBetween 33 126)) ⌝ }
 {
-    let mut next = at;
-    let mut left = size;
-    while 0 < left {
-        match byte_between(s, next, 33, 126) {
-            Field::Refused(why) => {
-                return Skipped::Refused(why);
-            }
-            Field::Value(_, after) => {
-                next = after;
-                left -= 1;
-            }
+    let left = s.len() - at;
+    let size = size as usize;
+    if left < size {
+        if name_like(s, at, left) {
+            Skipped::Refused(Refusal::EndsInsideField)
+        } else {
+            Skipped::Refused(Refusal::OutOfRange)
         }
+    } else if name_like(s, at, size) {
+        Skipped::To(at + size)
+    } else {
+        Skipped::Refused(Refusal::OutOfRange)
     }
-    Skipped::To(next)
 }

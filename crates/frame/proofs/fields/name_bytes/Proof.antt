@@ -1,47 +1,42 @@
--- One byte and then the others: what is right for those left is right for all.
-use borrow.Author.Needs.{needs}
+-- `name_bytes`: all bytes that are there are looked at; one that no name has is refused before the end is.
 use native.Mathlib.Omega.{arith}
-use Prim.Native.Nat.{_≤_}
+use Prim.Native.Nat.{_-_}
+use mathlib.Core.Path.{sym, _∙_}
 use lib.ListN.{length}
-use Rattle.definitions.specs.Readers.{byteBetween}
-use Rattle.frame.proofs.Repeats.{Left, all-left, one-fewer, one-stops, none-left}
+use Rattle.frame.proofs.NameBytes.{name-passed, name-stops, name-ends}
 use Rattle.frame.proofs.fields.name_bytes.Statement.{statement}
 use Rattle.frame.proofs.fields.name_bytes.Tie as tie
 
-abbrev Inv-loop : tie.InvT-loop
-Inv-loop s at size next₀ left₀ next left = (next ≤ length s) × Left s at size (byteBetween 33 126) next left
+returns : tie.Need-returns
+returns c =
+    let a = c .before .before .before .before .args in
+    name-ends (a .s .now) (a .at) (a .size) (c .before .before .if1 .taken) (sym (c .before .name-like .ensures) ∙ c .if2 .taken)
 
-abbrev μ-loop : tie.MeasureT-loop
-μ-loop s at size next₀ left₀ next left = left
+returns-2 : tie.Need-returns-2
+returns-2 c =
+    let a = c .before .before .before .before .args in
+    name-stops (a .s .now) (a .at) (a .size) (length (a .s .now) - a .at) (omega (arith, c .before .before .if1 .taken)) (sym (c .before .name-like .ensures) ∙ c .if2 .left)
 
-loop-holds : tie.Need-loop-holds Inv-loop μ-loop
-loop-holds c = (c .before .pre, all-left _ _ _ _)
+returns-3 : tie.Need-returns-3
+returns-3 c =
+    let start = c .before .before .before .before in
+    let a = start .args in
+    name-passed (a .s .now) (a .at) (a .size) (omega (arith, c .before .before .if1 .left, start .pre)) (sym (c .before .name-like2 .ensures) ∙ c .if3 .taken)
 
-byte-between-requires : tie.Need-byte-between-requires Inv-loop μ-loop
-byte-between-requires c κs = c .before .loop .inv .0
-
-returns : tie.Need-returns Inv-loop μ-loop
-returns c = one-stops _ _ _ _ _ _ (c .before .before .before .before .before .loop .inv .1) (omega arith) (c .before .why .given .0 .0) (rw (c .before .why .given .1) at (c .before .before .before .byte-between .ensures))
-
-loop-again : tie.Need-loop-again Inv-loop μ-loop
-loop-again c = let f = rw (c .before .after .given .1) at (c .before .before .before .byte-between .ensures) in
-    (f .0, one-fewer _ _ _ _ _ _ (c .before .before .before .before .before .loop .inv .1) (omega arith) _ _ (f .1))
-
-returns-2 : tie.Need-returns-2 Inv-loop μ-loop
-returns-2 c = none-left _ _ _ _ _ _ (c .before .loop .inv .1) (omega arith) (c .before .loop .inv .0)
+returns-4 : tie.Need-returns-4
+returns-4 c =
+    let a = c .before .before .before .before .args in
+    name-stops (a .s .now) (a .at) (a .size) (a .size) (omega arith) (sym (c .before .name-like2 .ensures) ∙ c .if3 .left)
 
 pub name-bytes-spec : {M : Type 1} → statement M
 name-bytes-spec =
     tie.close
     (tie.spec
-    Inv-loop
-    μ-loop
-    loop-holds
-    byte-between-requires
-    (λ c. search needs)
+    (λ c. c .before .pre)
+    (λ c. omega (arith, c .before .before .pre))
+    (λ c. omega (arith, c .if1 .left, c .before .before .pre))
+    (λ c. omega (arith, c .before .before .if1 .left, c .before .before .before .before .pre))
     returns
-    (λ c. search needs)
-    (λ c. omega arith)
-    (λ c. omega arith)
-    loop-again
-    returns-2)
+    returns-2
+    returns-3
+    returns-4)
