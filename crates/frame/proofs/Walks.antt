@@ -11,8 +11,10 @@ use Rattle.definitions.specs.Basics.{if_then_else_}
 use Rattle.definitions.specs.Expression.{Expr, Exprs, nil, cons}
 use Rattle.definitions.specs.Readers.{read, stopped, Reader, continue, give}
 use Rattle.definitions.specs.Decode.{exprs, Columns, countNode, nodeKind, nodeOfKind, node}
+use Rattle.frame.specs.declared.refusals.Refusal.{Refusal}
 use Rattle.frame.specs.declared.walk.Walked.{Walked}
 use Rattle.frame.specs.declared.walk.Walked.the-variants.{To, Refused}
+use Rattle.frame.specs.Refusals.{numberOf}
 use Rattle.frame.specs.Nodes.{WalkedIs, Counted}
 use Rattle.definitions.proofs.ReaderLaws.{after}
 use Rattle.definitions.proofs.ReaderLaws.{halts}
@@ -84,6 +86,29 @@ module _ (s : List ℕ) (at count : ℕ) (child : Reader Expr) where
         let l : suc many - 1 ≡ many = omega arith in
         in-front many r (rw l at h)
 
-pub counted-nodes : (count total : ℕ) (r : Walked) → Counted count 1 (To 0 total) → Counted total 0 r → Counted count 0 r
-counted-nodes count total (To next all) g h = omega arith
-counted-nodes count total (Refused why) g h = tt
+-- What the loop over a row keeps: what is right for the nodes left is right for the whole row.
+pub record InRow (s : List ℕ) (at count many : ℕ) (child : Reader Expr) (next total left : ℕ) : Type 0 where
+  pub place : next ≤ length s
+  pub low : count ≤ total
+  pub high : total ≤ 1024
+  pub rest : (r : Walked) → WalkedIs s next total r (exprs left child) → WalkedIs s at count r (exprs many child)
+
+module _ (s : List ℕ) (at count many : ℕ) (child : Reader Expr) where
+  pub row-begins : at ≤ length s → count ≤ 1024 → InRow s at count many child at count many
+  row-begins w h = record { place = w; low = omega arith; high = h; rest = λ r walked. walked }
+
+  module _ (next total left : ℕ) (inv : InRow s at count many child next total left) where
+    pub row-goes-on : 0 < left → (after counted : ℕ) → WalkedIs s next total (To after counted) child → Counted total 1 (To after counted)
+        → InRow s at count many child after counted (left - 1)
+    row-goes-on some after counted one more = record {
+      place = one .0;
+      low = omega (arith, inv .low, more .0);
+      high = more .1;
+      rest = λ r walked. inv .rest r (others-walked s next total child after counted (one .1) (one .2) left (λ z. omega arith) r walked);
+    }
+
+    pub row-stops : 0 < left → (why : Refusal) → child total (drop next s) ≡ stopped (numberOf why) → WalkedIs s at count (Refused why) (exprs many child)
+    row-stops some why e = inv .rest (Refused why) (first-stops s next total child left (λ z. omega arith) (numberOf why) e)
+
+    pub row-ends : left ≤ 0 → WalkedIs s at count (To next total) (exprs many child)
+    row-ends none = inv .rest (To next total) (none-walked s next total child left (omega arith) (inv .place))

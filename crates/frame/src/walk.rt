@@ -33,15 +33,18 @@ pub fn node(s: &[u8], at: usize, levels: usize, count: usize, columns: Columns) 
                 return Walked::Refused(Refusal::TooManyOrTooDeep);
             }
             match head_of_kind(s, fields, kind, columns) {
-                Head::Refused(why) => Walked::Refused(why),
-                Head::Children(first, many) => nodes(
-                    s,
-                    first,
-                    levels - 1,
-                    count + 1,
-                    columns,
-                    many,
-                ),
+                Head::Refused(why) => {
+                    return Walked::Refused(why);
+                }
+                Head::Children(first, many) => {
+                    if many == 0 {
+                        return Walked::To {
+                            next: first,
+                            count: count + 1,
+                        };
+                    }
+                    return nodes(s, first, levels - 1, count + 1, columns, many);
+                }
             }
         }
     }
@@ -60,13 +63,25 @@ pub fn nodes(
     ensures read { λ r. ⌜ WalkedIs (now (s .entry)) at count r (decode.exprs many (decode.node (columnsOf columns) levels)) ⌝ }
     ensures counted { λ r. ⌜ Counted count 0 r ⌝ }
 {
-    if many == 0 {
-        return Walked::To { next: at, count };
+    let mut next = at;
+    let mut total = count;
+    let mut left = many;
+    while 0 < left {
+        match node(s, next, levels, total, columns) {
+            Walked::Refused(why) => {
+                return Walked::Refused(why);
+            }
+            Walked::To {
+                next: after,
+                count: counted,
+            } => {
+                next = after;
+                total = counted;
+                left -= 1;
+            }
+        }
     }
-    match node(s, at, levels, count, columns) {
-        Walked::Refused(why) => Walked::Refused(why),
-        Walked::To { next, count: total } => nodes(s, next, levels, total, columns, many - 1),
-    }
+    Walked::To { next, count: total }
 }
 
 // An expression of depth at most 64.
