@@ -1,12 +1,13 @@
 -- `answer_number`: each answer by itself.
 use borrow.Author.Needs.{needs}
+use native.Mathlib.Omega.{arith}
 use Rattle.definitions.specs.Hosts.{hosted}
 use Rattle.spatialjoin_c.proofs.Numbers.{given-back}
 use Rattle.spatialjoin_c.proofs.answers.answer_number.Statement.{statement}
 use Rattle.spatialjoin_c.proofs.answers.answer_number.Tie as tie
 
 length-number-requires : tie.Need-length-number-requires
-length-number-requires c κs = rw (c .before .answer .given .1) at (c .before .before .before .pre)
+length-number-requires c κs = omega (arith, rw (c .before .answer .given .1) at (c .before .before .before .pre))
 
 returns : tie.Need-returns
 unfolding hosted
