@@ -1,0 +1,49 @@
+/* A C host: the worked run, its answers printed as the program spatialjoin prints them. `hosts` builds and runs it. */
+#include <inttypes.h>
+#include <stdio.h>
+
+#include "spatialjoin.h"
+
+#define LONGEST 16384
+
+/* st_within(column 0, column 1) AND column 1; column 0 is column 3 of the right child, column 1 column 0 of the left. */
+static const uint8_t frame[] = {
+    0x01,                                                                /* a physical frame */
+    0x00, 0x02,                                                          /* two records: */
+    0x01, 0x00, 0x03, 0x00, 0x07,                                        /*   right, child index 3, field tag 7 */
+    0x00, 0x00, 0x00, 0x00, 0x08,                                        /*   left, child index 0, field tag 8 */
+    0x02, 0x00,                                                          /* And of */
+    0x03, 0x09, 's', 't', '_', 'w', 'i', 't', 'h', 'i', 'n', 0x02,       /*   st_within of two arguments: */
+    0x00, 0x00, 0x00, 0x00, 0x07,                                        /*     column 0, name tag 7 */
+    0x00, 0x00, 0x01, 0x00, 0x08,                                        /*     column 1, name tag 8 */
+    0x00, 0x00, 0x01, 0x00, 0x08,                                        /*   column 1, name tag 8 */
+};
+
+/* The host lends both buffers and keeps n, the length of the plan. */
+static uint8_t plan[LONGEST];
+static uint8_t scratch[LONGEST];
+static size_t n = 0;
+
+/* Keeps an accepted call's length as n and prints the plan; a refused call's number is printed alone. */
+static void take(int64_t answer)
+{
+    if (answer < 0) {
+        printf("%02" PRIx64 "\n", (uint64_t)-answer);
+        return;
+    }
+    n = (size_t)answer;
+    printf("00");
+    for (size_t i = 0; i < n; i++) {
+        printf("%02x", (unsigned)plan[i]);
+    }
+    printf("\n");
+}
+
+int main(void)
+{
+    take(spatialjoin_load(frame, sizeof frame, plan, sizeof plan));
+    take(spatialjoin_extract(plan, sizeof plan, n, scratch, sizeof scratch));
+    take(spatialjoin_exchange(plan, sizeof plan, n, scratch, sizeof scratch));
+    take(spatialjoin_extract(plan, sizeof plan, n, scratch, sizeof scratch));
+    return 0;
+}

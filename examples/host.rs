@@ -1,0 +1,64 @@
+//! A Rust host: the worked run, its answers printed as the program spatialjoin prints them. `hosts`
+//! builds and runs it.
+
+#[path = "../include/spatialjoin.rs"]
+mod spatialjoin;
+
+const LONGEST: usize = 16_384;
+
+/// `st_within(column 0, column 1) AND column 1`; column 0 is column 3 of the right child, column 1
+/// column 0 of the left. `host.c` has it byte by byte.
+const FRAME: &[u8] = b"\x01\0\x02\x01\0\x03\0\x07\0\0\0\0\x08\
+    \x02\0\x03\x09st_within\x02\0\0\0\0\x07\0\0\x01\0\x08\0\0\x01\0\x08";
+
+/// The host lends both buffers and keeps `n`, the length of the plan.
+struct Host {
+    plan: Vec<u8>,
+    scratch: Vec<u8>,
+    n: usize,
+}
+
+impl Host {
+    fn load(&mut self, frame: &[u8]) {
+        let answer = spatialjoin::load(frame, &mut self.plan);
+        self.take(answer);
+    }
+
+    fn extract(&mut self) {
+        let answer = spatialjoin::extract(&mut self.plan, self.n, &mut self.scratch);
+        self.take(answer);
+    }
+
+    fn exchange(&mut self) {
+        let answer = spatialjoin::exchange(&mut self.plan, self.n, &mut self.scratch);
+        self.take(answer);
+    }
+
+    /// Keeps an accepted call's length and prints the plan; a refused call's number is printed
+    /// alone.
+    fn take(&mut self, answer: i64) {
+        match usize::try_from(answer) {
+            Ok(length) => {
+                self.n = length;
+                println!("00{}", hex(&self.plan[..length]));
+            }
+            Err(_) => println!("{:02x}", -answer),
+        }
+    }
+}
+
+fn hex(bytes: &[u8]) -> String {
+    bytes.iter().map(|byte| format!("{byte:02x}")).collect()
+}
+
+fn main() {
+    let mut host = Host {
+        plan: vec![0; LONGEST],
+        scratch: vec![0; LONGEST],
+        n: 0,
+    };
+    host.load(FRAME);
+    host.extract();
+    host.exchange();
+    host.extract();
+}

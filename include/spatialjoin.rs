@@ -1,0 +1,54 @@
+//! The planner's calls for Rust hosts: the functions of `spatialjoin.h`, which says what they do,
+//! on slices. An answer is theirs: a length, or minus the refusal's number.
+//!
+//! A host takes the file in by `#[path = ".."] mod spatialjoin;` and links `libspatialjoin_c.a`.
+
+mod c {
+    #[link(name = "spatialjoin_c", kind = "static")]
+    unsafe extern "C" {
+        pub fn spatialjoin_load(
+            frame: *const u8,
+            frame_len: usize,
+            plan: *mut u8,
+            plan_len: usize,
+        ) -> i64;
+        pub fn spatialjoin_extract(
+            plan: *mut u8,
+            plan_len: usize,
+            n: usize,
+            scratch: *mut u8,
+            scratch_len: usize,
+        ) -> i64;
+        pub fn spatialjoin_exchange(
+            plan: *mut u8,
+            plan_len: usize,
+            n: usize,
+            scratch: *mut u8,
+            scratch_len: usize,
+        ) -> i64;
+        pub fn spatialjoin_logical(frame: *const u8, frame_len: usize) -> i64;
+    }
+}
+
+// Each call is safe because a slice is memory of its length that is lent for the call, and slices
+// that are lent for writing overlap with no other.
+
+pub fn load(frame: &[u8], plan: &mut [u8]) -> i64 {
+    unsafe { c::spatialjoin_load(frame.as_ptr(), frame.len(), plan.as_mut_ptr(), plan.len()) }
+}
+
+pub fn extract(plan: &mut [u8], n: usize, scratch: &mut [u8]) -> i64 {
+    let (plan, plan_len) = (plan.as_mut_ptr(), plan.len());
+    unsafe { c::spatialjoin_extract(plan, plan_len, n, scratch.as_mut_ptr(), scratch.len()) }
+}
+
+pub fn exchange(plan: &mut [u8], n: usize, scratch: &mut [u8]) -> i64 {
+    let (plan, plan_len) = (plan.as_mut_ptr(), plan.len());
+    unsafe { c::spatialjoin_exchange(plan, plan_len, n, scratch.as_mut_ptr(), scratch.len()) }
+}
+
+/// Not every host has logical frames.
+#[allow(dead_code)]
+pub fn logical(frame: &[u8]) -> i64 {
+    unsafe { c::spatialjoin_logical(frame.as_ptr(), frame.len()) }
+}
