@@ -14,22 +14,21 @@ use crate::opaque::{Meaning, Opaque};
 use crate::scalars::{literal_of, operator_number};
 
 /// The bytes of an extraction. The form byte of a distance is none of the original's.
-pub fn extraction(
+pub fn put_extraction(
     predicate: &SpatialPredicate,
     form: u8,
     remainder: Option<&JoinFilter>,
-) -> Vec<u8> {
-    let mut out = Vec::new();
-    put_predicate(predicate, form, &mut out);
+    out: &mut Vec<u8>,
+) {
+    put_predicate(predicate, form, out);
     match remainder {
-        Some(filter) => put_filter(filter, &mut out),
+        Some(filter) => put_filter(filter, out),
         None => out.push(0),
     }
-    out
 }
 
 /// The AND-leaf that a geometry was taken from, by the name of its first column.
-pub fn taken_leaf(geometry: &Arc<dyn PhysicalExpr>) -> Option<usize> {
+pub fn taken_leaf(geometry: &Arc<dyn PhysicalExpr>) -> Option<u16> {
     match geometry.downcast_ref::<Column>() {
         Some(column) => Some(tag_and_leaf(column.name()).1),
         None => geometry.children().into_iter().find_map(taken_leaf),
@@ -83,7 +82,7 @@ fn relation_number(relation: SpatialRelationType) -> u8 {
     }
 }
 
-fn put_filter(filter: &JoinFilter, out: &mut Vec<u8>) {
+pub fn put_filter(filter: &JoinFilter, out: &mut Vec<u8>) {
     out.push(PHYSICAL);
     let (columns, fields) = (filter.column_indices(), filter.schema().fields());
     assert_eq!(columns.len(), fields.len(), "a field for each column");
@@ -113,18 +112,25 @@ fn put_expr(expr: &Arc<dyn PhysicalExpr>, out: &mut Vec<u8>) {
         out.extend(bytes);
     } else if let Some(binary) = expr.downcast_ref::<BinaryExpr>() {
         out.extend([2, operator_number(binary.op())]);
+        put_expr(binary.left(), out);
+        put_expr(binary.right(), out);
     } else if let Some(function) = expr.downcast_ref::<ScalarFunctionExpr>() {
         let name = function.fun().name();
         out.extend([3, name.len() as u8]);
         out.extend(name.as_bytes());
         out.push(function.args().len() as u8);
+        put_exprs(function.args(), out);
     } else if let Some(opaque) = expr.downcast_ref::<Opaque>() {
         put_opaque(opaque, out);
+        put_exprs(&opaque.children, out);
     } else {
         panic!("a node that no frame makes: {expr}");
     }
-    for child in expr.children() {
-        put_expr(child, out);
+}
+
+fn put_exprs(exprs: &[Arc<dyn PhysicalExpr>], out: &mut Vec<u8>) {
+    for expr in exprs {
+        put_expr(expr, out);
     }
 }
 

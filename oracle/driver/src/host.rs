@@ -18,17 +18,20 @@ use crate::opaque::{Meaning, Opaque};
 use crate::scalars::{self, scalar};
 
 /// A column's name carries its tag and the position of the AND-leaf where it stands. The original
-/// keeps names as they are, so they tell in the end which leaf was taken.
-pub fn column_name(tag: u16, leaf: usize) -> String {
-    format!("{tag}/{leaf}")
+/// keeps names as they are, so they tell in the end which leaf was taken. A name is eight letters,
+/// four for each number: to make and to read it costs little, which matters where time is taken.
+pub fn column_name(tag: u16, leaf: u16) -> String {
+    let number = u32::from(tag) << 16 | u32::from(leaf);
+    let letter = |place: u32| char::from(b'a' + (number >> (28 - 4 * place) & 15) as u8);
+    (0..8).map(letter).collect()
 }
 
-pub fn tag_and_leaf(name: &str) -> (u16, usize) {
-    let parsed = name.split_once('/').and_then(|(tag, leaf)| {
-        let (tag, leaf) = (tag.parse().ok()?, leaf.parse().ok()?);
-        Some((tag, leaf))
-    });
-    parsed.expect("the name came from a frame")
+pub fn tag_and_leaf(name: &str) -> (u16, u16) {
+    let digit = |letter: u8| u32::from(letter - b'a');
+    let number = name
+        .bytes()
+        .fold(0, |number, letter| number << 4 | digit(letter));
+    ((number >> 16) as u16, number as u16)
 }
 
 pub fn join_filter(frame: &Frame) -> JoinFilter {
@@ -45,7 +48,7 @@ pub fn join_filter(frame: &Frame) -> JoinFilter {
     )
 }
 
-fn join_side(side: Side) -> JoinSide {
+pub fn join_side(side: Side) -> JoinSide {
     match side {
         Side::Left => JoinSide::Left,
         Side::Right => JoinSide::Right,
@@ -54,7 +57,7 @@ fn join_side(side: Side) -> JoinSide {
 }
 
 /// The expression, its AND-leaves counted on the way.
-fn and_tree(expr: &Expr, leaf: &mut usize) -> Arc<dyn PhysicalExpr> {
+fn and_tree(expr: &Expr, leaf: &mut u16) -> Arc<dyn PhysicalExpr> {
     match expr {
         Expr::Binary { op, left, right } if *op == operator::AND => {
             let left = and_tree(left, leaf);
@@ -67,7 +70,7 @@ fn and_tree(expr: &Expr, leaf: &mut usize) -> Arc<dyn PhysicalExpr> {
     }
 }
 
-fn physical(expr: &Expr, leaf: usize) -> Arc<dyn PhysicalExpr> {
+fn physical(expr: &Expr, leaf: u16) -> Arc<dyn PhysicalExpr> {
     let all = |exprs: &[Expr]| exprs.iter().map(|e| physical(e, leaf)).collect();
     match expr {
         Expr::Column { index, tag } => {
@@ -86,7 +89,7 @@ fn physical(expr: &Expr, leaf: usize) -> Arc<dyn PhysicalExpr> {
     }
 }
 
-fn binary(
+pub fn binary(
     op: u8,
     left: Arc<dyn PhysicalExpr>,
     right: Arc<dyn PhysicalExpr>,
@@ -111,7 +114,7 @@ fn function(name: &[u8], args: Vec<Arc<dyn PhysicalExpr>>) -> Arc<dyn PhysicalEx
     ))
 }
 
-fn udf(name: &[u8]) -> Arc<ScalarUDF> {
+pub fn udf(name: &[u8]) -> Arc<ScalarUDF> {
     let name = str::from_utf8(name).expect("names are ASCII");
     let never_called = Arc::new(|_: &[ColumnarValue]| Ok(ColumnarValue::Scalar(ScalarValue::Null)));
     Arc::new(create_udf(
@@ -147,8 +150,8 @@ pub fn logical_join(expr: &Expr) -> LogicalJoin {
 }
 
 /// Columns of different bits are different columns, even with one tag.
-fn logical_name(bits: u8, tag: u16) -> String {
-    format!("{bits}/{tag}")
+pub fn logical_name(bits: u8, tag: u16) -> String {
+    column_name(tag, u16::from(bits))
 }
 
 fn logical(expr: &Expr, columns: &mut HashSet<(u8, u16)>) -> LogicalExpr {
@@ -173,7 +176,7 @@ fn logical(expr: &Expr, columns: &mut HashSet<(u8, u16)>) -> LogicalExpr {
     }
 }
 
-fn logical_binary(op: u8, left: LogicalExpr, right: LogicalExpr) -> LogicalExpr {
+pub fn logical_binary(op: u8, left: LogicalExpr, right: LogicalExpr) -> LogicalExpr {
     match scalars::operator(op) {
         Some(operator) => {
             let (left, right) = (Box::new(left), Box::new(right));
@@ -183,6 +186,6 @@ fn logical_binary(op: u8, left: LogicalExpr, right: LogicalExpr) -> LogicalExpr 
     }
 }
 
-fn other(children: Vec<LogicalExpr>) -> LogicalExpr {
+pub fn other(children: Vec<LogicalExpr>) -> LogicalExpr {
     LogicalExpr::GroupingSet(GroupingSet::Rollup(children))
 }

@@ -1,23 +1,11 @@
 //! Compares a planner program with the original, or writes a sample of the original's answers.
 
-mod answer;
-mod compare;
-mod host;
-mod make;
-mod opaque;
-mod original;
-mod planner;
-mod report;
-mod rng;
-mod sample;
-mod scalars;
-mod shrink;
-
 use std::path::PathBuf;
 use std::process::ExitCode;
 use std::{env, io};
 
-use compare::Options;
+use driver::compare::{self, Options};
+use driver::{original, sample};
 
 const USAGE: &str = "driver compare --planner PROGRAM [--frames N] [--seed S] [--show N]
 driver sample FOLDER [--seed S]";

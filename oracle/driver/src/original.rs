@@ -4,6 +4,8 @@
 use std::cell::Cell;
 use std::panic::{self, AssertUnwindSafe};
 
+use datafusion_common::DFSchema;
+use datafusion_expr::Expr as LogicalExpr;
 use datafusion_physical_plan::joins::utils::{ColumnIndex, JoinFilter};
 use reading::decode;
 use reading::frame::{Expr, Frame, LOGICAL, PHYSICAL};
@@ -17,7 +19,7 @@ use sedona_query_planner::spatial_predicate::{
     DistancePredicate, SpatialPredicate, SpatialPredicateTrait,
 };
 
-use crate::answer::{extraction, side_number, taken_leaf};
+use crate::answer::{put_extraction, side_number, taken_leaf};
 use crate::host::{join_filter, logical_join};
 
 /// The names in the order of the original's list, which gives them their bits.
@@ -53,10 +55,11 @@ enum Held {
     Extraction(Extracted),
 }
 
-struct Extracted {
-    predicate: SpatialPredicate,
-    form: u8,
-    remainder: Option<JoinFilter>,
+/// An extraction as the original has it, and the form byte that it lacks.
+pub struct Extracted {
+    pub predicate: SpatialPredicate,
+    pub form: u8,
+    pub remainder: Option<JoinFilter>,
 }
 
 /// What the original does with a frame that document 01 refuses.
@@ -82,9 +85,7 @@ impl Original {
                 }
                 None
             }
-            [LOGICAL, ..] => decode::logical(&bytes)
-                .ok()
-                .map(|expr| names_and_side(&expr)),
+            [LOGICAL, ..] => decode::logical(&bytes).ok().map(|expr| logical(&expr)),
             [0x21] => self.extract(),
             [0x22] => self.exchange(),
             _ => None,
@@ -123,26 +124,36 @@ impl Original {
 
 impl Extracted {
     fn line(&self) -> Vec<u8> {
-        let bytes = || extraction(&self.predicate, self.form, self.remainder.as_ref());
+        let bytes = || {
+            let mut out = Vec::new();
+            self.put(&mut out);
+            out
+        };
         guarded(bytes).map_or(PANIC.to_vec(), |bytes| accepted(&bytes))
     }
 
-    /// The predicate is exchanged by the original. The join filter's own swap isn't among the
-    /// files: document 01 gives its rule.
-    fn exchange(&mut self) {
-        self.predicate = self.predicate.swap_for_swapped_children();
-        self.remainder = self.remainder.as_ref().map(|filter| {
-            let negated = |column: &ColumnIndex| ColumnIndex {
-                index: column.index,
-                side: column.side.negate(),
-            };
-            JoinFilter::new(
-                filter.expression().clone(),
-                filter.column_indices().iter().map(negated).collect(),
-                filter.schema().clone(),
-            )
-        });
+    pub fn put(&self, out: &mut Vec<u8>) {
+        put_extraction(&self.predicate, self.form, self.remainder.as_ref(), out);
     }
+
+    /// The predicate is exchanged by the original.
+    pub fn exchange(&mut self) {
+        self.predicate = self.predicate.swap_for_swapped_children();
+        self.remainder = self.remainder.as_ref().map(exchange_filter);
+    }
+}
+
+/// The join filter's own swap isn't among the files: document 01 gives its rule.
+pub fn exchange_filter(filter: &JoinFilter) -> JoinFilter {
+    let negated = |column: &ColumnIndex| ColumnIndex {
+        index: column.index,
+        side: column.side.negate(),
+    };
+    JoinFilter::new(
+        filter.expression().clone(),
+        filter.column_indices().iter().map(negated).collect(),
+        filter.schema().clone(),
+    )
 }
 
 fn accepted(bytes: &[u8]) -> Vec<u8> {
@@ -166,24 +177,32 @@ fn transform(frame: &Frame) -> Option<Extracted> {
 /// off the leaf that the original took.
 fn form(frame: &Frame, distance: &DistancePredicate) -> u8 {
     let leaf = taken_leaf(&distance.left).expect("a matched geometry has a column");
-    match frame.expr.and_leaves()[leaf] {
+    match frame.expr.and_leaves()[usize::from(leaf)] {
         Expr::Binary { op, .. } => *op,
         Expr::Function { name, .. } if name == b"st_dwithin" => 0,
         _ => NO_FORM,
     }
 }
 
-fn names_and_side(expr: &Expr) -> Vec<u8> {
+fn logical(expr: &Expr) -> Vec<u8> {
     let answer = guarded(|| {
         let join = logical_join(expr);
-        let names = collect_spatial_predicate_names(&join.filter);
-        let bit = |(bit, name): (usize, &&str)| u16::from(names.contains(*name)) << bit;
-        let mask: u16 = NAMES.iter().enumerate().map(bit).sum();
-        let side = find_knn_query_side(&join.filter, &join.left, &join.right);
-        let [high, low] = mask.to_be_bytes();
-        [high, low, names.len() as u8, side_number(side)]
+        names_and_side(&join.filter, &join.left, &join.right)
     });
     answer.map_or(PANIC.to_vec(), |bytes| accepted(&bytes))
+}
+
+/// Mask, count and query side of a filter.
+pub fn names_and_side(filter: &LogicalExpr, left: &DFSchema, right: &DFSchema) -> [u8; 4] {
+    let names = collect_spatial_predicate_names(filter);
+    let bit = |name: &String| {
+        let position = NAMES.iter().position(|known| known == name);
+        1 << position.expect("the original collects known names only")
+    };
+    let mask: u16 = names.iter().map(bit).sum();
+    let side = find_knn_query_side(filter, left, right);
+    let [high, low] = mask.to_be_bytes();
+    [high, low, names.len() as u8, side_number(side)]
 }
 
 /// Hands the original a frame that document 01 refuses with 6 or 8.

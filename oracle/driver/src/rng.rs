@@ -7,11 +7,11 @@ impl Rng {
     /// Each frame has a generator of its own, so that any of them can be made alone.
     pub fn new(seed: u64, frame: u64) -> Self {
         let mut rng = Rng(seed);
-        rng.0 = rng.next() ^ frame.wrapping_mul(STEP);
+        rng.0 = rng.draw() ^ frame.wrapping_mul(STEP);
         rng
     }
 
-    pub fn next(&mut self) -> u64 {
+    pub fn draw(&mut self) -> u64 {
         self.0 = self.0.wrapping_add(STEP);
         let mut mixed = self.0;
         mixed = (mixed ^ (mixed >> 30)).wrapping_mul(0xbf58_476d_1ce4_e5b9);
@@ -21,7 +21,7 @@ impl Rng {
 
     /// A number from 0 to `bound` - 1.
     pub fn below(&mut self, bound: usize) -> usize {
-        (self.next() % bound as u64) as usize
+        (self.draw() % bound as u64) as usize
     }
 
     pub fn one_in(&mut self, bound: usize) -> bool {

@@ -13,7 +13,7 @@ pub fn damage(rng: &mut Rng, frame: &mut Vec<u8>) {
             _ => rng.below(frame.len()),
         };
         match rng.below(8) {
-            0 => frame[at] = rng.next() as u8,
+            0 => frame[at] = rng.draw() as u8,
             1 => frame[at] = frame[at].wrapping_add(1),
             2 => frame[at] ^= 1 << rng.below(8),
             3 => frame.truncate(at),
@@ -42,7 +42,7 @@ pub fn likely_bytes(rng: &mut Rng) -> Vec<u8> {
     };
     for _ in 0..rng.below(24) {
         let byte = match rng.below(8) {
-            0 => rng.next() as u8,
+            0 => rng.draw() as u8,
             1 => rng.pick(b"st_knwihi"),
             _ => rng.below(6) as u8,
         };

@@ -29,7 +29,7 @@ impl<'r> Filter<'r> {
                 records.push(Record {
                     side,
                     index: rng.below(indices) as u16,
-                    tag: rng.next() as u16,
+                    tag: rng.draw() as u16,
                 });
             }
         }
@@ -46,7 +46,7 @@ impl<'r> Filter<'r> {
 
     fn tag(&mut self) -> u16 {
         if self.rng.one_in(2) {
-            self.rng.next() as u16
+            self.rng.draw() as u16
         } else {
             self.rng.below(3) as u16
         }

@@ -70,7 +70,7 @@ pub fn line(rng: &mut Rng, mut place: usize) -> Vec<u8> {
     panic!("the place is below the count");
 }
 
-fn other(children: Vec<Expr>) -> Expr {
+pub fn other(children: Vec<Expr>) -> Expr {
     Expr::Other { tag: 0, children }
 }
 
@@ -104,7 +104,7 @@ fn some_operator(rng: &mut Rng) -> u8 {
 }
 
 /// An expression of exactly so many bytes, at least 4.
-fn expr_of_bytes(rng: &mut Rng, bytes: usize) -> Expr {
+pub fn expr_of_bytes(rng: &mut Rng, bytes: usize) -> Expr {
     const LONGEST: usize = 35;
     let function = |bytes: usize| call(&b"x".repeat(bytes - 3), Vec::new());
     let mut left = bytes;
@@ -131,7 +131,7 @@ fn bytes(rng: &mut Rng, bytes: usize) -> Vec<u8> {
 }
 
 /// A low tree of exactly so many nodes.
-fn expr_of_nodes(rng: &mut Rng, nodes: usize, leaf: &Expr) -> Expr {
+pub fn expr_of_nodes(rng: &mut Rng, nodes: usize, leaf: &Expr) -> Expr {
     match nodes {
         1 => leaf.clone(),
         2 => other(vec![leaf.clone()]),
@@ -151,7 +151,7 @@ fn nodes(rng: &mut Rng, nodes: usize) -> Vec<u8> {
 }
 
 /// A chain of nodes of all kinds down to this depth.
-fn chain(rng: &mut Rng, depth: usize, end: Expr) -> Expr {
+pub fn chain(rng: &mut Rng, depth: usize, end: Expr) -> Expr {
     (1..depth).fold(end, |inner, _| match rng.below(4) {
         0 => other(vec![inner]),
         1 => call(names::any(rng).as_bytes(), vec![inner, other(Vec::new())]),

@@ -62,7 +62,7 @@ pub fn k(rng: &mut Rng) -> Expr {
         literal::UINT64,
     ]);
     match rng.below(3) {
-        0 => of(kind, rng.next() >> 33),
+        0 => of(kind, rng.draw() >> 33),
         _ => edge(rng),
     }
 }
@@ -71,6 +71,6 @@ pub fn k(rng: &mut Rng) -> Expr {
 pub fn flag(rng: &mut Rng) -> Expr {
     match rng.below(4) {
         0 => edge(rng),
-        _ => of(literal::BOOLEAN, rng.next() % 2),
+        _ => of(literal::BOOLEAN, rng.draw() % 2),
     }
 }

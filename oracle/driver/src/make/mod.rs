@@ -1,6 +1,7 @@
 //! Makes cases: lines for the program, of many classes, from a seed.
 
-mod damage;
+pub mod damage;
+pub mod extractions;
 mod filter;
 mod limits;
 mod literals;

@@ -56,8 +56,9 @@ impl PhysicalExpr for ScalarFunctionExpr {
         children: Vec<Arc<dyn PhysicalExpr>>,
     ) -> Result<Arc<dyn PhysicalExpr>> {
         Ok(Arc::new(ScalarFunctionExpr {
+            name: self.name.clone(),
+            fun: Arc::clone(&self.fun),
             args: children,
-            ..(*self).clone()
         }))
     }
 }

@@ -1,0 +1,186 @@
+//! The frames that are timed. Each group has frames of one make, taken in turn.
+
+use reading::encode;
+use reading::frame::{Expr, Frame, MAX_NODES, MAX_RECORDS, Record, Side, literal, operator};
+
+use crate::parts::{
+    binary, call, comb, conjuncts_of_bytes, conjuncts_of_nodes, number, tree, with_match,
+};
+
+pub struct Group {
+    pub name: &'static str,
+    pub frames: Vec<Vec<u8>>,
+}
+
+/// The names of the groups whose cost per byte is compared.
+pub const ONE_KIB: &str = "1,024 bytes";
+pub const SIXTEEN_KIB: &str = "16,384 bytes";
+
+const SIZES: [(&str, usize); 5] = [
+    ("64 bytes", 64),
+    ("256 bytes", 256),
+    (ONE_KIB, 1_024),
+    ("4,096 bytes", 4_096),
+    (SIXTEEN_KIB, 16_384),
+];
+
+/// Frames of one size differ in the order of their conjuncts and the place of the match.
+const VARIANTS: usize = 8;
+
+fn group(name: &'static str, make: impl Fn(usize) -> Vec<u8>) -> Group {
+    let frames = (0..VARIANTS).map(make).collect();
+    Group { name, frames }
+}
+
+/// A frame that is made in one way only.
+fn single(name: &'static str, frame: Vec<u8>) -> Group {
+    Group {
+        name,
+        frames: vec![frame],
+    }
+}
+
+pub fn physical() -> Vec<Group> {
+    let sized = SIZES.map(|(name, size)| group(name, move |variant| sized(size, variant)));
+    let mut groups = Vec::from(sized);
+    groups.push(group("256 records", many_records));
+    groups.push(group("1,024 nodes", many_nodes));
+    groups.push(single("worst for the Rust", worst_for_rust()));
+    groups.push(single("worst for ours", worst_for_ours()));
+    groups
+}
+
+pub fn logical() -> Vec<Group> {
+    let sized = SIZES.map(|(name, size)| group(name, move |variant| logical_sized(size, variant)));
+    let mut groups = Vec::from(sized);
+    groups.push(group("1,024 nodes", logical_nodes));
+    groups.push(single("worst for the Rust", logical_worst_for_rust()));
+    groups.push(single("worst for ours", logical_worst_for_ours()));
+    groups
+}
+
+/// Records that all differ, of the children in turn.
+fn records(count: usize) -> Vec<Record> {
+    let record = |index: usize| Record {
+        side: [Side::Left, Side::Right][index % 2],
+        index: index as u16,
+        tag: index as u16,
+    };
+    (0..count).map(record).collect()
+}
+
+fn physical_frame(records: Vec<Record>, expr: Expr) -> Vec<u8> {
+    encode::physical(&Frame { records, expr })
+}
+
+fn column(index: usize) -> Expr {
+    Expr::Column {
+        index: index as u16,
+        tag: index as u16,
+    }
+}
+
+/// The conjunct that is taken; its first column is the right child's.
+fn matching() -> Expr {
+    call("st_within", vec![column(1), column(0)])
+}
+
+/// A filter of this many bytes with a record for every 128 of them.
+fn sized(size: usize, variant: usize) -> Vec<u8> {
+    let records = records((size / 128).max(2));
+    let count = records.len();
+    let least = physical_frame(records.clone(), matching()).len();
+    let others = conjuncts_of_bytes(size - least, variant, &|number| column(number % count));
+    let frame = physical_frame(records, with_match(others, matching(), variant));
+    assert_eq!(frame.len(), size);
+    frame
+}
+
+/// A short filter over as many records as there may be.
+fn many_records(variant: usize) -> Vec<u8> {
+    let others = conjuncts_of_nodes(40, variant, &|number| {
+        column((37 * number + variant) % MAX_RECORDS)
+    });
+    physical_frame(
+        records(MAX_RECORDS),
+        with_match(others, matching(), variant),
+    )
+}
+
+/// As many nodes as there may be, the match's three among them.
+fn many_nodes(variant: usize) -> Vec<u8> {
+    let others = conjuncts_of_nodes(MAX_NODES - 3, variant, &|number| column(number % 16));
+    physical_frame(records(16), with_match(others, matching(), variant))
+}
+
+/// KNN calls that do not match, each of which makes the original build a map of all left columns;
+/// and a comb of Ands, at each tooth of which it looks through all calls below once more.
+fn worst_for_rust() -> Vec<u8> {
+    let mut records = records(MAX_RECORDS);
+    for record in &mut records {
+        record.side = Side::Left;
+    }
+    records[1].side = Side::Right;
+    let knn = call("st_knn", vec![number(5), column(0)]);
+    let block = tree(vec![knn.clone(); 192]);
+    let expr = comb(block, vec![knn; 50]);
+    physical_frame(records, binary(operator::AND, expr, matching()))
+}
+
+/// Short names, each held to every name that is looked for; and different records, half of which
+/// are referenced, each held to the others.
+fn worst_for_ours() -> Vec<u8> {
+    let half = MAX_RECORDS / 2;
+    let wide = |first: usize| call("s", (first..first + 16).map(column).collect());
+    let mut conjuncts: Vec<Expr> = (half..MAX_RECORDS).step_by(16).map(wide).collect();
+    conjuncts.extend(vec![call("s", Vec::new()); 438]);
+    conjuncts.push(matching());
+    physical_frame(records(MAX_RECORDS), tree(conjuncts))
+}
+
+fn logical_column(number: usize) -> Expr {
+    Expr::LogicalColumn {
+        bits: 1 + (number % 2) as u8,
+        tag: number as u16,
+    }
+}
+
+fn logical_knn() -> Expr {
+    call("ST_KNN", vec![logical_column(0), logical_column(1)])
+}
+
+fn logical_sized(size: usize, variant: usize) -> Vec<u8> {
+    let least = encode::logical(&logical_knn()).len();
+    let others = conjuncts_of_bytes(size - least, variant, &logical_column);
+    let frame = encode::logical(&with_match(others, logical_knn(), variant));
+    assert_eq!(frame.len(), size);
+    frame
+}
+
+fn logical_nodes(variant: usize) -> Vec<u8> {
+    let others = conjuncts_of_nodes(MAX_NODES - 3, variant, &logical_column);
+    encode::logical(&with_match(others, logical_knn(), variant))
+}
+
+/// A query geometry of many columns, each looked for among all columns of a schema.
+fn logical_worst_for_rust() -> Vec<u8> {
+    let column = |tag: usize| Expr::LogicalColumn {
+        bits: 1,
+        tag: tag as u16,
+    };
+    let low = |first: usize| call("f", (first..first + 16).map(column).collect());
+    let middle = |first: usize| call("f", (first..first + 224).step_by(16).map(low).collect());
+    let query = call("f", (0..896).step_by(224).map(middle).collect());
+    let object = Expr::Literal {
+        kind: literal::NULL,
+        bytes: [0; 8],
+    };
+    encode::logical(&call("ST_KNN", vec![query, object]))
+}
+
+/// Short names, each held to every name that is looked for.
+fn logical_worst_for_ours() -> Vec<u8> {
+    let mut conjuncts = vec![call("S", Vec::new()); 510];
+    conjuncts.push(logical_knn());
+    encode::logical(&tree(conjuncts))
+}

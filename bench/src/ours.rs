@@ -1,0 +1,58 @@
+//! The library on buffers of a host.
+
+use reading::frame::MAX_BYTES;
+
+use crate::spatialjoin;
+
+/// Both buffers as long as the longest frame; they are never cleared.
+pub struct Ours {
+    plan: Vec<u8>,
+    scratch: Vec<u8>,
+    n: usize,
+}
+
+impl Ours {
+    pub fn new() -> Self {
+        Ours {
+            plan: vec![0; MAX_BYTES],
+            scratch: vec![0; MAX_BYTES],
+            n: 0,
+        }
+    }
+
+    pub fn load(&mut self, frame: &[u8]) {
+        let answer = spatialjoin::load(frame, &mut self.plan);
+        self.keep(answer);
+    }
+
+    pub fn extract(&mut self) {
+        let answer = spatialjoin::extract(&mut self.plan, self.n, &mut self.scratch);
+        self.keep(answer);
+    }
+
+    /// Extracts, and holds the old plan again: the call left it in the scratch, so the buffers
+    /// change places and nothing is copied.
+    pub fn extract_and_return(&mut self) {
+        spatialjoin::extract(&mut self.plan, self.n, &mut self.scratch);
+        std::mem::swap(&mut self.plan, &mut self.scratch);
+    }
+
+    pub fn exchange(&mut self) {
+        let answer = spatialjoin::exchange(&mut self.plan, self.n, &mut self.scratch);
+        self.keep(answer);
+    }
+
+    /// A refused call shows in the plan, which is checked before anything is timed.
+    fn keep(&mut self, answer: i64) {
+        self.n = usize::try_from(answer).unwrap_or(self.n);
+    }
+
+    pub fn plan(&self) -> &[u8] {
+        &self.plan[..self.n]
+    }
+}
+
+/// Four bytes as the program writes them: mask, count, query side.
+pub fn logical(frame: &[u8]) -> [u8; 4] {
+    (spatialjoin::logical(frame) as u32).to_be_bytes()
+}

@@ -1,0 +1,210 @@
+//! Tables in Markdown.
+
+use crate::frames::{ONE_KIB, SIXTEEN_KIB};
+use crate::measure::{Contender, Row};
+
+pub struct Table {
+    pub title: &'static str,
+    pub rows: Vec<Row>,
+}
+
+/// The value below which this many quarters of the values lie.
+fn quartile(values: &[f64], number: usize) -> f64 {
+    let mut sorted = values.to_vec();
+    sorted.sort_by(f64::total_cmp);
+    sorted[(sorted.len() - 1) * number / 4]
+}
+
+fn median(values: &[f64]) -> f64 {
+    quartile(values, 2)
+}
+
+/// The median of the rounds' ratios, since the machine is as fast for both in a round.
+fn median_ratio(above: &[f64], below: &[f64]) -> f64 {
+    let ratios: Vec<f64> = above.iter().zip(below).map(|(a, b)| a / b).collect();
+    median(&ratios)
+}
+
+impl Row {
+    /// The time of these contenders together, for one of ours.
+    fn ratio(&self, to: &[Contender]) -> Option<f64> {
+        let ours = self.readings.get(&Contender::Ours)?;
+        let mut total = vec![0.0; ours.len()];
+        for contender in to {
+            let readings = self.readings.get(contender)?;
+            total
+                .iter_mut()
+                .zip(readings)
+                .for_each(|(sum, r)| *sum += r);
+        }
+        Some(median_ratio(&total, ours))
+    }
+
+    /// Median and spread.
+    fn time(&self, contender: Contender) -> String {
+        let Some(readings) = self.readings.get(&contender) else {
+            return NONE.to_owned();
+        };
+        let spread = (quartile(readings, 3) - quartile(readings, 1)) / 2.0;
+        let percent = 100.0 * spread / median(readings);
+        format!("{} ±{percent:.0} %", number(median(readings)))
+    }
+
+    fn per_byte(&self, contender: Contender) -> Option<f64> {
+        let readings = self.readings.get(&contender)?;
+        Some(median(readings) / self.bytes)
+    }
+
+    fn print(&self) {
+        let cells = [
+            self.name.to_owned(),
+            number(self.bytes),
+            shown(self.ratio(&[Contender::RustFromBytes])),
+            shown(self.ratio(&[Contender::RustCall, Contender::RustAnswer])),
+            shown(self.ratio(&[Contender::RustCall])),
+            self.time(Contender::Ours),
+            shown(self.per_byte(Contender::Ours)),
+            self.time(Contender::RustFromBytes),
+            shown(self.per_byte(Contender::RustFromBytes)),
+            self.time(Contender::RustCall),
+            self.time(Contender::RustAnswer),
+            self.time(Contender::Copy),
+            shown(self.ratio(&[Contender::Copy]).map(f64::recip)),
+        ];
+        println!("| {} |", cells.join(" | "));
+    }
+}
+
+const NONE: &str = "–";
+
+fn shown(value: Option<f64>) -> String {
+    value.map_or(NONE.to_owned(), number)
+}
+
+/// Three digits or so, thousands apart.
+fn number(value: f64) -> String {
+    match value {
+        ..0.1 => format!("{value:.4}"),
+        ..10.0 => format!("{value:.2}"),
+        ..100.0 => format!("{value:.1}"),
+        _ => {
+            let digits = format!("{value:.0}").into_bytes();
+            let groups: Vec<&[u8]> = digits.rchunks(3).rev().collect();
+            String::from_utf8_lossy(&groups.join(&b',')).into_owned()
+        }
+    }
+}
+
+impl Table {
+    pub fn print(&self) {
+        println!("## {}\n", self.title);
+        println!(
+            "| frames | bytes | Rust from bytes / ours | Rust call and answer / ours \
+             | Rust call / ours | ours | ours, a byte | Rust from bytes | Rust from bytes, a byte \
+             | Rust call | Rust answer | copy | ours / copy |"
+        );
+        println!("|---{}|", "|--:".repeat(12));
+        self.rows.iter().for_each(Row::print);
+        println!();
+    }
+
+    fn row(&self, name: &str) -> Option<&Row> {
+        self.rows.iter().find(|row| row.name == name)
+    }
+
+    /// Cost per byte of the longest frames against that of 1 KiB.
+    fn growth(&self, contender: Contender) -> Option<f64> {
+        let (short, long) = (self.row(ONE_KIB)?, self.row(SIXTEEN_KIB)?);
+        let times = median_ratio(
+            long.readings.get(&contender)?,
+            short.readings.get(&contender)?,
+        );
+        Some(times * short.bytes / long.bytes)
+    }
+
+    fn print_growth(&self) {
+        let per_byte = |name, contender| shown(self.row(name).and_then(|r| r.per_byte(contender)));
+        let of = |contender| {
+            let (short, long) = (
+                per_byte(ONE_KIB, contender),
+                per_byte(SIXTEEN_KIB, contender),
+            );
+            format!("{short} | {long} | {}", shown(self.growth(contender)))
+        };
+        let (ours, original) = (of(Contender::Ours), of(Contender::RustFromBytes));
+        println!("| {} | {ours} | {original} |", self.title);
+    }
+
+    /// The row where a value is least, or greatest.
+    fn extreme(&self, value: impl Fn(&Row) -> Option<f64>, greatest: bool) -> (f64, &'static str) {
+        let sign = if greatest { -1.0 } else { 1.0 };
+        let values = self
+            .rows
+            .iter()
+            .filter_map(|row| Some((value(row)?, row.name)));
+        let least = values.min_by(|a, b| (sign * a.0).total_cmp(&(sign * b.0)));
+        least.unwrap_or((f64::NAN, NONE))
+    }
+}
+
+pub fn print_growth(tables: &[Table]) {
+    println!("## Nanoseconds a byte, from 1,024 to 16,384 bytes\n");
+    println!(
+        "| operation | ours, 1,024 | ours, 16,384 | grows by | Rust from bytes, 1,024 \
+         | Rust from bytes, 16,384 | grows by |"
+    );
+    println!("|---{}|", "|--:".repeat(6));
+    tables.iter().for_each(Table::print_growth);
+    println!();
+}
+
+/// The goals beside what was measured. Nothing is tested: the times are this machine's.
+pub fn print_goals(load: &Table, load_and_extract: &Table) {
+    println!("## Goals\n");
+    println!("| goal | measured | reached |");
+    println!("|---|---|---|");
+    print_speeds(load_and_extract);
+    for table in [load, load_and_extract] {
+        let growth = table.growth(Contender::Ours).unwrap_or(f64::NAN);
+        let title = table.title;
+        let goal = format!("{title}: a byte of 16,384 costs at most 1.3 times one of 1,024");
+        print_goal(&goal, &format!("{} times", number(growth)), growth <= 1.3);
+    }
+    let copies = |row: &Row| row.ratio(&[Contender::Copy]).map(f64::recip);
+    let (copies, name) = load.extreme(copies, true);
+    let measured = format!("at most {} times ({name})", number(copies));
+    let goal = "Load: within 8 times a copy of the same bytes";
+    print_goal(goal, &measured, copies <= 8.0);
+}
+
+fn print_speeds(load_and_extract: &Table) {
+    use Contender::{RustAnswer, RustCall, RustFromBytes};
+    const GOALS: [(&str, &[Contender], f64); 3] = [
+        (
+            "at least 5 times as fast as the Rust from the same bytes",
+            &[RustFromBytes],
+            5.0,
+        ),
+        (
+            "no slower than the Rust's call and answer, its trees built before",
+            &[RustCall, RustAnswer],
+            1.0,
+        ),
+        (
+            "no slower than the Rust's call alone, its trees built before",
+            &[RustCall],
+            1.0,
+        ),
+    ];
+    let title = load_and_extract.title;
+    for (goal, to, bound) in GOALS {
+        let (ratio, name) = load_and_extract.extreme(|row| row.ratio(to), false);
+        let measured = format!("at least {} times ({name})", number(ratio));
+        print_goal(&format!("{title}: {goal}"), &measured, ratio >= bound);
+    }
+}
+
+fn print_goal(goal: &str, measured: &str, reached: bool) {
+    let reached = if reached { "yes" } else { "no" };
+    println!("| {goal} | {measured} | {reached} |");
+}

@@ -1,0 +1,14 @@
+//! The original behind the program's line protocol, cases to try it on, and the comparison.
+
+pub mod answer;
+pub mod compare;
+pub mod host;
+pub mod make;
+pub mod opaque;
+pub mod original;
+mod planner;
+pub mod report;
+pub mod rng;
+pub mod sample;
+pub mod scalars;
+mod shrink;

@@ -1,0 +1,48 @@
+use std::collections::BTreeMap;
+use std::fmt;
+
+use crate::call::Kind;
+
+/// The calls, with the refusals that document 01 gives each of them.
+const ANSWERS: [(Kind, &[i64]); 4] = [
+    (Kind::Load, &[1, 2, 3, 4, 5, 6, 7, 8, 9]),
+    (Kind::Extract, &[9, 10, 11, 12, 13]),
+    (Kind::Exchange, &[9, 10, 11]),
+    (Kind::Logical, &[1, 2, 3, 4, 5, 7]),
+];
+
+/// How many calls there were of each kind, by what they answered.
+#[derive(Default)]
+pub struct Counts {
+    accepted: BTreeMap<Kind, u64>,
+    refused: BTreeMap<(Kind, i64), u64>,
+}
+
+impl Counts {
+    pub fn count(&mut self, kind: Kind, answer: i64) {
+        let count = match answer {
+            0.. => self.accepted.entry(kind).or_default(),
+            _ => self.refused.entry((kind, -answer)).or_default(),
+        };
+        *count += 1;
+    }
+
+    fn calls(&self) -> u64 {
+        self.accepted.values().sum::<u64>() + self.refused.values().sum::<u64>()
+    }
+}
+
+impl fmt::Display for Counts {
+    fn fmt(&self, f: &mut fmt::Formatter<'_>) -> fmt::Result {
+        for (kind, refusals) in ANSWERS {
+            let accepted = self.accepted.get(&kind).unwrap_or(&0);
+            let name = format!("{kind:?}");
+            writeln!(f, "{name:<10} accepted   {accepted:>10}")?;
+            for number in refusals {
+                let count = self.refused.get(&(kind, *number)).unwrap_or(&0);
+                writeln!(f, "{name:<10} refusal {number:>2} {count:>10}")?;
+            }
+        }
+        write!(f, "{} calls", self.calls())
+    }
+}

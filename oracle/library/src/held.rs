@@ -1,0 +1,122 @@
+//! A plan as a host holds it from call to call, and what may befall it in between.
+
+use driver::make::damage::{damage, likely_bytes};
+use driver::make::extractions::extraction;
+use driver::rng::Rng;
+use reading::frame::MAX_BYTES;
+
+use crate::call::{Call, Kind, Outcome};
+
+pub struct Held {
+    n: usize,
+    plan: Vec<u8>,
+}
+
+impl Held {
+    /// A fresh plan in a buffer with other bytes; at times the buffer is too short for this frame.
+    pub fn new(rng: &mut Rng, frame: usize) -> Self {
+        let length = match rng.below(16) {
+            0 => rng.below(frame + 1),
+            1 => frame.saturating_sub(1),
+            2..=7 => frame,
+            8..=13 => frame + rng.below(64),
+            14 => MAX_BYTES,
+            _ => MAX_BYTES + rng.below(64),
+        };
+        let plan = any_bytes(rng, length);
+        Held { n: 0, plan }
+    }
+
+    pub fn with_frame(&self, kind: Kind, frame: Vec<u8>) -> Call {
+        Call {
+            kind,
+            frame,
+            n: self.n,
+            plan: self.plan.clone(),
+            scratch: Vec::new(),
+        }
+    }
+
+    pub fn with_scratch(&self, kind: Kind, rng: &mut Rng) -> Call {
+        // n may be past the buffer's end.
+        let n = self.n.min(self.plan.len());
+        let length = match rng.below(10) {
+            0 => rng.below(n + 1),
+            1 => n.saturating_sub(1),
+            2 => n + 1,
+            3 => n + rng.below(64),
+            4 => MAX_BYTES,
+            5 => 0,
+            _ => n,
+        };
+        Call {
+            kind,
+            frame: Vec::new(),
+            n: self.n,
+            plan: self.plan.clone(),
+            scratch: any_bytes(rng, length),
+        }
+    }
+
+    /// Takes over what a call left: its answer is the new length, if it is one.
+    pub fn after(&mut self, kind: Kind, outcome: Outcome) {
+        if kind != Kind::Logical
+            && let Ok(length) = usize::try_from(outcome.answer)
+        {
+            self.n = length;
+        }
+        self.plan = outcome.plan;
+    }
+
+    /// In most cases nothing; else another n, a damaged plan, or one that no call made.
+    pub fn disturb(&mut self, rng: &mut Rng) {
+        match rng.below(48) {
+            0 => self.n = self.past_the_end(rng),
+            1 => self.n = rng.below(self.plan.len() + 1),
+            2 => {
+                let mut bytes = self.plan.get(..self.n).unwrap_or_default().to_vec();
+                damage(rng, &mut bytes);
+                self.hold(&bytes);
+            }
+            3..=6 => self.hold(&extraction(rng)),
+            7 => {
+                let mut bytes = extraction(rng);
+                damage(rng, &mut bytes);
+                self.hold(&bytes);
+            }
+            8 => {
+                let mut bytes = likely_bytes(rng);
+                bytes[0] = rng.pick(&[0x01, 0x02, 0x11, 0x12, 0x13]);
+                self.hold(&bytes);
+            }
+            9 => {
+                let length = rng.below(40);
+                self.hold(&any_bytes(rng, length));
+            }
+            _ => (),
+        }
+    }
+
+    /// The buffer grows if it must; bytes after the plan stay.
+    fn hold(&mut self, bytes: &[u8]) {
+        if self.plan.len() < bytes.len() {
+            self.plan.resize(bytes.len(), 0);
+        }
+        self.plan[..bytes.len()].copy_from_slice(bytes);
+        self.n = bytes.len();
+    }
+
+    fn past_the_end(&self, rng: &mut Rng) -> usize {
+        let far = rng.below(MAX_BYTES);
+        match rng.below(4) {
+            0 => usize::MAX - far,
+            1 => usize::MAX / 2 + far,
+            2 => (1 << 32) + rng.below(self.plan.len() + 1),
+            _ => self.plan.len() + 1 + rng.below(64),
+        }
+    }
+}
+
+fn any_bytes(rng: &mut Rng, length: usize) -> Vec<u8> {
+    (0..length).map(|_| rng.draw() as u8).collect()
+}

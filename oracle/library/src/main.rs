@@ -1,0 +1,126 @@
+//! Holds the library's four calls to the reading's, buffers and all, on cases from a seed.
+
+mod call;
+mod counts;
+mod held;
+mod lent;
+#[path = "../../../include/spatialjoin.rs"]
+mod spatialjoin;
+
+use std::env;
+use std::process::ExitCode;
+
+use driver::make::{self, Case};
+use driver::rng::Rng;
+use reading::frame::{LOGICAL, MAX_BYTES, PHYSICAL};
+use reading::program::parse;
+
+use call::{Call, Kind};
+use counts::Counts;
+use held::Held;
+
+const USAGE: &str = "library [--frames N] [--seed S]";
+
+/// What is asked on a line of a case.
+enum Asked {
+    OfFrame(Vec<u8>),
+    OfPlan(Kind),
+}
+
+fn main() -> ExitCode {
+    let words: Vec<String> = env::args().skip(1).collect();
+    let Some((frames, seed)) = options(&words) else {
+        eprintln!("{USAGE}");
+        return ExitCode::from(2);
+    };
+    println!("seed {seed}, {frames} frames");
+    let mut counts = Counts::default();
+    for number in 1..=frames {
+        let mut rng = Rng::new(!seed, number);
+        if let Err(difference) = run(&mut rng, &make::case(seed, number), &mut counts) {
+            println!("difference at frame {number}\n{difference}");
+            return ExitCode::FAILURE;
+        }
+    }
+    println!("{counts}, no difference");
+    ExitCode::SUCCESS
+}
+
+fn options(words: &[String]) -> Option<(u64, u64)> {
+    let (mut frames, mut seed) = (200_000, 1);
+    for pair in words.chunks(2) {
+        let [name, value] = pair else {
+            return None;
+        };
+        match name.as_str() {
+            "--frames" => frames = value.parse().ok()?,
+            "--seed" => seed = value.parse().ok()?,
+            _ => return None,
+        }
+    }
+    Some((frames, seed))
+}
+
+/// All calls of a case, on one plan.
+fn run(rng: &mut Rng, case: &Case, counts: &mut Counts) -> Result<(), String> {
+    let asked: Vec<Asked> = case.lines.iter().map(|line| asked(rng, line)).collect();
+    let mut held = Held::new(rng, longest(&asked));
+    for asked in asked {
+        let call = match asked {
+            Asked::OfFrame(frame) => held.with_frame(frame_call(rng, &frame), frame),
+            Asked::OfPlan(kind) => {
+                held.disturb(rng);
+                held.with_scratch(kind, rng)
+            }
+        };
+        compare(rng, &call, &mut held, counts)?;
+    }
+    Ok(())
+}
+
+/// A line that is no hexadecimal is a frame as it stands.
+fn asked(rng: &mut Rng, line: &[u8]) -> Asked {
+    let mut frame = parse(line).unwrap_or(line.to_vec());
+    match frame[..] {
+        [0x21] => return Asked::OfPlan(Kind::Extract),
+        [0x22] => return Asked::OfPlan(Kind::Exchange),
+        _ => (),
+    }
+    if rng.one_in(200) {
+        frame.resize(MAX_BYTES + rng.below(3), 0);
+    }
+    Asked::OfFrame(frame)
+}
+
+fn longest(asked: &[Asked]) -> usize {
+    let length = |asked: &Asked| match asked {
+        Asked::OfFrame(frame) => frame.len(),
+        Asked::OfPlan(_) => 0,
+    };
+    asked.iter().map(length).max().unwrap_or(0)
+}
+
+/// The call for a frame's first byte, in most cases.
+fn frame_call(rng: &mut Rng, frame: &[u8]) -> Kind {
+    let strange = rng.one_in(16);
+    match frame.first() {
+        Some(&LOGICAL) if !strange => Kind::Logical,
+        Some(&PHYSICAL) if strange => Kind::Logical,
+        Some(&PHYSICAL | &LOGICAL) => Kind::Load,
+        _ => rng.pick(&[Kind::Load, Kind::Logical]),
+    }
+}
+
+fn compare(rng: &mut Rng, call: &Call, held: &mut Held, counts: &mut Counts) -> Result<(), String> {
+    let expected = call.expected();
+    let faults = call.given(rng).faults(&expected);
+    if !faults.is_empty() {
+        let faults = faults.join("\n");
+        return Err(format!(
+            "{call}\nexpected\n{expected}\nthe library differs in\n{faults}"
+        ));
+    }
+    counts.count(call.kind, expected.answer);
+    held.after(call.kind, expected);
+    Ok(())
+}

@@ -1,0 +1,53 @@
+/* The library with one fault, chosen by WRONG. Its own functions are renamed to right_.. before (library-mutants). */
+#include <stddef.h>
+#include <stdint.h>
+
+int64_t right_load(const uint8_t *frame, size_t frame_len, uint8_t *plan, size_t plan_len);
+int64_t right_extract(uint8_t *plan, size_t plan_len, size_t n, uint8_t *scratch, size_t scratch_len);
+int64_t right_exchange(uint8_t *plan, size_t plan_len, size_t n, uint8_t *scratch, size_t scratch_len);
+int64_t right_logical(const uint8_t *frame, size_t frame_len);
+
+int64_t spatialjoin_load(const uint8_t *frame, size_t frame_len, uint8_t *plan, size_t plan_len)
+{
+    int64_t answer = right_load(frame, frame_len, plan, plan_len);
+    if (WRONG == 1 && answer > 0 && (size_t)answer < plan_len) {
+        plan[answer] ^= 1;
+    }
+    if (WRONG == 2 && answer == -8) {
+        answer = -9;
+    }
+    return answer;
+}
+
+int64_t spatialjoin_extract(uint8_t *plan, size_t plan_len, size_t n, uint8_t *scratch, size_t scratch_len)
+{
+    int64_t answer = right_extract(plan, plan_len, n, scratch, scratch_len);
+    if (WRONG == 3 && answer > 0 && n < scratch_len) {
+        scratch[n] ^= 1;
+    }
+    if (WRONG == 4 && answer == -13 && scratch_len > 0) {
+        scratch[0] ^= 1;
+    }
+    return answer;
+}
+
+int64_t spatialjoin_exchange(uint8_t *plan, size_t plan_len, size_t n, uint8_t *scratch, size_t scratch_len)
+{
+    int64_t answer = right_exchange(plan, plan_len, n, scratch, scratch_len);
+    if (WRONG == 5 && answer > 0) {
+        plan[plan_len] ^= 1;
+    }
+    if (WRONG == 6 && answer == -9 && n == scratch_len + 1) {
+        answer = -11;
+    }
+    return answer;
+}
+
+int64_t spatialjoin_logical(const uint8_t *frame, size_t frame_len)
+{
+    int64_t answer = right_logical(frame, frame_len);
+    if (WRONG == 7 && answer > 0 && answer % 256 == 2) {
+        answer -= 1;
+    }
+    return answer;
+}
