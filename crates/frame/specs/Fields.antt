@@ -17,8 +17,8 @@ use Rattle.frame.specs.declared.fields.Two.{Two}
 use Rattle.frame.specs.declared.fields.Two.the-variants as two
 use Rattle.frame.specs.declared.fields.Skipped.{Skipped}
 use Rattle.frame.specs.declared.fields.Skipped.the-variants as skipped
-use Rattle.frame.specs.declared.records.Side.{Side}
-use Rattle.frame.specs.declared.records.Side.the-variants.{Left, Right, Neither}
+use Rattle.frame.specs.declared.records.JoinSide.{JoinSide}
+use Rattle.frame.specs.declared.records.JoinSide.the-variants.{Left, Right, None}
 use Rattle.frame.specs.declared.records.Sided.{Sided}
 use Rattle.frame.specs.declared.records.Sided.the-variants as sided
 
@@ -59,12 +59,13 @@ abbrev pub SkippedIs : {A : Type 0} → List ℕ → (at : ℕ) → Skipped → 
 SkippedIs {A = A} s at (skipped.To next) reader = (next ≤ length s) × (a : A) × ReadsAt s at next a reader
 SkippedIs {A = A} s at (skipped.Refused why) reader = StopsAt s at (numberOf why) reader
 
-abbrev pub sideOf : Side → tree.Side
-sideOf Left = tree.left
-sideOf Right = tree.right
-sideOf Neither = tree.noSide
+-- The definitions' side for each case: 0 left, 1 right, 2 none.
+abbrev pub joinSide : JoinSide → tree.Side
+joinSide Left = tree.left
+joinSide Right = tree.right
+joinSide None = tree.noSide
 
 -- A side was read.
 abbrev pub SideIs : List ℕ → (at : ℕ) → Sided → Reader tree.Side → Type 0
-SideIs s at (sided.Value side next) reader = (next ≤ length s) × ReadsAt s at next (sideOf side) reader
+SideIs s at (sided.Value side next) reader = (next ≤ length s) × ReadsAt s at next (joinSide side) reader
 SideIs s at (sided.Refused why) reader = StopsAt s at (numberOf why) reader

@@ -12,28 +12,41 @@ ghost use Prim.Native.Nat.{_≤_};
 ghost use lib.ListN.{length};
 ghost use Rattle.definitions.specs.Readers as readers;
 ghost use Rattle.definitions.specs.Decode as decode;
-ghost use Rattle.frame.specs.Fields.{FieldIs, SkippedIs, SideIs, sideOf};
+ghost use Rattle.definitions.specs.Encode.{sideNumber};
+ghost use Rattle.frame.specs.Fields.{FieldIs, SkippedIs, SideIs, joinSide};
 
-// A side of the join.
-pub enum Side {
+// A side of the join; none is a mark column's, and that of an argument without columns.
+pub enum JoinSide {
     Left,
     Right,
-    Neither,
+    None,
 }
 
 // A side and the place after it.
 pub enum Sided {
-    Value(Side, usize),
+    Value(JoinSide, usize),
     Refused(Refusal),
 }
 
-fn side_numbered(number: u64) -> Side
-    ensures { λ r. ⌜ sideOf r ≡ decode.sideNumbered number ⌝ }
+// The side with this number.
+pub fn side_numbered(number: u64) -> JoinSide
+    ensures { λ r. ⌜ joinSide r ≡ decode.sideNumbered number ⌝ }
 {
     match number {
-        0 => Side::Left,
-        1 => Side::Right,
-        _ => Side::Neither,
+        0 => JoinSide::Left,
+        1 => JoinSide::Right,
+        _ => JoinSide::None,
+    }
+}
+
+// Document 01's number of a side.
+pub fn side_number(side: JoinSide) -> u8
+    ensures { λ r. ⌜ r ≡ sideNumber (joinSide side) ⌝ }
+{
+    match side {
+        JoinSide::Left => 0,
+        JoinSide::Right => 1,
+        JoinSide::None => 2,
     }
 }
 

@@ -11,7 +11,7 @@ use Rattle.definitions.specs.Decode.{indexBelow}
 use Rattle.expression.specs.Nodes.{Stands}
 use Rattle.frame.specs.declared.whole.Frame.{Frame}
 use Rattle.sedona_query_planner.specs.Relations.{relationOf}
-use Rattle.spatial_expr_utils.specs.Sides.{joinSide}
+use Rattle.frame.specs.Fields.{joinSide}
 use Rattle.spatial_expr_utils.specs.Literals.{flag}
 use Rattle.spatial_expr_utils.specs.KnnOptions.{tiesNumber}
 use Rattle.spatial_expr_utils.specs.Frames.{Over}

@@ -1,4 +1,5 @@
 // Writes the extraction that takes a pick: its predicate, then its remainder where the predicate ended.
+use frame::records::side_number;
 use frame::whole::Frame;
 use plan_writer::cuts::Cut;
 use plan_writer::predicates::put_distance;
@@ -10,7 +11,6 @@ use spatial_expr_utils::pick::Pick;
 use spatial_expr_utils::predicates::KNNPredicate;
 use spatial_expr_utils::predicates::SpatialPredicate;
 use spatial_expr_utils::predicates::TieBreakers;
-use spatial_expr_utils::sides::side_number;
 ghost use mathlib.Core.Path.{_≡_};
 ghost use Rattle.spatial_expr_utils.specs.Literals.{flag};
 ghost use Rattle.spatial_expr_utils.specs.KnnOptions.{tiesNumber};

@@ -10,7 +10,7 @@ use Rattle.definitions.specs.Expression as tree
 use Rattle.definitions.specs.Encode.{sideNumber, relationNumber, exprBytes, predicateKind, predicateFields}
 use Rattle.definitions.specs.Match.{invert}
 use Rattle.definitions.specs.Exchange.{negate, exchangePredicate}
-use Rattle.frame.specs.Fields.{sideOf}
+use Rattle.frame.specs.Fields.{joinSide}
 use Rattle.frame.specs.Places.{Between}
 use Rattle.plan_reader.specs.declared.predicates.RelationAt.{RelationAt}
 use Rattle.plan_reader.specs.declared.predicates.DistanceAt.{DistanceAt}
@@ -36,7 +36,7 @@ module _ {s : List ℕ} where
   pub relation-fits : {p : RelationAt} {out : List ℕ} → Room (PredicateHeld s (predicate.Relation p)) predicateExchanged 0 out → 2 ≤ length out
   relation-fits {p} room = head-room (relation-view p _ refl) room
 
-  pub distance-view : (p : DistanceAt) (number : ℕ) → number ≡ sideNumber (negate (sideOf (p .side)))
+  pub distance-view : (p : DistanceAt) (number : ℕ) → number ≡ sideNumber (negate (joinSide (p .side)))
       → (P : tree.Predicate) → PredicateHeld s (predicate.Distance p) P
       → Headed (0x12 ∷ p .form ∷ number ∷ [])
       (Both (Both (Between s (p .right) (p .distance)) (Between s (p .left) (p .right))) (Between s (p .distance) (p .end)))
@@ -53,7 +53,7 @@ module _ {s : List ℕ} where
   pub distance-fits : {p : DistanceAt} {out : List ℕ} → Room (PredicateHeld s (predicate.Distance p)) predicateExchanged 0 out → 3 ≤ length out
   distance-fits {p} room = head-room (distance-view p _ refl) room
 
-  pub knn-view : (p : KnnAt) (number : ℕ) → number ≡ sideNumber (negate (sideOf (p .flags .probe)))
+  pub knn-view : (p : KnnAt) (number : ℕ) → number ≡ sideNumber (negate (joinSide (p .flags .probe)))
       → (P : tree.Predicate) → PredicateHeld s (predicate.Knn p) P
       → Headed (knnHead (p .k) (p .flags .spheroid) number (p .flags .ties)) (Both (Between s (p .left) (p .right)) (Between s (p .right) (p .end)))
       (joined same same) (predicateExchanged P)

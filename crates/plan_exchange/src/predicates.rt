@@ -3,7 +3,7 @@ use crate::copies::Span;
 use crate::copies::copy_at;
 use crate::copies::copy_both;
 use crate::numbers::negate_number;
-use crate::numbers::side_number;
+use frame::records::side_number;
 use plan_reader::predicates::DistanceAt;
 use plan_reader::predicates::KnnAt;
 use plan_reader::predicates::Predicate;

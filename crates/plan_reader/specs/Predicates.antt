@@ -8,7 +8,7 @@ use Rattle.definitions.specs.Expression.{Expr}
 use Rattle.definitions.specs.Readers.{read, stopped, Reader, _>>=_, give, byteUpTo}
 use Rattle.definitions.specs.Decode.{indexBelow, sideUpTo, argument}
 use Rattle.frame.specs.Refusals.{numberOf}
-use Rattle.frame.specs.Fields.{sideOf}
+use Rattle.frame.specs.Fields.{joinSide}
 use Rattle.frame.specs.Places.{ExprAt}
 use Rattle.sedona_query_planner.specs.Relations.{relationOf}
 use Rattle.plan_reader.specs.declared.predicates.Predicate.{Predicate}
@@ -55,7 +55,7 @@ abbrev pub FlagsIs : List ℕ → (at : ℕ) → Flagged → Type 0
 FlagsIs s at (flagged.Read f end) =
     (end ≤ length s)
     × ((next : ℕ → tree.Side → ℕ → Reader tree.Predicate) (n : ℕ)
-    → thenFlags next n (drop at s) ≡ next (f .spheroid) (sideOf (f .probe)) (f .ties) n (drop end s))
+    → thenFlags next n (drop at s) ≡ next (f .spheroid) (joinSide (f .probe)) (f .ties) n (drop end s))
 FlagsIs s at (flagged.Refused why) =
     (next : ℕ → tree.Side → ℕ → Reader tree.Predicate) (n : ℕ) → thenFlags next n (drop at s) ≡ stopped (numberOf why)
 
@@ -71,10 +71,10 @@ PredicateAt s (predicate.Relation p) P =
     (l r : Expr) × (P ≡ tree.relation (relationOf (p .relation)) l r)
     × ArgumentAt s (p .left) (p .right) l × ArgumentAt s (p .right) (p .end) r
 PredicateAt s (predicate.Distance p) P =
-    (l r bound : Expr) × (P ≡ tree.distance (p .form) (sideOf (p .side)) l r bound)
+    (l r bound : Expr) × (P ≡ tree.distance (p .form) (joinSide (p .side)) l r bound)
     × ArgumentAt s (p .left) (p .right) l × ArgumentAt s (p .right) (p .distance) r × ArgumentAt s (p .distance) (p .end) bound
 PredicateAt s (predicate.Knn p) P =
-    (l r : Expr) × (P ≡ tree.knn (p .k) (p .flags .spheroid) (sideOf (p .flags .probe)) (p .flags .ties) l r)
+    (l r : Expr) × (P ≡ tree.knn (p .k) (p .flags .spheroid) (joinSide (p .flags .probe)) (p .flags .ties) l r)
     × ArgumentAt s (p .left) (p .right) l × ArgumentAt s (p .right) (p .end) r
 
 -- A predicate was read.

@@ -3,7 +3,7 @@ use frame::fields::Field;
 use frame::fields::byte_up_to;
 use frame::fields::number;
 use frame::heads::Columns;
-use frame::records::Side;
+use frame::records::JoinSide;
 use frame::records::Sided;
 use frame::records::side_up_to;
 use frame::refusals::Refusal;
@@ -14,7 +14,7 @@ ghost use mathlib.Core.Path.{_≡_};
 ghost use Prim.Native.Nat.{_≤_};
 ghost use lib.ListN.{length};
 ghost use Rattle.definitions.specs.Decode as decode;
-ghost use Rattle.frame.specs.Fields.{sideOf};
+ghost use Rattle.frame.specs.Fields.{joinSide};
 ghost use Rattle.frame.specs.Places.{ExpressionIs};
 ghost use Rattle.sedona_query_planner.specs.Relations.{relationOf};
 ghost use Rattle.plan_reader.specs.Predicates.{PairIs, FlagsIs, PredicateIs, distanceArguments};
@@ -30,7 +30,7 @@ pub struct RelationAt {
 // A distance: its form and side, where its left, right and distance start, and where the distance ends.
 pub struct DistanceAt {
     pub form: u64,
-    pub side: Side,
+    pub side: JoinSide,
     pub left: usize,
     pub right: usize,
     pub distance: usize,
@@ -40,7 +40,7 @@ pub struct DistanceAt {
 // The flags of KNN; ties 2 is absent.
 pub struct Flags {
     pub spheroid: u64,
-    pub probe: Side,
+    pub probe: JoinSide,
     pub ties: u64,
 }
 
@@ -143,9 +143,9 @@ fn relation_predicate(s: &[u8], at: usize) -> Predicated
 }
 
 // The left, the right and the distance of a distance predicate.
-fn distance_arguments(s: &[u8], left: usize, form: u64, side: Side) -> Predicated
+fn distance_arguments(s: &[u8], left: usize, form: u64, side: JoinSide) -> Predicated
     requires { ⌜ left ≤ length (now s) ⌝ }
-    ensures { λ r. ⌜ PredicateIs (now (s .entry)) left r (distanceArguments form (sideOf side)) ⌝ }
+    ensures { λ r. ⌜ PredicateIs (now (s .entry)) left r (distanceArguments form (joinSide side)) ⌝ }
 {
     match both(s, left) {
         Pair::Refused(why) => Predicated::Refused(why),

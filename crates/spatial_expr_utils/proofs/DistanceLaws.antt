@@ -16,9 +16,10 @@ use Rattle.sedona_expr.specs.declared.utils.ParsedDistancePredicate.{ParsedDist
 use Rattle.sedona_expr.specs.declared.utils.Parsed.{Parsed}
 use Rattle.sedona_expr.specs.declared.utils.Parsed.the-variants as parse
 use Rattle.spatial_expr_utils.specs.Frames.{Over, Framed, OfFrame}
-use Rattle.spatial_expr_utils.specs.Sides.{joinSide, commonSide, order, ArgumentIs}
+use Rattle.frame.specs.Fields.{joinSide}
+use Rattle.spatial_expr_utils.specs.Sides.{commonSide, order, ArgumentIs}
 use Rattle.spatial_expr_utils.specs.Matches.{Spans, isDistance, Lacks, LeafMatching}
-use Rattle.spatial_expr_utils.specs.declared.sides.JoinSide.{JoinSide}
+use Rattle.frame.specs.declared.records.JoinSide.{JoinSide}
 use Rattle.spatial_expr_utils.specs.declared.sides.CommonSide.the-variants.{Known, Undefined}
 use Rattle.spatial_expr_utils.specs.declared.sides.Argument.{Argument}
 use Rattle.spatial_expr_utils.specs.declared.sides.Order.{Order}

@@ -11,19 +11,20 @@ use Rattle.definitions.specs.Expression.{call, Exprs, nil, cons, count, Record,
 use Rattle.definitions.specs.Match.{askNothing, knnRequest, callRequest, request, onChild, matchKnn, matchRequest, matchLeaf}
 use Rattle.definitions.specs.Extract.{isKnn}
 use Rattle.expression.specs.Nodes.{OfTrees}
-use Rattle.spatial_expr_utils.specs.Sides.{joinSide, order, GeometriesAre}
+use Rattle.frame.specs.Fields.{joinSide}
+use Rattle.spatial_expr_utils.specs.Sides.{order, GeometriesAre}
 use Rattle.spatial_expr_utils.specs.Literals.{flag}
 use Rattle.spatial_expr_utils.specs.KnnOptions.{tiesNumber, asked, OptionsAre}
 use Rattle.spatial_expr_utils.specs.Matches.{Lacks, CallMatching}
 use Rattle.spatial_expr_utils.specs.Frames.{OfFrameTwo, CallOver}
 use Rattle.spatial_expr_utils.specs.declared.predicates.Matching.the-variants.{Matched, Unmatched}
-use Rattle.spatial_expr_utils.specs.declared.sides.JoinSide.the-variants.{Left, Right}
+use Rattle.frame.specs.declared.records.JoinSide.the-variants.{Left, Right}
 use Rattle.spatial_expr_utils.specs.declared.sides.Order.{Order}
 use Rattle.spatial_expr_utils.specs.declared.sides.Order.the-variants.{LeftRight, RightLeft, Neither}
 use Rattle.expression.specs.Places.{part}
 use Rattle.expression.specs.declared.leaves.Called.{Called}
 use Rattle.definitions.specs.Encode.{exprsBytes}
-use Rattle.spatial_expr_utils.specs.declared.sides.JoinSide.{JoinSide}
+use Rattle.frame.specs.declared.records.JoinSide.{JoinSide}
 use Rattle.spatial_expr_utils.specs.declared.sides.Geometries.{Geometries}
 use Rattle.spatial_expr_utils.specs.declared.predicates.TieBreakers.{TieBreakers}
 use Rattle.spatial_expr_utils.specs.declared.predicates.SpatialPredicate.{SpatialPredicate}

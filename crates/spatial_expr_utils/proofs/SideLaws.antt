@@ -1,35 +1,22 @@
 -- Laws of sides, of bytes that are sides, and of what has been seen of them.
-use Prim.Native.Nat.{ℕ}
 use mathlib.Core.Path.{_≡_, refl, sym, ap, _∙_}
 use mathlib.Core.Bool.{Bool, true, false, _&&_}
 use mathlib.Core.List.{List, [], _∷_, _++_}
 use mathlib.Core.Option.{Option, none, some}
 use lib.Dec.{eqb}
-use borrow.Author.Tests.{ne-eqb}
 use Rattle.definitions.specs.Basics.{if_then_else_, all}
 use Rattle.definitions.specs.Expression.{Side, left, right, noSide}
 use Rattle.definitions.specs.Encode.{sideNumber}
 use Rattle.definitions.specs.Decode.{sideNumbered}
 use Rattle.definitions.specs.Match.{sameSide, commonSide, isSide, leftRight, rightLeft, noOrder, orderOf}
-use Rattle.spatial_expr_utils.specs.declared.sides.JoinSide.{JoinSide}
-use Rattle.spatial_expr_utils.specs.declared.sides.JoinSide.the-variants.{Left, Right, None}
+use Rattle.frame.specs.declared.records.JoinSide.{JoinSide}
+use Rattle.frame.specs.declared.records.JoinSide.the-variants.{Left, Right, None}
 use Rattle.spatial_expr_utils.specs.declared.sides.Sides.{Sides}
 use Rattle.spatial_expr_utils.specs.declared.sides.Sides.the-variants.{Unseen, All, Differ}
-use Rattle.spatial_expr_utils.specs.Sides.{joinSide, sideFor, sidesAre, see, seeAll}
+use Rattle.frame.specs.Fields.{joinSide}
+use Rattle.spatial_expr_utils.specs.Sides.{sideFor, sidesAre, see, seeAll}
 
 -- ---- numbers of sides
-
-pub numbered-0 : (b : ℕ) → b ≡ 0 → left ≡ sideNumbered b
-unfolding sideNumbered
-numbered-0 b e = rw e
-
-pub numbered-1 : (b : ℕ) → b ≡ 1 → right ≡ sideNumbered b
-unfolding sideNumbered
-numbered-1 b e = rw e
-
-pub numbered-2 : (b : ℕ) → (b ≡ 0 → ⊥) → (b ≡ 1 → ⊥) → noSide ≡ sideNumbered b
-unfolding sideNumbered
-numbered-2 b n m = rw (ne-eqb b 0 n, ne-eqb b 1 m)
 
 pub side-again : (x : Side) → sideNumbered (sideNumber x) ≡ x
 unfolding sideNumbered sideNumber

@@ -14,8 +14,9 @@ use Rattle.expression.specs.Nodes.{childrenOf, kindOf, OfTree}
 use Rattle.expression.specs.Heads.{HeadIs}
 use Rattle.expression.specs.declared.heads.Head.{Head}
 use Rattle.spatial_expr_utils.specs.Frames.{Over, OverAll, Framed, OfFrame, OfFrameAll, FramedTwo, OfFrameTwo}
-use Rattle.spatial_expr_utils.specs.Sides.{joinSide, commonSide, order, sidesAre, see, seeAll, sidesIn, SideIs, SidesAre, ArgumentIs, GeometriesAre}
-use Rattle.spatial_expr_utils.specs.declared.sides.JoinSide.{JoinSide}
+use Rattle.frame.specs.Fields.{joinSide}
+use Rattle.spatial_expr_utils.specs.Sides.{commonSide, order, sidesAre, see, seeAll, sidesIn, SideIs, SidesAre, ArgumentIs, GeometriesAre}
+use Rattle.frame.specs.declared.records.JoinSide.{JoinSide}
 use Rattle.spatial_expr_utils.specs.declared.sides.Sides.{Sides}
 use Rattle.spatial_expr_utils.specs.declared.sides.Sides.the-variants.{Unseen}
 use Rattle.spatial_expr_utils.specs.declared.sides.SideTo.{SideTo}

@@ -11,7 +11,7 @@ use Rattle.definitions.specs.Match.{matchLeaf, onChild, boundOn}
 use Rattle.expression.specs.declared.leaves.Called.{Called}
 use Rattle.sedona_query_planner.specs.Relations.{relationOf}
 use Rattle.spatial_expr_utils.specs.Frames.{Over}
-use Rattle.spatial_expr_utils.specs.Sides.{joinSide}
+use Rattle.frame.specs.Fields.{joinSide}
 use Rattle.spatial_expr_utils.specs.Literals.{flag}
 use Rattle.spatial_expr_utils.specs.KnnOptions.{tiesNumber}
 use Rattle.spatial_expr_utils.specs.declared.predicates.RelationPredicate.{RelationPredicate}

@@ -9,8 +9,9 @@ use Rattle.definitions.specs.Expression.{Side, left, right, noSide, Expr, Exprs
 use Rattle.definitions.specs.Encode.{exprBytes, exprsBytes}
 use Rattle.definitions.specs.Match as definition
 use Rattle.definitions.specs.Match.{columnsOf, columnsOfAll, recordAt, sameSide, sideOf, orderOf}
-use Rattle.spatial_expr_utils.specs.declared.sides.JoinSide.{JoinSide}
-use Rattle.spatial_expr_utils.specs.declared.sides.JoinSide.the-variants.{Left, Right, None}
+use Rattle.frame.specs.Fields.{joinSide}
+use Rattle.frame.specs.declared.records.JoinSide.{JoinSide}
+use Rattle.frame.specs.declared.records.JoinSide.the-variants.{Left, Right, None}
 use Rattle.spatial_expr_utils.specs.declared.sides.Sides.{Sides}
 use Rattle.spatial_expr_utils.specs.declared.sides.Sides.the-variants.{Unseen, All, Differ}
 use Rattle.spatial_expr_utils.specs.declared.sides.SideTo.{SideTo}
@@ -21,12 +22,7 @@ use Rattle.spatial_expr_utils.specs.declared.sides.Geometries.{Geometrie
 use Rattle.spatial_expr_utils.specs.declared.sides.Order.{Order}
 use Rattle.spatial_expr_utils.specs.declared.sides.Order.the-variants.{LeftRight, RightLeft, Neither}
 
--- The side that each case is.
-abbrev pub joinSide : JoinSide → Side
-joinSide Left = left
-joinSide Right = right
-joinSide None = noSide
-
+-- The case that each side is.
 abbrev pub sideFor : Side → JoinSide
 sideFor left = Left
 sideFor right = Right

@@ -13,12 +13,12 @@ use super::predicates::KNNPredicate;
 use super::predicates::Matching;
 use super::predicates::SpatialPredicate;
 use super::predicates::TieBreakers;
-use super::sides::JoinSide;
 use super::sides::Order;
 use super::sides::resolve_geometries;
 use expression::ends::end_children;
 use expression::leaves::Called;
 use expression::names::same_name;
+use frame::records::JoinSide;
 
 // The flags after k.
 pub enum KnnFlags {

@@ -1,5 +1,5 @@
 // Spatial predicates as places: each argument stands from its start up to its end.
-use super::sides::JoinSide;
+use frame::records::JoinSide;
 use sedona_query_planner::spatial_predicate::SpatialRelationType;
 
 pub struct RelationPredicate {

@@ -2,20 +2,16 @@
 ghost use mathlib.Core.Path.{_≡_};
 ghost use Prim.Native.Nat.{_<_};
 ghost use lib.ListN.{length, getD};
-ghost use Rattle.definitions.specs.Encode.{sideNumber};
 ghost use Rattle.definitions.specs.Decode.{sideNumbered};
 ghost use Rattle.definitions.specs.Match.{sameSide, isSide, orderOf};
+ghost use Rattle.frame.specs.Fields.{joinSide};
 ghost use Rattle.spatial_expr_utils.specs.Frames.{Framed, OfFrame, FramedAll, OfFrameAll, FramedTwo, OfFrameTwo};
-ghost use Rattle.spatial_expr_utils.specs.Sides.{joinSide, commonSide, order, see, SideIs, SidesAre, ArgumentIs, GeometriesAre};
+ghost use Rattle.spatial_expr_utils.specs.Sides.{commonSide, order, see, SideIs, SidesAre, ArgumentIs, GeometriesAre};
 use expression::fields::short_at;
 use expression::heads::head_at;
-
-// A side of the join; none is a mark column's, and that of an argument without columns.
-pub enum JoinSide {
-    Left,
-    Right,
-    None,
-}
+use frame::records::JoinSide;
+use frame::records::side_number;
+use frame::records::side_numbered;
 
 // What the columns seen so far have in common.
 pub enum Sides {
@@ -61,21 +57,7 @@ fn side_at(s: &[u8], at: usize) -> JoinSide
     requires { ⌜ at < length (now s) ⌝ }
     ensures { λ r. ⌜ joinSide r ≡ sideNumbered (getD (now (s .entry)) at 0) ⌝ }
 {
-    match s[at] {
-        0 => JoinSide::Left,
-        1 => JoinSide::Right,
-        _ => JoinSide::None,
-    }
-}
-
-pub fn side_number(side: JoinSide) -> u8
-    ensures { λ r. ⌜ r ≡ sideNumber (joinSide side) ⌝ }
-{
-    match side {
-        JoinSide::Left => 0,
-        JoinSide::Right => 1,
-        JoinSide::None => 2,
-    }
+    side_numbered(s[at] as u64)
 }
 
 fn same_side(a: JoinSide, b: JoinSide) -> bool

@@ -3,7 +3,7 @@ use native.Mathlib.Omega.{arith}
 use borrow.Author.Needs.{needs}
 use mathlib.Core.Path.{_∙_}
 use lib.ListN.{length-set}
-use Rattle.frame.specs.Fields.{sideOf}
+use Rattle.frame.specs.Fields.{joinSide}
 use Rattle.plan_exchange.specs.Writing.{same}
 use Rattle.plan_exchange.proofs.Sequence.{stored-room, stored-put, first-room, second-room, both-put}
 use Rattle.plan_exchange.proofs.Views.{distance-view, distance-fits, form-fits}
@@ -16,7 +16,7 @@ copy-both-requires c κs =
     let number = c .before .before .before .side-number in
     let start = c .before .before .before .before .before .before in
     let p = start .args .p in
-    first-room same (stored-room (distance-view p (other .result) (other .ensures (sideOf (p .side)) (number .ensures))) (start .pre))
+    first-room same (stored-room (distance-view p (other .result) (other .ensures (joinSide (p .side)) (number .ensures))) (start .pre))
 
 copy-at-requires : tie.Need-copy-at-requires
 copy-at-requires c κs =
@@ -26,7 +26,7 @@ copy-at-requires c κs =
     let number = at-other .before .side-number in
     let start = at-other .before .before .before .before in
     let p = start .args .p in
-    second-room (stored-room (distance-view p (other .result) (other .ensures (sideOf (p .side)) (number .ensures))) (start .pre)) (both .ensures) (both .kept .0)
+    second-room (stored-room (distance-view p (other .result) (other .ensures (joinSide (p .side)) (number .ensures))) (start .pre)) (both .ensures) (both .kept .0)
 
 returns : tie.Need-returns
 returns c =
@@ -36,7 +36,7 @@ returns c =
     let number = at-other .before .side-number in
     let start = at-other .before .before .before .before in
     let p = start .args .p in
-    stored-put (distance-view p (other .result) (other .ensures (sideOf (p .side)) (number .ensures))) (start .pre)
+    stored-put (distance-view p (other .result) (other .ensures (joinSide (p .side)) (number .ensures))) (start .pre)
     (both-put (simp length-set (distance-fits (start .pre))) (both .ensures) (c .before .before .copy-at .ensures))
 
 pub swap-distance-spec : {M : Type 1} → statement M

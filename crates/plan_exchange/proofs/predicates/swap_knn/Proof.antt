@@ -1,7 +1,7 @@
 -- `swap_knn`: the head with the other probe side, then left and right as they were.
 use native.Mathlib.Omega.{arith}
 use borrow.Author.Needs.{needs}
-use Rattle.frame.specs.Fields.{sideOf}
+use Rattle.frame.specs.Fields.{joinSide}
 use Rattle.plan_exchange.proofs.Sequence.{rest-room, headed-put}
 use Rattle.plan_exchange.proofs.Views.{knn-view, knn-fits, flags-fit}
 use Rattle.plan_exchange.proofs.predicates.swap_knn.Statement.{statement}
@@ -15,7 +15,7 @@ copy-both-requires c κs =
     let number = at-other .before .side-number in
     let start = at-other .before .before .before .before .before in
     let p = start .args .p in
-    rest-room (knn-view p (other .result) (other .ensures (sideOf (p .flags .probe)) (number .ensures))) (start .pre) (head .ensures) (head .kept .0)
+    rest-room (knn-view p (other .result) (other .ensures (joinSide (p .flags .probe)) (number .ensures))) (start .pre) (head .ensures) (head .kept .0)
 
 returns : tie.Need-returns
 returns c =
@@ -25,7 +25,7 @@ returns c =
     let number = at-other .before .side-number in
     let start = at-other .before .before .before .before .before in
     let p = start .args .p in
-    headed-put (knn-view p (other .result) (other .ensures (sideOf (p .flags .probe)) (number .ensures))) (head .ensures) (c .before .before .copy-both .ensures)
+    headed-put (knn-view p (other .result) (other .ensures (joinSide (p .flags .probe)) (number .ensures))) (head .ensures) (c .before .before .copy-both .ensures)
 
 pub swap-knn-spec : {M : Type 1} → statement M
 swap-knn-spec =

@@ -1,7 +1,8 @@
 -- `is_side`: an undefined side is none of the three.
 use mathlib.Core.Path.{sym, ap, _∙_}
 use Rattle.definitions.specs.Match.{isSide}
-use Rattle.spatial_expr_utils.specs.Sides.{joinSide, commonSide}
+use Rattle.frame.specs.Fields.{joinSide}
+use Rattle.spatial_expr_utils.specs.Sides.{commonSide}
 use Rattle.spatial_expr_utils.specs.declared.sides.CommonSide.{CommonSide}
 use borrow.Author.Needs.{needs}
 use Rattle.spatial_expr_utils.proofs.sides.is_side.Statement.{statement}

@@ -1,8 +1,8 @@
 -- `side_number`: each side has its number.
 use borrow.Author.Needs.{needs}
 use Rattle.definitions.specs.Encode.{sideNumber}
-use Rattle.plan_exchange.proofs.numbers.side_number.Statement.{statement}
-use Rattle.plan_exchange.proofs.numbers.side_number.Tie as tie
+use Rattle.frame.proofs.records.side_number.Statement.{statement}
+use Rattle.frame.proofs.records.side_number.Tie as tie
 
 pub side-number-spec : {M : Type 1} → statement M
 unfolding sideNumber
