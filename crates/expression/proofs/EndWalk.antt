@@ -1,5 +1,5 @@
 -- `end_node` and `end_children`: what each return answers, and what their calls require.
-use Prim.Native.Nat.{ℕ, _+_, _-_}
+use Prim.Native.Nat.{ℕ, _+_, _-_, _≤_, _<_}
 use native.Mathlib.Omega.{arith}
 use mathlib.Core.Path.{_≡_, _∙_}
 use mathlib.Core.List.{List}
@@ -44,3 +44,29 @@ module _ {s : List ℕ} {at : ℕ} where
   pub rest-there : {n : ℕ} → Trees s at n → (n ≡ 0 → ⊥) → (q : ℕ) → OfTree s at (λ t. q ≡ at + length (exprBytes t)) → Trees s q (n - 1)
   rest-there {n} p some q is = some-children (λ ts. Row (p .0) s at n ts → Trees s q (n - 1))
       (λ t ts w. (p .0, ts, rest-stands w q (n - 1) (is (p .0) t (first-stands w)) (omega arith))) (p .1) (omega (arith, p .2 .counted)) (p .2)
+
+-- What the loop over a row keeps: where those left end, the whole row ends.
+pub record InEnds (s : List ℕ) (at n next left : ℕ) : Type 0 where
+  pub there : Trees s next left
+  pub low : at ≤ next
+  pub rest : (r : ℕ) → OfTrees s next left (λ ts. r ≡ next + length (exprsBytes ts)) → OfTrees s at n (λ ts. r ≡ at + length (exprsBytes ts))
+
+module _ {s : List ℕ} {at n : ℕ} where
+  pub ends-begin : Trees s at n → InEnds s at n at n
+  ends-begin there = record { there = there; low = omega arith; rest = λ r is. is }
+
+  module _ {next left : ℕ} (inv : InEnds s at n next left) where
+    pub ends-first : 0 < left → Tree s next
+    ends-first some = first-there (inv .there) (λ z. omega arith)
+
+    pub ends-go-on : 0 < left → (q : ℕ) → OfTree s next (λ t. q ≡ next + length (exprBytes t)) → InEnds s at n q (left - 1)
+    ends-go-on some q is =
+        let first = ends-first some in
+        record {
+          there = rest-there (inv .there) (λ z. omega arith) q is;
+          low = omega (arith, inv .low, is (first .0) (first .1) (first .2));
+          rest = λ r others. inv .rest r (λ d ts row. end-some row (λ z. omega arith) q r is others);
+        }
+
+    pub ends-end : left ≤ 0 → OfTrees s at n (λ ts. next ≡ at + length (exprsBytes ts))
+    ends-end none = inv .rest next (λ d ts row. end-none row (omega arith))

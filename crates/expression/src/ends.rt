@@ -14,6 +14,9 @@ pub fn end_node(s: &[u8], at: usize) -> usize
     let head = head_at(s, at);
     let next = head.next;
     let n = head.children;
+    if n == 0 {
+        return next;
+    }
     end_children(s, next, n)
 }
 
@@ -22,9 +25,11 @@ pub fn end_children(s: &[u8], at: usize, n: usize) -> usize
     requires { ⌜ Trees (now s) at n ⌝ }
     ensures { λ r. ⌜ OfTrees (now (s .entry)) at n (λ ts. r ≡ at + length (exprsBytes ts)) ⌝ }
 {
-    if n == 0 {
-        return at;
+    let mut next = at;
+    let mut left = n;
+    while 0 < left {
+        next = end_node(s, next);
+        left -= 1;
     }
-    let next = end_node(s, at);
-    end_children(s, next, n - 1)
+    next
 }

@@ -2,8 +2,8 @@
 use Prim.Native.Nat.{ℕ, _<_, _+_, _-_, _*_}
 use native.Mathlib.Omega.{arith}
 use lib.ListN.{length}
-use Rattle.expression.proofs.Standing.{node-some, after-head, after-node}
-use Rattle.expression.proofs.EndWalk.{end-node, end-none, end-some, children-there, first-there, rest-there}
+use Rattle.expression.proofs.Standing.{node-some, after-head}
+use Rattle.expression.proofs.EndWalk.{end-node, end-none, children-there, InEnds, ends-begin, ends-first, ends-go-on, ends-end}
 use borrow.Fn.Kinds.{In}
 use borrow.Fn.PlainCycle.{Measures, is, falls, and}
 use Rattle.expression.proofs.ends.end_children.Reads as end-children
@@ -43,60 +43,68 @@ end-node-below t =
 
 -- what is known of the functions that each calls
 abbrev end-children-calls : ℕ → end-children-lts.Claims
-end-children-calls t = (end-node-below t, end-node.Post, end-children-below t, end-children.Post)
+end-children-calls t = (end-node-below t, end-node.Post)
 
 abbrev end-node-calls : ℕ → end-node-lts.Claims
 end-node-calls t = (head-at-reads.Asked, head-at-reads.Learnt, end-children-below t, end-children.Post)
 
-end-children-returns : (t : ℕ) → end-children-lts.Need-returns (end-children-calls t) (end-children-at t) end-children.Post
-end-children-returns t c = λ d ts row. end-none row (c .if1 .taken)
+abbrev end-children-Inv-loop : end-children-lts.InvT-loop
+end-children-Inv-loop s at n next₀ left₀ next left = InEnds s at n next left
 
-end-children-end-node-requires : (t : ℕ) → end-children-lts.Need-end-node-requires (end-children-calls t) (end-children-at t) end-children.Post
+abbrev end-children-μ-loop : end-children-lts.MeasureT-loop
+end-children-μ-loop s at n next₀ left₀ next left = left
+
+end-children-loop-holds : (t : ℕ) → end-children-lts.Need-loop-holds (end-children-calls t) (end-children-at t) end-children.Post end-children-Inv-loop end-children-μ-loop
+end-children-loop-holds t c = ends-begin (c .before .pre .1)
+
+end-children-end-node-requires : (t : ℕ) → end-children-lts.Need-end-node-requires (end-children-calls t) (end-children-at t) end-children.Post end-children-Inv-loop end-children-μ-loop
 end-children-end-node-requires t c κs =
-    let start = c .before .before in
-    (omega (arith, start .pre .0), first-there (start .pre .1) (c .if1 .left))
+    let inv = c .before .loop .inv in
+    (omega (arith, c .before .before .before .pre .0, inv .low), ends-first inv (c .loop-test .taken))
 
-end-children-end-children-requires : (t : ℕ) → end-children-lts.Need-end-children-requires (end-children-calls t) (end-children-at t) end-children.Post
-end-children-end-children-requires t c κs =
-    let start = c .before .before .before in
-    let some = c .before .if1 .left in
-    let first = first-there (start .pre .1) some in
-    let next = c .end-node .result in (
-      omega (arith, start .pre .0, node-some (first .2), after-node (first .2) next (c .end-node .ensures (first .0) (first .1) (first .2))),
-      rest-there (start .pre .1) some next (c .end-node .ensures),
-    )
+end-children-loop-again : (t : ℕ) → end-children-lts.Need-loop-again (end-children-calls t) (end-children-at t) end-children.Post end-children-Inv-loop end-children-μ-loop
+end-children-loop-again t c = ends-go-on (c .before .before .loop .inv) (c .before .loop-test .taken) (c .end-node .result) (c .end-node .ensures)
 
-end-children-returns-2 : (t : ℕ) → end-children-lts.Need-returns-2 (end-children-calls t) (end-children-at t) end-children.Post
-end-children-returns-2 t c = λ d ts row. end-some row (c .before .before .if1 .left) (c .before .end-node .result) (c .end-children .result)
-    (c .before .end-node .ensures) (c .end-children .ensures)
+end-children-returns : (t : ℕ) → end-children-lts.Need-returns (end-children-calls t) (end-children-at t) end-children.Post end-children-Inv-loop end-children-μ-loop
+end-children-returns t c = ends-end (c .before .loop .inv) (c .loop-test .left)
 
 end-node-head-at-requires : (t : ℕ) → end-node-lts.Need-head-at-requires (end-node-calls t) (end-node-at t) end-node.Post
 end-node-head-at-requires t c κs = c .before .pre .1
 
+end-node-returns : (t : ℕ) → end-node-lts.Need-returns (end-node-calls t) (end-node-at t) end-node.Post
+end-node-returns t c = λ d t stands.
+    let head = c .before .head-at in
+    end-node stands (head .result) (head .ensures d t stands) (head .result .next) (λ e ts row. end-none row (c .if1 .taken))
+
 end-node-end-children-requires : (t : ℕ) → end-node-lts.Need-end-children-requires (end-node-calls t) (end-node-at t) end-node.Post
 end-node-end-children-requires t c κs =
-    let start = c .before .before in
+    let start = c .before .before .before in
     let tree = start .pre .1 in
-    let head = c .head-at .ensures (tree .0) (tree .1) (tree .2) in (
-      omega (arith, start .pre .0, node-some (tree .2), after-head (tree .2) (c .head-at .result .next) (head .next)),
-      children-there tree
-          (c .head-at .result) head,
+    let result = c .before .head-at .result in
+    let head = c .before .head-at .ensures (tree .0) (tree .1) (tree .2) in (
+      omega (arith, start .pre .0, node-some (tree .2), after-head (tree .2) (result .next) (head .next)),
+      children-there tree result head,
     )
 
-end-node-returns : (t : ℕ) → end-node-lts.Need-returns (end-node-calls t) (end-node-at t) end-node.Post
-end-node-returns t c = λ d t stands. end-node stands (c .before .head-at .result) (c .before .head-at .ensures d t stands) (c .end-children .result)
-    (c .end-children .ensures)
+end-node-returns-2 : (t : ℕ) → end-node-lts.Need-returns-2 (end-node-calls t) (end-node-at t) end-node.Post
+end-node-returns-2 t c = λ d t stands.
+    let head = c .before .before .head-at in
+    end-node stands (head .result) (head .ensures d t stands) (c .end-children .result) (c .end-children .ensures)
 
 pub +end-children+end-node-spec : {M : Type 1} → statement M
 +end-children+end-node-spec = close μ-end-children μ-end-node (λ t. end-children-lts.spec (end-children-calls t) (end-children-at t)
     end-children.Post
-    (end-children-returns t)
+    end-children-Inv-loop
+    end-children-μ-loop
+    (end-children-loop-holds t)
     (end-children-end-node-requires t)
     (λ c. omega arith)
-    (end-children-end-children-requires t)
-    (end-children-returns-2 t))
+    (λ c. omega arith)
+    (end-children-loop-again t)
+    (end-children-returns t))
     λ t. end-node-lts.spec (end-node-calls t) (end-node-at t)
     end-node.Post
     (end-node-head-at-requires t)
-    (end-node-end-children-requires t)
     (end-node-returns t)
+    (end-node-end-children-requires t)
+    (end-node-returns-2 t)
