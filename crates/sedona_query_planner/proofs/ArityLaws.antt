@@ -1,5 +1,6 @@
 -- Arity: what each return of the functions about it answers.
-use Prim.Native.Nat.{ℕ, _+_}
+use Prim.Native.Nat.{ℕ, _+_, _-_, _≤_, _<_}
+use native.Mathlib.Omega.{arith}
 use mathlib.Core.Path.{_≡_, refl, ap, _∙_}
 use mathlib.Core.Bool.{Bool, true, false, _&&_}
 use mathlib.Core.List.{List, [], _∷_}
@@ -12,9 +13,12 @@ use Rattle.definitions.specs.Encode.{exprBytes, exprsBytes}
 use Rattle.definitions.specs.Leaves.{noComparison, comparison, leaves, relationNamed, relationArity, callArity, distanceArity, distanceArguments, comparisonArity, leafArity, arity}
 use Rattle.definitions.specs.Decode.{Columns}
 use Rattle.expression.specs.Places.{part}
-use Rattle.expression.specs.Nodes.{OfTree}
-use Rattle.expression.specs.Leaves.{Both, CallStands, CallIs, PlainNode, plainColumn, plainLiteral, plainOther, plainField}
+use Rattle.expression.specs.Nodes.{Tree, OfTree, OfTreeIn}
+use Rattle.expression.specs.Leaves.{NodeIs, Both, CallStands, CallIs, PlainNode, plainColumn, plainLiteral, plainOther, plainField}
 use Rattle.expression.specs.declared.leaves.Called.{Called}
+use Rattle.expression.specs.declared.leaves.Node.{Node}
+use Rattle.expression.specs.declared.leaves.Node.the-variants as node
+use Rattle.expression.proofs.There.{and-left-there, and-right-there}
 use Rattle.expression.proofs.Parts.{left-stands, right-stands, both-ends, both-end, call-end}
 use Rattle.sedona_expr.specs.Parsed.{BothSides, Arguments}
 use Rattle.sedona_query_planner.specs.Arities.{ArityIs}
@@ -91,3 +95,38 @@ module _ {c : Columns} {s : List ℕ} {at : ℕ} {t : Expr} where
     both-checked p h Short k =
         let right = right-stands b p (λ d l st. h d l st .1) in
         rw (both-need, h c (b .l) (left-stands b) .0, k c (b .r) right)
+
+-- ---- the walk along the right children
+
+-- What the loop keeps: the answer of the node that it came to is the answer of the whole.
+pub record OnRight (s : List ℕ) (at next : ℕ) : Type 0 where
+  pub there : Tree s next
+  pub low : length s - next ≤ length s - at
+  pub rest : (a : Arity) → OfTree s next (λ t. ArityIs (arity t) (next + length (exprBytes t)) a) → OfTree s at (λ t. ArityIs (arity t) (at + length (exprBytes t)) a)
+
+module _ {s : List ℕ} {at : ℕ} where
+  pub right-begins : Tree s at → OnRight s at at
+  right-begins there = record { there = there; low = omega arith; rest = λ a is. is }
+
+  module _ {next first : ℕ} (inv : OnRight s at next) {r : Node} (is : OfTreeIn s next (λ c t. NodeIs c s next r t)) (e : r ≡ node.And first) where
+    pub left-below : {m : ℕ} → length s - at ≡ m → (length s - first < m) × Tree s first
+    left-below whole =
+        let left = and-left-there (inv .there) is e refl in
+        (omega (arith, whole, inv .low, left .0), left .1)
+
+    pub left-lacks : OfTree s first (λ l. ArityIs (arity l) (first + length (exprBytes l)) Short) → OfTree s at (λ t. arity t ≡ false)
+    left-lacks h = inv .rest Short (λ d t st. left-short (rw e at (is d t st)) h)
+
+    module _ (p : ℕ) (h : OfTree s first (λ l. ArityIs (arity l) (first + length (exprBytes l)) (Enough p))) where
+      right : (length s - p < length s - next) × Tree s p
+      right = and-right-there (inv .there) is e refl p (λ d l st. h d l st .1)
+
+      pub right-less : length s - p < length s - next
+      right-less = right .0
+
+      pub right-goes-on : OnRight s at p
+      right-goes-on = record {
+        there = right .1;
+        low = omega (arith, inv .low, right .0);
+        rest = λ a k. inv .rest a (λ d t st. both-checked (rw e at (is d t st)) p h a k);
+      }

@@ -84,13 +84,26 @@ pub fn check_arity(s: &[u8], at: usize) -> Arity
     requires { ⌜ Tree (now s) at ⌝ }
     ensures { λ r. ⌜ OfTree (now (s .entry)) at (λ t. ArityIs (arity t) (at + length (exprBytes t)) r) ⌝ }
 {
-    match node_at(s, at) {
-        Node::And(left) => match check_arity(s, left) {
-            Arity::Enough(right) => check_arity(s, right),
-            Arity::Short => Arity::Short,
-        },
-        Node::Binary(operator, left) => comparison_arity(s, operator, left),
-        Node::Call(call) => call_arity(s, call),
-        Node::Plain(head) => Arity::Enough(end_children(s, head.next, head.children)),
+    let mut next = at;
+    loop {
+        match node_at(s, next) {
+            Node::And(left) => match check_arity(s, left) {
+                Arity::Enough(right) => {
+                    next = right;
+                }
+                Arity::Short => {
+                    return Arity::Short;
+                }
+            },
+            Node::Binary(operator, left) => {
+                return comparison_arity(s, operator, left);
+            }
+            Node::Call(call) => {
+                return call_arity(s, call);
+            }
+            Node::Plain(head) => {
+                return Arity::Enough(end_children(s, head.next, head.children));
+            }
+        }
     }
 }
