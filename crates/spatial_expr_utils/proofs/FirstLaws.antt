@@ -1,5 +1,5 @@
 -- What each return of `first_match` answers, and what its calls require.
-use Prim.Native.Nat.{ℕ, _+_, _≤_, _<_}
+use Prim.Native.Nat.{ℕ, _+_, _-_, _≤_, _<_}
 use native.Mathlib.Nat.{zero-add}
 use native.Mathlib.Omega.{arith}
 use mathlib.Core.Path.{_≡_, refl, sym, ap, _∙_, subst, subst⁻¹}
@@ -18,7 +18,7 @@ use Rattle.expression.specs.Nodes.{headBytes, OfTreeIn}
 use Rattle.expression.specs.Leaves.{Both, NodeIs}
 use Rattle.expression.specs.declared.leaves.Node.{Node}
 use Rattle.expression.specs.declared.leaves.Node.the-variants as node
-use Rattle.expression.proofs.Standing.{first-stands, rest-stands}
+use Rattle.expression.proofs.Standing.{node-some, first-stands, rest-stands}
 use Rattle.spatial_expr_utils.specs.Frames.{Over, Framed, OfFrame}
 use Rattle.spatial_expr_utils.specs.Matches.{Lacks, Matches}
 use Rattle.spatial_expr_utils.specs.Picks.{wants, matches, leftOf, rightOf, CutAt, here, inLeft, inRight, FirstIs, NothingIs, FoundIs, TakenIs}
@@ -164,6 +164,42 @@ module _ {s : List ℕ} {rec at left : ℕ} {found : Node} (is : OfTreeIn s at (
             ends = simp length-append (omega (arith, c .begins, n .ends, f .ends));
             counted = simp length-append (omega (arith, n .counted, f .counted));
           })
+
+-- What the loop along the right children keeps: what is found from the node that it came to is found from the first.
+pub record Along (wanted : Wanted) (s : List ℕ) (rec at before up next count parent : ℕ) : Type 0 where
+  pub there : Framed s rec next
+  pub low : at ≤ next
+  pub few : count ≤ next
+  pub rest : (r : Found) → OfFrame s rec next (FoundIs wanted s rec next count parent r) → OfFrame s rec at (FoundIs wanted s rec at before up r)
+
+module _ {wanted : Wanted} {s : List ℕ} {rec at before up : ℕ} where
+  pub along-begins : Framed s rec at → before ≤ at → Along wanted s rec at before up at before up
+  along-begins there few = record { there = there; low = omega arith; few = few; rest = λ r is. is }
+
+  module _ {next count parent left : ℕ} (inv : Along wanted s rec at before up next count parent) {found : Node}
+      (is : OfTreeIn s next (λ c t. NodeIs c s next found t)) (told : found ≡ node.And left) where
+    pub left-there : {m : ℕ} → length s - at ≡ m → (length s - left < m) × (Framed s rec left × (count ≤ left))
+    left-there whole =
+        let after = left-after is told (inv .there) in
+        (omega (arith, whole, after, inv .low, node-some (inv .there .2 .tree)), (left-framed is told (inv .there), omega (arith, after, inv .few)))
+
+    pub along-left : {p : Pick} → OfFrame s rec left (FirstIs wanted s rec left count next p) → OfFrame s rec at (FirstIs wanted s rec at before up p)
+    along-left {p} inner = inv .rest (Leaf p) (match-left is told inner)
+
+    module _ {right counted : ℕ} (inner : OfFrame s rec left (NothingIs wanted left count right counted)) where
+      after-left : Framed s rec right × (next < right) × (counted ≤ right)
+      after-left = right-framed is told inner (inv .there) (inv .few)
+
+      pub along-less : length s - right < length s - next
+      along-less = omega (arith, after-left .1, node-some (inv .there .2 .tree))
+
+      pub along-right : Along wanted s rec at before up right counted next
+      along-right = record {
+        there = after-left .0;
+        low = omega (arith, inv .low, after-left .1);
+        few = after-left .2;
+        rest = λ r outer. inv .rest r (match-right is told inner parent r outer);
+      }
 
 -- ---- two passes
 

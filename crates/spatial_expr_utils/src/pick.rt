@@ -1,5 +1,8 @@
 // The AND-leaf that is taken: the first KNN match, else the first other match.
 ghost use Prim.Native.Nat.{_≤_};
+ghost use mathlib.Core.Path.{_≡_};
+ghost use mathlib.Core.List.{[], _∷_};
+ghost use Rattle.definitions.specs.Leaves.{leaves};
 ghost use Rattle.expression.specs.Nodes.{OfTreeIn};
 ghost use Rattle.expression.specs.Leaves.{NodeIs};
 ghost use Rattle.spatial_expr_utils.specs.Frames.{Framed, OfFrame};
@@ -73,6 +76,41 @@ fn match_wanted(s: &[u8], rec: usize, at: usize, node: Node, wanted: Wanted) -> 
     }
 }
 
+// A node that is no And, `position` AND-leaves being before it.
+fn leaf_match(
+    s: &[u8],
+    rec: usize,
+    at: usize,
+    node: Node,
+    wanted: Wanted,
+    position: usize,
+    parent: usize,
+) -> Found
+    requires { ⌜ Framed (now s) rec at ⌝ }
+    requires { ⌜ OfTreeIn (now s) at (λ c t. NodeIs c (now s) at node t) ⌝ }
+    requires { ⌜ OfFrame (now s) rec at (λ records t. leaves t ≡ t ∷ []) ⌝ }
+    requires { ⌜ position ≤ at ⌝ }
+    ensures { λ r. ⌜ OfFrame (now (s .entry)) rec at (FoundIs wanted (now (s .entry)) rec at position parent r) ⌝ }
+{
+    match match_wanted(s, rec, at, node, wanted) {
+        Matching::Matched(predicate, leaf_end) => {
+            return Found::Leaf(Pick {
+                predicate,
+                position,
+                leaf: at,
+                leaf_end,
+                parent,
+            });
+        }
+        Matching::Unmatched(end) => {
+            return Found::Nothing(end, position + 1);
+        }
+        Matching::NotAsked => {
+            return Found::Nothing(end_node(s, at), position + 1);
+        }
+    }
+}
+
 // The first match that is wanted below a node, `position` AND-leaves being before it.
 fn first_match(
     s: &[u8],
@@ -86,23 +124,24 @@ fn first_match(
     requires { ⌜ position ≤ at ⌝ }
     ensures { λ r. ⌜ OfFrame (now (s .entry)) rec at (FoundIs wanted (now (s .entry)) rec at position parent r) ⌝ }
 {
-    let node = node_at(s, at);
-    if let Node::And(left) = node {
-        return match first_match(s, rec, left, wanted, position, at) {
-            Found::Leaf(pick) => Found::Leaf(pick),
-            Found::Nothing(right, count) => first_match(s, rec, right, wanted, count, at),
+    let mut next = at;
+    let mut count = position;
+    let mut up = parent;
+    loop {
+        let node = node_at(s, next);
+        let Node::And(left) = node else {
+            return leaf_match(s, rec, next, node, wanted, count, up);
         };
-    }
-    match match_wanted(s, rec, at, node, wanted) {
-        Matching::Matched(predicate, leaf_end) => Found::Leaf(Pick {
-            predicate,
-            position,
-            leaf: at,
-            leaf_end,
-            parent,
-        }),
-        Matching::Unmatched(end) => Found::Nothing(end, position + 1),
-        Matching::NotAsked => Found::Nothing(end_node(s, at), position + 1),
+        match first_match(s, rec, left, wanted, count, next) {
+            Found::Leaf(pick) => {
+                return Found::Leaf(pick);
+            }
+            Found::Nothing(right, counted) => {
+                up = next;
+                next = right;
+                count = counted;
+            }
+        }
     }
 }
 
