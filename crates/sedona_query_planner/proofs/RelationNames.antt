@@ -1,14 +1,14 @@
 -- The 13 relation names, one after the other: the type of a name is that at its position.
 use Prim.Native.Nat.{ℕ, suc, _+_, _≤_, _<_}
 use native.Mathlib.Omega.{arith}
-use mathlib.Core.Path.{_≡_, refl, ap, _∙_}
-use mathlib.Core.Bool.{Bool, true, false, _||_}
+use mathlib.Core.Path.{_≡_, refl, sym, ap, _∙_}
+use mathlib.Core.Bool.{Bool, true, false, _&&_, _||_, false≢true}
 use mathlib.Core.List.{List, [], _∷_}
 use mathlib.Core.Option.{Option, none, some}
 use lib.ListN.{length, getD}
-use lib.Dec.{eqb}
-use borrow.Author.Tests.{eqb-true, eqb-false}
-use Rattle.definitions.specs.Basics.{if_then_else_, ascii, sameName}
+use lib.Dec.{eqb, leb}
+use borrow.Author.Tests.{lt-leb, eqb-true, eqb-false}
+use Rattle.definitions.specs.Basics.{if_then_else_, ascii, sameName, all}
 use Rattle.definitions.specs.Expression.{Relation, intersects, contains, within, covers, coveredBy, touches, crosses, overlaps, equals}
 use Rattle.definitions.specs.Leaves.{relationNamed}
 use Rattle.expression.specs.Names.{position}
@@ -54,6 +54,50 @@ one-by-one name = rw (either, either, either, either)
 pub relation-at : (name : List ℕ) → relationNamed name ≡ getD relations (position name relationNames) none
 unfolding relationNames relations
 relation-at name = one-by-one name ∙ beside-position name relationNames relations none refl
+
+-- ---- names of other lengths
+
+and-false : (t : Bool) {u : Bool} → u ≡ false → t && u ≡ false
+and-false true e = e
+and-false false e = refl
+
+both : (t u : Bool) → t && u ≡ true → (t ≡ true) × (u ≡ true)
+both true u e = (refl, e)
+both false u e = absurd (false≢true e)
+
+other-length : (a b : List ℕ) → (length a ≡ length b → ⊥) → sameName a b ≡ false
+unfolding sameName
+other-length [] [] n = absurd (n refl)
+other-length [] (y ∷ b) n = refl
+other-length (x ∷ a) [] n = refl
+other-length (x ∷ a) (y ∷ b) n = and-false (eqb x y) (other-length a b (λ e. n (ap suc e)))
+
+-- All names have a length that passes a test, and this one has not: it is none of them.
+position-past : (test : ℕ → Bool) (name : List ℕ) → test (length name) ≡ false → (names : List (List ℕ)) → all (λ x. test (length x)) names ≡ true
+    → position name names ≡ length names
+unfolding position all
+position-past test name out [] e = refl
+position-past test name out (x ∷ xs) e =
+    let fit = both (test (length x)) (all (λ x. test (length x)) xs) e in
+    let differ : length name ≡ length x → ⊥ = λ same. false≢true (sym out ∙ ap test same ∙ fit .0) in
+    rw (other-length name x differ) (ap suc (position-past test name out xs (fit .1)))
+
+abbrev usual : ℕ → Bool
+usual n = leb 9 n && leb n 13
+
+all-usual : all (λ x. usual (length x)) relationNames ≡ true
+unfolding all ascii relationNames
+all-usual = refl
+
+unusual : (name : List ℕ) → usual (length name) ≡ false → none ≡ relationNamed name
+unfolding relationNames relations
+unusual name out = sym (relation-at name ∙ ap (λ (k : ℕ). getD relations k none) (position-past usual name out relationNames all-usual))
+
+pub short-name : (name : List ℕ) → length name < 9 → none ≡ relationNamed name
+short-name name h = unusual name (ap (λ (t : Bool). t && leb (length name) 13) (lt-leb 9 (length name) h))
+
+pub long-name : (name : List ℕ) → 13 < length name → none ≡ relationNamed name
+long-name name h = unusual name (and-false (leb 9 (length name)) (lt-leb (length name) 13 h))
 
 -- Where two neighbours are the same, so is what stands at either.
 pub neighbours : {A : Type 0} (xs : List A) (other : A) (k i : ℕ) → getD xs (suc k) other ≡ getD xs k other → k ≤ i → i < k + 2 → getD xs i other ≡ getD xs k other

@@ -34,6 +34,14 @@ impl SpatialRelationType {
         requires { ⌜ (at ≤ end) × (end ≤ length (now s)) ⌝ }
         ensures { λ r. ⌜ namedRelation r ≡ relationNamed (part (now (s .entry)) at end) ⌝ }
     {
+        // By their length alone most other functions are told apart.
+        let size = end - at;
+        if size < 9 {
+            return NamedRelation::Nothing;
+        }
+        if 13 < size {
+            return NamedRelation::Nothing;
+        }
         let names =
             b"st_intersects rs_intersects st_contains rs_contains st_within rs_within st_covers st_coveredby st_covered_by st_touches st_crosses st_overlaps st_equals";
         let ends = [13, 27, 39, 51, 61, 71, 81, 94, 108, 119, 130, 142, 152];

@@ -1,4 +1,4 @@
--- `from_name`: the names stand in a row, and the type of a name is that at its position.
+-- `from_name`: the names stand in a row, and the type of a name is that at its position; a name of another length is none of them.
 use Prim.Native.Nat.{ℕ, suc, _+_, _≤_, _<_}
 use native.Mathlib.Omega.{arith}
 use mathlib.Core.Path.{_≡_, refl, sym, ap, _∙_}
@@ -10,7 +10,8 @@ use Rattle.definitions.specs.Basics.{ascii}
 use Rattle.definitions.specs.Leaves.{relationNamed}
 use Rattle.expression.specs.Places.{part}
 use Rattle.expression.specs.Names.{words, endsFrom}
-use Rattle.sedona_query_planner.proofs.RelationNames.{relations, relationNames, relation-at, neighbours}
+use Rattle.expression.proofs.NameLaws.{part-length}
+use Rattle.sedona_query_planner.proofs.RelationNames.{relations, relationNames, relation-at, short-name, long-name, neighbours}
 use Rattle.sedona_query_planner.proofs.spatial_predicate.SpatialRelationType.from_name.Statement.{statement}
 use Rattle.sedona_query_planner.proofs.spatial_predicate.SpatialRelationType.from_name.Tie as tie
 
@@ -18,7 +19,7 @@ use Rattle.sedona_query_planner.proofs.spatial_predicate.SpatialRelatio
 module _ (c : tie.After-name-index) where
   abbrev name : List ℕ
   name =
-      let start = c .before .before .before .before .before in
+      let start = c .before .before .before .before .before .before .before in
       part (start .args .s .now) (start .args .at) (start .args .end)
 
   found : getD relations (c .name-index .result) none ≡ relationNamed name
@@ -39,14 +40,29 @@ module _ (c : tie.After-name-index) where
 name-index-requires : tie.Need-name-index-requires
 unfolding endsFrom
 name-index-requires c κs =
-    let start = c .before .before .before .before in
+    let start = c .before .before .before .before .before .before in
     (start .pre .0, start .pre .1, refl)
+
+too-short : tie.Need-returns
+too-short c =
+    let start = c .before .before in
+    let a = start .args in
+    short-name (part (a .s .now) (a .at) (a .end)) (omega (arith, c .if1 .taken, part-length (a .s .now) (a .at) (a .end) (start .pre .0) (start .pre .1)))
+
+too-long : tie.Need-returns-2
+too-long c =
+    let start = c .before .before .before in
+    let a = start .args in
+    long-name (part (a .s .now) (a .at) (a .end)) (omega (arith, c .if2 .taken, part-length (a .s .now) (a .at) (a .end) (start .pre .0) (start .pre .1)))
 
 pub from-name-spec : {M : Type 1} → statement M
 unfolding relations
 from-name-spec =
     tie.close
     (tie.spec
+    (λ c. c .before .pre .0)
+    too-short
+    too-long
     (λ c. search needs)
     name-index-requires
     (λ c. one (c .before) (c .match .keys1))
