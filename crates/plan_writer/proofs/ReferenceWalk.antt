@@ -115,6 +115,35 @@ module _ {s : List ℕ} {at : ℕ} where
   pub flagged-later : (before middle : List ℕ) (p : Flagged s at before) → (q : ℕ) → NodeCollected s at before middle q → at < q
   flagged-later before middle p q is = after-node (p .1) q (is (p .0) (p .1) .ends)
 
+-- ---- the loop over a row
+
+-- What it keeps: what is right for the expressions left is right for the whole row.
+pub record Collecting (s : List ℕ) (at n : ℕ) (before : List ℕ) (next left : ℕ) (used : List ℕ) : Type 0 where
+  pub there : FlaggedAll s next left used
+  pub low : at ≤ next
+  pub same : length used ≡ length before
+  pub rest : (after : List ℕ) (r : ℕ) → RowCollected s next left used after r → RowCollected s at n before after r
+
+module _ {s : List ℕ} {at n : ℕ} (before : List ℕ) where
+  pub collecting-begins : FlaggedAll s at n before → Collecting s at n before at n before
+  collecting-begins there = record { there = there; low = omega arith; same = refl; rest = λ after r is. is }
+
+  module _ {next left : ℕ} (used : List ℕ) (inv : Collecting s at n before next left used) where
+    pub collecting-first : 0 < left → Flagged s next used
+    collecting-first some = first-flagged used (inv .there) (λ z. omega arith)
+
+    pub collecting-goes-on : 0 < left → (middle : List ℕ) → length middle ≡ length used → (q : ℕ) → NodeCollected s next used middle q
+        → Collecting s at n before q (left - 1) middle
+    collecting-goes-on some middle kept q is = record {
+      there = rest-flagged used middle kept (inv .there) (λ z. omega arith) q is;
+      low = omega (arith, inv .low, flagged-later used middle (collecting-first some) q is);
+      same = kept ∙ inv .same;
+      rest = λ after r others. inv .rest after r (λ ts row. collects-some used middle after kept ts row (λ z. omega arith) q r is others);
+    }
+
+    pub collecting-ends : left ≤ 0 → RowCollected s at n before used next
+    collecting-ends none = inv .rest used next (λ ts row. collects-none used ts row (omega arith))
+
 -- ---- without an AND-leaf
 
 module _ {at : ℕ} (cut : Cut) (before : List ℕ) where

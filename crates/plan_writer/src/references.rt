@@ -19,6 +19,9 @@ pub fn collect_column_references(used: &mut [u8], src: &[u8], at: usize) -> usiz
     let head = head_at(src, at);
     let next = head.next;
     let n = head.children;
+    if n == 0 {
+        return next;
+    }
     collect_children(used, src, next, n)
 }
 
@@ -27,11 +30,13 @@ fn collect_children(used: &mut [u8], src: &[u8], at: usize, n: usize) -> usize
     requires { ⌜ FlaggedAll (now src) at n (now used) ⌝ }
     ensures { λ r. ⌜ RowCollected (now (src .entry)) at n (now (used .entry)) (now (used .exit)) r ⌝ }
 {
-    if n == 0 {
-        return at;
+    let mut next = at;
+    let mut left = n;
+    while 0 < left {
+        next = collect_column_references(used, src, next);
+        left -= 1;
     }
-    let next = collect_column_references(used, src, at);
-    collect_children(used, src, next, n - 1)
+    next
 }
 
 // The same for an expression without an AND-leaf.

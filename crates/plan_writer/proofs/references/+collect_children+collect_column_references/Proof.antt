@@ -1,12 +1,11 @@
--- `collect_column_references` and `collect_children`: a column is marked, of any other node the children are walked.
+-- `collect_column_references` and `collect_children`: a column is marked, of any other node the children are walked, one after the other.
 use Prim.Native.Nat.{ℕ, _<_, _+_, _-_, _*_}
 use native.Mathlib.Omega.{arith}
-use mathlib.Core.Path.{_∙_}
 use lib.ListN.{length, length-set}
 use borrow.Fn.Kinds.{In}
 use borrow.Fn.PlainCycle.{Measures, is, falls, and}
 use Rattle.expression.proofs.Standing.{node-some, after-head}
-use Rattle.plan_writer.proofs.ReferenceWalk.{collect-column, collect-other, collects-none, collects-some, flagged-tree, column-flag, children-flagged, first-flagged, rest-flagged, flagged-later}
+use Rattle.plan_writer.proofs.ReferenceWalk.{collect-column, collect-other, collects-none, flagged-tree, column-flag, children-flagged, Collecting, collecting-begins, collecting-first, collecting-goes-on, collecting-ends}
 use Rattle.plan_writer.proofs.references.collect_children.Reads as row
 use Rattle.plan_writer.proofs.references.collect_children.Kinds as row-kinds
 use Rattle.plan_writer.proofs.references.+collect_children+collect_column_references.Lts-collect_children as row-lts
@@ -38,45 +37,39 @@ abbrev node-below : ℕ → In 2 node-kinds.ps
 node-below t = and 2 node-kinds.ps (falls 2 node-kinds.ps _<_ μ-node t) node.Pre
 
 abbrev row-claims : ℕ → row-lts.Claims
-row-claims t = (node-below t, node.Post, row-below t, row.Post)
+row-claims t = (node-below t, node.Post)
 
 abbrev node-claims : ℕ → node-lts.Claims
 node-claims t = (short-at-reads.Asked, short-at-reads.Learnt, head-at-reads.Asked, head-at-reads.Learnt, row-below t, row.Post)
 
 -- ---- the row
 
-row-returns : (t : ℕ) → row-lts.Need-returns (row-claims t) (row-at t) row.Post
-row-returns t c = λ ts row. collects-none (c .before .before .before .args .used .now) ts row (c .if1 .taken)
+abbrev Inv-loop : row-lts.InvT-loop
+Inv-loop used₀ src at n next₀ left₀ used next left = Collecting src at n used₀ next left used
 
-row-first : (t : ℕ) → row-lts.Need-collect-column-references-requires (row-claims t) (row-at t) row.Post
+abbrev μ-loop : row-lts.MeasureT-loop
+μ-loop used₀ src at n next₀ left₀ used next left = left
+
+row-begins : (t : ℕ) → row-lts.Need-loop-holds (row-claims t) (row-at t) row.Post Inv-loop μ-loop
+row-begins t c = let start = c .before .before in collecting-begins (start .args .used .now) (start .pre .1)
+
+row-first : (t : ℕ) → row-lts.Need-collect-column-references-requires (row-claims t) (row-at t) row.Post Inv-loop μ-loop
 row-first t c κs =
-    let start = c .before .before .before .before in
-    (omega (arith, start .pre .0), first-flagged (start .args .used .now) (start .pre .1) (c .before .if1 .left))
+    let loop = c .before .before .loop in
+    let start = c .before .before .before .before .before in
+    (omega (arith, start .pre .0, loop .inv .low), collecting-first (start .args .used .now) (loop .used) (loop .inv) (c .before .loop-test .taken))
 
-row-less : (t : ℕ) → row-lts.Need-sub-collect-children (row-claims t) (row-at t) row.Post
-row-less t c = omega (arith, c .before .before .before .before .before .if1 .left)
+row-goes-on : (t : ℕ) → row-lts.Need-loop-again (row-claims t) (row-at t) row.Post Inv-loop μ-loop
+row-goes-on t c =
+    let call = c .before .before .collect-column-references in
+    let turn = c .before .before .before .before in
+    let loop = turn .before .loop in
+    collecting-goes-on (turn .before .before .before .before .args .used .now) (loop .used) (loop .inv) (turn .loop-test .taken) (call .last .0) (call .kept .0) (call .result) (call .ensures)
 
-row-rest : (t : ℕ) → row-lts.Need-collect-children-requires (row-claims t) (row-at t) row.Post
-row-rest t c κs =
-    let start = c .before .before .before .before .before .before .before .before in
-    let some = c .before .before .before .before .before .if1 .left in
-    let call = c .before .before .before .collect-column-references in
-    let used = start .args .used .now in
-    let first = first-flagged used (start .pre .1) some in (
-      omega (arith, start .pre .0, node-some (first .1), flagged-later used (call .last .0) first (call .result) (call .ensures)),
-      rest-flagged used (call .last .0) (call .kept .0) (start .pre .1) some (call .result) (call .ensures),
-    )
-
-row-long : (t : ℕ) → row-lts.Need-same-length (row-claims t) (row-at t) row.Post
-row-long t c = c .before .before .collect-children .kept .0 ∙ c .before .before .before .before .before .before .collect-column-references .kept .0
-
-row-returns-2 : (t : ℕ) → row-lts.Need-returns-2 (row-claims t) (row-at t) row.Post
-row-returns-2 t c = λ ts row.
-    let start = c .before .before .before .before .before .before .before .before .before .before .before in
-    let some = c .before .before .before .before .before .before .before .before .if1 .left in
-    let one = c .before .before .before .before .before .before .collect-column-references in
-    let others = c .before .before .collect-children in
-    collects-some (start .args .used .now) (one .last .0) (others .last .0) (one .kept .0) ts row some (one .result) (others .result) (one .ensures) (others .ensures)
+row-ends : (t : ℕ) → row-lts.Need-returns (row-claims t) (row-at t) row.Post Inv-loop μ-loop
+row-ends t c =
+    let loop = c .before .loop in
+    collecting-ends (c .before .before .before .before .args .used .now) (loop .used) (loop .inv) (c .loop-test .left)
 
 -- ---- the node
 
@@ -107,33 +100,44 @@ node-returns t c = λ t stands.
 node-head : (t : ℕ) → node-lts.Need-head-at-requires (node-claims t) (node-at t) node.Post
 node-head t c κs = let start = c .before .before .before .before in flagged-tree (start .args .used .now) (start .pre .1)
 
-node-children : (t : ℕ) → node-lts.Need-collect-children-requires (node-claims t) (node-at t) node.Post
-node-children t c κs =
+node-alone : (t : ℕ) → node-lts.Need-returns-2 (node-claims t) (node-at t) node.Post
+node-alone t c = λ t stands.
     let start = c .before .before .before .before .before .before in
     let head = c .before .head-at in
+    let used = start .args .used .now in
+    collect-other used used t stands (c .before .before .if1 .left) (head .result) (head .ensures) (head .result .next)
+    (λ ts row. collects-none used ts row (c .if2 .taken))
+
+node-children : (t : ℕ) → node-lts.Need-collect-children-requires (node-claims t) (node-at t) node.Post
+node-children t c κs =
+    let start = c .before .before .before .before .before .before .before in
+    let head = c .before .before .head-at in
     let used = start .args .used .now in
     let tree = flagged-tree used (start .pre .1) in (
       omega (arith, start .pre .0, node-some (tree .2), after-head (tree .2) (head .result .next) (head .ensures (tree .0) (tree .1) (tree .2) .next)),
       children-flagged used (start .pre .1) (head .result) (head .ensures),
     )
 
-node-returns-2 : (t : ℕ) → node-lts.Need-returns-2 (node-claims t) (node-at t) node.Post
-node-returns-2 t c = λ t stands.
-    let start = c .before .before .before .before .before .before .before .before .before in
-    let some = c .before .before .before .before .before .if1 .left in
-    let head = c .before .before .before .before .head-at in
+node-returns-3 : (t : ℕ) → node-lts.Need-returns-3 (node-claims t) (node-at t) node.Post
+node-returns-3 t c = λ t stands.
+    let start = c .before .before .before .before .before .before .before .before .before .before in
+    let some = c .before .before .before .before .before .before .if1 .left in
+    let head = c .before .before .before .before .before .head-at in
     let others = c .before .before .collect-children in
     collect-other (start .args .used .now) (others .last .0) t stands some (head .result) (head .ensures) (others .result) (others .ensures)
 
 pub +collect-children+collect-column-references-spec : {M : Type 1} → statement M
 +collect-children+collect-column-references-spec = close μ-row μ-node (λ t. row-lts.spec (row-claims t) (row-at t)
     row.Post
-    (row-returns t)
+    Inv-loop
+    μ-loop
+    (row-begins t)
     (row-first t)
-    (row-less t)
-    (row-rest t)
-    (row-long t)
-    (row-returns-2 t))
+    (λ c. omega arith)
+    (λ c. omega arith)
+    (row-goes-on t)
+    (λ c. c .before .loop .inv .same)
+    (row-ends t))
     λ t. node-lts.spec (node-claims t) (node-at t)
     node.Post
     (node-kind t)
@@ -144,6 +148,7 @@ pub +collect-children+collect-column-references-spec : {M : Type 1} → statemen
     (λ c. simp length-set)
     (node-returns t)
     (node-head t)
+    (node-alone t)
     (node-children t)
     (λ c. c .before .before .collect-children .kept .0)
-    (node-returns-2 t)
+    (node-returns-3 t)
