@@ -19,7 +19,7 @@ use Rattle.expression.proofs.Standing.{tree-length, head-stands, kind-is, child
 use Rattle.plan_writer.specs.Written.{Wrote, WroteAt}
 use Rattle.plan_writer.specs.Copies.{copyOf, copiesOf, ColumnThere, ColumnPut, CopyFits, CopiesFit, CopyFitsAt, CopyIs, NodeCopied, RowCopied, CopiedAt}
 use Rattle.plan_writer.specs.declared.copies.Copied.{Copied}
-use Rattle.plan_writer.proofs.Written.{behind, together, behind-length, part-wrote, then-wrote, copied-wrote}
+use Rattle.plan_writer.proofs.Written.{behind, together, behind-length, together-length, part-wrote, then-wrote, copied-wrote, chain, nothing-wrote, to-start}
 use Rattle.plan_writer.proofs.Fields.{column-is, column-size}
 
 -- ---- what is written for a node
@@ -76,26 +76,21 @@ module _ (to : List ℕ) {s : List ℕ} {at : ℕ} where
         out = then-wrote (headBytes t) (copiesOf to (childrenOf t)) before middle part w long (copied-wrote before w (head-stands stands) long copied) (below .out);
       })
 
-  pub copies-some : {n : ℕ} (ts : Exprs) → Row (indexBelow (length to)) s at n ts → (n ≡ 0 → ⊥) → (before middle part : List ℕ) (r q : Copied)
-      → NodeCopied s at to before middle r → RowCopied s (r .read) (n - 1) to (behind (r .wrote) middle) part q
-      → CopyIs at (length (exprsBytes ts)) (copiesOf to ts) before (together (r .wrote) middle part) (record { read = q .read; wrote = r .wrote + q .wrote })
+  -- A node without children is its head.
+  pub copy-alone : (t : Expr) → Stands (indexBelow (length to)) s at t → (getD s at 0 ≡ 0 → ⊥) → (h : Head) → OfTree s at (HeadIs at h) → h .children ≡ 0
+      → (before middle : List ℕ) (w : ℕ) → w ≡ h .next - at → middle ≡ take w (drop at s) ++ drop w before
+      → CopyIs at (length (exprBytes t)) (copyOf to t) before middle (record { read = h .next; wrote = w })
   unfolding exprsBytes mapColumnsAll
-  copies-some {n} ts row some before middle part r q one others = some-children
-      (λ ts. Row (indexBelow (length to)) s at n ts → CopyIs at (length (exprsBytes ts)) (copiesOf to ts) before (together (r .wrote) middle part) (record { read = q .read; wrote = r .wrote + q .wrote }))
-      (λ t ts o.
-      let a : CopyIs at (length (exprBytes t)) (copyOf to t) before middle r = one t (first-stands o) in
-      let b : CopyIs (r .read) (length (exprsBytes ts)) (copiesOf to ts) (behind (r .wrote) middle) part q = others ts (rest-stands o (r .read) (n - 1) (a .read) (omega arith)) in
-      record {
-        read = simp length-append (omega (arith, a .read, b .read));
-        wrote = simp length-append (omega (arith, a .wrote, b .wrote));
-        out = then-wrote (copyOf to t) (copiesOf to ts) before middle part (r .wrote) (a .wrote) (a .out) (b .out);
-      }) ts (omega (arith, row .counted)) row
-
-  pub copies-none : {n : ℕ} (ts : Exprs) → Row (indexBelow (length to)) s at n ts → n ≡ 0 → (out : List ℕ)
-      → CopyIs at (length (exprsBytes ts)) (copiesOf to ts) out out (record { read = at; wrote = 0 })
-  unfolding exprsBytes mapColumnsAll
-  copies-none ts row e out = no-children (λ ts. CopyIs at (length (exprsBytes ts)) (copiesOf to ts) out out (record { read = at; wrote = 0 }))
-      (record { read = omega arith; wrote = refl; out = refl }) ts (row .counted ∙ e)
+  copy-alone t stands n h its none before middle w size copied =
+      let head : HeadIs at h t = its (indexBelow (length to)) t stands in
+      let empty : count (childrenOf t) ≡ 0 = children-stand stands (h .next) (h .children) (head .next) (head .children) .counted ∙ none in
+      let long : w ≡ length (headBytes t) = omega (arith, head .next) in
+      let own : copyOf to t ≡ headBytes t = no-column t stands n ∙ ap (λ (l : List ℕ). headBytes t ++ l) (no-children (λ ts. copiesOf to ts ≡ []) refl (childrenOf t) empty) ∙ append-nil (headBytes t) in
+      rw own (record {
+        read = omega (arith, head .next, tree-length t, no-children (λ ts. length (exprsBytes ts) ≡ 0) refl (childrenOf t) empty);
+        wrote = long;
+        out = copied-wrote before w (head-stands stands) long copied;
+      })
 
 -- ---- what the calls require
 
@@ -149,24 +144,100 @@ module _ {s : List ℕ} {at : ℕ} {to : List ℕ} where
       (λ t ts o room. record { tree = t; stands = first-stands o; room = omega (arith, simp length-append at room) })
       (p .trees) (omega (arith, p .row .counted)) (p .row) (p .room)
 
-  pub rest-fits : {n : ℕ} {before : List ℕ} → CopiesFit s at n to before → (n ≡ 0 → ⊥) → (middle : List ℕ) (r : Copied) → NodeCopied s at to before middle r
-      → length middle ≡ length before → CopiesFit s (r .read) (n - 1) to (behind (r .wrote) middle)
-  unfolding exprsBytes mapColumnsAll
-  rest-fits {n} {before} p some middle r is same =
-      some-children (λ ts. Row (indexBelow (length to)) s at n ts → length (copiesOf to ts) ≤ length before → CopiesFit s (r .read) (n - 1) to (behind (r .wrote) middle))
-      (λ t ts o room.
-      let a = is t (first-stands o) in
-      record {
-        trees = ts;
-        row = rest-stands o (r .read) (n - 1) (a .read) (omega arith);
-        room = omega (arith, a .wrote, behind-length (r .wrote) middle, simp length-append at room);
-      }) (p .trees) (omega (arith, p .row .counted)) (p .row) (p .room)
-
   pub first-room : {before : List ℕ} → CopyFits s at to before → (middle : List ℕ) (r : Copied) → NodeCopied s at to before middle r → r .wrote ≤ length before
   first-room p middle r is = omega (arith, p .room, is (p .tree) (p .stands) .wrote)
 
   pub first-later : {before : List ℕ} → CopyFits s at to before → (middle : List ℕ) (r : Copied) → NodeCopied s at to before middle r → at < r .read
   first-later p middle r is = after-node (p .stands) (r .read) (is (p .tree) (p .stands) .read)
+
+-- ---- the loop over a row
+
+-- Expressions in a row, with room for their copies from w on; what was read and written of them.
+pub record CopiesFitAt (s : List ℕ) (at n : ℕ) (to : List ℕ) (w : ℕ) (out : List ℕ) : Type 0 where
+  pub trees : Exprs
+  pub row : Row (indexBelow (length to)) s at n trees
+  pub room : w + length (copiesOf to trees) ≤ length out
+
+pub record CopyAt (at size w : ℕ) (x before after : List ℕ) (r : Copied) : Type 0 where
+  pub read : r .read ≡ at + size
+  pub out : WroteAt w x before after (r .wrote)
+
+abbrev pub RowCopiedAt : (s : List ℕ) (at n : ℕ) (to : List ℕ) (w : ℕ) (before after : List ℕ) → Copied → Type 0
+RowCopiedAt s at n to w before after r =
+    (ts : Exprs) → Row (indexBelow (length to)) s at n ts → CopyAt at (length (exprsBytes ts)) w (copiesOf to ts) before after r
+
+-- What the loop keeps: what is right for the expressions left is right for the whole row.
+pub record Copying (s : List ℕ) (at n : ℕ) (to before : List ℕ) (next left w : ℕ) (out : List ℕ) : Type 0 where
+  pub there : CopiesFitAt s next left to w out
+  pub low : at ≤ next
+  pub same : length out ≡ length before
+  pub rest : (after : List ℕ) (q : Copied) → RowCopiedAt s next left to w out after q → RowCopied s at n to before after q
+
+module _ {s : List ℕ} {at n : ℕ} {to before : List ℕ} where
+  pub copying-begins : CopiesFit s at n to before → Copying s at n to before at n 0 before
+  copying-begins p = record {
+    there = record { trees = p .trees; row = p .row; room = omega (arith, p .room) };
+    low = omega arith;
+    same = refl;
+    rest = λ after q is ts row.
+        let all = is ts row in
+        record { read = all .read; wrote = to-start (all .out) .0; out = to-start (all .out) .1 };
+  }
+
+  module _ {next left w : ℕ} {out : List ℕ} (inv : Copying s at n to before next left w out) where
+    pub copying-room : w ≤ length out
+    copying-room = omega (arith, inv .there .room)
+
+    pub copying-ends : left ≤ 0 → RowCopied s at n to before out (record { read = next; wrote = w })
+    unfolding exprsBytes mapColumnsAll
+    copying-ends none = inv .rest out (record { read = next; wrote = w }) (λ ts row. no-children
+        (λ ts. CopyAt next (length (exprsBytes ts)) w (copiesOf to ts) out out (record { read = next; wrote = w }))
+        (record { read = omega arith; out = nothing-wrote out w }) ts (omega (arith, row .counted)))
+
+    module _ (some : 0 < left) where
+      pub copying-first : CopyFits s next to (behind w out)
+      copying-first = first-fits
+          (record { trees = inv .there .trees; row = inv .there .row; room = omega (arith, inv .there .room, behind-length w out) }) (λ z. omega arith)
+
+      module _ (part : List ℕ) (kept : length part ≡ length (behind w out)) (r : Copied) (is : NodeCopied s next to (behind w out) part r) where
+        pub copying-sum : w + r .wrote ≤ length out
+        copying-sum = omega (arith, copying-room, first-room copying-first part r is, behind-length w out)
+
+        long : length (together w out part) ≡ length out
+        long = together-length w out part copying-room kept
+
+        others-fit : CopiesFitAt s (r .read) (left - 1) to (w + r .wrote) (together w out part)
+        unfolding exprsBytes mapColumnsAll
+        others-fit = some-children
+            (λ ts. Row (indexBelow (length to)) s next left ts → w + length (copiesOf to ts) ≤ length out → CopiesFitAt s (r .read) (left - 1) to (w + r .wrote) (together w out part))
+            (λ t ts o room.
+            let one = is t (first-stands o) in
+            record {
+              trees = ts;
+              row = rest-stands o (r .read) (left - 1) (one .read) (omega arith);
+              room = omega (arith, one .wrote, long, simp length-append at room);
+            }) (inv .there .trees) (omega (arith, inv .there .row .counted)) (inv .there .row) (inv .there .room)
+
+        others-copied : (after : List ℕ) (q : Copied) → RowCopiedAt s (r .read) (left - 1) to (w + r .wrote) (together w out part) after q
+            → RowCopiedAt s next left to w out after q
+        unfolding exprsBytes mapColumnsAll
+        others-copied after q others ts row = some-children
+            (λ ts. Row (indexBelow (length to)) s next left ts → CopyAt next (length (exprsBytes ts)) w (copiesOf to ts) out after q)
+            (λ t ts o.
+            let one = is t (first-stands o) in
+            let more = others ts (rest-stands o (r .read) (left - 1) (one .read) (omega arith)) in
+            record {
+              read = simp length-append (omega (arith, one .read, more .read));
+              out = chain copying-room (part-wrote (copyOf to t) out part w (one .out) (r .wrote) (one .wrote)) (more .out);
+            }) ts (omega (arith, row .counted)) row
+
+        pub copying-goes-on : Copying s at n to before (r .read) (left - 1) (w + r .wrote) (together w out part)
+        copying-goes-on = record {
+          there = others-fit;
+          low = omega (arith, inv .low, first-later copying-first part r is);
+          same = long ∙ inv .same;
+          rest = λ after q others. inv .rest after q (others-copied after q others);
+        }
 
 -- ---- a copy that begins at w
 

@@ -56,6 +56,12 @@ pub fn reproject_column_references(out: &mut [u8], src: &[u8], at: usize, to: &[
     let n = head.children;
     let w = next - at;
     copy_bytes(out, src, at, w);
+    if n == 0 {
+        return Copied {
+            read: next,
+            wrote: w,
+        };
+    }
     let rest = reproject_children(&mut out[w..], src, next, n, to);
     Copied {
         read: rest.read,
@@ -68,16 +74,18 @@ fn reproject_children(out: &mut [u8], src: &[u8], at: usize, n: usize, to: &[u16
     requires { ⌜ CopiesFit (now src) at n (now to) (now out) ⌝ }
     ensures { λ r. ⌜ RowCopied (now (src .entry)) at n (now (to .entry)) (now (out .entry)) (now (out .exit)) r ⌝ }
 {
-    if n == 0 {
-        return Copied { read: at, wrote: 0 };
+    let mut next = at;
+    let mut w = 0;
+    let mut left = n;
+    while 0 < left {
+        let one = reproject_column_references(&mut out[w..], src, next, to);
+        next = one.read;
+        w += one.wrote;
+        left -= 1;
     }
-    let first = reproject_column_references(out, src, at, to);
-    let next = first.read;
-    let w = first.wrote;
-    let rest = reproject_children(&mut out[w..], src, next, n - 1, to);
     Copied {
-        read: rest.read,
-        wrote: w + rest.wrote,
+        read: next,
+        wrote: w,
     }
 }
 

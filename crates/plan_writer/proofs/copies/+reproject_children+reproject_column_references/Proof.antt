@@ -1,4 +1,4 @@
--- `reproject_column_references` and `reproject_children`: a head is copied and its children after it, a column is put with its new index.
+-- `reproject_column_references` and `reproject_children`: a head is copied and its children after it, one after the other; a column is put with its new index.
 use Prim.Native.Nat.{ℕ, _<_, _+_, _-_, _*_}
 use native.Mathlib.Omega.{arith}
 use mathlib.Core.Path.{refl, _∙_}
@@ -8,7 +8,7 @@ use borrow.Fn.Kinds.{In}
 use borrow.Fn.PlainCycle.{Measures, is, falls, and}
 use Rattle.expression.proofs.Standing.{node-some, after-head}
 use Rattle.plan_writer.proofs.Written.{together-length}
-use Rattle.plan_writer.proofs.CopyWalk.{copy-column, copy-other, copies-none, copies-some, fits-tree, column-fits, head-room, children-fit, first-fits, rest-fits, first-room, first-later}
+use Rattle.plan_writer.proofs.CopyWalk.{copy-column, copy-other, copy-alone, fits-tree, column-fits, head-room, children-fit, Copying, copying-begins, copying-room, copying-ends, copying-first, copying-sum, copying-goes-on}
 use Rattle.plan_writer.proofs.copies.reproject_children.Reads as row
 use Rattle.plan_writer.proofs.copies.reproject_children.Kinds as row-kinds
 use Rattle.plan_writer.proofs.copies.+reproject_children+reproject_column_references.Lts-reproject_children as row-lts
@@ -42,7 +42,7 @@ abbrev node-below : ℕ → In 3 node-kinds.ps
 node-below t = and 3 node-kinds.ps (falls 3 node-kinds.ps _<_ μ-node t) node.Pre
 
 abbrev row-claims : ℕ → row-lts.Claims
-row-claims t = (node-below t, node.Post, row-below t, row.Post)
+row-claims t = (node-below t, node.Post)
 
 abbrev node-claims : ℕ → node-lts.Claims
 node-claims t = (
@@ -60,55 +60,29 @@ node-claims t = (
 
 -- ---- the row
 
-row-returns : (t : ℕ) → row-lts.Need-returns (row-claims t) (row-at t) row.Post
-row-returns t c = λ ts row. let start = c .before .before .before .before in copies-none (start .args .to .now) ts row (c .if1 .taken) (start .args .out .now)
+abbrev Inv-loop : row-lts.InvT-loop
+Inv-loop out₀ src at n to next₀ w₀ left₀ out next w left = Copying src at n to out₀ next left w out
 
-row-first : (t : ℕ) → row-lts.Need-reproject-column-references-requires (row-claims t) (row-at t) row.Post
+abbrev μ-loop : row-lts.MeasureT-loop
+μ-loop out₀ src at n to next₀ w₀ left₀ out next w left = left
+
+row-first : (t : ℕ) → row-lts.Need-reproject-column-references-requires (row-claims t) (row-at t) row.Post Inv-loop μ-loop
 row-first t c κs =
-    let start = c .before .before .before .before .before in
-    (omega (arith, start .pre .0), first-fits (start .pre .1) (c .before .if1 .left))
+    let inv = c .before .before .loop .inv in
+    (omega (arith, c .before .before .before .before .before .before .pre .0, inv .low), copying-first inv (c .before .loop-test .taken))
 
-row-part : (t : ℕ) → row-lts.Need-part-reproject-children-start (row-claims t) (row-at t) row.Post
-row-part t c =
-    let call = c .before .before .reproject-column-references in
-    let fits = first-fits (c .before .before .before .before .before .before .before .before .pre .1) (c .before .before .before .before .if1 .left) in
-    omega (arith, call .kept .0, first-room fits (call .last .0) (call .result) (call .ensures))
-
-row-less : (t : ℕ) → row-lts.Need-sub-reproject-children-2 (row-claims t) (row-at t) row.Post
-row-less t c = omega (arith, c .before .before .before .before .before .if1 .left)
-
-row-rest : (t : ℕ) → row-lts.Need-reproject-children-requires (row-claims t) (row-at t) row.Post
-row-rest t c κs =
-    let start = c .before .before .before .before .before .before .before .before .before in
-    let some = c .before .before .before .before .before .if1 .left in
-    let fits = first-fits (start .pre .1) some in
-    let call = c .before .before .before .reproject-column-references in (
-      omega (arith, start .pre .0, node-some (fits .stands), first-later fits (call .last .0) (call .result) (call .ensures)),
-      rest-fits (start .pre .1) some (call .last .0) (call .result) (call .ensures) (call .kept .0),
-    )
-
-row-returns-2 : (t : ℕ) → row-lts.Need-returns-2 (row-claims t) (row-at t) row.Post
-row-returns-2 t c = λ ts row.
-    let start = c .before .before .before .before .before .before .before .before .before .before .before .before .before in
-    let some = c .before .before .before .before .before .before .before .before .before .if1 .left in
-    let one = c .before .before .before .before .before .before .before .reproject-column-references in
-    let others = c .before .before .before .reproject-children in
-    copies-some (start .args .to .now) ts row some (start .args .out .now) (one .last .0) (others .last .0) (one .result) (others .result) (one .ensures) (others .ensures)
-
-row-sum : (t : ℕ) → row-lts.Need-add-t14 (row-claims t) (row-at t) row.Post
+row-sum : (t : ℕ) → row-lts.Need-add-w (row-claims t) (row-at t) row.Post Inv-loop μ-loop
 row-sum t c =
-    let start = c .before .before .before .before .before .before .before .before .before .before .before .before .before in
-    let p = start .pre .1 in
-    omega (arith, start .good, p .room, row-returns-2 t c (p .trees) (p .row) .wrote)
+    let one = c .before .before .before .reproject-column-references in
+    let turn = c .before .before .before .before .before in
+    let inv = turn .before .loop .inv in
+    omega (arith, turn .before .before .before .before .before .good, inv .same, copying-sum inv (turn .loop-test .taken) (one .last .0) (one .kept .0) (one .result) (one .ensures))
 
-row-long : (t : ℕ) → row-lts.Need-same-length (row-claims t) (row-at t) row.Post
-row-long t c =
-    let start = c .before .before .before .before .before .before .before .before .before .before .before .before .before in
-    let some = c .before .before .before .before .before .before .before .before .before .if1 .left in
-    let one = c .before .before .before .before .before .before .before .reproject-column-references in
-    let others = c .before .before .before .reproject-children in
-    let room = first-room (first-fits (start .pre .1) some) (one .last .0) (one .result) (one .ensures) in
-    together-length (one .result .wrote) (one .last .0) (others .last .0) (omega (arith, one .kept .0)) (others .kept .0) ∙ one .kept .0
+row-goes-on : (t : ℕ) → row-lts.Need-loop-again (row-claims t) (row-at t) row.Post Inv-loop μ-loop
+row-goes-on t c =
+    let one = c .before .before .before .reproject-column-references in
+    let turn = c .before .before .before .before .before in
+    copying-goes-on (turn .before .loop .inv) (turn .loop-test .taken) (one .last .0) (one .kept .0) (one .result) (one .ensures)
 
 -- ---- the node
 
@@ -161,45 +135,52 @@ node-copy t c κs =
     let call = c .before .head-at in
     omega (arith, head-room (c .before .before .before .before .before .before .before .pre .1) (c .before .before .if1 .left) (call .result) (call .ensures))
 
+node-alone : (t : ℕ) → node-lts.Need-returns-2 (node-claims t) (node-at t) node.Post
+node-alone t c = λ u stands.
+    let start = c .before .before .before .before .before .before .before .before .before .before .before in
+    let head = c .before .before .before .before .before .head-at in
+    let copy = c .before .before .before .copy-bytes in
+    copy-alone (start .args .to .now) u stands (c .before .before .before .before .before .before .if1 .left) (head .result) (head .ensures) (c .if2 .taken) (start .args .out .now) (copy .last .0)
+    (head .result .next - start .args .at) refl (copy .ensures)
+
 node-part : (t : ℕ) → node-lts.Need-part-reproject-children-start (node-claims t) (node-at t) node.Post
 node-part t c =
-    let call = c .before .before .before .before .head-at in
-    let start = c .before .before .before .before .before .before .before .before .before .before in
-    omega (arith, c .before .before .copy-bytes .kept .0, head-room (start .pre .1) (c .before .before .before .before .before .if1 .left) (call .result) (call .ensures))
+    let call = c .before .before .before .before .before .head-at in
+    omega (arith, c .before .before .before .copy-bytes .kept .0, head-room (c .before .before .before .before .before .before .before .before .before .before .before .pre .1) (c .before .before .before .before .before .before .if1 .left) (call .result) (call .ensures))
 
 node-children : (t : ℕ) → node-lts.Need-reproject-children-requires (node-claims t) (node-at t) node.Post
 node-children t c κs =
-    let start = c .before .before .before .before .before .before .before .before .before .before .before in
-    let some = c .before .before .before .before .before .before .if1 .left in
-    let head = c .before .before .before .before .before .head-at in
-    let copy = c .before .before .before .copy-bytes in
+    let start = c .before .before .before .before .before .before .before .before .before .before .before .before in
+    let some = c .before .before .before .before .before .before .before .if1 .left in
+    let head = c .before .before .before .before .before .before .head-at in
+    let copy = c .before .before .before .before .copy-bytes in
     let tree = fits-tree (start .pre .1) in (
       omega (arith, start .pre .0, node-some (tree .2), after-head (tree .2) (head .result .next) (head .ensures (tree .0) (tree .1) (tree .2) .next)),
       children-fit (start .pre .1) some (head .result) (head .ensures) (copy .last .0) (copy .kept .0),
     )
 
-node-returns-2 : (t : ℕ) → node-lts.Need-returns-2 (node-claims t) (node-at t) node.Post
-node-returns-2 t c = λ u stands.
-    let start = c .before .before .before .before .before .before .before .before .before .before .before .before .before .before .before in
-    let some = c .before .before .before .before .before .before .before .before .before .before .if1 .left in
-    let head = c .before .before .before .before .before .before .before .before .before .head-at in
-    let copy = c .before .before .before .before .before .before .before .copy-bytes in
+node-returns-3 : (t : ℕ) → node-lts.Need-returns-3 (node-claims t) (node-at t) node.Post
+node-returns-3 t c = λ u stands.
+    let start = c .before .before .before .before .before .before .before .before .before .before .before .before .before .before .before .before in
+    let some = c .before .before .before .before .before .before .before .before .before .before .before .if1 .left in
+    let head = c .before .before .before .before .before .before .before .before .before .before .head-at in
+    let copy = c .before .before .before .before .before .before .before .before .copy-bytes in
     let others = c .before .before .before .reproject-children in
     copy-other (start .args .to .now) u stands some (head .result) (head .ensures) (start .args .out .now) (copy .last .0) (others .last .0)
     (head .result .next - start .args .at) refl (copy .ensures) (others .result) (others .ensures)
 
 node-sum : (t : ℕ) → node-lts.Need-add-t25 (node-claims t) (node-at t) node.Post
 node-sum t c =
-    let start = c .before .before .before .before .before .before .before .before .before .before .before .before .before .before .before in
+    let start = c .before .before .before .before .before .before .before .before .before .before .before .before .before .before .before .before in
     let p = start .pre .1 in
-    omega (arith, start .good, p .room, node-returns-2 t c (p .tree) (p .stands) .wrote)
+    omega (arith, start .good, p .room, node-returns-3 t c (p .tree) (p .stands) .wrote)
 
-node-long : (t : ℕ) → node-lts.Need-same-length-2 (node-claims t) (node-at t) node.Post
+node-long : (t : ℕ) → node-lts.Need-same-length-3 (node-claims t) (node-at t) node.Post
 node-long t c =
-    let start = c .before .before .before .before .before .before .before .before .before .before .before .before .before .before .before in
-    let some = c .before .before .before .before .before .before .before .before .before .before .if1 .left in
-    let head = c .before .before .before .before .before .before .before .before .before .head-at in
-    let copy = c .before .before .before .before .before .before .before .copy-bytes in
+    let start = c .before .before .before .before .before .before .before .before .before .before .before .before .before .before .before .before in
+    let some = c .before .before .before .before .before .before .before .before .before .before .before .if1 .left in
+    let head = c .before .before .before .before .before .before .before .before .before .before .head-at in
+    let copy = c .before .before .before .before .before .before .before .before .copy-bytes in
     let others = c .before .before .before .reproject-children in
     let room = head-room (start .pre .1) some (head .result) (head .ensures) in
     together-length (head .result .next - start .args .at) (copy .last .0) (others .last .0) (omega (arith, room, copy .kept .0)) (others .kept .0) ∙ copy .kept .0
@@ -207,16 +188,19 @@ node-long t c =
 pub +reproject-children+reproject-column-references-spec : {M : Type 1} → statement M
 +reproject-children+reproject-column-references-spec = close μ-row μ-node (λ t. row-lts.spec (row-claims t) (row-at t)
     row.Post
-    (row-returns t)
-    (row-first t)
-    (row-part t)
-    (row-part t)
+    Inv-loop
+    μ-loop
+    (λ c. copying-begins (c .before .before .before .pre .1))
+    (λ c. copying-room (c .before .loop .inv))
+    (λ c. copying-room (c .before .loop .inv))
     (λ c. search needs)
-    (row-less t)
-    (row-rest t)
+    (row-first t)
     (row-sum t)
-    (row-long t)
-    (row-returns-2 t))
+    (λ c. omega arith)
+    (λ c. omega arith)
+    (row-goes-on t)
+    (λ c. c .before .loop .inv .same)
+    (λ c. copying-ends (c .before .loop .inv) (c .loop-test .left)))
     λ t. node-lts.spec (node-claims t) (node-at t)
     node.Post
     (node-kind t)
@@ -231,10 +215,12 @@ pub +reproject-children+reproject-column-references-spec : {M : Type 1} → stat
     (node-head t)
     (node-width t)
     (node-copy t)
+    (λ c. c .before .before .before .copy-bytes .kept .0)
+    (node-alone t)
     (node-part t)
     (node-part t)
     (λ c. search needs)
     (node-children t)
     (node-sum t)
     (node-long t)
-    (node-returns-2 t)
+    (node-returns-3 t)
