@@ -11,7 +11,7 @@
  *   -10 no good plan in the first n bytes  -11 plan empty                -12 plan already extracted
  *   -13 no conjunct matches
  *
- * The buffers of one call must not overlap.
+ * The buffers of one call must not overlap. A buffer of length 0 may have any address but NULL.
  */
 #ifndef SPATIALJOIN_H
 #define SPATIALJOIN_H
@@ -23,7 +23,8 @@
 extern "C" {
 #endif
 
-/* Loads a physical frame as the new plan: its length, or -1 to -9. Reads nothing of the old plan. */
+/* Loads a physical frame as the new plan: its length, or -1, -2, the first of -3 to -6 from left to right, -7, -8, -9 in this order.
+ * Reads nothing of the old plan. */
 int64_t spatialjoin_load(const uint8_t *frame, size_t frame_len, uint8_t *plan, size_t plan_len);
 
 /* Pulls the spatial predicate out of the held filter: the new plan's length, or -10, -11, -12, -9, -13 in this order.
@@ -35,7 +36,7 @@ int64_t spatialjoin_extract(uint8_t *plan, size_t plan_len, size_t n, uint8_t *s
 int64_t spatialjoin_exchange(uint8_t *plan, size_t plan_len, size_t n, uint8_t *scratch, size_t scratch_len);
 
 /* The spatial names of a logical frame and its KNN query side: mask * 65536 + names * 256 + side (0 left, 1 right, 2 none),
- * or -1 to -5, -7. Bit 0 of the mask is the first of the 15 names. */
+ * or -1, -2, the first of -3 to -5 from left to right, -7 in this order. Bit 0 of the mask is the first of the 15 names. */
 int64_t spatialjoin_logical(const uint8_t *frame, size_t frame_len);
 
 #ifdef __cplusplus

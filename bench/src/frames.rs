@@ -127,13 +127,13 @@ fn worst_for_rust() -> Vec<u8> {
     physical_frame(records, binary(operator::AND, expr, matching()))
 }
 
-/// Short names, each held to every name that is looked for; and different records, half of which
-/// are referenced, each held to the others.
+/// Names of the length of four that are looked for, and nearly one of them; and different records,
+/// half of which are referenced, each held to the others.
 fn worst_for_ours() -> Vec<u8> {
     let half = MAX_RECORDS / 2;
-    let wide = |first: usize| call("s", (first..first + 16).map(column).collect());
+    let wide = |first: usize| call("st_withim", (first..first + 16).map(column).collect());
     let mut conjuncts: Vec<Expr> = (half..MAX_RECORDS).step_by(16).map(wide).collect();
-    conjuncts.extend(vec![call("s", Vec::new()); 438]);
+    conjuncts.extend(vec![call("st_withim", Vec::new()); 438]);
     conjuncts.push(matching());
     physical_frame(records(MAX_RECORDS), tree(conjuncts))
 }
@@ -178,9 +178,9 @@ fn logical_worst_for_rust() -> Vec<u8> {
     encode::logical(&call("ST_KNN", vec![query, object]))
 }
 
-/// Short names, each held to every name that is looked for.
+/// Names of the length of four that are looked for, and nearly one of them.
 fn logical_worst_for_ours() -> Vec<u8> {
-    let mut conjuncts = vec![call("S", Vec::new()); 510];
+    let mut conjuncts = vec![call("ST_WITHIM", Vec::new()); 510];
     conjuncts.push(logical_knn());
     encode::logical(&tree(conjuncts))
 }

@@ -17,31 +17,60 @@ use std::process::ExitCode;
 
 use measure::{Task, measure};
 use operations::{Logical, Physical};
+use ours::Ours;
 use table::Table;
 
-const USAGE: &str = "bench [--rounds N]";
+const USAGE: &str = "bench [--rounds N | --repeat GROUP]";
+
+enum Asked {
+    Tables(usize),
+    Repeat(String),
+}
 
 fn main() -> ExitCode {
     let words: Vec<String> = env::args().skip(1).collect();
-    let Some(rounds) = rounds(&words) else {
-        eprintln!("{USAGE}");
-        return ExitCode::from(2);
+    let done = match asked(&words) {
+        Some(Asked::Tables(rounds)) => run(rounds),
+        Some(Asked::Repeat(group)) => repeat(&group),
+        None => {
+            eprintln!("{USAGE}");
+            return ExitCode::from(2);
+        }
     };
-    match run(rounds) {
+    match done {
         Ok(()) => ExitCode::SUCCESS,
-        Err(difference) => {
-            eprintln!("{difference}; nothing was timed");
+        Err(fault) => {
+            eprintln!("{fault}; nothing was timed");
             ExitCode::FAILURE
         }
     }
 }
 
-fn rounds(words: &[String]) -> Option<usize> {
+fn asked(words: &[String]) -> Option<Asked> {
     match words {
-        [] => Some(25),
-        [name, value] if name == "--rounds" => value.parse().ok().filter(|rounds| *rounds > 0),
+        [] => Some(Asked::Tables(25)),
+        [name, value] if name == "--rounds" => {
+            let rounds = value.parse().ok().filter(|rounds| *rounds > 0)?;
+            Some(Asked::Tables(rounds))
+        }
+        [name, group] if name == "--repeat" => Some(Asked::Repeat(group.clone())),
         _ => None,
     }
+}
+
+/// Ours loads and extracts the frames of a group over and over, for a program that counts
+/// instructions.
+fn repeat(group: &str) -> Result<(), String> {
+    let groups = frames::physical();
+    let Some(group) = groups.iter().find(|known| known.name == group) else {
+        return Err(format!("no group {group}"));
+    };
+    let mut ours = Ours::new();
+    for frame in group.frames.iter().cycle().take(800) {
+        ours.load(frame);
+        ours.extract();
+    }
+    Ok(())
 }
 
 fn run(rounds: usize) -> Result<(), String> {

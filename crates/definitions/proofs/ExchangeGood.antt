@@ -13,7 +13,7 @@ use Rattle.definitions.specs.Limits.{RecordsInRange, ReadableFrame, OneO
 
 -- ---- lengths
 
-record-length : (r : Record) → length (recordBytes r) ≡ 5
+pub record-length : (r : Record) → length (recordBytes r) ≡ 5
 unfolding recordBytes bigEndian
 record-length r = refl
 

@@ -1,3 +1,4 @@
+-- The theorems about the definitions, and the laws that they use.
 pub mod ReaderLaws
 pub mod Everything
 pub mod Table

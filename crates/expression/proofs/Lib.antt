@@ -1,6 +1,7 @@
 -- Laws that several proofs use.
 pub mod Placed
 pub mod OfKind
+pub mod Records
 pub mod Standing
 pub mod HeadLaws
 pub mod LeafLaws
@@ -8,5 +9,4 @@ pub mod EndWalk
 pub mod NameLaws
 pub mod WordLaws
 pub mod Parts
-pub mod Reading
 pub mod There

@@ -1,3 +1,4 @@
+-- Laws that several proofs use.
 pub mod Reading
 pub mod Numbers
 pub mod Repeats

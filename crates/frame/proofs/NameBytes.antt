@@ -9,7 +9,7 @@ use lib.ListN.{length, take, drop, getD, length-drop}
 use lib.Dec.{leb}
 use lib.Seq.{take-suc, getD-drop, drop-drop, take-length}
 use Rattle.definitions.specs.Basics.{all}
-use Rattle.definitions.specs.Readers.{Read, read, stopped, byteBetween, repeat}
+use Rattle.definitions.specs.Readers.{read, stopped, byteBetween, repeat}
 use Rattle.definitions.proofs.ReaderLaws.{after, halts}
 use Rattle.frame.specs.declared.refusals.Refusal.the-variants.{EndsInsideField, OutOfRange}
 use Rattle.frame.specs.declared.fields.Skipped.the-variants.{To, Refused}

@@ -35,11 +35,12 @@ abbrev pub FieldIs : List ℕ → (at : ℕ) → Field → Reader ℕ → Type 0
 FieldIs s at (field.Value value next) reader = (next ≤ length s) × ReadsAt s at next value reader
 FieldIs s at (field.Refused why) reader = StopsAt s at (numberOf why) reader
 
--- How a field of a sort is read, and that its number fits eight bytes.
+-- How a field of a sort is read.
 abbrev pub readerOf : Sort → Reader ℕ
 readerOf (sort.Bytes width) = number width
 readerOf (sort.UpTo most) = byteUpTo most
 
+-- Its number fits eight bytes.
 abbrev pub Narrow : Sort → Type 0
 Narrow (sort.Bytes width) = width ≤ 8
 Narrow (sort.UpTo most) = Unit {0}

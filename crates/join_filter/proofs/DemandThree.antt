@@ -1,14 +1,13 @@
 -- Calls that meet their contracts are the definitions' calls, so a list of them is the definitions' list, and that is the machine's.
 use Prim.Native.Nat.{ℕ}
-use native.Mathlib.Omega.{arith}
 use mathlib.Core.Path.{_≡_, refl, sym, ap, _∙_, subst}
 use mathlib.Core.Bool.{true}
-use mathlib.Core.List.{List, [], _∷_, map}
+use mathlib.Core.List.{List, _∷_, map}
 use lib.ListN.{length}
 use Rattle.definitions.specs.Basics.{Result, ok}
-use Rattle.definitions.specs.Calls.{LoadOutcome, load, Outcome}
-use Rattle.definitions.specs.Machine.{Made, make, Calls, callsRun}
-use Rattle.definitions.specs.Claims.{accepted, Agree, callsAfter, machineAfter, ListOfCalls}
+use Rattle.definitions.specs.Calls.{LoadOutcome, load}
+use Rattle.definitions.specs.Machine.{Made, Calls, callsRun}
+use Rattle.definitions.specs.Claims.{accepted, Agree, machineAfter}
 use Rattle.definitions.proofs.ListTheorem.{list-theorem}
 use Rattle.join_filter.specs.Outcomes.{answerOf}
 use Rattle.join_filter.specs.Lists.{Ran, noCall, called, CodeIsMachine}

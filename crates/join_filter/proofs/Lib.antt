@@ -1,3 +1,4 @@
+-- Laws that several proofs use, and the theorem about the code.
 pub mod Standing
 pub mod Loading
 pub mod Naming

@@ -11,7 +11,7 @@ use Rattle.definitions.specs.Limits.{AllBytes}
 use Rattle.definitions.specs.Claims.{Agree, machineAfter}
 use Rattle.join_filter.specs.Outcomes.{answerOf, nAfter, LoadIs, OutcomeIs}
 use Rattle.join_filter.specs.declared.answers.Answer.{Answer}
-use Rattle.join_filter.specs.declared.answers.Answer.the-variants.{Length, Refused}
+use Rattle.join_filter.specs.declared.answers.Answer.the-variants.{Length}
 
 -- A list of calls was made: each met its contract, was given the n and the plan buffer that the one before left, and gave its answer.
 pub data Ran : (n : ℕ) → (buffer : List ℕ) → List Made → List Answer → (last : ℕ) → (left : List ℕ) → Type 0 where

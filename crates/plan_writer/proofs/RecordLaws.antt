@@ -21,7 +21,7 @@ use Rattle.expression.proofs.Placed as placed
 use Rattle.plan_writer.specs.Written.{WroteAt}
 use Rattle.plan_writer.specs.Tables.{Entry, OfRecords, Table}
 use Rattle.plan_writer.specs.Records.{stays, MarkedBy, OfMarked, Referenced, OneFits, OneKept, keptAll, RecordsKept, RecordsPut, AllFit, AllKept}
-use Rattle.plan_writer.proofs.Fields.{record-length}
+use Rattle.definitions.proofs.ExchangeGood.{record-length}
 use Rattle.plan_writer.proofs.Written.{behind, together, chain, copied-wrote, part-wrote, nothing-wrote, behind-length, to-start, store, under}
 use Rattle.plan_writer.proofs.NumberLaws.{number-length}
 use Rattle.plan_writer.proofs.TableLaws.{entry-of, entry-child, table-none, table-more, table-whole}

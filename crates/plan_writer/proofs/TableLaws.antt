@@ -18,7 +18,8 @@ use Rattle.expression.specs.Places.{shortAt}
 use Rattle.expression.proofs.Placed.{fits, front, next}
 use Rattle.plan_writer.specs.Copies.{copyOf}
 use Rattle.plan_writer.specs.Tables.{Table, Entry, Entries, Recorded, ChildTable}
-use Rattle.plan_writer.proofs.Fields.{short-is, entry-at, child-short}
+use Rattle.expression.proofs.Records.{short-is, entry-at}
+use Rattle.plan_writer.proofs.Fields.{child-short}
 use Rattle.plan_writer.proofs.Ranges.{map-agrees, map-same}
 
 -- None yet, one entry more, and all of them.

@@ -12,5 +12,4 @@ pub mod Nodes
 pub mod LeafLaws
 pub mod PickLaws
 pub mod FirstLaws
-pub mod CutLaws
 pub mod KnnLaws

@@ -3,7 +3,7 @@ use Prim.Native.Nat.{ℕ, _≤_}
 use mathlib.Core.Path.{_≡_}
 use mathlib.Core.List.{List}
 use lib.IntN.{ℤ}
-use Rattle.definitions.specs.Calls.{LoadOutcome, load, Outcome}
+use Rattle.definitions.specs.Calls.{load, Outcome}
 use Rattle.definitions.specs.Hosts.{hosted}
 use Rattle.join_filter.specs.declared.answers.Answer.{Answer}
 use Rattle.join_filter.specs.declared.answers.Answer.the-variants.{Length, Refused}

@@ -1,9 +1,7 @@
 -- `spatialjoin_logical`: mask, count and side as one number.
 use borrow.Author.Needs.{needs}
 use native.Mathlib.Omega.{arith}
-use mathlib.Core.Path.{sym, ap, _∙_}
 use Rattle.definitions.specs.Hosts.{hostedNames}
-use Rattle.join_filter.specs.Outcomes.{namesOf}
 use Rattle.spatialjoin_c.proofs.Numbers.{number-is, given-back}
 use Rattle.spatialjoin_c.proofs.calls.spatialjoin_logical.Statement.{statement}
 use Rattle.spatialjoin_c.proofs.calls.spatialjoin_logical.Tie as tie
