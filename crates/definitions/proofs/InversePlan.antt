@@ -20,7 +20,7 @@ use Rattle.definitions.proofs.ReaderLaws.{stopped-not-read, step, test,
 use Rattle.definitions.proofs.Taken.{and-both}
 use Rattle.definitions.proofs.Inverse.{byte-back, byte-up-to-back, number-back, after-bytes, join, NodeBack, node-back}
 
-side-number : (n : ℕ) → n ≤ 2 → sideNumber (sideNumbered n) ≡ n
+pub side-number : (n : ℕ) → n ≤ 2 → sideNumber (sideNumbered n) ≡ n
 unfolding sideNumber sideNumbered
 side-number zero h = refl
 side-number (suc zero) h = refl
@@ -106,10 +106,10 @@ body-back n m s t F h k e =
 
 -- ---- whole frames
 
-refused-not-ok : {A : Type 0} (k : ℕ) (a : A) → _≡_ {A = Result A} (refused k) (ok a) → ⊥
+pub refused-not-ok : {A : Type 0} (k : ℕ) (a : A) → _≡_ {A = Result A} (refused k) (ok a) → ⊥
 refused-not-ok k a e = let z : _≡_ {A = ℕ} 0 1 = cc in omega arith
 
-same-ok : {A : Type 0} (a b : A) → _≡_ {A = Result A} (ok a) (ok b) → a ≡ b
+pub same-ok : {A : Type 0} (a b : A) → _≡_ {A = Result A} (ok a) (ok b) → a ≡ b
 same-ok a b e = cc
 
 -- A frame that was read as a whole: its bytes are not too many, and none is left.

@@ -1,7 +1,7 @@
 -- A plan that a call leaves is a good plan's bytes, and those are at most 16,384.
 use Prim.Native.Nat.{ℕ, zero, suc, _≤_}
-use mathlib.Core.Path.{_≡_, refl, sym, ap, subst}
-use mathlib.Core.Bool.{Bool, true, false, false≢true}
+use mathlib.Core.Path.{_≡_, refl, sym, subst}
+use mathlib.Core.Bool.{Bool, true, false}
 use mathlib.Core.List.{List, [], _∷_}
 use mathlib.Core.Option.{Option, none, some}
 use lib.ListN.{length, take}
@@ -15,8 +15,8 @@ use Rattle.definitions.specs.Exchange.{exchangePlan}
 use Rattle.definitions.specs.Calls.{loadBytes, loaded, load, finish, heldPlan, exchangeBytes, exchange, extractedBytes, extractBytes, extract}
 use Rattle.definitions.specs.Machine.{Kind, extractCall, exchangeCall, make}
 use Rattle.definitions.specs.Limits.{AllBytes, GoodPlan}
-use Rattle.definitions.specs.Claims.{accepted, LengthsShort}
-use Rattle.definitions.proofs.InversePlan.{frame-back, plan-back}
+use Rattle.definitions.specs.Claims.{LengthsShort}
+use Rattle.definitions.proofs.InversePlan.{refused-not-ok, same-ok, frame-back, plan-back}
 use Rattle.definitions.proofs.ExtractGood.{GoodExtraction, extraction-good}
 use Rattle.definitions.proofs.ExchangeGood.{exchange-good}
 
@@ -25,16 +25,9 @@ abbrev Short : Result (List ℕ) → Type 0
 Short (ok bytes) = length bytes ≤ 16384
 Short (refused number) = Unit {0}
 
-same : (a b : ℕ) → _≡_ {A = Result ℕ} (ok a) (ok b) → a ≡ b
-same a b e = cc
-
 if-short : (b : Bool) (x : Result (List ℕ)) (number : ℕ) → Short x → Short (if b then x else refused number)
 if-short true x number h = h
 if-short false x number h = tt
-
-not-both : {number m : ℕ} → _≡_ {A = Result ℕ} (refused number) (ok m) → ⊥
-unfolding accepted
-not-both e = false≢true (ap accepted e)
 
 -- ---- load
 
@@ -47,15 +40,15 @@ load-short frame room (refused number) bytes e = tt
 
 loaded-short : (n : ℕ) (buffer : List ℕ) (x : Result (List ℕ)) {m : ℕ} → Short x → loaded n buffer x .answer ≡ ok m → m ≤ 16384
 unfolding loaded
-loaded-short n buffer (ok bytes) h e = subst (λ k. k ≤ 16384) (same _ _ e) h
-loaded-short n buffer (refused number) h e = absurd (not-both e)
+loaded-short n buffer (ok bytes) h e = subst (λ k. k ≤ 16384) (same-ok _ _ e) h
+loaded-short n buffer (refused number) h e = absurd (refused-not-ok _ _ e)
 
 -- ---- extract and exchange
 
 finish-short : (n : ℕ) (buffer scratch : List ℕ) (x : Result (List ℕ)) {m : ℕ} → Short x → finish n buffer scratch x .answer ≡ ok m → m ≤ 16384
 unfolding finish
-finish-short n buffer scratch (ok bytes) h e = subst (λ k. k ≤ 16384) (same _ _ e) h
-finish-short n buffer scratch (refused number) h e = absurd (not-both e)
+finish-short n buffer scratch (ok bytes) h e = subst (λ k. k ≤ 16384) (same-ok _ _ e) h
+finish-short n buffer scratch (refused number) h e = absurd (refused-not-ok _ _ e)
 
 -- The first of some bytes are bytes.
 pub bytes-up-to : (n : ℕ) (s : List ℕ) → AllBytes s → AllBytes (take n s)

@@ -21,7 +21,7 @@ use Rattle.definitions.proofs.RoundTrip.{number-reads, byte-reads, node
 
 -- ---- records
 
-side-again : (s : Side) → sideNumbered (sideNumber s) ≡ s
+pub side-again : (s : Side) → sideNumbered (sideNumber s) ≡ s
 unfolding sideNumbered sideNumber
 side-again left = refl
 side-again right = refl

@@ -52,11 +52,11 @@ part-at s at end i h = rw (getD-take (end - at) (drop at s) i 0 h, getD-drop)
 
 -- ---- two lists of bytes
 
-and-false : (t : Bool) → t && false ≡ false
+pub and-false : (t : Bool) → t && false ≡ false
 and-false true = refl
 and-false false = refl
 
-unlike : (a b : List ℕ) → (length a ≡ length b → ⊥) → sameName a b ≡ false
+pub unlike : (a b : List ℕ) → (length a ≡ length b → ⊥) → sameName a b ≡ false
 unfolding sameName
 unlike [] [] h = absurd (h refl)
 unlike [] (y ∷ b) h = refl

@@ -1,10 +1,11 @@
 -- What holds of each node of a kind holds of a node whose kind it is.
 use Prim.Native.Nat.{ℕ, _<_}
 use native.Mathlib.Omega.{arith}
-use mathlib.Core.Path.{_≡_}
-use mathlib.Core.List.{List}
+use mathlib.Core.Path.{_≡_, refl, sym, ap}
+use mathlib.Core.List.{List, _++_, append-nil}
 use Rattle.definitions.specs.Expression.{Expr, column, literal, and, binary, call, other, field, Exprs}
-use Rattle.expression.specs.Nodes.{kindOf}
+use Rattle.definitions.specs.Match.{columnsOf, columnsOfAll}
+use Rattle.expression.specs.Nodes.{kindOf, childrenOf}
 
 pub a-column : (P : Expr → Type 0) → ((index tag : ℕ) → P (column index tag)) → (t : Expr) → kindOf t ≡ 0 → P t
 unfolding kindOf
@@ -65,3 +66,14 @@ a-field P f (binary o l r) e = absurd (omega arith)
 a-field P f (call n args) e = absurd (omega arith)
 a-field P f (other g cs) e = absurd (omega arith)
 a-field P f (field b g) e = f b g
+
+-- A node that is no column has its children's columns.
+pub no-own-columns : (t : Expr) → (kindOf t ≡ 0 → ⊥) → columnsOf t ≡ columnsOfAll (childrenOf t)
+unfolding kindOf columnsOf childrenOf
+no-own-columns (column i g) n = absurd (n refl)
+no-own-columns (literal y v) n = refl
+no-own-columns (and l r) n = ap (λ (x : List ℕ). columnsOf l ++ x) (sym (append-nil (columnsOf r)))
+no-own-columns (binary o l r) n = ap (λ (x : List ℕ). columnsOf l ++ x) (sym (append-nil (columnsOf r)))
+no-own-columns (call name ts) n = refl
+no-own-columns (other g ts) n = refl
+no-own-columns (field b g) n = refl

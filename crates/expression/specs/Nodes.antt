@@ -1,5 +1,5 @@
 -- A node as its head, the bytes before its children, and its children; where an expression stands.
-use Prim.Native.Nat.{ℕ}
+use Prim.Native.Nat.{ℕ, _+_}
 use mathlib.Core.Path.{_≡_}
 use mathlib.Core.List.{List, [], _∷_, _++_}
 use lib.ListN.{length}
@@ -67,3 +67,10 @@ Trees s at n = (c : Columns) × (ts : Exprs) × Row c s at n ts
 
 abbrev pub OfTrees : List ℕ → ℕ → ℕ → (Exprs → Type 0) → Type 0
 OfTrees s at n P = (c : Columns) (ts : Exprs) → Row c s at n ts → P ts
+
+-- Where the children of an And begin.
+abbrev pub leftOf : (at : ℕ) → ℕ
+leftOf at = at + 2
+
+abbrev pub rightOf : (at : ℕ) → (l : Expr) → ℕ
+rightOf at l = at + 2 + length (exprBytes l)

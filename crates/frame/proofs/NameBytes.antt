@@ -11,6 +11,7 @@ use lib.Seq.{take-suc, getD-drop, drop-drop, take-length}
 use Rattle.definitions.specs.Basics.{all}
 use Rattle.definitions.specs.Readers.{read, stopped, byteBetween, repeat}
 use Rattle.definitions.proofs.ReaderLaws.{after, halts}
+use Rattle.definitions.proofs.Taken.{and-both}
 use Rattle.frame.specs.declared.refusals.Refusal.the-variants.{EndsInsideField, OutOfRange}
 use Rattle.frame.specs.declared.fields.Skipped.the-variants.{To, Refused}
 use Rattle.frame.specs.Fields.{SkippedIs, nameLike}
@@ -58,16 +59,12 @@ byte-missing : (n : ℕ) → byteBetween 33 126 n [] ≡ stopped 3
 unfolding byteBetween
 byte-missing n = refl
 
-both : (x y : Bool) → x && y ≡ true → (x ≡ true) × (y ≡ true)
-both true y e = (refl, e)
-both false y e = absurd (false≢true e)
-
 names-read : (size n : ℕ) (s : List ℕ) → size ≤ length s → nameLike (take size s) ≡ true → repeat size (byteBetween 33 126) n s ≡ read (take size s) n (drop size s)
 unfolding repeat nameLike all
 names-read zero n s h e = refl
 names-read (suc size) n [] h e = absurd (omega arith)
 names-read (suc size) n (b ∷ s) h e =
-    let like = both (may b) (all may (take size s)) e in
+    let like = and-both (may b) (all may (take size s)) e in
     after _ (byte-may b n s (like .0)) ∙ after _ (names-read size n s (omega arith) (like .1))
 
 names-end : (size n : ℕ) (s : List ℕ) → length s < size → nameLike s ≡ true → repeat size (byteBetween 33 126) n s ≡ stopped 3
@@ -75,7 +72,7 @@ unfolding repeat nameLike all
 names-end zero n s h e = absurd (omega arith)
 names-end (suc size) n [] h e = halts _ (byte-missing n)
 names-end (suc size) n (b ∷ s) h e =
-    let like = both (may b) (all may s) e in
+    let like = and-both (may b) (all may s) e in
     after _ (byte-may b n s (like .0)) ∙ halts _ (names-end size n s (omega arith) (like .1))
 
 first-stops : (b n : ℕ) (s : List ℕ) (size : ℕ) (t : Bool) → may b ≡ t → (may b ≡ true → repeat size (byteBetween 33 126) n s ≡ stopped 4)

@@ -1,6 +1,5 @@
 -- Records that were read: their bytes stand there, as many as were asked for.
 use Prim.Native.Nat.{ℕ, zero, suc, _^_, _≤_, _<_}
-use native.Mathlib.Omega.{arith}
 use mathlib.Core.Path.{_≡_, refl, sym, ap, _∙_}
 use mathlib.Core.List.{List, [], _∷_, _++_}
 use lib.ListN.{length}
@@ -12,13 +11,7 @@ use Rattle.definitions.specs.Decode.{sideNumbered, sideUpTo, oneRecord}
 use Rattle.definitions.specs.Limits.{AllBytes}
 use Rattle.definitions.proofs.ReaderLaws.{step, given}
 use Rattle.definitions.proofs.Inverse.{byte-up-to-back, number-back, after-bytes, join}
-
-numbered : (n : ℕ) → n ≤ 2 → sideNumber (sideNumbered n) ≡ n
-unfolding sideNumber sideNumbered
-numbered zero h = refl
-numbered (suc zero) h = refl
-numbered (suc (suc zero)) h = refl
-numbered (suc (suc (suc n))) h = absurd (omega arith)
+use Rattle.definitions.proofs.InversePlan.{side-number}
 
 one-recorded : (n m : ℕ) (s t : List ℕ) (r : Record) → AllBytes s → oneRecord n s ≡ read r m t → s ≡ recordBytes r ++ t
 unfolding oneRecord sideUpTo recordBytes
@@ -26,7 +19,7 @@ one-recorded n m s t r h e =
     step (sideUpTo 2 n s) _ e (λ x n₁ s₁ e₁ f₁. step (byteUpTo 2 n s) _ e₁ (λ b k u e₀ f₀.
     let side : (s ≡ b ∷ u) × (b ≤ 2) × (k ≡ n) = byte-up-to-back 2 n k b s u e₀ in
     let first : s ≡ sideNumber x ∷ s₁ =
-    given (λ y m t. s ≡ sideNumber y ∷ t) (sideNumbered b) x k n₁ u s₁ f₀ (side .0 ∙ ap (λ (y : ℕ). y ∷ u) (sym (numbered b (side .1)))) in
+    given (λ y m t. s ≡ sideNumber y ∷ t) (sideNumbered b) x k n₁ u s₁ f₀ (side .0 ∙ ap (λ (y : ℕ). y ∷ u) (sym (side-number b (side .1)))) in
     let h₁ : AllBytes s₁ = after-bytes (sideNumber x ∷ []) s₁ s first h in
     step (number 2 n₁ s₁) _ f₁ (λ c n₂ s₂ e₂ f₂.
     let child : (s₁ ≡ bigEndian 2 c ++ s₂) × (c < 256 ^ 2) × (n₂ ≡ n₁) = number-back 2 n₁ n₂ c s₁ s₂ h₁ e₂ in

@@ -4,11 +4,11 @@ use mathlib.Core.Path.{_≡_, refl, sym, ap, _∙_, subst}
 use mathlib.Core.Bool.{true}
 use mathlib.Core.List.{List, _∷_, map}
 use lib.ListN.{length}
-use Rattle.definitions.specs.Basics.{Result, ok}
 use Rattle.definitions.specs.Calls.{LoadOutcome, load}
 use Rattle.definitions.specs.Machine.{Made, Calls, callsRun}
 use Rattle.definitions.specs.Claims.{accepted, Agree, machineAfter}
 use Rattle.definitions.proofs.ListTheorem.{list-theorem}
+use Rattle.definitions.proofs.InversePlan.{same-ok}
 use Rattle.join_filter.specs.Outcomes.{answerOf}
 use Rattle.join_filter.specs.Lists.{Ran, noCall, called, CodeIsMachine}
 use Rattle.join_filter.specs.declared.answers.Answer.{Answer}
@@ -20,9 +20,6 @@ ran-is noCall = refl
 ran-is (called {r = r} e more) =
     rw e (ap (λ (c : Calls). record { answers = answerOf r ∷ c .answers; n = c .n; buffer = c .buffer }) (ran-is more))
 
-same-length : (a b : ℕ) → _≡_ {A = Result ℕ} (ok a) (ok b) → a ≡ b
-same-length a b e = cc
-
 pub code-is-machine : CodeIsMachine
 unfolding accepted
 code-is-machine frame before after k bytes is =
@@ -31,7 +28,7 @@ code-is-machine frame before after k bytes is =
     let list = list-theorem frame 0 before bytes taken in (
       list .0,
       list .1,
-      same-length k (length frame) (sym (ap (λ (o : LoadOutcome). o .answer) outcome) ∙ list .2),
+      same-ok k (length frame) (sym (ap (λ (o : LoadOutcome). o .answer) outcome) ∙ list .2),
       λ calls answers last left ran.
           subst (λ (c : Calls). Agree (list .0) c (machineAfter (list .0) calls))
           (ap (λ (o : LoadOutcome). callsRun (o .n) (o .buffer) calls) outcome ∙ ran-is ran) (list .3 calls),

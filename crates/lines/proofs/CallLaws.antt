@@ -14,6 +14,7 @@ use Rattle.definitions.specs.Calls.{LoadOutcome, Outcome, writtenOver, loadByte
 use Rattle.definitions.specs.Machine.{Kind, extractCall, exchangeCall, make}
 use Rattle.definitions.specs.Logical.{LogicalAnswer, leafName, distinct, spatialNames, logicalAnswer, logical, logicalBytes}
 use Rattle.definitions.specs.Program.{Kept, LineOutcome, refusedLine, loadLine, logicalLine, callLine}
+use Rattle.definitions.proofs.InversePlan.{refused-not-ok}
 use Rattle.frame.specs.Refusals.{numberOf}
 use Rattle.frame.specs.declared.refusals.Refusal.{Refusal}
 use Rattle.join_filter.specs.Outcomes.{answerOf, nAfter, LoadIs, OutcomeIs}
@@ -22,7 +23,6 @@ use Rattle.join_filter.specs.declared.answers.Answer.the-variants.{Length, Refu
 use Rattle.lines.specs.declared.answers.Answer.the-variants.{Logical, Refused}
 use Rattle.lines.specs.Answers.{planLength, keptAs, AnswerIs}
 use Rattle.lines.specs.Calling.{lineAnswer}
-use Rattle.lines.proofs.LineLaws.{refused-not-ok}
 
 -- ---- the answer of a call
 
@@ -46,7 +46,7 @@ plan-written bytes before {after} {m} e f =
 loaded-fits : (x : Result (List ℕ)) (n : ℕ) (before : List ℕ) {m k : ℕ} {after : List ℕ} → loaded n before x ≡ record { answer = ok m; n = k; buffer = after } → m ≤ length after
 unfolding loaded
 loaded-fits (ok bytes) n before e = plan-written bytes before (ap (λ (o : LoadOutcome). o .answer) e) (ap (λ (o : LoadOutcome). o .buffer) e)
-loaded-fits (refused number) n before e = absurd (refused-not-ok (ap (λ (o : LoadOutcome). o .answer) e))
+loaded-fits (refused number) n before e = absurd (refused-not-ok _ _ (ap (λ (o : LoadOutcome). o .answer) e))
 
 load-fits : (frame before : List ℕ) {after : List ℕ} (a : CallAnswer) → LoadIs frame before after a → planLength (lineAnswer a) ≤ length after
 unfolding load
@@ -78,7 +78,7 @@ finish-fits : (x : Result (List ℕ)) (n : ℕ) (before s : List ℕ) {m k : ℕ
     → finish n before s x ≡ record { answer = ok m; n = k; buffer = after; scratch = t } → m ≤ length after
 unfolding finish
 finish-fits (ok bytes) n before s e = plan-written bytes before (ap (λ (o : Outcome). o .answer) e) (ap (λ (o : Outcome). o .buffer) e)
-finish-fits (refused number) n before s e = absurd (refused-not-ok (ap (λ (o : Outcome). o .answer) e))
+finish-fits (refused number) n before s e = absurd (refused-not-ok _ _ (ap (λ (o : Outcome). o .answer) e))
 
 call-fits : (kind : Kind) (n : ℕ) (before s : List ℕ) {after t : List ℕ} (a : CallAnswer) → OutcomeIs (make kind n before s) n after t a → planLength (lineAnswer a) ≤ length after
 unfolding make extract exchange
@@ -127,7 +127,7 @@ unfolding logicalAnswer
 names-below (ok e) {found} is =
     let same : found ≡ logicalAnswer e = cc in
     rw same (omega (arith, distinct-below spatialNames (map leafName (leaves e)), all-names))
-names-below (refused number) is = absurd (refused-not-ok (sym is))
+names-below (refused number) is = absurd (refused-not-ok _ _ (sym is))
 
 pub few-names : (frame : List ℕ) {found : LogicalAnswer} → ok found ≡ logical frame → found .names < 256
 unfolding logical

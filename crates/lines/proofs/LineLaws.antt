@@ -10,13 +10,11 @@ use borrow.Author.Tests.{ne-eqb, leb-true}
 use Rattle.definitions.specs.Basics.{if_then_else_, ok, refused}
 use Rattle.definitions.specs.Machine.{extractCall, exchangeCall}
 use Rattle.definitions.specs.Program.{Kept, refusedLine, loadLine, logicalLine, callLine, lineOf, digitBytes, orRefused, lineBytes, readLine, lineOutcome}
+use Rattle.definitions.proofs.InversePlan.{refused-not-ok}
 use Rattle.frame.specs.Refusals.{numberOf}
 use Rattle.frame.specs.declared.refusals.Refusal.{Refusal}
 use Rattle.lines.specs.declared.answers.Answer.the-variants.{Refused}
 use Rattle.lines.specs.Answers.{keptAs, AnswerIs}
-
-pub refused-not-ok : {A : Type 0} {number : ℕ} {a : A} → refused number ≡ ok a → ⊥
-refused-not-ok e = let z : _≡_ {A = ℕ} 0 1 = cc in omega arith
 
 -- A refusal keeps the plan.
 pub refused-line : (n : ℕ) (plan : List ℕ) (why : Refusal) → AnswerIs (refusedLine (numberOf why) (keptAs n plan)) n plan (Refused why)
@@ -69,7 +67,7 @@ bad-line line kept e = rw (← e)
 short : (line : List ℕ) {bytes : List ℕ} (b : Bool) → leb (length line) 32768 ≡ b
     → ok bytes ≡ (if b then orRefused 14 (digitBytes line) else refused 14) → length line ≤ 32768
 short line true is e = leb-true (length line) 32768 is
-short line false is e = absurd (refused-not-ok (sym e))
+short line false is e = absurd (refused-not-ok _ _ (sym e))
 
 pub short-line : (line : List ℕ) {bytes : List ℕ} → ok bytes ≡ lineBytes line → length line ≤ 32768
 unfolding lineBytes

@@ -12,13 +12,14 @@ use Rattle.definitions.specs.Expression.{Expr, column, literal, and, binary, ca
 use Rattle.definitions.specs.Encode.{exprBytes}
 use Rattle.definitions.specs.Leaves.{leaves}
 use Rattle.definitions.specs.Decode.{Columns}
+use Rattle.expression.specs.Nodes.{leftOf, rightOf}
 use Rattle.expression.specs.Nodes.{headBytes, Stands}
 use Rattle.expression.specs.Leaves.{Both, NodeIs, plainColumn, plainLiteral, plainOther, plainField}
 use Rattle.expression.specs.declared.leaves.Node.{Node}
 use Rattle.expression.specs.declared.leaves.Node.the-variants.{And, Binary, Call, Plain}
 use Rattle.expression.proofs.leaves.Node.{the-type}
 use Rattle.expression.proofs.Standing.{first-stands, rest-stands}
-use Rattle.plan_writer.specs.Cuts.{leftOf, rightOf, unless, inside, around, Ends}
+use Rattle.plan_writer.specs.Cuts.{unless, inside, around, Ends}
 use Rattle.plan_writer.specs.declared.cuts.Cut.{Cut}
 
 -- ---- AND-leaves

@@ -15,7 +15,8 @@ use Rattle.definitions.specs.Decode.{Columns}
 use Rattle.definitions.specs.Extract.{without, andLeft, andRight}
 use Rattle.definitions.specs.Limits.{InRange}
 use Rattle.definitions.proofs.Taken.{Taken, RestIs, rest-in-range}
-use Rattle.plan_writer.specs.Cuts.{leftOf, rightOf, CutAt, here, inLeft, inRight, inside, around, EndsInside, Ends}
+use Rattle.expression.specs.Nodes.{leftOf, rightOf}
+use Rattle.plan_writer.specs.Cuts.{CutAt, here, inLeft, inRight, inside, around, EndsInside, Ends}
 use Rattle.plan_writer.specs.declared.cuts.Cut.{Cut}
 use Rattle.plan_writer.proofs.AroundLaws.{leaves-some, no-and, at-leaf, not-leaf, lone-around}
 

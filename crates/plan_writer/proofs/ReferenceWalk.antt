@@ -2,15 +2,16 @@
 use Prim.Native.Nat.{ℕ, _+_, _-_, _≤_, _<_}
 use native.Mathlib.Omega.{arith}
 use mathlib.Core.Path.{_≡_, refl, sym, ap, _∙_}
-use mathlib.Core.List.{List, [], _∷_, _++_, append-nil}
+use mathlib.Core.List.{List, [], _∷_, _++_}
 use lib.ListN.{length, getD, set, length-append}
-use Rattle.definitions.specs.Expression.{Expr, column, literal, and, binary, call, other, field, Exprs}
+use Rattle.definitions.specs.Expression.{Expr, and, Exprs}
 use Rattle.definitions.specs.Encode.{exprBytes, exprsBytes}
 use Rattle.definitions.specs.Decode.{indexBelow}
 use Rattle.definitions.specs.Match.{columnsOf, columnsOfAll}
 use Rattle.definitions.specs.Leaves.{leaves}
+use Rattle.expression.proofs.OfKind.{no-own-columns}
 use Rattle.expression.specs.Places.{shortAt}
-use Rattle.expression.specs.Nodes.{childrenOf, kindOf, Stands, Row, Tree, OfTree}
+use Rattle.expression.specs.Nodes.{childrenOf, Stands, Row, Tree, OfTree}
 use Rattle.expression.specs.Heads.{HeadIs}
 use Rattle.expression.specs.Leaves.{Both}
 use Rattle.expression.specs.declared.heads.Head.{Head}
@@ -31,17 +32,6 @@ marked-append [] y flags = refl
 marked-append (i ∷ x) y flags = marked-append x y (set flags i 1)
 
 -- ---- returns
-
--- A node that is no column has its children's columns.
-no-own-columns : (t : Expr) → (kindOf t ≡ 0 → ⊥) → columnsOf t ≡ columnsOfAll (childrenOf t)
-unfolding kindOf columnsOf childrenOf
-no-own-columns (column i g) n = absurd (n refl)
-no-own-columns (literal y v) n = refl
-no-own-columns (and l r) n = ap (λ (x : List ℕ). columnsOf l ++ x) (sym (append-nil (columnsOf r)))
-no-own-columns (binary o l r) n = ap (λ (x : List ℕ). columnsOf l ++ x) (sym (append-nil (columnsOf r)))
-no-own-columns (call name ts) n = refl
-no-own-columns (other g ts) n = refl
-no-own-columns (field b g) n = refl
 
 -- One walk after another.
 collected-both : {at p r size more : ℕ} {x y before middle after : List ℕ} → Collected at size x before middle p → Collected p more y middle after r

@@ -8,14 +8,8 @@ use Rattle.definitions.specs.Basics.{if_then_else_}
 use Rattle.definitions.specs.Expression.{Expr, column, literal, and, binary, call, other, field}
 use Rattle.definitions.specs.Encode.{exprBytes}
 use Rattle.definitions.specs.Leaves.{leaves}
+use Rattle.expression.specs.Nodes.{leftOf, rightOf}
 use Rattle.plan_writer.specs.declared.cuts.Cut.{Cut}
-
--- Where the children of an And begin.
-abbrev pub leftOf : (at : ℕ) → ℕ
-leftOf at = at + 2
-
-abbrev pub rightOf : (at : ℕ) → (l : Expr) → ℕ
-rightOf at l = at + 2 + length (exprBytes l)
 
 -- ---- which AND-leaf is cut out
 

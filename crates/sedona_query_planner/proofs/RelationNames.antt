@@ -11,6 +11,8 @@ use borrow.Author.Tests.{lt-leb, eqb-true, eqb-false}
 use Rattle.definitions.specs.Basics.{if_then_else_, ascii, sameName, all}
 use Rattle.definitions.specs.Expression.{Relation, intersects, contains, within, covers, coveredBy, touches, crosses, overlaps, equals}
 use Rattle.definitions.specs.Leaves.{relationNamed}
+use Rattle.definitions.proofs.Taken.{and-both}
+use Rattle.expression.proofs.NameLaws.{and-false, unlike}
 use Rattle.expression.specs.Names.{position}
 
 -- The value beside the first of the names that is this one.
@@ -57,30 +59,15 @@ relation-at name = one-by-one name ∙ beside-position name relationNames relati
 
 -- ---- names of other lengths
 
-and-false : (t : Bool) {u : Bool} → u ≡ false → t && u ≡ false
-and-false true e = e
-and-false false e = refl
-
-both : (t u : Bool) → t && u ≡ true → (t ≡ true) × (u ≡ true)
-both true u e = (refl, e)
-both false u e = absurd (false≢true e)
-
-other-length : (a b : List ℕ) → (length a ≡ length b → ⊥) → sameName a b ≡ false
-unfolding sameName
-other-length [] [] n = absurd (n refl)
-other-length [] (y ∷ b) n = refl
-other-length (x ∷ a) [] n = refl
-other-length (x ∷ a) (y ∷ b) n = and-false (eqb x y) (other-length a b (λ e. n (ap suc e)))
-
 -- All names have a length that passes a test, and this one has not: it is none of them.
 position-past : (test : ℕ → Bool) (name : List ℕ) → test (length name) ≡ false → (names : List (List ℕ)) → all (λ x. test (length x)) names ≡ true
     → position name names ≡ length names
 unfolding position all
 position-past test name out [] e = refl
 position-past test name out (x ∷ xs) e =
-    let fit = both (test (length x)) (all (λ x. test (length x)) xs) e in
+    let fit = and-both (test (length x)) (all (λ x. test (length x)) xs) e in
     let differ : length name ≡ length x → ⊥ = λ same. false≢true (sym out ∙ ap test same ∙ fit .0) in
-    rw (other-length name x differ) (ap suc (position-past test name out xs (fit .1)))
+    rw (unlike name x differ) (ap suc (position-past test name out xs (fit .1)))
 
 abbrev usual : ℕ → Bool
 usual n = leb 9 n && leb n 13
@@ -97,7 +84,7 @@ pub short-name : (name : List ℕ) → length name < 9 → none ≡ relationName
 short-name name h = unusual name (ap (λ (t : Bool). t && leb (length name) 13) (lt-leb 9 (length name) h))
 
 pub long-name : (name : List ℕ) → 13 < length name → none ≡ relationNamed name
-long-name name h = unusual name (and-false (leb 9 (length name)) (lt-leb (length name) 13 h))
+long-name name h = unusual name (rw (lt-leb (length name) 13 h) (and-false (leb 9 (length name))))
 
 -- Where two neighbours are the same, so is what stands at either.
 pub neighbours : {A : Type 0} (xs : List A) (other : A) (k i : ℕ) → getD xs (suc k) other ≡ getD xs k other → k ≤ i → i < k + 2 → getD xs i other ≡ getD xs k other

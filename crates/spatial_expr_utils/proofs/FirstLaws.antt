@@ -14,6 +14,7 @@ use Rattle.definitions.specs.Decode.{indexBelow}
 use Rattle.definitions.specs.Match.{matchLeaf}
 use Rattle.definitions.specs.Extract as definition
 use Rattle.definitions.specs.Extract.{firstMatch, firstOf, matchesOf}
+use Rattle.expression.specs.Nodes.{leftOf, rightOf}
 use Rattle.expression.specs.Nodes.{headBytes, OfTreeIn}
 use Rattle.expression.specs.Leaves.{Both, NodeIs}
 use Rattle.expression.specs.declared.leaves.Node.{Node}
@@ -21,7 +22,7 @@ use Rattle.expression.specs.declared.leaves.Node.the-variants as node
 use Rattle.expression.proofs.Standing.{node-some, first-stands, rest-stands}
 use Rattle.spatial_expr_utils.specs.Frames.{Over, Framed, OfFrame}
 use Rattle.spatial_expr_utils.specs.Matches.{Lacks, Matches}
-use Rattle.spatial_expr_utils.specs.Picks.{wants, matches, leftOf, rightOf, CutAt, here, inLeft, inRight, FirstIs, NothingIs, FoundIs, TakenIs}
+use Rattle.spatial_expr_utils.specs.Picks.{wants, matches, CutAt, here, inLeft, inRight, FirstIs, NothingIs, FoundIs, TakenIs}
 use Rattle.spatial_expr_utils.specs.declared.predicates.SpatialPredicate.{SpatialPredicate}
 use Rattle.spatial_expr_utils.specs.declared.pick.Wanted.{Wanted}
 use Rattle.spatial_expr_utils.specs.declared.pick.Pick.{Pick}

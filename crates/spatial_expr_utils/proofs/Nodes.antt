@@ -15,17 +15,11 @@ use Rattle.expression.specs.Leaves.{NodeIs, PlainNode, plainColumn, plainLitera
 use Rattle.expression.specs.declared.leaves.Node.{Node}
 use Rattle.expression.specs.declared.leaves.Node.the-variants.{And, Binary, Call, Plain}
 use Rattle.expression.proofs.leaves.Node.{the-type}
+use Rattle.sedona_query_planner.proofs.AndLeaves.{plain-leaf}
 use Rattle.spatial_expr_utils.specs.Matches.{isRelation, Lacks}
 use Rattle.spatial_expr_utils.proofs.Asked.{requestKind, Only, comparison-only, only-distance}
 
 -- Any node but And is an AND-leaf.
-plain-leaf : {t : Expr} → PlainNode t → leaves t ≡ t ∷ []
-unfolding leaves
-plain-leaf plainColumn = refl
-plain-leaf plainLiteral = refl
-plain-leaf plainOther = refl
-plain-leaf plainField = refl
-
 leaf-node : (c : Columns) (s : List ℕ) (at : ℕ) (t : Expr) (node : Node) → OneOf (1 ∷ 2 ∷ 3 ∷ []) (tagOf the-type node) → NodeIs c s at node t → leaves t ≡ t ∷ []
 unfolding leaves
 leaf-node c s at t (And first) tag is = absurd (miss (1 ∷ 2 ∷ 3 ∷ []) 0 tt tag)

@@ -7,7 +7,6 @@ use lib.Dec.{eqb}
 use Rattle.definitions.specs.Basics.{if_then_else_, all}
 use Rattle.definitions.specs.Expression.{Side, left, right, noSide}
 use Rattle.definitions.specs.Encode.{sideNumber}
-use Rattle.definitions.specs.Decode.{sideNumbered}
 use Rattle.definitions.specs.Match.{sameSide, commonSide, isSide, leftRight, rightLeft, noOrder, orderOf}
 use Rattle.frame.specs.declared.records.JoinSide.{JoinSide}
 use Rattle.frame.specs.declared.records.JoinSide.the-variants.{Left, Right, None}
@@ -17,12 +16,6 @@ use Rattle.frame.specs.Fields.{joinSide}
 use Rattle.spatial_expr_utils.specs.Sides.{sideFor, sidesAre, see, seeAll}
 
 -- ---- numbers of sides
-
-pub side-again : (x : Side) → sideNumbered (sideNumber x) ≡ x
-unfolding sideNumbered sideNumber
-side-again left = refl
-side-again right = refl
-side-again noSide = refl
 
 pub same-number : (a b : Side) → eqb (sideNumber a) (sideNumber b) ≡ sameSide a b
 unfolding sideNumber sameSide

@@ -2,15 +2,17 @@
 use Prim.Native.Nat.{ℕ, _+_, _-_, _*_}
 use native.Mathlib.Omega.{arith}
 use mathlib.Core.Path.{_≡_, refl, sym, ap, ap₂, _∙_, subst}
-use mathlib.Core.List.{List, [], _∷_, _++_, append-nil}
+use mathlib.Core.List.{List, [], _∷_, _++_}
 use lib.ListN.{length, getD, length-append}
 use Rattle.definitions.specs.Basics.{bigEndian}
-use Rattle.definitions.specs.Expression.{Side, Expr, column, literal, and, binary, call, other, field, Exprs, Record}
+use Rattle.definitions.specs.Expression.{Side, Expr, Exprs, Record}
 use Rattle.definitions.specs.Encode.{exprBytes, exprsBytes, recordBytes}
 use Rattle.definitions.specs.Decode.{sideNumbered, indexBelow}
 use Rattle.definitions.specs.Match.{columnsOf, columnsOfAll, recordAt, sideOf, orderOf}
+use Rattle.definitions.proofs.RoundTripPlan.{side-again}
+use Rattle.expression.proofs.OfKind.{no-own-columns}
 use Rattle.expression.specs.Places.{shortAt}
-use Rattle.expression.specs.Nodes.{childrenOf, kindOf, OfTree}
+use Rattle.expression.specs.Nodes.{childrenOf, OfTree}
 use Rattle.expression.specs.Heads.{HeadIs}
 use Rattle.expression.specs.declared.heads.Head.{Head}
 use Rattle.spatial_expr_utils.specs.Frames.{Over, OverAll, Framed, OfFrame, OfFrameAll, FramedTwo, OfFrameTwo}
@@ -26,19 +28,9 @@ use Rattle.spatial_expr_utils.specs.declared.sides.Order.{Order}
 use Rattle.expression.proofs.Placed.{first}
 use Rattle.expression.proofs.Standing.{tree-length, kind-is, no-children, some-children}
 use Rattle.spatial_expr_utils.proofs.Framing.{ColumnIs, column-is, children-over, first-over, rest-over}
-use Rattle.spatial_expr_utils.proofs.SideLaws.{side-again, see-append, seen-all}
+use Rattle.spatial_expr_utils.proofs.SideLaws.{see-append, seen-all}
 
 -- ---- columns of a node and of its children
-
-no-own-columns : (t : Expr) → (kindOf t ≡ 0 → ⊥) → columnsOf t ≡ columnsOfAll (childrenOf t)
-unfolding kindOf columnsOf childrenOf
-no-own-columns (column i g) n = absurd (n refl)
-no-own-columns (literal y v) n = refl
-no-own-columns (and l r) n = rw (append-nil (columnsOf r))
-no-own-columns (binary o l r) n = rw (append-nil (columnsOf r))
-no-own-columns (call name args) n = refl
-no-own-columns (other g cs) n = refl
-no-own-columns (field b g) n = refl
 
 sides-append : (records : List Record) (xs ys : List ℕ) → sidesIn records (xs ++ ys) ≡ sidesIn records xs ++ sidesIn records ys
 sides-append records [] ys = refl

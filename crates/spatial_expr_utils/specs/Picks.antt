@@ -11,6 +11,7 @@ use Rattle.definitions.specs.Leaves.{leaves}
 use Rattle.definitions.specs.Match.{matchLeaf}
 use Rattle.definitions.specs.Extract as definition
 use Rattle.definitions.specs.Extract.{isKnn, firstMatch, matchesOf}
+use Rattle.expression.specs.Nodes.{leftOf, rightOf}
 use Rattle.spatial_expr_utils.specs.Matches.{PredicateIs}
 use Rattle.spatial_expr_utils.specs.declared.pick.Wanted.{Wanted}
 use Rattle.spatial_expr_utils.specs.declared.pick.Wanted.the-variants.{Knn, Other}
@@ -34,13 +35,6 @@ abbrev pub matches : List Record → Expr → List (Option Predicate)
 matches records t = map (matchLeaf records) (leaves t)
 
 -- ---- where a leaf stands
-
--- Where the children of an And begin.
-abbrev pub leftOf : (at : ℕ) → ℕ
-leftOf at = at + 2
-
-abbrev pub rightOf : (at : ℕ) → (l : Expr) → ℕ
-rightOf at l = at + 2 + length (exprBytes l)
 
 -- The AND-leaf at a position, from 0, of the expression at a place is the one that the pick says; `up` is the place of the And above.
 pub data CutAt (p : Pick) : (up : ℕ) → Expr → (at position : ℕ) → Type 0 where

@@ -17,6 +17,6 @@ Short (Refused why) = Unit {0}
 abbrev pub LoadHosted : (frame before after : List ℕ) → ℤ → Type 0
 LoadHosted frame before after r = (n : ℕ) → (r ≡ hosted (load frame n before .answer)) × (after ≡ load frame n before .buffer)
 
--- The call is the definition's: answer and both buffers.
+-- The call is the definition's: answer and both buffers. n is the host's to keep: the length that was answered, else as it was.
 abbrev pub CallHosted : Outcome → (after scratch : List ℕ) → ℤ → Type 0
 CallHosted o after scratch r = (r ≡ hosted (o .answer)) × (after ≡ o .buffer) × (scratch ≡ o .scratch)
