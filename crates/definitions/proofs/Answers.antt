@@ -4,25 +4,26 @@ use mathlib.Core.Path.{_≡_, refl, sym, ap, ap₂, _∙_}
 use mathlib.Core.Bool.{Bool, true, false, _&&_, _||_, not, and-false}
 use mathlib.Core.List.{List, [], _∷_, _++_, map}
 use mathlib.Core.Option.{Option, none, some}
-use lib.ListN.{length, getD}
+use lib.ListN.{length}
 use lib.Dec.{leb}
-use Rattle.definitions.specs.Basics.{if_then_else_, Result, refused}
+use Rattle.definitions.specs.Basics.{if_then_else_, Result}
 use Rattle.definitions.specs.Expression.{Frame, Extraction}
 use Rattle.definitions.specs.Extract.{extraction}
 use Rattle.definitions.specs.Encode.{planBytes}
-use Rattle.definitions.specs.Calls.{load, Outcome}
-use Rattle.definitions.specs.Machine.{Kind, extractCall, exchangeCall, Bits, machinePlan, machineLength, Step, refuseStep, acceptStep, takeStep, machineStep, machineRun, fresh, Made, fed, make, callsRun}
-use Rattle.definitions.specs.Claims.{accepted, Loads, callsAfter, planLeft, machineAfter, isExtract, extractAccepted, exchangesOdd, SamePlan, someLeafMatches, answerAmong, ExchangeAccepted, ExtractAccepted}
+use Rattle.definitions.specs.Calls.{Outcome}
+use Rattle.definitions.specs.Machine.{Kind, extractCall, exchangeCall, Bits, machinePlan, machineLength, Step, refuseStep, acceptStep, takeStep, machineStep, machineRun, fresh}
+use Rattle.definitions.specs.Sessions.{Made, extractWith, exchangeWith, make, callsRun, fed, machineAfter, accepted, isExtract, extractAccepted, exchangesOdd, Session, planAfter, extractedIn, oddIn, answerAfter}
+use Rattle.definitions.specs.Claims.{AnswersInPlace, SamePlan, someLeafMatches, ExchangeAccepted, ExtractAccepted}
 use Rattle.definitions.proofs.Requests.{by-test}
 use Rattle.definitions.proofs.Pick.{Matched, matched}
 use Rattle.definitions.proofs.Lists.{bits, step-agrees}
-use Rattle.definitions.proofs.ListTheorem.{load-good, after-load}
+use Rattle.definitions.proofs.ListTheorem.{after-all}
 
 -- ---- the bits
 
 -- The bits once an extract was accepted, or none was, and the odd bit flipped or not.
-abbrev after : Bits → (extracted flipped : Bool) → Bits
-after b e f = record { isExtracted = if e then true else b .isExtracted; isOdd = if f then not (b .isOdd) else b .isOdd }
+abbrev changed : Bits → (extracted flipped : Bool) → Bits
+changed b e f = record { isExtracted = if e then true else b .isExtracted; isOdd = if f then not (b .isOdd) else b .isOdd }
 
 either-bit : (x e e′ : Bool) → (if e′ then true else if e then true else x) ≡ (if e || e′ then true else x)
 either-bit x true true = refl
@@ -35,8 +36,8 @@ flipped-bit false true true = refl
 flipped-bit x true false = refl
 flipped-bit x false f′ = refl
 
-after-both : (b : Bits) (e f e′ f′ : Bool) → after (after b e f) e′ f′ ≡ after b (e || e′) (if f then not f′ else f′)
-after-both b e f e′ f′ =
+changed-both : (b : Bits) (e f e′ f′ : Bool) → changed (changed b e f) e′ f′ ≡ changed b (e || e′) (if f then not f′ else f′)
+changed-both b e f e′ f′ =
     ap₂ (λ (x y : Bool). record { isExtracted = x; isOdd = y }) (either-bit (b .isExtracted) e e′) (flipped-bit (b .isOdd) f f′)
 
 -- A call of this kind with this answer is an accepted extract; an accepted exchange.
@@ -48,7 +49,7 @@ exchanges k a = not (isExtract k) && accepted a
 
 -- A step changes the bits as its answer says.
 abbrev Follows : Bits → Kind → Step → Type 0
-Follows b k s = s .bits ≡ after b (extracts k (s .answer)) (exchanges k (s .answer))
+Follows b k s = s .bits ≡ changed b (extracts k (s .answer)) (exchanges k (s .answer))
 
 refuse-follows : (b : Bits) (k : Kind) (number : ℕ) → Follows b k (refuseStep b number)
 unfolding refuseStep isExtract accepted
@@ -70,7 +71,7 @@ step-follows F b extractCall room =
 
 run-follows : (F : Frame) (b : Bits) (calls : List Made)
     → machineRun F b (map fed calls) .bits
-    ≡ after b (extractAccepted calls (machineRun F b (map fed calls) .answers)) (exchangesOdd calls (machineRun F b (map fed calls) .answers))
+    ≡ changed b (extractAccepted calls (machineRun F b (map fed calls) .answers)) (exchangesOdd calls (machineRun F b (map fed calls) .answers))
 unfolding machineRun fed extractAccepted exchangesOdd
 run-follows F b [] = refl
 run-follows F b (c ∷ cs) =
@@ -78,15 +79,15 @@ run-follows F b (c ∷ cs) =
     let e : Bool = extractAccepted cs (machineRun F (s .bits) (map fed cs) .answers) in
     let o : Bool = exchangesOdd cs (machineRun F (s .bits) (map fed cs) .answers) in
     run-follows F (s .bits) cs
-    ∙ ap (λ (x : Bits). after x e o) (step-follows F b (c .kind) (length (c .scratch)))
-    ∙ after-both b (extracts (c .kind) (s .answer)) (exchanges (c .kind) (s .answer)) e o
+    ∙ ap (λ (x : Bits). changed x e o) (step-follows F b (c .kind) (length (c .scratch)))
+    ∙ changed-both b (extracts (c .kind) (s .answer)) (exchanges (c .kind) (s .answer)) e o
 
-after-fresh : (e o : Bool) → after fresh e o ≡ bits e o
+changed-fresh : (e o : Bool) → changed fresh e o ≡ bits e o
 unfolding fresh
-after-fresh true true = refl
-after-fresh true false = refl
-after-fresh false true = refl
-after-fresh false false = refl
+changed-fresh true true = refl
+changed-fresh true false = refl
+changed-fresh false true = refl
+changed-fresh false false = refl
 
 -- ---- the machine's answers
 
@@ -116,50 +117,54 @@ extract-accepts F b room = first-accepts b _ (b .isExtracted) (leb (machineLengt
 -- ---- the calls
 
 -- A call in a list answers as it does on what the calls before it left.
-answer-among : (n : ℕ) (buffer : List ℕ) (before : List Made) (c : Made) (after : List Made)
-    → getD (callsRun n buffer (before ++ (c ∷ after)) .answers) (length before) (refused 0)
-    ≡ make (c .kind) (callsRun n buffer before .n) (callsRun n buffer before .buffer) (c .scratch) .answer
+in-place : (n : ℕ) (buffer : List ℕ) (before : List Made) (c : Made) (later : List Made)
+    → (others : List (Result ℕ))
+    × (callsRun n buffer (before ++ (c ∷ later)) .answers
+    ≡ callsRun n buffer before .answers ++ (make (c .kind) (callsRun n buffer before .n) (callsRun n buffer before .buffer) (c .scratch) .answer ∷ others))
 unfolding callsRun
-answer-among n buffer [] c after = refl
-answer-among n buffer (b ∷ bs) c after =
+in-place n buffer [] c later = (_, refl)
+in-place n buffer (b ∷ bs) c later =
     let one : Outcome = make (b .kind) n buffer (b .scratch) in
-    answer-among (one .n) (one .buffer) bs c after
+    let rest = in-place (one .n) (one .buffer) bs c later in
+    (rest .0, ap {B = List (Result ℕ)} (λ answers. one .answer ∷ answers) (rest .1))
+
+pub answers-place : AnswersInPlace
+answers-place F s before c later = in-place (s .n) (s .buffer) before c later
 
 -- The bits that a list of calls and its answers tell.
-abbrev pub told : List Made → (answers : List (Result ℕ)) → Bits
-told calls answers = bits (extractAccepted calls answers) (exchangesOdd calls answers)
+abbrev pub told : {F : Frame} → Session F → List Made → Bits
+told s calls = bits (extractedIn s calls) (oddIn s calls)
 
-module _ (frame : List ℕ) (F : Frame) (n : ℕ) (buffer : List ℕ) (l : Loads frame n buffer F) where
+module _ {F : Frame} (s : Session F) where
   -- They are the machine's bits.
-  pub bits-told : (calls : List Made) → machineAfter F calls .bits ≡ told calls (callsAfter frame n buffer calls .answers)
-  bits-told calls = run-follows F fresh calls ∙ after-fresh _ _ ∙ ap (told calls) (sym (after-load frame F n buffer l calls .answers))
+  pub bits-told : (calls : List Made) → machineAfter F calls .bits ≡ told s calls
+  bits-told calls =
+      run-follows F fresh calls ∙ changed-fresh _ _
+      ∙ ap (λ (answers : List (Result ℕ)). bits (extractAccepted calls answers) (exchangesOdd calls answers)) (sym (after-all s calls .answers))
 
   -- So they tell the plan that is left.
-  pub plan-told : (calls : List Made)
-      → planLeft (callsAfter frame n buffer calls) ≡ planBytes (machinePlan F (told calls (callsAfter frame n buffer calls .answers)))
-  plan-told calls = after-load frame F n buffer l calls .holds .bytes ∙ ap (λ (b : Bits). planBytes (machinePlan F b)) (bits-told calls)
+  pub plan-told : (calls : List Made) → planAfter s calls ≡ planBytes (machinePlan F (told s calls))
+  plan-told calls = after-all s calls .holds .bytes ∙ ap (λ (b : Bits). planBytes (machinePlan F b)) (bits-told calls)
 
-  -- The answer of a call in a list is the machine's.
-  pub machine-answer : (before : List Made) (c : Made) (after : List Made)
-      → answerAmong frame n buffer before c after ≡ machineStep F (machineAfter F before .bits) (c .kind) (length (c .scratch)) .answer
-  machine-answer before c after =
-      answer-among (load frame n buffer .n) (load frame n buffer .buffer) before c after
-      ∙ step-agrees F _ (c .kind) _ _ (c .scratch) (load-good frame F n buffer l) (after-load frame F n buffer l before .holds) .answer
+  -- The answer of a call is the machine's.
+  pub machine-answer : (before : List Made) (c : Made)
+      → answerAfter s before c ≡ machineStep F (machineAfter F before .bits) (c .kind) (length (c .scratch)) .answer
+  machine-answer before c = step-agrees F _ (c .kind) _ _ (c .scratch) (s .good) (after-all s before .holds) .answer
 
 pub plans-same : SamePlan
-plans-same frame F n n′ buffer buffer′ l l′ calls calls′ e o =
-    plan-told frame F n buffer l calls ∙ ap₂ (λ (x y : Bool). planBytes (machinePlan F (bits x y))) e o ∙ sym (plan-told frame F n′ buffer′ l′ calls′)
+plans-same F s t calls calls′ e o =
+    plan-told s calls ∙ ap₂ (λ (x y : Bool). planBytes (machinePlan F (bits x y))) e o ∙ sym (plan-told t calls′)
 
 pub exchange-among : ExchangeAccepted
-exchange-among frame F n buffer l before after scratch =
-    rw (machine-answer frame F n buffer l before (record { kind = exchangeCall; scratch = scratch }) after, after-load frame F n buffer l before .holds .size)
+exchange-among F s before scratch =
+    rw (machine-answer s before (exchangeWith scratch), after-all s before .holds .size)
     (exchange-accepts F (machineAfter F before .bits) (length scratch))
 
 pub extract-among : ExtractAccepted
-extract-among frame F n buffer l before after scratch =
+extract-among F s before scratch =
     rw (
-      machine-answer frame F n buffer l before (record { kind = extractCall; scratch = scratch }) after,
-      after-load frame F n buffer l before .holds .size,
-      ← (ap (λ (b : Bits). b .isExtracted) (bits-told frame F n buffer l before)),
+      machine-answer s before (extractWith scratch),
+      after-all s before .holds .size,
+      ← (ap (λ (b : Bits). b .isExtracted) (bits-told s before)),
     )
     (extract-accepts F (machineAfter F before .bits) (length scratch))

@@ -13,6 +13,7 @@ use Rattle.definitions.specs.Extract as Extract
 use Rattle.definitions.specs.Exchange as Exchange
 use Rattle.definitions.specs.Calls as Calls
 use Rattle.definitions.specs.Machine as Machine
+use Rattle.definitions.specs.Sessions as Sessions
 use Rattle.definitions.specs.Meaning as Meaning
 use Rattle.definitions.specs.Logical as Logical
 use Rattle.definitions.specs.Program as Program
@@ -66,8 +67,12 @@ unfolding Calls.writtenOver Calls.loadBytes Calls.loaded Calls.load Calls.finish
 calls = 0
 
 unfoldable pub machine : ℕ
-unfolding Machine.extractionOr Machine.machinePlan Machine.machineLength Machine.refuseStep Machine.acceptStep Machine.takeStep Machine.machineStep Machine.machineRun Machine.fresh Machine.fed Machine.make Machine.callsRun
+unfolding Machine.extractionOr Machine.machinePlan Machine.machineLength Machine.refuseStep Machine.acceptStep Machine.takeStep Machine.machineStep Machine.machineRun Machine.fresh
 machine = 0
+
+unfoldable pub sessions : ℕ
+unfolding Sessions.make Sessions.callsRun Sessions.fed Sessions.accepted Sessions.isExtract Sessions.extractAccepted Sessions.exchangesOdd
+sessions = 0
 
 unfoldable pub meaning : ℕ
 unfolding Meaning.andValue Meaning.value Meaning.frameColumns Meaning.frameValue Meaning.distanceByForm Meaning.predicateValue Meaning.andRemainder Meaning.extractionValue Meaning.planValue Meaning.exchangedValues
@@ -82,5 +87,5 @@ unfolding Program.digitValue Program.pairBytes Program.digitBytes Program.orRefu
 program = 0
 
 unfoldable pub everything : ℕ
-unfolding basics expression literals encode leaves readers decode plans match extract exchange calls machine meaning logical program
+unfolding basics expression literals encode leaves readers decode plans match extract exchange calls machine sessions meaning logical program
 everything = 0

@@ -4,20 +4,20 @@ use native.Mathlib.Omega.{arith}
 use mathlib.Core.Path.{_≡_, refl, sym, ap, _∙_, subst}
 use mathlib.Core.Bool.{Bool, true, false, _||_}
 use mathlib.Core.List.{List, [], _∷_}
-use mathlib.Core.Option.{Option, none, some, Option·map}
+use mathlib.Core.Option.{Option, none, some}
 use lib.Dec.{leb, ltb, eqb}
 use lib.IntN.{ℤ, pos}
 use borrow.Author.Tests.{eqb-true, eqb-false, eq-eqb, ne-eqb}
 use Rattle.definitions.specs.Basics.{if_then_else_, ascii, sameName}
-use Rattle.definitions.specs.Expression.{Side, left, right, noSide, Relation, intersects, contains, within, covers, coveredBy, touches, crosses, overlaps, equals, Expr, column, literal, and, binary, call, other, field, Exprs, nil, cons, Record, Frame, Predicate, relation, distance, knn}
+use Rattle.definitions.specs.Expression.{Side, Relation, intersects, contains, within, covers, coveredBy, touches, crosses, overlaps, equals, Expr, column, literal, and, binary, call, other, field, Exprs, nil, cons, Record, knn}
 use Rattle.definitions.specs.Literals.{signed, u32, numberU32}
 use Rattle.definitions.specs.Leaves.{relationNamed}
-use Rattle.definitions.specs.Match.{Order, leftRight, rightLeft, noOrder, Request, askRelation, askDistance, askKnn, askNothing, relationRequest, dwithinRequest, literalU32, literalBool, knnLiterals, knnRequest, callRequest, request, invert, matchRelation, matchDistance, matchKnn, matchRequest, matchLeaf}
-use Rattle.definitions.specs.Extract.{extraction}
-use Rattle.definitions.specs.Meaning.{Valuation, Meaning, value, frameColumns, Fair, frameValue, extractionValue}
-use Rattle.definitions.specs.Claims.{FairMeaning}
+use Rattle.definitions.specs.Match.{literalU32, literalBool, knnLiterals, knnRequest, invert, matchLeaf}
+use Rattle.definitions.specs.Meaning.{Valuation, Meaning, value, frameColumns, Fair}
+use Rattle.definitions.specs.Claims.{FairMeaning, markedFrame, MarksDiffer}
 use Rattle.definitions.proofs.Everything.{everything}
-use Rattle.definitions.proofs.Requests.{by-test, same-name}
+use Rattle.definitions.proofs.Requests.{by-test}
+use Rattle.definitions.proofs.KnnLeaves.{Asked, Matched, leaf-matched}
 
 -- ---- points on a line
 
@@ -138,74 +138,27 @@ literal-has columns (call name arguments) = tt
 literal-has columns (other tag children) = tt
 literal-has columns (field bits tag) = tt
 
--- A value x that is KNN's of points y and z, wherever KNN is asked for; where a predicate is KNN.
-abbrev Asked : (x y z : ℕ) → Request → Type 0
-Asked x y z (askKnn k spheroid ties a b) = x ≡ near y z k
-Asked x y z (askRelation type a b) = Unit {0}
-Asked x y z (askDistance form a b bound) = Unit {0}
-Asked x y z askNothing = Unit {0}
-
-abbrev Matched : (x y z : ℕ) → Option Predicate → Type 0
-Matched x y z none = Unit {0}
-Matched x y z (some (relation type l r)) = Unit {0}
-Matched x y z (some (distance form side l r bound)) = Unit {0}
-Matched x y z (some (knn k spheroid probe ties l r)) = x ≡ near y z k
-
-module _ (x y z : ℕ) where
-  relation-matched : (type : Relation) (a b : Expr) (o : Order) → Matched x y z (matchRelation type a b o)
-  unfolding matchRelation
-  relation-matched type a b leftRight = tt
-  relation-matched type a b rightLeft = tt
-  relation-matched type a b noOrder = tt
-
-  distance-matched : (rs : List Record) (form : ℕ) (a b bound : Expr) (side : Option Side) (o : Order)
-      → Matched x y z (matchDistance rs form a b bound side o)
-  unfolding matchDistance
-  distance-matched rs form a b bound none o = tt
-  distance-matched rs form a b bound (some side) leftRight = tt
-  distance-matched rs form a b bound (some side) rightLeft = tt
-  distance-matched rs form a b bound (some side) noOrder = tt
-
-  knn-matched : (k spheroid ties : ℕ) (a b : Expr) (o : Order) → x ≡ near y z k → Matched x y z (matchKnn k spheroid ties a b o)
-  unfolding matchKnn
-  knn-matched k spheroid ties a b leftRight h = h
-  knn-matched k spheroid ties a b rightLeft h = h
-  knn-matched k spheroid ties a b noOrder h = tt
-
-  request-matched : (rs : List Record) (q : Request) → Asked x y z q → Matched x y z (matchRequest rs q)
-  unfolding matchRequest
-  request-matched rs (askRelation type a b) h = relation-matched type _ _ _
-  request-matched rs (askDistance form a b bound) h = distance-matched rs form _ _ bound _ _
-  request-matched rs (askKnn k spheroid ties a b) h = knn-matched k spheroid ties _ _ _ h
-  request-matched rs askNothing h = tt
-
-  literals-asked : (v : ℕ) (k spheroid ties : Option ℕ) (a b : Expr) → Has v k → x ≡ near y z v → Asked x y z (knnLiterals k spheroid ties a b)
-  unfolding knnLiterals
-  literals-asked v none spheroid ties a b h e = tt
-  literals-asked v (some k) none ties a b h e = tt
-  literals-asked v (some k) (some spheroid) none a b h e = tt
-  literals-asked v (some k) (some spheroid) (some ties) a b h e = e ∙ ap (near y z) h
-
-  dwithin-asked : (a b : Expr) (more : Exprs) → Asked x y z (dwithinRequest (cons a (cons b more)))
-  unfolding dwithinRequest
-  dwithin-asked a b nil = tt
-  dwithin-asked a b (cons bound more) = tt
-
-  relation-asked : (type : Option Relation) (a b : Expr) (more : Exprs) → Asked x y z (relationRequest type (cons a (cons b more)))
-  unfolding relationRequest
-  relation-asked none a b more = tt
-  relation-asked (some type) a b more = tt
+-- With k read off a literal of this value, KNN of two points is asked for.
+literals-asked : (x y z v : ℕ) (k spheroid ties : Option ℕ) (a b : Expr) → Has v k → x ≡ near y z v
+    → Asked (λ k spheroid ties. x ≡ near y z k) (knnLiterals k spheroid ties a b)
+unfolding knnLiterals
+literals-asked x y z v none spheroid ties a b h e = tt
+literals-asked x y z v (some k) none ties a b h e = tt
+literals-asked x y z v (some k) (some spheroid) none a b h e = tt
+literals-asked x y z v (some k) (some spheroid) (some ties) a b h e = e ∙ ap (near y z) h
 
 module _ (columns : ℕ → ℕ) (a b : Expr) where
-  -- What a call of these two and further arguments asks for.
-  abbrev CallAsked : (name : List ℕ) → (more : Exprs) → Request → Type 0
-  CallAsked name more = Asked (value points columns (call name (cons a (cons b more)))) (value points columns a) (value points columns b)
+  -- A call of these two and further arguments has the value of KNN with this k.
+  abbrev IsNear : (name : List ℕ) → (more : Exprs) → (k spheroid ties : ℕ) → Type 0
+  IsNear name more k spheroid ties =
+      value points columns (call name (cons a (cons b more))) ≡ near (value points columns a) (value points columns b) k
 
-  k-asked : (k : Expr) (more : Exprs) (spheroid ties : Option ℕ) → CallAsked (ascii "st_knn") (cons k more) (knnLiterals (literalU32 k) spheroid ties a b)
+  k-asked : (k : Expr) (more : Exprs) (spheroid ties : Option ℕ)
+      → Asked (IsNear (ascii "st_knn") (cons k more)) (knnLiterals (literalU32 k) spheroid ties a b)
   unfolding points called ofThree everything
   k-asked k more spheroid ties = literals-asked _ _ _ (value points columns k) (literalU32 k) spheroid ties a b (literal-has columns k) refl
 
-  knn-asked : (more : Exprs) → CallAsked (ascii "st_knn") more (knnRequest (cons a (cons b more)))
+  knn-asked : (more : Exprs) → Asked (IsNear (ascii "st_knn") more) (knnRequest (cons a (cons b more)))
   unfolding points called ofThree everything
   knn-asked nil = refl
   knn-asked (cons k nil) = k-asked k nil (some 0) (some 2)
@@ -213,20 +166,14 @@ module _ (columns : ℕ → ℕ) (a b : Expr) where
   knn-asked (cons k (cons s (cons t nil))) = k-asked k (cons s (cons t nil)) (literalBool s) (literalBool t)
   knn-asked (cons k (cons s (cons t (cons u more)))) = tt
 
-  call-asked : (name : List ℕ) (more : Exprs) → CallAsked name more (callRequest name (cons a (cons b more)))
-  unfolding callRequest
-  call-asked name more =
-      by-test (CallAsked name more) (sameName name (ascii "st_knn")) (knnRequest (cons a (cons b more))) _
-      (λ e. subst (λ (n : List ℕ). CallAsked n more (knnRequest (cons a (cons b more)))) (sym (same-name name (ascii "st_knn") e)) (knn-asked more))
-      (λ _. by-test (CallAsked name more) (sameName name (ascii "st_dwithin")) (dwithinRequest (cons a (cons b more))) _
-      (λ _. dwithin-asked _ _ _ a b more) (λ _. relation-asked _ _ _ (relationNamed name) a b more))
-
 points-knn : (v : Valuation) (rs : List Record) (name : List ℕ) (a b : Expr) (more : Exprs) (k spheroid ties : ℕ) (probe : Side) (l r : Expr)
     → matchLeaf rs (call name (cons a (cons b more))) ≡ some (knn k spheroid probe ties l r)
-    → value points (frameColumns v rs) (call name (cons a (cons b more))) ≡ near (value points (frameColumns v rs) a) (value points (frameColumns v rs) b) k
-unfolding matchLeaf request
+    → value points (frameColumns v rs) (call name (cons a (cons b more)))
+    ≡ near (value points (frameColumns v rs) a) (value points (frameColumns v rs) b) k
 points-knn v rs name a b more k spheroid ties probe l r e =
-    subst (Matched _ _ _) e (request-matched _ _ _ rs (callRequest name (cons a (cons b more))) (call-asked (frameColumns v rs) a b name more))
+    let f : ℕ → ℕ = frameColumns v rs in
+    subst (Matched (IsNear f a b name more)) e (leaf-matched (IsNear f a b name more) rs name a b more (λ n.
+    subst (λ (x : List ℕ). Asked (IsNear f a b x more) (knnRequest (cons a (cons b more)))) (sym n) (knn-asked f a b more)))
 
 -- ---- the meaning is fair
 
@@ -239,7 +186,7 @@ points-fair = record {
   distanceSymmetric = apart-symmetric;
   dwithinCall = λ a b bound more. refl;
   dwithinSymmetric = λ a b bound. ap (λ (d : ℕ). truth (leb d bound)) (apart-symmetric a b);
-  knnLeaf = points-knn;
+  knnLeaf = λ v rs name a b more within. points-knn v rs name a b more;
 }
 
 pub fair-points : FairMeaning
@@ -248,18 +195,11 @@ fair-points = (points, points-fair, refl, refl, refl, refl, refl, refl)
 
 -- ---- mark columns
 
--- Two points 5 apart, and a bound that is a mark column: child index 9, column 2.
-pub marked : Frame
-marked = record {
-  records = record { side = left; child = 5; tag = 0 } ∷ record { side = right; child = 0; tag = 0 } ∷ record { side = noSide; child = 9; tag = 0 } ∷ [];
-  expr = call (ascii "st_dwithin") (cons (column 0 0) (cons (column 1 0) (cons (column 2 0) nil)));
-}
-
 -- Each column's value is its child index.
-pub byChild : Valuation
+byChild : Valuation
 byChild side child = child
 
--- The frame reads the mark column's child index 9 and is true; its extraction reads the copied column number 2 and is false.
-pub marks-differ : (frameValue points byChild marked ≡ 1) × (Option·map (extractionValue points byChild) (extraction marked) ≡ some 0)
-unfolding everything points called ofThree marked byChild
-marks-differ = (refl, refl)
+-- The frame reads the mark column's child index 9, two points 5 apart are near, and it is true; its extraction reads the copied column number 2 and is false.
+pub marks-apart : MarksDiffer
+unfolding everything points called ofThree markedFrame byChild
+marks-apart = (points, points-fair, byChild, refl, refl)

@@ -13,7 +13,8 @@ use Rattle.definitions.specs.Plans.{frameOf, planOf}
 use Rattle.definitions.specs.Extract.{extraction}
 use Rattle.definitions.specs.Exchange.{exchangePlan}
 use Rattle.definitions.specs.Calls.{loadBytes, loaded, load, finish, heldPlan, exchangeBytes, exchange, extractedBytes, extractBytes, extract}
-use Rattle.definitions.specs.Machine.{Kind, extractCall, exchangeCall, make}
+use Rattle.definitions.specs.Machine.{Kind, extractCall, exchangeCall}
+use Rattle.definitions.specs.Sessions.{make}
 use Rattle.definitions.specs.Limits.{AllBytes, GoodPlan}
 use Rattle.definitions.specs.Claims.{LengthsShort}
 use Rattle.definitions.proofs.InversePlan.{refused-not-ok, same-ok, frame-back, plan-back}

@@ -17,9 +17,13 @@ pub mod InversePlan
 pub mod ListTheorem
 pub mod Lengths
 pub mod Answers
+pub mod Changes
+pub mod RefusalNumbers
 pub mod Machines
 pub mod Truth
 pub mod Names
+pub mod KnnLeaves
 pub mod FairExample
-pub mod Proved
+pub mod FairCounting
 pub mod Refusals
+pub mod Proved

@@ -1,21 +1,22 @@
--- An accepted load leaves the machine's first plan in the buffer, so every list of calls from it agrees with the machine.
+-- A held frame is the machine's first plan, so every list of calls from it agrees with the machine; and an accepted load leaves one.
 use Prim.Native.Nat.{ℕ, _≤_}
 use native.Mathlib.Omega.{arith}
-use mathlib.Core.Path.{_≡_, refl, sym, ap, _∙_, subst}
+use mathlib.Core.Path.{_≡_, refl, sym, ap, _∙_}
 use mathlib.Core.Bool.{Bool, true, false, false≢true}
-use mathlib.Core.List.{List}
+use mathlib.Core.List.{List, _++_}
 use lib.ListN.{length, drop, length-append}
-use lib.Seq.{take-append-seam}
+use lib.Seq.{take-append-seam, length-take-le}
 use lib.Dec.{leb}
 use borrow.Author.Tests.{leb-true}
 use Rattle.definitions.specs.Basics.{if_then_else_, Result, ok, refused}
-use Rattle.definitions.specs.Expression.{Frame, held}
+use Rattle.definitions.specs.Expression.{Frame}
 use Rattle.definitions.specs.Encode.{planBytes, frameBytes}
 use Rattle.definitions.specs.Plans.{frameOf}
 use Rattle.definitions.specs.Calls.{LoadOutcome, writtenOver, loadBytes, loaded, load}
-use Rattle.definitions.specs.Machine.{machinePlan, machineLength, fresh, Made}
-use Rattle.definitions.specs.Limits.{GoodPlan}
-use Rattle.definitions.specs.Claims.{accepted, Loads, LoadAccepted, callsAfter, machineAfter, Agree, ListOfCalls}
+use Rattle.definitions.specs.Machine.{machinePlan, machineLength, fresh}
+use Rattle.definitions.specs.Limits.{AllBytes}
+use Rattle.definitions.specs.Sessions.{Made, machineAfter, accepted, Session, after}
+use Rattle.definitions.specs.Claims.{LoadAccepted, LoadHolds, ListOfCalls}
 use Rattle.definitions.proofs.RoundTripPlan.{frame-reads}
 use Rattle.definitions.proofs.InversePlan.{frame-back}
 use Rattle.definitions.proofs.Lists.{Holds, AgreesAll, run-agrees}
@@ -43,44 +44,60 @@ module _ (frame : List ℕ) (n : ℕ) (buffer : List ℕ) where
   unfolding load
   taken-by a = load-taken (frameOf frame) a
 
+-- ---- a load
+
+-- What it leaves is a session of the frame.
+frame-held : (frame : List ℕ) (n : ℕ) (buffer : List ℕ) (F : Frame) → AllBytes frame → frameOf frame ≡ ok F → length frame ≤ length buffer
+    → (s : Session F) × (s .n ≡ loaded n buffer (ok frame) .n) × (s .buffer ≡ loaded n buffer (ok frame) .buffer)
+unfolding loaded writtenOver
+frame-held frame n buffer F bytes is fits =
+    let back = frame-back frame F bytes is in (
+      record {
+        n = length frame;
+        buffer = frame ++ drop (length frame) buffer;
+        good = back .1;
+        fits = simp length-append (omega arith);
+        holds = take-append-seam frame (drop (length frame) buffer) ∙ back .0;
+      },
+      refl,
+      refl,
+    )
+
+pub load-held : LoadHolds
+unfolding load loaded
+load-held frame n buffer bytes a =
+    let t : Taken frame n buffer (frameOf frame) = taken-by frame n buffer a in
+    let h = frame-held frame n buffer (t .0) bytes (t .1) (t .2) in
+    let same : loaded n buffer (ok frame) ≡ load frame n buffer = sym (t .3) in (
+      t .0,
+      t .1,
+      ap (λ (o : LoadOutcome). o .answer) (t .3),
+      h .0,
+      h .1 ∙ ap (λ (o : LoadOutcome). o .n) same,
+      h .2 ∙ ap (λ (o : LoadOutcome). o .buffer) same,
+    )
+
+-- ---- lists of calls
+
+module _ {F : Frame} (s : Session F) where
+  session-size : s .n ≡ length (frameBytes F)
+  session-size = sym (length-take-le (s .n) (s .buffer) (s .fits)) ∙ ap length (s .holds)
+
   -- The machine's first plan is the frame.
-  frame-holds : (F : Frame) → frame ≡ frameBytes F → length frame ≤ length buffer
-      → Holds F fresh (loaded n buffer (ok frame) .n) (loaded n buffer (ok frame) .buffer)
-  unfolding loaded writtenOver fresh machinePlan machineLength planBytes
-  frame-holds F same fits = record {
-    reached = tt;
-    size = ap length same;
-    bytes = take-append-seam frame (drop (length frame) buffer) ∙ same;
-    fits = simp length-append (omega arith);
-  }
+  pub session-holds : Holds F fresh (s .n) (s .buffer)
+  unfolding fresh machinePlan machineLength planBytes
+  session-holds = record { reached = tt; size = session-size; bytes = s .holds; fits = s .fits }
 
-module _ (frame : List ℕ) (F : Frame) (n : ℕ) (buffer : List ℕ) (l : Loads frame n buffer F) where
-  pub load-good : GoodPlan (held F)
-  load-good = frame-back frame F (l .bytes) (l .good) .1
-
-  pub load-holds : Holds F fresh (load frame n buffer .n) (load frame n buffer .buffer)
-  unfolding load
-  load-holds =
-      let t : Taken frame n buffer (frameOf frame) = taken-by frame n buffer (l .taken) in
-      subst (λ (o : LoadOutcome). Holds F fresh (o .n) (o .buffer)) (sym (t .3))
-      (frame-holds frame n buffer F (frame-back frame F (l .bytes) (l .good) .0) (t .2))
-
-  -- After the load, any list of calls gives the machine's answers and leaves the machine's plan.
-  pub after-load : (calls : List Made) → AgreesAll F (machineAfter F calls) (callsAfter frame n buffer calls)
-  after-load calls = run-agrees F load-good calls fresh _ _ load-holds
-
-  agree-after-load : (calls : List Made) → Agree F (callsAfter frame n buffer calls) (machineAfter F calls)
-  agree-after-load calls = record {
-    answers = after-load calls .answers;
-    plan = after-load calls .holds .bytes;
-    size = after-load calls .holds .size;
-  }
+  -- So any list of calls gives the machine's answers and leaves the machine's plan.
+  pub after-all : (calls : List Made) → AgreesAll F (machineAfter F calls) (after s calls)
+  after-all calls = run-agrees F (s .good) calls fresh _ _ session-holds
 
 pub list-theorem : ListOfCalls
-unfolding load loaded
-list-theorem frame n buffer h a =
-    let t : Taken frame n buffer (frameOf frame) = taken-by frame n buffer a in
-    (t .0, t .1, ap (λ (o : LoadOutcome). o .answer) (t .3), agree-after-load frame (t .0) n buffer (record { bytes = h; good = t .1; taken = a }))
+list-theorem F s calls =
+    let a : AgreesAll F (machineAfter F calls) (after s calls) = after-all s calls in
+    record { answers = a .answers; plan = a .holds .bytes; size = a .holds .size }
+
+-- ---- when a load is accepted
 
 -- Whether the buffer has room decides, once the frame is read.
 room-decides : (frame : List ℕ) (n : ℕ) (buffer : List ℕ) (b : Bool) → accepted (loaded n buffer (if b then ok frame else refused 9) .answer) ≡ b

@@ -16,7 +16,8 @@ use Rattle.definitions.specs.Plans.{planOf}
 use Rattle.definitions.specs.Extract.{extraction}
 use Rattle.definitions.specs.Exchange.{exchangePlan, exchangeFrame, exchangeExtraction}
 use Rattle.definitions.specs.Calls.{Outcome, writtenOver, finish, heldPlan, exchangeBytes, exchange, extractedBytes, extractBytes, extract}
-use Rattle.definitions.specs.Machine.{Kind, extractCall, exchangeCall, Bits, extractionOr, machinePlan, machineLength, Step, refuseStep, acceptStep, takeStep, machineStep, Run, machineRun, Made, fed, make, Calls, callsRun}
+use Rattle.definitions.specs.Machine.{Kind, extractCall, exchangeCall, Bits, extractionOr, machinePlan, machineLength, Step, refuseStep, acceptStep, takeStep, machineStep, Run, machineRun}
+use Rattle.definitions.specs.Sessions.{Made, fed, make, ListOutcome, callsRun}
 use Rattle.definitions.specs.Limits.{GoodPlan}
 use Rattle.definitions.proofs.Exchange.{plan-twice, extraction-exchange}
 use Rattle.definitions.proofs.ExchangeGood.{plan-as-long, exchange-good}
@@ -224,7 +225,7 @@ step-agrees F b extractCall n buffer scratch g h = extract-step F (b .isExtracte
 step-agrees F b exchangeCall n buffer scratch g h = exchange-step F (b .isExtracted) (b .isOdd) n buffer scratch g h
 
 -- What a list of calls must give.
-pub record AgreesAll (F : Frame) (m : Run) (c : Calls) : Type 0 where
+pub record AgreesAll (F : Frame) (m : Run) (c : ListOutcome) : Type 0 where
   pub answers : c .answers ≡ m .answers
   pub holds : Holds F (m .bits) (c .n) (c .buffer)
 

@@ -1,4 +1,4 @@
--- The lowest binary digit of the mask says whether the first name is found, and half of the mask is the other names' mask.
+-- The tables of names hold by computation. The lowest binary digit of the mask says whether the first name is found, and half of the mask is the other names' mask.
 use Prim.Native.Nat.{ℕ, _+_, _*_}
 use native.Mathlib.Omega.{arith}
 use mathlib.Core.Path.{_≡_, refl, sym, ap, ap₂, _∙_}
@@ -8,6 +8,7 @@ use lib.Count.{ones, ones-step}
 use Rattle.definitions.specs.Basics.{if_then_else_, any, sameName}
 use Rattle.definitions.specs.Logical.{mask, distinct}
 use Rattle.definitions.specs.Claims.{NamesAreOnes, NamesOnce, occurrences}
+use Rattle.definitions.specs.NameTables.{NameTables}
 use Rattle.definitions.proofs.Everything.{everything}
 
 lowest-digit : (found : Bool) (m : ℕ) → ones ((if found then 1 else 0) + 2 * m) ≡ (if found then 1 else 0) + ones m
@@ -18,8 +19,13 @@ pub names-ones : NamesAreOnes
 unfolding mask distinct ones
 names-ones [] found = refl
 names-ones (name ∷ names) found =
-    ap (λ (n : ℕ). (if any (sameName name) found then 1 else 0) + n) (names-ones names found) ∙ sym (lowest-digit (any (sameName name) found) (mask names found))
+    ap (λ (n : ℕ). (if any (sameName name) found then 1 else 0) + n) (names-ones names found)
+    ∙ sym (lowest-digit (any (sameName name) found) (mask names found))
 
 pub each-once : NamesOnce
 unfolding everything occurrences
 each-once = refl
+
+pub tables-hold : NameTables
+unfolding everything
+tables-hold = record { types = refl; others = refl; bits = refl; sides = refl }

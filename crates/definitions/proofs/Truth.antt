@@ -17,7 +17,7 @@ use Rattle.definitions.specs.Match.{columnsOf, columnsOfAll, mapColumns,
 use Rattle.definitions.specs.Extract.{Pick, pick, andLeft, andRight, without, referenced, newIndex, prune, takePick, matchesOf, extraction}
 use Rattle.definitions.specs.Exchange.{negate, exchangeRecord, exchangeFrame, exchangePredicate, exchangeExtraction, exchangePlan}
 use Rattle.definitions.specs.Machine.{machinePlan, extractionOr}
-use Rattle.definitions.specs.Limits.{All, InRange, NoMarks}
+use Rattle.definitions.specs.Limits.{All, InRange, InRangeAll, NoMarks}
 use Rattle.definitions.specs.Meaning.{andValue, Valuation, Meaning, value, values, frameColumns, frameValue, distanceByForm, predicateValue, andRemainder, extractionValue, planValue, exchangedValues, Fair}
 use Rattle.definitions.proofs.Columns.{all-left, all-right, all-both, columns-below}
 use Rattle.definitions.proofs.Taken.{Taken, here, inLeft, inRight, leaf-in-range, rest-in-range, RestIs, and-both}
@@ -266,21 +266,21 @@ module _ (M : Meaning) (fair : Fair M) (v : Valuation) (rs : List Record) where
   dwithin-means (cons a (cons b nil)) = tt
   dwithin-means (cons a (cons b (cons d more))) = fair .dwithinCall (value M f a) (value M f b) (value M f d) (values M f more)
 
-  knn-means : (es : Exprs) (q : Request) → knnRequest es ≡ q → FirstTwo es q → MeansSame M v rs (M .callValue (ascii "st_knn") (values M f es)) q
+  knn-means : (es : Exprs) → InRangeAll (indexBelow (length rs)) es → (q : Request) → knnRequest es ≡ q → FirstTwo es q → MeansSame M v rs (M .callValue (ascii "st_knn") (values M f es)) q
   unfolding value
-  knn-means es (askRelation t a b) e o = absurd o
-  knn-means es (askDistance form a b d) e o = absurd o
-  knn-means es (askKnn k s t a b) e o = λ probe l r m.
+  knn-means es within (askRelation t a b) e o = absurd o
+  knn-means es within (askDistance form a b d) e o = absurd o
+  knn-means es within (askKnn k s t a b) e o = λ probe l r m.
       let of-two : matchLeaf rs (call (ascii "st_knn") (cons a (cons b (o .0)))) ≡ some (knn k s probe t l r) =
       knn-leaf rs (cons a (cons b (o .0))) ∙ ap (matchRequest rs) (ap knnRequest (sym (o .1)) ∙ e) ∙ m in
-      ap (λ (x : Exprs). M .callValue (ascii "st_knn") (values M f x)) (o .1) ∙ fair .knnLeaf v rs (ascii "st_knn") a b (o .0) k s t probe l r of-two
-  knn-means es askNothing e o = tt
+      ap (λ (x : Exprs). M .callValue (ascii "st_knn") (values M f x)) (o .1) ∙ fair .knnLeaf v rs (ascii "st_knn") a b (o .0) (subst (InRangeAll (indexBelow (length rs))) (o .1) within) k s t probe l r of-two
+  knn-means es within askNothing e o = tt
 
-  call-means : (name : List ℕ) (es : Exprs) → MeansSame M v rs (M .callValue name (values M f es)) (callRequest name es)
+  call-means : (name : List ℕ) (es : Exprs) → InRangeAll (indexBelow (length rs)) es → MeansSame M v rs (M .callValue name (values M f es)) (callRequest name es)
   unfolding callRequest
-  call-means name es =
+  call-means name es within =
       by-test (MeansSame M v rs (M .callValue name (values M f es))) (sameName name (ascii "st_knn")) (knnRequest es) _
-      (λ e. subst (λ (x : List ℕ). MeansSame M v rs (M .callValue x (values M f es)) (knnRequest es)) (sym (same-name name (ascii "st_knn") e)) (knn-means es (knnRequest es) refl (first-two es)))
+      (λ e. subst (λ (x : List ℕ). MeansSame M v rs (M .callValue x (values M f es)) (knnRequest es)) (sym (same-name name (ascii "st_knn") e)) (knn-means es within (knnRequest es) refl (first-two es)))
       (λ _. by-test (MeansSame M v rs (M .callValue name (values M f es))) (sameName name (ascii "st_dwithin")) (dwithinRequest es) (relationRequest (relationNamed name) es)
       (λ e. subst (λ (x : List ℕ). MeansSame M v rs (M .callValue x (values M f es)) (dwithinRequest es)) (sym (same-name name (ascii "st_dwithin") e)) (dwithin-means es))
       (λ e. relation-means name (relationNamed name) es refl))
@@ -319,15 +319,15 @@ module _ (M : Meaning) (fair : Fair M) (v : Valuation) (rs : List Record) where
       (λ e. measured-means _ o r l (λ a b p. ap (λ (y : ℕ). M .binaryValue o (value M f l) y) p ∙ form-right M o _ _ _ e))
       (λ e. tt))
 
-  request-means : (e : Expr) → MeansSame M v rs (value M f e) (request e)
+  request-means : (e : Expr) → InRange (indexBelow (length rs)) e → MeansSame M v rs (value M f e) (request e)
   unfolding request value
-  request-means (column i t) = tt
-  request-means (literal type v) = tt
-  request-means (and l r) = tt
-  request-means (binary o l r) = comparison-means o l r
-  request-means (call name es) = call-means name es
-  request-means (other tag es) = tt
-  request-means (field b t) = tt
+  request-means (column i t) within = tt
+  request-means (literal type v) within = tt
+  request-means (and l r) within = tt
+  request-means (binary o l r) within = comparison-means o l r
+  request-means (call name es) within = call-means name es (within .4)
+  request-means (other tag es) within = tt
+  request-means (field b t) within = tt
 
 -- ---- a match has its leaf's value
 
@@ -428,7 +428,7 @@ pub leaf-match : (M : Meaning) → Fair M → (v : Valuation) (rs : List Record)
 unfolding matchLeaf
 leaf-match M fair v rs e m r =
     request-match M fair v rs (value M (frameColumns v rs) e) (request e) m (within-bound (length rs) _ _ _ (request e) (request-within (indexBelow (length rs)) e r))
-    (request-means M fair v rs e)
+    (request-means M fair v rs e r)
 
 -- ---- the remainder
 

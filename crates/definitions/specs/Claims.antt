@@ -1,26 +1,27 @@
 -- What is claimed of the definitions; proofs/Proved.antt proves each claim.
 use Prim.Native.Nat.{ℕ, suc, _+_, _≤_, _<_}
 use mathlib.Core.Path.{_≡_}
-use mathlib.Core.Bool.{Bool, true, false, _&&_, _||_, not}
+use mathlib.Core.Bool.{Bool, true, false, _&&_, not}
 use mathlib.Core.List.{List, [], _∷_, _++_, map}
 use mathlib.Core.Option.{Option, none, some, Option·map}
 use lib.ListN.{length, take, drop, getD, replicate}
-use lib.Dec.{leb}
+use lib.Dec.{leb, eqb}
 use lib.Count.{ones}
-use Rattle.definitions.specs.Basics.{if_then_else_, Result, ok, refused, sameName, any}
-use Rattle.definitions.specs.Expression.{within, Expr, Frame, Predicate, Extraction, Plan, held, extracted}
-use Rattle.definitions.specs.Encode.{exprBytes, frameBytes, extractionBytes, planBytes}
+use Rattle.definitions.specs.Basics.{if_then_else_, Result, ok, refused, ascii, sameName, any}
+use Rattle.definitions.specs.Expression.{left, right, noSide, within, Expr, column, call, nil, cons, Frame, Predicate, Extraction, Plan, held, extracted}
+use Rattle.definitions.specs.Encode.{exprBytes, frameBytes, predicateKind, extractionBytes, planBytes}
 use Rattle.definitions.specs.Leaves.{leaves}
 use Rattle.definitions.specs.Readers.{read}
 use Rattle.definitions.specs.Decode.{Columns, expression}
 use Rattle.definitions.specs.Plans.{frameOf, planOf}
 use Rattle.definitions.specs.Extract.{isKnn, without, prune, matchesOf, extraction}
 use Rattle.definitions.specs.Exchange.{exchangeFrame, exchangeExtraction, exchangePlan}
-use Rattle.definitions.specs.Calls.{load}
-use Rattle.definitions.specs.Machine.{Kind, extractCall, exchangeCall, make, machinePlan, machineLength, Run, machineRun, fresh, Made, fed, Calls, callsRun}
+use Rattle.definitions.specs.Calls.{LoadOutcome, load, Outcome, extract, exchange}
+use Rattle.definitions.specs.Machine.{Kind, machinePlan, machineLength, Run}
 use Rattle.definitions.specs.Limits.{AllBytes, nodes, Readable, GoodPlan, NoMarks}
+use Rattle.definitions.specs.Sessions.{Made, extractWith, exchangeWith, make, ListOutcome, machineAfter, accepted, Session, after, lengthAfter, planLeft, planAfter, extractedIn, oddIn, answerAfter}
 use Rattle.definitions.specs.Meaning.{Valuation, Meaning, Fair, andValue, frameValue, extractionValue, planValue, exchangedValues}
-use Rattle.definitions.specs.Logical.{spatialNames, mask, distinct}
+use Rattle.definitions.specs.Logical.{spatialNames, mask, distinct, logical}
 
 -- ---- exchange
 
@@ -66,36 +67,70 @@ LengthsShort =
     ((frame : List ℕ) (n : ℕ) (buffer : List ℕ) (m : ℕ) → AllBytes frame → load frame n buffer .answer ≡ ok m → m ≤ 16384)
     × ((kind : Kind) (n : ℕ) (buffer scratch : List ℕ) (m : ℕ) → AllBytes buffer → make kind n buffer scratch .answer ≡ ok m → m ≤ 16384)
 
--- ---- lists of calls
+-- ---- demand 1: what a call changes, and the numbers of its refusals
 
--- Whether an answer is a length.
-unfoldable pub accepted : Result ℕ → Bool
-accepted (ok length) = true
-accepted (refused number) = false
+-- A refused load keeps n and the plan buffer; a refused extract or exchange keeps n and both buffers.
+abbrev pub RefusedKeeps : Type 0
+RefusedKeeps =
+    ((frame : List ℕ) (n : ℕ) (buffer : List ℕ) → accepted (load frame n buffer .answer) ≡ false
+    → (load frame n buffer .n ≡ n) × (load frame n buffer .buffer ≡ buffer))
+    × ((kind : Kind) (n : ℕ) (buffer scratch : List ℕ) → accepted (make kind n buffer scratch .answer) ≡ false
+    → (make kind n buffer scratch .n ≡ n) × (make kind n buffer scratch .buffer ≡ buffer) × (make kind n buffer scratch .scratch ≡ scratch))
 
--- The load of a frame's bytes into a plan buffer was accepted, and F is that frame.
-pub record Loads (frame : List ℕ) (n : ℕ) (buffer : List ℕ) (F : Frame) : Type 0 where
-  pub bytes : AllBytes frame
-  pub good : frameOf frame ≡ ok F
-  pub taken : accepted (load frame n buffer .answer) ≡ true
+-- From a place on the bytes are as they were, and as many.
+pub record SameFrom (place : ℕ) (old new : List ℕ) : Type 0 where
+  pub asMany : length new ≡ length old
+  pub rest : drop place new ≡ drop place old
 
--- n, the plan buffer and the answers after that load and a list of calls.
-abbrev pub callsAfter : (frame : List ℕ) → (n : ℕ) → (buffer : List ℕ) → List Made → Calls
-callsAfter frame n buffer calls = callsRun (load frame n buffer .n) (load frame n buffer .buffer) calls
+-- A load wrote the frame to the plan buffer's start and changed nothing else.
+pub record LoadWrote (frame buffer : List ℕ) (o : LoadOutcome) : Type 0 where
+  pub answer : o .answer ≡ ok (length frame)
+  pub size : o .n ≡ length frame
+  pub plan : take (length frame) (o .buffer) ≡ frame
+  pub others : SameFrom (length frame) buffer (o .buffer)
 
--- The plan's bytes at the end of a list of calls.
-abbrev pub planLeft : Calls → List ℕ
-planLeft c = take (c .n) (c .buffer)
+-- A call copied the old plan to the scratch's first n bytes, wrote a plan of the length that it gave, and changed nothing else.
+pub record CallWrote (n : ℕ) (buffer scratch : List ℕ) (o : Outcome) : Type 0 where
+  pub answer : o .answer ≡ ok (o .n)
+  pub copied : take n (o .scratch) ≡ take n buffer
+  pub others : SameFrom (o .n) buffer (o .buffer)
+  pub othersOfScratch : SameFrom n scratch (o .scratch)
 
--- The machine after the same list.
-abbrev pub machineAfter : Frame → List Made → Run
-machineAfter F calls = machineRun F fresh (map fed calls)
+-- An accepted call writes what 01 says and keeps every other byte of both buffers.
+abbrev pub AcceptedWrites : Type 0
+AcceptedWrites =
+    ((frame : List ℕ) (n : ℕ) (buffer : List ℕ) → accepted (load frame n buffer .answer) ≡ true
+    → LoadWrote frame buffer (load frame n buffer))
+    × ((kind : Kind) (n : ℕ) (buffer scratch : List ℕ) → AllBytes buffer → accepted (make kind n buffer scratch .answer) ≡ true
+    → CallWrote n buffer scratch (make kind n buffer scratch))
 
--- The calls give the machine's answers, and leave the machine's plan and its length.
-pub record Agree (F : Frame) (c : Calls) (m : Run) : Type 0 where
-  pub answers : c .answers ≡ m .answers
-  pub plan : planLeft c ≡ planBytes (machinePlan F (m .bits))
-  pub size : c .n ≡ machineLength F (m .bits)
+-- The refusals of each call, in 01's order.
+unfoldable pub loadRefusals : List ℕ
+loadRefusals = 1 ∷ 2 ∷ 3 ∷ 4 ∷ 5 ∷ 6 ∷ 7 ∷ 8 ∷ 9 ∷ []
+
+unfoldable pub extractRefusals : List ℕ
+extractRefusals = 10 ∷ 11 ∷ 12 ∷ 9 ∷ 13 ∷ []
+
+unfoldable pub exchangeRefusals : List ℕ
+exchangeRefusals = 10 ∷ 11 ∷ 9 ∷ []
+
+unfoldable pub logicalRefusals : List ℕ
+logicalRefusals = 1 ∷ 2 ∷ 3 ∷ 4 ∷ 5 ∷ 7 ∷ []
+
+-- A value, or a refusal with one of these numbers.
+abbrev pub RefusedBy : {A : Type 0} → (numbers : List ℕ) → Result A → Type 0
+RefusedBy numbers (ok a) = Unit {0}
+RefusedBy numbers (refused number) = any (eqb number) numbers ≡ true
+
+-- Every answer is a value or one of the call's own refusals.
+abbrev pub RefusalsOfCalls : Type 0
+RefusalsOfCalls =
+    ((frame : List ℕ) (n : ℕ) (buffer : List ℕ) → RefusedBy loadRefusals (load frame n buffer .answer))
+    × ((n : ℕ) (buffer scratch : List ℕ) → RefusedBy extractRefusals (extract n buffer scratch .answer))
+    × ((n : ℕ) (buffer scratch : List ℕ) → RefusedBy exchangeRefusals (exchange n buffer scratch .answer))
+    × ((frame : List ℕ) → RefusedBy logicalRefusals (logical frame))
+
+-- ---- demand 3: lists of calls
 
 -- A good frame is loaded exactly when the plan buffer has room for its bytes.
 abbrev pub LoadAccepted : Type 0
@@ -103,39 +138,34 @@ LoadAccepted =
     (F : Frame) (n : ℕ) (buffer : List ℕ) → GoodPlan (held F)
     → accepted (load (frameBytes F) n buffer .answer) ≡ leb (length (frameBytes F)) (length buffer)
 
--- Demand 3: an accepted load is of a good frame and gives its length, and from it every list of calls gives what the machine gives.
-abbrev pub ListOfCalls : Type 0
-ListOfCalls =
+-- An accepted load is of a good frame, gives its length, and leaves it held: a session of that frame.
+abbrev pub LoadHolds : Type 0
+LoadHolds =
     (frame : List ℕ) (n : ℕ) (buffer : List ℕ) → AllBytes frame → accepted (load frame n buffer .answer) ≡ true
     → (F : Frame) × (frameOf frame ≡ ok F) × (load frame n buffer .answer ≡ ok (length frame))
-    × ((calls : List Made) → Agree F (callsAfter frame n buffer calls) (machineAfter F calls))
+    × (s : Session F) × (s .n ≡ load frame n buffer .n) × (s .buffer ≡ load frame n buffer .buffer)
 
--- Whether a call is an extract.
-unfoldable pub isExtract : Kind → Bool
-isExtract extractCall = true
-isExtract exchangeCall = false
+-- The calls give the machine's answers, and leave the machine's plan and its length.
+pub record Agree (F : Frame) (o : ListOutcome) (m : Run) : Type 0 where
+  pub answers : o .answers ≡ m .answers
+  pub plan : planLeft o ≡ planBytes (machinePlan F (m .bits))
+  pub size : o .n ≡ machineLength F (m .bits)
 
--- Whether an extract was accepted, read off the answers.
-unfoldable pub extractAccepted : List Made → (answers : List (Result ℕ)) → Bool
-extractAccepted [] answers = false
-extractAccepted (c ∷ cs) [] = false
-extractAccepted (c ∷ cs) (a ∷ answers) = (isExtract (c .kind) && accepted a) || extractAccepted cs answers
+-- From a held frame every list of calls gives what the two-bit machine gives.
+abbrev pub ListOfCalls : Type 0
+ListOfCalls = (F : Frame) (s : Session F) (calls : List Made) → Agree F (after s calls) (machineAfter F calls)
 
--- Whether accepted exchanges are odd in number, read off the answers.
-unfoldable pub exchangesOdd : List Made → (answers : List (Result ℕ)) → Bool
-exchangesOdd [] answers = false
-exchangesOdd (c ∷ cs) [] = false
-exchangesOdd (c ∷ cs) (a ∷ answers) =
-    if not (isExtract (c .kind)) && accepted a then not (exchangesOdd cs answers) else exchangesOdd cs answers
+-- The answers of a list are those of its calls, each made after the calls before it.
+abbrev pub AnswersInPlace : Type 0
+AnswersInPlace =
+    (F : Frame) (s : Session F) (before : List Made) (c : Made) (later : List Made)
+    → (others : List (Result ℕ)) × (after s (before ++ (c ∷ later)) .answers ≡ after s before .answers ++ (answerAfter s before c ∷ others))
 
 -- Two lists from the same frame that are alike in both leave the same plan.
 abbrev pub SamePlan : Type 0
 SamePlan =
-    (frame : List ℕ) (F : Frame) (n n′ : ℕ) (buffer buffer′ : List ℕ) → Loads frame n buffer F → Loads frame n′ buffer′ F
-    → (calls calls′ : List Made)
-    → extractAccepted calls (callsAfter frame n buffer calls .answers) ≡ extractAccepted calls′ (callsAfter frame n′ buffer′ calls′ .answers)
-    → exchangesOdd calls (callsAfter frame n buffer calls .answers) ≡ exchangesOdd calls′ (callsAfter frame n′ buffer′ calls′ .answers)
-    → planLeft (callsAfter frame n buffer calls) ≡ planLeft (callsAfter frame n′ buffer′ calls′)
+    (F : Frame) (s t : Session F) (calls calls′ : List Made)
+    → extractedIn s calls ≡ extractedIn t calls′ → oddIn s calls ≡ oddIn t calls′ → planAfter s calls ≡ planAfter t calls′
 
 -- Whether a leaf matches.
 unfoldable pub isMatch : Option Predicate → Bool
@@ -146,24 +176,18 @@ isMatch (some p) = true
 unfoldable pub someLeafMatches : Frame → Bool
 someLeafMatches F = any isMatch (matchesOf F)
 
--- The answer of a call that stands in a list, after these and before those.
-abbrev pub answerAmong : (frame : List ℕ) → (n : ℕ) → (buffer : List ℕ) → (before : List Made) → Made → (after : List Made) → Result ℕ
-answerAmong frame n buffer before c after = getD (callsAfter frame n buffer (before ++ (c ∷ after)) .answers) (length before) (refused 0)
-
--- At every place of every list: an exchange is accepted exactly when its scratch is at least as long as the plan.
+-- After every list: an exchange is accepted exactly when its scratch is at least as long as the plan.
 abbrev pub ExchangeAccepted : Type 0
 ExchangeAccepted =
-    (frame : List ℕ) (F : Frame) (n : ℕ) (buffer : List ℕ) → Loads frame n buffer F → (before after : List Made) (scratch : List ℕ)
-    → accepted (answerAmong frame n buffer before (record { kind = exchangeCall; scratch = scratch }) after)
-    ≡ leb (callsAfter frame n buffer before .n) (length scratch)
+    (F : Frame) (s : Session F) (before : List Made) (scratch : List ℕ)
+    → accepted (answerAfter s before (exchangeWith scratch)) ≡ leb (lengthAfter s before) (length scratch)
 
--- At every place of every list: an extract exactly when its scratch is too, none was accepted before it and an AND-leaf matches.
+-- After every list: an extract exactly when its scratch is too, none was accepted before it and an AND-leaf matches.
 abbrev pub ExtractAccepted : Type 0
 ExtractAccepted =
-    (frame : List ℕ) (F : Frame) (n : ℕ) (buffer : List ℕ) → Loads frame n buffer F → (before after : List Made) (scratch : List ℕ)
-    → accepted (answerAmong frame n buffer before (record { kind = extractCall; scratch = scratch }) after)
-    ≡ (leb (callsAfter frame n buffer before .n) (length scratch)
-    && (not (extractAccepted before (callsAfter frame n buffer before .answers)) && someLeafMatches F))
+    (F : Frame) (s : Session F) (before : List Made) (scratch : List ℕ)
+    → accepted (answerAfter s before (extractWith scratch))
+    ≡ (leb (lengthAfter s before) (length scratch) && (not (extractedIn s before) && someLeafMatches F))
 
 -- ---- the pick
 
@@ -196,39 +220,72 @@ RestOfLeaves =
     (e r : Expr) (position : ℕ) → position < length (leaves e) → without position e ≡ some r
     → leaves r ≡ take position (leaves e) ++ drop (suc position) (leaves e)
 
--- ---- both machines
-
 -- The plan after a list in which an extract was accepted: the extraction, exchanged where accepted exchanges are odd in number.
 abbrev pub extractedPlan : Extraction → (odd : Bool) → Plan
 extractedPlan X odd = if odd then extracted (exchangeExtraction X) else extracted X
+
+-- After a list in which an extract was accepted, the plan is the extraction of the leaf that `Took` describes.
+abbrev pub ExtractTakes : Type 0
+ExtractTakes =
+    (F : Frame) (s : Session F) (calls : List Made) → extractedIn s calls ≡ true
+    → (X : Extraction) × (position : ℕ) × Took F X position × (planAfter s calls ≡ planBytes (extractedPlan X (oddIn s calls)))
+
+-- ---- the price line
+
+-- The price line of a frame: the first byte of its extraction; none for a join that stays filtered. (Ours.)
+unfoldable pub priceLine : Frame → Option ℕ
+priceLine F = Option·map (λ X. predicateKind (X .predicate)) (extraction F)
+
+-- An extract is on a line: accepted, it leaves a plan with that first byte; where there is no line, it is refused with 13. (Ours.)
+abbrev pub OnLine : Option ℕ → (answer : Result ℕ) → (plan : List ℕ) → Type 0
+OnLine none answer plan = answer ≡ refused 13
+OnLine (some line) answer plan = (accepted answer ≡ true) × (take 1 plan ≡ line ∷ [])
+
+-- At any place of any list the first extract that has room is on the frame's line.
+abbrev pub PriceLineOfCalls : Type 0
+PriceLineOfCalls =
+    (F : Frame) (s : Session F) (before : List Made) (scratch : List ℕ)
+    → extractedIn s before ≡ false → lengthAfter s before ≤ length scratch
+    → OnLine (priceLine F) (answerAfter s before (extractWith scratch)) (planAfter s (before ++ (extractWith scratch ∷ [])))
+
+-- The plan stays on that line: after any list in which an extract was accepted its first byte is the frame's line.
+abbrev pub PriceLineStays : Type 0
+PriceLineStays =
+    (F : Frame) (s : Session F) (calls : List Made) → extractedIn s calls ≡ true
+    → (line : ℕ) × (priceLine F ≡ some line) × (take 1 (planAfter s calls) ≡ line ∷ [])
+
+-- An exchanged frame is on the same line: a unit that exchanges before it loads pays the same.
+abbrev pub PriceLineExchanged : Type 0
+PriceLineExchanged = (F : Frame) → priceLine (exchangeFrame F) ≡ priceLine F
+
+-- ---- both machines
 
 -- Whatever one machine exchanged and the other did not: where both extracted, both hold the extraction of one and the same
 -- AND-leaf, exchanged or not, and with it the same first byte, which sets the rate.
 abbrev pub SameLeaf : Type 0
 SameLeaf =
-    (frame : List ℕ) (F : Frame) (n n′ : ℕ) (buffer buffer′ : List ℕ) → Loads frame n buffer F → Loads frame n′ buffer′ F
-    → (calls calls′ : List Made)
-    → extractAccepted calls (callsAfter frame n buffer calls .answers) ≡ true
-    → extractAccepted calls′ (callsAfter frame n′ buffer′ calls′ .answers) ≡ true
+    (F : Frame) (s t : Session F) (calls calls′ : List Made) → extractedIn s calls ≡ true → extractedIn t calls′ ≡ true
     → (X : Extraction) × (position : ℕ) × Took F X position
-    × (planLeft (callsAfter frame n buffer calls)
-    ≡ planBytes (extractedPlan X (exchangesOdd calls (callsAfter frame n buffer calls .answers))))
-    × (planLeft (callsAfter frame n′ buffer′ calls′)
-    ≡ planBytes (extractedPlan X (exchangesOdd calls′ (callsAfter frame n′ buffer′ calls′ .answers))))
-    × (getD (planLeft (callsAfter frame n buffer calls)) 0 0 ≡ getD (planLeft (callsAfter frame n′ buffer′ calls′)) 0 0)
+    × (planAfter s calls ≡ planBytes (extractedPlan X (oddIn s calls)))
+    × (planAfter t calls′ ≡ planBytes (extractedPlan X (oddIn t calls′)))
+    × (take 1 (planAfter s calls) ≡ take 1 (planAfter t calls′))
 
--- Where one machine refuses a filter with 13, so does the other, wherever its scratch is long enough.
+-- Where one machine refuses a filter with 13, so does the other, wherever its scratch is long enough,
 abbrev pub SameRefusal : Type 0
 SameRefusal =
-    (frame : List ℕ) (F : Frame) (n n′ : ℕ) (buffer buffer′ : List ℕ) → Loads frame n buffer F → Loads frame n′ buffer′ F
-    → (before after before′ after′ : List Made) (scratch scratch′ : List ℕ)
-    → answerAmong frame n buffer before (record { kind = extractCall; scratch = scratch }) after ≡ refused 13
-    → callsAfter frame n′ buffer′ before′ .n ≤ length scratch′
-    → answerAmong frame n′ buffer′ before′ (record { kind = extractCall; scratch = scratch′ }) after′ ≡ refused 13
+    (F : Frame) (s t : Session F) (before before′ : List Made) (scratch scratch′ : List ℕ)
+    → answerAfter s before (extractWith scratch) ≡ refused 13 → lengthAfter t before′ ≤ length scratch′
+    → answerAfter t before′ (extractWith scratch′) ≡ refused 13
 
--- The machines agree: the same leaf and rate, or the same refusal.
+-- and the other never extracts it.
+abbrev pub NeverMixed : Type 0
+NeverMixed =
+    (F : Frame) (s t : Session F) (before : List Made) (scratch : List ℕ) (calls : List Made)
+    → answerAfter s before (extractWith scratch) ≡ refused 13 → extractedIn t calls ≡ false
+
+-- The machines agree: the same leaf and rate, or the same refusal, and never one of each.
 abbrev pub MachinesAgree : Type 0
-MachinesAgree = SameLeaf × SameRefusal
+MachinesAgree = SameLeaf × SameRefusal × NeverMixed
 
 -- ---- truth values
 
@@ -247,16 +304,22 @@ ExchangeValue = (M : Meaning) → Fair M → (v : Valuation) (p : Plan) → plan
 -- The extraction of a good frame without mark columns has the frame's value.
 abbrev pub ExtractionValue : Type 0
 ExtractionValue =
-    (M : Meaning) → Fair M → (v : Valuation) (F : Frame) (X : Extraction) → NoMarks (F .records) → GoodPlan (held F) → extraction F ≡ some X
-    → extractionValue M v X ≡ frameValue M v F
+    (M : Meaning) → Fair M → (v : Valuation) (F : Frame) (X : Extraction)
+    → NoMarks (F .records) → GoodPlan (held F) → extraction F ≡ some X → extractionValue M v X ≡ frameValue M v F
 
--- After any list of calls the plan has the frame's value, the values of left and right exchanged when accepted exchanges are odd in number.
+-- The values that a plan is read with: those of left and right exchanged when accepted exchanges are odd in number.
+abbrev pub valuesWhen : (odd : Bool) → Valuation → Valuation
+valuesWhen odd v = if odd then exchangedValues v else v
+
+-- A plan's bytes have a truth value: they are a plan of that value.
+abbrev pub HasValue : Meaning → Valuation → (plan : List ℕ) → ℕ → Type 0
+HasValue M v plan truth = (p : Plan) × (planOf plan ≡ ok p) × (planValue M v p ≡ truth)
+
+-- After any list of calls the plan has the frame's value, the values of left and right exchanged when odd.
 abbrev pub ListValue : Type 0
 ListValue =
-    (M : Meaning) → Fair M → (v : Valuation) (frame : List ℕ) (F : Frame) (n : ℕ) (buffer : List ℕ) → Loads frame n buffer F → NoMarks (F .records)
-    → (calls : List Made)
-    → (p : Plan) × (planOf (planLeft (callsAfter frame n buffer calls)) ≡ ok p)
-    × (planValue M v p ≡ frameValue M (if exchangesOdd calls (callsAfter frame n buffer calls .answers) then exchangedValues v else v) F)
+    (M : Meaning) → Fair M → (v : Valuation) (F : Frame) (s : Session F) → NoMarks (F .records)
+    → (calls : List Made) → HasValue M v (planAfter s calls) (frameValue M (valuesWhen (oddIn s calls) v) F)
 
 -- A fair meaning exists, and one in which a relation, a distance and KNN hold of some arguments and not of others.
 abbrev pub FairMeaning : Type 0
@@ -265,6 +328,26 @@ FairMeaning =
     × (M .relationValue within 0 1 ≡ 1) × (M .relationValue within 1 0 ≡ 0)
     × (M .dwithinValue 3 5 2 ≡ 1) × (M .dwithinValue 3 5 1 ≡ 0)
     × (M .knnValue 3 5 2 0 2 ≡ 1) × (M .knnValue 3 5 1 0 2 ≡ 0)
+
+-- Fairness leaves free what 01 leaves free: there is a fair meaning in which every five-argument `st_knn` is 1 and every four-argument one 0.
+abbrev pub FairByArguments : Type 0
+FairByArguments =
+    (M : Meaning) × Fair M
+    × ((a b k s t : ℕ) → M .callValue (ascii "st_knn") (a ∷ b ∷ k ∷ s ∷ t ∷ []) ≡ 1)
+    × ((a b k s : ℕ) → M .callValue (ascii "st_knn") (a ∷ b ∷ k ∷ s ∷ []) ≡ 0)
+
+-- A frame with a mark column: `st_dwithin` of a left and a right column, its bound the mark column with child index 9.
+unfoldable pub markedFrame : Frame
+markedFrame = record {
+  records = record { side = left; child = 5; tag = 0 } ∷ record { side = right; child = 0; tag = 0 } ∷ record { side = noSide; child = 9; tag = 0 } ∷ [];
+  expr = call (ascii "st_dwithin") (cons (column 0 0) (cons (column 1 0) (cons (column 2 0) nil)));
+}
+
+-- Why mark columns are left out: in a fair meaning that frame can be true and its extraction, which copies the bound's own column number, false.
+abbrev pub MarksDiffer : Type 0
+MarksDiffer =
+    (M : Meaning) × Fair M × (v : Valuation)
+    × (frameValue M v markedFrame ≡ 1) × (Option·map (extractionValue M v) (extraction markedFrame) ≡ some 0)
 
 -- ---- the logical call
 

@@ -13,8 +13,12 @@ pub mod Exchange
 pub mod Calls
 pub mod Machine
 pub mod Limits
+pub mod Sessions
 pub mod Meaning
 pub mod Logical
 pub mod Program
 pub mod Hosts
 pub mod Claims
+pub mod TenRows
+pub mod RefusalTable
+pub mod NameTables

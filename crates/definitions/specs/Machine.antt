@@ -1,4 +1,4 @@
--- The two-bit machine, and the same list of calls made on lent buffers.
+-- The two-bit machine: fed a frame and, for each call of a list, its kind and the length of its scratch.
 use Prim.Native.Nat.{ℕ}
 use mathlib.Core.Bool.{Bool, true, false, not}
 use mathlib.Core.List.{List, [], _∷_}
@@ -10,13 +10,10 @@ use Rattle.definitions.specs.Expression.{Frame, Extraction, Plan, held, 
 use Rattle.definitions.specs.Encode.{planBytes}
 use Rattle.definitions.specs.Extract.{extraction}
 use Rattle.definitions.specs.Exchange.{exchangePlan}
-use Rattle.definitions.specs.Calls.{Outcome, extract, exchange}
 
--- The calls of a list.
+-- The calls of a list: extract and exchange.
 pub data Kind : Type 0 where
   extractCall exchangeCall : Kind
-
--- ---- the machine
 
 -- The extracted bit and the odd bit.
 pub record Bits : Type 0 where
@@ -88,33 +85,3 @@ machineRun F bits (c ∷ cs) =
 -- Both bits are 0 at the start.
 unfoldable pub fresh : Bits
 fresh = record { isExtracted = false; isOdd = false }
-
--- ---- the calls
-
--- One call as it is made, with its own scratch.
-pub record Made : Type 0 where
-  pub kind : Kind
-  pub scratch : List ℕ
-
--- A call as the machine is fed it.
-unfoldable pub fed : Made → Fed
-fed c = record { kind = c .kind; room = length (c .scratch) }
-
--- The call of a kind.
-unfoldable pub make : Kind → (n : ℕ) → (buffer scratch : List ℕ) → Outcome
-make extractCall n buffer scratch = extract n buffer scratch
-make exchangeCall n buffer scratch = exchange n buffer scratch
-
--- The answers of a list of calls, and n and the plan buffer at its end.
-pub record Calls : Type 0 where
-  pub answers : List (Result ℕ)
-  pub n : ℕ
-  pub buffer : List ℕ
-
--- A list of calls, each given the last n and the plan buffer as it was left.
-unfoldable pub callsRun : (n : ℕ) → (buffer : List ℕ) → List Made → Calls
-callsRun n buffer [] = record { answers = []; n = n; buffer = buffer }
-callsRun n buffer (c ∷ cs) =
-    let one : Outcome = make (c .kind) n buffer (c .scratch) in
-    let after : Calls = callsRun (one .n) (one .buffer) cs in
-    record { answers = one .answer ∷ after .answers; n = after .n; buffer = after .buffer }

@@ -4,11 +4,14 @@ use mathlib.Core.Path.{_≡_}
 use mathlib.Core.List.{List, [], _∷_}
 use mathlib.Core.Option.{Option, none, some}
 use lib.Dec.{eqb}
+use lib.ListN.{length}
 use Rattle.definitions.specs.Basics.{if_then_else_, ascii}
 use Rattle.definitions.specs.Expression.{Side, left, right, Relation, Expr, column, literal, and, binary, call, other, field, Exprs, nil, cons, Record, Frame, Predicate, relation, distance, knn, Extraction, Plan, empty, held, extracted}
 use Rattle.definitions.specs.Leaves.{relationNamed}
 use Rattle.definitions.specs.Match.{recordAt, invert, matchLeaf}
 use Rattle.definitions.specs.Exchange.{negate}
+use Rattle.definitions.specs.Decode.{indexBelow}
+use Rattle.definitions.specs.Limits.{InRangeAll}
 
 -- Values: 0 is false, 1 true, others unknown. And gives 0 if either is 0, 1 if both are 1, else 2.
 unfoldable pub andValue : ℕ → ℕ → ℕ
@@ -94,18 +97,25 @@ planValue M v (extracted X) = extractionValue M v X
 unfoldable pub exchangedValues : Valuation → Valuation
 exchangedValues v side child = v (negate side) child
 
--- Fair: all names of one type agree, a relation equals its inverse on exchanged arguments, `st_distance` and `st_dwithin` are
--- symmetric, each ignores further arguments, and every matching KNN leaf is one function of query, object, k, spheroid and ties.
+-- A fair meaning.
 pub record Fair (M : Meaning) : Type 0 where
+  -- All names of one type agree; a relation reads two arguments and ignores further ones.
   pub relationCall : (name : List ℕ) (type : Relation) → relationNamed name ≡ some type → (a b : ℕ) (more : List ℕ)
       → M .callValue name (a ∷ b ∷ more) ≡ M .relationValue type a b
+  -- A relation equals its inverse on exchanged arguments.
   pub relationInverse : (type : Relation) (a b : ℕ) → M .relationValue (invert type) b a ≡ M .relationValue type a b
+  -- `st_distance` reads two arguments and ignores further ones,
   pub distanceCall : (a b : ℕ) (more : List ℕ) → M .callValue (ascii "st_distance") (a ∷ b ∷ more) ≡ M .distanceValue a b
+  -- and is symmetric.
   pub distanceSymmetric : (a b : ℕ) → M .distanceValue a b ≡ M .distanceValue b a
+  -- `st_dwithin` reads three arguments and ignores further ones,
   pub dwithinCall : (a b bound : ℕ) (more : List ℕ)
       → M .callValue (ascii "st_dwithin") (a ∷ b ∷ bound ∷ more) ≡ M .dwithinValue a b bound
+  -- and is symmetric in the first two.
   pub dwithinSymmetric : (a b bound : ℕ) → M .dwithinValue a b bound ≡ M .dwithinValue b a bound
+  -- The value of every matching KNN leaf, its fields in their ranges, is one function of its query and object values, k, spheroid and ties.
   pub knnLeaf : (v : Valuation) (records : List Record) (name : List ℕ) (query object : Expr) (more : Exprs)
+      → InRangeAll (indexBelow (length records)) (cons query (cons object more))
       → (k spheroid ties : ℕ) (probe : Side) (l r : Expr)
       → matchLeaf records (call name (cons query (cons object more))) ≡ some (knn k spheroid probe ties l r)
       → value M (frameColumns v records) (call name (cons query (cons object more)))

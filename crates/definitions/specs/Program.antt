@@ -7,7 +7,8 @@ use lib.ListN.{length, take, replicate}
 use lib.Dec.{leb, ltb, eqb}
 use Rattle.definitions.specs.Basics.{if_then_else_, Result, ok, refused, mapResult}
 use Rattle.definitions.specs.Calls.{LoadOutcome, load, Outcome}
-use Rattle.definitions.specs.Machine.{Kind, extractCall, exchangeCall, make}
+use Rattle.definitions.specs.Machine.{Kind, extractCall, exchangeCall}
+use Rattle.definitions.specs.Sessions.{make}
 use Rattle.definitions.specs.Logical.{logical, logicalBytes}
 
 -- ---- hexadecimal

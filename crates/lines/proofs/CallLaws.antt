@@ -11,7 +11,8 @@ use Rattle.definitions.specs.Expression.{Expr, Side}
 use Rattle.definitions.specs.Leaves.{leaves}
 use Rattle.definitions.specs.Plans.{frameOf, logicalOf}
 use Rattle.definitions.specs.Calls.{LoadOutcome, Outcome, writtenOver, loadBytes, loaded, load, finish, heldPlan, extractBytes, extract, exchangeBytes, exchange}
-use Rattle.definitions.specs.Machine.{Kind, extractCall, exchangeCall, make}
+use Rattle.definitions.specs.Machine.{Kind, extractCall, exchangeCall}
+use Rattle.definitions.specs.Sessions.{make}
 use Rattle.definitions.specs.Logical.{LogicalAnswer, leafName, distinct, spatialNames, logicalAnswer, logical, logicalBytes}
 use Rattle.definitions.specs.Program.{Kept, LineOutcome, refusedLine, loadLine, logicalLine, callLine}
 use Rattle.definitions.proofs.InversePlan.{refused-not-ok}

@@ -5,7 +5,8 @@ use mathlib.Core.List.{List}
 use lib.IntN.{ℤ}
 use Rattle.definitions.specs.Calls.{LoadOutcome, Outcome}
 use Rattle.definitions.specs.Hosts.{hosted}
-use Rattle.definitions.specs.Machine.{Kind, make}
+use Rattle.definitions.specs.Machine.{Kind}
+use Rattle.definitions.specs.Sessions.{make}
 use Rattle.definitions.specs.Limits.{AllBytes}
 use Rattle.definitions.proofs.Lengths.{lengths-are-short}
 use Rattle.join_filter.specs.Outcomes.{answerOf, LoadIs, OutcomeIs}

@@ -1,7 +1,8 @@
 -- `plan_line`: what the call answers, whatever the scratch held; 7 where more bytes follow.
 use borrow.Author.Needs.{needs}
 use native.Mathlib.Omega.{arith}
-use Rattle.definitions.specs.Machine.{extractCall, exchangeCall, make}
+use Rattle.definitions.specs.Machine.{extractCall, exchangeCall}
+use Rattle.definitions.specs.Sessions.{make}
 use Rattle.lines.proofs.LineLaws.{refused-line}
 use Rattle.lines.proofs.CallLaws.{call-gives, more-follow, none-follow}
 use Rattle.lines.proofs.calls.plan_line.Statement.{statement}

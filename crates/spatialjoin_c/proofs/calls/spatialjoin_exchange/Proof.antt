@@ -1,6 +1,7 @@
 -- `spatialjoin_exchange`: the exchange's answer as one number.
 use borrow.Author.Needs.{needs}
-use Rattle.definitions.specs.Machine.{exchangeCall, make}
+use Rattle.definitions.specs.Machine.{exchangeCall}
+use Rattle.definitions.specs.Sessions.{make}
 use Rattle.frame.proofs.Standing.{all-bytes}
 use Rattle.spatialjoin_c.proofs.Numbers.{given-back}
 use Rattle.spatialjoin_c.proofs.Hosting.{call-short, call-hosted}

@@ -1,0 +1,117 @@
+-- Lists of calls made on lent buffers, from a held frame, and what is read off their answers.
+use Prim.Native.Nat.{ℕ, _≤_}
+use mathlib.Core.Path.{_≡_}
+use mathlib.Core.Bool.{Bool, true, false, _&&_, _||_, not}
+use mathlib.Core.List.{List, [], _∷_, map}
+use lib.ListN.{length, take}
+use Rattle.definitions.specs.Basics.{if_then_else_, Result, ok, refused}
+use Rattle.definitions.specs.Expression.{Frame, held}
+use Rattle.definitions.specs.Encode.{frameBytes}
+use Rattle.definitions.specs.Calls.{Outcome, extract, exchange}
+use Rattle.definitions.specs.Machine.{Kind, extractCall, exchangeCall, Fed, Run, machineRun, fresh}
+use Rattle.definitions.specs.Limits.{GoodPlan}
+
+-- ---- lists of calls
+
+-- One call as it is made, with its own scratch.
+pub record Made : Type 0 where
+  pub kind : Kind
+  pub scratch : List ℕ
+
+-- An extract with this scratch.
+abbrev pub extractWith : (scratch : List ℕ) → Made
+extractWith scratch = record { kind = extractCall; scratch = scratch }
+
+-- An exchange with this scratch.
+abbrev pub exchangeWith : (scratch : List ℕ) → Made
+exchangeWith scratch = record { kind = exchangeCall; scratch = scratch }
+
+-- The call of a kind.
+unfoldable pub make : Kind → (n : ℕ) → (buffer scratch : List ℕ) → Outcome
+make extractCall n buffer scratch = extract n buffer scratch
+make exchangeCall n buffer scratch = exchange n buffer scratch
+
+-- The answers of a list of calls, and n and the plan buffer at its end.
+pub record ListOutcome : Type 0 where
+  pub answers : List (Result ℕ)
+  pub n : ℕ
+  pub buffer : List ℕ
+
+-- A list of calls, each given the last n and the plan buffer as it was left.
+unfoldable pub callsRun : (n : ℕ) → (buffer : List ℕ) → List Made → ListOutcome
+callsRun n buffer [] = record { answers = []; n = n; buffer = buffer }
+callsRun n buffer (c ∷ cs) =
+    let one : Outcome = make (c .kind) n buffer (c .scratch) in
+    let after : ListOutcome = callsRun (one .n) (one .buffer) cs in
+    record { answers = one .answer ∷ after .answers; n = after .n; buffer = after .buffer }
+
+-- A call as the machine is fed it: its kind and the length of its scratch.
+unfoldable pub fed : Made → Fed
+fed c = record { kind = c .kind; room = length (c .scratch) }
+
+-- The machine after the same list.
+abbrev pub machineAfter : Frame → List Made → Run
+machineAfter F calls = machineRun F fresh (map fed calls)
+
+-- ---- what the answers tell
+
+-- Whether an answer is a length.
+unfoldable pub accepted : Result ℕ → Bool
+accepted (ok length) = true
+accepted (refused number) = false
+
+-- Whether a call is an extract.
+unfoldable pub isExtract : Kind → Bool
+isExtract extractCall = true
+isExtract exchangeCall = false
+
+-- Whether an extract was accepted, read off the answers.
+unfoldable pub extractAccepted : List Made → (answers : List (Result ℕ)) → Bool
+extractAccepted [] answers = false
+extractAccepted (c ∷ cs) [] = false
+extractAccepted (c ∷ cs) (a ∷ answers) = (isExtract (c .kind) && accepted a) || extractAccepted cs answers
+
+-- Whether accepted exchanges are odd in number, read off the answers.
+unfoldable pub exchangesOdd : List Made → (answers : List (Result ℕ)) → Bool
+exchangesOdd [] answers = false
+exchangesOdd (c ∷ cs) [] = false
+exchangesOdd (c ∷ cs) (a ∷ answers) =
+    if not (isExtract (c .kind)) && accepted a then not (exchangesOdd cs answers) else exchangesOdd cs answers
+
+-- ---- sessions
+
+-- The good frame F is held: its bytes are the first n of a plan buffer.
+pub record Session (F : Frame) : Type 0 where
+  pub n : ℕ
+  pub buffer : List ℕ
+  pub good : GoodPlan (held F)
+  pub fits : n ≤ length buffer
+  pub holds : take n buffer ≡ frameBytes F
+
+-- What a list of calls answers and leaves.
+abbrev pub after : {F : Frame} → Session F → List Made → ListOutcome
+after s calls = callsRun (s .n) (s .buffer) calls
+
+-- n after a list of calls: the plan's length.
+abbrev pub lengthAfter : {F : Frame} → Session F → List Made → ℕ
+lengthAfter s calls = after s calls .n
+
+-- The first n bytes of the plan buffer at the end of a list of calls.
+abbrev pub planLeft : ListOutcome → List ℕ
+planLeft o = take (o .n) (o .buffer)
+
+-- The plan after a list of calls.
+abbrev pub planAfter : {F : Frame} → Session F → List Made → List ℕ
+planAfter s calls = planLeft (after s calls)
+
+-- Whether an extract was accepted in a list of calls.
+abbrev pub extractedIn : {F : Frame} → Session F → List Made → Bool
+extractedIn s calls = extractAccepted calls (after s calls .answers)
+
+-- Whether accepted exchanges are odd in number in a list of calls.
+abbrev pub oddIn : {F : Frame} → Session F → List Made → Bool
+oddIn s calls = exchangesOdd calls (after s calls .answers)
+
+-- The answer of a call that is made after a list of calls.
+abbrev pub answerAfter : {F : Frame} → Session F → (before : List Made) → Made → Result ℕ
+answerAfter s before c = make (c .kind) (after s before .n) (after s before .buffer) (c .scratch) .answer
