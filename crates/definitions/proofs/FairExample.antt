@@ -12,7 +12,7 @@ use Rattle.definitions.specs.Basics.{if_then_else_, ascii, sameName}
 use Rattle.definitions.specs.Expression.{Side, left, right, noSide, Relation, intersects, contains, within, covers, coveredBy, touches, crosses, overlaps, equals, Expr, column, literal, and, binary, call, other, field, Exprs, nil, cons, Record, Frame, Predicate, relation, distance, knn}
 use Rattle.definitions.specs.Literals.{signed, u32, numberU32}
 use Rattle.definitions.specs.Leaves.{relationNamed}
-use Rattle.definitions.specs.Match.{Order, leftRight, rightLeft, noOrder, Request, askRelation, askDistance, askKnn, askNothing, relationRequest, dwithinRequest, literalU32, literalBool, knnLiterals, knnRequest, callRequest, request, invert, matchRelation, matchDistance, matchKnn, matchRequest, matchLeaf}
+use Rattle.definitions.specs.Match.{Order, leftRight, rightLeft, noOrder, Request, askRelation, askDistance, askKnn, askNothing, relationRequest, dwithinRequest, literalU32, literalBool, knnLiterals, knnRequest, callRequest, request, ArgumentSide, noColumns, allOn, mixed, invert, matchRelation, storeDistance, matchDistance, matchKnn, matchRequest, matchLeaf}
 use Rattle.definitions.specs.Extract.{extraction}
 use Rattle.definitions.specs.Meaning.{Valuation, Meaning, value, frameColumns, Fair, frameValue, extractionValue}
 use Rattle.definitions.specs.Claims.{FairMeaning}
@@ -158,13 +158,18 @@ module _ (x y z : ℕ) where
   relation-matched type a b rightLeft = tt
   relation-matched type a b noOrder = tt
 
-  distance-matched : (rs : List Record) (form : ℕ) (a b bound : Expr) (side : Option Side) (o : Order)
+  stored-matched : (form : ℕ) (side : Side) (a b bound : Expr) (o : Order) → Matched x y z (storeDistance form side a b bound o)
+  unfolding storeDistance
+  stored-matched form side a b bound leftRight = tt
+  stored-matched form side a b bound rightLeft = tt
+  stored-matched form side a b bound noOrder = tt
+
+  distance-matched : (rs : List Record) (form : ℕ) (a b bound : Expr) (side : ArgumentSide) (o : Order)
       → Matched x y z (matchDistance rs form a b bound side o)
   unfolding matchDistance
-  distance-matched rs form a b bound none o = tt
-  distance-matched rs form a b bound (some side) leftRight = tt
-  distance-matched rs form a b bound (some side) rightLeft = tt
-  distance-matched rs form a b bound (some side) noOrder = tt
+  distance-matched rs form a b bound noColumns o = stored-matched form noSide a b bound o
+  distance-matched rs form a b bound (allOn side) o = stored-matched form side a b _ o
+  distance-matched rs form a b bound mixed o = tt
 
   knn-matched : (k spheroid ties : ℕ) (a b : Expr) (o : Order) → x ≡ near y z k → Matched x y z (matchKnn k spheroid ties a b o)
   unfolding matchKnn
