@@ -51,7 +51,7 @@ unfolding Plans.physicalFrame Plans.logicalFrame Plans.wholeExtraction Plans.fra
 plans = 0
 
 unfoldable pub match : ℕ
-unfolding Match.relationRequest Match.dwithinRequest Match.literalU32 Match.literalBool Match.knnLiterals Match.knnRequest Match.callRequest Match.distanceRequest Match.comparisonRequest Match.request Match.columnsOf Match.recordAt Match.sameSide Match.commonSide Match.sideOf Match.isSide Match.orderOf Match.mapColumns Match.onChild Match.invert Match.matchRelation Match.boundOn Match.matchDistance Match.matchKnn Match.matchRequest Match.matchLeaf
+unfolding Match.relationRequest Match.dwithinRequest Match.literalU32 Match.literalBool Match.knnLiterals Match.knnRequest Match.callRequest Match.distanceRequest Match.comparisonRequest Match.request Match.columnsOf Match.recordAt Match.sameSide Match.commonSide Match.sideOf Match.isSide Match.orderOf Match.mapColumns Match.onChild Match.invert Match.matchRelation Match.boundOn Match.storeDistance Match.matchDistance Match.matchKnn Match.matchRequest Match.matchLeaf
 match = 0
 
 unfoldable pub extract : ℕ

@@ -8,7 +8,7 @@ use lib.ListN.{length, take, List·getD-map}
 use Rattle.definitions.specs.Basics.{if_then_else_, all, any, keep}
 use Rattle.definitions.specs.Expression.{Side, left, right, noSide, Relation, intersects, contains, within, covers, coveredBy, touches, crosses, overlaps, equals, Expr, Record, Frame, Predicate, relation, distance, knn, Extraction, Plan, empty, held, extracted}
 use Rattle.definitions.specs.Leaves.{leaves}
-use Rattle.definitions.specs.Match.{Order, leftRight, rightLeft, noOrder, Request, askRelation, askDistance, askKnn, askNothing, request, recordAt, onChild, mapColumns, columnsOf, sameSide, commonSide, sideOf, isSide, orderOf, boundOn, matchRelation, matchDistance, matchKnn, matchRequest, matchLeaf, invert}
+use Rattle.definitions.specs.Match.{Order, leftRight, rightLeft, noOrder, Request, askRelation, askDistance, askKnn, askNothing, request, recordAt, onChild, mapColumns, columnsOf, sameSide, ArgumentSide, noColumns, allOn, mixed, commonSide, sideOf, isSide, orderOf, boundOn, matchRelation, storeDistance, matchDistance, matchKnn, matchRequest, matchLeaf, invert}
 use Rattle.definitions.specs.Extract.{Pick, isKnn, later, firstMatch, firstOf, pick, sameColumn, referenced, newIndex, prune, takePick, matchesOf, extraction}
 use Rattle.definitions.specs.Exchange.{negate, exchangeRecord, exchangeFrame, exchangePredicate, exchangeExtraction, exchangePlan}
 
@@ -102,22 +102,28 @@ unfolding all
 all-negated s [] = refl
 all-negated s (t ∷ ss) = ap₂ _&&_ (same-negated s t) (all-negated s ss)
 
-if-some : (b : Bool) (s : Side) → (if b then some (negate s) else none) ≡ Option·map negate (if b then some s else none)
-if-some true s = refl
-if-some false s = refl
+-- An argument's side after an exchange.
+abbrev turned : ArgumentSide → ArgumentSide
+turned noColumns = noColumns
+turned (allOn s) = allOn (negate s)
+turned mixed = mixed
 
-common-negated : (ss : List Side) → commonSide (map negate ss) ≡ Option·map negate (commonSide ss)
-unfolding commonSide negate
+if-turned : (b : Bool) (s : Side) → (if b then allOn (negate s) else mixed) ≡ turned (if b then allOn s else mixed)
+if-turned true s = refl
+if-turned false s = refl
+
+common-negated : (ss : List Side) → commonSide (map negate ss) ≡ turned (commonSide ss)
+unfolding commonSide
 common-negated [] = refl
 common-negated (s ∷ ss) =
-    ap (λ (b : Bool). if b then some (negate s) else none) (all-negated s ss) ∙ if-some (all (sameSide s) ss) s
+    ap (λ (b : Bool). if b then allOn (negate s) else mixed) (all-negated s ss) ∙ if-turned (all (sameSide s) ss) s
 
 sides-at : (rs : List Record) (is : List ℕ)
     → map (λ i. recordAt (swapped rs) i .side) is ≡ map negate (map (λ i. recordAt rs i .side) is)
 sides-at rs [] = refl
 sides-at rs (i ∷ is) = ap₂ (λ (a : Side) (b : List Side). a ∷ b) (side-at rs i) (sides-at rs is)
 
-side-of : (rs : List Record) (e : Expr) → sideOf (swapped rs) e ≡ Option·map negate (sideOf rs e)
+side-of : (rs : List Record) (e : Expr) → sideOf (swapped rs) e ≡ turned (sideOf rs e)
 unfolding sideOf
 side-of rs e = ap commonSide (sides-at rs (columnsOf e)) ∙ common-negated (map (λ i. recordAt rs i .side) (columnsOf e))
 
@@ -128,20 +134,21 @@ flip leftRight = rightLeft
 flip rightLeft = leftRight
 flip noOrder = noOrder
 
-order-negated : (a b : Option Side) → orderOf (Option·map negate a) (Option·map negate b) ≡ flip (orderOf a b)
+order-negated : (a b : ArgumentSide) → orderOf (turned a) (turned b) ≡ flip (orderOf a b)
 unfolding orderOf flip negate isSide sameSide
-order-negated none none = refl
-order-negated none (some t) = refl
-order-negated (some left) none = refl
-order-negated (some right) none = refl
-order-negated (some noSide) none = refl
-order-negated (some left) (some left) = refl
-order-negated (some left) (some right) = refl
-order-negated (some left) (some noSide) = refl
-order-negated (some right) (some left) = refl
-order-negated (some right) (some right) = refl
-order-negated (some right) (some noSide) = refl
-order-negated (some noSide) (some t) = refl
+order-negated noColumns b = refl
+order-negated mixed b = refl
+order-negated (allOn left) noColumns = refl
+order-negated (allOn left) (allOn left) = refl
+order-negated (allOn left) (allOn right) = refl
+order-negated (allOn left) (allOn noSide) = refl
+order-negated (allOn left) mixed = refl
+order-negated (allOn right) noColumns = refl
+order-negated (allOn right) (allOn left) = refl
+order-negated (allOn right) (allOn right) = refl
+order-negated (allOn right) (allOn noSide) = refl
+order-negated (allOn right) mixed = refl
+order-negated (allOn noSide) b = refl
 
 -- A predicate of the exchanged frame is the exchanged predicate.
 abbrev exchanged : Option Predicate → Option Predicate
@@ -159,13 +166,19 @@ bound-negated rs left e = on-child rs e
 bound-negated rs right e = on-child rs e
 bound-negated rs noSide e = refl
 
-distance-flipped : (rs : List Record) (form : ℕ) (a b bound : Expr) (s : Option Side) (o : Order)
-    → matchDistance (swapped rs) form a b bound (Option·map negate s) (flip o) ≡ exchanged (matchDistance rs form a b bound s o)
-unfolding matchDistance flip exchangePredicate
-distance-flipped rs form a b bound none o = refl
-distance-flipped rs form a b bound (some s) leftRight = rw bound-negated
-distance-flipped rs form a b bound (some s) rightLeft = rw bound-negated
-distance-flipped rs form a b bound (some s) noOrder = refl
+stored-flipped : (form : ℕ) (side : Side) (a b bound : Expr) (o : Order)
+    → storeDistance form (negate side) a b bound (flip o) ≡ exchanged (storeDistance form side a b bound o)
+unfolding storeDistance flip exchangePredicate
+stored-flipped form side a b bound leftRight = refl
+stored-flipped form side a b bound rightLeft = refl
+stored-flipped form side a b bound noOrder = refl
+
+distance-flipped : (rs : List Record) (form : ℕ) (a b bound : Expr) (s : ArgumentSide) (o : Order)
+    → matchDistance (swapped rs) form a b bound (turned s) (flip o) ≡ exchanged (matchDistance rs form a b bound s o)
+unfolding matchDistance negate
+distance-flipped rs form a b bound noColumns o = stored-flipped form noSide a b bound o
+distance-flipped rs form a b bound (allOn s) o = rw bound-negated (stored-flipped form s a b (boundOn rs s bound) o)
+distance-flipped rs form a b bound mixed o = refl
 
 knn-flipped : (k spheroid ties : ℕ) (a b : Expr) (o : Order)
     → matchKnn k spheroid ties a b (flip o) ≡ exchanged (matchKnn k spheroid ties a b o)

@@ -14,7 +14,7 @@ use Rattle.definitions.specs.Expression.{Side, left, right, noSide, Rela
 use Rattle.definitions.specs.Encode.{exprBytes, frameBytes, predicateFields, remainderBytes, extractionBytes, planBytes}
 use Rattle.definitions.specs.Leaves.{leaves, arity}
 use Rattle.definitions.specs.Decode.{indexBelow}
-use Rattle.definitions.specs.Match.{Order, leftRight, rightLeft, noOrder, Request, askRelation, askDistance, askKnn, askNothing, request, recordAt, onChild, columnsOf, sameSide, sideOf, orderOf, boundOn, matchRelation, matchDistance, matchKnn, matchRequest, matchLeaf}
+use Rattle.definitions.specs.Match.{Order, leftRight, rightLeft, noOrder, Request, askRelation, askDistance, askKnn, askNothing, request, recordAt, onChild, columnsOf, sameSide, ArgumentSide, noColumns, allOn, mixed, sideOf, orderOf, boundOn, matchRelation, storeDistance, matchDistance, matchKnn, matchRequest, matchLeaf}
 use Rattle.definitions.specs.Extract.{Pick, pick, without, sameColumn, referenced, newIndex, prune, takePick, matchesOf, extraction}
 use Rattle.definitions.specs.Limits.{All, nodes, depth, Short, InRange, Readable, RecordsInRange, ReadableFrame, ReadablePredicate, ReadableRemainder, predicateNodes, remainderNodes, planNodes, GoodPlan}
 use Rattle.definitions.proofs.Columns.{all-every, Fits, map-length, map-nodes, map-depth, map-in-range, map-arity, widen, all-both, columns-below}
@@ -95,21 +95,27 @@ module _ (rs : List Record) (b room size levels : ℕ) (rr : RecordsInRange rs) 
   )
   relation-sized t x y h noOrder = tt
 
-  distance-sized : (form : ℕ) (x y d : Expr) → Within (indexBelow b) room size levels (askDistance form x y d)
-      → (s : Option Side) (o : Order) → SizedMatch room size (matchDistance rs form (onChild rs x) (onChild rs y) d s o)
-  unfolding matchDistance predicateFields predicateNodes
-  distance-sized form x y d h none o = tt
-  distance-sized form x y d h (some s) leftRight = (
+  stored-sized : (form : ℕ) (s : Side) (x y d : Expr) → Within (indexBelow b) room size levels (askDistance form x y d)
+      → (o : Order) → SizedMatch room size (storeDistance form s (onChild rs x) (onChild rs y) (boundOn rs s d) o)
+  unfolding storeDistance predicateFields predicateNodes
+  stored-sized form s x y d h leftRight = (
     (h .0, on-child-readable rs b x rr (h .1) (omega (arith, h .6)), on-child-readable rs b y rr (h .2) (omega (arith, h .7)), bound-readable rs s b d rr (h .3) (omega (arith, h .8))),
     simp (length-append, on-child-bytes, bound-bytes) (omega (arith, h .4)),
     simp (on-child-nodes, bound-nodes) (omega (arith, h .5)),
   )
-  distance-sized form x y d h (some s) rightLeft = (
+  stored-sized form s x y d h rightLeft = (
     (h .0, on-child-readable rs b y rr (h .2) (omega (arith, h .7)), on-child-readable rs b x rr (h .1) (omega (arith, h .6)), bound-readable rs s b d rr (h .3) (omega (arith, h .8))),
     simp (length-append, on-child-bytes, bound-bytes) (omega (arith, h .4)),
     simp (on-child-nodes, bound-nodes) (omega (arith, h .5)),
   )
-  distance-sized form x y d h (some s) noOrder = tt
+  stored-sized form s x y d h noOrder = tt
+
+  distance-sized : (form : ℕ) (x y d : Expr) → Within (indexBelow b) room size levels (askDistance form x y d)
+      → (s : ArgumentSide) (o : Order) → SizedMatch room size (matchDistance rs form (onChild rs x) (onChild rs y) d s o)
+  unfolding matchDistance boundOn
+  distance-sized form x y d h noColumns o = stored-sized form noSide x y d h o
+  distance-sized form x y d h (allOn s) o = stored-sized form s x y d h o
+  distance-sized form x y d h mixed o = tt
 
   knn-sized : (k sp t : ℕ) (x y : Expr) → Within (indexBelow b) room size levels (askKnn k sp t x y)
       → (o : Order) → SizedMatch room size (matchKnn k sp t (onChild rs x) (onChild rs y) o)

@@ -4,9 +4,9 @@ use mathlib.Core.Path.{_≡_}
 use mathlib.Core.List.{List}
 use mathlib.Core.Option.{Option, none, some}
 use Rattle.definitions.specs.Basics.{ascii, sameName}
-use Rattle.definitions.specs.Expression.{Side, Relation, Expr, call, Exprs, nil, cons, Record, Predicate, relation, distance, knn}
+use Rattle.definitions.specs.Expression.{Side, noSide, Relation, Expr, call, Exprs, nil, cons, Record, Predicate, relation, distance, knn}
 use Rattle.definitions.specs.Leaves.{relationNamed}
-use Rattle.definitions.specs.Match.{Order, leftRight, rightLeft, noOrder, Request, askRelation, askDistance, askKnn, askNothing, relationRequest, dwithinRequest, knnRequest, callRequest, request, matchRelation, matchDistance, matchKnn, matchRequest, matchLeaf}
+use Rattle.definitions.specs.Match.{Order, leftRight, rightLeft, noOrder, Request, askRelation, askDistance, askKnn, askNothing, relationRequest, dwithinRequest, knnRequest, callRequest, request, ArgumentSide, noColumns, allOn, mixed, matchRelation, storeDistance, matchDistance, matchKnn, matchRequest, matchLeaf}
 use Rattle.definitions.proofs.Requests.{by-test, same-name}
 
 module _ (Q : (k spheroid ties : ℕ) → Type 0) where
@@ -29,13 +29,18 @@ module _ (Q : (k spheroid ties : ℕ) → Type 0) where
   relation-matched type a b rightLeft = tt
   relation-matched type a b noOrder = tt
 
-  distance-matched : (rs : List Record) (form : ℕ) (a b bound : Expr) (side : Option Side) (o : Order)
+  stored-matched : (form : ℕ) (side : Side) (a b bound : Expr) (o : Order) → Matched (storeDistance form side a b bound o)
+  unfolding storeDistance
+  stored-matched form side a b bound leftRight = tt
+  stored-matched form side a b bound rightLeft = tt
+  stored-matched form side a b bound noOrder = tt
+
+  distance-matched : (rs : List Record) (form : ℕ) (a b bound : Expr) (side : ArgumentSide) (o : Order)
       → Matched (matchDistance rs form a b bound side o)
   unfolding matchDistance
-  distance-matched rs form a b bound none o = tt
-  distance-matched rs form a b bound (some side) leftRight = tt
-  distance-matched rs form a b bound (some side) rightLeft = tt
-  distance-matched rs form a b bound (some side) noOrder = tt
+  distance-matched rs form a b bound noColumns o = stored-matched form noSide a b bound o
+  distance-matched rs form a b bound (allOn side) o = stored-matched form side a b _ o
+  distance-matched rs form a b bound mixed o = tt
 
   knn-matched : (k spheroid ties : ℕ) (a b : Expr) (o : Order) → Q k spheroid ties → Matched (matchKnn k spheroid ties a b o)
   unfolding matchKnn

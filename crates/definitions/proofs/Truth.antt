@@ -13,7 +13,7 @@ use Rattle.definitions.specs.Basics.{if_then_else_, ascii, sameName, all
 use Rattle.definitions.specs.Expression.{Side, left, right, noSide, Relation, Expr, column, literal, and, binary, call, other, field, Exprs, nil, cons, Record, Frame, Predicate, relation, distance, knn, Extraction, Plan, empty, held, extracted}
 use Rattle.definitions.specs.Leaves.{relationNamed, Comparison, compares, noComparison, comparison, distanceArguments}
 use Rattle.definitions.specs.Decode.{indexBelow}
-use Rattle.definitions.specs.Match.{columnsOf, columnsOfAll, mapColumns, mapColumnsAll, recordAt, sameSide, commonSide, sideOf, isSide, Order, leftRight, rightLeft, noOrder, orderOf, onChild, boundOn, Request, askRelation, askDistance, askKnn, askNothing, relationRequest, dwithinRequest, knnLiterals, knnRequest, callRequest, distanceRequest, comparisonRequest, request, matchRelation, matchDistance, matchKnn, matchRequest, matchLeaf}
+use Rattle.definitions.specs.Match.{columnsOf, columnsOfAll, mapColumns, mapColumnsAll, recordAt, sameSide, ArgumentSide, noColumns, allOn, mixed, commonSide, sideOf, isSide, Order, leftRight, rightLeft, noOrder, orderOf, onChild, boundOn, Request, askRelation, askDistance, askKnn, askNothing, relationRequest, dwithinRequest, knnLiterals, knnRequest, callRequest, distanceRequest, comparisonRequest, request, matchRelation, storeDistance, matchDistance, matchKnn, matchRequest, matchLeaf}
 use Rattle.definitions.specs.Extract.{Pick, pick, andLeft, andRight, without, referenced, newIndex, prune, takePick, matchesOf, extraction}
 use Rattle.definitions.specs.Exchange.{negate, exchangeRecord, exchangeFrame, exchangePredicate, exchangeExtraction, exchangePlan}
 use Rattle.definitions.specs.Machine.{machinePlan, extractionOr}
@@ -145,27 +145,37 @@ all-same g s (i ∷ is) e =
     let both : (sameSide s (g i) ≡ true) × (all (sameSide s) (map g is) ≡ true) = and-both (sameSide s (g i)) (all (sameSide s) (map g is)) e in
     (same-side s (g i) (both .0), all-same g s is (both .1))
 
-some-side : (b : Bool) (s t : Side) → (if b then some s else none) ≡ some t → (b ≡ true) × (s ≡ t)
-some-side true s t e = (refl, cc)
-some-side false s t e = let z : _≡_ {A = ℕ} 0 1 = cc in absurd (omega arith)
+all-side : (b : Bool) (s t : Side) → (if b then allOn s else mixed) ≡ allOn t → (b ≡ true) × (s ≡ t)
+all-side true s t e = (refl, cc)
+all-side false s t e = let z : _≡_ {A = ℕ} 0 1 = cc in absurd (omega arith)
 
-common-is : (g : ℕ → Side) (is : List ℕ) (s : Side) → commonSide (map g is) ≡ some s → All (λ i. g i ≡ s) is
+common-is : (g : ℕ → Side) (is : List ℕ) (s : Side) → commonSide (map g is) ≡ allOn s → All (λ i. g i ≡ s) is
 unfolding commonSide
 common-is g [] s e = tt
 common-is g (i ∷ is) s e =
-    let p : (all (sameSide (g i)) (map g is) ≡ true) × (g i ≡ s) = some-side (all (sameSide (g i)) (map g is)) (g i) s e in
+    let p : (all (sameSide (g i)) (map g is) ≡ true) × (g i ≡ s) = all-side (all (sameSide (g i)) (map g is)) (g i) s e in
     (p .1, subst (λ (t : Side). All (λ j. g j ≡ t) is) (p .1) (all-same g (g i) is (p .0)))
 
-side-is : (rs : List Record) (e : Expr) (s : Side) → sideOf rs e ≡ some s → All (λ i. recordAt rs i .side ≡ s) (columnsOf e)
+side-is : (rs : List Record) (e : Expr) (s : Side) → sideOf rs e ≡ allOn s → All (λ i. recordAt rs i .side ≡ s) (columnsOf e)
 unfolding sideOf
 side-is rs e s h = common-is (λ i. recordAt rs i .side) (columnsOf e) s h
+
+mixed-or-all : (b : Bool) (s : Side) → (if b then allOn s else mixed) ≡ noColumns → ⊥
+mixed-or-all true s e = let z : _≡_ {A = ℕ} 0 1 = cc in absurd (omega arith)
+mixed-or-all false s e = let z : _≡_ {A = ℕ} 0 1 = cc in absurd (omega arith)
+
+-- An argument without columns has any property of all its columns.
+no-columns : (P : ℕ → Type 0) (g : ℕ → Side) (is : List ℕ) → commonSide (map g is) ≡ noColumns → All P is
+unfolding commonSide
+no-columns P g [] e = tt
+no-columns P g (i ∷ is) e = absurd (mixed-or-all (all (sameSide (g i)) (map g is)) (g i) e)
 
 map-all : (P Q : ℕ → Type 0) → ((i : ℕ) → P i → Q i) → (is : List ℕ) → All P is → All Q is
 map-all P Q f [] h = tt
 map-all P Q f (i ∷ is) h = (f i (h .0), map-all P Q f is (h .1))
 
 -- An argument of one side has the same value over that side's columns.
-argument-value : (M : Meaning) (v : Valuation) (rs : List Record) (e : Expr) (s : Side) → sideOf rs e ≡ some s
+argument-value : (M : Meaning) (v : Valuation) (rs : List Record) (e : Expr) (s : Side) → sideOf rs e ≡ allOn s
     → value M (frameColumns v rs) e ≡ value M (v s) (onChild rs e)
 unfolding onChild frameColumns
 argument-value M v rs e s h =
@@ -180,8 +190,8 @@ no-mark-at [] i m h e = not-suc-le-zero h
 no-mark-at (r ∷ rs) zero m h e = m .0 e
 no-mark-at (r ∷ rs) (suc i) m h e = no-mark-at rs i (m .1) (le-of-suc-le-suc h) e
 
--- The bound of a distance; without a side it has no columns.
-bound-value : (M : Meaning) (v : Valuation) (rs : List Record) (e : Expr) (s : Side) → NoMarks rs → InRange (indexBelow (length rs)) e → sideOf rs e ≡ some s
+-- The bound of a distance on one side; without mark columns that is left or right.
+bound-value : (M : Meaning) (v : Valuation) (rs : List Record) (e : Expr) (s : Side) → NoMarks rs → InRange (indexBelow (length rs)) e → sideOf rs e ≡ allOn s
     → value M (frameColumns v rs) e ≡ value M (v s) (boundOn rs s e)
 unfolding boundOn
 bound-value M v rs e left m r h = argument-value M v rs e left h
@@ -190,6 +200,12 @@ bound-value M v rs e noSide m r h =
     same-value M (frameColumns v rs) (v noSide) e
     (all-both (λ i. ltb i (length rs) ≡ true) (λ i. recordAt rs i .side ≡ noSide) (λ i. frameColumns v rs i ≡ v noSide i)
     (λ i b p. absurd (no-mark-at rs i m (ltb-true i (length rs) b) p)) (columnsOf e) (columns-below (length rs) e r) (side-is rs e noSide h))
+
+-- One without columns has the same value whatever columns are worth.
+copied-value : (M : Meaning) (v : Valuation) (rs : List Record) (e : Expr) → sideOf rs e ≡ noColumns
+    → value M (frameColumns v rs) e ≡ value M (v noSide) e
+unfolding sideOf
+copied-value M v rs e h = same-value M (frameColumns v rs) (v noSide) e (no-columns _ (λ i. recordAt rs i .side) (columnsOf e) h)
 
 -- ---- what a leaf asks for has the leaf's value
 
@@ -332,25 +348,26 @@ module _ (M : Meaning) (fair : Fair M) (v : Valuation) (rs : List Record) where
 -- ---- a match has its leaf's value
 
 -- What an order says of the sides.
-abbrev OrderIs : Option Side → Option Side → Order → Type 0
-OrderIs a b leftRight = (a ≡ some left) × (b ≡ some right)
-OrderIs a b rightLeft = (a ≡ some right) × (b ≡ some left)
+abbrev OrderIs : ArgumentSide → ArgumentSide → Order → Type 0
+OrderIs a b leftRight = (a ≡ allOn left) × (b ≡ allOn right)
+OrderIs a b rightLeft = (a ≡ allOn right) × (b ≡ allOn left)
 OrderIs a b noOrder = Unit {0}
 
-order-is : (a b : Option Side) → OrderIs a b (orderOf a b)
+order-is : (a b : ArgumentSide) → OrderIs a b (orderOf a b)
 unfolding orderOf isSide sameSide
-order-is none none = tt
-order-is none (some t) = tt
-order-is (some left) none = tt
-order-is (some right) none = tt
-order-is (some noSide) none = tt
-order-is (some left) (some left) = tt
-order-is (some left) (some right) = (refl, refl)
-order-is (some left) (some noSide) = tt
-order-is (some right) (some left) = (refl, refl)
-order-is (some right) (some right) = tt
-order-is (some right) (some noSide) = tt
-order-is (some noSide) (some t) = tt
+order-is noColumns b = tt
+order-is mixed b = tt
+order-is (allOn left) noColumns = tt
+order-is (allOn left) (allOn left) = tt
+order-is (allOn left) (allOn right) = (refl, refl)
+order-is (allOn left) (allOn noSide) = tt
+order-is (allOn left) mixed = tt
+order-is (allOn right) noColumns = tt
+order-is (allOn right) (allOn left) = (refl, refl)
+order-is (allOn right) (allOn right) = tt
+order-is (allOn right) (allOn noSide) = tt
+order-is (allOn right) mixed = tt
+order-is (allOn noSide) b = tt
 
 if-same : (b : Bool) (x x′ y y′ : ℕ) → x ≡ x′ → y ≡ y′ → (if b then x else y) ≡ (if b then x′ else y′)
 if-same true x x′ y y′ e f = e
@@ -380,16 +397,24 @@ module _ (M : Meaning) (fair : Fair M) (v : Valuation) (rs : List Record) (x : �
       h ∙ ap₂ (M .relationValue t) (argument-value M v rs a right (s .0)) (argument-value M v rs b left (s .1)) ∙ sym (fair .relationInverse t _ _)
   relation-match t a b h noOrder s = tt
 
+  stored-match : (form : ℕ) (a b d : Expr) → MeansSame M v rs x (askDistance form a b d)
+      → (side : Side) (bound : Expr) → value M (frameColumns v rs) d ≡ value M (v side) bound
+      → (o : Order) → OrderIs (sideOf rs a) (sideOf rs b) o
+      → MatchMeans M v x (storeDistance form side (onChild rs a) (onChild rs b) bound o)
+  unfolding storeDistance predicateValue
+  stored-match form a b d h side bound e leftRight s =
+      rw (← (argument-value M v rs a left (s .0)), ← (argument-value M v rs b right (s .1)), ← e) h
+  stored-match form a b d h side bound e rightLeft s =
+      rw (← (argument-value M v rs a right (s .0)), ← (argument-value M v rs b left (s .1)), ← e) (h ∙ form-symmetric M fair form _ _ _)
+  stored-match form a b d h side bound e noOrder s = tt
+
   distance-match : (form : ℕ) (a b d : Expr) → NoMarks rs → InRange (indexBelow (length rs)) d → MeansSame M v rs x (askDistance form a b d)
-      → (z : Option Side) → sideOf rs d ≡ z → (o : Order) → OrderIs (sideOf rs a) (sideOf rs b) o
+      → (z : ArgumentSide) → sideOf rs d ≡ z → (o : Order) → OrderIs (sideOf rs a) (sideOf rs b) o
       → MatchMeans M v x (matchDistance rs form (onChild rs a) (onChild rs b) d z o)
-  unfolding matchDistance predicateValue
-  distance-match form a b d m r h none e o s = tt
-  distance-match form a b d m r h (some z) e leftRight s =
-      rw (← (argument-value M v rs a left (s .0)), ← (argument-value M v rs b right (s .1)), ← (bound-value M v rs d z m r e)) h
-  distance-match form a b d m r h (some z) e rightLeft s =
-      rw (← (argument-value M v rs a right (s .0)), ← (argument-value M v rs b left (s .1)), ← (bound-value M v rs d z m r e)) (h ∙ form-symmetric M fair form _ _ _)
-  distance-match form a b d m r h (some z) e noOrder s = tt
+  unfolding matchDistance
+  distance-match form a b d m r h noColumns e o s = stored-match form a b d h noSide d (copied-value M v rs d e) o s
+  distance-match form a b d m r h (allOn z) e o s = stored-match form a b d h z (boundOn rs z d) (bound-value M v rs d z m r e) o s
+  distance-match form a b d m r h mixed e o s = tt
 
   knn-match : (k sp t : ℕ) (a b : Expr) → MeansSame M v rs x (askKnn k sp t a b) → (o : Order) → orderOf (sideOf rs a) (sideOf rs b) ≡ o
       → OrderIs (sideOf rs a) (sideOf rs b) o → MatchMeans M v x (matchKnn k sp t (onChild rs a) (onChild rs b) o)

@@ -132,26 +132,33 @@ sameSide noSide left = false
 sameSide noSide right = false
 sameSide noSide noSide = true
 
--- The side of all columns, none (`noSide`) if there are none; undefined (`none`) if they differ.
-unfoldable pub commonSide : List Side → Option Side
-commonSide [] = some noSide
-commonSide (s ∷ ss) = if all (sameSide s) ss then some s else none
+-- An argument's side: none if it has no column, that of all its columns, or undefined since they differ.
+pub data ArgumentSide : Type 0 where
+  noColumns : ArgumentSide
+  allOn : Side → ArgumentSide
+  mixed : ArgumentSide
+
+-- The side of columns that have these sides; that of mark columns is `allOn noSide`.
+unfoldable pub commonSide : (columns : List Side) → ArgumentSide
+commonSide [] = noColumns
+commonSide (s ∷ ss) = if all (sameSide s) ss then allOn s else mixed
 
 -- An argument's side.
-unfoldable pub sideOf : List Record → Expr → Option Side
+unfoldable pub sideOf : List Record → (argument : Expr) → ArgumentSide
 sideOf records e = commonSide (map (λ index. recordAt records index .side) (columnsOf e))
 
 -- How two geometries lie: the first left and the second right, the other way round, or neither.
 pub data Order : Type 0 where
   leftRight rightLeft noOrder : Order
 
--- Whether a side is defined and this one.
-unfoldable pub isSide : Side → Option Side → Bool
-isSide s none = false
-isSide s (some t) = sameSide s t
+-- Whether an argument has columns, all on this side.
+unfoldable pub isSide : Side → ArgumentSide → Bool
+isSide s noColumns = false
+isSide s (allOn t) = sameSide s t
+isSide s mixed = false
 
 -- The order of two geometries by their sides.
-unfoldable pub orderOf : Option Side → Option Side → Order
+unfoldable pub orderOf : ArgumentSide → ArgumentSide → Order
 orderOf a b =
     if isSide left a && isSide right b then leftRight else
     if isSide right a && isSide left b then rightLeft else
@@ -203,12 +210,17 @@ boundOn records left bound = onChild records bound
 boundOn records right bound = onChild records bound
 boundOn records noSide bound = bound
 
--- A distance needs also a defined side of its bound.
-unfoldable pub matchDistance : List Record → (form : ℕ) → (first second bound : Expr) → Option Side → Order → Option Predicate
-matchDistance records form a b bound none order = none
-matchDistance records form a b bound (some side) leftRight = some (distance form side a b (boundOn records side bound))
-matchDistance records form a b bound (some side) rightLeft = some (distance form side b a (boundOn records side bound))
-matchDistance records form a b bound (some side) noOrder = none
+-- The left geometry is stored first.
+unfoldable pub storeDistance : (form : ℕ) → Side → (first second bound : Expr) → Order → Option Predicate
+storeDistance form side a b bound leftRight = some (distance form side a b bound)
+storeDistance form side a b bound rightLeft = some (distance form side b a bound)
+storeDistance form side a b bound noOrder = none
+
+-- A distance needs also a defined side of its bound; one without columns has side none.
+unfoldable pub matchDistance : List Record → (form : ℕ) → (first second bound : Expr) → ArgumentSide → Order → Option Predicate
+matchDistance records form a b bound noColumns order = storeDistance form noSide a b bound order
+matchDistance records form a b bound (allOn side) order = storeDistance form side a b (boundOn records side bound) order
+matchDistance records form a b bound mixed order = none
 
 -- KNN stores its first argument first, with its side as probe side.
 unfoldable pub matchKnn : (k spheroid ties : ℕ) → (query object : Expr) → Order → Option Predicate

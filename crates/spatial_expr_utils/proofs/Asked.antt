@@ -9,7 +9,7 @@ use lib.Dec.{eqb}
 use Rattle.definitions.specs.Basics.{ascii, sameName}
 use Rattle.definitions.specs.Expression.{Relation, Expr, Exprs, nil, cons, call, Side, Record, Predicate, relation, distance, knn}
 use Rattle.definitions.specs.Leaves.{relationNamed, Comparison, compares, noComparison, distanceArguments}
-use Rattle.definitions.specs.Match.{Request, askRelation, askDistance, askKnn, askNothing, relationRequest, dwithinRequest, knnLiterals, knnRequest, callRequest, distanceRequest, comparisonRequest, request, Order, leftRight, rightLeft, noOrder, matchRelation, matchDistance, matchKnn, matchRequest, matchLeaf}
+use Rattle.definitions.specs.Match.{Request, askRelation, askDistance, askKnn, askNothing, relationRequest, dwithinRequest, knnLiterals, knnRequest, callRequest, distanceRequest, comparisonRequest, request, Order, leftRight, rightLeft, noOrder, ArgumentSide, noColumns, allOn, mixed, matchRelation, storeDistance, matchDistance, matchKnn, matchRequest, matchLeaf}
 use Rattle.definitions.specs.Extract.{isKnn}
 use Rattle.definitions.proofs.Requests.{by-test}
 use Rattle.spatial_expr_utils.specs.Matches.{isRelation, Lacks}
@@ -30,13 +30,19 @@ module _ (kind : Predicate → Bool) (records : List Record) where
   relation-lacks type l r rightLeft f = f _ _ _
   relation-lacks type l r noOrder f = tt
 
-  distance-lacks : (form : ℕ) (l r bound : Expr) (side : Option Side) (o : Order) → ((side : Side) (l r d : Expr) → kind (distance form side l r d) ≡ false)
+  stored-lacks : (form : ℕ) (side : Side) (l r bound : Expr) (o : Order) → ((side : Side) (l r d : Expr) → kind (distance form side l r d) ≡ false)
+      → Lacks kind (storeDistance form side l r bound o)
+  unfolding storeDistance
+  stored-lacks form side l r bound leftRight f = f _ _ _ _
+  stored-lacks form side l r bound rightLeft f = f _ _ _ _
+  stored-lacks form side l r bound noOrder f = tt
+
+  distance-lacks : (form : ℕ) (l r bound : Expr) (side : ArgumentSide) (o : Order) → ((side : Side) (l r d : Expr) → kind (distance form side l r d) ≡ false)
       → Lacks kind (matchDistance records form l r bound side o)
   unfolding matchDistance
-  distance-lacks form l r bound none o f = tt
-  distance-lacks form l r bound (some side) leftRight f = f _ _ _ _
-  distance-lacks form l r bound (some side) rightLeft f = f _ _ _ _
-  distance-lacks form l r bound (some side) noOrder f = tt
+  distance-lacks form l r bound noColumns o f = stored-lacks form _ l r _ o f
+  distance-lacks form l r bound (allOn side) o f = stored-lacks form _ l r _ o f
+  distance-lacks form l r bound mixed o f = tt
 
   knn-lacks : (k spheroid ties : ℕ) (l r : Expr) (o : Order) → ((probe : Side) → kind (knn k spheroid probe ties l r) ≡ false)
       → Lacks kind (matchKnn k spheroid ties l r o)

@@ -1,14 +1,16 @@
 -- What each return of `match_distance_predicate` answers, and what its calls require.
 use Prim.Native.Nat.{ℕ, _+_}
+use native.Mathlib.Omega.{arith}
 use mathlib.Core.Path.{_≡_, refl, sym, ap, ap₂, _∙_}
 use mathlib.Core.Bool.{false}
 use mathlib.Core.List.{List}
-use mathlib.Core.Option.{some}
+use mathlib.Core.Option.{Option, none, some}
 use lib.ListN.{length}
-use Rattle.definitions.specs.Expression.{Expr, Record, distance}
+use Rattle.definitions.specs.Expression.{Expr, Record, Predicate, distance}
 use Rattle.definitions.specs.Encode.{exprBytes}
 use Rattle.definitions.specs.Decode.{indexBelow}
-use Rattle.definitions.specs.Match.{request, sideOf, orderOf, onChild, boundOn, matchDistance, matchRequest, matchLeaf}
+use Rattle.definitions.specs.Match as definition
+use Rattle.definitions.specs.Match.{request, sideOf, orderOf, onChild, boundOn, storeDistance, matchDistance, matchRequest, matchLeaf}
 use Rattle.expression.specs.Nodes.{Stands, OfTree, OfTreeIn}
 use Rattle.sedona_expr.specs.Parsed as parsed
 use Rattle.sedona_expr.specs.Parsed.{ParsedIs}
@@ -17,10 +19,14 @@ use Rattle.sedona_expr.specs.declared.utils.Parsed.{Parsed}
 use Rattle.sedona_expr.specs.declared.utils.Parsed.the-variants as parse
 use Rattle.spatial_expr_utils.specs.Frames.{Over, Framed, OfFrame}
 use Rattle.frame.specs.Fields.{joinSide}
-use Rattle.spatial_expr_utils.specs.Sides.{commonSide, order, ArgumentIs}
+use Rattle.spatial_expr_utils.specs.Sides.{argumentSide, distanceSide, order, ArgumentIs}
 use Rattle.spatial_expr_utils.specs.Matches.{Spans, isDistance, Lacks, LeafMatching}
 use Rattle.frame.specs.declared.records.JoinSide.{JoinSide}
-use Rattle.spatial_expr_utils.specs.declared.sides.CommonSide.the-variants.{Known, Undefined}
+use Rattle.frame.specs.declared.records.JoinSide.the-variants.{None}
+use Rattle.spatial_expr_utils.specs.declared.distance.DistanceSide.{DistanceSide}
+use Rattle.spatial_expr_utils.specs.declared.distance.DistanceSide.the-variants.{Known, Undefined}
+use Rattle.spatial_expr_utils.specs.declared.sides.Sides.{Sides}
+use Rattle.spatial_expr_utils.specs.declared.sides.Sides.the-variants.{NoColumns, AllOn, Mixed}
 use Rattle.spatial_expr_utils.specs.declared.sides.Argument.{Argument}
 use Rattle.spatial_expr_utils.specs.declared.sides.Order.{Order}
 use Rattle.spatial_expr_utils.specs.declared.sides.Order.the-variants.{LeftRight, RightLeft, Neither}
@@ -38,6 +44,27 @@ distance-kind = record { ofRelation = λ type t a b l r. refl; ofDistance = λ f
 pub no-distance : (records : List Record) (t : Expr) → parsed.isDistance (request t) ≡ false → Lacks isDistance (matchLeaf records t)
 unfolding matchLeaf
 no-distance records t e = request-lacks isDistance records parsed.isDistance distance-kind (request t) e
+
+-- ---- the side of its bound
+
+module _ (records : List Record) (form : ℕ) (a b bound : Expr) where
+  -- A side that is known is stored.
+  abbrev stores : (side : JoinSide) → definition.Order → Option Predicate
+  stores side o = storeDistance form (joinSide side) a b (boundOn records (joinSide side) bound) o
+
+  side-match : (z : Sides) (o : definition.Order) (side : JoinSide) → Known side ≡ distanceSide z
+      → matchDistance records form a b bound (argumentSide z) o ≡ stores side o
+  unfolding matchDistance boundOn
+  side-match NoColumns o side e = let same : None ≡ side = cc in ap (λ (x : JoinSide). stores x o) same
+  side-match (AllOn one) o side e = let same : one ≡ side = cc in ap (λ (x : JoinSide). stores x o) same
+  side-match Mixed o side e = let z : _≡_ {A = ℕ} 0 1 = cc in absurd (omega arith)
+
+  -- Without one there is no match.
+  undefined-match : (z : Sides) (o : definition.Order) → Undefined ≡ distanceSide z → matchDistance records form a b bound (argumentSide z) o ≡ none
+  unfolding matchDistance
+  undefined-match NoColumns o e = let z : _≡_ {A = ℕ} 0 1 = cc in absurd (omega arith)
+  undefined-match (AllOn one) o e = let z : _≡_ {A = ℕ} 0 1 = cc in absurd (omega arith)
+  undefined-match Mixed o e = refl
 
 -- ---- its arguments
 
@@ -70,7 +97,7 @@ module _ {s : List ℕ} {rec at : ℕ} {p : ParsedDistancePredicate} {x y d : Ar
     {records : List Record} {t : Expr} (over : Over s rec at records t) where
   -- What the walk of an argument says of it.
   spans : (q : ℕ) {e : Expr} (a : Argument) → OfFrame s rec q (ArgumentIs q a) → Stands (indexBelow (length records)) s q e
-      → Spans s rec q (a .end) records e × (sideOf records e ≡ commonSide (a .side))
+      → Spans s rec q (a .end) records e × (sideOf records e ≡ argumentSide (a .side))
   spans q {e} a told stands =
       let here : Over s rec q records e = record { entries = over .entries; tree = stands } in
       let known : ArgumentIs q a records e = told records e here in
@@ -83,28 +110,25 @@ module _ {s : List ℕ} {rec at : ℕ} {p : ParsedDistancePredicate} {x y d : Ar
   ended = w .ends (indexBelow (length records)) t (over .tree)
 
   distance-match : matchLeaf records t
-      ≡ matchDistance records (p .form) (onChild records (it .a)) (onChild records (it .b)) (it .bound) (commonSide (d .side))
-      (orderOf (commonSide (x .side)) (commonSide (y .side)))
+      ≡ matchDistance records (p .form) (onChild records (it .a)) (onChild records (it .b)) (it .bound) (argumentSide (d .side))
+      (orderOf (argumentSide (x .side)) (argumentSide (y .side)))
   unfolding matchLeaf matchRequest
   distance-match = ap (matchRequest records) (it .is)
       ∙ ap₂ (matchDistance records (p .form) (onChild records (it .a)) (onChild records (it .b)) (it .bound))
       (spans _ d (w .limit) (it .argDistance) .1) (ap₂ orderOf (spans _ x (w .first) (it .arg0) .1) (spans _ y (w .second) (it .arg1) .1))
 
-  pub distance-undefined : d .side ≡ Undefined → LeafMatching isDistance s rec at (Unmatched end) records t
-  unfolding matchDistance
-  distance-undefined e = (
-    distance-match ∙ ap₂ (matchDistance records (p .form) (onChild records (it .a)) (onChild records (it .b)) (it .bound)) (ap commonSide e) refl,
-    ended,
-  )
+  pub distance-undefined : (z : DistanceSide) → z ≡ distanceSide (d .side) → z ≡ Undefined → LeafMatching isDistance s rec at (Unmatched end) records t
+  distance-undefined z k e = (distance-match ∙ undefined-match _ _ _ _ _ (d .side) _ (sym e ∙ k), ended)
 
-  module _ (side : JoinSide) (k : d .side ≡ Known side) (o : Order) (lie : order o ≡ orderOf (commonSide (x .side)) (commonSide (y .side))) where
+  module _ (z : DistanceSide) (k : z ≡ distanceSide (d .side)) (side : JoinSide) (is : z ≡ Known side) (o : Order)
+      (lie : order o ≡ orderOf (argumentSide (x .side)) (argumentSide (y .side))) where
     known-match : (lies : Order) → o ≡ lies → matchLeaf records t
-        ≡ matchDistance records (p .form) (onChild records (it .a)) (onChild records (it .b)) (it .bound) (some (joinSide side)) (order lies)
-    known-match lies e = distance-match
-        ∙ ap₂ (matchDistance records (p .form) (onChild records (it .a)) (onChild records (it .b)) (it .bound)) (ap commonSide k) (sym lie ∙ ap order e)
+        ≡ storeDistance (p .form) (joinSide side) (onChild records (it .a)) (onChild records (it .b)) (boundOn records (joinSide side) (it .bound)) (order lies)
+    known-match lies e = distance-match ∙ side-match _ _ _ _ _ (d .side) _ side (sym is ∙ k)
+        ∙ ap (storeDistance (p .form) (joinSide side) (onChild records (it .a)) (onChild records (it .b)) (boundOn records (joinSide side) (it .bound))) (sym lie ∙ ap order e)
 
     pub distance-neither : o ≡ Neither → LeafMatching isDistance s rec at (Unmatched end) records t
-    unfolding matchDistance
+    unfolding storeDistance
     distance-neither e = (known-match Neither e, ended)
 
     -- Two geometries in their places, and the bound.
@@ -135,9 +159,9 @@ module _ {s : List ℕ} {rec at : ℕ} {p : ParsedDistancePredicate} {x y d : Ar
     )
 
     pub distance-left : o ≡ LeftRight → LeafMatching isDistance s rec at (Matched (distanceAt (p .arg0) (x .end) (p .arg1) (y .end)) end) records t
-    unfolding matchDistance
+    unfolding storeDistance
     distance-left e = stored (spans _ x (w .first) (it .arg0) .0) (spans _ y (w .second) (it .arg1) .0) (known-match LeftRight e)
 
     pub distance-right : o ≡ RightLeft → LeafMatching isDistance s rec at (Matched (distanceAt (p .arg1) (y .end) (p .arg0) (x .end)) end) records t
-    unfolding matchDistance
+    unfolding storeDistance
     distance-right e = stored (spans _ y (w .second) (it .arg1) .0) (spans _ x (w .first) (it .arg0) .0) (known-match RightLeft e)

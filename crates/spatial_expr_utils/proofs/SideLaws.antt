@@ -2,18 +2,17 @@
 use mathlib.Core.Path.{_≡_, refl, sym, ap, _∙_}
 use mathlib.Core.Bool.{Bool, true, false, _&&_}
 use mathlib.Core.List.{List, [], _∷_, _++_}
-use mathlib.Core.Option.{Option, none, some}
 use lib.Dec.{eqb}
 use Rattle.definitions.specs.Basics.{if_then_else_, all}
 use Rattle.definitions.specs.Expression.{Side, left, right, noSide}
 use Rattle.definitions.specs.Encode.{sideNumber}
-use Rattle.definitions.specs.Match.{sameSide, commonSide, isSide, leftRight, rightLeft, noOrder, orderOf}
+use Rattle.definitions.specs.Match.{sameSide, ArgumentSide, allOn, mixed, commonSide, isSide, leftRight, rightLeft, noOrder, orderOf}
 use Rattle.frame.specs.declared.records.JoinSide.{JoinSide}
 use Rattle.frame.specs.declared.records.JoinSide.the-variants.{Left, Right, None}
 use Rattle.spatial_expr_utils.specs.declared.sides.Sides.{Sides}
-use Rattle.spatial_expr_utils.specs.declared.sides.Sides.the-variants.{Unseen, All, Differ}
+use Rattle.spatial_expr_utils.specs.declared.sides.Sides.the-variants.{NoColumns, AllOn, Mixed}
 use Rattle.frame.specs.Fields.{joinSide}
-use Rattle.spatial_expr_utils.specs.Sides.{sideFor, sidesAre, see, seeAll}
+use Rattle.spatial_expr_utils.specs.Sides.{sideFor, argumentSide, see, seeAll}
 
 -- ---- numbers of sides
 
@@ -41,16 +40,16 @@ is-for left = refl
 is-for right = refl
 is-for noSide = refl
 
-pub see-first : {seen : Sides} (side : JoinSide) → seen ≡ Unseen → All side ≡ see seen (joinSide side)
-see-first side e = rw e (ap All (sym (for-is side)))
+pub see-first : {seen : Sides} (side : JoinSide) → seen ≡ NoColumns → AllOn side ≡ see seen (joinSide side)
+see-first side e = rw e (ap AllOn (sym (for-is side)))
 
-pub see-same : {seen : Sides} (one side : JoinSide) → seen ≡ All one → true ≡ sameSide (joinSide one) (joinSide side) → All one ≡ see seen (joinSide side)
-see-same one side e same = rw e (ap (λ (b : Bool). if b then All one else Differ) same)
+pub see-same : {seen : Sides} (one side : JoinSide) → seen ≡ AllOn one → true ≡ sameSide (joinSide one) (joinSide side) → AllOn one ≡ see seen (joinSide side)
+see-same one side e same = rw e (ap (λ (b : Bool). if b then AllOn one else Mixed) same)
 
-pub see-other : {seen : Sides} (one side : JoinSide) → seen ≡ All one → false ≡ sameSide (joinSide one) (joinSide side) → Differ ≡ see seen (joinSide side)
-see-other one side e same = rw e (ap (λ (b : Bool). if b then All one else Differ) same)
+pub see-other : {seen : Sides} (one side : JoinSide) → seen ≡ AllOn one → false ≡ sameSide (joinSide one) (joinSide side) → Mixed ≡ see seen (joinSide side)
+see-other one side e same = rw e (ap (λ (b : Bool). if b then AllOn one else Mixed) same)
 
-pub see-none : {seen : Sides} (side : JoinSide) → seen ≡ Differ → Differ ≡ see seen (joinSide side)
+pub see-none : {seen : Sides} (side : JoinSide) → seen ≡ Mixed → Mixed ≡ see seen (joinSide side)
 see-none side e = rw e
 
 -- ---- all columns
@@ -60,38 +59,38 @@ unfolding seeAll
 see-append seen [] ys = refl
 see-append seen (x ∷ xs) ys = see-append (see seen x) xs ys
 
-differ-stays : (xs : List Side) → seeAll Differ xs ≡ Differ
+mixed-stays : (xs : List Side) → seeAll Mixed xs ≡ Mixed
 unfolding seeAll
-differ-stays [] = refl
-differ-stays (x ∷ xs) = differ-stays xs
+mixed-stays [] = refl
+mixed-stays (x ∷ xs) = mixed-stays xs
 
-after-test : (one : JoinSide) (xs : List Side) (rest same : Bool) → sidesAre (seeAll (All one) xs) ≡ (if rest then some (joinSide one) else none)
-    → sidesAre (seeAll (if same then All one else Differ) xs) ≡ (if same && rest then some (joinSide one) else none)
+after-test : (one : JoinSide) (xs : List Side) (rest same : Bool) → argumentSide (seeAll (AllOn one) xs) ≡ (if rest then allOn (joinSide one) else mixed)
+    → argumentSide (seeAll (if same then AllOn one else Mixed) xs) ≡ (if same && rest then allOn (joinSide one) else mixed)
 after-test one xs rest true e = e
-after-test one xs rest false e = ap sidesAre (differ-stays xs)
+after-test one xs rest false e = ap argumentSide (mixed-stays xs)
 
-after-one : (one : JoinSide) (xs : List Side) → sidesAre (seeAll (All one) xs) ≡ (if all (sameSide (joinSide one)) xs then some (joinSide one) else none)
+after-one : (one : JoinSide) (xs : List Side) → argumentSide (seeAll (AllOn one) xs) ≡ (if all (sameSide (joinSide one)) xs then allOn (joinSide one) else mixed)
 unfolding seeAll all
 after-one one [] = refl
 after-one one (x ∷ xs) = after-test one xs (all (sameSide (joinSide one)) xs) (sameSide (joinSide one) x) (after-one one xs)
 
 -- What has been seen is the side of them all.
-pub seen-all : (xs : List Side) → sidesAre (seeAll Unseen xs) ≡ commonSide xs
+pub seen-all : (xs : List Side) → argumentSide (seeAll NoColumns xs) ≡ commonSide xs
 unfolding seeAll commonSide
 seen-all [] = refl
-seen-all (x ∷ xs) = after-one (sideFor x) xs ∙ ap (λ (y : Side). if all (sameSide y) xs then some y else none) (is-for x)
+seen-all (x ∷ xs) = after-one (sideFor x) xs ∙ ap (λ (y : Side). if all (sameSide y) xs then allOn y else mixed) (is-for x)
 
 -- ---- how two geometries lie
 
-pub order-left : (a b : Option Side) → isSide left a ≡ true → isSide right b ≡ true → leftRight ≡ orderOf a b
+pub order-left : (a b : ArgumentSide) → isSide left a ≡ true → isSide right b ≡ true → leftRight ≡ orderOf a b
 unfolding orderOf
 order-left a b e f = rw (e, f)
 
-pub order-right : (a b : Option Side) → (isSide left a && isSide right b) ≡ false → isSide right a ≡ true → isSide left b ≡ true → rightLeft ≡ orderOf a b
+pub order-right : (a b : ArgumentSide) → (isSide left a && isSide right b) ≡ false → isSide right a ≡ true → isSide left b ≡ true → rightLeft ≡ orderOf a b
 unfolding orderOf
 order-right a b n e f = rw (n, e, f)
 
-pub order-none : (a b : Option Side) → (isSide left a && isSide right b) ≡ false → (isSide right a && isSide left b) ≡ false → noOrder ≡ orderOf a b
+pub order-none : (a b : ArgumentSide) → (isSide left a && isSide right b) ≡ false → (isSide right a && isSide left b) ≡ false → noOrder ≡ orderOf a b
 unfolding orderOf
 order-none a b n m = rw (n, m)
 

@@ -17,12 +17,10 @@ use Rattle.expression.specs.Heads.{HeadIs}
 use Rattle.expression.specs.declared.heads.Head.{Head}
 use Rattle.spatial_expr_utils.specs.Frames.{Over, OverAll, Framed, OfFrame, OfFrameAll, FramedTwo, OfFrameTwo}
 use Rattle.frame.specs.Fields.{joinSide}
-use Rattle.spatial_expr_utils.specs.Sides.{commonSide, order, sidesAre, see, seeAll, sidesIn, SideIs, SidesAre, ArgumentIs, GeometriesAre}
+use Rattle.spatial_expr_utils.specs.Sides.{argumentSide, order, see, seeAll, sidesIn, SideIs, SidesAre, ArgumentIs, GeometriesAre}
 use Rattle.frame.specs.declared.records.JoinSide.{JoinSide}
 use Rattle.spatial_expr_utils.specs.declared.sides.Sides.{Sides}
-use Rattle.spatial_expr_utils.specs.declared.sides.Sides.the-variants.{Unseen}
-use Rattle.spatial_expr_utils.specs.declared.sides.SideTo.{SideTo}
-use Rattle.spatial_expr_utils.specs.declared.sides.CommonSide.{CommonSide}
+use Rattle.spatial_expr_utils.specs.declared.sides.Sides.the-variants.{NoColumns}
 use Rattle.spatial_expr_utils.specs.declared.sides.Argument.{Argument}
 use Rattle.spatial_expr_utils.specs.declared.sides.Order.{Order}
 use Rattle.expression.proofs.Placed.{first}
@@ -42,56 +40,54 @@ module _ {s : List ℕ} {rec at : ℕ} {seen : Sides} {records : List Record} wh
   -- A column: its record's side is seen.
   pub side-column : (t : Expr) → Over s rec at records t → getD s at 0 ≡ 0
       → (index : ℕ) → index ≡ shortAt s (at + 1) → (side : JoinSide) → joinSide side ≡ sideNumbered (getD s (rec + 5 * index) 0)
-      → (sides : Sides) → sides ≡ see seen (joinSide side) → SideIs at seen (record { next = at + 5; sides = sides }) records t
+      → (sides : Sides) → sides ≡ see seen (joinSide side) → SideIs at seen (record { end = at + 5; side = sides }) records t
   unfolding exprBytes bigEndian columnsOf seeAll recordBytes
   side-column t over e index number side is sides saw =
       let known : ColumnIs s rec at records t = column-is over e in
       let its : joinSide side ≡ recordAt records (shortAt s (at + 1)) .side = is ∙ ap (λ (i : ℕ). sideNumbered (getD s (rec + 5 * i) 0)) number
       ∙ ap sideNumbered (first (known .entry)) ∙ side-again _ in
-      rw (known .tree) (record { next = refl; sides = saw ∙ ap (see seen) its })
+      rw (known .tree) (record { end = refl; side = saw ∙ ap (see seen) its })
 
   -- Another node: what its children show.
   pub side-other : (t : Expr) → Over s rec at records t → (getD s at 0 ≡ 0 → ⊥)
-      → (h : Head) → OfTree s at (HeadIs at h) → (r : SideTo) → OfFrameAll s rec (h .next) (h .children) (SidesAre (h .next) seen r)
+      → (h : Head) → OfTree s at (HeadIs at h) → (r : Argument) → OfFrameAll s rec (h .next) (h .children) (SidesAre (h .next) seen r)
       → SideIs at seen r records t
   side-other t over n h its r is =
       let head : HeadIs at h t = its (indexBelow (length records)) t (over .tree) in
       let below : SidesAre (h .next) seen r records (childrenOf t) = is records (childrenOf t)
       (children-over over (h .next) (h .children) (head .next) (head .children)) in
       record {
-        next = omega (arith, head .next, below .next, tree-length t);
-        sides = below .sides ∙ ap (λ (xs : List ℕ). seeAll seen (sidesIn records xs)) (sym (no-own-columns t (λ k. n (sym (kind-is (over .tree)) ∙ k))));
+        end = omega (arith, head .next, below .end, tree-length t);
+        side = below .side ∙ ap (λ (xs : List ℕ). seeAll seen (sidesIn records xs)) (sym (no-own-columns t (λ k. n (sym (kind-is (over .tree)) ∙ k))));
       }
 
   -- No children: nothing is seen.
-  pub sides-none : {n : ℕ} (ts : Exprs) → OverAll s rec at n records ts → n ≡ 0 → SidesAre at seen (record { next = at; sides = seen }) records ts
+  pub sides-none : {n : ℕ} (ts : Exprs) → OverAll s rec at n records ts → n ≡ 0 → SidesAre at seen (record { end = at; side = seen }) records ts
   unfolding exprsBytes columnsOfAll seeAll
   sides-none {n} ts over e =
-      no-children (SidesAre at seen (record { next = at; sides = seen }) records) (record { next = omega arith; sides = refl }) ts (over .row .counted ∙ e)
+      no-children (SidesAre at seen (record { end = at; side = seen }) records) (record { end = omega arith; side = refl }) ts (over .row .counted ∙ e)
 
   -- A first child, and then the others.
   pub sides-some : {n : ℕ} (ts : Exprs) → OverAll s rec at n records ts → (n ≡ 0 → ⊥)
-      → (r q : SideTo) → OfFrame s rec at (SideIs at seen r) → OfFrameAll s rec (r .next) (n - 1) (SidesAre (r .next) (r .sides) q)
+      → (r q : Argument) → OfFrame s rec at (SideIs at seen r) → OfFrameAll s rec (r .end) (n - 1) (SidesAre (r .end) (r .side) q)
       → SidesAre at seen q records ts
   unfolding exprsBytes columnsOfAll
   sides-some {n} ts over some r q one others = some-children (λ ts. OverAll s rec at n records ts → SidesAre at seen q records ts)
       (λ t ts o.
       let a : SideIs at seen r records t = one records t (first-over o) in
-      let b : SidesAre (r .next) (r .sides) q records ts = others records ts (rest-over o (r .next) (n - 1) (a .next) (omega (arith))) in
+      let b : SidesAre (r .end) (r .side) q records ts = others records ts (rest-over o (r .end) (n - 1) (a .end) (omega (arith))) in
       record {
-        next = simp length-append (omega (arith, a .next, b .next));
-        sides = rw (sides-append records (columnsOf t) (columnsOfAll ts), see-append)
-            (b .sides ∙ ap (λ (x : Sides). seeAll x (sidesIn records (columnsOfAll ts))) (a .sides));
+        end = simp length-append (omega (arith, a .end, b .end));
+        side = rw (sides-append records (columnsOf t) (columnsOfAll ts), see-append)
+            (b .side ∙ ap (λ (x : Sides). seeAll x (sidesIn records (columnsOfAll ts))) (a .side));
       }) ts (omega (arith, over .row .counted)) over
 
 -- What has been seen in the end is the side of the argument.
-pub argument-is : {at : ℕ} {records : List Record} {t : Expr} (to : SideTo) → SideIs at Unseen to records t
-    → (sides : Sides) → to .sides ≡ sides → (side : CommonSide) → commonSide side ≡ sidesAre sides
-    → ArgumentIs at (record { end = to .next; side = side }) records t
+pub argument-is : {at : ℕ} {records : List Record} {t : Expr} (r : Argument) → SideIs at NoColumns r records t → ArgumentIs at r records t
 unfolding sideOf
-argument-is {records = records} {t = t} to saw sides e side k = record {
-  end = saw .next;
-  side = k ∙ ap sidesAre (sym e ∙ saw .sides) ∙ seen-all (sidesIn records (columnsOf t));
+argument-is {records = records} {t = t} r saw = record {
+  end = saw .end;
+  side = ap argumentSide (saw .side) ∙ seen-all (sidesIn records (columnsOf t));
 }
 
 -- ---- two arguments in a row
@@ -101,7 +97,7 @@ module _ {s : List ℕ} {rec at : ℕ} where
   second-framed p a is = (p .0, p .2, subst (λ (q : ℕ). Over s rec q (p .0) (p .2)) (sym (is (p .0) (p .1) (p .3 .one) .end)) (p .3 .two))
 
   pub geometries-are : (a b : Argument) → OfFrame s rec at (ArgumentIs at a) → OfFrame s rec (a .end) (ArgumentIs (a .end) b)
-      → (o : Order) → order o ≡ orderOf (commonSide (a .side)) (commonSide (b .side))
+      → (o : Order) → order o ≡ orderOf (argumentSide (a .side)) (argumentSide (b .side))
       → OfFrameTwo s rec at (GeometriesAre at (record { second = a .end; end = b .end; order = o }))
   geometries-are a b one two o e records x y over =
       let first : ArgumentIs at a records x = one records x (over .one) in

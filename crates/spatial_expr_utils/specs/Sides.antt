@@ -2,21 +2,19 @@
 use Prim.Native.Nat.{ℕ, _+_}
 use mathlib.Core.Path.{_≡_}
 use mathlib.Core.List.{List, [], _∷_, map}
-use mathlib.Core.Option.{Option, none, some}
 use lib.ListN.{length}
 use Rattle.definitions.specs.Basics.{if_then_else_}
 use Rattle.definitions.specs.Expression.{Side, left, right, noSide, Expr, Exprs, Record}
 use Rattle.definitions.specs.Encode.{exprBytes, exprsBytes}
 use Rattle.definitions.specs.Match as definition
-use Rattle.definitions.specs.Match.{columnsOf, columnsOfAll, recordAt, sameSide, sideOf, orderOf}
+use Rattle.definitions.specs.Match.{columnsOf, columnsOfAll, recordAt, sameSide, ArgumentSide, noColumns, allOn, mixed, sideOf, orderOf}
 use Rattle.frame.specs.Fields.{joinSide}
 use Rattle.frame.specs.declared.records.JoinSide.{JoinSide}
 use Rattle.frame.specs.declared.records.JoinSide.the-variants.{Left, Right, None}
 use Rattle.spatial_expr_utils.specs.declared.sides.Sides.{Sides}
-use Rattle.spatial_expr_utils.specs.declared.sides.Sides.the-variants.{Unseen, All, Differ}
-use Rattle.spatial_expr_utils.specs.declared.sides.SideTo.{SideTo}
-use Rattle.spatial_expr_utils.specs.declared.sides.CommonSide.{CommonSide}
-use Rattle.spatial_expr_utils.specs.declared.sides.CommonSide.the-variants.{Known, Undefined}
+use Rattle.spatial_expr_utils.specs.declared.sides.Sides.the-variants.{NoColumns, AllOn, Mixed}
+use Rattle.spatial_expr_utils.specs.declared.distance.DistanceSide.{DistanceSide}
+use Rattle.spatial_expr_utils.specs.declared.distance.DistanceSide.the-variants.{Known, Undefined}
 use Rattle.spatial_expr_utils.specs.declared.sides.Argument.{Argument}
 use Rattle.spatial_expr_utils.specs.declared.sides.Geometries.{Geometries}
 use Rattle.spatial_expr_utils.specs.declared.sides.Order.{Order}
@@ -28,10 +26,17 @@ sideFor left = Left
 sideFor right = Right
 sideFor noSide = None
 
--- The side of an argument, if its columns have one.
-abbrev pub commonSide : CommonSide → Option Side
-commonSide (Known side) = some (joinSide side)
-commonSide Undefined = none
+-- The side of the columns seen.
+abbrev pub argumentSide : Sides → ArgumentSide
+argumentSide NoColumns = noColumns
+argumentSide (AllOn side) = allOn (joinSide side)
+argumentSide Mixed = mixed
+
+-- The side of a distance: none without columns, undefined if they differ.
+abbrev pub distanceSide : Sides → DistanceSide
+distanceSide NoColumns = Known None
+distanceSide (AllOn side) = Known side
+distanceSide Mixed = Undefined
 
 -- How two geometries lie.
 abbrev pub order : Order → definition.Order
@@ -39,17 +44,11 @@ order LeftRight = definition.leftRight
 order RightLeft = definition.rightLeft
 order Neither = definition.noOrder
 
--- The side of all columns seen; no column is side none, columns that differ have no side.
-abbrev pub sidesAre : Sides → Option Side
-sidesAre Unseen = some noSide
-sidesAre (All side) = some (joinSide side)
-sidesAre Differ = none
-
 -- One column more, and a list of them.
 abbrev pub see : Sides → Side → Sides
-see Unseen x = All (sideFor x)
-see (All side) x = if sameSide (joinSide side) x then All side else Differ
-see Differ x = Differ
+see NoColumns x = AllOn (sideFor x)
+see (AllOn side) x = if sameSide (joinSide side) x then AllOn side else Mixed
+see Mixed x = Mixed
 
 unfoldable pub seeAll : Sides → List Side → Sides
 seeAll seen [] = seen
@@ -60,18 +59,18 @@ abbrev pub sidesIn : List Record → List ℕ → List Side
 sidesIn records indexes = map (λ index. recordAt records index .side) indexes
 
 -- Where the walk of the expression at a place ended, and what it has seen.
-pub record SideIs (at : ℕ) (seen : Sides) (r : SideTo) (records : List Record) (t : Expr) : Type 0 where
-  pub next : r .next ≡ at + length (exprBytes t)
-  pub sides : r .sides ≡ seeAll seen (sidesIn records (columnsOf t))
+pub record SideIs (at : ℕ) (seen : Sides) (r : Argument) (records : List Record) (t : Expr) : Type 0 where
+  pub end : r .end ≡ at + length (exprBytes t)
+  pub side : r .side ≡ seeAll seen (sidesIn records (columnsOf t))
 
-pub record SidesAre (at : ℕ) (seen : Sides) (r : SideTo) (records : List Record) (ts : Exprs) : Type 0 where
-  pub next : r .next ≡ at + length (exprsBytes ts)
-  pub sides : r .sides ≡ seeAll seen (sidesIn records (columnsOfAll ts))
+pub record SidesAre (at : ℕ) (seen : Sides) (r : Argument) (records : List Record) (ts : Exprs) : Type 0 where
+  pub end : r .end ≡ at + length (exprsBytes ts)
+  pub side : r .side ≡ seeAll seen (sidesIn records (columnsOfAll ts))
 
 -- Where an argument ends, and its side.
 pub record ArgumentIs (at : ℕ) (r : Argument) (records : List Record) (t : Expr) : Type 0 where
   pub end : r .end ≡ at + length (exprBytes t)
-  pub side : commonSide (r .side) ≡ sideOf records t
+  pub side : argumentSide (r .side) ≡ sideOf records t
 
 -- Where the second of two geometries begins, where it ends, and how the two lie.
 pub record GeometriesAre (at : ℕ) (r : Geometries) (records : List Record) (a b : Expr) : Type 0 where

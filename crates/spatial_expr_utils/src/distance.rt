@@ -1,16 +1,36 @@
 // Distance predicates.
+ghost use mathlib.Core.Path.{_≡_};
 ghost use Rattle.spatial_expr_utils.specs.Frames.{Framed, OfFrame};
 ghost use Rattle.spatial_expr_utils.specs.Matches.{isDistance, LeafMatching};
+ghost use Rattle.spatial_expr_utils.specs.Sides.{distanceSide};
 use super::predicates::DistancePredicate;
 use super::predicates::Matching;
 use super::predicates::SpatialPredicate;
-use super::sides::CommonSide;
 use super::sides::Order;
+use super::sides::Sides;
 use super::sides::resolve_column_reference_sides;
 use super::sides::side_of_column_references;
 use expression::ends::end_node;
+use frame::records::JoinSide;
 use sedona_expr::utils::Parsed;
 use sedona_expr::utils::parse_distance_predicate;
+
+// The side of a distance; undefined if its columns differ.
+pub enum DistanceSide {
+    Known(JoinSide),
+    Undefined,
+}
+
+// Without columns it is none.
+fn side_of_distance(of: Sides) -> DistanceSide
+    ensures { λ r. ⌜ r ≡ distanceSide of ⌝ }
+{
+    match of {
+        Sides::NoColumns => DistanceSide::Known(JoinSide::None),
+        Sides::AllOn(side) => DistanceSide::Known(side),
+        Sides::Mixed => DistanceSide::Undefined,
+    }
+}
 
 // The left geometry is stored first; the distance needs a defined side.
 pub fn match_distance_predicate(s: &[u8], rec: usize, at: usize) -> Matching
@@ -24,8 +44,8 @@ pub fn match_distance_predicate(s: &[u8], rec: usize, at: usize) -> Matching
     let distance = side_of_column_references(s, rec, parsed.arg_distance);
     let arg0 = side_of_column_references(s, rec, parsed.arg0);
     let arg1 = side_of_column_references(s, rec, parsed.arg1);
-    let side = distance.side;
-    let CommonSide::Known(distance_side) = side else {
+    let columns = distance.side;
+    let DistanceSide::Known(distance_side) = side_of_distance(columns) else {
         return Matching::Unmatched(end);
     };
     let mut predicate = DistancePredicate {

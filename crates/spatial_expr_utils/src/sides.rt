@@ -6,36 +6,24 @@ ghost use Rattle.definitions.specs.Decode.{sideNumbered};
 ghost use Rattle.definitions.specs.Match.{sameSide, isSide, orderOf};
 ghost use Rattle.frame.specs.Fields.{joinSide};
 ghost use Rattle.spatial_expr_utils.specs.Frames.{Framed, OfFrame, FramedAll, OfFrameAll, FramedTwo, OfFrameTwo};
-ghost use Rattle.spatial_expr_utils.specs.Sides.{commonSide, order, see, SideIs, SidesAre, ArgumentIs, GeometriesAre};
+ghost use Rattle.spatial_expr_utils.specs.Sides.{argumentSide, order, see, SideIs, SidesAre, ArgumentIs, GeometriesAre};
 use expression::fields::short_at;
 use expression::heads::head_at;
 use frame::records::JoinSide;
 use frame::records::side_number;
 use frame::records::side_numbered;
 
-// What the columns seen so far have in common.
+// The columns seen so far: none, all on one side, or not.
 pub enum Sides {
-    Unseen,
-    All(JoinSide),
-    Differ,
+    NoColumns,
+    AllOn(JoinSide),
+    Mixed,
 }
 
-// Where a walk ended, and what it has seen.
-pub struct SideTo {
-    pub next: usize,
-    pub sides: Sides,
-}
-
-// The side of all columns of an argument, undefined if they differ.
-pub enum CommonSide {
-    Known(JoinSide),
-    Undefined,
-}
-
-// Where an argument ends, and its side.
+// Where the walk of an argument ended, and the columns that it saw.
 pub struct Argument {
     pub end: usize,
-    pub side: CommonSide,
+    pub side: Sides,
 }
 
 // How two geometries lie: the first left and the second right, the other way round, or neither.
@@ -71,20 +59,20 @@ fn see_side(seen: Sides, side: JoinSide) -> Sides
     ensures { λ r. ⌜ r ≡ see seen (joinSide side) ⌝ }
 {
     match seen {
-        Sides::Unseen => Sides::All(side),
-        Sides::All(one) => {
+        Sides::NoColumns => Sides::AllOn(side),
+        Sides::AllOn(one) => {
             if same_side(one, side) {
-                Sides::All(one)
+                Sides::AllOn(one)
             } else {
-                Sides::Differ
+                Sides::Mixed
             }
         }
-        Sides::Differ => Sides::Differ,
+        Sides::Mixed => Sides::Mixed,
     }
 }
 
 // The columns of one expression, after those seen before it.
-fn collect_column_references(s: &[u8], rec: usize, at: usize, seen: Sides) -> SideTo
+fn collect_column_references(s: &[u8], rec: usize, at: usize, seen: Sides) -> Argument
     requires { ⌜ Framed (now s) rec at ⌝ }
     ensures { λ r. ⌜ OfFrame (now (s .entry)) rec at (SideIs at seen r) ⌝ }
 {
@@ -92,9 +80,9 @@ fn collect_column_references(s: &[u8], rec: usize, at: usize, seen: Sides) -> Si
         let index = short_at(s, at + 1);
         let side = side_at(s, rec + 5 * index);
         let sides = see_side(seen, side);
-        return SideTo {
-            next: at + 5,
-            sides,
+        return Argument {
+            end: at + 5,
+            side: sides,
         };
     }
     let head = head_at(s, at);
@@ -104,19 +92,19 @@ fn collect_column_references(s: &[u8], rec: usize, at: usize, seen: Sides) -> Si
 }
 
 // The columns of n expressions in a row.
-fn collect_children(s: &[u8], rec: usize, at: usize, n: usize, seen: Sides) -> SideTo
+fn collect_children(s: &[u8], rec: usize, at: usize, n: usize, seen: Sides) -> Argument
     requires { ⌜ FramedAll (now s) rec at n ⌝ }
     ensures { λ r. ⌜ OfFrameAll (now (s .entry)) rec at n (SidesAre at seen r) ⌝ }
 {
     if n == 0 {
-        return SideTo {
-            next: at,
-            sides: seen,
+        return Argument {
+            end: at,
+            side: seen,
         };
     }
     let first = collect_column_references(s, rec, at, seen);
-    let next = first.next;
-    let sides = first.sides;
+    let next = first.end;
+    let sides = first.side;
     collect_children(s, rec, next, n - 1, sides)
 }
 
@@ -125,37 +113,22 @@ pub fn side_of_column_references(s: &[u8], rec: usize, at: usize) -> Argument
     requires { ⌜ Framed (now s) rec at ⌝ }
     ensures { λ r. ⌜ OfFrame (now (s .entry)) rec at (ArgumentIs at r) ⌝ }
 {
-    let all = collect_column_references(s, rec, at, Sides::Unseen);
-    let end = all.next;
-    let sides = all.sides;
-    match sides {
-        Sides::Unseen => Argument {
-            end,
-            side: CommonSide::Known(JoinSide::None),
-        },
-        Sides::All(side) => Argument {
-            end,
-            side: CommonSide::Known(side),
-        },
-        Sides::Differ => Argument {
-            end,
-            side: CommonSide::Undefined,
-        },
-    }
+    collect_column_references(s, rec, at, Sides::NoColumns)
 }
 
-// Whether a side is defined and this one.
-fn is_side(side: JoinSide, of: CommonSide) -> bool
-    ensures { λ r. ⌜ r ≡ isSide (joinSide side) (commonSide of) ⌝ }
+// Whether there are columns, all on this side.
+fn is_side(side: JoinSide, of: Sides) -> bool
+    ensures { λ r. ⌜ r ≡ isSide (joinSide side) (argumentSide of) ⌝ }
 {
     match of {
-        CommonSide::Known(known) => same_side(side, known),
-        CommonSide::Undefined => false,
+        Sides::NoColumns => false,
+        Sides::AllOn(one) => same_side(side, one),
+        Sides::Mixed => false,
     }
 }
 
 pub fn resolve_column_reference_sides(first: Argument, second: Argument) -> Order
-    ensures { λ r. ⌜ order r ≡ orderOf (commonSide (first .side)) (commonSide (second .side)) ⌝ }
+    ensures { λ r. ⌜ order r ≡ orderOf (argumentSide (first .side)) (argumentSide (second .side)) ⌝ }
 {
     let a = first.side;
     let b = second.side;

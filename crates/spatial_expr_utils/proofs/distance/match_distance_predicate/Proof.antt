@@ -56,27 +56,30 @@ walked c =
     }
 
 returns-2 : tie.Need-returns-2
-returns-2 c = λ records t over. distance-undefined (walked (c .before .before)) over (c .enum-told2 .given .1)
+returns-2 c = λ records t over. distance-undefined (walked (c .before .before .before)) over _ (c .before .before .side-of-distance .ensures) (c .enum-told2 .given .1)
 
 returns-3 : tie.Need-returns-3
 returns-3 c =
     let at-resolve-column-reference-sides = c .before .before in
-    let at-side = at-resolve-column-reference-sides .before .before in
-    λ records t over. distance-neither (walked (c .before .before .before .before .before .before)) over _ (at-side .side .given .1) _
+    let at-distance-side = at-resolve-column-reference-sides .before .before in
+    λ records t over. distance-neither (walked (at-distance-side .before .before .before)) over _
+    (at-distance-side .before .before .side-of-distance .ensures) _ (at-distance-side .distance-side .given .1) _
     (at-resolve-column-reference-sides .resolve-column-reference-sides .ensures) (c .enum-told5 .given .1)
 
 returns-4 : tie.Need-returns-4
 returns-4 c =
     let at-resolve-column-reference-sides = c .before .before in
-    let at-side = at-resolve-column-reference-sides .before .before in
-    λ records t over. distance-left (walked (c .before .before .before .before .before .before)) over _ (at-side .side .given .1) _
+    let at-distance-side = at-resolve-column-reference-sides .before .before in
+    λ records t over. distance-left (walked (at-distance-side .before .before .before)) over _
+    (at-distance-side .before .before .side-of-distance .ensures) _ (at-distance-side .distance-side .given .1) _
     (at-resolve-column-reference-sides .resolve-column-reference-sides .ensures) (c .enum-told3 .given .1)
 
 returns-5 : tie.Need-returns-5
 returns-5 c =
     let at-resolve-column-reference-sides = c .before .before in
-    let at-side = at-resolve-column-reference-sides .before .before in
-    λ records t over. distance-right (walked (c .before .before .before .before .before .before)) over _ (at-side .side .given .1) _
+    let at-distance-side = at-resolve-column-reference-sides .before .before in
+    λ records t over. distance-right (walked (at-distance-side .before .before .before)) over _
+    (at-distance-side .before .before .side-of-distance .ensures) _ (at-distance-side .distance-side .given .1) _
     (at-resolve-column-reference-sides .resolve-column-reference-sides .ensures) (c .enum-told4 .given .1)
 
 pub match-distance-predicate-spec : {M : Type 1} → statement M
@@ -91,6 +94,7 @@ match-distance-predicate-spec =
     side-of-column-references-requires
     side-of-column-references-requires-2
     side-of-column-references-requires-3
+    (λ c κs. search needs)
     (λ c. search needs)
     (λ c. search needs)
     returns-2

@@ -80,10 +80,10 @@ collect-children-collect-children-requires t c κs =
         arith,
         start .pre .0,
         node-some (first .2 .tree),
-        after-node (first .2 .tree) (c .collect-column-references .result .next)
-            (c .collect-column-references .ensures (first .0) (first .1) (first .2) .next),
+        after-node (first .2 .tree) (c .collect-column-references .result .end)
+            (c .collect-column-references .ensures (first .0) (first .1) (first .2) .end),
       ),
-      rest-framed (start .pre .1) some (c .collect-column-references .result .next) (λ records t o. c .collect-column-references .ensures records t o .next),
+      rest-framed (start .pre .1) some (c .collect-column-references .result .end) (λ records t o. c .collect-column-references .ensures records t o .end),
     )
 
 collect-children-returns-2 : (t : ℕ) → collect-children-lts.Need-returns-2 (collect-children-calls t) (collect-children-at t) collect-children.Post

@@ -4,7 +4,7 @@ use mathlib.Core.Bool.{false, _&&_}
 use mathlib.Core.Logic.{⊎-elim}
 use Rattle.definitions.specs.Expression.{left, right}
 use Rattle.definitions.specs.Match.{isSide}
-use Rattle.spatial_expr_utils.specs.Sides.{commonSide}
+use Rattle.spatial_expr_utils.specs.Sides.{argumentSide}
 use Rattle.spatial_expr_utils.proofs.SideLaws.{order-left, order-right, order-none, not-first, not-second}
 use borrow.Author.Needs.{needs}
 use Rattle.spatial_expr_utils.proofs.sides.resolve_column_reference_sides.Statement.{
@@ -20,10 +20,10 @@ returns c =
 
 -- After the first test: the geometries are not left and right.
 left-fails : (c : tie.Joined1)
-    → (isSide left (commonSide (c .before .before .args .first .side)) && isSide right (commonSide (c .before .before .args .second .side))) ≡ false
+    → (isSide left (argumentSide (c .before .before .args .first .side)) && isSide right (argumentSide (c .before .before .args .second .side))) ≡ false
 left-fails c =
     let start = c .before .before in
-    ⊎-elim (λ w. not-second (isSide left (commonSide (start .args .first .side))) _ (sym (w .1 .ensures) ∙ w .2 .left))
+    ⊎-elim (λ w. not-second (isSide left (argumentSide (start .args .first .side))) _ (sym (w .1 .ensures) ∙ w .2 .left))
     (λ w. not-first _ _ (sym (c .before .is-side .ensures) ∙ w .left)) (c .if1 .came)
 
 returns-2 : tie.Need-returns-2
@@ -37,7 +37,7 @@ returns-3 : tie.Need-returns-3
 returns-3 c =
     let start = c .before .before .before .before in
     order-none _ _ (left-fails (c .before .before))
-    (⊎-elim (λ w. not-second (isSide right (commonSide (start .args .first .side))) _ (sym (w .1 .ensures) ∙ w .2 .left))
+    (⊎-elim (λ w. not-second (isSide right (argumentSide (start .args .first .side))) _ (sym (w .1 .ensures) ∙ w .2 .left))
     (λ w. not-first _ _ (sym (c .before .is-side3 .ensures) ∙ w .left)) (c .if3 .came))
 
 pub resolve-column-reference-sides-spec : {M : Type 1} → statement M
