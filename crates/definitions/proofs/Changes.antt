@@ -14,7 +14,7 @@ use Rattle.definitions.specs.Expression.{Frame, Extraction, Plan, empty,
 use Rattle.definitions.specs.Encode.{frameBytes, planBytes}
 use Rattle.definitions.specs.Plans.{frameOf, planOf}
 use Rattle.definitions.specs.Extract.{extraction}
-use Rattle.definitions.specs.Calls.{writtenOver, loadBytes, loaded, load, finish, heldPlan, exchangeBytes, exchange, extractedBytes, extractBytes, extract}
+use Rattle.definitions.specs.Calls.{writtenOver, newAfterLoad, finishLoad, load, finish, heldPlan, newAfterExchange, exchange, matchedBytes, newAfterExtract, extract}
 use Rattle.definitions.specs.Machine.{Kind, extractCall, exchangeCall}
 use Rattle.definitions.specs.Limits.{AllBytes, GoodPlan}
 use Rattle.definitions.specs.Sessions.{make, accepted}
@@ -26,9 +26,9 @@ use Rattle.definitions.proofs.Lengths.{bytes-up-to}
 
 -- ---- a refusal
 
-loaded-keeps : (n : ℕ) (buffer : List ℕ) (x : Result (List ℕ)) → accepted (loaded n buffer x .answer) ≡ false
-    → (loaded n buffer x .n ≡ n) × (loaded n buffer x .buffer ≡ buffer)
-unfolding loaded accepted
+loaded-keeps : (n : ℕ) (buffer : List ℕ) (x : Result (List ℕ)) → accepted (finishLoad n buffer x .answer) ≡ false
+    → (finishLoad n buffer x .n ≡ n) × (finishLoad n buffer x .buffer ≡ buffer)
+unfolding finishLoad accepted
 loaded-keeps n buffer (ok bytes) a = absurd (false≢true (sym a))
 loaded-keeps n buffer (refused number) a = (refl, refl)
 
@@ -64,9 +64,9 @@ over-first bytes buffer = take-append-seam bytes (drop (length bytes) buffer)
 -- ---- load
 
 loaded-wrote : (frame : List ℕ) (n : ℕ) (buffer : List ℕ) (b : Bool) → leb (length frame) (length buffer) ≡ b
-    → accepted (loaded n buffer (if b then ok frame else refused 9) .answer) ≡ true
-    → LoadWrote frame buffer (loaded n buffer (if b then ok frame else refused 9))
-unfolding loaded accepted
+    → accepted (finishLoad n buffer (if b then ok frame else refused 9) .answer) ≡ true
+    → LoadWrote frame buffer (finishLoad n buffer (if b then ok frame else refused 9))
+unfolding finishLoad accepted
 loaded-wrote frame n buffer true e a = record {
   answer = refl;
   size = refl;
@@ -75,11 +75,11 @@ loaded-wrote frame n buffer true e a = record {
 }
 loaded-wrote frame n buffer false e a = absurd (false≢true a)
 
-load-wrote : (frame : List ℕ) (n : ℕ) (buffer : List ℕ) (r : Result Frame) → accepted (loaded n buffer (loadBytes frame (length buffer) r) .answer) ≡ true
-    → LoadWrote frame buffer (loaded n buffer (loadBytes frame (length buffer) r))
-unfolding loadBytes
+load-wrote : (frame : List ℕ) (n : ℕ) (buffer : List ℕ) (r : Result Frame) → accepted (finishLoad n buffer (newAfterLoad frame (length buffer) r) .answer) ≡ true
+    → LoadWrote frame buffer (finishLoad n buffer (newAfterLoad frame (length buffer) r))
+unfolding newAfterLoad
 load-wrote frame n buffer (ok F) a = loaded-wrote frame n buffer (leb (length frame) (length buffer)) refl a
-load-wrote frame n buffer (refused number) a = unfold loaded accepted in absurd (false≢true a)
+load-wrote frame n buffer (refused number) a = unfold finishLoad accepted in absurd (false≢true a)
 
 -- ---- extract and exchange
 
@@ -108,21 +108,21 @@ module _ (n : ℕ) (buffer scratch : List ℕ) where
 
   module _ (fits : n ≤ length buffer) where
     -- An exchanged plan is as long as the plan, an extraction no longer.
-    exchange-fit : (p : Plan) → planBytes p ≡ take n buffer → Fit (exchangeBytes n (length scratch) (ok p))
-    unfolding exchangeBytes
+    exchange-fit : (p : Plan) → planBytes p ≡ take n buffer → Fit (newAfterExchange n (length scratch) (ok p))
+    unfolding newAfterExchange
     exchange-fit empty e = tt
     exchange-fit (held F) e =
         if-fit (leb n (length scratch)) _ refl (λ room. (omega (arith, plan-as-long (held F), ap length e, length-take-le n buffer fits), room, fits))
     exchange-fit (extracted X) e =
         if-fit (leb n (length scratch)) _ refl (λ room. (omega (arith, plan-as-long (extracted X), ap length e, length-take-le n buffer fits), room, fits))
 
-    taken-fit : (F : Frame) (x : Option Extraction) → GoodExtraction F x → frameBytes F ≡ take n buffer → n ≤ length scratch → Fit (extractedBytes x)
-    unfolding extractedBytes planBytes
+    taken-fit : (F : Frame) (x : Option Extraction) → GoodExtraction F x → frameBytes F ≡ take n buffer → n ≤ length scratch → Fit (matchedBytes x)
+    unfolding matchedBytes planBytes
     taken-fit F none g e room = tt
     taken-fit F (some X) g e room = (omega (arith, g .1, ap length e, length-take-le n buffer fits), room, fits)
 
-    extract-fit : (p : Plan) → GoodPlan p → planBytes p ≡ take n buffer → Fit (extractBytes n (length scratch) (ok p))
-    unfolding extractBytes planBytes
+    extract-fit : (p : Plan) → GoodPlan p → planBytes p ≡ take n buffer → Fit (newAfterExtract n (length scratch) (ok p))
+    unfolding newAfterExtract planBytes
     extract-fit empty g e = tt
     extract-fit (held F) g e = if-fit (leb n (length scratch)) _ refl (λ room. taken-fit F (extraction F) (extraction-good F g) e room)
     extract-fit (extracted X) g e = tt
@@ -144,9 +144,9 @@ module _ (n : ℕ) (buffer scratch : List ℕ) where
   make-wrote : (kind : Kind) → AllBytes buffer → accepted (make kind n buffer scratch .answer) ≡ true → CallWrote n buffer scratch (make kind n buffer scratch)
   unfolding make extract exchange
   make-wrote extractCall bytes a =
-      finish-wrote _ (held-fit (extractBytes n (length scratch)) bytes (λ number. unfold extractBytes in tt) (λ fits p g e. extract-fit fits p g e)) a
+      finish-wrote _ (held-fit (newAfterExtract n (length scratch)) bytes (λ number. unfold newAfterExtract in tt) (λ fits p g e. extract-fit fits p g e)) a
   make-wrote exchangeCall bytes a =
-      finish-wrote _ (held-fit (exchangeBytes n (length scratch)) bytes (λ number. unfold exchangeBytes in tt) (λ fits p g e. exchange-fit fits p e)) a
+      finish-wrote _ (held-fit (newAfterExchange n (length scratch)) bytes (λ number. unfold newAfterExchange in tt) (λ fits p g e. exchange-fit fits p e)) a
 
 pub accepted-write : AcceptedWrites
 unfolding load

@@ -1,5 +1,6 @@
 -- Names to unfold definitions by, for theorems that hold by computation: one for each file of definitions, and one for all.
 use Prim.Native.Nat.{ℕ}
+use mathlib.Core.Bool as Bool
 use Rattle.definitions.specs.Basics as Basics
 use Rattle.definitions.specs.Expression as Expression
 use Rattle.definitions.specs.Literals as Literals
@@ -23,7 +24,7 @@ unfolding Basics.ascii Basics.sameName Basics.bigEndian Basics.any Basics.all Ba
 basics = 0
 
 unfoldable pub expression : ℕ
-unfolding Expression.count
+unfolding Expression.relations Expression.count
 expression = 0
 
 unfoldable pub literals : ℕ
@@ -31,19 +32,19 @@ unfolding Literals.signed Literals.isInt32 Literals.literalInRange Literals.u32 
 literals = 0
 
 unfoldable pub encode : ℕ
-unfolding Encode.sideNumber Encode.relationNumber Encode.exprBytes Encode.recordBytes Encode.recordsBytes Encode.frameBytes Encode.predicateKind Encode.predicateFields Encode.remainderBytes Encode.extractionBytes Encode.planBytes
+unfolding Bool.decide Encode.sideNumber Encode.positionIn Encode.relationNumber Encode.exprBytes Encode.recordBytes Encode.recordsBytes Encode.frameBytes Encode.predicateKind Encode.predicateFields Encode.remainderBytes Encode.extractionBytes Encode.planBytes
 encode = 0
 
 unfoldable pub leaves : ℕ
-unfolding Leaves.leaves Leaves.relationNamed Leaves.comparison Leaves.distanceArguments Leaves.relationArity Leaves.callArity Leaves.distanceArity Leaves.comparisonArity Leaves.leafArity Leaves.arity
+unfolding Leaves.leaves Leaves.typeNamed Leaves.relationNamed Leaves.comparison Leaves.distanceArguments Leaves.relationArity Leaves.callArity Leaves.distanceArity Leaves.comparisonArity Leaves.leafArity Leaves.arity
 leaves = 0
 
 unfoldable pub readers : ℕ
-unfolding Readers.byteUpTo Readers.byteBetween Readers.numberAfter Readers.number Readers.repeat Readers.frameLength Readers.noneLeft Readers.atEnd Readers.answer
+unfolding Readers.byteUpTo Readers.byteBetween Readers.numberAfter Readers.number Readers.repeat Readers.requireLength Readers.noneLeft Readers.atEnd Readers.resultOf
 readers = 0
 
 unfoldable pub decode : ℕ
-unfolding Decode.allowedKind Decode.columnNode Decode.fieldNode Decode.literalNode Decode.binaryExpr Decode.binaryNode Decode.exprs Decode.callNode Decode.otherNode Decode.anyColumn Decode.nodeOfKind Decode.nodeKind Decode.node Decode.expression Decode.sideNumbered Decode.sideUpTo Decode.oneRecord Decode.recordCount Decode.frameBody Decode.argument Decode.relationNumbered Decode.relationPredicate Decode.distancePredicate Decode.knnPredicate Decode.predicateOfKind Decode.someRemainder Decode.remainderOfKind Decode.remainder Decode.extractionBody
+unfolding Decode.allowedKind Decode.columnNode Decode.fieldNode Decode.literalNode Decode.binaryExpr Decode.binaryNode Decode.repeatExprs Decode.callNode Decode.otherNode Decode.anyColumn Decode.nodeOfKind Decode.nodeKind Decode.node Decode.expression Decode.sideNumbered Decode.sideUpTo Decode.oneRecord Decode.recordCount Decode.frameBody Decode.argument Decode.relationNumbered Decode.relationPredicate Decode.distancePredicate Decode.knnPredicate Decode.predicateOfKind Decode.someRemainder Decode.remainderOfKind Decode.remainder Decode.extractionBody
 decode = 0
 
 unfoldable pub plans : ℕ
@@ -63,7 +64,7 @@ unfolding Exchange.negate Exchange.exchangeRecord Exchange.exchangeFrame Exchang
 exchange = 0
 
 unfoldable pub calls : ℕ
-unfolding Calls.writtenOver Calls.loadBytes Calls.loaded Calls.load Calls.finish Calls.heldPlan Calls.exchangeBytes Calls.exchange Calls.extractedBytes Calls.extractBytes Calls.extract
+unfolding Calls.writtenOver Calls.newAfterLoad Calls.finishLoad Calls.load Calls.finish Calls.heldPlan Calls.newAfterExchange Calls.exchange Calls.matchedBytes Calls.newAfterExtract Calls.extract
 calls = 0
 
 unfoldable pub machine : ℕ
@@ -83,7 +84,7 @@ unfolding Logical.lowerCase Logical.spatialNames Logical.functionName Logical.co
 logical = 0
 
 unfoldable pub program : ℕ
-unfolding Program.digitValue Program.pairBytes Program.digitBytes Program.orRefused Program.lineBytes Program.digit Program.digits Program.refusedLine Program.loadLine Program.logicalLine Program.callLine Program.lineOf Program.readLine Program.lineOutcome Program.written Program.intoFirst Program.linesOf Program.outputFrom Program.freshPlan Program.output
+unfolding Program.digitValue Program.pairBytes Program.digitBytes Program.orRefused Program.lineBytes Program.digit Program.digits Program.refusedLine Program.loadLine Program.logicalLine Program.callLine Program.lineOf Program.readLine Program.lineOutcome Program.writtenLine Program.intoFirst Program.linesOf Program.outputFrom Program.freshPlan Program.output
 program = 0
 
 unfoldable pub everything : ℕ

@@ -14,7 +14,7 @@ use Rattle.definitions.specs.Expression.{Expr, column, literal, call, ot
 use Rattle.definitions.specs.Literals.{literalInRange}
 use Rattle.definitions.specs.Encode.{exprBytes, exprsBytes}
 use Rattle.definitions.specs.Readers.{read, stopped, Reader, give, firstByte, byteUpTo, byteBetween, numberAfter, number, repeat}
-use Rattle.definitions.specs.Decode.{exprs, Columns, indexBelow, fields, allowedKind, columnNode, fieldNode, literalNode, binaryExpr, binaryNode, callNode, otherNode, anyColumn, nodeOfKind, countNode, nodeKind, node}
+use Rattle.definitions.specs.Decode.{repeatExprs, Columns, indexBelow, fields, allowedKind, columnNode, fieldNode, literalNode, binaryExpr, binaryNode, callNode, otherNode, anyColumn, nodeOfKind, countNode, nodeKind, node}
 use Rattle.definitions.specs.Limits.{AllBytes, nodes, depth, nodesAll, depthAll, InRange, InRangeAll, NameBytes}
 use Rattle.definitions.proofs.ReaderLaws.{stopped-not-read, step, test, same-read, given}
 use Rattle.definitions.proofs.Columns.{all-right}
@@ -95,15 +95,15 @@ pub join : (a b s t u : List ℕ) → s ≡ a ++ t → t ≡ b ++ u → s ≡ (a
 join a b s t u e f = e ∙ ap (λ (x : List ℕ). a ++ x) f ∙ sym (append-assoc a b u)
 
 exprs-back : (c : Columns) (levels : ℕ) (one : Reader Expr) → Sound c levels one → (k n m : ℕ) (s t : List ℕ) (es : Exprs) → AllBytes s → n ≤ 1024
-    → exprs k one n s ≡ read es m t → (count es ≡ k) × NodesBack c levels n m s t es
-unfolding exprs count exprBytes nodes depth
+    → repeatExprs k one n s ≡ read es m t → (count es ≡ k) × NodesBack c levels n m s t es
+unfolding repeatExprs count exprBytes nodes depth
 exprs-back c levels one sound zero n m s t es h k e =
     given (λ x m t. (count x ≡ 0) × NodesBack c levels n m s t x) nil es n m s t e
     (refl, record { bytes = refl; inRange = tt; shallow = omega arith; counted = omega arith; few = k })
 exprs-back c levels one sound (suc j) n m s t es h k e =
     step (one n s) _ e (λ x n₁ s₁ e₁ f₁.
     let first : NodeBack c levels n n₁ s s₁ x = sound n n₁ s s₁ x h k e₁ in
-    step (exprs j one n₁ s₁) _ f₁ (λ xs n₂ s₂ e₂ f₂.
+    step (repeatExprs j one n₁ s₁) _ f₁ (λ xs n₂ s₂ e₂ f₂.
     let rest : (count xs ≡ j) × NodesBack c levels n₁ n₂ s₁ s₂ xs =
     exprs-back c levels one sound j n₁ n₂ s₁ s₂ xs (after-bytes (exprBytes x) s₁ s (first .bytes) h) (first .few) e₂ in
     given (λ y m t. (count y ≡ suc j) × NodesBack c levels n m s t y) (cons x xs) es n₂ m s₂ t f₂ (
@@ -233,7 +233,7 @@ call-back c levels n m one sound s t e h k eq =
     let h₂ : AllBytes s₂ = after-bytes name s₂ s₁ (b .0) h₁ in
     step (byteUpTo 16 n₂ s₂) _ f₃ (λ k₁ n₃ s₃ e₃ f₄.
     let d : (s₂ ≡ k₁ ∷ s₃) × (k₁ ≤ 16) × (n₃ ≡ n₂) = byte-up-to-back 16 n₂ n₃ k₁ s₂ s₃ e₃ in
-    step (exprs k₁ one n₃ s₃) _ f₄ (λ es n₄ s₄ e₄ f₅.
+    step (repeatExprs k₁ one n₃ s₃) _ f₄ (λ es n₄ s₄ e₄ f₅.
     let z : (count es ≡ k₁) × NodesBack c levels n₃ n₄ s₃ s₄ es =
     exprs-back c levels one sound k₁ n₃ n₄ s₃ s₄ es (after-bytes (k₁ ∷ []) s₃ s₂ (d .0) h₂) (omega (arith, a .2, b .3, d .2)) e₄ in
     let sizes : (leb 1 size ≡ true) × (leb size 32 ≡ true) = and-both (leb 1 size) (leb size 32) (a .1) in
@@ -255,7 +255,7 @@ other-back c levels n m one sound s t e h k eq =
     let h₁ : AllBytes s₁ = after-bytes (bigEndian 2 tag) s₁ s (a .0) h in
     step (byteUpTo 16 n₁ s₁) _ f₁ (λ k₁ n₃ s₃ e₃ f₄.
     let d : (s₁ ≡ k₁ ∷ s₃) × (k₁ ≤ 16) × (n₃ ≡ n₁) = byte-up-to-back 16 n₁ n₃ k₁ s₁ s₃ e₃ in
-    step (exprs k₁ one n₃ s₃) _ f₄ (λ es n₄ s₄ e₄ f₅.
+    step (repeatExprs k₁ one n₃ s₃) _ f₄ (λ es n₄ s₄ e₄ f₅.
     let z : (count es ≡ k₁) × NodesBack c levels n₃ n₄ s₃ s₄ es =
     exprs-back c levels one sound k₁ n₃ n₄ s₃ s₄ es (after-bytes (k₁ ∷ []) s₃ s₁ (d .0) h₁) (omega (arith, a .2, d .2)) e₄ in
     given (λ x m t. FieldsBack c levels n m 4 s t x) (other tag es) e n₄ m s₄ t f₅ (record {

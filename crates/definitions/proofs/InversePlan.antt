@@ -2,17 +2,17 @@
 use Prim.Native.Nat.{ℕ, zero, suc, _+_, _^_, _≤_, _<_}
 use native.Mathlib.Omega.{arith}
 use mathlib.Core.Path.{_≡_, refl, sym, ap, ap₂, _∙_, subst}
-use mathlib.Core.Bool.{Bool, true, false, _&&_, false≢true}
+use mathlib.Core.Bool.{Bool, true, false, _&&_, false≢true, decide}
 use mathlib.Core.List.{List, [], _∷_, _++_, append-nil}
 use mathlib.Core.Option.{Option, none, some}
 use lib.ListN.{length}
 use lib.Dec.{leb, eqb, lit≤}
 use borrow.Author.Tests.{leb-true, eqb-true}
 use Rattle.definitions.specs.Basics.{if_then_else_, bigEndian, Result, ok, refused, mapResult}
-use Rattle.definitions.specs.Expression.{Side, left, right, noSide, Expr, Record, Frame, Predicate, relation, distance, knn, Extraction, Plan, empty, held, extracted}
-use Rattle.definitions.specs.Encode.{exprBytes, sideNumber, recordBytes, recordsBytes, relationNumber, frameBytes, predicateKind, predicateFields, remainderBytes, extractionBytes, planBytes}
+use Rattle.definitions.specs.Expression.{Side, left, right, noSide, relations, Expr, Record, Frame, Predicate, relation, distance, knn, Extraction, Plan, empty, held, extracted}
+use Rattle.definitions.specs.Encode.{exprBytes, sideNumber, recordBytes, recordsBytes, positionIn, relationNumber, frameBytes, predicateKind, predicateFields, remainderBytes, extractionBytes, planBytes}
 use Rattle.definitions.specs.Leaves.{arity}
-use Rattle.definitions.specs.Readers.{Read, read, stopped, Reader, continue, give, number, byteUpTo, repeat, firstByte, refuse, frameLength, noneLeft, atEnd, answer}
+use Rattle.definitions.specs.Readers.{Read, read, stopped, Reader, continue, give, number, byteUpTo, repeat, firstByte, refuse, requireLength, noneLeft, atEnd, resultOf}
 use Rattle.definitions.specs.Decode.{Columns, indexBelow, node, expression, sideNumbered, sideUpTo, oneRecord, recordCount, frameBody, relationNumbered, relationPredicate, distancePredicate, knnPredicate, predicateOfKind, someRemainder, remainderOfKind, remainder, extractionBody, argument}
 use Rattle.definitions.specs.Plans.{physicalFrame, wholeExtraction, frameOf, extractionOf, planOfKind, planOf}
 use Rattle.definitions.specs.Limits.{AllBytes, nodes, Short, Readable, RecordsInRange, OneOfTwo, ReadablePredicate, ReadableRemainder, predicateNodes, remainderNodes, planNodes, ReadablePlan, GoodPlan}
@@ -113,14 +113,14 @@ pub same-ok : {A : Type 0} (a b : A) → _≡_ {A = Result A} (ok a) (ok b) → 
 same-ok a b e = cc
 
 -- A frame that was read as a whole: its bytes are not too many, and none is left.
-answer-back : {A : Type 0} (r : Read A) (a : A) → answer r ≡ ok a → (m : ℕ) × (t : List ℕ) × (r ≡ read a m t)
-unfolding answer
+answer-back : {A : Type 0} (r : Read A) (a : A) → resultOf r ≡ ok a → (m : ℕ) × (t : List ℕ) × (r ≡ read a m t)
+unfolding resultOf
 answer-back (read b m t) a e = (m, t, ap (λ (x : _). read x m t) (same-ok b a e))
 answer-back (stopped k) a e = absurd (refused-not-ok k a e)
 
-opened : {A G : Type 0} (s : List ℕ) (next : Reader A) {a : A} {m : ℕ} {t : List ℕ} → continue (frameLength 0 s) (λ b. next) ≡ read a m t
+opened : {A G : Type 0} (s : List ℕ) (next : Reader A) {a : A} {m : ℕ} {t : List ℕ} → continue (requireLength 0 s) (λ b. next) ≡ read a m t
     → (length s ≤ 16384 → next 0 s ≡ read a m t → G) → G
-unfolding frameLength
+unfolding requireLength
 opened s next e go =
     test 1 (leb 1 (length s) && leb (length s) 16384) next 0 s e
     (λ fine f. go (leb-true (length s) 16384 (and-both (leb 1 (length s)) (leb (length s) 16384) fine .1)) f)
@@ -171,7 +171,7 @@ frame-back s F h e =
 -- ---- extractions
 
 relation-number : (n : ℕ) → n ≤ 8 → relationNumber (relationNumbered n) ≡ n
-unfolding relationNumber relationNumbered
+unfolding relationNumber relationNumbered positionIn relations decide
 relation-number zero h = refl
 relation-number (suc zero) h = refl
 relation-number (suc (suc zero)) h = refl

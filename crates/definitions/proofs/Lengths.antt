@@ -12,7 +12,7 @@ use Rattle.definitions.specs.Encode.{planBytes}
 use Rattle.definitions.specs.Plans.{frameOf, planOf}
 use Rattle.definitions.specs.Extract.{extraction}
 use Rattle.definitions.specs.Exchange.{exchangePlan}
-use Rattle.definitions.specs.Calls.{loadBytes, loaded, load, finish, heldPlan, exchangeBytes, exchange, extractedBytes, extractBytes, extract}
+use Rattle.definitions.specs.Calls.{newAfterLoad, finishLoad, load, finish, heldPlan, newAfterExchange, exchange, matchedBytes, newAfterExtract, extract}
 use Rattle.definitions.specs.Machine.{Kind, extractCall, exchangeCall}
 use Rattle.definitions.specs.Sessions.{make}
 use Rattle.definitions.specs.Limits.{AllBytes, GoodPlan}
@@ -32,15 +32,15 @@ if-short false x number h = tt
 
 -- ---- load
 
-load-short : (frame : List ℕ) (room : ℕ) (r : Result Frame) → AllBytes frame → frameOf frame ≡ r → Short (loadBytes frame room r)
-unfolding loadBytes planBytes
+load-short : (frame : List ℕ) (room : ℕ) (r : Result Frame) → AllBytes frame → frameOf frame ≡ r → Short (newAfterLoad frame room r)
+unfolding newAfterLoad planBytes
 load-short frame room (ok F) bytes e =
     let back = frame-back frame F bytes e in
     if-short (leb (length frame) room) (ok frame) 9 (subst (λ (s : List ℕ). length s ≤ 16384) (sym (back .0)) (back .1 .fewBytes))
 load-short frame room (refused number) bytes e = tt
 
-loaded-short : (n : ℕ) (buffer : List ℕ) (x : Result (List ℕ)) {m : ℕ} → Short x → loaded n buffer x .answer ≡ ok m → m ≤ 16384
-unfolding loaded
+loaded-short : (n : ℕ) (buffer : List ℕ) (x : Result (List ℕ)) {m : ℕ} → Short x → finishLoad n buffer x .answer ≡ ok m → m ≤ 16384
+unfolding finishLoad
 loaded-short n buffer (ok bytes) h e = subst (λ k. k ≤ 16384) (same-ok _ _ e) h
 loaded-short n buffer (refused number) h e = absurd (refused-not-ok _ _ e)
 
@@ -73,20 +73,20 @@ held-good n buffer bytes = held-if (leb n (length buffer)) where
   held-if true = plan-good (take n buffer) (planOf (take n buffer)) (bytes-up-to n buffer bytes) refl
   held-if false = tt
 
-extracted-short : (F : Frame) (x : Option Extraction) → GoodExtraction F x → Short (extractedBytes x)
-unfolding extractedBytes
+extracted-short : (F : Frame) (x : Option Extraction) → GoodExtraction F x → Short (matchedBytes x)
+unfolding matchedBytes
 extracted-short F (some X) g = g .0 .fewBytes
 extracted-short F none g = tt
 
-extract-short : (n room : ℕ) (r : Result Plan) → Good r → Short (extractBytes n room r)
-unfolding extractBytes
+extract-short : (n room : ℕ) (r : Result Plan) → Good r → Short (newAfterExtract n room r)
+unfolding newAfterExtract
 extract-short n room (ok empty) g = tt
-extract-short n room (ok (held F)) g = if-short (leb n room) (extractedBytes (extraction F)) 9 (extracted-short F (extraction F) (extraction-good F g))
+extract-short n room (ok (held F)) g = if-short (leb n room) (matchedBytes (extraction F)) 9 (extracted-short F (extraction F) (extraction-good F g))
 extract-short n room (ok (extracted X)) g = tt
 extract-short n room (refused number) g = tt
 
-exchange-short : (n room : ℕ) (r : Result Plan) → Good r → Short (exchangeBytes n room r)
-unfolding exchangeBytes
+exchange-short : (n room : ℕ) (r : Result Plan) → Good r → Short (newAfterExchange n room r)
+unfolding newAfterExchange
 exchange-short n room (ok empty) g = tt
 exchange-short n room (ok (held F)) g = if-short (leb n room) (ok (planBytes (exchangePlan (held F)))) 9 (exchange-good (held F) g .fewBytes)
 exchange-short n room (ok (extracted X)) g = if-short (leb n room) (ok (planBytes (exchangePlan (extracted X)))) 9 (exchange-good (extracted X) g .fewBytes)

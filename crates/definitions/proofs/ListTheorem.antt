@@ -12,7 +12,7 @@ use Rattle.definitions.specs.Basics.{if_then_else_, Result, ok, refused}
 use Rattle.definitions.specs.Expression.{Frame}
 use Rattle.definitions.specs.Encode.{planBytes, frameBytes}
 use Rattle.definitions.specs.Plans.{frameOf}
-use Rattle.definitions.specs.Calls.{LoadOutcome, writtenOver, loadBytes, loaded, load}
+use Rattle.definitions.specs.Calls.{LoadOutcome, writtenOver, newAfterLoad, finishLoad, load}
 use Rattle.definitions.specs.Machine.{machinePlan, machineLength, fresh}
 use Rattle.definitions.specs.Limits.{AllBytes}
 use Rattle.definitions.specs.Sessions.{Made, machineAfter, accepted, Session, after}
@@ -26,17 +26,17 @@ module _ (frame : List ℕ) (n : ℕ) (buffer : List ℕ) where
   abbrev Taken : Result Frame → Type 0
   Taken r =
       (F : Frame) × (r ≡ ok F) × (length frame ≤ length buffer)
-      × (loaded n buffer (loadBytes frame (length buffer) r) ≡ loaded n buffer (ok frame))
+      × (finishLoad n buffer (newAfterLoad frame (length buffer) r) ≡ finishLoad n buffer (ok frame))
 
   room-taken : (F : Frame) (b : Bool) → leb (length frame) (length buffer) ≡ b
-      → accepted (loaded n buffer (if b then ok frame else refused 9) .answer) ≡ true → Taken (ok F)
-  unfolding loadBytes loaded accepted
+      → accepted (finishLoad n buffer (if b then ok frame else refused 9) .answer) ≡ true → Taken (ok F)
+  unfolding newAfterLoad finishLoad accepted
   room-taken F true e a =
-      (F, refl, leb-true (length frame) (length buffer) e, ap (λ (b : Bool). loaded n buffer (if b then ok frame else refused 9)) e)
+      (F, refl, leb-true (length frame) (length buffer) e, ap (λ (b : Bool). finishLoad n buffer (if b then ok frame else refused 9)) e)
   room-taken F false e a = absurd (false≢true a)
 
-  load-taken : (r : Result Frame) → accepted (loaded n buffer (loadBytes frame (length buffer) r) .answer) ≡ true → Taken r
-  unfolding loadBytes loaded accepted
+  load-taken : (r : Result Frame) → accepted (finishLoad n buffer (newAfterLoad frame (length buffer) r) .answer) ≡ true → Taken r
+  unfolding newAfterLoad finishLoad accepted
   load-taken (ok F) a = room-taken F (leb (length frame) (length buffer)) refl a
   load-taken (refused number) a = absurd (false≢true a)
 
@@ -48,8 +48,8 @@ module _ (frame : List ℕ) (n : ℕ) (buffer : List ℕ) where
 
 -- What it leaves is a session of the frame.
 frame-held : (frame : List ℕ) (n : ℕ) (buffer : List ℕ) (F : Frame) → AllBytes frame → frameOf frame ≡ ok F → length frame ≤ length buffer
-    → (s : Session F) × (s .n ≡ loaded n buffer (ok frame) .n) × (s .buffer ≡ loaded n buffer (ok frame) .buffer)
-unfolding loaded writtenOver
+    → (s : Session F) × (s .n ≡ finishLoad n buffer (ok frame) .n) × (s .buffer ≡ finishLoad n buffer (ok frame) .buffer)
+unfolding finishLoad writtenOver
 frame-held frame n buffer F bytes is fits =
     let back = frame-back frame F bytes is in (
       record {
@@ -64,11 +64,11 @@ frame-held frame n buffer F bytes is fits =
     )
 
 pub load-held : LoadHolds
-unfolding load loaded
+unfolding load finishLoad
 load-held frame n buffer bytes a =
     let t : Taken frame n buffer (frameOf frame) = taken-by frame n buffer a in
     let h = frame-held frame n buffer (t .0) bytes (t .1) (t .2) in
-    let same : loaded n buffer (ok frame) ≡ load frame n buffer = sym (t .3) in (
+    let same : finishLoad n buffer (ok frame) ≡ load frame n buffer = sym (t .3) in (
       t .0,
       t .1,
       ap (λ (o : LoadOutcome). o .answer) (t .3),
@@ -100,13 +100,13 @@ list-theorem F s calls =
 -- ---- when a load is accepted
 
 -- Whether the buffer has room decides, once the frame is read.
-room-decides : (frame : List ℕ) (n : ℕ) (buffer : List ℕ) (b : Bool) → accepted (loaded n buffer (if b then ok frame else refused 9) .answer) ≡ b
-unfolding accepted loaded
+room-decides : (frame : List ℕ) (n : ℕ) (buffer : List ℕ) (b : Bool) → accepted (finishLoad n buffer (if b then ok frame else refused 9) .answer) ≡ b
+unfolding accepted finishLoad
 room-decides frame n buffer true = refl
 room-decides frame n buffer false = refl
 
 pub load-accepts : LoadAccepted
-unfolding load loadBytes
+unfolding load newAfterLoad
 load-accepts F n buffer g =
-    ap (λ (r : Result Frame). accepted (loaded n buffer (loadBytes (frameBytes F) (length buffer) r) .answer)) (frame-reads F g)
+    ap (λ (r : Result Frame). accepted (finishLoad n buffer (newAfterLoad (frameBytes F) (length buffer) r) .answer)) (frame-reads F g)
     ∙ room-decides (frameBytes F) n buffer (leb (length (frameBytes F)) (length buffer))

@@ -15,7 +15,7 @@ use Rattle.definitions.specs.Encode.{planBytes}
 use Rattle.definitions.specs.Plans.{planOf}
 use Rattle.definitions.specs.Extract.{extraction}
 use Rattle.definitions.specs.Exchange.{exchangePlan, exchangeFrame, exchangeExtraction}
-use Rattle.definitions.specs.Calls.{Outcome, writtenOver, finish, heldPlan, exchangeBytes, exchange, extractedBytes, extractBytes, extract}
+use Rattle.definitions.specs.Calls.{Outcome, writtenOver, finish, heldPlan, newAfterExchange, exchange, matchedBytes, newAfterExtract, extract}
 use Rattle.definitions.specs.Machine.{Kind, extractCall, exchangeCall, Bits, extractionOr, machinePlan, machineLength, Step, refuseStep, acceptStep, takeStep, machineStep, Run, machineRun}
 use Rattle.definitions.specs.Sessions.{Made, fed, make, ListOutcome, callsRun}
 use Rattle.definitions.specs.Limits.{GoodPlan}
@@ -138,8 +138,8 @@ plan-not-empty F true false = base-not-empty F (extraction F)
 plan-not-empty F false true = exchange-not-empty _ tt
 plan-not-empty F false false = tt
 
-exchange-bytes : (n room : ℕ) (p : Plan) → NotEmpty p → exchangeBytes n room (ok p) ≡ (if leb n room then ok (planBytes (exchangePlan p)) else refused 9)
-unfolding exchangeBytes
+exchange-bytes : (n room : ℕ) (p : Plan) → NotEmpty p → newAfterExchange n room (ok p) ≡ (if leb n room then ok (planBytes (exchangePlan p)) else refused 9)
+unfolding newAfterExchange
 exchange-bytes n room empty h = absurd h
 exchange-bytes n room (held F) h = refl
 exchange-bytes n room (extracted X) h = refl
@@ -165,8 +165,8 @@ exchange-step F e o n buffer scratch g h =
 -- ---- extract
 
 -- An extracted plan is refused with 12.
-extract-again : (n room : ℕ) (X : Extraction) (o : Bool) → extractBytes n room (ok (if o then extracted (exchangeExtraction X) else extracted X)) ≡ refused 12
-unfolding extractBytes
+extract-again : (n room : ℕ) (X : Extraction) (o : Bool) → newAfterExtract n room (ok (if o then extracted (exchangeExtraction X) else extracted X)) ≡ refused 12
+unfolding newAfterExtract
 extract-again n room X true = refl
 extract-again n room X false = refl
 
@@ -174,10 +174,10 @@ swapped-extraction : (F : Frame) (o : Bool) → Option Extraction
 swapped-extraction F o = if o then Option·map exchangeExtraction (extraction F) else extraction F
 
 extract-held : (n room : ℕ) (F : Frame) (o : Bool)
-    → extractBytes n room (ok (if o then held (exchangeFrame F) else held F))
-    ≡ (if leb n room then extractedBytes (swapped-extraction F o) else refused 9)
-unfolding extractBytes swapped-extraction
-extract-held n room F true = ap (λ (x : Option Extraction). if leb n room then extractedBytes x else refused 9) (extraction-exchange F)
+    → newAfterExtract n room (ok (if o then held (exchangeFrame F) else held F))
+    ≡ (if leb n room then matchedBytes (swapped-extraction F o) else refused 9)
+unfolding newAfterExtract swapped-extraction
+extract-held n room F true = ap (λ (x : Option Extraction). if leb n room then matchedBytes x else refused 9) (extraction-exchange F)
 extract-held n room F false = refl
 
 held-length : (F : Frame) (o : Bool) → length (planBytes (machinePlan F (bits false o))) ≡ length (planBytes (held F))
@@ -188,8 +188,8 @@ held-length F false = refl
 -- With the extraction known.
 take-step : (F : Frame) (o : Bool) (n : ℕ) (buffer scratch : List ℕ) → GoodPlan (held F) → Holds F (bits false o) n buffer
     → (x : Option Extraction) → extraction F ≡ x → GoodExtraction F x
-    → Agrees F (takeStep F (bits false o) x) (finish n buffer scratch (extractedBytes (if o then Option·map exchangeExtraction x else x)))
-unfolding takeStep extractedBytes planBytes exchangePlan
+    → Agrees F (takeStep F (bits false o) x) (finish n buffer scratch (matchedBytes (if o then Option·map exchangeExtraction x else x)))
+unfolding takeStep matchedBytes planBytes exchangePlan
 take-step F true n buffer scratch g h none e k = refuses F (bits false true) n buffer scratch 13 h
 take-step F false n buffer scratch g h none e k = refuses F (bits false false) n buffer scratch 13 h
 take-step F true n buffer scratch g h (some X) e k =
@@ -200,9 +200,9 @@ take-step F false n buffer scratch g h (some X) e k =
     (omega (arith, k .1, plan-size F (bits false false) n buffer h, held-length F false, h .fits))
 
 extract-room : (F : Frame) (o : Bool) (n : ℕ) (buffer scratch : List ℕ) (t : Bool) → Holds F (bits false o) n buffer
-    → Agrees F (takeStep F (bits false o) (extraction F)) (finish n buffer scratch (extractedBytes (swapped-extraction F o)))
+    → Agrees F (takeStep F (bits false o) (extraction F)) (finish n buffer scratch (matchedBytes (swapped-extraction F o)))
     → Agrees F (if t then takeStep F (bits false o) (extraction F) else refuseStep (bits false o) 9)
-    (finish n buffer scratch (if t then extractedBytes (swapped-extraction F o) else refused 9))
+    (finish n buffer scratch (if t then matchedBytes (swapped-extraction F o) else refused 9))
 extract-room F o n buffer scratch true h a = a
 extract-room F o n buffer scratch false h a = refuses F (bits false o) n buffer scratch 9 h
 

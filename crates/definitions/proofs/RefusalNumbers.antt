@@ -11,10 +11,10 @@ use Rattle.definitions.specs.Expression.{Frame, Extraction, Plan, empty,
 use Rattle.definitions.specs.Literals.{literalInRange}
 use Rattle.definitions.specs.Leaves.{arity}
 use Rattle.definitions.specs.Extract.{extraction}
-use Rattle.definitions.specs.Readers.{Read, read, stopped, Reader, continue, require, firstByte, byteUpTo, byteBetween, numberAfter, number, repeat, frameLength, noneLeft, atEnd, answer}
-use Rattle.definitions.specs.Decode.{Columns, indexBelow, fields, allowedKind, columnNode, fieldNode, literalNode, binaryNode, exprs, callNode, otherNode, anyColumn, nodeOfKind, countNode, nodeKind, node, expression, sideUpTo, oneRecord, recordCount, frameBody}
+use Rattle.definitions.specs.Readers.{Read, read, stopped, Reader, continue, require, firstByte, byteUpTo, byteBetween, numberAfter, number, repeat, requireLength, noneLeft, atEnd, resultOf}
+use Rattle.definitions.specs.Decode.{Columns, indexBelow, fields, allowedKind, columnNode, fieldNode, literalNode, binaryNode, repeatExprs, callNode, otherNode, anyColumn, nodeOfKind, countNode, nodeKind, node, expression, sideUpTo, oneRecord, recordCount, frameBody}
 use Rattle.definitions.specs.Plans.{physicalFrame, logicalFrame, frameOf, logicalOf}
-use Rattle.definitions.specs.Calls.{loadBytes, loaded, load, finish, heldPlan, exchangeBytes, exchange, extractedBytes, extractBytes, extract}
+use Rattle.definitions.specs.Calls.{newAfterLoad, finishLoad, load, finish, heldPlan, newAfterExchange, exchange, matchedBytes, newAfterExtract, extract}
 use Rattle.definitions.specs.Logical.{logicalAnswer, logical}
 use Rattle.definitions.specs.Claims.{loadRefusals, extractRefusals, exchangeRefusals, logicalRefusals, RefusedBy, RefusalsOfCalls}
 use Rattle.definitions.proofs.Requests.{by-test}
@@ -99,11 +99,11 @@ module _ (P : ℕ → Type 0) where
         then-only (number 8 n s) _ (number-only 8 n s) (λ bytes n s.
         require-then 4 (literalInRange type bytes) _ p4 (λ n s. tt) n s))
 
-    exprs-only : (child : Reader _) → Only child → (times : ℕ) → Only (exprs times child)
-    unfolding exprs
-    exprs-only child h zero n s = tt
-    exprs-only child h (suc k) n s =
-        then-only (child n s) _ (h n s) (λ e n s. then-only (exprs k child n s) _ (exprs-only child h k n s) (λ es n s. tt))
+    repeat-exprs-only : (child : Reader _) → Only child → (times : ℕ) → Only (repeatExprs times child)
+    unfolding repeatExprs
+    repeat-exprs-only child h zero n s = tt
+    repeat-exprs-only child h (suc k) n s =
+        then-only (child n s) _ (h n s) (λ e n s. then-only (repeatExprs k child n s) _ (repeat-exprs-only child h k n s) (λ es n s. tt))
 
     binary-only : (child : Reader _) → Only child → Only (binaryNode child)
     unfolding binaryNode
@@ -117,14 +117,14 @@ module _ (P : ℕ → Type 0) where
         then-only (byteBetween 1 32 n s) _ (between-only 1 32 n s) (λ size n s.
         then-only (repeat size (byteBetween 33 126) n s) _ (repeat-only (byteBetween 33 126) (between-only 33 126) size n s) (λ name n s.
         then-only (byteUpTo 16 n s) _ (up-to-only 16 n s) (λ arguments n s.
-        then-only (exprs arguments child n s) _ (exprs-only child h arguments n s) (λ es n s. tt))))
+        then-only (repeatExprs arguments child n s) _ (repeat-exprs-only child h arguments n s) (λ es n s. tt))))
 
     other-only : (child : Reader _) → Only child → Only (otherNode child)
     unfolding otherNode
     other-only child h n s =
         then-only (number 2 n s) _ (number-only 2 n s) (λ tag n s.
         then-only (byteUpTo 16 n s) _ (up-to-only 16 n s) (λ children n s.
-        then-only (exprs children child n s) _ (exprs-only child h children n s) (λ es n s. tt)))
+        then-only (repeatExprs children child n s) _ (repeat-exprs-only child h children n s) (λ es n s. tt)))
 
     kind-only : (c : Columns) → ColumnsOnly c → (child : Reader _) → Only child → (kind : ℕ) → Only (nodeOfKind c child kind)
     unfolding nodeOfKind
@@ -173,8 +173,8 @@ module _ (P : ℕ → Type 0) where
         then-only (expression (indexBelow columns) n s) _ (expression-only (indexBelow columns) p6 n s) (λ expr n s. tt)))
 
     module _ (p1 : P 1) (p2 : P 2) (p7 : P 7) where
-      length-only : Only frameLength
-      unfolding frameLength
+      length-only : Only requireLength
+      unfolding requireLength
       length-only n s = require-only 1 (leb 1 (length s) && leb (length s) 16384) p1 n s
 
       end-only : Only atEnd
@@ -184,7 +184,7 @@ module _ (P : ℕ → Type 0) where
       physical-only : P 6 → P 8 → Only physicalFrame
       unfolding physicalFrame
       physical-only p6 p8 n s =
-          then-only (frameLength n s) _ (length-only n s) (λ _ n s.
+          then-only (requireLength n s) _ (length-only n s) (λ _ n s.
           then-only (firstByte n s) _ (byte-only n s) (λ first.
           require-then 2 (eqb first 1) _ p2 (λ n s.
           then-only (frameBody n s) _ (body-only p6 n s) (λ F n s.
@@ -194,7 +194,7 @@ module _ (P : ℕ → Type 0) where
       logical-only : Only logicalFrame
       unfolding logicalFrame
       logical-only n s =
-          then-only (frameLength n s) _ (length-only n s) (λ _ n s.
+          then-only (requireLength n s) _ (length-only n s) (λ _ n s.
           then-only (firstByte n s) _ (byte-only n s) (λ first.
           require-then 2 (eqb first 2) _ p2 (λ n s.
           then-only (expression fields n s) _ (expression-only fields tt n s) (λ e n s.
@@ -207,17 +207,17 @@ module _ (P : ℕ → Type 0) where
   Refuses (ok a) = Unit {0}
   Refuses (refused number) = P number
 
-  answer-only : {A : Type 0} (r : Read A) → Stops r → Refuses (answer r)
-  unfolding answer
-  answer-only (read a n s) h = tt
-  answer-only (stopped number) h = h
+  result-only : {A : Type 0} (r : Read A) → Stops r → Refuses (resultOf r)
+  unfolding resultOf
+  result-only (read a n s) h = tt
+  result-only (stopped number) h = h
 
   map-only : {A B : Type 0} (f : A → B) (r : Result A) → Refuses r → Refuses (mapResult f r)
   map-only f (ok a) h = tt
   map-only f (refused number) h = h
 
-  loaded-only : (n : ℕ) (buffer : List ℕ) (x : Result (List ℕ)) → Refuses x → Refuses (loaded n buffer x .answer)
-  unfolding loaded
+  loaded-only : (n : ℕ) (buffer : List ℕ) (x : Result (List ℕ)) → Refuses x → Refuses (finishLoad n buffer x .answer)
+  unfolding finishLoad
   loaded-only n buffer (ok bytes) h = tt
   loaded-only n buffer (refused number) h = h
 
@@ -230,31 +230,31 @@ module _ (P : ℕ → Type 0) where
   if-only true x h p9 = h
   if-only false x h p9 = p9
 
-  load-only : (frame : List ℕ) (room : ℕ) (r : Result Frame) → Refuses r → P 9 → Refuses (loadBytes frame room r)
-  unfolding loadBytes
+  load-only : (frame : List ℕ) (room : ℕ) (r : Result Frame) → Refuses r → P 9 → Refuses (newAfterLoad frame room r)
+  unfolding newAfterLoad
   load-only frame room (ok F) h p9 = if-only (leb (length frame) room) (ok frame) tt p9
   load-only frame room (refused number) h p9 = h
 
   module _ (p9 : P 9) (p10 : P 10) (p11 : P 11) (n room : ℕ) where
-    exchange-only : (r : Result Plan) → Refuses (exchangeBytes n room r)
-    unfolding exchangeBytes
+    exchange-only : (r : Result Plan) → Refuses (newAfterExchange n room r)
+    unfolding newAfterExchange
     exchange-only (refused number) = p10
     exchange-only (ok empty) = p11
     exchange-only (ok (held F)) = if-only (leb n room) (ok _) tt p9
     exchange-only (ok (extracted X)) = if-only (leb n room) (ok _) tt p9
 
     module _ (p12 : P 12) (p13 : P 13) where
-      taken-only : (x : Option Extraction) → Refuses (extractedBytes x)
-      unfolding extractedBytes
+      taken-only : (x : Option Extraction) → Refuses (matchedBytes x)
+      unfolding matchedBytes
       taken-only none = p13
       taken-only (some X) = tt
 
-      extract-only : (r : Result Plan) → Refuses (extractBytes n room r)
-      unfolding extractBytes
+      extract-only : (r : Result Plan) → Refuses (newAfterExtract n room r)
+      unfolding newAfterExtract
       extract-only (refused number) = p10
       extract-only (ok empty) = p11
       extract-only (ok (extracted X)) = p12
-      extract-only (ok (held F)) = if-only (leb n room) (extractedBytes (extraction F)) (taken-only (extraction F)) p9
+      extract-only (ok (held F)) = if-only (leb n room) (matchedBytes (extraction F)) (taken-only (extraction F)) p9
 
 -- The numbers of a list.
 abbrev In : List ℕ → ℕ → Type 0
@@ -268,22 +268,22 @@ load-refusals : (frame : List ℕ) (n : ℕ) (buffer : List ℕ) → RefusedBy l
 unfolding load frameOf loadRefusals any
 load-refusals frame n buffer =
     let read = physical-only (In loadRefusals) refl refl refl refl refl refl refl refl 0 frame in
-    let given = load-only (In loadRefusals) frame (length buffer) (frameOf frame) (answer-only (In loadRefusals) (physicalFrame 0 frame) read) refl in
+    let given = load-only (In loadRefusals) frame (length buffer) (frameOf frame) (result-only (In loadRefusals) (physicalFrame 0 frame) read) refl in
     refused-by loadRefusals (load frame n buffer .answer)
-    (loaded-only (In loadRefusals) n buffer (loadBytes frame (length buffer) (frameOf frame)) given)
+    (loaded-only (In loadRefusals) n buffer (newAfterLoad frame (length buffer) (frameOf frame)) given)
 
 extract-refusals : (n : ℕ) (buffer scratch : List ℕ) → RefusedBy extractRefusals (extract n buffer scratch .answer)
 unfolding extract extractRefusals any
 extract-refusals n buffer scratch =
     refused-by extractRefusals (extract n buffer scratch .answer)
-    (finish-only (In extractRefusals) n buffer scratch (extractBytes n (length scratch) (heldPlan n buffer))
+    (finish-only (In extractRefusals) n buffer scratch (newAfterExtract n (length scratch) (heldPlan n buffer))
     (extract-only (In extractRefusals) refl refl refl n (length scratch) refl refl (heldPlan n buffer)))
 
 exchange-refusals : (n : ℕ) (buffer scratch : List ℕ) → RefusedBy exchangeRefusals (exchange n buffer scratch .answer)
 unfolding exchange exchangeRefusals any
 exchange-refusals n buffer scratch =
     refused-by exchangeRefusals (exchange n buffer scratch .answer)
-    (finish-only (In exchangeRefusals) n buffer scratch (exchangeBytes n (length scratch) (heldPlan n buffer))
+    (finish-only (In exchangeRefusals) n buffer scratch (newAfterExchange n (length scratch) (heldPlan n buffer))
     (exchange-only (In exchangeRefusals) refl refl refl n (length scratch) (heldPlan n buffer)))
 
 logical-refusals : (frame : List ℕ) → RefusedBy logicalRefusals (logical frame)
@@ -291,7 +291,7 @@ unfolding logical logicalOf logicalRefusals any
 logical-refusals frame =
     let read = logical-only (In logicalRefusals) refl refl refl refl refl refl 0 frame in
     refused-by logicalRefusals (logical frame)
-    (map-only (In logicalRefusals) logicalAnswer (logicalOf frame) (answer-only (In logicalRefusals) (logicalFrame 0 frame) read))
+    (map-only (In logicalRefusals) logicalAnswer (logicalOf frame) (result-only (In logicalRefusals) (logicalFrame 0 frame) read))
 
 pub refusals-of : RefusalsOfCalls
 refusals-of = (load-refusals, extract-refusals, exchange-refusals, logical-refusals)

@@ -14,7 +14,7 @@ use Rattle.definitions.specs.Expression.{Expr, column, literal, and, bin
 use Rattle.definitions.specs.Literals.{literalInRange}
 use Rattle.definitions.specs.Encode.{exprBytes, exprsBytes}
 use Rattle.definitions.specs.Readers.{read, stopped, Reader, continue, give, byteUpTo, byteBetween, numberAfter, number, repeat}
-use Rattle.definitions.specs.Decode.{exprs, Columns, indexBelow, fields, allowedKind, columnNode, fieldNode, literalNode, binaryExpr, binaryNode, callNode, otherNode, anyColumn, nodeOfKind, nodeKind, node}
+use Rattle.definitions.specs.Decode.{repeatExprs, Columns, indexBelow, fields, allowedKind, columnNode, fieldNode, literalNode, binaryExpr, binaryNode, callNode, otherNode, anyColumn, nodeOfKind, nodeKind, node}
 use Rattle.definitions.proofs.ReaderLaws.{after, passes}
 use Rattle.definitions.specs.Limits.{nodes, depth, nodesAll, depthAll, InRange, InRangeAll, NameBytes}
 
@@ -71,7 +71,7 @@ name-reads (b ∷ s) n rest h =
 
 call-reads : (child : Reader Expr) (name : List ℕ) (arguments : Exprs) (n m : ℕ) (s rest : List ℕ)
     → 1 ≤ length name → length name ≤ 32 → NameBytes name → count arguments ≤ 16
-    → exprs (count arguments) child n s ≡ read arguments m rest
+    → repeatExprs (count arguments) child n s ≡ read arguments m rest
     → callNode child n (length name ∷ (name ++ (count arguments ∷ s))) ≡ read (call name arguments) m rest
 unfolding callNode
 call-reads child name arguments n m s rest h1 h2 hn ha e =
@@ -81,7 +81,7 @@ call-reads child name arguments n m s rest h1 h2 hn ha e =
     ∙ after _ e
 
 other-reads : (child : Reader Expr) (tag : ℕ) (children : Exprs) (n m : ℕ) (s rest : List ℕ)
-    → tag < 65536 → count children ≤ 16 → exprs (count children) child n s ≡ read children m rest
+    → tag < 65536 → count children ≤ 16 → repeatExprs (count children) child n s ≡ read children m rest
     → otherNode child n (bigEndian 2 tag ++ (count children ∷ s)) ≡ read (other tag children) m rest
 unfolding otherNode
 other-reads child tag children n m s rest ht hc e =
@@ -111,7 +111,7 @@ Reads c e = (levels n : ℕ) (rest : List ℕ) → InRange c e → depth e ≤ l
 
 abbrev ReadsAll : Columns → Exprs → Type 0
 ReadsAll c es = (levels n : ℕ) (rest : List ℕ) → InRangeAll c es → depthAll es ≤ levels → n + nodesAll es ≤ 1024
-    → exprs (count es) (node c levels) n (exprsBytes es ++ rest) ≡ read es (n + nodesAll es) rest
+    → repeatExprs (count es) (node c levels) n (exprsBytes es ++ rest) ≡ read es (n + nodesAll es) rest
 
 -- A node of some depth has a level of its own, and its children one less.
 at-level : (c : Columns) (e : Expr) (kind d n m : ℕ) (s rest : List ℕ) (levels : ℕ) → suc d ≤ levels → allowedKind c kind ≡ true → n < 1024
@@ -145,7 +145,7 @@ binary-again zero l r h = absurd (not-suc-le-zero h)
 binary-again (suc o) l r h = refl
 
 mutual
-  unfolding exprBytes nodes depth nodeOfKind exprs count binaryExpr
+  unfolding exprBytes nodes depth nodeOfKind repeatExprs count binaryExpr
 
   pub node-reads : (c : Columns) (e : Expr) → Reads c e
   node-reads c (column i t) = column-node c i t

@@ -2,17 +2,17 @@
 use Prim.Native.Nat.{ℕ, suc, _+_, _≤_}
 use native.Mathlib.Omega.{arith}
 use mathlib.Core.Path.{_≡_, refl, sym, ap, ap₂, _∙_}
-use mathlib.Core.Bool.{Bool, false, _&&_}
+use mathlib.Core.Bool.{Bool, false, _&&_, decide}
 use mathlib.Core.List.{List, [], _∷_, _++_, append-assoc, append-nil}
 use mathlib.Core.Option.{Option, none, some}
 use lib.ListN.{length}
 use lib.Dec.{eqb, lit≤}
 use borrow.Author.Tests.{le-leb}
 use Rattle.definitions.specs.Basics.{if_then_else_, bigEndian, ok, mapResult}
-use Rattle.definitions.specs.Expression.{Side, left, right, noSide, Relation, intersects, contains, within, covers, coveredBy, touches, crosses, overlaps, equals, Expr, Record, Frame, Predicate, relation, distance, knn, Extraction, Plan, empty, held, extracted}
-use Rattle.definitions.specs.Encode.{exprBytes, sideNumber, relationNumber, recordBytes, recordsBytes, frameBytes, predicateKind, predicateFields, remainderBytes, extractionBytes, planBytes}
+use Rattle.definitions.specs.Expression.{Side, left, right, noSide, Relation, intersects, contains, within, covers, coveredBy, touches, crosses, overlaps, equals, relations, Expr, Record, Frame, Predicate, relation, distance, knn, Extraction, Plan, empty, held, extracted}
+use Rattle.definitions.specs.Encode.{exprBytes, sideNumber, positionIn, relationNumber, recordBytes, recordsBytes, frameBytes, predicateKind, predicateFields, remainderBytes, extractionBytes, planBytes}
 use Rattle.definitions.specs.Leaves.{arity}
-use Rattle.definitions.specs.Readers.{frameLength, noneLeft, answer, read, Reader, continue, give, repeat, atEnd}
+use Rattle.definitions.specs.Readers.{requireLength, noneLeft, resultOf, read, Reader, continue, give, repeat, atEnd}
 use Rattle.definitions.specs.Decode.{Columns, indexBelow, expression, sideNumbered, sideUpTo, oneRecord, recordCount, frameBody, relationNumbered, relationPredicate, distancePredicate, knnPredicate, predicateOfKind, someRemainder, remainderOfKind, remainder, extractionBody, argument}
 use Rattle.definitions.specs.Plans.{physicalFrame, wholeExtraction, frameOf, extractionOf, planOfKind, planOf}
 use Rattle.definitions.specs.Limits.{nodes, Short, Readable, RecordsInRange, ReadableFrame, OneOfTwo, ReadablePredicate, ReadableRemainder, predicateNodes, remainderNodes, planNodes, ReadablePlan, GoodPlan}
@@ -78,22 +78,22 @@ body-reads F n rest h k =
 
 -- A frame of bytes that are not too many is opened.
 opens : {A : Type 0} (first : ℕ) (s : List ℕ) (next : Reader A) → suc (length s) ≤ 16384
-    → continue (frameLength 0 (first ∷ s)) (λ b. next) ≡ next 0 (first ∷ s)
-unfolding frameLength
+    → continue (requireLength 0 (first ∷ s)) (λ b. next) ≡ next 0 (first ∷ s)
+unfolding requireLength
 opens first s next h = passes 1 next 0 (first ∷ s) (ap₂ _&&_ (le-leb 1 (suc (length s)) (omega arith)) (le-leb (suc (length s)) 16384 h))
 
 pub frame-reads : (F : Frame) → GoodPlan (held F) → frameOf (frameBytes F) ≡ ok F
-unfolding frameOf physicalFrame frameBytes planBytes planNodes answer atEnd noneLeft
+unfolding frameOf physicalFrame frameBytes planBytes planNodes resultOf atEnd noneLeft
 frame-reads F g =
     let fields : List ℕ = bigEndian 2 (length (F .records)) ++ (recordsBytes (F .records) ++ exprBytes (F .expr)) in
-    ap answer (opens 1 fields _ (g .fewBytes)
+    ap resultOf (opens 1 fields _ (g .fewBytes)
     ∙ after _ (ap (frameBody 0) (sym (append-nil fields)) ∙ body-reads F 0 [] (g .readable) (omega (arith, g .fewNodes)))
     ∙ passes 8 (give F) (0 + nodes (F .expr)) [] (g .readable .arity))
 
 -- ---- extractions
 
 relation-again : (t : Relation) → relationNumbered (relationNumber t) ≡ t
-unfolding relationNumbered relationNumber
+unfolding relationNumbered relationNumber positionIn relations decide
 relation-again intersects = refl
 relation-again contains = refl
 relation-again within = refl
@@ -105,7 +105,7 @@ relation-again overlaps = refl
 relation-again equals = refl
 
 relation-small : (t : Relation) → relationNumber t ≤ 8
-unfolding relationNumber
+unfolding relationNumber positionIn relations decide
 relation-small intersects = lit≤ tt
 relation-small contains = lit≤ tt
 relation-small within = lit≤ tt
@@ -168,9 +168,9 @@ extraction-body X h k =
     ∙ after _ (remainder-reads (X .remainder) (0 + predicateNodes (X .predicate)) (h .1) (omega arith))
 
 pub extraction-reads : (X : Extraction) → GoodPlan (extracted X) → extractionOf (extractionBytes X) ≡ ok X
-unfolding extractionOf wholeExtraction extractionBytes planBytes answer atEnd noneLeft
+unfolding extractionOf wholeExtraction extractionBytes planBytes resultOf atEnd noneLeft
 extraction-reads X g =
-    ap answer (opens (predicateKind (X .predicate)) (predicateFields (X .predicate) ++ remainderBytes (X .remainder)) _ (g .fewBytes)
+    ap resultOf (opens (predicateKind (X .predicate)) (predicateFields (X .predicate) ++ remainderBytes (X .remainder)) _ (g .fewBytes)
     ∙ after _ (extraction-body X (g .readable) (g .fewNodes)))
 
 -- ---- plans

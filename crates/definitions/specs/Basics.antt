@@ -4,6 +4,7 @@ use Prim.Native.String.{String, [] as no-text, _∷_ as _then_}
 use Prim.Native.Char.{code}
 use mathlib.Core.Bool.{Bool, true, false, _&&_, _||_}
 use mathlib.Core.List.{List, [], _∷_}
+use mathlib.Core.Option.{Option, none, some}
 use lib.Dec.{eqb}
 
 infix 5 if_then_else_
@@ -11,6 +12,12 @@ infix 5 if_then_else_
 abbrev pub if_then_else_ {ℓ} : {X : Type ℓ} → Bool → X → X → X
 if_then_else_ true x y = x
 if_then_else_ false x y = y
+
+infix 5 given_then_else_
+-- The function of a value where there is one, else the last.
+abbrev pub given_then_else_ {ℓ} : {A : Type 0} {X : Type ℓ} → Option A → (A → X) → X → X
+given_then_else_ (some a) f x = f a
+given_then_else_ none f x = x
 
 -- A value, or the number of the refusal.
 pub data Result (A : Type 0) : Type 0 where

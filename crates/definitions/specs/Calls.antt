@@ -24,18 +24,18 @@ pub record LoadOutcome : Type 0 where
   pub buffer : List ℕ
 
 -- The new plan of a load: the frame as it is; 9 where the plan buffer is shorter.
-unfoldable pub loadBytes : (frame : List ℕ) → (room : ℕ) → Result Frame → Result (List ℕ)
-loadBytes frame room (refused number) = refused number
-loadBytes frame room (ok F) = if leb (length frame) room then ok frame else refused 9
+unfoldable pub newAfterLoad : (frame : List ℕ) → (room : ℕ) → Result Frame → Result (List ℕ)
+newAfterLoad frame room (refused number) = refused number
+newAfterLoad frame room (ok F) = if leb (length frame) room then ok frame else refused 9
 
 -- The new plan at the buffer's start; a refusal changes nothing.
-unfoldable pub loaded : (n : ℕ) → (buffer : List ℕ) → Result (List ℕ) → LoadOutcome
-loaded n buffer (ok bytes) = record { answer = ok (length bytes); n = length bytes; buffer = writtenOver bytes buffer }
-loaded n buffer (refused number) = record { answer = refused number; n = n; buffer = buffer }
+unfoldable pub finishLoad : (n : ℕ) → (buffer : List ℕ) → Result (List ℕ) → LoadOutcome
+finishLoad n buffer (ok bytes) = record { answer = ok (length bytes); n = length bytes; buffer = writtenOver bytes buffer }
+finishLoad n buffer (refused number) = record { answer = refused number; n = n; buffer = buffer }
 
 -- Load takes a frame and reads nothing of the old plan.
 unfoldable pub load : (frame : List ℕ) → (n : ℕ) → (buffer : List ℕ) → LoadOutcome
-load frame n buffer = loaded n buffer (loadBytes frame (length buffer) (frameOf frame))
+load frame n buffer = finishLoad n buffer (newAfterLoad frame (length buffer) (frameOf frame))
 
 -- ---- extract and exchange
 
@@ -60,29 +60,29 @@ finish n buffer scratch (refused number) = record { answer = refused number; n =
 unfoldable pub heldPlan : (n : ℕ) → (buffer : List ℕ) → Result Plan
 heldPlan n buffer = if leb n (length buffer) then planOf (take n buffer) else refused 10
 
--- Exchange: 10, 11, 9.
-unfoldable pub exchangeBytes : (n room : ℕ) → Result Plan → Result (List ℕ)
-exchangeBytes n room (refused number) = refused 10
-exchangeBytes n room (ok empty) = refused 11
-exchangeBytes n room (ok (held F)) = if leb n room then ok (planBytes (exchangePlan (held F))) else refused 9
-exchangeBytes n room (ok (extracted X)) = if leb n room then ok (planBytes (exchangePlan (extracted X))) else refused 9
+-- The new plan of an exchange: 10, 11, 9.
+unfoldable pub newAfterExchange : (n room : ℕ) → Result Plan → Result (List ℕ)
+newAfterExchange n room (refused number) = refused 10
+newAfterExchange n room (ok empty) = refused 11
+newAfterExchange n room (ok (held F)) = if leb n room then ok (planBytes (exchangePlan (held F))) else refused 9
+newAfterExchange n room (ok (extracted X)) = if leb n room then ok (planBytes (exchangePlan (extracted X))) else refused 9
 
 -- The call exchange.
 unfoldable pub exchange : (n : ℕ) → (buffer scratch : List ℕ) → Outcome
-exchange n buffer scratch = finish n buffer scratch (exchangeBytes n (length scratch) (heldPlan n buffer))
+exchange n buffer scratch = finish n buffer scratch (newAfterExchange n (length scratch) (heldPlan n buffer))
 
--- The bytes of an extraction; 13 where there is none.
-unfoldable pub extractedBytes : Option Extraction → Result (List ℕ)
-extractedBytes none = refused 13
-extractedBytes (some X) = ok (planBytes (extracted X))
+-- The bytes of an extraction; 13 where no leaf matches.
+unfoldable pub matchedBytes : Option Extraction → Result (List ℕ)
+matchedBytes none = refused 13
+matchedBytes (some X) = ok (planBytes (extracted X))
 
--- Extract: 10, 11, 12, 9, 13.
-unfoldable pub extractBytes : (n room : ℕ) → Result Plan → Result (List ℕ)
-extractBytes n room (refused number) = refused 10
-extractBytes n room (ok empty) = refused 11
-extractBytes n room (ok (extracted X)) = refused 12
-extractBytes n room (ok (held F)) = if leb n room then extractedBytes (extraction F) else refused 9
+-- The new plan of an extract: 10, 11, 12, 9, 13.
+unfoldable pub newAfterExtract : (n room : ℕ) → Result Plan → Result (List ℕ)
+newAfterExtract n room (refused number) = refused 10
+newAfterExtract n room (ok empty) = refused 11
+newAfterExtract n room (ok (extracted X)) = refused 12
+newAfterExtract n room (ok (held F)) = if leb n room then matchedBytes (extraction F) else refused 9
 
 -- The call extract.
 unfoldable pub extract : (n : ℕ) → (buffer scratch : List ℕ) → Outcome
-extract n buffer scratch = finish n buffer scratch (extractBytes n (length scratch) (heldPlan n buffer))
+extract n buffer scratch = finish n buffer scratch (newAfterExtract n (length scratch) (heldPlan n buffer))

@@ -1,10 +1,12 @@
 -- Nodes, records, frames and extractions read from bytes; the lines of a `do` block are refused in their order.
 use Prim.Native.Nat.{ℕ, zero, suc}
 use mathlib.Core.Bool.{Bool, true, _&&_}
+use mathlib.Core.List.{map}
 use mathlib.Core.Option.{Option, none, some}
+use lib.ListN.{getD}
 use lib.Dec.{leb, ltb, eqb}
 use Rattle.definitions.specs.Basics.{if_then_else_}
-use Rattle.definitions.specs.Expression.{Side, left, right, noSide, Relation, intersects, contains, within, covers, coveredBy, touches, crosses, overlaps, equals, Expr, column, literal, and, binary, call, other, field, Exprs, nil, cons, Record, Frame, Predicate, relation, distance, knn, Extraction}
+use Rattle.definitions.specs.Expression.{Side, left, right, noSide, Relation, equals, relations, Expr, column, literal, and, binary, call, other, field, Exprs, nil, cons, Record, Frame, Predicate, relation, distance, knn, Extraction}
 use Rattle.definitions.specs.Literals.{literalInRange}
 use Rattle.definitions.specs.Leaves.{arity}
 use Rattle.definitions.specs.Readers.{read, stopped, Reader, _>>=_, _>>_, give, refuse, require, byte, byteUpTo, byteBetween, number, repeat}
@@ -58,11 +60,11 @@ binaryNode child = do
   give (binaryExpr operator l r)
 
 -- Arguments or children: one after another, `times` of them.
-unfoldable pub exprs : (times : ℕ) → (child : Reader Expr) → Reader Exprs
-exprs zero child = give nil
-exprs (suc k) child = do
+unfoldable pub repeatExprs : (times : ℕ) → (child : Reader Expr) → Reader Exprs
+repeatExprs zero child = give nil
+repeatExprs (suc k) child = do
   e ← child
-  es ← exprs k child
+  es ← repeatExprs k child
   give (cons e es)
 
 -- A scalar function: name length, name bytes, argument count, arguments.
@@ -71,7 +73,7 @@ callNode child = do
   size ← byteBetween 1 32
   name ← repeat size (byteBetween 33 126)
   arguments ← byteUpTo 16
-  es ← exprs arguments child
+  es ← repeatExprs arguments child
   give (call name es)
 
 -- Any other node: tag, child count, children.
@@ -79,7 +81,7 @@ unfoldable pub otherNode : (child : Reader Expr) → Reader Expr
 otherNode child = do
   tag ← number 2
   children ← byteUpTo 16
-  es ← exprs children child
+  es ← repeatExprs children child
   give (other tag es)
 
 -- A column of the allowed sort.
@@ -87,7 +89,7 @@ unfoldable pub anyColumn : Columns → Reader Expr
 anyColumn (indexBelow bound) = columnNode bound
 anyColumn fields = fieldNode
 
--- What follows an allowed kind byte.
+-- What follows an allowed kind byte; the kind that is left, 0 or 5, is a column.
 unfoldable pub nodeOfKind : Columns → (child : Reader Expr) → (kind : ℕ) → Reader Expr
 nodeOfKind columns child kind =
     if eqb kind 1 then literalNode else
@@ -123,7 +125,7 @@ expression columns = node columns 64
 
 -- ---- records and frames
 
--- Sides: 0 left, 1 right, 2 none.
+-- Sides: 0 left, 1 right, 2 none. (Never seen above 2, because the byte is at most 2.)
 unfoldable pub sideNumbered : ℕ → Side
 sideNumbered number = if eqb number 0 then left else if eqb number 1 then right else noSide
 
@@ -162,18 +164,9 @@ frameBody = do
 unfoldable pub argument : Reader Expr
 argument = expression (indexBelow 65536)
 
--- Relation types in declaration order, from 0.
+-- The relation type of a number. (Never seen above 8, because the byte is at most 8.)
 unfoldable pub relationNumbered : ℕ → Relation
-relationNumbered number =
-    if eqb number 0 then intersects else
-    if eqb number 1 then contains else
-    if eqb number 2 then within else
-    if eqb number 3 then covers else
-    if eqb number 4 then coveredBy else
-    if eqb number 5 then touches else
-    if eqb number 6 then crosses else
-    if eqb number 7 then overlaps else
-    equals
+relationNumbered number = getD (map (λ one. one .type) relations) number equals
 
 -- A relation: type, left, right.
 unfoldable pub relationPredicate : Reader Predicate

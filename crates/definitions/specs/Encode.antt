@@ -1,10 +1,11 @@
 -- The bytes of frames, extractions and plans.
-use Prim.Native.Nat.{ℕ}
+use Prim.Native.Nat.{ℕ, suc}
+use mathlib.Core.Bool.{decide}
 use mathlib.Core.List.{List, [], _∷_, _++_}
 use mathlib.Core.Option.{Option, none, some}
 use lib.ListN.{length}
-use Rattle.definitions.specs.Basics.{bigEndian}
-use Rattle.definitions.specs.Expression.{Side, left, right, noSide, Relation, intersects, contains, within, covers, coveredBy, touches, crosses, overlaps, equals, Expr, column, literal, and, binary, call, other, field, Exprs, nil, cons, count, Record, Frame, Predicate, relation, distance, knn, Extraction, Plan, empty, held, extracted}
+use Rattle.definitions.specs.Basics.{if_then_else_, bigEndian}
+use Rattle.definitions.specs.Expression.{Side, left, right, noSide, Relation, sameRelation, Named, relations, Expr, column, literal, and, binary, call, other, field, Exprs, nil, cons, count, Record, Frame, Predicate, relation, distance, knn, Extraction, Plan, empty, held, extracted}
 
 -- Sides: 0 left, 1 right, 2 none.
 unfoldable pub sideNumber : Side → ℕ
@@ -12,17 +13,14 @@ sideNumber left = 0
 sideNumber right = 1
 sideNumber noSide = 2
 
--- Relation types in declaration order, from 0.
+-- The position of a type in a list of them, from 0. (Never seen at the list's end, because every type is listed.)
+unfoldable pub positionIn : List Named → Relation → ℕ
+positionIn [] type = 0
+positionIn (one ∷ more) type = if decide (sameRelation (one .type) type) then 0 else suc (positionIn more type)
+
+-- A type's number is its position in declaration order.
 unfoldable pub relationNumber : Relation → ℕ
-relationNumber intersects = 0
-relationNumber contains = 1
-relationNumber within = 2
-relationNumber covers = 3
-relationNumber coveredBy = 4
-relationNumber touches = 5
-relationNumber crosses = 6
-relationNumber overlaps = 7
-relationNumber equals = 8
+relationNumber type = positionIn relations type
 
 unfoldable mutual
   -- An expression in prefix order, children after their parent.

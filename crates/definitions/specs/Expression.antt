@@ -1,15 +1,35 @@
 -- What frames, extractions and plans are, apart from their bytes.
 use Prim.Native.Nat.{ℕ, suc}
-use mathlib.Core.List.{List}
-use mathlib.Core.Option.{Option}
+use Prim.Native.String.{String}
+use mathlib.Core.List.{List, [], _∷_}
+use mathlib.Core.Option.{Option, none, some}
 
 -- A side of the join; `noSide` is a mark column's, and that of an argument without columns.
 pub data Side : Type 0 where
   left right noSide : Side
 
--- The nine spatial relations, numbered 0 to 8 in this order.
+-- The nine spatial relations; `sameRelation` decides whether two are the same.
 pub data Relation : Type 0 where
   intersects contains within covers coveredBy touches crosses overlaps equals : Relation
+  deriving Discrete as sameRelation
+
+-- A relation type and the names of its functions.
+pub record Named : Type 0 where
+  pub type : Relation
+  pub names : List String
+
+-- The nine types in declaration order, which numbers them from 0, with their 13 names.
+unfoldable pub relations : List Named
+relations =
+    record { type = intersects; names = "st_intersects" ∷ "rs_intersects" ∷ [] } ∷
+    record { type = contains; names = "st_contains" ∷ "rs_contains" ∷ [] } ∷
+    record { type = within; names = "st_within" ∷ "rs_within" ∷ [] } ∷
+    record { type = covers; names = "st_covers" ∷ [] } ∷
+    record { type = coveredBy; names = "st_coveredby" ∷ "st_covered_by" ∷ [] } ∷
+    record { type = touches; names = "st_touches" ∷ [] } ∷
+    record { type = crosses; names = "st_crosses" ∷ [] } ∷
+    record { type = overlaps; names = "st_overlaps" ∷ [] } ∷
+    record { type = equals; names = "st_equals" ∷ [] } ∷ []
 
 mutual
   -- An expression; a literal's eight bytes are one number, `and` is the binary operator 0, `field` a logical column.
@@ -31,6 +51,56 @@ mutual
 unfoldable pub count : Exprs → ℕ
 count nil = 0
 count (cons e es) = suc (count es)
+
+-- ---- what an expression is
+
+-- A function.
+pub record Function : Type 0 where
+  pub name : List ℕ
+  pub arguments : Exprs
+
+-- The function that an expression is, if it is one.
+abbrev pub functionOf : Expr → Option Function
+functionOf (call name arguments) = some (record { name = name; arguments = arguments })
+functionOf (column index tag) = none
+functionOf (literal type bytes) = none
+functionOf (and l r) = none
+functionOf (binary operator l r) = none
+functionOf (other tag children) = none
+functionOf (field bits tag) = none
+
+-- A binary with an operator other than And.
+pub record Binary : Type 0 where
+  pub operator : ℕ
+  pub l : Expr
+  pub r : Expr
+
+-- The binary that an expression is, if it is one.
+abbrev pub binaryOf : Expr → Option Binary
+binaryOf (binary operator l r) = some (record { operator = operator; l = l; r = r })
+binaryOf (column index tag) = none
+binaryOf (literal type bytes) = none
+binaryOf (and l r) = none
+binaryOf (call name arguments) = none
+binaryOf (other tag children) = none
+binaryOf (field bits tag) = none
+
+-- A literal.
+pub record Literal : Type 0 where
+  pub type : ℕ
+  pub bytes : ℕ
+
+-- The literal that an expression is, if it is one.
+abbrev pub literalOf : Expr → Option Literal
+literalOf (literal type bytes) = some (record { type = type; bytes = bytes })
+literalOf (column index tag) = none
+literalOf (and l r) = none
+literalOf (binary operator l r) = none
+literalOf (call name arguments) = none
+literalOf (other tag children) = none
+literalOf (field bits tag) = none
+
+-- ---- frames and plans
 
 -- A column's record: the child's side, the column's index in that child, the host's number for the field.
 pub record Record : Type 0 where

@@ -56,6 +56,7 @@ andRight l none = l
 andRight l (some r) = and l r
 
 -- The expression without the AND-leaf at a position and its parent And; nothing if it is that leaf.
+-- (Never seen past the last leaf, because a pick is one of the leaves.)
 unfoldable pub without : (position : ℕ) → Expr → Option Expr
 without i (and l r) = some
     (if ltb i (length (leaves l)) then andLeft (without i l) r else andRight l (without (i - length (leaves l)) r))

@@ -4,8 +4,8 @@ use mathlib.Core.Bool.{Bool, true, _||_}
 use mathlib.Core.List.{List, [], _∷_, _++_}
 use mathlib.Core.Option.{Option, none, some}
 use lib.Dec.{leb, eqb}
-use Rattle.definitions.specs.Basics.{if_then_else_, ascii, sameName, all}
-use Rattle.definitions.specs.Expression.{Relation, intersects, contains, within, covers, coveredBy, touches, crosses, overlaps, equals, Expr, column, literal, and, binary, call, other, field, Exprs, count}
+use Rattle.definitions.specs.Basics.{if_then_else_, given_then_else_, ascii, sameName, any, all}
+use Rattle.definitions.specs.Expression.{Relation, Named, relations, Expr, column, literal, and, binary, call, other, field, Exprs, count, functionOf, binaryOf}
 
 -- The nodes reached from the root through And nodes only, left to right.
 unfoldable pub leaves : Expr → List Expr
@@ -17,19 +17,14 @@ leaves (call name arguments) = call name arguments ∷ []
 leaves (other tag children) = other tag children ∷ []
 leaves (field bits tag) = field bits tag ∷ []
 
--- The type of a relation name; the 13 names are compared byte by byte.
+-- The first type in a list that has this name; names are compared byte by byte.
+unfoldable pub typeNamed : List Named → (name : List ℕ) → Option Relation
+typeNamed [] name = none
+typeNamed (one ∷ more) name = if any (λ text. sameName name (ascii text)) (one .names) then some (one .type) else typeNamed more name
+
+-- The type of a relation name.
 unfoldable pub relationNamed : (name : List ℕ) → Option Relation
-relationNamed name =
-    if sameName name (ascii "st_intersects") || sameName name (ascii "rs_intersects") then some intersects else
-    if sameName name (ascii "st_contains") || sameName name (ascii "rs_contains") then some contains else
-    if sameName name (ascii "st_within") || sameName name (ascii "rs_within") then some within else
-    if sameName name (ascii "st_covers") then some covers else
-    if sameName name (ascii "st_coveredby") || sameName name (ascii "st_covered_by") then some coveredBy else
-    if sameName name (ascii "st_touches") then some touches else
-    if sameName name (ascii "st_crosses") then some crosses else
-    if sameName name (ascii "st_overlaps") then some overlaps else
-    if sameName name (ascii "st_equals") then some equals else
-    none
+relationNamed name = typeNamed relations name
 
 -- A comparison: the side on which `st_distance` is looked for, and the other, its bound.
 pub data Comparison : Type 0 where
@@ -45,13 +40,9 @@ comparison operator l r =
 
 -- The arguments of an `st_distance` call.
 unfoldable pub distanceArguments : Expr → Option Exprs
-distanceArguments (call name arguments) = if sameName name (ascii "st_distance") then some arguments else none
-distanceArguments (column index tag) = none
-distanceArguments (literal type bytes) = none
-distanceArguments (and l r) = none
-distanceArguments (binary operator l r) = none
-distanceArguments (other tag children) = none
-distanceArguments (field bits tag) = none
+distanceArguments e =
+    given functionOf e then (λ f. if sameName (f .name) (ascii "st_distance") then some (f .arguments) else none) else
+    none
 
 -- ---- arity
 
@@ -77,13 +68,10 @@ comparisonArity (compares measured bound) = distanceArity (distanceArguments mea
 
 -- Whether a leaf has the arguments that it needs.
 unfoldable pub leafArity : Expr → Bool
-leafArity (call name arguments) = callArity name (count arguments)
-leafArity (binary operator l r) = comparisonArity (comparison operator l r)
-leafArity (column index tag) = true
-leafArity (literal type bytes) = true
-leafArity (and l r) = true
-leafArity (other tag children) = true
-leafArity (field bits tag) = true
+leafArity e =
+    given functionOf e then (λ f. callArity (f .name) (count (f .arguments))) else
+    given binaryOf e then (λ b. comparisonArity (comparison (b .operator) (b .l) (b .r))) else
+    true
 
 -- Whether every AND-leaf has the arguments that it needs.
 unfoldable pub arity : Expr → Bool

@@ -4,8 +4,8 @@ use mathlib.Core.Bool.{Bool, _&&_, not}
 use mathlib.Core.List.{List, [], _∷_, _++_, map}
 use mathlib.Core.Option.{Option, none, some}
 use lib.Dec.{leb, eqb}
-use Rattle.definitions.specs.Basics.{if_then_else_, Result, mapResult, ascii, sameName, bigEndian, any, all}
-use Rattle.definitions.specs.Expression.{Side, left, right, noSide, Expr, column, literal, and, binary, call, other, field, Exprs, nil, cons}
+use Rattle.definitions.specs.Basics.{if_then_else_, given_then_else_, Result, mapResult, ascii, sameName, bigEndian, any, all}
+use Rattle.definitions.specs.Expression.{Side, left, right, noSide, Expr, column, literal, and, binary, call, other, field, Exprs, nil, cons, functionOf, binaryOf}
 use Rattle.definitions.specs.Encode.{sideNumber}
 use Rattle.definitions.specs.Leaves.{leaves, Comparison, compares, noComparison, comparison}
 use Rattle.definitions.specs.Plans.{logicalOf}
@@ -24,13 +24,7 @@ spatialNames =
 
 -- The name of a function in small letters; no bytes for any other expression.
 unfoldable pub functionName : Expr → List ℕ
-functionName (call name arguments) = lowerCase name
-functionName (column index tag) = []
-functionName (literal type bytes) = []
-functionName (and l r) = []
-functionName (binary operator l r) = []
-functionName (other tag children) = []
-functionName (field bits tag) = []
+functionName e = given functionOf e then (λ f. lowerCase (f .name)) else []
 
 -- A comparison whose read side is `st_distance` counts as `st_dwithin`.
 unfoldable pub comparisonName : Comparison → List ℕ
@@ -39,13 +33,10 @@ comparisonName (compares measured bound) = if sameName (functionName measured) (
 
 -- The name that a leaf counts as; no bytes where there is none.
 unfoldable pub leafName : Expr → List ℕ
-leafName (binary operator l r) = comparisonName (comparison operator l r)
-leafName (call name arguments) = lowerCase name
-leafName (column index tag) = []
-leafName (literal type bytes) = []
-leafName (and l r) = []
-leafName (other tag children) = []
-leafName (field bits tag) = []
+leafName e =
+    given functionOf e then (λ f. lowerCase (f .name)) else
+    given binaryOf e then (λ b. comparisonName (comparison (b .operator) (b .l) (b .r))) else
+    []
 
 -- Which of the names are among the found ones, lowest bit first.
 unfoldable pub mask : (names found : List (List ℕ)) → ℕ
@@ -98,13 +89,9 @@ firstArgumentSide (cons e es) = schemaSide (bitsOf e)
 
 -- The arguments of an `st_knn` call.
 unfoldable pub knnArguments : Expr → Option Exprs
-knnArguments (call name arguments) = if sameName (lowerCase name) (ascii "st_knn") then some arguments else none
-knnArguments (column index tag) = none
-knnArguments (literal type bytes) = none
-knnArguments (and l r) = none
-knnArguments (binary operator l r) = none
-knnArguments (other tag children) = none
-knnArguments (field bits tag) = none
+knnArguments e =
+    given functionOf e then (λ f. if sameName (lowerCase (f .name)) (ascii "st_knn") then some (f .arguments) else none) else
+    none
 
 -- The side that an `st_knn` call gives, else the later leaves'.
 unfoldable pub querySideFrom : Option Exprs → (later : Side) → Side

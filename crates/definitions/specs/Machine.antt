@@ -25,7 +25,7 @@ pub record Fed : Type 0 where
   pub kind : Kind
   pub room : ℕ
 
--- An extraction as plan; the plan where there is none.
+-- An extraction as plan. (The plan given beside it is never seen, because the bit is 1 only where there is an extraction.)
 unfoldable pub extractionOr : Plan → Option Extraction → Plan
 extractionOr plan none = plan
 extractionOr plan (some X) = extracted X

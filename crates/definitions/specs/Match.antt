@@ -4,8 +4,8 @@ use mathlib.Core.Bool.{Bool, true, false, _&&_}
 use mathlib.Core.List.{List, [], _∷_, _++_, map}
 use mathlib.Core.Option.{Option, none, some}
 use lib.ListN.{getD}
-use Rattle.definitions.specs.Basics.{if_then_else_, ascii, sameName, all}
-use Rattle.definitions.specs.Expression.{Side, left, right, noSide, Relation, intersects, contains, within, covers, coveredBy, touches, crosses, overlaps, equals, Expr, column, literal, and, binary, call, other, field, Exprs, nil, cons, Record, Predicate, relation, distance, knn}
+use Rattle.definitions.specs.Basics.{if_then_else_, given_then_else_, ascii, sameName, all}
+use Rattle.definitions.specs.Expression.{Side, left, right, noSide, Relation, intersects, contains, within, covers, coveredBy, touches, crosses, overlaps, equals, Expr, column, literal, and, binary, call, other, field, Exprs, nil, cons, functionOf, binaryOf, literalOf, Record, Predicate, relation, distance, knn}
 use Rattle.definitions.specs.Literals.{numberU32, numberBool}
 use Rattle.definitions.specs.Leaves.{relationNamed, Comparison, compares, noComparison, comparison, distanceArguments}
 
@@ -34,23 +34,11 @@ dwithinRequest (cons a (cons b (cons bound more))) = askDistance 0 a b bound
 
 -- A literal that is a whole number from 0 to 4,294,967,295.
 unfoldable pub literalU32 : Expr → Option ℕ
-literalU32 (literal type bytes) = numberU32 type bytes
-literalU32 (column index tag) = none
-literalU32 (and l r) = none
-literalU32 (binary operator l r) = none
-literalU32 (call name arguments) = none
-literalU32 (other tag children) = none
-literalU32 (field bits tag) = none
+literalU32 e = given literalOf e then (λ v. numberU32 (v .type) (v .bytes)) else none
 
 -- A literal that is Boolean.
 unfoldable pub literalBool : Expr → Option ℕ
-literalBool (literal type bytes) = numberBool type bytes
-literalBool (column index tag) = none
-literalBool (and l r) = none
-literalBool (binary operator l r) = none
-literalBool (call name arguments) = none
-literalBool (other tag children) = none
-literalBool (field bits tag) = none
+literalBool e = given literalOf e then (λ v. numberBool (v .type) (v .bytes)) else none
 
 -- KNN needs k and both flags.
 unfoldable pub knnLiterals : (k spheroid ties : Option ℕ) → (query object : Expr) → Request
@@ -90,13 +78,10 @@ comparisonRequest form (compares measured bound) = distanceRequest form bound (d
 
 -- What a leaf asks for.
 unfoldable pub request : Expr → Request
-request (call name arguments) = callRequest name arguments
-request (binary operator l r) = comparisonRequest operator (comparison operator l r)
-request (column index tag) = askNothing
-request (literal type bytes) = askNothing
-request (and l r) = askNothing
-request (other tag children) = askNothing
-request (field bits tag) = askNothing
+request e =
+    given functionOf e then (λ f. callRequest (f .name) (f .arguments)) else
+    given binaryOf e then (λ b. comparisonRequest (b .operator) (comparison (b .operator) (b .l) (b .r))) else
+    askNothing
 
 -- ---- sides
 
@@ -116,7 +101,7 @@ unfoldable mutual
   columnsOfAll nil = []
   columnsOfAll (cons e es) = columnsOf e ++ columnsOfAll es
 
--- The record of a column index.
+-- The record of a column index. (Never seen past the last, because such an index is refused with 6.)
 unfoldable pub recordAt : List Record → (index : ℕ) → Record
 recordAt records index = getD records index (record { side = noSide; child = 0; tag = 0 })
 
@@ -233,7 +218,8 @@ unfoldable pub matchRequest : List Record → Request → Option Predicate
 matchRequest records (askRelation type a b) =
     matchRelation type (onChild records a) (onChild records b) (orderOf (sideOf records a) (sideOf records b))
 matchRequest records (askDistance form a b bound) =
-    matchDistance records form (onChild records a) (onChild records b) bound (sideOf records bound) (orderOf (sideOf records a) (sideOf records b))
+    matchDistance records form (onChild records a) (onChild records b) bound (sideOf records bound)
+    (orderOf (sideOf records a) (sideOf records b))
 matchRequest records (askKnn k spheroid ties a b) =
     matchKnn k spheroid ties (onChild records a) (onChild records b) (orderOf (sideOf records a) (sideOf records b))
 matchRequest records askNothing = none

@@ -62,6 +62,7 @@ unfoldable pub frameValue : Meaning → Valuation → Frame → ℕ
 frameValue M v F = value M (frameColumns v (F .records)) (F .expr)
 
 -- The value of a distance predicate by its form, from the values of both geometries and the bound.
+-- (Never seen above 4, because that byte is at most 4.)
 unfoldable pub distanceByForm : Meaning → (form : ℕ) → (l r bound : ℕ) → ℕ
 distanceByForm M form l r bound =
     if eqb form 0 then M .dwithinValue l r bound else

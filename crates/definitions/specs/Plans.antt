@@ -5,13 +5,13 @@ use lib.Dec.{eqb}
 use Rattle.definitions.specs.Basics.{if_then_else_, Result, ok, mapResult}
 use Rattle.definitions.specs.Expression.{Expr, Frame, Extraction, Plan, empty, held, extracted}
 use Rattle.definitions.specs.Leaves.{arity}
-use Rattle.definitions.specs.Readers.{Reader, _>>=_, _>>_, give, require, byte, frameLength, atEnd, answer}
+use Rattle.definitions.specs.Readers.{Reader, _>>=_, _>>_, give, require, byte, requireLength, atEnd, resultOf}
 use Rattle.definitions.specs.Decode.{frameBody, extractionBody, expression, fields}
 
 -- A physical frame: 1, 2, the first of 3 to 6, 7, 8.
 unfoldable pub physicalFrame : Reader Frame
 physicalFrame = do
-  frameLength
+  requireLength
   first ← byte
   require 2 (eqb first 1)
   F ← frameBody
@@ -22,7 +22,7 @@ physicalFrame = do
 -- A logical frame: 1, 2, the first of 3 to 5, 7.
 unfoldable pub logicalFrame : Reader Expr
 logicalFrame = do
-  frameLength
+  requireLength
   first ← byte
   require 2 (eqb first 2)
   e ← expression fields
@@ -32,7 +32,7 @@ logicalFrame = do
 -- An extraction, good under the same limits.
 unfoldable pub wholeExtraction : Reader Extraction
 wholeExtraction = do
-  frameLength
+  requireLength
   first ← byte
   X ← extractionBody first
   atEnd
@@ -40,15 +40,15 @@ wholeExtraction = do
 
 -- The physical frame that bytes are.
 unfoldable pub frameOf : List ℕ → Result Frame
-frameOf bytes = answer (physicalFrame 0 bytes)
+frameOf bytes = resultOf (physicalFrame 0 bytes)
 
 -- The expression of the logical frame that bytes are.
 unfoldable pub logicalOf : List ℕ → Result Expr
-logicalOf bytes = answer (logicalFrame 0 bytes)
+logicalOf bytes = resultOf (logicalFrame 0 bytes)
 
 -- The extraction that bytes are.
 unfoldable pub extractionOf : List ℕ → Result Extraction
-extractionOf bytes = answer (wholeExtraction 0 bytes)
+extractionOf bytes = resultOf (wholeExtraction 0 bytes)
 
 -- The plan that bytes of this first byte are.
 unfoldable pub planOfKind : (first : ℕ) → List ℕ → Result Plan

@@ -104,9 +104,9 @@ unfoldable pub lineOutcome : (line : List ℕ) → Kept → LineOutcome
 lineOutcome line kept = readLine (lineBytes line) kept
 
 -- A line out: `00` and the answer, or the refusal number alone, in digits, and a line feed.
-unfoldable pub written : Result (List ℕ) → List ℕ
-written (ok bytes) = digits (0 ∷ bytes) ++ (10 ∷ [])
-written (refused number) = digits (number ∷ []) ++ (10 ∷ [])
+unfoldable pub writtenLine : Result (List ℕ) → List ℕ
+writtenLine (ok bytes) = digits (0 ∷ bytes) ++ (10 ∷ [])
+writtenLine (refused number) = digits (number ∷ []) ++ (10 ∷ [])
 
 -- ---- the whole input
 
@@ -125,7 +125,7 @@ unfoldable pub outputFrom : Kept → (lines : List (List ℕ)) → List ℕ
 outputFrom kept [] = []
 outputFrom kept (line ∷ lines) =
     let o : LineOutcome = lineOutcome line kept in
-    written (o .answer) ++ outputFrom (o .kept) lines
+    writtenLine (o .answer) ++ outputFrom (o .kept) lines
 
 -- A fresh plan in a buffer of 16,384 bytes.
 unfoldable pub freshPlan : Kept

@@ -89,8 +89,8 @@ repeat (suc k) one = do
 -- ---- the ends of a frame
 
 -- Refuses with 1 an empty frame and one of over 16,384 bytes.
-unfoldable pub frameLength : Reader Bool
-frameLength = λ n s. require 1 (leb 1 (length s) && leb (length s) 16384) n s
+unfoldable pub requireLength : Reader Bool
+requireLength = λ n s. require 1 (leb 1 (length s) && leb (length s) 16384) n s
 
 -- Whether no byte is left.
 unfoldable pub noneLeft : List ℕ → Bool
@@ -102,6 +102,6 @@ unfoldable pub atEnd : Reader Bool
 atEnd = λ n s. require 7 (noneLeft s) n s
 
 -- What a reader of a whole frame answers.
-unfoldable pub answer : {A : Type 0} → Read A → Result A
-answer (read a nodes rest) = ok a
-answer (stopped number) = refused number
+unfoldable pub resultOf : {A : Type 0} → Read A → Result A
+resultOf (read a nodes rest) = ok a
+resultOf (stopped number) = refused number

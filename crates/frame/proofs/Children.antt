@@ -6,7 +6,7 @@ use lib.ListN.{length, drop}
 use borrow.Author.Tests.{ne-eqb}
 use Rattle.definitions.specs.Expression.{Expr, column, Exprs, nil, cons}
 use Rattle.definitions.specs.Readers.{Read, read, stopped, Reader, continue, _>>=_, give, byteUpTo}
-use Rattle.definitions.specs.Decode.{exprs, Columns, nodeOfKind, anyColumn, binaryExpr, binaryNode}
+use Rattle.definitions.specs.Decode.{repeatExprs, Columns, nodeOfKind, anyColumn, binaryExpr, binaryNode}
 use Rattle.frame.specs.declared.heads.Head.the-variants.{Children}
 use Rattle.frame.specs.Nodes.{HeadIs}
 use Rattle.definitions.proofs.ReaderLaws.{after}
@@ -18,20 +18,20 @@ ofTwo f (cons l nil) = column 0 0
 ofTwo f (cons l (cons r es)) = f l r
 
 second : (f : Expr → Expr → Expr) (child : Reader Expr) (l : Expr) (r : Read Expr)
-    → continue r (λ x. give (f l x)) ≡ continue (continue (continue r (λ x. exprs 0 child >>= λ es. give (cons x es))) (λ es. give (cons l es))) (λ es. give (ofTwo f es))
-unfolding exprs ofTwo
+    → continue r (λ x. give (f l x)) ≡ continue (continue (continue r (λ x. repeatExprs 0 child >>= λ es. give (cons x es))) (λ es. give (cons l es))) (λ es. give (ofTwo f es))
+unfolding repeatExprs ofTwo
 second f child l (read x n s) = refl
 second f child l (stopped number) = refl
 
 first : (f : Expr → Expr → Expr) (child : Reader Expr) (r : Read Expr)
-    → continue r (λ l. child >>= λ x. give (f l x)) ≡ continue (continue r (λ l. exprs 1 child >>= λ es. give (cons l es))) (λ es. give (ofTwo f es))
-unfolding exprs
+    → continue r (λ l. child >>= λ x. give (f l x)) ≡ continue (continue r (λ l. repeatExprs 1 child >>= λ es. give (cons l es))) (λ es. give (ofTwo f es))
+unfolding repeatExprs
 first f child (read l n s) = second f child l (child n s)
 first f child (stopped number) = refl
 
 pub two : (s : List ℕ) (at end operator : ℕ) → end ≤ length s
     → ((n : ℕ) → byteUpTo 63 n (drop at s) ≡ read operator n (drop end s)) → HeadIs s at (Children end 2) binaryNode
-unfolding exprs binaryNode
+unfolding repeatExprs binaryNode
 two s at end operator w h = (w, ofTwo (binaryExpr operator), λ child n. after _ (h n) ∙ first (binaryExpr operator) child (child n (drop end s)))
 
 -- A kind that is none of 1 to 4 is a column's.

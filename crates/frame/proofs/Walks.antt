@@ -10,7 +10,7 @@ use borrow.Author.Tests.{lt-ltb, le-ltb}
 use Rattle.definitions.specs.Basics.{if_then_else_}
 use Rattle.definitions.specs.Expression.{Expr, Exprs, nil, cons}
 use Rattle.definitions.specs.Readers.{read, stopped, Reader, continue, give}
-use Rattle.definitions.specs.Decode.{exprs, Columns, countNode, nodeKind, nodeOfKind, node}
+use Rattle.definitions.specs.Decode.{repeatExprs, Columns, countNode, nodeKind, nodeOfKind, node}
 use Rattle.frame.specs.declared.refusals.Refusal.{Refusal}
 use Rattle.frame.specs.declared.walk.Walked.{Walked}
 use Rattle.frame.specs.declared.walk.Walked.the-variants.{To, Refused}
@@ -64,23 +64,23 @@ counted-node count (Refused why) h = tt
 
 -- A row of nodes: none, or one in front of the others.
 module _ (s : List ℕ) (at count : ℕ) (child : Reader Expr) where
-  pub none-walked : (many : ℕ) → many ≡ 0 → at ≤ length s → WalkedIs s at count (To at count) (exprs many child)
-  unfolding exprs
+  pub none-walked : (many : ℕ) → many ≡ 0 → at ≤ length s → WalkedIs s at count (To at count) (repeatExprs many child)
+  unfolding repeatExprs
   none-walked zero z w = (w, nil, refl)
   none-walked (suc many) z w = absurd (omega arith)
 
-  pub first-stops : (many : ℕ) → (many ≡ 0 → ⊥) → (number : ℕ) → child count (drop at s) ≡ stopped number → exprs many child count (drop at s) ≡ stopped number
-  unfolding exprs
+  pub first-stops : (many : ℕ) → (many ≡ 0 → ⊥) → (number : ℕ) → child count (drop at s) ≡ stopped number → repeatExprs many child count (drop at s) ≡ stopped number
+  unfolding repeatExprs
   first-stops zero z number e = absurd (z refl)
   first-stops (suc many) z number e = halts _ e
 
   module _ (next total : ℕ) (x : Expr) (e : child count (drop at s) ≡ read x total (drop next s)) where
-    in-front : (many : ℕ) (r : Walked) → WalkedIs s next total r (exprs many child) → WalkedIs s at count r (exprs (suc many) child)
-    unfolding exprs
+    in-front : (many : ℕ) (r : Walked) → WalkedIs s next total r (repeatExprs many child) → WalkedIs s at count r (repeatExprs (suc many) child)
+    unfolding repeatExprs
     in-front many (To end all) h = (h .0, cons x (h .1), after _ e ∙ after _ (h .2))
     in-front many (Refused why) h = after _ e ∙ halts _ h
 
-    pub others-walked : (many : ℕ) → (many ≡ 0 → ⊥) → (r : Walked) → WalkedIs s next total r (exprs (many - 1) child) → WalkedIs s at count r (exprs many child)
+    pub others-walked : (many : ℕ) → (many ≡ 0 → ⊥) → (r : Walked) → WalkedIs s next total r (repeatExprs (many - 1) child) → WalkedIs s at count r (repeatExprs many child)
     others-walked zero z r h = absurd (z refl)
     others-walked (suc many) z r h =
         let l : suc many - 1 ≡ many = omega arith in
@@ -91,7 +91,7 @@ pub record InRow (s : List ℕ) (at count many : ℕ) (child : Reader Expr) (nex
   pub place : next ≤ length s
   pub low : count ≤ total
   pub high : total ≤ 1024
-  pub rest : (r : Walked) → WalkedIs s next total r (exprs left child) → WalkedIs s at count r (exprs many child)
+  pub rest : (r : Walked) → WalkedIs s next total r (repeatExprs left child) → WalkedIs s at count r (repeatExprs many child)
 
 module _ (s : List ℕ) (at count many : ℕ) (child : Reader Expr) where
   pub row-begins : at ≤ length s → count ≤ 1024 → InRow s at count many child at count many
@@ -107,8 +107,8 @@ module _ (s : List ℕ) (at count many : ℕ) (child : Reader Expr) where
       rest = λ r walked. inv .rest r (others-walked s next total child after counted (one .1) (one .2) left (λ z. omega arith) r walked);
     }
 
-    pub row-stops : 0 < left → (why : Refusal) → child total (drop next s) ≡ stopped (numberOf why) → WalkedIs s at count (Refused why) (exprs many child)
+    pub row-stops : 0 < left → (why : Refusal) → child total (drop next s) ≡ stopped (numberOf why) → WalkedIs s at count (Refused why) (repeatExprs many child)
     row-stops some why e = inv .rest (Refused why) (first-stops s next total child left (λ z. omega arith) (numberOf why) e)
 
-    pub row-ends : left ≤ 0 → WalkedIs s at count (To next total) (exprs many child)
+    pub row-ends : left ≤ 0 → WalkedIs s at count (To next total) (repeatExprs many child)
     row-ends none = inv .rest (To next total) (none-walked s next total child left (omega arith) (inv .place))

@@ -9,7 +9,7 @@ use lib.Dec.{eqb}
 use Rattle.definitions.specs.Basics.{if_then_else_, ok, refused}
 use Rattle.definitions.specs.Expression.{Expr, Record}
 use Rattle.definitions.specs.Encode.{recordsBytes}
-use Rattle.definitions.specs.Readers.{Read, read, stopped, Reader, continue, _>>=_, _>>_, give, require, byte, repeat, frameLength, noneLeft, atEnd, answer}
+use Rattle.definitions.specs.Readers.{Read, read, stopped, Reader, continue, _>>=_, _>>_, give, require, byte, repeat, requireLength, noneLeft, atEnd, resultOf}
 use Rattle.definitions.specs.Decode.{indexBelow, oneRecord}
 use Rattle.definitions.specs.Limits.{AllBytes}
 use Rattle.definitions.proofs.ReaderLaws.{after, halts, passes, fails}
@@ -34,15 +34,15 @@ frame-stands s first root next columns rs x bytes low high reads stands =
 -- ---- the length
 
 pub empty-refused : (s : List ℕ) → length s ≡ 0 → (n : ℕ) → firstOf n s ≡ stopped 1
-unfolding firstOf frameLength
+unfolding firstOf requireLength
 empty-refused s h n = fails 1 byte n s (below 1 (length s) 16384 (omega arith))
 
 pub long-refused : (s : List ℕ) → 0 < length s → 16384 < length s → (n : ℕ) → firstOf n s ≡ stopped 1
-unfolding firstOf frameLength
+unfolding firstOf requireLength
 long-refused s l h n = fails 1 byte n s (above 1 (length s) 16384 (omega arith) h)
 
 pub length-passes : (s : List ℕ) → 0 < length s → length s ≤ 16384 → (r : Field) → FieldIs s 0 r byte → FieldIs s 0 r firstOf
-unfolding firstOf frameLength
+unfolding firstOf requireLength
 length-passes s l h (Value value next) field =
     (field .0, λ n. passes 1 byte n s (within 1 (length s) 16384 (omega arith) h) ∙ field .1 n)
 length-passes s l h (Refused why) field = λ n. passes 1 byte n s (within 1 (length s) 16384 (omega arith) h) ∙ field n
@@ -73,7 +73,7 @@ module _ (s : List ℕ) (next : ℕ) where
 module _ {A B : Type 0} (sort : ℕ) (body : Reader A) (last : A → Reader B) where
   abbrev pub whole : Reader B
   whole = do
-    frameLength
+    requireLength
     first ← byte
     require 2 (eqb first sort)
     a ← body
@@ -91,8 +91,8 @@ module _ {A B : Type 0} (sort : ℕ) (body : Reader A) (last : A → Reader B) w
   grouped : (s : List ℕ) → whole 0 s ≡ continue (opening sort 0 s) (λ t. rest)
   unfolding firstOf opening
   grouped s =
-      sym (regroup (frameLength 0 s) (λ b. byte) (λ first. require 2 (eqb first sort) >> rest))
-      ∙ sorted 0 (continue (frameLength 0 s) (λ b. byte))
+      sym (regroup (requireLength 0 s) (λ b. byte) (λ first. require 2 (eqb first sort) >> rest))
+      ∙ sorted 0 (continue (requireLength 0 s) (λ b. byte))
 
   module _ (s : List ℕ) where
     pub unopened : {number : ℕ} → opening sort 0 s ≡ stopped number → whole 0 s ≡ stopped number
@@ -113,7 +113,7 @@ module _ {A B : Type 0} (sort : ℕ) (body : Reader A) (last : A → Reader B) w
 
 -- The test that is left, as a result.
 pub left-to-test : {A : Type 0} (number : ℕ) (t : Bool) (a : A) (n : ℕ) (s : List ℕ)
-    → answer (continue (require number t n s) (λ b. give a)) ≡ (if t then ok a else refused number)
-unfolding answer
+    → resultOf (continue (require number t n s) (λ b. give a)) ≡ (if t then ok a else refused number)
+unfolding resultOf
 left-to-test number true a n s = refl
 left-to-test number false a n s = refl

@@ -9,7 +9,7 @@ use Rattle.definitions.specs.Basics.{if_then_else_, Result, ok, refused}
 use Rattle.definitions.specs.Expression as tree
 use Rattle.definitions.specs.Encode.{recordsBytes}
 use Rattle.definitions.specs.Leaves.{arity}
-use Rattle.definitions.specs.Readers.{read, stopped, Reader, _>>=_, _>>_, require, byte, frameLength}
+use Rattle.definitions.specs.Readers.{read, stopped, Reader, _>>=_, _>>_, require, byte, requireLength}
 use Rattle.definitions.specs.Decode.{indexBelow, fields}
 use Rattle.frame.specs.Refusals.{numberOf}
 use Rattle.frame.specs.Places.{Between, ExprAt}
@@ -24,7 +24,7 @@ use Rattle.frame.specs.declared.whole.Logical.the-variants as logical
 -- The length (1) and the first byte.
 unfoldable pub firstOf : Reader ℕ
 firstOf = do
-  frameLength
+  requireLength
   byte
 
 -- The same of a frame of a sort, whose first byte it is (2).

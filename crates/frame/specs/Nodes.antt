@@ -22,7 +22,7 @@ columnsOf Fields = decode.fields
 abbrev pub HeadIs : List ℕ → (at : ℕ) → Head → ((child : Reader Expr) → Reader Expr) → Type 0
 HeadIs s at (head.Children first many) reader =
     (first ≤ length s) × (build : Exprs → Expr)
-    × ((child : Reader Expr) (n : ℕ) → reader child n (drop at s) ≡ continue (decode.exprs many child n (drop first s)) (λ es. give (build es)))
+    × ((child : Reader Expr) (n : ℕ) → reader child n (drop at s) ≡ continue (decode.repeatExprs many child n (drop first s)) (λ es. give (build es)))
 HeadIs s at (head.Refused why) reader = (child : Reader Expr) (n : ℕ) → reader child n (drop at s) ≡ stopped (numberOf why)
 
 -- Nodes were walked, `before` of them counted up to this place.

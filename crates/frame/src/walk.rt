@@ -60,7 +60,7 @@ pub fn nodes(
     many: u64,
 ) -> Walked
     requires { ⌜ (at ≤ length (now s)) × (count ≤ 1024) ⌝ }
-    ensures read { λ r. ⌜ WalkedIs (now (s .entry)) at count r (decode.exprs many (decode.node (columnsOf columns) levels)) ⌝ }
+    ensures read { λ r. ⌜ WalkedIs (now (s .entry)) at count r (decode.repeatExprs many (decode.node (columnsOf columns) levels)) ⌝ }
     ensures counted { λ r. ⌜ Counted count 0 r ⌝ }
 {
     let mut next = at;

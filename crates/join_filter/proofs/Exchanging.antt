@@ -12,7 +12,7 @@ use Rattle.definitions.specs.Expression.{Frame, Extraction, Plan, empty, held, 
 use Rattle.definitions.specs.Encode.{planBytes}
 use Rattle.definitions.specs.Plans.{planOf}
 use Rattle.definitions.specs.Exchange.{exchangePlan}
-use Rattle.definitions.specs.Calls.{finish, heldPlan, exchangeBytes, exchange}
+use Rattle.definitions.specs.Calls.{finish, heldPlan, newAfterExchange, exchange}
 use Rattle.definitions.specs.Limits.{AllBytes}
 use Rattle.frame.specs.Frames.{FrameAt}
 use Rattle.plan_reader.specs.Plans.{ExtractionAt}
@@ -28,31 +28,31 @@ Exchangeable empty = ⊥
 Exchangeable (held F) = Unit {0}
 Exchangeable (extracted X) = Unit {0}
 
-by-room : (n room : ℕ) (p : Plan) → Exchangeable p → exchangeBytes n room (ok p) ≡ (if leb n room then ok (planBytes (exchangePlan p)) else refused 9)
-unfolding exchangeBytes
+by-room : (n room : ℕ) (p : Plan) → Exchangeable p → newAfterExchange n room (ok p) ≡ (if leb n room then ok (planBytes (exchangePlan p)) else refused 9)
+unfolding newAfterExchange
 by-room n room empty h = absurd h
 by-room n room (held F) h = refl
 by-room n room (extracted X) h = refl
 
 module _ (n : ℕ) (before scratch : List ℕ) where
-  outcome : {r : Result Plan} {b : Result (List ℕ)} → heldPlan n before ≡ r → exchangeBytes n (length scratch) r ≡ b
+  outcome : {r : Result Plan} {b : Result (List ℕ)} → heldPlan n before ≡ r → newAfterExchange n (length scratch) r ≡ b
       → exchange n before scratch ≡ finish n before scratch b
   unfolding exchange
-  outcome e f = ap (λ (r : Result Plan). finish n before scratch (exchangeBytes n (length scratch) r)) e ∙ ap (finish n before scratch) f
+  outcome e f = ap (λ (r : Result Plan). finish n before scratch (newAfterExchange n (length scratch) r)) e ∙ ap (finish n before scratch) f
 
   pub no-room-for-n : length before < n → exchange n before scratch ≡ record { answer = refused 10; n = n; buffer = before; scratch = scratch }
-  unfolding heldPlan exchangeBytes finish
+  unfolding heldPlan newAfterExchange finish
   no-room-for-n h =
       outcome (ap (λ (b : Bool). if b then planOf (take n before) else refused 10) (lt-leb n (length before) h)) refl
 
   pub no-plan : n ≤ length before → (number : ℕ) → planOf (take n before) ≡ refused number
       → exchange n before scratch ≡ record { answer = refused 10; n = n; buffer = before; scratch = scratch }
-  unfolding exchangeBytes finish
+  unfolding newAfterExchange finish
   no-plan fits number e = outcome (held-is n before fits e) refl
 
   pub empty-plan : n ≤ length before → planOf (take n before) ≡ ok empty
       → exchange n before scratch ≡ record { answer = refused 11; n = n; buffer = before; scratch = scratch }
-  unfolding exchangeBytes finish
+  unfolding newAfterExchange finish
   empty-plan fits e = outcome (held-is n before fits e) refl
 
   module _ (fits : n ≤ length before) (p : Plan) (takes : Exchangeable p) (is : planOf (take n before) ≡ ok p) where

@@ -13,7 +13,7 @@ use Rattle.definitions.specs.Expression.{Frame, Extraction, Plan, empty, extrac
 use Rattle.definitions.specs.Encode.{planBytes, extractionBytes}
 use Rattle.definitions.specs.Plans.{planOf}
 use Rattle.definitions.specs.Extract.{Pick, pick, takePick, matchesOf, extraction}
-use Rattle.definitions.specs.Calls.{Outcome, writtenOver, finish, heldPlan, extractedBytes, extractBytes, extract}
+use Rattle.definitions.specs.Calls.{Outcome, writtenOver, finish, heldPlan, matchedBytes, newAfterExtract, extract}
 use Rattle.definitions.specs.Limits.{AllBytes, ReadableFrame}
 use Rattle.definitions.proofs.ExtractGood.{GoodExtraction, extraction-good}
 use Rattle.frame.specs.declared.whole.Frame as places
@@ -29,26 +29,26 @@ module _ (n : ℕ) (before scratch : List ℕ) where
   abbrev refuses : (number : ℕ) → Outcome
   refuses number = record { answer = refused number; n = n; buffer = before; scratch = scratch }
 
-  outcome : {r : Result Plan} {b : Result (List ℕ)} → heldPlan n before ≡ r → extractBytes n (length scratch) r ≡ b
+  outcome : {r : Result Plan} {b : Result (List ℕ)} → heldPlan n before ≡ r → newAfterExtract n (length scratch) r ≡ b
       → extract n before scratch ≡ finish n before scratch b
   unfolding extract
-  outcome e f = ap (λ (r : Result Plan). finish n before scratch (extractBytes n (length scratch) r)) e ∙ ap (finish n before scratch) f
+  outcome e f = ap (λ (r : Result Plan). finish n before scratch (newAfterExtract n (length scratch) r)) e ∙ ap (finish n before scratch) f
 
   pub no-room-for-n : length before < n → extract n before scratch ≡ refuses 10
-  unfolding heldPlan extractBytes finish
+  unfolding heldPlan newAfterExtract finish
   no-room-for-n h = outcome (ap (λ (b : Bool). if b then planOf (take n before) else refused 10) (lt-leb n (length before) h)) refl
 
   module _ (fits : n ≤ length before) where
     pub no-plan : (number : ℕ) → planOf (take n before) ≡ refused number → extract n before scratch ≡ refuses 10
-    unfolding extractBytes finish
+    unfolding newAfterExtract finish
     no-plan number e = outcome (held-is n before fits e) refl
 
     pub empty-plan : planOf (take n before) ≡ ok empty → extract n before scratch ≡ refuses 11
-    unfolding extractBytes finish
+    unfolding newAfterExtract finish
     empty-plan e = outcome (held-is n before fits e) refl
 
     pub extracted-before : (X : Extraction) → planOf (take n before) ≡ ok (extracted X) → extract n before scratch ≡ refuses 12
-    unfolding extractBytes finish
+    unfolding newAfterExtract finish
     extracted-before X e = outcome (held-is n before fits e) refl
 
 -- ---- a held frame
@@ -58,18 +58,18 @@ module _ (n : ℕ) (before scratch : List ℕ) {f : places.Frame} (h : HoldsFram
   F = h .frame
 
   by-test : (b : Bool) → leb n (length scratch) ≡ b → (x : Option Extraction) → extraction F ≡ x
-      → extract n before scratch ≡ finish n before scratch (if b then extractedBytes x else refused 9)
-  unfolding extractBytes
+      → extract n before scratch ≡ finish n before scratch (if b then matchedBytes x else refused 9)
+  unfolding newAfterExtract
   by-test b t x e =
       outcome n before scratch (held-is n before (h .fits) (h .is))
-      (ap (λ (y : Bool). if y then extractedBytes (extraction F) else refused 9) t ∙ ap (λ (y : Option Extraction). if b then extractedBytes y else refused 9) e)
+      (ap (λ (y : Bool). if y then matchedBytes (extraction F) else refused 9) t ∙ ap (λ (y : Option Extraction). if b then matchedBytes y else refused 9) e)
 
   pub scratch-short : length scratch < n → extract n before scratch ≡ refuses n before scratch 9
   unfolding finish
   scratch-short short = by-test false (lt-leb n (length scratch) short) (extraction F) refl
 
   pub no-leaf : n ≤ length scratch → pick (matchesOf F) ≡ none → extract n before scratch ≡ refuses n before scratch 13
-  unfolding finish extraction takePick extractedBytes
+  unfolding finish extraction takePick matchedBytes
   no-leaf room e = by-test true (le-leb n (length scratch) room) none (ap (takePick F) e)
 
   -- The frame's expression over its records, where the pick looks.
@@ -112,7 +112,7 @@ module _ (n : ℕ) (before scratch : List ℕ) {f : places.Frame} (h : HoldsFram
 
       pub extracts : n ≤ length scratch → (written : List ℕ) (answer : ℕ) → ExtractionPut (take n after) f p before written answer
           → extract n before scratch ≡ record { answer = ok answer; n = answer; buffer = written; scratch = after }
-      unfolding finish extractedBytes planBytes extractionBytes writtenOver
+      unfolding finish matchedBytes planBytes extractionBytes writtenOver
       extracts enough written answer put =
           let is = put F (t .q) taking-kept in
           by-test true (le-leb n (length scratch) enough) (some X) extraction-is

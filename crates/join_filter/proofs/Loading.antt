@@ -11,7 +11,7 @@ use Rattle.definitions.specs.Basics.{if_then_else_, Result, ok, refused}
 use Rattle.definitions.specs.Expression.{Frame}
 use Rattle.definitions.specs.Leaves.{arity}
 use Rattle.definitions.specs.Plans.{frameOf}
-use Rattle.definitions.specs.Calls.{writtenOver, loadBytes, loaded, load}
+use Rattle.definitions.specs.Calls.{writtenOver, newAfterLoad, finishLoad, load}
 use Rattle.frame.specs.Frames.{arityLeft}
 
 pub with-arity : (r : Result Frame) (F : Frame) → r ≡ arityLeft F → arity (F .expr) ≡ true → r ≡ ok F
@@ -23,25 +23,25 @@ without-arity r F e a = e ∙ ap (λ (b : Bool). if b then ok F else refused 8) 
 module _ (frame before : List ℕ) where
   pub load-refuses : (number : ℕ) → frameOf frame ≡ refused number
       → (n : ℕ) → load frame n before ≡ record { answer = refused number; n = n; buffer = before }
-  unfolding load loadBytes loaded
-  load-refuses number e n = ap (λ (r : Result Frame). loaded n before (loadBytes frame (length before) r)) e
+  unfolding load newAfterLoad finishLoad
+  load-refuses number e n = ap (λ (r : Result Frame). finishLoad n before (newAfterLoad frame (length before) r)) e
 
   by-room : (F : Frame) → frameOf frame ≡ ok F → (b : Bool) → leb (length frame) (length before) ≡ b
-      → (n : ℕ) → load frame n before ≡ loaded n before (if b then ok frame else refused 9)
-  unfolding load loadBytes
+      → (n : ℕ) → load frame n before ≡ finishLoad n before (if b then ok frame else refused 9)
+  unfolding load newAfterLoad
   by-room F e b t n =
-      ap (λ (r : Result Frame). loaded n before (loadBytes frame (length before) r)) e
-      ∙ ap (λ (x : Bool). loaded n before (if x then ok frame else refused 9)) t
+      ap (λ (r : Result Frame). finishLoad n before (newAfterLoad frame (length before) r)) e
+      ∙ ap (λ (x : Bool). finishLoad n before (if x then ok frame else refused 9)) t
 
   pub load-short : (F : Frame) → frameOf frame ≡ ok F → length before < length frame
       → (n : ℕ) → load frame n before ≡ record { answer = refused 9; n = n; buffer = before }
-  unfolding loaded
+  unfolding finishLoad
   load-short F e h n = by-room F e false (lt-leb (length frame) (length before) h) n
 
   pub load-copies : (F : Frame) → frameOf frame ≡ ok F → length frame ≤ length before → (after : List ℕ)
       → after ≡ take (length frame) (drop 0 frame) ++ drop (length frame) before
       → (n : ℕ) → load frame n before ≡ record { answer = ok (length frame); n = length frame; buffer = after }
-  unfolding loaded writtenOver
+  unfolding finishLoad writtenOver
   load-copies F e h after w n =
       by-room F e true (le-leb (length frame) (length before) h) n
       ∙ ap (λ (x : List ℕ). record { answer = ok (length frame); n = length frame; buffer = x })

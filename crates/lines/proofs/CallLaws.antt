@@ -10,7 +10,7 @@ use Rattle.definitions.specs.Encode.{sideNumber}
 use Rattle.definitions.specs.Expression.{Expr, Side}
 use Rattle.definitions.specs.Leaves.{leaves}
 use Rattle.definitions.specs.Plans.{frameOf, logicalOf}
-use Rattle.definitions.specs.Calls.{LoadOutcome, Outcome, writtenOver, loadBytes, loaded, load, finish, heldPlan, extractBytes, extract, exchangeBytes, exchange}
+use Rattle.definitions.specs.Calls.{LoadOutcome, Outcome, writtenOver, newAfterLoad, finishLoad, load, finish, heldPlan, newAfterExtract, extract, newAfterExchange, exchange}
 use Rattle.definitions.specs.Machine.{Kind, extractCall, exchangeCall}
 use Rattle.definitions.specs.Sessions.{make}
 use Rattle.definitions.specs.Logical.{LogicalAnswer, leafName, distinct, spatialNames, logicalAnswer, logical, logicalBytes}
@@ -44,14 +44,14 @@ plan-written bytes before {after} {m} e f =
 
 -- ---- load
 
-loaded-fits : (x : Result (List ℕ)) (n : ℕ) (before : List ℕ) {m k : ℕ} {after : List ℕ} → loaded n before x ≡ record { answer = ok m; n = k; buffer = after } → m ≤ length after
-unfolding loaded
+loaded-fits : (x : Result (List ℕ)) (n : ℕ) (before : List ℕ) {m k : ℕ} {after : List ℕ} → finishLoad n before x ≡ record { answer = ok m; n = k; buffer = after } → m ≤ length after
+unfolding finishLoad
 loaded-fits (ok bytes) n before e = plan-written bytes before (ap (λ (o : LoadOutcome). o .answer) e) (ap (λ (o : LoadOutcome). o .buffer) e)
 loaded-fits (refused number) n before e = absurd (refused-not-ok _ _ (ap (λ (o : LoadOutcome). o .answer) e))
 
 load-fits : (frame before : List ℕ) {after : List ℕ} (a : CallAnswer) → LoadIs frame before after a → planLength (lineAnswer a) ≤ length after
 unfolding load
-load-fits frame before (Length m) is = loaded-fits (loadBytes frame (length before) (frameOf frame)) 0 before (is 0)
+load-fits frame before (Length m) is = loaded-fits (newAfterLoad frame (length before) (frameOf frame)) 0 before (is 0)
 load-fits frame before (CallRefused why) is = omega arith
 
 pub load-gives : (frame before : List ℕ) {after : List ℕ} (a : CallAnswer) → LoadIs frame before after a → (n : ℕ) → AnswerIs (loadLine frame (keptAs n before)) n after (lineAnswer a)
@@ -72,8 +72,8 @@ any-scratch n before s t (refused number) = refl
 
 same-call : (kind : Kind) (n : ℕ) (before s t : List ℕ) → length s ≡ length t → made (make kind n before s) ≡ made (make kind n before t)
 unfolding make extract exchange
-same-call extractCall n before s t e = rw e (any-scratch n before s t (extractBytes n (length t) (heldPlan n before)))
-same-call exchangeCall n before s t e = rw e (any-scratch n before s t (exchangeBytes n (length t) (heldPlan n before)))
+same-call extractCall n before s t e = rw e (any-scratch n before s t (newAfterExtract n (length t) (heldPlan n before)))
+same-call exchangeCall n before s t e = rw e (any-scratch n before s t (newAfterExchange n (length t) (heldPlan n before)))
 
 finish-fits : (x : Result (List ℕ)) (n : ℕ) (before s : List ℕ) {m k : ℕ} {after t : List ℕ}
     → finish n before s x ≡ record { answer = ok m; n = k; buffer = after; scratch = t } → m ≤ length after
@@ -83,8 +83,8 @@ finish-fits (refused number) n before s e = absurd (refused-not-ok _ _ (ap (λ (
 
 call-fits : (kind : Kind) (n : ℕ) (before s : List ℕ) {after t : List ℕ} (a : CallAnswer) → OutcomeIs (make kind n before s) n after t a → planLength (lineAnswer a) ≤ length after
 unfolding make extract exchange
-call-fits extractCall n before s (Length m) is = finish-fits (extractBytes n (length s) (heldPlan n before)) n before s is
-call-fits exchangeCall n before s (Length m) is = finish-fits (exchangeBytes n (length s) (heldPlan n before)) n before s is
+call-fits extractCall n before s (Length m) is = finish-fits (newAfterExtract n (length s) (heldPlan n before)) n before s is
+call-fits exchangeCall n before s (Length m) is = finish-fits (newAfterExchange n (length s) (heldPlan n before)) n before s is
 call-fits kind n before s (CallRefused why) is = omega arith
 
 pub call-gives : (kind : Kind) (n : ℕ) (before s : List ℕ) {after t : List ℕ} (a : CallAnswer) → OutcomeIs (make kind n before s) n after t a → length s ≡ 16384

@@ -6,7 +6,7 @@ use mathlib.Core.Bool.{Bool, true, false}
 use mathlib.Core.List.{List, [], _∷_}
 use lib.ListN.{length, take, replicate, length-append}
 use lib.Seq.{length-take-le}
-use Rattle.definitions.specs.Program.{Kept, lineOutcome, written, freshPlan}
+use Rattle.definitions.specs.Program.{Kept, lineOutcome, writtenLine, freshPlan}
 use Rattle.frame.specs.Refusals.{numberOf}
 use Rattle.frame.specs.declared.refusals.Refusal.the-variants.{NotHexadecimal}
 use Rattle.lines.specs.declared.answers.Answer.{Answer}
@@ -45,8 +45,8 @@ module _ {line begun : List ℕ} {count : ℕ} (b : Begun line count begun) wher
   too-long n plan size h = rw (← bad-line begun (keptAs n plan) (long-line begun (omega (arith, b .counted)))) (refused-line n plan NotHexadecimal)
 
 -- What a line gives fits the room that is asked for it.
-pub written-fits : (plan : List ℕ) (answer : Answer) → planLength answer ≤ length plan → length (written (answerBytes plan answer)) ≤ 2 * length plan + 11
-unfolding written
+pub written-fits : (plan : List ℕ) (answer : Answer) → planLength answer ≤ length plan → length (writtenLine (answerBytes plan answer)) ≤ 2 * length plan + 11
+unfolding writtenLine
 written-fits plan (Plan n) h = simp length-append (omega (arith, length-digits (0 ∷ take n plan), length-take-le n plan h))
 written-fits plan (Logical high low names side) h = simp length-append (omega (arith, length-digits (0 ∷ high ∷ low ∷ names ∷ side ∷ [])))
 written-fits plan (Refused why) h = simp length-append (omega (arith, length-digits (numberOf why ∷ [])))
@@ -54,7 +54,7 @@ written-fits plan (Refused why) h = simp length-append (omega (arith, length-dig
 -- What it gives is written, and none has begun.
 pub line-ended : {out plan line after plan-after : List ℕ} {state : State} {filled : ℕ} (answer : Answer)
     → ((begun : List ℕ) → Begun line (state .count) begun → AnswerIs (lineOutcome begun (keptAs (state .n) plan)) (state .n) plan-after answer)
-    → WroteAt (state .filled) (written (answerBytes plan-after answer)) out after filled
+    → WroteAt (state .filled) (writtenLine (answerBytes plan-after answer)) out after filled
     → filled ≤ length after
     → Makes endLine (lent out plan line) state (lent after plan-after line) (stateOf (lengthAfter (state .n) answer) 0 filled)
 unfolding endLine

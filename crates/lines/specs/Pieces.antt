@@ -4,7 +4,7 @@ use mathlib.Core.Bool.{Bool, true, false}
 use mathlib.Core.List.{List, [], _∷_, _++_}
 use lib.Dec.{eqb}
 use Rattle.definitions.specs.Basics.{if_then_else_}
-use Rattle.definitions.specs.Program.{Kept, LineOutcome, lineOutcome, written, freshPlan}
+use Rattle.definitions.specs.Program.{Kept, LineOutcome, lineOutcome, writtenLine, freshPlan}
 
 -- Between two pieces: the plan that is kept, and the characters of the line that has begun.
 pub record Session : Type 0 where
@@ -20,7 +20,7 @@ pub record Step : Type 0 where
 unfoldable pub endLine : Session → Step
 endLine s =
     let o : LineOutcome = lineOutcome (s .begun) (s .kept) in
-    record { out = written (o .answer); after = record { kept = o .kept; begun = [] } }
+    record { out = writtenLine (o .answer); after = record { kept = o .kept; begun = [] } }
 
 -- Characters join the line that has begun.
 unfoldable pub join : Session → (characters : List ℕ) → Step

@@ -4,7 +4,7 @@ use frame::refusals::refusal_number;
 use hexadecimal::writing::put_line;
 ghost use Prim.Native.Nat.{_+_, _*_, _≤_};
 ghost use lib.ListN.{length};
-ghost use Rattle.definitions.specs.Program.{written};
+ghost use Rattle.definitions.specs.Program.{writtenLine};
 ghost use Rattle.plan_writer.specs.Written.{WroteAt};
 ghost use Rattle.lines.specs.Answers.{answerBytes, planLength};
 
@@ -18,7 +18,7 @@ pub enum Answer {
 // The line out for an answer, from a place on; gives where it ends.
 pub fn put_answer(out: &mut [u8], at: usize, plan: &[u8], answer: Answer) -> usize
     requires { ⌜ (planLength answer ≤ length (now plan)) × (at + 2 * length (now plan) + 11 ≤ length (now out)) ⌝ }
-    ensures { λ r. ⌜ WroteAt at (written (answerBytes (now (plan .entry)) answer)) (now (out .entry)) (now (out .exit)) r ⌝ }
+    ensures { λ r. ⌜ WroteAt at (writtenLine (answerBytes (now (plan .entry)) answer)) (now (out .entry)) (now (out .exit)) r ⌝ }
 {
     match answer {
         Answer::Plan(n) => put_line(out, at, 0, &plan[..n]),

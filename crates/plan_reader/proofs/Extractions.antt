@@ -9,7 +9,7 @@ use lib.ListN.{length, drop, getD}
 use borrow.Author.Tests.{eq-eqb, ne-eqb}
 use Rattle.definitions.specs.Basics.{if_then_else_, ok, refused, mapResult}
 use Rattle.definitions.specs.Expression.{Frame, Predicate, Extraction, empty, held, extracted}
-use Rattle.definitions.specs.Readers.{Read, read, stopped, Reader, continue, _>>_, give, require, byte, frameLength, atEnd, answer}
+use Rattle.definitions.specs.Readers.{Read, read, stopped, Reader, continue, _>>_, give, require, byte, requireLength, atEnd, resultOf}
 use Rattle.definitions.specs.Decode.{extractionBody}
 use Rattle.definitions.specs.Plans.{wholeExtraction, frameOf, extractionOf, planOfKind, planOf}
 use Rattle.definitions.proofs.ReaderLaws.{after, halts, passes, fails}
@@ -40,11 +40,11 @@ ending X = atEnd >> give X
 module _ (s : List ℕ) where
   opens : wholeExtraction 0 s ≡ continue (firstOf 0 s) (λ first n t. continue (extractionBody first n t) ending)
   unfolding wholeExtraction firstOf
-  opens = sym (regroup (frameLength 0 s) (λ b. byte) (λ first n t. continue (extractionBody first n t) ending))
+  opens = sym (regroup (requireLength 0 s) (λ b. byte) (λ first n t. continue (extractionBody first n t) ending))
 
   stops : {number : ℕ} → wholeExtraction 0 s ≡ stopped number → mapResult extracted (extractionOf s) ≡ refused number
-  unfolding extractionOf answer
-  stops e = ap (λ (r : Read Extraction). mapResult extracted (answer r)) e
+  unfolding extractionOf resultOf
+  stops e = ap (λ (r : Read Extraction). mapResult extracted (resultOf r)) e
 
   pub unopened : {number : ℕ} → firstOf 0 s ≡ stopped number → mapResult extracted (extractionOf s) ≡ refused number
   unopened e = stops (opens ∙ halts _ e)
@@ -69,7 +69,7 @@ module _ (s : List ℕ) where
         pub ends : end ≡ length s → mapResult extracted (extractionOf s) ≡ (if remainderArity (X .remainder) then ok (extracted X) else refused 8)
         unfolding extractionOf
         ends z =
-            ap (λ (r : Read Extraction). mapResult extracted (answer r)) (last ∙ at-end (remainderArity (X .remainder)) z)
+            ap (λ (r : Read Extraction). mapResult extracted (resultOf r)) (last ∙ at-end (remainderArity (X .remainder)) z)
             ∙ ap (mapResult extracted) (left-to-test 8 (remainderArity (X .remainder)) X count (drop end s))
             ∙ mapped-test extracted (remainderArity (X .remainder)) X 8
 

@@ -1,61 +1,64 @@
 -- The 13 relation names, one after the other: the type of a name is that at its position.
 use Prim.Native.Nat.{ℕ, suc, _+_, _≤_, _<_}
+use Prim.Native.String.{String}
 use native.Mathlib.Omega.{arith}
 use mathlib.Core.Path.{_≡_, refl, sym, ap, _∙_}
 use mathlib.Core.Bool.{Bool, true, false, _&&_, _||_, false≢true}
-use mathlib.Core.List.{List, [], _∷_}
+use mathlib.Core.List.{List, [], _∷_, _++_, map}
 use mathlib.Core.Option.{Option, none, some}
 use lib.ListN.{length, getD}
 use lib.Dec.{eqb, leb}
 use borrow.Author.Tests.{lt-leb, eqb-true, eqb-false}
-use Rattle.definitions.specs.Basics.{if_then_else_, ascii, sameName, all}
-use Rattle.definitions.specs.Expression.{Relation, intersects, contains, within, covers, coveredBy, touches, crosses, overlaps, equals}
-use Rattle.definitions.specs.Leaves.{relationNamed}
+use Rattle.definitions.specs.Basics.{if_then_else_, ascii, sameName, any, all}
+use Rattle.definitions.specs.Expression.{Relation, Named, relations}
+use Rattle.definitions.specs.Leaves.{typeNamed, relationNamed}
 use Rattle.definitions.proofs.Taken.{and-both}
 use Rattle.expression.proofs.NameLaws.{and-false, unlike}
 use Rattle.expression.specs.Names.{position}
 
--- The value beside the first of the names that is this one.
-beside : {A : Type 0} → (name : List ℕ) → (names : List (List ℕ)) → (values : List A) → (other : A) → A
-beside name [] values other = other
-beside name (x ∷ xs) [] other = other
-beside name (x ∷ xs) (v ∷ vs) other = if sameName name x then v else beside name xs vs other
+-- The names of a list of types, one after the other, and beside each its type.
+unfoldable pub namesIn : List Named → List (List ℕ)
+namesIn [] = []
+namesIn (one ∷ more) = map ascii (one .names) ++ namesIn more
+
+unfoldable pub typesIn : List Named → List (Option Relation)
+typesIn [] = []
+typesIn (one ∷ more) = map (λ text. some (one .type)) (one .names) ++ typesIn more
 
 first-or-later : {A : Type 0} (same : Bool) (v : A) (vs : List A) (k : ℕ) (other later : A) → later ≡ getD vs k other
     → (if same then v else later) ≡ getD (v ∷ vs) (if same then 0 else suc k) other
 first-or-later true v vs k other later e = refl
 first-or-later false v vs k other later e = e
 
-beside-position : {A : Type 0} (name : List ℕ) (names : List (List ℕ)) (values : List A) (other : A) → length names ≡ length values
-    → beside name names values other ≡ getD values (position name names) other
-unfolding beside position
-beside-position name [] [] other e = refl
-beside-position name [] (v ∷ vs) other e = absurd (omega arith)
-beside-position name (x ∷ xs) [] other e = absurd (omega arith)
-beside-position name (x ∷ xs) (v ∷ vs) other e =
-    first-or-later (sameName name x) v vs (position name xs) other (beside name xs vs other) (beside-position name xs vs other (omega arith))
-
 either : {A : Type 0} (a b : Bool) (x y : A) → (if a || b then x else y) ≡ (if a then x else if b then x else y)
 either true b x y = refl
 either false b x y = refl
 
+-- The names of one type stand before the others.
+module _ (name : List ℕ) (type : Relation) (names : List (List ℕ)) (types : List (Option Relation)) (later : Option Relation)
+    (e : later ≡ getD types (position name names) none) where
+  one-of : (texts : List String) → (if any (λ text. sameName name (ascii text)) texts then some type else later)
+      ≡ getD (map (λ text. some type) texts ++ types) (position name (map ascii texts ++ names)) none
+  unfolding any position
+  one-of [] = e
+  one-of (text ∷ texts) = either (sameName name (ascii text)) (any (λ text. sameName name (ascii text)) texts) (some type) later
+      ∙ first-or-later (sameName name (ascii text)) (some type) (map (λ text. some type) texts ++ types) (position name (map ascii texts ++ names)) none _
+      (one-of texts)
+
+type-at : (name : List ℕ) (rows : List Named) → typeNamed rows name ≡ getD (typesIn rows) (position name (namesIn rows)) none
+unfolding typeNamed typesIn namesIn
+type-at name [] = refl
+type-at name (one ∷ more) = one-of name (one .type) (namesIn more) (typesIn more) (typeNamed more name) (type-at name more) (one .names)
+
 unfoldable pub relationNames : List (List ℕ)
-relationNames =
-    ascii "st_intersects" ∷ ascii "rs_intersects" ∷ ascii "st_contains" ∷ ascii "rs_contains" ∷ ascii "st_within" ∷ ascii "rs_within" ∷ ascii "st_covers" ∷
-    ascii "st_coveredby" ∷ ascii "st_covered_by" ∷ ascii "st_touches" ∷ ascii "st_crosses" ∷ ascii "st_overlaps" ∷ ascii "st_equals" ∷ []
+relationNames = namesIn relations
 
-unfoldable pub relations : List (Option Relation)
-relations =
-    some intersects ∷ some intersects ∷ some contains ∷ some contains ∷ some within ∷ some within ∷ some covers ∷ some coveredBy ∷ some coveredBy ∷
-    some touches ∷ some crosses ∷ some overlaps ∷ some equals ∷ []
+unfoldable pub relationTypes : List (Option Relation)
+relationTypes = typesIn relations
 
-one-by-one : (name : List ℕ) → relationNamed name ≡ beside name relationNames relations none
-unfolding relationNamed beside relationNames relations
-one-by-one name = rw (either, either, either, either)
-
-pub relation-at : (name : List ℕ) → relationNamed name ≡ getD relations (position name relationNames) none
-unfolding relationNames relations
-relation-at name = one-by-one name ∙ beside-position name relationNames relations none refl
+pub relation-at : (name : List ℕ) → relationNamed name ≡ getD relationTypes (position name relationNames) none
+unfolding relationNamed relationNames relationTypes
+relation-at name = type-at name relations
 
 -- ---- names of other lengths
 
@@ -73,12 +76,12 @@ abbrev usual : ℕ → Bool
 usual n = leb 9 n && leb n 13
 
 all-usual : all (λ x. usual (length x)) relationNames ≡ true
-unfolding all ascii relationNames
+unfolding all ascii relationNames namesIn relations
 all-usual = refl
 
 unusual : (name : List ℕ) → usual (length name) ≡ false → none ≡ relationNamed name
-unfolding relationNames relations
-unusual name out = sym (relation-at name ∙ ap (λ (k : ℕ). getD relations k none) (position-past usual name out relationNames all-usual))
+unfolding relationNames namesIn relationTypes typesIn relations
+unusual name out = sym (relation-at name ∙ ap (λ (k : ℕ). getD relationTypes k none) (position-past usual name out relationNames all-usual))
 
 pub short-name : (name : List ℕ) → length name < 9 → none ≡ relationNamed name
 short-name name h = unusual name (ap (λ (t : Bool). t && leb (length name) 13) (lt-leb 9 (length name) h))

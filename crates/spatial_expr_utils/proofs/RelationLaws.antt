@@ -6,11 +6,11 @@ use mathlib.Core.Bool.{Bool, true, false}
 use mathlib.Core.List.{List}
 use mathlib.Core.Option.{none, some, Option·none-ne-some}
 use lib.ListN.{length}
-use Rattle.definitions.specs.Basics.{ascii, sameName}
-use Rattle.definitions.specs.Expression.{call, Exprs, nil, cons, count, Record, relation}
+use Rattle.definitions.specs.Basics.{ascii, sameName, any}
+use Rattle.definitions.specs.Expression.{relations, call, Exprs, nil, cons, count, Record, relation}
 use Rattle.definitions.specs.Expression as definition
 use Rattle.definitions.specs.Encode.{exprsBytes}
-use Rattle.definitions.specs.Leaves.{relationNamed}
+use Rattle.definitions.specs.Leaves.{typeNamed, relationNamed}
 use Rattle.definitions.specs.Match.{relationRequest, callRequest, request, askNothing, invert, onChild, matchRelation, matchRequest, matchLeaf}
 use Rattle.definitions.proofs.Requests.{same-name}
 use Rattle.expression.specs.Places.{part}
@@ -40,7 +40,7 @@ not-this name other e n false same = refl
 
 module _ (records : List Record) (name : List ℕ) (ts : Exprs) {type : definition.Relation} (e : relationNamed name ≡ some type) where
   relation-leaf : matchLeaf records (call name ts) ≡ matchRequest records (relationRequest (some type) ts)
-  unfolding matchLeaf request callRequest relationNamed sameName ascii
+  unfolding matchLeaf request callRequest relationNamed typeNamed relations any sameName ascii
   relation-leaf =
       rw (not-this name (ascii "st_knn") e refl (sameName name (ascii "st_knn")) refl, not-this name (ascii "st_dwithin") e refl (sameName name (ascii "st_dwithin")) refl, e)
 

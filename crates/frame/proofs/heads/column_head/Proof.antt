@@ -4,7 +4,7 @@ use mathlib.Core.Path.{_∙_}
 use borrow.Author.Tests.{lt-ltb, le-ltb}
 use Rattle.definitions.specs.Expression.{column}
 use Rattle.definitions.specs.Readers.{number}
-use Rattle.definitions.specs.Decode.{exprs, columnNode}
+use Rattle.definitions.specs.Decode.{repeatExprs, columnNode}
 use Rattle.definitions.proofs.ReaderLaws.{after, passes, fails}
 use Rattle.frame.proofs.Reading.{stops-in-two}
 use Rattle.frame.proofs.heads.column_head.Statement.{statement}
@@ -15,7 +15,7 @@ unfolding columnNode
 returns c child n = stops-in-two (number 2 n _) (number 2) _ ((rw (c .before .why .given .1) at (c .before .before .before .two-fields .ensures)) n)
 
 returns-2 : tie.Need-returns-2
-unfolding exprs columnNode
+unfolding repeatExprs columnNode
 returns-2 c =
     let p = c .before .before in
     let two = rw (p .index .given .1) at (p .before .before .two-fields .ensures) in

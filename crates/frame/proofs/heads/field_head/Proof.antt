@@ -3,7 +3,7 @@ use borrow.Author.Needs.{needs}
 use mathlib.Core.Path.{_∙_}
 use Rattle.definitions.specs.Expression.{field}
 use Rattle.definitions.specs.Readers.{byteUpTo, number}
-use Rattle.definitions.specs.Decode.{exprs, fieldNode}
+use Rattle.definitions.specs.Decode.{repeatExprs, fieldNode}
 use Rattle.definitions.proofs.ReaderLaws.{after}
 use Rattle.frame.proofs.Reading.{stops-in-two}
 use Rattle.frame.proofs.heads.field_head.Statement.{statement}
@@ -14,7 +14,7 @@ unfolding fieldNode
 returns c child n = stops-in-two (byteUpTo 3 n _) (number 2) _ ((rw (c .before .why .given .1) at (c .before .before .before .two-fields .ensures)) n)
 
 returns-2 : tie.Need-returns-2
-unfolding exprs fieldNode
+unfolding repeatExprs fieldNode
 returns-2 c =
     let p = c .before in
     let two = rw (p .end .given .1) at (p .before .before .two-fields .ensures) in

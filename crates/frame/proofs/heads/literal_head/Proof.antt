@@ -3,7 +3,7 @@ use borrow.Author.Needs.{needs}
 use mathlib.Core.Path.{sym, _∙_}
 use Rattle.definitions.specs.Expression.{literal}
 use Rattle.definitions.specs.Readers.{byteUpTo, number}
-use Rattle.definitions.specs.Decode.{exprs, literalNode}
+use Rattle.definitions.specs.Decode.{repeatExprs, literalNode}
 use Rattle.definitions.proofs.ReaderLaws.{after, passes, fails}
 use Rattle.frame.proofs.Reading.{stops-in-two}
 use Rattle.frame.proofs.heads.literal_head.Statement.{statement}
@@ -14,7 +14,7 @@ unfolding literalNode
 returns c child n = stops-in-two (byteUpTo 6 n _) (number 8) _ ((rw (c .before .why .given .1) at (c .before .before .before .two-fields .ensures)) n)
 
 returns-2 : tie.Need-returns-2
-unfolding exprs literalNode
+unfolding repeatExprs literalNode
 returns-2 c =
     let p = c .before .before .before in
     let two = rw (p .kind .given .1) at (p .before .before .two-fields .ensures) in

@@ -66,7 +66,7 @@ node-head-of-kind-requires t c κs = (rw (c .before .before .before .kind .given
 node-row : (t : ℕ) (c : node-lts.After-known-told4 (node-claims t) (node-at t) node.Post)
     → (let a = c .before .before .before .before .before .before .before .before .before .before .before .args in
     let children = c .before .first .given .0 in
-    (r : Walked) → WalkedIs (a .s .now) (children .0) (a .count + 1) r (decode.exprs (children .1 .0) (decode.node (columnsOf (a .columns)) (a .levels - 1)))
+    (r : Walked) → WalkedIs (a .s .now) (children .0) (a .count + 1) r (decode.repeatExprs (children .1 .0) (decode.node (columnsOf (a .columns)) (a .levels - 1)))
     → WalkedIs (a .s .now) (a .at) (a .count) r (decode.node (columnsOf (a .columns)) (a .levels)))
 node-row t c r =
     let at-first = c .before in
@@ -76,7 +76,7 @@ node-row t c r =
     let a = c .before .before .before .before .before .before .before .before .before .before .before .args in
     let child = decode.node (columnsOf (a .columns)) (a .levels - 1) in
     let e = inside _ _ _ _ _ (kind .1 (a .count)) (a .levels) (at-first .before .before .before .before .if1 .left) (at-first .before .before .before .if2 .left) ∙ head .2 child (a .count + 1) in
-    node-walks (a .s .now) (a .at) _ (a .count) (decode.node (columnsOf (a .columns)) (a .levels)) (decode.exprs _ child) (head .1) e r
+    node-walks (a .s .now) (a .at) _ (a .count) (decode.node (columnsOf (a .columns)) (a .levels)) (decode.repeatExprs _ child) (head .1) e r
 
 -- It starts inside the bytes.
 node-first : (t : ℕ) (c : node-lts.After-known-told4 (node-claims t) (node-at t) node.Post)

@@ -3,7 +3,7 @@ use borrow.Author.Needs.{needs}
 use mathlib.Core.Path.{ap, _∙_}
 use Rattle.definitions.specs.Expression.{Frame}
 use Rattle.definitions.specs.Leaves.{arity}
-use Rattle.definitions.specs.Readers.{Reader, _>>_, give, require, answer}
+use Rattle.definitions.specs.Readers.{Reader, _>>_, give, require, resultOf}
 use Rattle.definitions.specs.Decode.{frameBody}
 use Rattle.definitions.specs.Plans.{physicalFrame, frameOf}
 use Rattle.frame.proofs.Wholes.{unopened, body-stops, ends, goes-on, left-to-test}
@@ -17,17 +17,17 @@ frame-body-requires : tie.Need-frame-body-requires
 frame-body-requires c κs = (rw (c .before .at .given .1) at (c .before .before .before .opened .ensures)) .0
 
 returns : tie.Need-returns
-unfolding frameOf physicalFrame answer
-returns c = ap answer (unopened 1 frameBody last _ ((rw (c .before .why .given .1) at (c .before .before .before .opened .ensures)) 0))
+unfolding frameOf physicalFrame resultOf
+returns c = ap resultOf (unopened 1 frameBody last _ ((rw (c .before .why .given .1) at (c .before .before .before .opened .ensures)) 0))
 
 returns-2 : tie.Need-returns-2
-unfolding frameOf physicalFrame answer
+unfolding frameOf physicalFrame resultOf
 returns-2 c =
     let at-why2 = c .before in
     let at-at = at-why2 .before .before .before .before in
     let start = rw (at-at .at .given .1) at (at-at .before .before .opened .ensures) in
     let stop = rw (at-why2 .why2 .given .1) at (at-why2 .before .before .frame-body .ensures) in
-    ap answer (body-stops 1 frameBody last _ (at-at .at .given .0 .0) _ (start .2 0) stop)
+    ap resultOf (body-stops 1 frameBody last _ (at-at .at .given .0 .0) _ (start .2 0) stop)
 
 returns-3 : tie.Need-returns-3
 unfolding frameOf physicalFrame
@@ -38,17 +38,17 @@ returns-3 c =
     let body = rw (at-frame .frame .given .1) at (at-frame .before .before .frame-body .ensures) in (
       body .1,
       rw (c .if1 .taken) at (body .3),
-      ap answer (ends 1 frameBody last _ (at-at .at .given .0 .0) _ (start .2 0) _ _ _ (body .2) (c .if1 .taken)) ∙ left-to-test 8 (arity (body .1 .expr)) _ _ _,
+      ap resultOf (ends 1 frameBody last _ (at-at .at .given .0 .0) _ (start .2 0) _ _ _ (body .2) (c .if1 .taken)) ∙ left-to-test 8 (arity (body .1 .expr)) _ _ _,
     )
 
 returns-4 : tie.Need-returns-4
-unfolding frameOf physicalFrame answer
+unfolding frameOf physicalFrame resultOf
 returns-4 c =
     let at-frame = c .before .before in
     let at-at = at-frame .before .before .before .before in
     let start = rw (at-at .at .given .1) at (at-at .before .before .opened .ensures) in
     let body = rw (at-frame .frame .given .1) at (at-frame .before .before .frame-body .ensures) in
-    ap answer (goes-on 1 frameBody last _ (at-at .at .given .0 .0) _ (start .2 0) _ _ _ (body .2) (body .0) (c .if1 .left))
+    ap resultOf (goes-on 1 frameBody last _ (at-at .at .given .0 .0) _ (start .2 0) _ _ _ (body .2) (body .0) (c .if1 .left))
 
 pub physical-frame-spec : {M : Type 1} → statement M
 physical-frame-spec =

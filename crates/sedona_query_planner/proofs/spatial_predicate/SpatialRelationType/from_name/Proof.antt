@@ -7,11 +7,12 @@ use mathlib.Core.Option.{none}
 use lib.ListN.{length, getD, List·getD-eq-default}
 use borrow.Author.Needs.{needs}
 use Rattle.definitions.specs.Basics.{ascii}
+use Rattle.definitions.specs.Expression.{relations}
 use Rattle.definitions.specs.Leaves.{relationNamed}
 use Rattle.expression.specs.Places.{part}
 use Rattle.expression.specs.Names.{words, endsFrom}
 use Rattle.expression.proofs.NameLaws.{part-length}
-use Rattle.sedona_query_planner.proofs.RelationNames.{relations, relationNames, relation-at, short-name, long-name, neighbours}
+use Rattle.sedona_query_planner.proofs.RelationNames.{namesIn, typesIn, relationNames, relationTypes, relation-at, short-name, long-name, neighbours}
 use Rattle.sedona_query_planner.proofs.spatial_predicate.SpatialRelationType.from_name.Statement.{statement}
 use Rattle.sedona_query_planner.proofs.spatial_predicate.SpatialRelationType.from_name.Tie as tie
 
@@ -22,19 +23,19 @@ module _ (c : tie.After-name-index) where
       let start = c .before .before .before .before .before .before .before in
       part (start .args .s .now) (start .args .at) (start .args .end)
 
-  found : getD relations (c .name-index .result) none ≡ relationNamed name
-  unfolding words ascii relationNames
-  found = ap (λ (i : ℕ). getD relations i none) (c .name-index .ensures) ∙ sym (relation-at name)
+  found : getD relationTypes (c .name-index .result) none ≡ relationNamed name
+  unfolding words ascii relationNames namesIn relations
+  found = ap (λ (i : ℕ). getD relationTypes i none) (c .name-index .ensures) ∙ sym (relation-at name)
 
-  one : {k : ℕ} → c .name-index .result ≡ k → getD relations k none ≡ relationNamed name
-  one e = ap (λ (i : ℕ). getD relations i none) (sym e) ∙ found
+  one : {k : ℕ} → c .name-index .result ≡ k → getD relationTypes k none ≡ relationNamed name
+  one e = ap (λ (i : ℕ). getD relationTypes i none) (sym e) ∙ found
 
-  two : (k : ℕ) → getD relations (suc k) none ≡ getD relations k none → k ≤ c .name-index .result → c .name-index .result < k + 2
-      → getD relations k none ≡ relationNamed name
-  two k e low high = sym (neighbours relations none k (c .name-index .result) e low high) ∙ found
+  two : (k : ℕ) → getD relationTypes (suc k) none ≡ getD relationTypes k none → k ≤ c .name-index .result → c .name-index .result < k + 2
+      → getD relationTypes k none ≡ relationNamed name
+  two k e low high = sym (neighbours relationTypes none k (c .name-index .result) e low high) ∙ found
 
-  past : length relations ≤ c .name-index .result → none ≡ relationNamed name
-  past h = sym (List·getD-eq-default relations none h) ∙ found
+  past : length relationTypes ≤ c .name-index .result → none ≡ relationNamed name
+  past h = sym (List·getD-eq-default relationTypes none h) ∙ found
 
 -- The names' ends are where they are said to be.
 name-index-requires : tie.Need-name-index-requires
@@ -56,7 +57,7 @@ too-long c =
     long-name (part (a .s .now) (a .at) (a .end)) (omega (arith, c .if2 .taken, part-length (a .s .now) (a .at) (a .end) (start .pre .0) (start .pre .1)))
 
 pub from-name-spec : {M : Type 1} → statement M
-unfolding relations
+unfolding relationTypes typesIn relations
 from-name-spec =
     tie.close
     (tie.spec
