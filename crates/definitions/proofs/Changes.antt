@@ -16,7 +16,7 @@ use Rattle.definitions.specs.Plans.{frameOf, planOf}
 use Rattle.definitions.specs.Extract.{extraction}
 use Rattle.definitions.specs.Calls.{writtenOver, newAfterLoad, finishLoad, load, finish, heldPlan, newAfterExchange, exchange, matchedBytes, newAfterExtract, extract}
 use Rattle.definitions.specs.Machine.{Kind, extractCall, exchangeCall}
-use Rattle.definitions.specs.Limits.{AllBytes, GoodPlan}
+use Rattle.definitions.specs.Good.{AllBytes, GoodPlan}
 use Rattle.definitions.specs.Sessions.{make, accepted}
 use Rattle.definitions.specs.Claims.{RefusedKeeps, SameFrom, LoadWrote, CallWrote, AcceptedWrites}
 use Rattle.definitions.proofs.InversePlan.{plan-back}

@@ -9,7 +9,7 @@ use Rattle.definitions.specs.Basics.{bigEndian}
 use Rattle.definitions.specs.Expression.{Side, left, right, noSide, Record, Frame, Predicate, relation, distance, knn, Plan, empty, held, extracted}
 use Rattle.definitions.specs.Encode.{exprBytes, recordBytes, recordsBytes, frameBytes, predicateFields, remainderBytes, extractionBytes, planBytes}
 use Rattle.definitions.specs.Exchange.{negate, exchangeRecord, exchangeFrame, exchangePredicate, exchangeExtraction, exchangePlan}
-use Rattle.definitions.specs.Limits.{RecordsInRange, ReadableFrame, OneOfTwo, ReadablePredicate, ReadableRemainder, predicateNodes, remainderNodes, planNodes, ReadablePlan, GoodPlan}
+use Rattle.definitions.specs.Good.{RecordsInRange, ReadableFrame, OneOfTwo, ReadablePredicate, ReadableRemainder, predicateNodes, remainderNodes, planNodes, ReadablePlan, GoodPlan}
 
 -- ---- lengths
 

@@ -16,7 +16,7 @@ use Rattle.definitions.specs.Leaves.{leaves, arity}
 use Rattle.definitions.specs.Decode.{indexBelow}
 use Rattle.definitions.specs.Match.{Order, leftRight, rightLeft, noOrder, Request, askRelation, askDistance, askKnn, askNothing, request, recordAt, onChild, columnsOf, sameSide, ArgumentSide, noColumns, allOn, mixed, sideOf, orderOf, boundOn, matchRelation, storeDistance, matchDistance, matchKnn, matchRequest, matchLeaf}
 use Rattle.definitions.specs.Extract.{Pick, pick, without, sameColumn, referenced, newIndex, prune, takePick, matchesOf, extraction}
-use Rattle.definitions.specs.Limits.{All, nodes, depth, Short, InRange, Readable, RecordsInRange, ReadableFrame, ReadablePredicate, ReadableRemainder, predicateNodes, remainderNodes, planNodes, GoodPlan}
+use Rattle.definitions.specs.Good.{All, nodes, depth, Short, InRange, Readable, RecordsInRange, ReadableFrame, ReadablePredicate, ReadableRemainder, predicateNodes, remainderNodes, planNodes, GoodPlan}
 use Rattle.definitions.proofs.Columns.{all-every, Fits, map-length, map-nodes, map-depth, map-in-range, map-arity, widen, all-both, columns-below}
 use Rattle.definitions.proofs.Taken.{Taken, taken, taken-bytes, taken-nodes, leaf-depth, rest-depth, leaf-in-range, rest-in-range, rest-arity, restBytes, restNodes, RestIs}
 use Rattle.definitions.proofs.Pick.{Picked, picked}

@@ -14,7 +14,7 @@ use Rattle.definitions.specs.Literals.{literalInRange, numberBool}
 use Rattle.definitions.specs.Leaves.{relationNamed}
 use Rattle.definitions.specs.Match.{literalU32, literalBool, knnLiterals, knnRequest, matchLeaf}
 use Rattle.definitions.specs.Decode.{Columns, indexBelow}
-use Rattle.definitions.specs.Limits.{InRange, InRangeAll}
+use Rattle.definitions.specs.Good.{InRange, InRangeAll}
 use Rattle.definitions.specs.Meaning.{Valuation, Meaning, value, values, frameColumns, Fair}
 use Rattle.definitions.specs.Claims.{FairByArguments}
 use Rattle.definitions.proofs.Everything.{everything}

@@ -15,7 +15,7 @@ use Rattle.definitions.specs.Literals.{literalInRange}
 use Rattle.definitions.specs.Encode.{exprBytes, exprsBytes}
 use Rattle.definitions.specs.Readers.{read, stopped, Reader, give, firstByte, byteUpTo, byteBetween, numberAfter, number, repeat}
 use Rattle.definitions.specs.Decode.{repeatExprs, Columns, indexBelow, fields, allowedKind, columnNode, fieldNode, literalNode, binaryExpr, binaryNode, callNode, otherNode, anyColumn, nodeOfKind, countNode, nodeKind, node}
-use Rattle.definitions.specs.Limits.{AllBytes, nodes, depth, nodesAll, depthAll, InRange, InRangeAll, NameBytes}
+use Rattle.definitions.specs.Good.{AllBytes, nodes, depth, nodesAll, depthAll, InRange, InRangeAll, NameBytes}
 use Rattle.definitions.proofs.ReaderLaws.{stopped-not-read, step, test, same-read, given}
 use Rattle.definitions.proofs.Columns.{all-right}
 use Rattle.definitions.proofs.Taken.{and-both}

@@ -15,7 +15,7 @@ use Rattle.definitions.specs.Leaves.{arity}
 use Rattle.definitions.specs.Readers.{Read, read, stopped, Reader, continue, give, number, byteUpTo, repeat, firstByte, refuse, requireLength, noneLeft, atEnd, resultOf}
 use Rattle.definitions.specs.Decode.{Columns, indexBelow, node, expression, sideNumbered, sideUpTo, oneRecord, recordCount, frameBody, relationNumbered, relationPredicate, distancePredicate, knnPredicate, predicateOfKind, someRemainder, remainderOfKind, remainder, extractionBody, argument}
 use Rattle.definitions.specs.Plans.{physicalFrame, wholeExtraction, frameOf, extractionOf, planOfKind, planOf}
-use Rattle.definitions.specs.Limits.{AllBytes, nodes, Short, Readable, RecordsInRange, OneOfTwo, ReadablePredicate, ReadableRemainder, predicateNodes, remainderNodes, planNodes, ReadablePlan, GoodPlan}
+use Rattle.definitions.specs.Good.{AllBytes, nodes, Short, Readable, RecordsInRange, OneOfTwo, ReadablePredicate, ReadableRemainder, predicateNodes, remainderNodes, planNodes, ReadablePlan, GoodPlan}
 use Rattle.definitions.proofs.ReaderLaws.{stopped-not-read, step, test, given}
 use Rattle.definitions.proofs.Taken.{and-both}
 use Rattle.definitions.proofs.Inverse.{byte-back, byte-up-to-back, number-back, after-bytes, join, NodeBack, node-back}

@@ -15,7 +15,7 @@ use Rattle.definitions.specs.Exchange.{exchangePlan}
 use Rattle.definitions.specs.Calls.{newAfterLoad, finishLoad, load, finish, heldPlan, newAfterExchange, exchange, matchedBytes, newAfterExtract, extract}
 use Rattle.definitions.specs.Machine.{Kind, extractCall, exchangeCall}
 use Rattle.definitions.specs.Sessions.{make}
-use Rattle.definitions.specs.Limits.{AllBytes, GoodPlan}
+use Rattle.definitions.specs.Good.{AllBytes, GoodPlan}
 use Rattle.definitions.specs.Claims.{LengthsShort}
 use Rattle.definitions.proofs.InversePlan.{refused-not-ok, same-ok, frame-back, plan-back}
 use Rattle.definitions.proofs.ExtractGood.{GoodExtraction, extraction-good}

@@ -14,7 +14,7 @@ use Rattle.definitions.specs.Encode.{planBytes, frameBytes}
 use Rattle.definitions.specs.Plans.{frameOf}
 use Rattle.definitions.specs.Calls.{LoadOutcome, writtenOver, newAfterLoad, finishLoad, load}
 use Rattle.definitions.specs.Machine.{machinePlan, machineLength, fresh}
-use Rattle.definitions.specs.Limits.{AllBytes}
+use Rattle.definitions.specs.Good.{AllBytes}
 use Rattle.definitions.specs.Sessions.{Made, machineAfter, accepted, Session, after}
 use Rattle.definitions.specs.Claims.{LoadAccepted, LoadHolds, ListOfCalls}
 use Rattle.definitions.proofs.RoundTripPlan.{frame-reads}

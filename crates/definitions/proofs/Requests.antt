@@ -16,7 +16,7 @@ use Rattle.definitions.specs.Encode.{exprBytes, exprsBytes}
 use Rattle.definitions.specs.Leaves.{relationNamed, Comparison, compares, noComparison, comparison, distanceArguments}
 use Rattle.definitions.specs.Decode.{Columns}
 use Rattle.definitions.specs.Match.{literalU32, literalBool, Request, askRelation, askDistance, askKnn, askNothing, relationRequest, dwithinRequest, knnLiterals, knnRequest, callRequest, distanceRequest, comparisonRequest, request}
-use Rattle.definitions.specs.Limits.{nodes, nodesAll, depth, depthAll, InRange, InRangeAll}
+use Rattle.definitions.specs.Good.{nodes, nodesAll, depth, depthAll, InRange, InRangeAll}
 use Rattle.definitions.proofs.Taken.{and-both}
 
 -- By the two outcomes of a test.

@@ -16,7 +16,7 @@ use Rattle.definitions.specs.Encode.{exprBytes, exprsBytes}
 use Rattle.definitions.specs.Readers.{read, stopped, Reader, continue, give, byteUpTo, byteBetween, numberAfter, number, repeat}
 use Rattle.definitions.specs.Decode.{repeatExprs, Columns, indexBelow, fields, allowedKind, columnNode, fieldNode, literalNode, binaryExpr, binaryNode, callNode, otherNode, anyColumn, nodeOfKind, nodeKind, node}
 use Rattle.definitions.proofs.ReaderLaws.{after, passes}
-use Rattle.definitions.specs.Limits.{nodes, depth, nodesAll, depthAll, InRange, InRangeAll, NameBytes}
+use Rattle.definitions.specs.Good.{nodes, depth, nodesAll, depthAll, InRange, InRangeAll, NameBytes}
 
 -- ---- numbers of any width
 

@@ -15,7 +15,7 @@ use Rattle.definitions.specs.Leaves.{arity}
 use Rattle.definitions.specs.Readers.{requireLength, noneLeft, resultOf, read, Reader, continue, give, repeat, atEnd}
 use Rattle.definitions.specs.Decode.{Columns, indexBelow, expression, sideNumbered, sideUpTo, oneRecord, recordCount, frameBody, relationNumbered, relationPredicate, distancePredicate, knnPredicate, predicateOfKind, someRemainder, remainderOfKind, remainder, extractionBody, argument}
 use Rattle.definitions.specs.Plans.{physicalFrame, wholeExtraction, frameOf, extractionOf, planOfKind, planOf}
-use Rattle.definitions.specs.Limits.{nodes, Short, Readable, RecordsInRange, ReadableFrame, OneOfTwo, ReadablePredicate, ReadableRemainder, predicateNodes, remainderNodes, planNodes, ReadablePlan, GoodPlan}
+use Rattle.definitions.specs.Good.{nodes, Short, Readable, RecordsInRange, ReadableFrame, OneOfTwo, ReadablePredicate, ReadableRemainder, predicateNodes, remainderNodes, planNodes, ReadablePlan, GoodPlan}
 use Rattle.definitions.proofs.ReaderLaws.{after, passes}
 use Rattle.definitions.proofs.RoundTrip.{number-reads, byte-reads, node-reads}
 

@@ -16,7 +16,7 @@ use Rattle.definitions.specs.Encode.{exprBytes}
 use Rattle.definitions.specs.Leaves.{leaves, leafArity, arity}
 use Rattle.definitions.specs.Decode.{Columns}
 use Rattle.definitions.specs.Extract.{andLeft, andRight, without}
-use Rattle.definitions.specs.Limits.{nodes, depth, InRange}
+use Rattle.definitions.specs.Good.{nodes, depth, InRange}
 use Rattle.definitions.specs.Claims.{RestOfLeaves}
 
 -- A leaf taken out of an expression, and what is left.

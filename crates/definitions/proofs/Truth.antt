@@ -17,7 +17,7 @@ use Rattle.definitions.specs.Match.{columnsOf, columnsOfAll, mapColumns,
 use Rattle.definitions.specs.Extract.{Pick, pick, andLeft, andRight, without, referenced, newIndex, prune, takePick, matchesOf, extraction}
 use Rattle.definitions.specs.Exchange.{negate, exchangeRecord, exchangeFrame, exchangePredicate, exchangeExtraction, exchangePlan}
 use Rattle.definitions.specs.Machine.{machinePlan, extractionOr}
-use Rattle.definitions.specs.Limits.{All, InRange, InRangeAll, NoMarks}
+use Rattle.definitions.specs.Good.{All, InRange, InRangeAll, NoMarks}
 use Rattle.definitions.specs.Meaning.{andValue, Valuation, Meaning, value, values, frameColumns, frameValue, distanceByForm, predicateValue, andRemainder, extractionValue, planValue, exchangedValues, Fair}
 use Rattle.definitions.proofs.Columns.{all-left, all-right, all-both, columns-below}
 use Rattle.definitions.proofs.Taken.{Taken, here, inLeft, inRight, leaf-in-range, rest-in-range, RestIs, and-both}

@@ -7,6 +7,7 @@ use mathlib.Core.Option.{Option, none, some, Option·map}
 use lib.ListN.{length, take, drop, getD, replicate}
 use lib.Dec.{leb, eqb}
 use lib.Count.{ones}
+use Rattle.definitions.specs.Limits.{mostBytes, mostNodes}
 use Rattle.definitions.specs.Basics.{if_then_else_, Result, ok, refused, ascii, sameName, any}
 use Rattle.definitions.specs.Expression.{left, right, noSide, within, Expr, column, call, nil, cons, Frame, Predicate, Extraction, Plan, held, extracted}
 use Rattle.definitions.specs.Encode.{exprBytes, frameBytes, predicateKind, extractionBytes, planBytes}
@@ -18,7 +19,7 @@ use Rattle.definitions.specs.Extract.{isKnn, without, prune, matchesOf, 
 use Rattle.definitions.specs.Exchange.{exchangeFrame, exchangeExtraction, exchangePlan}
 use Rattle.definitions.specs.Calls.{LoadOutcome, load, Outcome, extract, exchange}
 use Rattle.definitions.specs.Machine.{Kind, machinePlan, machineLength, Run}
-use Rattle.definitions.specs.Limits.{AllBytes, nodes, Readable, GoodPlan, NoMarks}
+use Rattle.definitions.specs.Good.{AllBytes, nodes, Readable, GoodPlan, NoMarks}
 use Rattle.definitions.specs.Sessions.{Made, extractWith, exchangeWith, make, ListOutcome, machineAfter, accepted, Session, after, lengthAfter, planLeft, planAfter, extractedIn, oddIn, answerAfter}
 use Rattle.definitions.specs.Meaning.{Valuation, Meaning, Fair, andValue, frameValue, extractionValue, planValue, exchangedValues}
 use Rattle.definitions.specs.Logical.{spatialNames, mask, distinct, logical}
@@ -38,7 +39,7 @@ ExtractExchanged = (F : Frame) → extraction (exchangeFrame F) ≡ Option·map 
 -- The bytes of an expression, whatever follows them, are read as that expression.
 abbrev pub ExpressionReadBack : Type 0
 ExpressionReadBack =
-    (c : Columns) (e : Expr) (n : ℕ) (rest : List ℕ) → Readable c e → n + nodes e ≤ 1024
+    (c : Columns) (e : Expr) (n : ℕ) (rest : List ℕ) → Readable c e → n + nodes e ≤ mostNodes
     → expression c n (exprBytes e ++ rest) ≡ read e (n + nodes e) rest
 
 -- The bytes of a good plan are that plan.
@@ -64,8 +65,8 @@ ExchangeGood = (p : Plan) → GoodPlan p → GoodPlan (exchangePlan p) × (lengt
 -- The length that a call gives is at most 16,384.
 abbrev pub LengthsShort : Type 0
 LengthsShort =
-    ((frame : List ℕ) (n : ℕ) (buffer : List ℕ) (m : ℕ) → AllBytes frame → load frame n buffer .answer ≡ ok m → m ≤ 16384)
-    × ((kind : Kind) (n : ℕ) (buffer scratch : List ℕ) (m : ℕ) → AllBytes buffer → make kind n buffer scratch .answer ≡ ok m → m ≤ 16384)
+    ((frame : List ℕ) (n : ℕ) (buffer : List ℕ) (m : ℕ) → AllBytes frame → load frame n buffer .answer ≡ ok m → m ≤ mostBytes)
+    × ((kind : Kind) (n : ℕ) (buffer scratch : List ℕ) (m : ℕ) → AllBytes buffer → make kind n buffer scratch .answer ≡ ok m → m ≤ mostBytes)
 
 -- ---- demand 1: what a call changes, and the numbers of its refusals
 

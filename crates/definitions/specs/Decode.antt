@@ -5,6 +5,7 @@ use mathlib.Core.List.{map}
 use mathlib.Core.Option.{Option, none, some}
 use lib.ListN.{getD}
 use lib.Dec.{leb, ltb, eqb}
+use Rattle.definitions.specs.Limits.{mostNodes, mostLevels, mostRecords, mostOperator, mostNameBytes, firstNameByte, lastNameByte, mostChildren, twoBytes}
 use Rattle.definitions.specs.Basics.{if_then_else_}
 use Rattle.definitions.specs.Expression.{Side, left, right, noSide, Relation, equals, relations, Expr, column, literal, and, binary, call, other, field, Exprs, nil, cons, Record, Frame, Predicate, relation, distance, knn, Extraction}
 use Rattle.definitions.specs.Literals.{literalInRange}
@@ -54,7 +55,7 @@ binaryExpr (suc o) l r = binary (suc o) l r
 -- A binary node: operator and two children.
 unfoldable pub binaryNode : (child : Reader Expr) → Reader Expr
 binaryNode child = do
-  operator ← byteUpTo 63
+  operator ← byteUpTo mostOperator
   l ← child
   r ← child
   give (binaryExpr operator l r)
@@ -70,9 +71,9 @@ repeatExprs (suc k) child = do
 -- A scalar function: name length, name bytes, argument count, arguments.
 unfoldable pub callNode : (child : Reader Expr) → Reader Expr
 callNode child = do
-  size ← byteBetween 1 32
-  name ← repeat size (byteBetween 33 126)
-  arguments ← byteUpTo 16
+  size ← byteBetween 1 mostNameBytes
+  name ← repeat size (byteBetween firstNameByte lastNameByte)
+  arguments ← byteUpTo mostChildren
   es ← repeatExprs arguments child
   give (call name es)
 
@@ -80,7 +81,7 @@ callNode child = do
 unfoldable pub otherNode : (child : Reader Expr) → Reader Expr
 otherNode child = do
   tag ← number 2
-  children ← byteUpTo 16
+  children ← byteUpTo mostChildren
   es ← repeatExprs children child
   give (other tag es)
 
@@ -100,7 +101,7 @@ nodeOfKind columns child kind =
 
 -- Counts one more node; 5 where 1,024 are counted already.
 abbrev pub countNode : Reader Bool
-countNode = λ n s. if ltb n 1024 then read true (suc n) s else stopped 5
+countNode = λ n s. if ltb n mostNodes then read true (suc n) s else stopped 5
 
 -- A kind byte: 3 if it is missing, 4 if it is not allowed.
 unfoldable pub nodeKind : Columns → Reader ℕ
@@ -121,7 +122,7 @@ node columns (suc levels) = do
 
 -- An expression of depth at most 64.
 unfoldable pub expression : Columns → Reader Expr
-expression columns = node columns 64
+expression columns = node columns mostLevels
 
 -- ---- records and frames
 
@@ -147,7 +148,7 @@ oneRecord = do
 unfoldable pub recordCount : Reader ℕ
 recordCount = do
   columns ← number 2
-  require 4 (leb columns 256)
+  require 4 (leb columns mostRecords)
   give columns
 
 -- A physical frame after its first byte.
@@ -162,7 +163,7 @@ frameBody = do
 
 -- An expression of a predicate, whose columns have no bound but their width.
 unfoldable pub argument : Reader Expr
-argument = expression (indexBelow 65536)
+argument = expression (indexBelow twoBytes)
 
 -- The relation type of a number. (Never seen above 8, because the byte is at most 8.)
 unfoldable pub relationNumbered : ℕ → Relation

@@ -1,160 +1,54 @@
--- Good frames, extractions and plans: every field in its range, length, nodes and depth within the limits.
-use Prim.Native.Nat.{ℕ, suc, _+_, _≤_, _<_, max}
-use mathlib.Core.Path.{_≡_}
-use mathlib.Core.Bool.{true, _&&_}
-use mathlib.Core.List.{List, [], _∷_}
-use mathlib.Core.Option.{Option, none, some}
-use lib.ListN.{length}
-use lib.Dec.{leb, ltb}
-use Rattle.definitions.specs.Expression.{Side, left, right, noSide, Expr, column, literal, and, binary, call, other, field, Exprs, nil, cons, Record, Frame, Predicate, relation, distance, knn, Plan, empty, held, extracted, count}
-use Rattle.definitions.specs.Literals.{literalInRange}
-use Rattle.definitions.specs.Encode.{planBytes}
-use Rattle.definitions.specs.Leaves.{arity}
-use Rattle.definitions.specs.Decode.{Columns, indexBelow, fields}
+-- The limits of document 01, each named once.
+use Prim.Native.Nat.{ℕ}
 
--- Every number of the list has the property.
-abbrev pub All : (ℕ → Type 0) → List ℕ → Type 0
-All P [] = Unit {0}
-All P (x ∷ xs) = P x × All P xs
+-- A frame or plan has at most 16,384 bytes.
+abbrev pub mostBytes : ℕ
+mostBytes = 16384
 
--- Every number is a byte.
-abbrev pub AllBytes : List ℕ → Type 0
-AllBytes s = All (λ b. b < 256) s
+-- At most 1,024 nodes, over the whole of an extraction.
+abbrev pub mostNodes : ℕ
+mostNodes = 1024
 
-unfoldable mutual
-  -- How many nodes an expression has.
-  pub nodes : Expr → ℕ
-  nodes (column index tag) = 1
-  nodes (literal type bytes) = 1
-  nodes (and l r) = suc (nodes l + nodes r)
-  nodes (binary operator l r) = suc (nodes l + nodes r)
-  nodes (call name arguments) = suc (nodesAll arguments)
-  nodes (other tag children) = suc (nodesAll children)
-  nodes (field bits tag) = 1
+-- Depth at most 64; the root is depth 1.
+abbrev pub mostLevels : ℕ
+mostLevels = 64
 
-  -- How many several expressions have.
-  pub nodesAll : Exprs → ℕ
-  nodesAll nil = 0
-  nodesAll (cons e es) = nodes e + nodesAll es
+-- At most 256 records.
+abbrev pub mostRecords : ℕ
+mostRecords = 256
 
-unfoldable mutual
-  -- How many levels an expression has; the root is the first.
-  pub depth : Expr → ℕ
-  depth (column index tag) = 1
-  depth (literal type bytes) = 1
-  depth (and l r) = suc (max (depth l) (depth r))
-  depth (binary operator l r) = suc (max (depth l) (depth r))
-  depth (call name arguments) = suc (depthAll arguments)
-  depth (other tag children) = suc (depthAll children)
-  depth (field bits tag) = 1
+-- Operators are 0 to 63.
+abbrev pub mostOperator : ℕ
+mostOperator = 63
 
-  -- How many the deepest of several has.
-  pub depthAll : Exprs → ℕ
-  depthAll nil = 0
-  depthAll (cons e es) = max (depth e) (depthAll es)
+-- A name has 1 to 32 bytes,
+abbrev pub mostNameBytes : ℕ
+mostNameBytes = 32
 
--- Two bytes hold it.
-abbrev pub Short : ℕ → Type 0
-Short n = n < 65536
+-- each from 33
+abbrev pub firstNameByte : ℕ
+firstNameByte = 33
 
--- Each byte of a name is from 33 to 126.
-abbrev pub NameBytes : List ℕ → Type 0
-NameBytes [] = Unit {0}
-NameBytes (b ∷ s) = ((leb 33 b && leb b 126) ≡ true) × NameBytes s
+-- to 126.
+abbrev pub lastNameByte : ℕ
+lastNameByte = 126
 
--- A physical column: index below the bound, two bytes each.
-abbrev pub ColumnInRange : Columns → (index tag : ℕ) → Type 0
-ColumnInRange (indexBelow bound) index tag = (ltb index bound ≡ true) × Short index × Short tag
-ColumnInRange fields index tag = ⊥
+-- 0 to 16 arguments or children.
+abbrev pub mostChildren : ℕ
+mostChildren = 16
 
--- A logical column: bits 0 to 3.
-abbrev pub FieldInRange : Columns → (bits tag : ℕ) → Type 0
-FieldInRange (indexBelow bound) bits tag = ⊥
-FieldInRange fields bits tag = (bits ≤ 3) × Short tag
+-- Two bytes hold the numbers below 65,536: indexes and tags,
+abbrev pub twoBytes : ℕ
+twoBytes = 65536
 
-abbrev mutual
-  -- Every field of the expression is in its range.
-  pub InRange : Columns → Expr → Type 0
-  InRange c (column index tag) = ColumnInRange c index tag
-  InRange c (literal type bytes) = (type ≤ 6) × (bytes < 18446744073709551616) × (literalInRange type bytes ≡ true)
-  InRange c (and l r) = InRange c l × InRange c r
-  InRange c (binary operator l r) = (1 ≤ operator) × (operator ≤ 63) × InRange c l × InRange c r
-  InRange c (call name arguments) =
-      (1 ≤ length name) × (length name ≤ 32) × NameBytes name × (count arguments ≤ 16) × InRangeAll c arguments
-  InRange c (other tag children) = Short tag × (count children ≤ 16) × InRangeAll c children
-  InRange c (field bits tag) = FieldInRange c bits tag
+-- four bytes those below 4,294,967,296: k and UInt32,
+abbrev pub fourBytes : ℕ
+fourBytes = 4294967296
 
-  -- Every field of several expressions is.
-  pub InRangeAll : Columns → Exprs → Type 0
-  InRangeAll c nil = Unit {0}
-  InRangeAll c (cons e es) = InRange c e × InRangeAll c es
+-- and eight bytes those below 18,446,744,073,709,551,616: literals.
+abbrev pub eightBytes : ℕ
+eightBytes = 18446744073709551616
 
--- An expression in range and of at most 64 levels.
-pub record Readable (c : Columns) (e : Expr) : Type 0 where
-  pub inRange : InRange c e
-  pub shallow : depth e ≤ 64
-
--- Child index and field tag of each record are of two bytes.
-abbrev pub RecordsInRange : List Record → Type 0
-RecordsInRange [] = Unit {0}
-RecordsInRange (r ∷ rs) = (Short (r .child) × Short (r .tag)) × RecordsInRange rs
-
--- A frame in range, without the limits on its bytes and nodes.
-pub record ReadableFrame (F : Frame) : Type 0 where
-  pub few : length (F .records) ≤ 256
-  pub recordsInRange : RecordsInRange (F .records)
-  pub expr : Readable (indexBelow (length (F .records))) (F .expr)
-  pub arity : arity (F .expr) ≡ true
-
--- A probe side is left or right.
-abbrev pub OneOfTwo : Side → Type 0
-OneOfTwo left = Unit {0}
-OneOfTwo right = Unit {0}
-OneOfTwo noSide = ⊥
-
--- A predicate in range; its columns have no bound but their width.
-abbrev pub ReadablePredicate : Predicate → Type 0
-ReadablePredicate (relation type l r) = Readable (indexBelow 65536) l × Readable (indexBelow 65536) r
-ReadablePredicate (distance form side l r bound) =
-    (form ≤ 4) × Readable (indexBelow 65536) l × Readable (indexBelow 65536) r × Readable (indexBelow 65536) bound
-ReadablePredicate (knn k spheroid probe ties l r) =
-    (k < 4294967296) × (spheroid ≤ 1) × OneOfTwo probe × (ties ≤ 2) × Readable (indexBelow 65536) l × Readable (indexBelow 65536) r
-
--- A remainder in range.
-abbrev pub ReadableRemainder : Option Frame → Type 0
-ReadableRemainder none = Unit {0}
-ReadableRemainder (some F) = ReadableFrame F
-
--- How many nodes a predicate has.
-unfoldable pub predicateNodes : Predicate → ℕ
-predicateNodes (relation type l r) = nodes l + nodes r
-predicateNodes (distance form side l r bound) = nodes l + nodes r + nodes bound
-predicateNodes (knn k spheroid probe ties l r) = nodes l + nodes r
-
--- How many nodes a remainder has.
-unfoldable pub remainderNodes : Option Frame → ℕ
-remainderNodes none = 0
-remainderNodes (some F) = nodes (F .expr)
-
--- How many nodes a plan has over the whole.
-unfoldable pub planNodes : Plan → ℕ
-planNodes empty = 0
-planNodes (held F) = nodes (F .expr)
-planNodes (extracted X) = predicateNodes (X .predicate) + remainderNodes (X .remainder)
-
--- A plan in range.
-abbrev pub ReadablePlan : Plan → Type 0
-ReadablePlan empty = Unit {0}
-ReadablePlan (held F) = ReadableFrame F
-ReadablePlan (extracted X) = ReadablePredicate (X .predicate) × ReadableRemainder (X .remainder)
-
--- A good plan: in range, at most 1,024 nodes over the whole, at most 16,384 bytes.
-pub record GoodPlan (p : Plan) : Type 0 where
-  pub readable : ReadablePlan p
-  pub fewNodes : planNodes p ≤ 1024
-  pub fewBytes : length (planBytes p) ≤ 16384
-
--- No record is a mark column.
-abbrev pub NoMarks : List Record → Type 0
-NoMarks [] = Unit {0}
-NoMarks (r ∷ rs) = (r .side ≡ noSide → ⊥) × NoMarks rs
+-- A line of the program has at most 32,768 digits.
+abbrev pub mostDigits : ℕ
+mostDigits = 32768

@@ -4,6 +4,7 @@ use mathlib.Core.Bool.{Bool, true, _||_}
 use mathlib.Core.Option.{Option, none, some}
 use lib.Dec.{leb, ltb, eqb}
 use lib.IntN.{ℤ, pos, negsuc}
+use Rattle.definitions.specs.Limits.{fourBytes}
 use Rattle.definitions.specs.Basics.{if_then_else_}
 
 -- The whole number that eight bytes are in two's complement (`negsuc n` is −(n + 1)).
@@ -20,7 +21,7 @@ unfoldable pub literalInRange : (type bytes : ℕ) → Bool
 literalInRange type bytes =
     if eqb type 1 then leb bytes 1 else
     if eqb type 2 then isInt32 (signed bytes) else
-    if eqb type 4 then ltb bytes 4294967296 else
+    if eqb type 4 then ltb bytes fourBytes else
     true
 
 -- A whole number from 0 to 4,294,967,295.

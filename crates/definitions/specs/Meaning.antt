@@ -11,7 +11,7 @@ use Rattle.definitions.specs.Leaves.{relationNamed}
 use Rattle.definitions.specs.Match.{recordAt, invert, matchLeaf}
 use Rattle.definitions.specs.Exchange.{negate}
 use Rattle.definitions.specs.Decode.{indexBelow}
-use Rattle.definitions.specs.Limits.{InRangeAll}
+use Rattle.definitions.specs.Good.{InRangeAll}
 
 -- Values: 0 is false, 1 true, others unknown. And gives 0 if either is 0, 1 if both are 1, else 2.
 unfoldable pub andValue : ℕ → ℕ → ℕ

@@ -5,6 +5,7 @@ use mathlib.Core.List.{List, [], _∷_, _++_}
 use mathlib.Core.Option.{Option, none, some}
 use lib.ListN.{length, take, replicate}
 use lib.Dec.{leb, ltb, eqb}
+use Rattle.definitions.specs.Limits.{mostBytes, mostDigits}
 use Rattle.definitions.specs.Basics.{if_then_else_, Result, ok, refused, mapResult}
 use Rattle.definitions.specs.Calls.{LoadOutcome, load, Outcome}
 use Rattle.definitions.specs.Machine.{Kind, extractCall, exchangeCall}
@@ -40,7 +41,7 @@ orRefused number (some a) = ok a
 
 -- The bytes of a line; 14 for an odd count, another character or over 32,768 digits.
 unfoldable pub lineBytes : (line : List ℕ) → Result (List ℕ)
-lineBytes line = if leb (length line) 32768 then orRefused 14 (digitBytes line) else refused 14
+lineBytes line = if leb (length line) mostDigits then orRefused 14 (digitBytes line) else refused 14
 
 -- The digit of a value below 16.
 unfoldable pub digit : ℕ → ℕ
@@ -81,7 +82,7 @@ logicalLine bytes kept = record { answer = mapResult logicalBytes (logical bytes
 unfoldable pub callLine : Kind → (more : List ℕ) → Kept → LineOutcome
 callLine kind (b ∷ more) kept = refusedLine 7 kept
 callLine kind [] kept =
-    let o : Outcome = make kind (kept .n) (kept .buffer) (replicate 16384 0) in
+    let o : Outcome = make kind (kept .n) (kept .buffer) (replicate mostBytes 0) in
     record { answer = mapResult (λ n. take n (o .buffer)) (o .answer); kept = record { n = o .n; buffer = o .buffer } }
 
 -- A line by its first byte: 1 if there is none, 2 for any other.
@@ -129,7 +130,7 @@ outputFrom kept (line ∷ lines) =
 
 -- A fresh plan in a buffer of 16,384 bytes.
 unfoldable pub freshPlan : Kept
-freshPlan = record { n = 0; buffer = replicate 16384 0 }
+freshPlan = record { n = 0; buffer = replicate mostBytes 0 }
 
 -- What the program writes for an input.
 unfoldable pub output : (input : List ℕ) → List ℕ

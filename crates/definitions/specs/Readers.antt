@@ -4,6 +4,7 @@ use mathlib.Core.Bool.{Bool, true, false, _&&_}
 use mathlib.Core.List.{List, [], _∷_}
 use lib.ListN.{length}
 use lib.Dec.{leb}
+use Rattle.definitions.specs.Limits.{mostBytes}
 use Rattle.definitions.specs.Basics.{Result, ok, refused}
 
 -- What a reader gives: a value with the nodes counted so far and the bytes after it, or the number of the refusal.
@@ -90,7 +91,7 @@ repeat (suc k) one = do
 
 -- Refuses with 1 an empty frame and one of over 16,384 bytes.
 unfoldable pub requireLength : Reader Bool
-requireLength = λ n s. require 1 (leb 1 (length s) && leb (length s) 16384) n s
+requireLength = λ n s. require 1 (leb 1 (length s) && leb (length s) mostBytes) n s
 
 -- Whether no byte is left.
 unfoldable pub noneLeft : List ℕ → Bool

@@ -9,7 +9,7 @@ use Rattle.definitions.specs.Expression.{Frame, held}
 use Rattle.definitions.specs.Encode.{frameBytes}
 use Rattle.definitions.specs.Calls.{Outcome, extract, exchange}
 use Rattle.definitions.specs.Machine.{Kind, extractCall, exchangeCall, Fed, Run, machineRun, fresh}
-use Rattle.definitions.specs.Limits.{GoodPlan}
+use Rattle.definitions.specs.Good.{GoodPlan}
 
 -- ---- lists of calls
 

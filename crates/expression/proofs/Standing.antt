@@ -8,7 +8,7 @@ use Rattle.definitions.specs.Basics.{bigEndian}
 use Rattle.definitions.specs.Expression.{Expr, column, literal, and, binary, call, other, field, Exprs, nil, cons, count}
 use Rattle.definitions.specs.Encode.{exprBytes, exprsBytes}
 use Rattle.definitions.specs.Decode.{Columns}
-use Rattle.definitions.specs.Limits.{InRange, InRangeAll}
+use Rattle.definitions.specs.Good.{InRange, InRangeAll}
 use Rattle.expression.specs.Places.{Holds}
 use Rattle.expression.specs.Nodes.{headBytes, childrenOf, kindOf, Stands, Row}
 use Rattle.expression.proofs.Placed.{fits, byte-at, front, back}

@@ -8,7 +8,7 @@ use Rattle.definitions.specs.Expression.{Record}
 use Rattle.definitions.specs.Encode.{sideNumber, recordBytes, recordsBytes}
 use Rattle.definitions.specs.Readers.{read, byteUpTo, number, repeat}
 use Rattle.definitions.specs.Decode.{sideNumbered, sideUpTo, oneRecord}
-use Rattle.definitions.specs.Limits.{AllBytes}
+use Rattle.definitions.specs.Good.{AllBytes}
 use Rattle.definitions.proofs.ReaderLaws.{step, given}
 use Rattle.definitions.proofs.Inverse.{byte-up-to-back, number-back, after-bytes, join}
 use Rattle.definitions.proofs.InversePlan.{side-number}

@@ -7,7 +7,7 @@ use lib.ListN.{length, drop, getD, length-drop, length-append}
 use mir.Syntax.{w8}
 use mir.Val.{Fits}
 use Rattle.definitions.specs.Decode.{Columns, node, expression}
-use Rattle.definitions.specs.Limits.{AllBytes}
+use Rattle.definitions.specs.Good.{AllBytes}
 use Rattle.definitions.proofs.Inverse.{NodeBack, node-back}
 use Rattle.frame.specs.declared.walk.Walked.{Walked}
 use Rattle.frame.specs.declared.walk.Walked.the-variants.{To, Refused}

@@ -11,7 +11,7 @@ use Rattle.definitions.specs.Expression.{Expr, Record}
 use Rattle.definitions.specs.Encode.{recordsBytes}
 use Rattle.definitions.specs.Readers.{Read, read, stopped, Reader, continue, _>>=_, _>>_, give, require, byte, repeat, requireLength, noneLeft, atEnd, resultOf}
 use Rattle.definitions.specs.Decode.{indexBelow, oneRecord}
-use Rattle.definitions.specs.Limits.{AllBytes}
+use Rattle.definitions.specs.Good.{AllBytes}
 use Rattle.definitions.proofs.ReaderLaws.{after, halts, passes, fails}
 use Rattle.frame.specs.declared.fields.Field.{Field}
 use Rattle.frame.specs.declared.fields.Field.the-variants.{Value, Refused}

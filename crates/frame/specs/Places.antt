@@ -7,7 +7,7 @@ use Rattle.definitions.specs.Expression.{Expr}
 use Rattle.definitions.specs.Encode.{exprBytes}
 use Rattle.definitions.specs.Readers.{read, stopped}
 use Rattle.definitions.specs.Decode.{Columns, expression}
-use Rattle.definitions.specs.Limits.{Readable}
+use Rattle.definitions.specs.Good.{Readable}
 use Rattle.frame.specs.Refusals.{numberOf}
 use Rattle.frame.specs.declared.walk.Walked.{Walked}
 use Rattle.frame.specs.declared.walk.Walked.the-variants.{To, Refused}

@@ -12,7 +12,7 @@ use Rattle.definitions.specs.Encode.{planBytes}
 use Rattle.definitions.specs.Plans.{frameOf}
 use Rattle.definitions.specs.Calls.{LoadOutcome, load, Outcome}
 use Rattle.definitions.specs.Machine.{extractCall, exchangeCall}
-use Rattle.definitions.specs.Limits.{AllBytes}
+use Rattle.definitions.specs.Good.{AllBytes}
 use Rattle.definitions.specs.Sessions.{Made, make, ListOutcome, callsRun, machineAfter, accepted, extractAccepted, exchangesOdd, Session, after, planLeft, extractedIn, oddIn}
 use Rattle.definitions.specs.Meaning.{frameValue}
 use Rattle.definitions.specs.Claims.{Agree, someLeafMatches, Took, extractedPlan, priceLine, valuesWhen, HasValue}

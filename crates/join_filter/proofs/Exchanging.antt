@@ -13,7 +13,7 @@ use Rattle.definitions.specs.Encode.{planBytes}
 use Rattle.definitions.specs.Plans.{planOf}
 use Rattle.definitions.specs.Exchange.{exchangePlan}
 use Rattle.definitions.specs.Calls.{finish, heldPlan, newAfterExchange, exchange}
-use Rattle.definitions.specs.Limits.{AllBytes}
+use Rattle.definitions.specs.Good.{AllBytes}
 use Rattle.frame.specs.Frames.{FrameAt}
 use Rattle.plan_reader.specs.Plans.{ExtractionAt}
 use Rattle.frame.specs.declared.whole.Frame as places

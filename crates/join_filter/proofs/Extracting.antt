@@ -14,7 +14,7 @@ use Rattle.definitions.specs.Encode.{planBytes, extractionBytes}
 use Rattle.definitions.specs.Plans.{planOf}
 use Rattle.definitions.specs.Extract.{Pick, pick, takePick, matchesOf, extraction}
 use Rattle.definitions.specs.Calls.{Outcome, writtenOver, finish, heldPlan, matchedBytes, newAfterExtract, extract}
-use Rattle.definitions.specs.Limits.{AllBytes, ReadableFrame}
+use Rattle.definitions.specs.Good.{AllBytes, ReadableFrame}
 use Rattle.definitions.proofs.ExtractGood.{GoodExtraction, extraction-good}
 use Rattle.frame.specs.declared.whole.Frame as places
 use Rattle.spatial_expr_utils.specs.Frames.{Over}

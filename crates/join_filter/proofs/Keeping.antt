@@ -11,7 +11,7 @@ use Rattle.definitions.specs.Expression.{Plan}
 use Rattle.definitions.specs.Encode.{planBytes}
 use Rattle.definitions.specs.Plans.{planOf}
 use Rattle.definitions.specs.Calls.{writtenOver, heldPlan}
-use Rattle.definitions.specs.Limits.{AllBytes, GoodPlan}
+use Rattle.definitions.specs.Good.{AllBytes, GoodPlan}
 use Rattle.definitions.proofs.InversePlan.{plan-back}
 use Rattle.definitions.proofs.Lengths.{bytes-up-to}
 

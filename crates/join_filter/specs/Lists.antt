@@ -11,7 +11,7 @@ use Rattle.definitions.specs.Expression.{Frame, Extraction}
 use Rattle.definitions.specs.Encode.{planBytes}
 use Rattle.definitions.specs.Plans.{frameOf}
 use Rattle.definitions.specs.Machine.{extractCall, exchangeCall}
-use Rattle.definitions.specs.Limits.{AllBytes, NoMarks}
+use Rattle.definitions.specs.Good.{AllBytes, NoMarks}
 use Rattle.definitions.specs.Sessions.{Made, make, ListOutcome, machineAfter, accepted, extractAccepted, exchangesOdd, planLeft}
 use Rattle.definitions.specs.Meaning.{Valuation, Meaning, Fair, frameValue}
 use Rattle.definitions.specs.Claims.{Agree, someLeafMatches, Took, extractedPlan, priceLine, valuesWhen, HasValue}

@@ -6,7 +6,7 @@ use lib.ListN.{length}
 use Rattle.definitions.specs.Basics.{bigEndian}
 use Rattle.definitions.specs.Expression as tree
 use Rattle.definitions.specs.Encode.{recordsBytes, predicateKind, predicateFields}
-use Rattle.definitions.specs.Limits.{ReadablePredicate}
+use Rattle.definitions.specs.Good.{ReadablePredicate}
 use Rattle.expression.specs.Places.{Holds}
 use Rattle.frame.specs.Places.{Between}
 use Rattle.plan_reader.specs.Predicates.{PredicateAt}

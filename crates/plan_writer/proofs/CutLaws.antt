@@ -13,7 +13,7 @@ use Rattle.definitions.specs.Encode.{exprBytes}
 use Rattle.definitions.specs.Leaves.{leaves}
 use Rattle.definitions.specs.Decode.{Columns}
 use Rattle.definitions.specs.Extract.{without, andLeft, andRight}
-use Rattle.definitions.specs.Limits.{InRange}
+use Rattle.definitions.specs.Good.{InRange}
 use Rattle.definitions.proofs.Taken.{Taken, RestIs, rest-in-range}
 use Rattle.expression.specs.Nodes.{leftOf, rightOf}
 use Rattle.plan_writer.specs.Cuts.{CutAt, here, inLeft, inRight, inside, around, EndsInside, Ends}

@@ -11,7 +11,7 @@ use Rattle.definitions.specs.Expression.{Expr, column, Record}
 use Rattle.definitions.specs.Encode.{exprBytes}
 use Rattle.definitions.specs.Decode.{indexBelow}
 use Rattle.definitions.specs.Match.{recordAt}
-use Rattle.definitions.specs.Limits.{RecordsInRange}
+use Rattle.definitions.specs.Good.{RecordsInRange}
 use Rattle.expression.specs.Places.{Holds, shortAt}
 use Rattle.expression.specs.Nodes.{headBytes, Stands}
 use Rattle.expression.proofs.Records.{short-is, short-length}

@@ -9,7 +9,7 @@ use lib.Seq.{getD-set-same, getD-set-other}
 use lib.Dec.{ltb, eqb}
 use borrow.Author.Tests.{ltb-true, eqb-true, eqb-false}
 use Rattle.definitions.specs.Basics.{any}
-use Rattle.definitions.specs.Limits.{All}
+use Rattle.definitions.specs.Good.{All}
 use Rattle.plan_writer.specs.References.{marked}
 use Rattle.plan_writer.specs.Records.{Flags}
 

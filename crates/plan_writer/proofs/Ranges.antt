@@ -7,7 +7,7 @@ use mathlib.Core.List.{List}
 use Rattle.definitions.specs.Expression.{Expr, column, literal, and, binary, call, other, field, Exprs, nil, cons}
 use Rattle.definitions.specs.Decode.{indexBelow}
 use Rattle.definitions.specs.Match.{mapColumns, mapColumnsAll}
-use Rattle.definitions.specs.Limits.{InRange, InRangeAll}
+use Rattle.definitions.specs.Good.{InRange, InRangeAll}
 use Rattle.expression.specs.Nodes.{Stands, Row}
 
 module _ (a b : ℕ) (wide : a ≤ b) where

@@ -14,7 +14,7 @@ use Rattle.definitions.specs.Expression.{Side, left, right, noSide, Record}
 use Rattle.definitions.specs.Encode.{sideNumber, recordBytes, recordsBytes}
 use Rattle.definitions.specs.Match.{recordAt, sameSide}
 use Rattle.definitions.specs.Extract.{sameColumn, newIndex}
-use Rattle.definitions.specs.Limits.{All}
+use Rattle.definitions.specs.Good.{All}
 use Rattle.definitions.proofs.ExchangeGood.{records-length}
 use Rattle.expression.specs.Places.{shortAt}
 use Rattle.expression.proofs.Placed as placed

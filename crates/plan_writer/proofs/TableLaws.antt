@@ -12,7 +12,7 @@ use Rattle.definitions.specs.Expression.{Expr, Record}
 use Rattle.definitions.specs.Encode.{exprBytes, recordBytes}
 use Rattle.definitions.specs.Decode.{indexBelow}
 use Rattle.definitions.specs.Match.{recordAt, mapColumns, onChild}
-use Rattle.definitions.specs.Limits.{InRange}
+use Rattle.definitions.specs.Good.{InRange}
 use Rattle.definitions.proofs.ExchangeGood.{records-length}
 use Rattle.expression.specs.Places.{shortAt}
 use Rattle.expression.proofs.Placed.{fits, front, next}

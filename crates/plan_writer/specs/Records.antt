@@ -10,7 +10,7 @@ use Rattle.definitions.specs.Expression.{Record}
 use Rattle.definitions.specs.Encode.{recordsBytes}
 use Rattle.definitions.specs.Match.{recordAt}
 use Rattle.definitions.specs.Extract.{sameColumn, newIndex}
-use Rattle.definitions.specs.Limits.{All}
+use Rattle.definitions.specs.Good.{All}
 use Rattle.plan_writer.specs.Written.{WroteAt}
 use Rattle.plan_writer.specs.Tables.{Entry, Entries, Table}
 

@@ -6,7 +6,7 @@ use lib.ListN.{length, getD}
 use Rattle.definitions.specs.Expression.{Record}
 use Rattle.definitions.specs.Encode.{recordBytes, recordsBytes}
 use Rattle.definitions.specs.Match.{recordAt}
-use Rattle.definitions.specs.Limits.{RecordsInRange}
+use Rattle.definitions.specs.Good.{RecordsInRange}
 use Rattle.expression.specs.Places.{Holds}
 
 -- A table has the new index of each of `count` columns.

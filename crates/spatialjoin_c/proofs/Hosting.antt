@@ -7,7 +7,7 @@ use Rattle.definitions.specs.Calls.{LoadOutcome, Outcome}
 use Rattle.definitions.specs.Hosts.{hosted}
 use Rattle.definitions.specs.Machine.{Kind}
 use Rattle.definitions.specs.Sessions.{make}
-use Rattle.definitions.specs.Limits.{AllBytes}
+use Rattle.definitions.specs.Good.{AllBytes}
 use Rattle.definitions.proofs.Lengths.{lengths-are-short}
 use Rattle.join_filter.specs.Outcomes.{answerOf, LoadIs, OutcomeIs}
 use Rattle.join_filter.specs.declared.answers.Answer.{Answer}
