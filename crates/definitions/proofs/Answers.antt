@@ -14,7 +14,7 @@ use Rattle.definitions.specs.Calls.{Outcome}
 use Rattle.definitions.specs.Machine.{Kind, extractCall, exchangeCall, Bits, machinePlan, machineLength, Step, refuseStep, acceptStep, takeStep, machineStep, machineRun, fresh}
 use Rattle.definitions.specs.Sessions.{Made, extractWith, exchangeWith, make, callsRun, fed, machineAfter, accepted, isExtract, extractAccepted, exchangesOdd, Session, planAfter, extractedIn, oddIn, answerAfter}
 use Rattle.definitions.specs.Claims.{AnswersInPlace, SamePlan, someLeafMatches, ExchangeAccepted, ExtractAccepted}
-use Rattle.definitions.proofs.Requests.{by-test}
+use Rattle.definitions.proofs.Tools.{by-test}
 use Rattle.definitions.proofs.Pick.{Matched, matched}
 use Rattle.definitions.proofs.Lists.{bits, step-agrees}
 use Rattle.definitions.proofs.ListTheorem.{after-all}
@@ -96,7 +96,7 @@ unfolding machineStep acceptStep refuseStep accepted
 exchange-accepts F b room =
     by-test (λ (s : Step). accepted (s .answer) ≡ leb (machineLength F b) room) (leb (machineLength F b) room) _ _ (λ e. sym e) (λ e. sym e)
 
-take-accepts : (F : Frame) (b : Bits) (x : Option Extraction) → Matched F x → accepted (takeStep F b x .answer) ≡ someLeafMatches F
+take-accepts : (F : Frame) (b : Bits) (x : Option Extraction) → Matched (someLeafMatches F) x → accepted (takeStep F b x .answer) ≡ someLeafMatches F
 unfolding takeStep acceptStep refuseStep accepted
 take-accepts F b none m = sym m
 take-accepts F b (some X) m = sym m

@@ -12,7 +12,7 @@ use Rattle.definitions.specs.Expression.{Expr, column, literal, and, bin
 use Rattle.definitions.specs.Encode.{exprBytes, exprsBytes}
 use Rattle.definitions.specs.Leaves.{leaves, callArity, leafArity, arity, comparison, Comparison, compares, noComparison, comparisonArity, distanceArguments, distanceArity}
 use Rattle.definitions.specs.Decode.{indexBelow}
-use Rattle.definitions.specs.Match.{columnsOf, columnsOfAll, mapColumns, mapColumnsAll}
+use Rattle.definitions.specs.References.{columnsOf, columnsOfAll, mapColumns, mapColumnsAll}
 use Rattle.definitions.specs.Good.{All, nodes, nodesAll, depth, depthAll, InRange, InRangeAll, Short}
 
 pub all-left : (P : ℕ → Type 0) (xs ys : List ℕ) → All P (xs ++ ys) → All P xs

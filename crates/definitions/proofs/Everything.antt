@@ -9,6 +9,7 @@ use Rattle.definitions.specs.Leaves as Leaves
 use Rattle.definitions.specs.Readers as Readers
 use Rattle.definitions.specs.Decode as Decode
 use Rattle.definitions.specs.Plans as Plans
+use Rattle.definitions.specs.References as References
 use Rattle.definitions.specs.Match as Match
 use Rattle.definitions.specs.Extract as Extract
 use Rattle.definitions.specs.Exchange as Exchange
@@ -51,8 +52,12 @@ unfoldable pub plans : ℕ
 unfolding Plans.physicalFrame Plans.logicalFrame Plans.wholeExtraction Plans.frameOf Plans.logicalOf Plans.extractionOf Plans.planOfKind Plans.planOf
 plans = 0
 
+unfoldable pub references : ℕ
+unfolding References.columnsOf References.recordAt References.sameSide References.mapColumns
+references = 0
+
 unfoldable pub match : ℕ
-unfolding Match.relationRequest Match.dwithinRequest Match.literalU32 Match.literalBool Match.knnLiterals Match.knnRequest Match.callRequest Match.distanceRequest Match.comparisonRequest Match.request Match.columnsOf Match.recordAt Match.sameSide Match.commonSide Match.sideOf Match.isSide Match.orderOf Match.mapColumns Match.onChild Match.invert Match.matchRelation Match.boundOn Match.storeDistance Match.matchDistance Match.matchKnn Match.matchRequest Match.matchLeaf
+unfolding Match.relationRequest Match.dwithinRequest Match.literalU32 Match.literalBool Match.knnLiterals Match.knnRequest Match.callRequest Match.distanceRequest Match.comparisonRequest Match.request Match.commonSide Match.sideOf Match.isSide Match.orderOf Match.onChild Match.invert Match.matchRelation Match.boundOn Match.storeDistance Match.matchDistance Match.matchKnn Match.matchRequest Match.matchLeaf
 match = 0
 
 unfoldable pub extract : ℕ
@@ -88,5 +93,5 @@ unfolding Program.digitValue Program.pairBytes Program.digitBytes Program.orRefu
 program = 0
 
 unfoldable pub everything : ℕ
-unfolding basics expression literals encode leaves readers decode plans match extract exchange calls machine sessions meaning logical program
+unfolding basics expression literals encode leaves readers decode plans references match extract exchange calls machine sessions meaning logical program
 everything = 0

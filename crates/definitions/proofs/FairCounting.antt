@@ -18,7 +18,7 @@ use Rattle.definitions.specs.Good.{InRange, InRangeAll}
 use Rattle.definitions.specs.Meaning.{Valuation, Meaning, value, values, frameColumns, Fair}
 use Rattle.definitions.specs.Claims.{FairByArguments}
 use Rattle.definitions.proofs.Everything.{everything}
-use Rattle.definitions.proofs.Requests.{same-name}
+use Rattle.definitions.proofs.Tools.{same-name}
 use Rattle.definitions.proofs.KnnLeaves.{Asked, Matched, leaf-matched}
 
 -- 1 for five arguments, 0 for another number of them.

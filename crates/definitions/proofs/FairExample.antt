@@ -16,7 +16,7 @@ use Rattle.definitions.specs.Match.{literalU32, literalBool, knnLiterals
 use Rattle.definitions.specs.Meaning.{Valuation, Meaning, value, frameColumns, Fair}
 use Rattle.definitions.specs.Claims.{FairMeaning, markedFrame, MarksDiffer}
 use Rattle.definitions.proofs.Everything.{everything}
-use Rattle.definitions.proofs.Requests.{by-test}
+use Rattle.definitions.proofs.Tools.{by-test}
 use Rattle.definitions.proofs.KnnLeaves.{Asked, Matched, leaf-matched}
 
 -- ---- points on a line

@@ -18,7 +18,7 @@ use Rattle.definitions.specs.Decode.{repeatExprs, Columns, indexBelow, f
 use Rattle.definitions.specs.Good.{AllBytes, nodes, depth, nodesAll, depthAll, InRange, InRangeAll, NameBytes}
 use Rattle.definitions.proofs.ReaderLaws.{stopped-not-read, step, test, same-read, given}
 use Rattle.definitions.proofs.Columns.{all-right}
-use Rattle.definitions.proofs.Taken.{and-both}
+use Rattle.definitions.proofs.Tools.{and-both}
 
 -- ---- fields
 

@@ -17,7 +17,7 @@ use Rattle.definitions.specs.Decode.{Columns, indexBelow, node, expressi
 use Rattle.definitions.specs.Plans.{physicalFrame, wholeExtraction, frameOf, extractionOf, planOfKind, planOf}
 use Rattle.definitions.specs.Good.{AllBytes, nodes, Short, Readable, RecordsInRange, OneOfTwo, ReadablePredicate, ReadableRemainder, predicateNodes, remainderNodes, planNodes, ReadablePlan, GoodPlan}
 use Rattle.definitions.proofs.ReaderLaws.{stopped-not-read, step, test, given}
-use Rattle.definitions.proofs.Taken.{and-both}
+use Rattle.definitions.proofs.Tools.{and-both}
 use Rattle.definitions.proofs.Inverse.{byte-back, byte-up-to-back, number-back, after-bytes, join, NodeBack, node-back}
 
 pub side-number : (n : ℕ) → n ≤ 2 → sideNumber (sideNumbered n) ≡ n

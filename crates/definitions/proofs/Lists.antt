@@ -19,7 +19,8 @@ use Rattle.definitions.specs.Calls.{Outcome, writtenOver, finish, heldPl
 use Rattle.definitions.specs.Machine.{Kind, extractCall, exchangeCall, Bits, extractionOr, machinePlan, machineLength, Step, refuseStep, acceptStep, takeStep, machineStep, Run, machineRun}
 use Rattle.definitions.specs.Sessions.{Made, fed, make, ListOutcome, callsRun}
 use Rattle.definitions.specs.Good.{GoodPlan}
-use Rattle.definitions.proofs.Exchange.{plan-twice, extraction-exchange}
+use Rattle.definitions.proofs.Exchange.{plan-twice}
+use Rattle.definitions.proofs.ExtractExchange.{extraction-exchange}
 use Rattle.definitions.proofs.ExchangeGood.{plan-as-long, exchange-good}
 use Rattle.definitions.proofs.ExtractGood.{GoodExtraction, extraction-good}
 use Rattle.definitions.proofs.RoundTripPlan.{plan-reads}

@@ -16,8 +16,8 @@ use Rattle.definitions.specs.Exchange.{exchangePredicate, exchangeExtrac
 use Rattle.definitions.specs.Calls.{Outcome}
 use Rattle.definitions.specs.Machine.{extractCall, Bits, machinePlan, machineLength, refuseStep, acceptStep, takeStep, machineStep}
 use Rattle.definitions.specs.Sessions.{Made, extractWith, make, callsRun, machineAfter, accepted, isExtract, extractAccepted, Session, lengthAfter, planAfter, extractedIn, oddIn, answerAfter}
-use Rattle.definitions.specs.Claims.{extractedPlan, ExtractTakes, priceLine, OnLine, PriceLineOfCalls, PriceLineStays, PriceLineExchanged, SameLeaf, SameRefusal, NeverMixed}
-use Rattle.definitions.proofs.Exchange.{extraction-exchange}
+use Rattle.definitions.specs.Claims.{someLeafMatches, extractedPlan, ExtractTakes, priceLine, OnLine, PriceLineOfCalls, PriceLineStays, PriceLineExchanged, SameLeaf, SameRefusal, NeverMixed}
+use Rattle.definitions.proofs.ExtractExchange.{extraction-exchange}
 use Rattle.definitions.proofs.Pick.{took, Matched, matched}
 use Rattle.definitions.proofs.Lists.{Reached, Holds, bits, plan-extracted}
 use Rattle.definitions.proofs.ListTheorem.{after-all}
@@ -154,7 +154,7 @@ extracted-last n buffer (b ∷ bs) scratch a =
     ∙ or-true (isExtract (b .kind) && accepted (one .answer))
 
 -- With the extraction known.
-line-with : (F : Frame) (s : Session F) (before : List Made) (scratch : List ℕ) (x : Option Extraction) → extraction F ≡ x → Matched F x
+line-with : (F : Frame) (s : Session F) (before : List Made) (scratch : List ℕ) (x : Option Extraction) → extraction F ≡ x → Matched (someLeafMatches F) x
     → extractedIn s before ≡ false → lengthAfter s before ≤ length scratch
     → OnLine (Option·map (λ X. predicateKind (X .predicate)) x) (answerAfter s before (extractWith scratch)) (planAfter s (before ++ (extractWith scratch ∷ [])))
 line-with F s before scratch none x m e h = must-say-13 s before scratch x h

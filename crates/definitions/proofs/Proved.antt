@@ -8,7 +8,8 @@ use Rattle.definitions.specs.Claims.{ExchangeTwice, ExtractExchanged, Ex
 use Rattle.definitions.specs.TenRows.{TenRows}
 use Rattle.definitions.specs.RefusalTable.{RefusalTable}
 use Rattle.definitions.specs.NameTables.{NameTables}
-use Rattle.definitions.proofs.Exchange.{plan-twice, extraction-exchange}
+use Rattle.definitions.proofs.Exchange.{plan-twice}
+use Rattle.definitions.proofs.ExtractExchange.{extraction-exchange}
 use Rattle.definitions.proofs.RoundTripPlan.{expr-reads, plan-reads}
 use Rattle.definitions.proofs.InversePlan.{plan-back}
 use Rattle.definitions.proofs.Taken.{rest-of-leaves-are}
@@ -22,7 +23,8 @@ use Rattle.definitions.proofs.RefusalNumbers.{refusals-of}
 use Rattle.definitions.proofs.Answers.{told, plan-told, answers-place, plans-same, exchange-among, extract-among}
 use Rattle.definitions.proofs.Pick.{took}
 use Rattle.definitions.proofs.Machines.{extract-took, line-of-calls, line-stays, price-exchanged, same-leaf, same-refusal, never-mixed}
-use Rattle.definitions.proofs.Truth.{plan-exchange-value, and-value-assoc, and-value-comm, SameValue, extraction-value, machine-value}
+use Rattle.definitions.proofs.Truth.{plan-exchange-value, SameValue, extraction-value, machine-value}
+use Rattle.definitions.proofs.Values.{and-value-assoc, and-value-comm}
 use Rattle.definitions.proofs.FairExample.{fair-points, marks-apart}
 use Rattle.definitions.proofs.FairCounting.{fair-counting}
 use Rattle.definitions.proofs.Names.{each-once, names-ones, tables-hold}

@@ -17,7 +17,7 @@ use Rattle.definitions.specs.Plans.{physicalFrame, logicalFrame, frameOf
 use Rattle.definitions.specs.Calls.{newAfterLoad, finishLoad, load, finish, heldPlan, newAfterExchange, exchange, matchedBytes, newAfterExtract, extract}
 use Rattle.definitions.specs.Logical.{logicalAnswer, logical}
 use Rattle.definitions.specs.Claims.{loadRefusals, extractRefusals, exchangeRefusals, logicalRefusals, RefusedBy, RefusalsOfCalls}
-use Rattle.definitions.proofs.Requests.{by-test}
+use Rattle.definitions.proofs.Tools.{by-test}
 
 -- ---- readers
 

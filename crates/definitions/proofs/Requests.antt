@@ -1,14 +1,14 @@
 -- What a leaf asks for is made of parts of the leaf, with numbers in range.
 use Prim.Native.Nat.{ℕ, _+_, _≤_, _<_, max}
 use native.Mathlib.Omega.{arith}
-use mathlib.Core.Path.{_≡_, refl, ap, ap₂, subst}
-use mathlib.Core.Bool.{Bool, true, false, _||_, false≢true}
-use mathlib.Core.List.{List, [], _∷_}
+use mathlib.Core.Path.{_≡_, refl, ap, subst}
+use mathlib.Core.Bool.{Bool, true, false, _||_}
+use mathlib.Core.List.{List}
 use mathlib.Core.Option.{Option, none, some}
 use lib.ListN.{length, length-append}
 use lib.Dec.{leb, eqb, lit≤}
 use borrow.Author.Tests.{leb-true, eqb-true}
-use Rattle.definitions.specs.Basics.{if_then_else_, ascii, sameName}
+use Rattle.definitions.specs.Basics.{ascii, sameName}
 use Rattle.definitions.specs.Expression.{Relation, Expr, column, literal, and, binary, call, other, field, Exprs, nil, cons}
 use Rattle.definitions.specs.Literals.{signed, literalInRange, u32, numberU32, numberBool}
 use lib.IntN.{ℤ, pos, negsuc}
@@ -17,21 +17,7 @@ use Rattle.definitions.specs.Leaves.{relationNamed, Comparison, compares
 use Rattle.definitions.specs.Decode.{Columns}
 use Rattle.definitions.specs.Match.{literalU32, literalBool, Request, askRelation, askDistance, askKnn, askNothing, relationRequest, dwithinRequest, knnLiterals, knnRequest, callRequest, distanceRequest, comparisonRequest, request}
 use Rattle.definitions.specs.Good.{nodes, nodesAll, depth, depthAll, InRange, InRangeAll}
-use Rattle.definitions.proofs.Taken.{and-both}
-
--- By the two outcomes of a test.
-pub by-test {ℓ κ} : {X : Type ℓ} (P : X → Type κ) (b : Bool) (x y : X) → (b ≡ true → P x) → (b ≡ false → P y) → P (if b then x else y)
-by-test P true x y f g = f refl
-by-test P false x y f g = g refl
-
-pub same-name : (s t : List ℕ) → sameName s t ≡ true → s ≡ t
-unfolding sameName
-same-name [] [] e = refl
-same-name [] (b ∷ t) e = absurd (false≢true e)
-same-name (a ∷ s) [] e = absurd (false≢true e)
-same-name (a ∷ s) (b ∷ t) e =
-    let both : (eqb a b ≡ true) × (sameName s t ≡ true) = and-both (eqb a b) (sameName s t) e in
-    ap₂ (λ (x : ℕ) (y : List ℕ). x ∷ y) (eqb-true a b (both .0)) (same-name s t (both .1))
+pub use Rattle.definitions.proofs.Tools.{by-test, same-name}
 
 -- Short names for the sizes of an expression.
 abbrev bytes : Expr → ℕ

@@ -18,6 +18,7 @@ use Rattle.definitions.specs.Decode.{Columns}
 use Rattle.definitions.specs.Extract.{andLeft, andRight, without}
 use Rattle.definitions.specs.Good.{nodes, depth, InRange}
 use Rattle.definitions.specs.Claims.{RestOfLeaves}
+pub use Rattle.definitions.proofs.Tools.{and-both}
 
 -- A leaf taken out of an expression, and what is left.
 pub data Taken : Expr → Expr → Option Expr → Type 0 where
@@ -208,12 +209,6 @@ all-append : (xs ys : List Expr) → all leafArity (xs ++ ys) ≡ (all leafArity
 unfolding all
 all-append [] ys = refl
 all-append (x ∷ xs) ys = ap (λ (b : Bool). leafArity x && b) (all-append xs ys) ∙ sym (and-assoc (leafArity x) (all leafArity xs) (all leafArity ys))
-
-pub and-both : (a b : Bool) → (a && b) ≡ true → (a ≡ true) × (b ≡ true)
-and-both true true e = (refl, refl)
-and-both true false e = (refl, e)
-and-both false true e = (e, refl)
-and-both false false e = (e, e)
 
 arity-and : (l r : Expr) → arity (and l r) ≡ (arity l && arity r)
 unfolding arity leaves

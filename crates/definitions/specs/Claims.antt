@@ -198,22 +198,27 @@ isKnnMatch none = false
 isKnnMatch (some p) = isKnn p
 
 -- The match of the AND-leaf at a position.
-abbrev pub matchAt : Frame → (position : ℕ) → Option Predicate
-matchAt F position = getD (matchesOf F) position none
+abbrev pub matchAt : (matches : List (Option Predicate)) → (position : ℕ) → Option Predicate
+matchAt matches position = getD matches position none
 
--- The extraction took the leaf at a position: a match; if KNN, no earlier leaf is a KNN match; if not, none is one and no earlier leaf matches.
-pub record Took (F : Frame) (X : Extraction) (position : ℕ) : Type 0 where
-  pub match : matchAt F position ≡ some (X .predicate)
+-- With these matches of a frame's leaves the extraction took the leaf at a position: a match; if KNN, no earlier leaf is a KNN match;
+-- if not, none is one and no earlier leaf matches.
+pub record TookAmong (matches : List (Option Predicate)) (F : Frame) (X : Extraction) (position : ℕ) : Type 0 where
+  pub match : matchAt matches position ≡ some (X .predicate)
   pub rest : X .remainder ≡ Option·map (prune (F .records)) (without position (F .expr))
-  pub firstKnn : isKnn (X .predicate) ≡ true → (i : ℕ) → i < position → isKnnMatch (matchAt F i) ≡ false
-  pub noKnn : isKnn (X .predicate) ≡ false → (i : ℕ) → isKnnMatch (matchAt F i) ≡ false
-  pub firstMatch : isKnn (X .predicate) ≡ false → (i : ℕ) → i < position → matchAt F i ≡ none
+  pub firstKnn : isKnn (X .predicate) ≡ true → (i : ℕ) → i < position → isKnnMatch (matchAt matches i) ≡ false
+  pub noKnn : isKnn (X .predicate) ≡ false → (i : ℕ) → isKnnMatch (matchAt matches i) ≡ false
+  pub firstMatch : isKnn (X .predicate) ≡ false → (i : ℕ) → i < position → matchAt matches i ≡ none
+
+-- The extraction took the leaf at a position, with the matches of 01.
+abbrev pub Took : Frame → Extraction → (position : ℕ) → Type 0
+Took F X position = TookAmong (matchesOf F) F X position
 
 -- Every extraction takes its leaf so, and where there is none no leaf matches.
 abbrev pub PickExactly : Type 0
 PickExactly =
     ((F : Frame) (X : Extraction) → extraction F ≡ some X → (position : ℕ) × Took F X position)
-    × ((F : Frame) → extraction F ≡ none → (position : ℕ) → matchAt F position ≡ none)
+    × ((F : Frame) → extraction F ≡ none → (position : ℕ) → matchAt (matchesOf F) position ≡ none)
 
 -- What is left of an expression has its AND-leaves but for the one that was taken, in their order.
 abbrev pub RestOfLeaves : Type 0
