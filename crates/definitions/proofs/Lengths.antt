@@ -17,7 +17,8 @@ use Rattle.definitions.specs.Machine.{Kind, extractCall, exchangeCall}
 use Rattle.definitions.specs.Sessions.{make}
 use Rattle.definitions.specs.Good.{AllBytes, GoodPlan}
 use Rattle.definitions.specs.Claims.{LengthsShort}
-use Rattle.definitions.proofs.InversePlan.{refused-not-ok, same-ok, frame-back, plan-back}
+use Rattle.definitions.proofs.InverseFrame.{refused-not-ok, same-ok, frame-back}
+use Rattle.definitions.proofs.InversePlan.{plan-back}
 use Rattle.definitions.proofs.ExtractGood.{GoodExtraction, extraction-good}
 use Rattle.definitions.proofs.ExchangeGood.{exchange-good}
 

@@ -16,11 +16,13 @@ pub mod Values
 pub mod MatchAsks
 pub mod MatchMeans
 pub mod MatchLaws
+pub mod OnlyIf
 pub mod ExtractExchange
 pub mod Pick
 pub mod ExtractGood
 pub mod Lists
 pub mod Inverse
+pub mod InverseFrame
 pub mod InversePlan
 pub mod ListTheorem
 pub mod Lengths

@@ -18,7 +18,7 @@ use Rattle.definitions.specs.Good.{AllBytes}
 use Rattle.definitions.specs.Sessions.{Made, machineAfter, accepted, Session, after}
 use Rattle.definitions.specs.Claims.{LoadAccepted, LoadHolds, ListOfCalls}
 use Rattle.definitions.proofs.RoundTripPlan.{frame-reads}
-use Rattle.definitions.proofs.InversePlan.{frame-back}
+use Rattle.definitions.proofs.InverseFrame.{frame-back}
 use Rattle.definitions.proofs.Lists.{Holds, AgreesAll, run-agrees}
 
 module _ (frame : List ℕ) (n : ℕ) (buffer : List ℕ) where

@@ -115,12 +115,16 @@ module _ (ms : List (Option Predicate)) (F : Frame) where
   untaken none h e = h
   untaken (some p) h e = let z : _≡_ {A = ℕ} 0 1 = cc in absurd (omega arith)
 
+  -- What is taken, and what it means that nothing is.
+  pub takes-by : (X : Extraction) → takePick F (pick ms) ≡ some X → (position : ℕ) × TookAmong ms F X position
+  takes-by = took-by (pick ms) picked
+
+  pub none-by : takePick F (pick ms) ≡ none → (i : ℕ) → matchAt ms i ≡ none
+  none-by = untaken (pick ms) picked
+
 pub took : PickExactly
 unfolding extraction
-took = (
-  λ F X e. took-by (matchesOf F) F (pick (matchesOf F)) (picked (matchesOf F) F) X e,
-  λ F e. untaken (matchesOf F) F (pick (matchesOf F)) (picked (matchesOf F) F) e,
-)
+took = (λ F. takes-by (matchesOf F) F, λ F. none-by (matchesOf F) F)
 
 -- ---- whether a leaf matches
 
