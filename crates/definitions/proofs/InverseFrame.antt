@@ -9,13 +9,13 @@ use lib.ListN.{length}
 use lib.Dec.{leb, eqb, lit≤}
 use borrow.Author.Tests.{leb-true, eqb-true}
 use Rattle.definitions.specs.Basics.{bigEndian, Result, ok, refused}
-use Rattle.definitions.specs.Expression.{Side, Record, Frame, held}
+use Rattle.definitions.specs.Expression.{Plan, Side, Record, Frame, held}
 use Rattle.definitions.specs.Encode.{exprBytes, sideNumber, recordBytes, recordsBytes, frameBytes, planBytes}
 use Rattle.definitions.specs.Leaves.{arity}
 use Rattle.definitions.specs.Readers.{Read, read, stopped, Reader, continue, give, number, byteUpTo, repeat, firstByte, requireLength, noneLeft, atEnd, resultOf}
 use Rattle.definitions.specs.Decode.{indexBelow, node, expression, sideNumbered, sideUpTo, oneRecord, recordCount, frameBody}
 use Rattle.definitions.specs.Plans.{physicalFrame, frameOf}
-use Rattle.definitions.specs.Good.{AllBytes, nodes, Short, Readable, RecordsInRange, planNodes, GoodPlan}
+use Rattle.definitions.specs.Good.{ReadablePlan, AllBytes, nodes, Short, Readable, RecordsInRange, planNodes, GoodPlan}
 use Rattle.definitions.proofs.ReaderLaws.{step, test, given}
 use Rattle.definitions.proofs.Tools.{and-both}
 use Rattle.definitions.proofs.Inverse.{byte-back, byte-up-to-back, number-back, after-bytes, join, NodeBack, node-back}
@@ -135,7 +135,14 @@ pub ended : {A G : Type 0} (n : ℕ) (s : List ℕ) (next : Reader A) {a : A} {m
 unfolding atEnd
 ended n s next e go = test 7 (noneLeft s) next n s e (λ fine f. go (none-left s fine) f)
 
--- What is known of a list of bytes that is a good frame.
+-- What is known of a list of bytes that is a good plan, a frame among them.
+abbrev pub PlanBack : List ℕ → Plan → Type 0
+PlanBack s p = (s ≡ planBytes p) × GoodPlan p
+
+pub whole-plan : (s : List ℕ) (p : Plan) → length s ≤ 16384 → s ≡ planBytes p → ReadablePlan p → planNodes p ≤ 1024 → PlanBack s p
+whole-plan s p few same readable nodes =
+    (same, record { readable = readable; fewNodes = nodes; fewBytes = subst (λ (x : List ℕ). length x ≤ 16384) same few })
+
 abbrev pub GoodFrame : List ℕ → Frame → Type 0
 GoodFrame s F = (s ≡ frameBytes F) × GoodPlan (held F)
 
@@ -150,20 +157,12 @@ physical-back s F m t h e =
     let b : FrameBack n₁ n₂ s₁ s₂ G = body-back n₁ n₂ s₁ s₂ G (after-bytes (first ∷ []) s₁ s (a .0) h) (omega (arith, a .1)) e₃ in
     ended n₂ s₂ _ f₃ (λ none f₄.
     test 8 (arity (G .expr)) _ n₂ s₂ f₄ (λ fine f₅.
-    let same : s ≡ 1 ∷ frameFields G =
-    a .0 ∙ ap₂ (λ (x : ℕ) (y : List ℕ). x ∷ y) (eqb-true first 1 is) (b .bytes ∙ ap (λ (y : List ℕ). frameFields G ++ y) none ∙ append-nil (frameFields G)) in
-    given (λ x m t. GoodFrame s x) G F n₂ m s₂ t f₅ (
-      same,
-      record {
-        readable = record { few = b .few; recordsInRange = b .recordsInRange; expr = b .expr; arity = fine };
-        fewNodes = omega (arith, b .counted, b .fewNodes);
-        fewBytes = subst (λ (x : List ℕ). length x ≤ 16384) same few;
-      },
-    )))))))
+    given (λ x m t. GoodFrame s x) G F n₂ m s₂ t f₅ (whole-plan s (held G) few
+    (a .0 ∙ ap₂ (λ (x : ℕ) (y : List ℕ). x ∷ y) (eqb-true first 1 is)
+    (b .bytes ∙ ap (λ (y : List ℕ). frameFields G ++ y) none ∙ append-nil (frameFields G)))
+    (record { few = b .few; recordsInRange = b .recordsInRange; expr = b .expr; arity = fine }) (omega (arith, b .counted, b .fewNodes)))))))))
 
 -- Bytes that are a good frame are that frame's bytes, and the frame is a good plan.
 pub frame-back : (s : List ℕ) (F : Frame) → AllBytes s → frameOf s ≡ ok F → GoodFrame s F
 unfolding frameOf
-frame-back s F h e =
-    let a : (m : ℕ) × (t : List ℕ) × (physicalFrame 0 s ≡ read F m t) = answer-back (physicalFrame 0 s) F e in
-    physical-back s F (a .0) (a .1) h (a .2)
+frame-back s F h e = let (m, t, is) = answer-back (physicalFrame 0 s) F e in physical-back s F m t h is

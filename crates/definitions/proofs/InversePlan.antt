@@ -5,20 +5,19 @@ use mathlib.Core.Path.{_≡_, refl, sym, ap, ap₂, _∙_, subst}
 use mathlib.Core.Bool.{Bool, true, false, decide}
 use mathlib.Core.List.{List, [], _∷_, _++_, append-nil}
 use mathlib.Core.Option.{Option, none, some}
-use lib.ListN.{length}
 use lib.Dec.{eqb, lit≤}
 use borrow.Author.Tests.{eqb-true}
 use Rattle.definitions.specs.Basics.{if_then_else_, bigEndian, Result, ok, refused, mapResult}
 use Rattle.definitions.specs.Expression.{Side, left, right, noSide, relations, Expr, Frame, Predicate, relation, distance, knn, Extraction, Plan, empty, held, extracted}
 use Rattle.definitions.specs.Encode.{exprBytes, sideNumber, positionIn, relationNumber, frameBytes, predicateKind, predicateFields, remainderBytes, extractionBytes, planBytes}
 use Rattle.definitions.specs.Leaves.{arity}
-use Rattle.definitions.specs.Readers.{read, give, number, byteUpTo, firstByte, refuse}
+use Rattle.definitions.specs.Readers.{Reader, continue, read, give, number, byteUpTo, firstByte, refuse}
 use Rattle.definitions.specs.Decode.{Columns, indexBelow, expression, sideUpTo, frameBody, relationNumbered, relationPredicate, distancePredicate, knnPredicate, predicateOfKind, someRemainder, remainderOfKind, remainder, extractionBody, argument}
 use Rattle.definitions.specs.Plans.{wholeExtraction, frameOf, extractionOf, planOfKind, planOf}
 use Rattle.definitions.specs.Good.{AllBytes, Readable, OneOfTwo, ReadablePredicate, ReadableRemainder, predicateNodes, remainderNodes, planNodes, ReadablePlan, GoodPlan}
 use Rattle.definitions.proofs.ReaderLaws.{stopped-not-read, step, test, given}
 use Rattle.definitions.proofs.Inverse.{byte-back, byte-up-to-back, number-back, after-bytes, join, NodeBack, node-back}
-use Rattle.definitions.proofs.InverseFrame.{side-back, frameFields, FrameBack, body-back, answer-back, opened, ended, frame-back}
+use Rattle.definitions.proofs.InverseFrame.{PlanBack, whole-plan, side-back, frameFields, FrameBack, body-back, answer-back, opened, ended, frame-back}
 pub use Rattle.definitions.proofs.InverseFrame.{side-number, refused-not-ok, same-ok}
 
 -- ---- extractions
@@ -62,70 +61,75 @@ record PredicateBack (n m kind : ℕ) (s t : List ℕ) (p : Predicate) : Type 0 
   counted : m ≡ n + predicateNodes p
   few : m ≤ 1024
 
-relation-back : (n m : ℕ) (s t : List ℕ) (p : Predicate) → AllBytes s → n ≤ 1024 → relationPredicate n s ≡ read p m t → PredicateBack n m 0x11 s t p
+-- Reading on: each step with what is known of it, and the bytes after it.
+module _ {G : Type 0} {p : Predicate} {m : ℕ} {t : List ℕ} where
+  byte-step : (most n : ℕ) (s : List ℕ) (next : ℕ → Reader Predicate) → AllBytes s → continue (byteUpTo most n s) next ≡ read p m t
+      → ((b n₁ : ℕ) (s₁ : List ℕ) → (s ≡ b ∷ s₁) × (b ≤ most) × (n₁ ≡ n) → AllBytes s₁ → next b n₁ s₁ ≡ read p m t → G) → G
+  byte-step most n s next h e go =
+      step (byteUpTo most n s) next e (λ b n₁ s₁ e₁ f₁.
+      let a : (s ≡ b ∷ s₁) × (b ≤ most) × (n₁ ≡ n) = byte-up-to-back most n n₁ b s s₁ e₁ in
+      go b n₁ s₁ a (after-bytes (b ∷ []) s₁ s (a .0) h) f₁)
+
+  side-step : (most n : ℕ) (s : List ℕ) (next : Side → Reader Predicate) → most ≤ 2 → AllBytes s → continue (sideUpTo most n s) next ≡ read p m t
+      → ((x : Side) (n₁ : ℕ) (s₁ : List ℕ) → (s ≡ sideNumber x ∷ s₁) × (sideNumber x ≤ most) × (n₁ ≡ n) → AllBytes s₁
+      → next x n₁ s₁ ≡ read p m t → G)
+      → G
+  side-step most n s next k h e go =
+      step (sideUpTo most n s) next e (λ x n₁ s₁ e₁ f₁.
+      let a : (s ≡ sideNumber x ∷ s₁) × (sideNumber x ≤ most) × (n₁ ≡ n) = side-back most n n₁ s s₁ x k e₁ in
+      go x n₁ s₁ a (after-bytes (sideNumber x ∷ []) s₁ s (a .0) h) f₁)
+
+  expr-step : (n : ℕ) (s : List ℕ) (next : Expr → Reader Predicate) → AllBytes s → n ≤ 1024 → continue (expression Wide n s) next ≡ read p m t
+      → ((e : Expr) (n₁ : ℕ) (s₁ : List ℕ) → ExprBack n n₁ s s₁ e → AllBytes s₁ → next e n₁ s₁ ≡ read p m t → G) → G
+  expr-step n s next h k e go =
+      step (expression Wide n s) next e (λ x n₁ s₁ e₁ f₁.
+      let b : ExprBack n n₁ s s₁ x = expr-back n n₁ s s₁ x h k e₁ in
+      go x n₁ s₁ b (after-bytes (exprBytes x) s₁ s (b .bytes) h) f₁)
+
+relation-back : (n m : ℕ) (s t : List ℕ) (p : Predicate) → AllBytes s → n ≤ 1024 → relationPredicate n s ≡ read p m t
+    → PredicateBack n m 0x11 s t p
 unfolding relationPredicate argument predicateKind predicateFields predicateNodes
 relation-back n m s t p h k eq =
-    step (byteUpTo 8 n s) _ eq (λ type n₁ s₁ e₁ f₁.
-    let a : (s ≡ type ∷ s₁) × (type ≤ 8) × (n₁ ≡ n) = byte-up-to-back 8 n n₁ type s s₁ e₁ in
-    let h₁ : AllBytes s₁ = after-bytes (type ∷ []) s₁ s (a .0) h in
-    step (expression Wide n₁ s₁) _ f₁ (λ x n₂ s₂ e₂ f₂.
-    let l : ExprBack n₁ n₂ s₁ s₂ x = expr-back n₁ n₂ s₁ s₂ x h₁ (omega (arith, a .2)) e₂ in
-    let h₂ : AllBytes s₂ = after-bytes (exprBytes x) s₂ s₁ (l .bytes) h₁ in
-    step (expression Wide n₂ s₂) _ f₂ (λ y n₃ s₃ e₃ f₃.
-    let r : ExprBack n₂ n₃ s₂ s₃ y = expr-back n₂ n₃ s₂ s₃ y h₂ (l .few) e₃ in
+    byte-step 8 n s _ h eq (λ type n₁ s₁ a h₁ f₁.
+    expr-step n₁ s₁ _ h₁ (omega (arith, a .2)) f₁ (λ x n₂ s₂ l h₂ f₂.
+    expr-step n₂ s₂ _ h₂ (l .few) f₂ (λ y n₃ s₃ r h₃ f₃.
     given (λ z m t. PredicateBack n m 0x11 s t z) (relation (relationNumbered type) x y) p n₃ m s₃ t f₃ (record {
-      bytes = ap (λ (z : List ℕ). 0x11 ∷ z)
-          (a .0 ∙ ap₂ (λ (i : ℕ) (z : List ℕ). i ∷ z) (sym (relation-number type (a .1))) (join (exprBytes x) (exprBytes y) s₁ s₂ s₃ (l .bytes) (r .bytes)));
+      bytes = ap (λ (z : List ℕ). 0x11 ∷ z) (a .0 ∙ ap₂ (λ (i : ℕ) (z : List ℕ). i ∷ z) (sym (relation-number type (a .1)))
+          (join (exprBytes x) (exprBytes y) s₁ s₂ s₃ (l .bytes) (r .bytes)));
       readable = (readable n₁ n₂ s₁ s₂ x l, readable n₂ n₃ s₂ s₃ y r);
       counted = omega (arith, a .2, l .counted, r .counted);
       few = r .few;
     }))))
 
-distance-back : (n m : ℕ) (s t : List ℕ) (p : Predicate) → AllBytes s → n ≤ 1024 → distancePredicate n s ≡ read p m t → PredicateBack n m 0x12 s t p
+distance-back : (n m : ℕ) (s t : List ℕ) (p : Predicate) → AllBytes s → n ≤ 1024 → distancePredicate n s ≡ read p m t
+    → PredicateBack n m 0x12 s t p
 unfolding distancePredicate argument predicateKind predicateFields predicateNodes
 distance-back n m s t p h k eq =
-    step (byteUpTo 4 n s) _ eq (λ form n₁ s₁ e₁ f₁.
-    let a : (s ≡ form ∷ s₁) × (form ≤ 4) × (n₁ ≡ n) = byte-up-to-back 4 n n₁ form s s₁ e₁ in
-    let h₁ : AllBytes s₁ = after-bytes (form ∷ []) s₁ s (a .0) h in
-    step (sideUpTo 2 n₁ s₁) _ f₁ (λ side n₂ s₂ e₂ f₂.
-    let b : (s₁ ≡ sideNumber side ∷ s₂) × (sideNumber side ≤ 2) × (n₂ ≡ n₁) = side-back 2 n₁ n₂ s₁ s₂ side (lit≤ tt) e₂ in
-    let h₂ : AllBytes s₂ = after-bytes (sideNumber side ∷ []) s₂ s₁ (b .0) h₁ in
-    step (expression Wide n₂ s₂) _ f₂ (λ x n₃ s₃ e₃ f₃.
-    let l : ExprBack n₂ n₃ s₂ s₃ x = expr-back n₂ n₃ s₂ s₃ x h₂ (omega (arith, a .2, b .2)) e₃ in
-    let h₃ : AllBytes s₃ = after-bytes (exprBytes x) s₃ s₂ (l .bytes) h₂ in
-    step (expression Wide n₃ s₃) _ f₃ (λ y n₄ s₄ e₄ f₄.
-    let r : ExprBack n₃ n₄ s₃ s₄ y = expr-back n₃ n₄ s₃ s₄ y h₃ (l .few) e₄ in
-    let h₄ : AllBytes s₄ = after-bytes (exprBytes y) s₄ s₃ (r .bytes) h₃ in
-    step (expression Wide n₄ s₄) _ f₄ (λ d n₅ s₅ e₅ f₅.
-    let z : ExprBack n₄ n₅ s₄ s₅ d = expr-back n₄ n₅ s₄ s₅ d h₄ (r .few) e₅ in
+    byte-step 4 n s _ h eq (λ form n₁ s₁ a h₁ f₁.
+    side-step 2 n₁ s₁ _ (lit≤ tt) h₁ f₁ (λ side n₂ s₂ b h₂ f₂.
+    expr-step n₂ s₂ _ h₂ (omega (arith, a .2, b .2)) f₂ (λ x n₃ s₃ l h₃ f₃.
+    expr-step n₃ s₃ _ h₃ (l .few) f₃ (λ y n₄ s₄ r h₄ f₄.
+    expr-step n₄ s₄ _ h₄ (r .few) f₄ (λ d n₅ s₅ z h₅ f₅.
     given (λ q m t. PredicateBack n m 0x12 s t q) (distance form side x y d) p n₅ m s₅ t f₅ (record {
       bytes = ap (λ (q : List ℕ). 0x12 ∷ q) (a .0 ∙ ap (λ (q : List ℕ). form ∷ q) (b .0 ∙ ap (λ (q : List ℕ). sideNumber side ∷ q)
-          (join (exprBytes x) (exprBytes y ++ exprBytes d) s₂ s₃ s₅ (l .bytes) (join (exprBytes y) (exprBytes d) s₃ s₄ s₅ (r .bytes) (z .bytes)))));
+          (join (exprBytes x) (exprBytes y ++ exprBytes d) s₂ s₃ s₅ (l .bytes)
+          (join (exprBytes y) (exprBytes d) s₃ s₄ s₅ (r .bytes) (z .bytes)))));
       readable = (a .1, readable n₂ n₃ s₂ s₃ x l, readable n₃ n₄ s₃ s₄ y r, readable n₄ n₅ s₄ s₅ d z);
       counted = omega (arith, a .2, b .2, l .counted, r .counted, z .counted);
       few = z .few;
     }))))))
 
-knn-back : (n m : ℕ) (s t : List ℕ) (p : Predicate) → AllBytes s → n ≤ 1024 → knnPredicate n s ≡ read p m t → PredicateBack n m 0x13 s t p
+knn-back : (n m : ℕ) (s t : List ℕ) (p : Predicate) → AllBytes s → n ≤ 1024 → knnPredicate n s ≡ read p m t
+    → PredicateBack n m 0x13 s t p
 unfolding knnPredicate argument predicateKind predicateFields predicateNodes
 knn-back n m s t p h k eq =
     step (number 4 n s) _ eq (λ c n₁ s₁ e₁ f₁.
     let a : (s ≡ bigEndian 4 c ++ s₁) × (c < 256 ^ 4) × (n₁ ≡ n) = number-back 4 n n₁ c s s₁ h e₁ in
-    let h₁ : AllBytes s₁ = after-bytes (bigEndian 4 c) s₁ s (a .0) h in
-    step (byteUpTo 1 n₁ s₁) _ f₁ (λ sp n₂ s₂ e₂ f₂.
-    let b : (s₁ ≡ sp ∷ s₂) × (sp ≤ 1) × (n₂ ≡ n₁) = byte-up-to-back 1 n₁ n₂ sp s₁ s₂ e₂ in
-    let h₂ : AllBytes s₂ = after-bytes (sp ∷ []) s₂ s₁ (b .0) h₁ in
-    step (sideUpTo 1 n₂ s₂) _ f₂ (λ probe n₃ s₃ e₃ f₃.
-    let d : (s₂ ≡ sideNumber probe ∷ s₃) × (sideNumber probe ≤ 1) × (n₃ ≡ n₂) = side-back 1 n₂ n₃ s₂ s₃ probe (lit≤ tt) e₃ in
-    let h₃ : AllBytes s₃ = after-bytes (sideNumber probe ∷ []) s₃ s₂ (d .0) h₂ in
-    step (byteUpTo 2 n₃ s₃) _ f₃ (λ ties n₄ s₄ e₄ f₄.
-    let g : (s₃ ≡ ties ∷ s₄) × (ties ≤ 2) × (n₄ ≡ n₃) = byte-up-to-back 2 n₃ n₄ ties s₃ s₄ e₄ in
-    let h₄ : AllBytes s₄ = after-bytes (ties ∷ []) s₄ s₃ (g .0) h₃ in
-    step (expression Wide n₄ s₄) _ f₄ (λ x n₅ s₅ e₅ f₅.
-    let l : ExprBack n₄ n₅ s₄ s₅ x = expr-back n₄ n₅ s₄ s₅ x h₄ (omega (arith, a .2, b .2, d .2, g .2)) e₅ in
-    let h₅ : AllBytes s₅ = after-bytes (exprBytes x) s₅ s₄ (l .bytes) h₄ in
-    step (expression Wide n₅ s₅) _ f₅ (λ y n₆ s₆ e₆ f₆.
-    let r : ExprBack n₅ n₆ s₅ s₆ y = expr-back n₅ n₆ s₅ s₆ y h₅ (l .few) e₆ in
+    byte-step 1 n₁ s₁ _ (after-bytes (bigEndian 4 c) s₁ s (a .0) h) f₁ (λ sp n₂ s₂ b h₂ f₂.
+    side-step 1 n₂ s₂ _ (lit≤ tt) h₂ f₂ (λ probe n₃ s₃ d h₃ f₃.
+    byte-step 2 n₃ s₃ _ h₃ f₃ (λ ties n₄ s₄ g h₄ f₄.
+    expr-step n₄ s₄ _ h₄ (omega (arith, a .2, b .2, d .2, g .2)) f₄ (λ x n₅ s₅ l h₅ f₅.
+    expr-step n₅ s₅ _ h₅ (l .few) f₅ (λ y n₆ s₆ r h₆ f₆.
     given (λ q m t. PredicateBack n m 0x13 s t q) (knn c sp probe ties x y) p n₆ m s₆ t f₆ (record {
       bytes = ap (λ (q : List ℕ). 0x13 ∷ q)
           (join (bigEndian 4 c) (sp ∷ sideNumber probe ∷ ties ∷ (exprBytes x ++ exprBytes y)) s s₁ s₆ (a .0)
@@ -224,27 +228,16 @@ whole-back s X m t h e =
     step (extractionBody first n₁ s₁) _ f₁ (λ Y n₂ s₂ e₃ f₂.
     let b : ExtractionBack n₁ n₂ first s₁ s₂ Y = extraction-body-back n₁ n₂ first s₁ s₂ Y (subst AllBytes (a .0) h) (omega (arith, a .1)) e₃ in
     ended n₂ s₂ _ f₂ (λ none f₃.
-    let same : s ≡ extractionBytes Y = a .0 ∙ b .bytes ∙ ap (λ (y : List ℕ). extractionBytes Y ++ y) none ∙ append-nil (extractionBytes Y) in
-    given (λ x m t. GoodBytes s x) Y X n₂ m s₂ t f₃ (
-      same,
-      record {
-        readable = b .readable;
-        fewNodes = omega (arith, b .counted, b .few);
-        fewBytes = subst (λ (x : List ℕ). length x ≤ 16384) same few;
-      },
-    )))))
+    given (λ x m t. GoodBytes s x) Y X n₂ m s₂ t f₃ (whole-plan s (extracted Y) few
+    (a .0 ∙ b .bytes ∙ ap (λ (y : List ℕ). extractionBytes Y ++ y) none ∙ append-nil (extractionBytes Y))
+    (b .readable) (omega (arith, b .counted, b .few)))))))
 
 -- Bytes that are a good extraction are that extraction's bytes.
 pub extraction-back : (s : List ℕ) (X : Extraction) → AllBytes s → extractionOf s ≡ ok X → GoodBytes s X
 unfolding extractionOf
-extraction-back s X h e =
-    let a : (m : ℕ) × (t : List ℕ) × (wholeExtraction 0 s ≡ read X m t) = answer-back (wholeExtraction 0 s) X e in
-    whole-back s X (a .0) (a .1) h (a .2)
+extraction-back s X h e = let (m, t, is) = answer-back (wholeExtraction 0 s) X e in whole-back s X m t h is
 
 -- ---- plans
-
-abbrev PlanBack : List ℕ → Plan → Type 0
-PlanBack s p = (s ≡ planBytes p) × GoodPlan p
 
 held-result : (s : List ℕ) (p : Plan) → AllBytes s → (r : Result Frame) → frameOf s ≡ r → mapResult held r ≡ ok p → PlanBack s p
 unfolding planBytes
