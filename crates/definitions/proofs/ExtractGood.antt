@@ -39,7 +39,8 @@ keep-in-range : (test : Record → Bool) (rs : List Record) → RecordsInRange r
 unfolding keep
 keep-in-range test [] h = tt
 keep-in-range test (r ∷ rs) h =
-    by-test RecordsInRange (test r) (r ∷ keep test rs) (keep test rs) (λ e. (h .0, keep-in-range test rs (h .1))) (λ e. keep-in-range test rs (h .1))
+    by-test RecordsInRange (test r) (r ∷ keep test rs) (keep test rs) (λ e. (h .0, keep-in-range test rs (h .1)))
+    (λ e. keep-in-range test rs (h .1))
 
 both-longer : (t : Bool) (r : Record) (xs ys : List Record) → length xs < length ys
     → length (if t then r ∷ xs else xs) < length (if t then r ∷ ys else ys)
@@ -47,11 +48,13 @@ both-longer true r xs ys h = omega arith
 both-longer false r xs ys h = h
 
 -- A kept record's new index is below the number of kept records.
-pub new-below : (test : Record → Bool) (rs : List Record) (i : ℕ) → i < length rs → test (recordAt rs i) ≡ true → newIndex test rs i < length (keep test rs)
+pub new-below : (test : Record → Bool) (rs : List Record) (i : ℕ) → i < length rs → test (recordAt rs i) ≡ true
+    → newIndex test rs i < length (keep test rs)
 unfolding newIndex keep recordAt
 new-below test [] i h e = absurd (not-suc-le-zero h)
 new-below test (r ∷ rs) zero h e = subst (λ (t : Bool). 0 < length (if t then r ∷ keep test rs else keep test rs)) (sym e) (zero-lt-suc _)
-new-below test (r ∷ rs) (suc i) h e = both-longer (test r) r (keep test (take i rs)) (keep test rs) (new-below test rs i (le-of-suc-le-suc h) e)
+new-below test (r ∷ rs) (suc i) h e =
+    both-longer (test r) r (keep test (take i rs)) (keep test rs) (new-below test rs i (le-of-suc-le-suc h) e)
 
 same-side-refl : (s : Side) → sameSide s s ≡ true
 unfolding sameSide
@@ -78,9 +81,11 @@ found g same (x ∷ xs) ys up = (
 
 pub references : (rs : List Record) (e : Expr) → All (λ i. referenced rs e (recordAt rs i) ≡ true) (columnsOf e)
 unfolding referenced
-references rs e = found (λ j i. sameColumn (recordAt rs j) (recordAt rs i)) (λ i. same-column-refl (recordAt rs i)) (columnsOf e) (columnsOf e) (λ i h. h)
+references rs e =
+    found (λ j i. sameColumn (recordAt rs j) (recordAt rs i)) (λ i. same-column-refl (recordAt rs i)) (columnsOf e) (columnsOf e) (λ i h. h)
 
-prune-readable : (rs : List Record) (e : Expr) → length rs ≤ 256 → RecordsInRange rs → InRange (indexBelow (length rs)) e → depth e ≤ 64 → arity e ≡ true
+prune-readable : (rs : List Record) (e : Expr) → length rs ≤ 256 → RecordsInRange rs → InRange (indexBelow (length rs)) e → depth e ≤ 64
+    → arity e ≡ true
     → ReadableFrame (prune rs e)
 unfolding prune
 prune-readable rs e few rr r d a =
@@ -95,7 +100,8 @@ prune-readable rs e few rr r d a =
       recordsInRange = keep-in-range test rs rr;
       expr = record {
         inRange = map-in-range (length rs) b f e
-            (all-both (λ i. ltb i (length rs) ≡ true) (λ i. test (recordAt rs i) ≡ true) (FitsIn b f) fits (columnsOf e) (columns-below (length rs) e r) (references rs e)) r;
+            (all-both (λ i. ltb i (length rs) ≡ true) (λ i. test (recordAt rs i) ≡ true) (FitsIn b f) fits (columnsOf e)
+            (columns-below (length rs) e r) (references rs e)) r;
         shallow = rw (map-depth f e) d;
       };
       arity = map-arity f e ∙ a;
@@ -120,7 +126,8 @@ rest-readable : (rs : List Record) (rest : Option Expr) → length rs ≤ 256 �
 rest-readable rs none few rr r d a = tt
 rest-readable rs (some e) few rr r d a = prune-readable rs e few rr r d a
 
-rest-length : (rs : List Record) (rest : Option Expr) → length (remainderBytes (Option·map (prune rs) rest)) ≤ 1 + 5 * length rs + restBytes rest
+rest-length : (rs : List Record) (rest : Option Expr)
+    → length (remainderBytes (Option·map (prune rs) rest)) ≤ 1 + 5 * length rs + restBytes rest
 unfolding remainderBytes restBytes
 rest-length rs none = omega arith
 rest-length rs (some e) = omega (arith, prune-bytes rs e)
@@ -139,7 +146,8 @@ abbrev pub GoodExtraction : Frame → Option Extraction → Type 0
 GoodExtraction F none = Unit {0}
 GoodExtraction F (some X) = GoodPlan (extracted X) × (length (extractionBytes X) ≤ length (frameBytes F))
 
-extraction-length : (X : Extraction) → length (extractionBytes X) ≡ suc (length (predicateFields (X .predicate)) + length (remainderBytes (X .remainder)))
+extraction-length : (X : Extraction)
+    → length (extractionBytes X) ≡ suc (length (predicateFields (X .predicate)) + length (remainderBytes (X .remainder)))
 unfolding extractionBytes
 extraction-length X = ap suc (length-append (predicateFields (X .predicate)) (remainderBytes (X .remainder)))
 

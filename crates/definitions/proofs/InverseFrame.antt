@@ -27,7 +27,8 @@ side-number (suc zero) h = refl
 side-number (suc (suc zero)) h = refl
 side-number (suc (suc (suc n))) h = absurd (omega arith)
 
-pub side-back : (most n m : ℕ) (s t : List ℕ) (x : Side) → most ≤ 2 → sideUpTo most n s ≡ read x m t → (s ≡ sideNumber x ∷ t) × (sideNumber x ≤ most) × (m ≡ n)
+pub side-back : (most n m : ℕ) (s t : List ℕ) (x : Side) → most ≤ 2 → sideUpTo most n s ≡ read x m t
+    → (s ≡ sideNumber x ∷ t) × (sideNumber x ≤ most) × (m ≡ n)
 unfolding sideUpTo
 side-back most n m s t x k e =
     step (byteUpTo most n s) _ e (λ b n₁ s₁ e₁ f₁.
@@ -36,7 +37,8 @@ side-back most n m s t x k e =
     given (λ y m t. (s ≡ sideNumber y ∷ t) × (sideNumber y ≤ most) × (m ≡ n)) (sideNumbered b) x n₁ m s₁ t f₁
     (a .0 ∙ ap (λ (y : ℕ). y ∷ s₁) (sym same), rw same (a .1), a .2))
 
-record-back : (n m : ℕ) (s t : List ℕ) (r : Record) → AllBytes s → oneRecord n s ≡ read r m t → (s ≡ recordBytes r ++ t) × (Short (r .child) × Short (r .tag)) × (m ≡ n)
+record-back : (n m : ℕ) (s t : List ℕ) (r : Record) → AllBytes s → oneRecord n s ≡ read r m t
+    → (s ≡ recordBytes r ++ t) × (Short (r .child) × Short (r .tag)) × (m ≡ n)
 unfolding oneRecord recordBytes
 record-back n m s t r h e =
     step (sideUpTo 2 n s) _ e (λ x n₁ s₁ e₁ f₁.
@@ -45,9 +47,14 @@ record-back n m s t r h e =
     step (number 2 n₁ s₁) _ f₁ (λ c n₂ s₂ e₂ f₂.
     let b : (s₁ ≡ bigEndian 2 c ++ s₂) × (c < 256 ^ 2) × (n₂ ≡ n₁) = number-back 2 n₁ n₂ c s₁ s₂ h₁ e₂ in
     step (number 2 n₂ s₂) _ f₂ (λ g n₃ s₃ e₃ f₃.
-    let d : (s₂ ≡ bigEndian 2 g ++ s₃) × (g < 256 ^ 2) × (n₃ ≡ n₂) = number-back 2 n₂ n₃ g s₂ s₃ (after-bytes (bigEndian 2 c) s₂ s₁ (b .0) h₁) e₃ in
-    given (λ y m t. (s ≡ recordBytes y ++ t) × (Short (y .child) × Short (y .tag)) × (m ≡ n)) (record { side = x; child = c; tag = g }) r n₃ m s₃ t f₃
-    (a .0 ∙ ap (λ (y : List ℕ). sideNumber x ∷ y) (join (bigEndian 2 c) (bigEndian 2 g) s₁ s₂ s₃ (b .0) (d .0)), (b .1, d .1), d .2 ∙ b .2 ∙ a .2))))
+    let d : (s₂ ≡ bigEndian 2 g ++ s₃) × (g < 256 ^ 2) × (n₃ ≡ n₂) =
+    number-back 2 n₂ n₃ g s₂ s₃ (after-bytes (bigEndian 2 c) s₂ s₁ (b .0) h₁) e₃ in
+    given (λ y m t. (s ≡ recordBytes y ++ t) × (Short (y .child) × Short (y .tag)) × (m ≡ n))
+    (record { side = x; child = c; tag = g }) r n₃ m s₃ t f₃ (
+      a .0 ∙ ap (λ (y : List ℕ). sideNumber x ∷ y) (join (bigEndian 2 c) (bigEndian 2 g) s₁ s₂ s₃ (b .0) (d .0)),
+      (b .1, d .1),
+      d .2 ∙ b .2 ∙ a .2,
+    ))))
 
 abbrev RecordsBack : (k n m : ℕ) (s t : List ℕ) (rs : List Record) → Type 0
 RecordsBack k n m s t rs = (s ≡ recordsBytes rs ++ t) × (length rs ≡ k) × RecordsInRange rs × (m ≡ n)
@@ -96,7 +103,8 @@ body-back n m s t F h k e =
     step (node (indexBelow c) 64 n₂ s₂) _ f₂ (λ x n₃ s₃ e₃ f₃.
     let d : NodeBack (indexBelow c) 64 n₂ n₃ s₂ s₃ x = node-back (indexBelow c) 64 n₂ n₃ s₂ s₃ x h₂ (omega (arith, a .2, b .3)) e₃ in
     given (λ y m t. FrameBack n m s t y) (record { records = rs; expr = x }) F n₃ m s₃ t f₃ (record {
-      bytes = join (bigEndian 2 (length rs)) (recordsBytes rs ++ exprBytes x) s s₁ s₃ (rw (b .1) (a .0)) (join (recordsBytes rs) (exprBytes x) s₁ s₂ s₃ (b .0) (d .bytes));
+      bytes = join (bigEndian 2 (length rs)) (recordsBytes rs ++ exprBytes x) s s₁ s₃ (rw (b .1) (a .0))
+          (join (recordsBytes rs) (exprBytes x) s₁ s₂ s₃ (b .0) (d .bytes));
       few = rw (b .1) (a .1);
       recordsInRange = b .2;
       expr = record { inRange = rw (b .1) (d .inRange); shallow = d .shallow };
@@ -118,7 +126,8 @@ unfolding resultOf
 answer-back (read b m t) a e = (m, t, ap (λ (x : _). read x m t) (same-ok b a e))
 answer-back (stopped k) a e = absurd (refused-not-ok k a e)
 
-pub opened : {A G : Type 0} (s : List ℕ) (next : Reader A) {a : A} {m : ℕ} {t : List ℕ} → continue (requireLength 0 s) (λ b. next) ≡ read a m t
+pub opened : {A G : Type 0} (s : List ℕ) (next : Reader A) {a : A} {m : ℕ} {t : List ℕ}
+    → continue (requireLength 0 s) (λ b. next) ≡ read a m t
     → (length s ≤ 16384 → next 0 s ≡ read a m t → G) → G
 unfolding requireLength
 opened s next e go =
@@ -130,7 +139,8 @@ unfolding noneLeft
 none-left [] e = refl
 none-left (b ∷ s) e = absurd (false≢true e)
 
-pub ended : {A G : Type 0} (n : ℕ) (s : List ℕ) (next : Reader A) {a : A} {m : ℕ} {t : List ℕ} → continue (atEnd n s) (λ b. next) ≡ read a m t
+pub ended : {A G : Type 0} (n : ℕ) (s : List ℕ) (next : Reader A) {a : A} {m : ℕ} {t : List ℕ}
+    → continue (atEnd n s) (λ b. next) ≡ read a m t
     → (s ≡ [] → next n s ≡ read a m t → G) → G
 unfolding atEnd
 ended n s next e go = test 7 (noneLeft s) next n s e (λ fine f. go (none-left s fine) f)
@@ -160,7 +170,8 @@ physical-back s F m t h e =
     given (λ x m t. GoodFrame s x) G F n₂ m s₂ t f₅ (whole-plan s (held G) few
     (a .0 ∙ ap₂ (λ (x : ℕ) (y : List ℕ). x ∷ y) (eqb-true first 1 is)
     (b .bytes ∙ ap (λ (y : List ℕ). frameFields G ++ y) none ∙ append-nil (frameFields G)))
-    (record { few = b .few; recordsInRange = b .recordsInRange; expr = b .expr; arity = fine }) (omega (arith, b .counted, b .fewNodes)))))))))
+    (record { few = b .few; recordsInRange = b .recordsInRange; expr = b .expr; arity = fine })
+    (omega (arith, b .counted, b .fewNodes)))))))))
 
 -- Bytes that are a good frame are that frame's bytes, and the frame is a good plan.
 pub frame-back : (s : List ℕ) (F : Frame) → AllBytes s → frameOf s ≡ ok F → GoodFrame s F

@@ -70,7 +70,8 @@ module _ {G : Type 0} {p : Predicate} {m : ℕ} {t : List ℕ} where
       let a : (s ≡ b ∷ s₁) × (b ≤ most) × (n₁ ≡ n) = byte-up-to-back most n n₁ b s s₁ e₁ in
       go b n₁ s₁ a (after-bytes (b ∷ []) s₁ s (a .0) h) f₁)
 
-  side-step : (most n : ℕ) (s : List ℕ) (next : Side → Reader Predicate) → most ≤ 2 → AllBytes s → continue (sideUpTo most n s) next ≡ read p m t
+  side-step : (most n : ℕ) (s : List ℕ) (next : Side → Reader Predicate) → most ≤ 2 → AllBytes s
+      → continue (sideUpTo most n s) next ≡ read p m t
       → ((x : Side) (n₁ : ℕ) (s₁ : List ℕ) → (s ≡ sideNumber x ∷ s₁) × (sideNumber x ≤ most) × (n₁ ≡ n) → AllBytes s₁
       → next x n₁ s₁ ≡ read p m t → G)
       → G
@@ -79,7 +80,8 @@ module _ {G : Type 0} {p : Predicate} {m : ℕ} {t : List ℕ} where
       let a : (s ≡ sideNumber x ∷ s₁) × (sideNumber x ≤ most) × (n₁ ≡ n) = side-back most n n₁ s s₁ x k e₁ in
       go x n₁ s₁ a (after-bytes (sideNumber x ∷ []) s₁ s (a .0) h) f₁)
 
-  expr-step : (n : ℕ) (s : List ℕ) (next : Expr → Reader Predicate) → AllBytes s → n ≤ 1024 → continue (expression Wide n s) next ≡ read p m t
+  expr-step : (n : ℕ) (s : List ℕ) (next : Expr → Reader Predicate) → AllBytes s → n ≤ 1024
+      → continue (expression Wide n s) next ≡ read p m t
       → ((e : Expr) (n₁ : ℕ) (s₁ : List ℕ) → ExprBack n n₁ s s₁ e → AllBytes s₁ → next e n₁ s₁ ≡ read p m t → G) → G
   expr-step n s next h k e go =
       step (expression Wide n s) next e (λ x n₁ s₁ e₁ f₁.
@@ -142,15 +144,21 @@ knn-back n m s t p h k eq =
 
 predicate-kind-back : (n m kind : ℕ) (s t : List ℕ) (p : Predicate) → AllBytes s → n ≤ 1024 → (b1 b2 b3 : Bool)
     → eqb kind 0x11 ≡ b1 → eqb kind 0x12 ≡ b2 → eqb kind 0x13 ≡ b3
-    → (if b1 then relationPredicate else if b2 then distancePredicate else if b3 then knnPredicate else refuse 2) n s ≡ read p m t → PredicateBack n m kind s t p
-predicate-kind-back n m kind s t p h k true b2 b3 e1 e2 e3 eq = subst (λ (x : ℕ). PredicateBack n m x s t p) (sym (eqb-true kind 0x11 e1)) (relation-back n m s t p h k eq)
-predicate-kind-back n m kind s t p h k false true b3 e1 e2 e3 eq = subst (λ (x : ℕ). PredicateBack n m x s t p) (sym (eqb-true kind 0x12 e2)) (distance-back n m s t p h k eq)
-predicate-kind-back n m kind s t p h k false false true e1 e2 e3 eq = subst (λ (x : ℕ). PredicateBack n m x s t p) (sym (eqb-true kind 0x13 e3)) (knn-back n m s t p h k eq)
+    → (if b1 then relationPredicate else if b2 then distancePredicate else if b3 then knnPredicate else refuse 2) n s ≡ read p m t
+    → PredicateBack n m kind s t p
+predicate-kind-back n m kind s t p h k true b2 b3 e1 e2 e3 eq =
+    subst (λ (x : ℕ). PredicateBack n m x s t p) (sym (eqb-true kind 0x11 e1)) (relation-back n m s t p h k eq)
+predicate-kind-back n m kind s t p h k false true b3 e1 e2 e3 eq =
+    subst (λ (x : ℕ). PredicateBack n m x s t p) (sym (eqb-true kind 0x12 e2)) (distance-back n m s t p h k eq)
+predicate-kind-back n m kind s t p h k false false true e1 e2 e3 eq =
+    subst (λ (x : ℕ). PredicateBack n m x s t p) (sym (eqb-true kind 0x13 e3)) (knn-back n m s t p h k eq)
 predicate-kind-back n m kind s t p h k false false false e1 e2 e3 eq = absurd (stopped-not-read 2 p m t eq)
 
-predicate-back : (n m kind : ℕ) (s t : List ℕ) (p : Predicate) → AllBytes s → n ≤ 1024 → predicateOfKind kind n s ≡ read p m t → PredicateBack n m kind s t p
+predicate-back : (n m kind : ℕ) (s t : List ℕ) (p : Predicate) → AllBytes s → n ≤ 1024 → predicateOfKind kind n s ≡ read p m t
+    → PredicateBack n m kind s t p
 unfolding predicateOfKind
-predicate-back n m kind s t p h k eq = predicate-kind-back n m kind s t p h k (eqb kind 0x11) (eqb kind 0x12) (eqb kind 0x13) refl refl refl eq
+predicate-back n m kind s t p h k eq =
+    predicate-kind-back n m kind s t p h k (eqb kind 0x11) (eqb kind 0x12) (eqb kind 0x13) refl refl refl eq
 
 -- What is known of a remainder that was read.
 record RemainderBack (n m : ℕ) (s t : List ℕ) (R : Option Frame) : Type 0 where
@@ -159,7 +167,8 @@ record RemainderBack (n m : ℕ) (s t : List ℕ) (R : Option Frame) : Type 0 wh
   counted : m ≡ n + remainderNodes R
   few : m ≤ 1024
 
-some-back : (n m : ℕ) (s t : List ℕ) (R : Option Frame) → AllBytes s → n ≤ 1024 → someRemainder n s ≡ read R m t → RemainderBack n m (1 ∷ s) t R
+some-back : (n m : ℕ) (s t : List ℕ) (R : Option Frame) → AllBytes s → n ≤ 1024 → someRemainder n s ≡ read R m t
+    → RemainderBack n m (1 ∷ s) t R
 unfolding someRemainder remainderBytes remainderNodes frameBytes frameFields
 some-back n m s t R h k eq =
     step (frameBody n s) _ eq (λ F n₁ s₁ e₁ f₁.
@@ -175,9 +184,11 @@ some-back n m s t R h k eq =
 none-back : (n m : ℕ) (s t : List ℕ) (R : Option Frame) → n ≤ 1024 → read none n s ≡ read R m t → RemainderBack n m (0 ∷ s) t R
 unfolding remainderBytes remainderNodes
 none-back n m s t R k eq =
-    given (λ x m t. RemainderBack n m (0 ∷ s) t x) none R n m s t eq (record { bytes = refl; readable = tt; counted = omega arith; few = k })
+    given (λ x m t. RemainderBack n m (0 ∷ s) t x) none R n m s t eq
+    (record { bytes = refl; readable = tt; counted = omega arith; few = k })
 
-remainder-kind-back : (n m kind : ℕ) (s t : List ℕ) (R : Option Frame) → AllBytes s → n ≤ 1024 → (b1 b2 : Bool) → eqb kind 0 ≡ b1 → eqb kind 1 ≡ b2
+remainder-kind-back : (n m kind : ℕ) (s t : List ℕ) (R : Option Frame) → AllBytes s → n ≤ 1024 → (b1 b2 : Bool) → eqb kind 0 ≡ b1
+    → eqb kind 1 ≡ b2
     → (if b1 then give none else if b2 then someRemainder else refuse 4) n s ≡ read R m t → RemainderBack n m (kind ∷ s) t R
 remainder-kind-back n m kind s t R h k true b2 e1 e2 eq =
     subst (λ (x : ℕ). RemainderBack n m (x ∷ s) t R) (sym (eqb-true kind 0 e1)) (none-back n m s t R k eq)
@@ -191,7 +202,8 @@ remainder-back n m s t R h k eq =
     step (firstByte n s) _ eq (λ kind n₁ s₁ e₁ f₁.
     let a : (s ≡ kind ∷ s₁) × (n₁ ≡ n) = byte-back n n₁ kind s s₁ e₁ in
     subst (λ (x : ℕ). RemainderBack x m s t R) (a .1) (subst (λ (x : List ℕ). RemainderBack n₁ m x t R) (sym (a .0))
-    (remainder-kind-back n₁ m kind s₁ t R (after-bytes (kind ∷ []) s₁ s (a .0) h) (omega (arith, a .1)) (eqb kind 0) (eqb kind 1) refl refl f₁)))
+    (remainder-kind-back n₁ m kind s₁ t R (after-bytes (kind ∷ []) s₁ s (a .0) h) (omega (arith, a .1)) (eqb kind 0)
+    (eqb kind 1) refl refl f₁)))
 
 -- What is known of an extraction that was read.
 record ExtractionBack (n m first : ℕ) (s t : List ℕ) (X : Extraction) : Type 0 where
@@ -200,14 +212,16 @@ record ExtractionBack (n m first : ℕ) (s t : List ℕ) (X : Extraction) : Type
   counted : m ≡ n + planNodes (extracted X)
   few : m ≤ 1024
 
-extraction-body-back : (n m first : ℕ) (s t : List ℕ) (X : Extraction) → AllBytes (first ∷ s) → n ≤ 1024 → extractionBody first n s ≡ read X m t
+extraction-body-back : (n m first : ℕ) (s t : List ℕ) (X : Extraction) → AllBytes (first ∷ s) → n ≤ 1024
+    → extractionBody first n s ≡ read X m t
     → ExtractionBack n m first s t X
 unfolding extractionBody extractionBytes planNodes
 extraction-body-back n m first s t X h k eq =
     step (predicateOfKind first n s) _ eq (λ p n₁ s₁ e₁ f₁.
     let a : PredicateBack n n₁ first s s₁ p = predicate-back n n₁ first s s₁ p (h .1) k e₁ in
     step (remainder n₁ s₁) _ f₁ (λ R n₂ s₂ e₂ f₂.
-    let b : RemainderBack n₁ n₂ s₁ s₂ R = remainder-back n₁ n₂ s₁ s₂ R (after-bytes (predicateKind p ∷ predicateFields p) s₁ (first ∷ s) (a .bytes) h) (a .few) e₂ in
+    let b : RemainderBack n₁ n₂ s₁ s₂ R =
+    remainder-back n₁ n₂ s₁ s₂ R (after-bytes (predicateKind p ∷ predicateFields p) s₁ (first ∷ s) (a .bytes) h) (a .few) e₂ in
     given (λ x m t. ExtractionBack n m first s t x) (record { predicate = p; remainder = R }) X n₂ m s₂ t f₂ (record {
       bytes = join (predicateKind p ∷ predicateFields p) (remainderBytes R) (first ∷ s) s₁ s₂ (a .bytes) (b .bytes);
       readable = (a .readable, b .readable);
@@ -226,7 +240,8 @@ whole-back s X m t h e =
     step (firstByte 0 s) _ e₁ (λ first n₁ s₁ e₂ f₁.
     let a : (s ≡ first ∷ s₁) × (n₁ ≡ 0) = byte-back 0 n₁ first s s₁ e₂ in
     step (extractionBody first n₁ s₁) _ f₁ (λ Y n₂ s₂ e₃ f₂.
-    let b : ExtractionBack n₁ n₂ first s₁ s₂ Y = extraction-body-back n₁ n₂ first s₁ s₂ Y (subst AllBytes (a .0) h) (omega (arith, a .1)) e₃ in
+    let b : ExtractionBack n₁ n₂ first s₁ s₂ Y =
+    extraction-body-back n₁ n₂ first s₁ s₂ Y (subst AllBytes (a .0) h) (omega (arith, a .1)) e₃ in
     ended n₂ s₂ _ f₂ (λ none f₃.
     given (λ x m t. GoodBytes s x) Y X n₂ m s₂ t f₃ (whole-plan s (extracted Y) few
     (a .0 ∙ b .bytes ∙ ap (λ (y : List ℕ). extractionBytes Y ++ y) none ∙ append-nil (extractionBytes Y))
@@ -244,12 +259,14 @@ unfolding planBytes
 held-result s p h (ok F) e q = subst (PlanBack s) (same-ok (held F) p q) (frame-back s F h e)
 held-result s p h (refused k) e q = absurd (refused-not-ok k p q)
 
-extracted-result : (s : List ℕ) (p : Plan) → AllBytes s → (r : Result Extraction) → extractionOf s ≡ r → mapResult extracted r ≡ ok p → PlanBack s p
+extracted-result : (s : List ℕ) (p : Plan) → AllBytes s → (r : Result Extraction) → extractionOf s ≡ r → mapResult extracted r ≡ ok p
+    → PlanBack s p
 unfolding planBytes
 extracted-result s p h (ok X) e q = subst (PlanBack s) (same-ok (extracted X) p q) (extraction-back s X h e)
 extracted-result s p h (refused k) e q = absurd (refused-not-ok k p q)
 
-plan-test : (s : List ℕ) (p : Plan) → AllBytes s → (b : Bool) → (if b then mapResult held (frameOf s) else mapResult extracted (extractionOf s)) ≡ ok p → PlanBack s p
+plan-test : (s : List ℕ) (p : Plan) → AllBytes s → (b : Bool)
+    → (if b then mapResult held (frameOf s) else mapResult extracted (extractionOf s)) ≡ ok p → PlanBack s p
 plan-test s p h true e = held-result s p h (frameOf s) refl e
 plan-test s p h false e = extracted-result s p h (extractionOf s) refl e
 

@@ -64,7 +64,8 @@ form-left : (M : Meaning) (o a b d : ℕ) → (eqb o 1 || eqb o 2) ≡ true → 
 unfolding distanceByForm
 form-left M o a b d = one-of (λ o. M .binaryValue o (M .distanceValue a b) d ≡ distanceByForm M o a b d) o 1 2 refl refl
 
-form-right : (M : Meaning) (o a b d : ℕ) → (eqb o 3 || eqb o 4) ≡ true → M .binaryValue o d (M .distanceValue a b) ≡ distanceByForm M o a b d
+form-right : (M : Meaning) (o a b d : ℕ) → (eqb o 3 || eqb o 4) ≡ true
+    → M .binaryValue o d (M .distanceValue a b) ≡ distanceByForm M o a b d
 unfolding distanceByForm
 form-right M o a b d = one-of (λ o. M .binaryValue o d (M .distanceValue a b) ≡ distanceByForm M o a b d) o 3 4 refl refl
 
@@ -77,7 +78,8 @@ module _ (M : Meaning) (fair : Fair M) (v : Valuation) (rs : List Record) where
   abbrev f : ℕ → ℕ
   f = frameColumns v rs
 
-  relation-means : (name : List ℕ) (t : Option Relation) (es : Exprs) → relationNamed name ≡ t → MeansSame M v rs (M .callValue name (values M f es)) (relationRequest t es)
+  relation-means : (name : List ℕ) (t : Option Relation) (es : Exprs) → relationNamed name ≡ t
+      → MeansSame M v rs (M .callValue name (values M f es)) (relationRequest t es)
   unfolding relationRequest value
   relation-means name none es e = tt
   relation-means name (some t) nil e = tt
@@ -91,23 +93,29 @@ module _ (M : Meaning) (fair : Fair M) (v : Valuation) (rs : List Record) where
   dwithin-means (cons a (cons b nil)) = tt
   dwithin-means (cons a (cons b (cons d more))) = fair .dwithinCall (value M f a) (value M f b) (value M f d) (values M f more)
 
-  knn-means : (es : Exprs) → InRangeAll (indexBelow (length rs)) es → (q : Request) → knnRequest es ≡ q → FirstTwo es q → MeansSame M v rs (M .callValue (ascii "st_knn") (values M f es)) q
+  knn-means : (es : Exprs) → InRangeAll (indexBelow (length rs)) es → (q : Request) → knnRequest es ≡ q → FirstTwo es q
+      → MeansSame M v rs (M .callValue (ascii "st_knn") (values M f es)) q
   unfolding value
   knn-means es within (askRelation t a b) e o = absurd o
   knn-means es within (askDistance form a b d) e o = absurd o
   knn-means es within (askKnn k s t a b) e o = λ probe l r m.
       let of-two : matchLeaf rs (call (ascii "st_knn") (cons a (cons b (o .0)))) ≡ some (knn k s probe t l r) =
       knn-leaf rs (cons a (cons b (o .0))) ∙ ap (matchRequest rs) (ap knnRequest (sym (o .1)) ∙ e) ∙ m in
-      ap (λ (x : Exprs). M .callValue (ascii "st_knn") (values M f x)) (o .1) ∙ fair .knnLeaf v rs (ascii "st_knn") a b (o .0) (subst (InRangeAll (indexBelow (length rs))) (o .1) within) k s t probe l r of-two
+      ap (λ (x : Exprs). M .callValue (ascii "st_knn") (values M f x)) (o .1)
+      ∙ fair .knnLeaf v rs (ascii "st_knn") a b (o .0) (subst (InRangeAll (indexBelow (length rs))) (o .1) within) k s t probe l r of-two
   knn-means es within askNothing e o = tt
 
-  call-means : (name : List ℕ) (es : Exprs) → InRangeAll (indexBelow (length rs)) es → MeansSame M v rs (M .callValue name (values M f es)) (callRequest name es)
+  call-means : (name : List ℕ) (es : Exprs) → InRangeAll (indexBelow (length rs)) es
+      → MeansSame M v rs (M .callValue name (values M f es)) (callRequest name es)
   unfolding callRequest
   call-means name es within =
       by-test (MeansSame M v rs (M .callValue name (values M f es))) (sameName name (ascii "st_knn")) (knnRequest es) _
-      (λ e. subst (λ (x : List ℕ). MeansSame M v rs (M .callValue x (values M f es)) (knnRequest es)) (sym (same-name name (ascii "st_knn") e)) (knn-means es within (knnRequest es) refl (first-two es)))
-      (λ _. by-test (MeansSame M v rs (M .callValue name (values M f es))) (sameName name (ascii "st_dwithin")) (dwithinRequest es) (relationRequest (relationNamed name) es)
-      (λ e. subst (λ (x : List ℕ). MeansSame M v rs (M .callValue x (values M f es)) (dwithinRequest es)) (sym (same-name name (ascii "st_dwithin") e)) (dwithin-means es))
+      (λ e. subst (λ (x : List ℕ). MeansSame M v rs (M .callValue x (values M f es)) (knnRequest es))
+      (sym (same-name name (ascii "st_knn") e)) (knn-means es within (knnRequest es) refl (first-two es)))
+      (λ _. by-test (MeansSame M v rs (M .callValue name (values M f es))) (sameName name (ascii "st_dwithin")) (dwithinRequest es)
+      (relationRequest (relationNamed name) es)
+      (λ e. subst (λ (x : List ℕ). MeansSame M v rs (M .callValue x (values M f es)) (dwithinRequest es))
+      (sym (same-name name (ascii "st_dwithin") e)) (dwithin-means es))
       (λ e. relation-means name (relationNamed name) es refl))
 
   -- The arguments of an `st_distance` call that is measured.
@@ -121,7 +129,8 @@ module _ (M : Meaning) (fair : Fair M) (v : Valuation) (rs : List Record) where
   arguments-means x o d (cons a (cons b more)) h = h a b (fair .distanceCall (value M f a) (value M f b) (values M f more))
 
   measured-means : (x o : ℕ) (m d : Expr)
-      → ((a b : Expr) → value M f m ≡ M .distanceValue (value M f a) (value M f b) → x ≡ distanceByForm M o (value M f a) (value M f b) (value M f d))
+      → ((a b : Expr) → value M f m ≡ M .distanceValue (value M f a) (value M f b)
+      → x ≡ distanceByForm M o (value M f a) (value M f b) (value M f d))
       → MeansSame M v rs x (distanceRequest o d (distanceArguments m))
   unfolding distanceArguments distanceRequest value
   measured-means x o (column i t) d h = tt
@@ -130,17 +139,21 @@ module _ (M : Meaning) (fair : Fair M) (v : Valuation) (rs : List Record) where
   measured-means x o (binary p l r) d h = tt
   measured-means x o (call name es) d h =
       by-test (λ (y : Option Exprs). MeansSame M v rs x (distanceRequest o d y)) (sameName name (ascii "st_distance")) (some es) none
-      (λ e. arguments-means x o d es (λ a b p. h a b (ap (λ (y : List ℕ). M .callValue y (values M f es)) (same-name name (ascii "st_distance") e) ∙ p)))
+      (λ e. arguments-means x o d es
+      (λ a b p. h a b (ap (λ (y : List ℕ). M .callValue y (values M f es)) (same-name name (ascii "st_distance") e) ∙ p)))
       (λ e. tt)
   measured-means x o (other tag es) d h = tt
   measured-means x o (field b t) d h = tt
 
-  comparison-means : (o : ℕ) (l r : Expr) → MeansSame M v rs (M .binaryValue o (value M f l) (value M f r)) (comparisonRequest o (comparison o l r))
+  comparison-means : (o : ℕ) (l r : Expr)
+      → MeansSame M v rs (M .binaryValue o (value M f l) (value M f r)) (comparisonRequest o (comparison o l r))
   unfolding comparison comparisonRequest
   comparison-means o l r =
-      by-test (λ (c : Comparison). MeansSame M v rs (M .binaryValue o (value M f l) (value M f r)) (comparisonRequest o c)) (eqb o 1 || eqb o 2) (compares l r) _
+      by-test (λ (c : Comparison). MeansSame M v rs (M .binaryValue o (value M f l) (value M f r)) (comparisonRequest o c))
+      (eqb o 1 || eqb o 2) (compares l r) _
       (λ e. measured-means _ o l r (λ a b p. ap (λ (y : ℕ). M .binaryValue o y (value M f r)) p ∙ form-left M o _ _ _ e))
-      (λ _. by-test (λ (c : Comparison). MeansSame M v rs (M .binaryValue o (value M f l) (value M f r)) (comparisonRequest o c)) (eqb o 3 || eqb o 4) (compares r l) noComparison
+      (λ _. by-test (λ (c : Comparison). MeansSame M v rs (M .binaryValue o (value M f l) (value M f r)) (comparisonRequest o c))
+      (eqb o 3 || eqb o 4) (compares r l) noComparison
       (λ e. measured-means _ o r l (λ a b p. ap (λ (y : ℕ). M .binaryValue o (value M f l) y) p ∙ form-right M o _ _ _ e))
       (λ e. tt))
 

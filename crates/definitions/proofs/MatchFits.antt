@@ -3,16 +3,17 @@ use Prim.Native.Nat.{ℕ, zero, suc, _≤_}
 use native.Mathlib.Omega.{arith}
 use mathlib.Core.Path.{_≡_, refl}
 use mathlib.Core.List.{List, [], _∷_}
+use mathlib.Core.Option.{some}
 use lib.ListN.{length, length-append}
 use lib.Dec.{lit<}
 use borrow.Author.Tests.{lt-ltb}
 use Rattle.definitions.specs.Basics.{bigEndian}
-use Rattle.definitions.specs.Expression.{Side, left, right, noSide, Relation, Expr, Record}
+use Rattle.definitions.specs.Expression.{Side, left, right, noSide, Relation, Expr, Record, relation, distance, knn}
 use Rattle.definitions.specs.Encode.{exprBytes, predicateFields}
 use Rattle.definitions.specs.Decode.{indexBelow}
 use Rattle.definitions.specs.References.{recordAt, columnsOf}
-use Rattle.definitions.specs.Match.{Order, leftRight, rightLeft, noOrder, Request, askRelation, askDistance, askKnn, askNothing, request, onChild, ArgumentSide, noColumns, allOn, mixed, sideOf, orderOf, boundOn, matchRelation, storeDistance, matchDistance, matchKnn, matchRequest, matchLeaf}
-use Rattle.definitions.specs.Good.{nodes, depth, Short, InRange, Readable, RecordsInRange, predicateNodes}
+use Rattle.definitions.specs.Match.{invert, Order, leftRight, rightLeft, noOrder, Request, askRelation, askDistance, askKnn, askNothing, request, onChild, ArgumentSide, noColumns, allOn, mixed, sideOf, orderOf, boundOn, matchRelation, storeDistance, matchDistance, matchKnn, matchRequest, matchLeaf}
+use Rattle.definitions.specs.Good.{OneOfTwo, nodes, depth, Short, InRange, Readable, RecordsInRange, predicateNodes}
 use Rattle.definitions.specs.Matchers.{Fits}
 use Rattle.definitions.proofs.Columns.{all-every, Fits as FitsIn, map-length, map-nodes, map-depth, map-in-range, widen}
 use Rattle.definitions.proofs.Requests.{Within, request-within}
@@ -33,7 +34,8 @@ on-child-readable rs b e h r d =
     let f : ℕ → ℕ = λ i. recordAt rs i .child in
     record {
       inRange = map-in-range b 65536 f e
-          (all-every (FitsIn 65536 f) (λ i. (lt-ltb (recordAt rs i .child) 65536 (child-short rs i h), child-short rs i h)) (columnsOf e)) r;
+          (all-every (FitsIn 65536 f) (λ i. (lt-ltb (recordAt rs i .child) 65536 (child-short rs i h), child-short rs i h))
+          (columnsOf e)) r;
       shallow = rw map-depth d;
     }
 
@@ -67,34 +69,43 @@ bound-nodes rs noSide e = refl
 -- ---- a match is readable and no larger than its leaf
 
 module _ (rs : List Record) (b room size levels : ℕ) (rr : RecordsInRange rs) (fits : levels ≤ 64) where
-  relation-sized : (t : Relation) (x y : Expr) → Within (indexBelow b) room size levels (askRelation t x y)
-      → (o : Order) → Fits room size (matchRelation t (onChild rs x) (onChild rs y) o)
-  unfolding matchRelation predicateFields predicateNodes
-  relation-sized t x y h leftRight = (
+  relation-fits : (t : Relation) (x y : Expr) → Within (indexBelow b) room size levels (askRelation t x y)
+      → Fits room size (some (relation t (onChild rs x) (onChild rs y)))
+  unfolding predicateFields predicateNodes
+  relation-fits t x y h = (
     (on-child-readable rs b x rr (h .0) (omega (arith, h .4)), on-child-readable rs b y rr (h .1) (omega (arith, h .5))),
     simp (length-append, on-child-bytes) (omega (arith, h .2)),
     simp on-child-nodes (omega (arith, h .3)),
   )
-  relation-sized t x y h rightLeft = (
-    (on-child-readable rs b y rr (h .1) (omega (arith, h .5)), on-child-readable rs b x rr (h .0) (omega (arith, h .4))),
-    simp (length-append, on-child-bytes) (omega (arith, h .2)),
-    simp on-child-nodes (omega (arith, h .3)),
-  )
+
+  relation-sized : (t : Relation) (x y : Expr) → Within (indexBelow b) room size levels (askRelation t x y)
+      → (o : Order) → Fits room size (matchRelation t (onChild rs x) (onChild rs y) o)
+  unfolding matchRelation
+  relation-sized t x y h leftRight = relation-fits t x y h
+  relation-sized t x y h rightLeft =
+      relation-fits (invert t) y x (h .1, h .0, omega (arith, h .2), omega (arith, h .3), h .5, h .4)
   relation-sized t x y h noOrder = tt
+
+  distance-fits : (form : ℕ) (s : Side) (x y d : Expr) → Within (indexBelow b) room size levels (askDistance form x y d)
+      → Fits room size (some (distance form s (onChild rs x) (onChild rs y) (boundOn rs s d)))
+  unfolding predicateFields predicateNodes
+  distance-fits form s x y d h = (
+    (
+      h .0,
+      on-child-readable rs b x rr (h .1) (omega (arith, h .6)),
+      on-child-readable rs b y rr (h .2) (omega (arith, h .7)),
+      bound-readable rs s b d rr (h .3) (omega (arith, h .8)),
+    ),
+    simp (length-append, on-child-bytes, bound-bytes) (omega (arith, h .4)),
+    simp (on-child-nodes, bound-nodes) (omega (arith, h .5)),
+  )
 
   stored-sized : (form : ℕ) (s : Side) (x y d : Expr) → Within (indexBelow b) room size levels (askDistance form x y d)
       → (o : Order) → Fits room size (storeDistance form s (onChild rs x) (onChild rs y) (boundOn rs s d) o)
-  unfolding storeDistance predicateFields predicateNodes
-  stored-sized form s x y d h leftRight = (
-    (h .0, on-child-readable rs b x rr (h .1) (omega (arith, h .6)), on-child-readable rs b y rr (h .2) (omega (arith, h .7)), bound-readable rs s b d rr (h .3) (omega (arith, h .8))),
-    simp (length-append, on-child-bytes, bound-bytes) (omega (arith, h .4)),
-    simp (on-child-nodes, bound-nodes) (omega (arith, h .5)),
-  )
-  stored-sized form s x y d h rightLeft = (
-    (h .0, on-child-readable rs b y rr (h .2) (omega (arith, h .7)), on-child-readable rs b x rr (h .1) (omega (arith, h .6)), bound-readable rs s b d rr (h .3) (omega (arith, h .8))),
-    simp (length-append, on-child-bytes, bound-bytes) (omega (arith, h .4)),
-    simp (on-child-nodes, bound-nodes) (omega (arith, h .5)),
-  )
+  unfolding storeDistance
+  stored-sized form s x y d h leftRight = distance-fits form s x y d h
+  stored-sized form s x y d h rightLeft =
+      distance-fits form s y x d (h .0, h .2, h .1, h .3, omega (arith, h .4), omega (arith, h .5), h .7, h .6, h .8)
   stored-sized form s x y d h noOrder = tt
 
   distance-sized : (form : ℕ) (x y d : Expr) → Within (indexBelow b) room size levels (askDistance form x y d)
@@ -104,19 +115,27 @@ module _ (rs : List Record) (b room size levels : ℕ) (rr : RecordsInRange rs) 
   distance-sized form x y d h (allOn s) o = stored-sized form s x y d h o
   distance-sized form x y d h mixed o = tt
 
+  knn-fits : (k sp t : ℕ) (probe : Side) → OneOfTwo probe → (x y : Expr) → Within (indexBelow b) room size levels (askKnn k sp t x y)
+      → Fits room size (some (knn k sp probe t (onChild rs x) (onChild rs y)))
+  unfolding predicateFields predicateNodes bigEndian
+  knn-fits k sp t probe of-two x y h = (
+    (
+      h .0,
+      h .1,
+      of-two,
+      h .2,
+      on-child-readable rs b x rr (h .3) (omega (arith, h .7)),
+      on-child-readable rs b y rr (h .4) (omega (arith, h .8)),
+    ),
+    simp (length-append, on-child-bytes) (omega (arith, h .5)),
+    simp on-child-nodes (omega (arith, h .6)),
+  )
+
   knn-sized : (k sp t : ℕ) (x y : Expr) → Within (indexBelow b) room size levels (askKnn k sp t x y)
       → (o : Order) → Fits room size (matchKnn k sp t (onChild rs x) (onChild rs y) o)
-  unfolding matchKnn predicateFields predicateNodes bigEndian
-  knn-sized k sp t x y h leftRight = (
-    (h .0, h .1, tt, h .2, on-child-readable rs b x rr (h .3) (omega (arith, h .7)), on-child-readable rs b y rr (h .4) (omega (arith, h .8))),
-    simp (length-append, on-child-bytes) (omega (arith, h .5)),
-    simp on-child-nodes (omega (arith, h .6)),
-  )
-  knn-sized k sp t x y h rightLeft = (
-    (h .0, h .1, tt, h .2, on-child-readable rs b x rr (h .3) (omega (arith, h .7)), on-child-readable rs b y rr (h .4) (omega (arith, h .8))),
-    simp (length-append, on-child-bytes) (omega (arith, h .5)),
-    simp on-child-nodes (omega (arith, h .6)),
-  )
+  unfolding matchKnn
+  knn-sized k sp t x y h leftRight = knn-fits k sp t left tt x y h
+  knn-sized k sp t x y h rightLeft = knn-fits k sp t right tt x y h
   knn-sized k sp t x y h noOrder = tt
 
   request-sized : (q : Request) → Within (indexBelow b) room size levels q → Fits room size (matchRequest rs q)

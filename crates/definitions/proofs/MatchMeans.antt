@@ -41,7 +41,8 @@ all-same : (g : ℕ → Side) (s : Side) (is : List ℕ) → all (sameSide s) (m
 unfolding all
 all-same g s [] e = tt
 all-same g s (i ∷ is) e =
-    let both : (sameSide s (g i) ≡ true) × (all (sameSide s) (map g is) ≡ true) = and-both (sameSide s (g i)) (all (sameSide s) (map g is)) e in
+    let both : (sameSide s (g i) ≡ true) × (all (sameSide s) (map g is) ≡ true) =
+    and-both (sameSide s (g i)) (all (sameSide s) (map g is)) e in
     (same-side s (g i) (both .0), all-same g s is (both .1))
 
 all-side : (b : Bool) (s t : Side) → (if b then allOn s else mixed) ≡ allOn t → (b ≡ true) × (s ≡ t)
@@ -79,7 +80,8 @@ argument-value : (M : Meaning) (v : Valuation) (rs : List Record) (e : Expr) (s 
 unfolding onChild frameColumns
 argument-value M v rs e s h =
     map-value M (frameColumns v rs) (v s) (λ i. recordAt rs i .child) e
-    (map-all (λ i. recordAt rs i .side ≡ s) (λ i. frameColumns v rs i ≡ v s (recordAt rs i .child)) (λ i p. ap (λ (t : Side). v t (recordAt rs i .child)) p) (columnsOf e) (side-is rs e s h))
+    (map-all (λ i. recordAt rs i .side ≡ s) (λ i. frameColumns v rs i ≡ v s (recordAt rs i .child))
+    (λ i p. ap (λ (t : Side). v t (recordAt rs i .child)) p) (columnsOf e) (side-is rs e s h))
 
 -- ---- frames without mark columns
 
@@ -90,7 +92,8 @@ no-mark-at (r ∷ rs) zero m h e = m .0 e
 no-mark-at (r ∷ rs) (suc i) m h e = no-mark-at rs i (m .1) (le-of-suc-le-suc h) e
 
 -- The bound of a distance on one side; without mark columns that is left or right.
-bound-value : (M : Meaning) (v : Valuation) (rs : List Record) (e : Expr) (s : Side) → NoMarks rs → InRange (indexBelow (length rs)) e → sideOf rs e ≡ allOn s
+bound-value : (M : Meaning) (v : Valuation) (rs : List Record) (e : Expr) (s : Side) → NoMarks rs → InRange (indexBelow (length rs)) e
+    → sideOf rs e ≡ allOn s
     → value M (frameColumns v rs) e ≡ value M (v s) (boundOn rs s e)
 unfolding boundOn
 bound-value M v rs e left m r h = argument-value M v rs e left h
@@ -98,7 +101,8 @@ bound-value M v rs e right m r h = argument-value M v rs e right h
 bound-value M v rs e noSide m r h =
     same-value M (frameColumns v rs) (v noSide) e
     (all-both (λ i. ltb i (length rs) ≡ true) (λ i. recordAt rs i .side ≡ noSide) (λ i. frameColumns v rs i ≡ v noSide i)
-    (λ i b p. absurd (no-mark-at rs i m (ltb-true i (length rs) b) p)) (columnsOf e) (columns-below (length rs) e r) (side-is rs e noSide h))
+    (λ i b p. absurd (no-mark-at rs i m (ltb-true i (length rs) b) p)) (columnsOf e) (columns-below (length rs) e r)
+    (side-is rs e noSide h))
 
 -- One without columns has the same value whatever columns are worth.
 copied-value : (M : Meaning) (v : Valuation) (rs : List Record) (e : Expr) → sideOf rs e ≡ noColumns
@@ -137,7 +141,8 @@ module _ (M : Meaning) (fair : Fair M) (v : Valuation) (rs : List Record) (x : �
   relation-match t a b h leftRight s =
       h ∙ ap₂ (M .relationValue t) (argument-value M v rs a left (s .0)) (argument-value M v rs b right (s .1))
   relation-match t a b h rightLeft s =
-      h ∙ ap₂ (M .relationValue t) (argument-value M v rs a right (s .0)) (argument-value M v rs b left (s .1)) ∙ sym (fair .relationInverse t _ _)
+      h ∙ ap₂ (M .relationValue t) (argument-value M v rs a right (s .0)) (argument-value M v rs b left (s .1))
+      ∙ sym (fair .relationInverse t _ _)
   relation-match t a b h noOrder s = tt
 
   stored-match : (form : ℕ) (a b d : Expr) → MeansSame M v rs x (askDistance form a b d)
@@ -187,7 +192,8 @@ request-match : (M : Meaning) → Fair M → (v : Valuation) (rs : List Record) 
     → MeansSame M v rs x q → Valued M v x (matchRequest rs q)
 unfolding matchRequest
 request-match M fair v rs x (askRelation t a b) m r h = relation-match M fair v rs x t a b h _ (order-is (sideOf rs a) (sideOf rs b))
-request-match M fair v rs x (askDistance form a b d) m r h = distance-match M fair v rs x form a b d m r h (sideOf rs d) refl _ (order-is (sideOf rs a) (sideOf rs b))
+request-match M fair v rs x (askDistance form a b d) m r h =
+    distance-match M fair v rs x form a b d m r h (sideOf rs d) refl _ (order-is (sideOf rs a) (sideOf rs b))
 request-match M fair v rs x (askKnn k s t a b) m r h = knn-match M fair v rs x k s t a b h _ refl (order-is (sideOf rs a) (sideOf rs b))
 request-match M fair v rs x askNothing m r h = tt
 
@@ -195,5 +201,6 @@ pub leaf-match : (M : Meaning) → Fair M → (v : Valuation) (rs : List Record)
     → Valued M v (value M (frameColumns v rs) e) (matchLeaf rs e)
 unfolding matchLeaf
 leaf-match M fair v rs e m r =
-    request-match M fair v rs (value M (frameColumns v rs) e) (request e) m (within-bound (length rs) _ _ _ (request e) (request-within (indexBelow (length rs)) e r))
+    request-match M fair v rs (value M (frameColumns v rs) e) (request e) m
+    (within-bound (length rs) _ _ _ (request e) (request-within (indexBelow (length rs)) e r))
     (request-means M fair v rs e r)

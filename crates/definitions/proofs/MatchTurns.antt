@@ -115,8 +115,10 @@ request-swapped : (rs : List Record) (q : Request) → matchRequest (swapped rs)
 unfolding matchRequest
 request-swapped rs (askRelation t a b) = rw (on-child rs a, on-child rs b, order-swapped rs a b) (relation-flipped t _ _ _)
 request-swapped rs (askDistance form a b bound) =
-    rw (on-child rs a, on-child rs b, order-swapped rs a b, side-of rs bound) (distance-flipped rs form (onChild rs a) (onChild rs b) bound (sideOf rs bound) (orderOf (sideOf rs a) (sideOf rs b)))
-request-swapped rs (askKnn k spheroid ties a b) = rw (on-child rs a, on-child rs b, order-swapped rs a b) (knn-flipped k spheroid ties _ _ _)
+    rw (on-child rs a, on-child rs b, order-swapped rs a b, side-of rs bound)
+    (distance-flipped rs form (onChild rs a) (onChild rs b) bound (sideOf rs bound) (orderOf (sideOf rs a) (sideOf rs b)))
+request-swapped rs (askKnn k spheroid ties a b) =
+    rw (on-child rs a, on-child rs b, order-swapped rs a b) (knn-flipped k spheroid ties _ _ _)
 request-swapped rs askNothing = refl
 
 -- Over exchanged records the match of a leaf is the exchanged match.

@@ -46,7 +46,8 @@ module _ (test : Predicate → Bool) where
   passing-turned same (some p) =
       ap (λ (b : Bool). if b then some (exchangePredicate p) else none) (same p) ∙ if-turned (test p) p
 
-  pub only-laws : {match : Matcher} {Asks : Meaning → List Record → Type 0} → Unturned test → Lawful match Asks → Lawful (onlyIf test match) Asks
+  pub only-laws : {match : Matcher} {Asks : Meaning → List Record → Type 0} → Unturned test → Lawful match Asks
+      → Lawful (onlyIf test match) Asks
   unfolding onlyIf
   only-laws {match} same laws = record {
     turns = λ rs e. ap (passing test) (laws .turns rs e) ∙ passing-turned same (match rs e);

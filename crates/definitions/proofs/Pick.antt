@@ -32,13 +32,16 @@ module _ (test : Predicate → Bool) where
   abbrev First : List (Option Predicate) → Option Pick → Type 0
   First ms none = (i : ℕ) → passes test (getD ms i none) ≡ false
   First ms (some p) =
-      (p .position < length ms) × (getD ms (p .position) none ≡ some (p .predicate)) × (test (p .predicate) ≡ true) × NoneBelow ms (p .position)
+      (p .position < length ms) × (getD ms (p .position) none ≡ some (p .predicate)) × (test (p .predicate) ≡ true)
+      × NoneBelow ms (p .position)
 
-  none-below : (m : Option Predicate) (ms : List (Option Predicate)) (k : ℕ) → passes test m ≡ false → NoneBelow ms k → NoneBelow (m ∷ ms) (suc k)
+  none-below : (m : Option Predicate) (ms : List (Option Predicate)) (k : ℕ) → passes test m ≡ false → NoneBelow ms k
+      → NoneBelow (m ∷ ms) (suc k)
   none-below m ms k e h zero b = e
   none-below m ms k e h (suc i) b = h i (le-of-suc-le-suc b)
 
-  later-first : (m : Option Predicate) (ms : List (Option Predicate)) (p : Option Pick) → passes test m ≡ false → First ms p → First (m ∷ ms) (later p)
+  later-first : (m : Option Predicate) (ms : List (Option Predicate)) (p : Option Pick) → passes test m ≡ false → First ms p
+      → First (m ∷ ms) (later p)
   unfolding later
   later-first m ms none e h = λ i. none-below m ms (suc i) e (λ j _. h j) i (omega arith)
   later-first m ms (some p) e h = (omega (arith, h .0), h .1, h .2, none-below m ms (p .position) e (h .3))

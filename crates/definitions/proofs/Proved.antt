@@ -5,7 +5,8 @@ use Rattle.definitions.specs.Plans.{planOf}
 use Rattle.definitions.specs.Machine.{Bits, machinePlan}
 use Rattle.definitions.specs.Sessions.{planAfter}
 use Rattle.definitions.specs.Matchers.{matchesBy}
-use Rattle.definitions.specs.Claims.{ExchangeTwice, ExtractExchanged, ExpressionReadBack, PlanReadBack, PlanOfBytes, ExtractionGood, ExchangeGood, LengthsShort, RefusedKeeps, AcceptedWrites, RefusalsOfCalls, LoadAccepted, LoadHolds, ListOfCalls, AnswersInPlace, SamePlan, ExchangeAccepted, ExtractAccepted, PickExactly, RestOfLeaves, ExtractTakes, PriceLineOfCalls, PriceLineStays, PriceLineExchanged, MachinesAgree, AndAssociative, AndCommutative, ExchangeValue, ExtractionValue, ListValue, AnyMatcher, FairMeaning, FairByArguments, MarksDiffer, NamesAreOnes, NamesOnce}
+use Rattle.definitions.specs.Claims.{ExchangeTwice, ExtractExchanged, ExpressionReadBack, PlanReadBack, PlanOfBytes, ExtractionGood, ExchangeGood, LengthsShort, RefusedKeeps, AcceptedWrites, RefusalsOfCalls, LoadAccepted, LoadHolds, ListOfCalls, AnswersInPlace, SamePlan, ExchangeAccepted, ExtractAccepted, PickExactly, RestOfLeaves, ExtractTakes, PriceLineOfCalls, PriceLineStays, PriceLineExchanged, MachinesAgree, AndAssociative, AndCommutative, ExchangeValue, ExtractionValue, ListValue, FairMeaning, FairByArguments, MarksDiffer, NamesAreOnes, NamesOnce}
+use Rattle.definitions.specs.AnyMatcher.{AnyMatcher}
 use Rattle.definitions.specs.TenRows.{TenRows}
 use Rattle.definitions.specs.RefusalTable.{RefusalTable}
 use Rattle.definitions.specs.NameTables.{NameTables}

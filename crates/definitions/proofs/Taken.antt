@@ -36,7 +36,8 @@ taken-and : (l r d : Expr) (i : ℕ) → i < length (leaves l ++ leaves r)
     → ((j : ℕ) → j < length (leaves l) → Taken l (getD (leaves l) j d) (without j l))
     → ((j : ℕ) → j < length (leaves r) → Taken r (getD (leaves r) j d) (without j r))
     → (b : Bool) → ltb i (length (leaves l)) ≡ b
-    → Taken (and l r) (getD (leaves l ++ leaves r) i d) (some (if b then andLeft (without i l) r else andRight l (without (i - length (leaves l)) r)))
+    → Taken (and l r) (getD (leaves l ++ leaves r) i d)
+    (some (if b then andLeft (without i l) r else andRight l (without (i - length (leaves l)) r)))
 taken-and l r d i h f g true e =
     let k : i < length (leaves l) = ltb-true i (length (leaves l)) e in
     rw (List·getD-append (leaves l) (leaves r) d i k) (inLeft r (f i k))
@@ -208,7 +209,8 @@ rest-in-range c (inRight {rest = rest} l t) h = right-in-range c l rest (h .0) (
 all-append : (xs ys : List Expr) → all leafArity (xs ++ ys) ≡ (all leafArity xs && all leafArity ys)
 unfolding all
 all-append [] ys = refl
-all-append (x ∷ xs) ys = ap (λ (b : Bool). leafArity x && b) (all-append xs ys) ∙ sym (and-assoc (leafArity x) (all leafArity xs) (all leafArity ys))
+all-append (x ∷ xs) ys =
+    ap (λ (b : Bool). leafArity x && b) (all-append xs ys) ∙ sym (and-assoc (leafArity x) (all leafArity xs) (all leafArity ys))
 
 arity-and : (l r : Expr) → arity (and l r) ≡ (arity l && arity r)
 unfolding arity leaves

@@ -29,16 +29,20 @@ use Rattle.definitions.proofs.Values.{andRest, taken-value, map-value, 
 -- ---- the remainder
 
 -- A kept record stands at its new index.
-kept-at-by : (test : Record → Bool) (r : Record) (rs : List Record) (i : ℕ) (t : Bool) → recordAt (keep test rs) (newIndex test rs i) ≡ recordAt rs i
-    → recordAt (if t then r ∷ keep test rs else keep test rs) (length (if t then r ∷ keep test (take i rs) else keep test (take i rs))) ≡ recordAt rs i
+kept-at-by : (test : Record → Bool) (r : Record) (rs : List Record) (i : ℕ) (t : Bool)
+    → recordAt (keep test rs) (newIndex test rs i) ≡ recordAt rs i
+    → recordAt (if t then r ∷ keep test rs else keep test rs) (length (if t then r ∷ keep test (take i rs) else keep test (take i rs)))
+    ≡ recordAt rs i
 unfolding recordAt newIndex
 kept-at-by test r rs i true h = h
 kept-at-by test r rs i false h = h
 
-kept-at : (test : Record → Bool) (rs : List Record) (i : ℕ) → i < length rs → test (recordAt rs i) ≡ true → recordAt (keep test rs) (newIndex test rs i) ≡ recordAt rs i
+kept-at : (test : Record → Bool) (rs : List Record) (i : ℕ) → i < length rs → test (recordAt rs i) ≡ true
+    → recordAt (keep test rs) (newIndex test rs i) ≡ recordAt rs i
 unfolding recordAt newIndex keep
 kept-at test [] i h e = absurd (not-suc-le-zero h)
-kept-at test (r ∷ rs) zero h e = ap (λ (t : Bool). getD (if t then r ∷ keep test rs else keep test rs) 0 (record { side = noSide; child = 0; tag = 0 })) e
+kept-at test (r ∷ rs) zero h e =
+    ap (λ (t : Bool). getD (if t then r ∷ keep test rs else keep test rs) 0 (record { side = noSide; child = 0; tag = 0 })) e
 kept-at test (r ∷ rs) (suc i) h e = kept-at-by test r rs i (test r) (kept-at test rs i (le-of-suc-le-suc h) e)
 
 pub prune-value : (M : Meaning) (v : Valuation) (rs : List Record) (e : Expr) → InRange (indexBelow (length rs)) e
@@ -47,7 +51,8 @@ unfolding frameValue prune frameColumns
 prune-value M v rs e r =
     let test : Record → Bool = referenced rs e in
     sym (map-value M (frameColumns v rs) (frameColumns v (keep test rs)) (newIndex test rs) e
-    (all-both (λ i. ltb i (length rs) ≡ true) (λ i. test (recordAt rs i) ≡ true) (λ i. frameColumns v rs i ≡ frameColumns v (keep test rs) (newIndex test rs i))
+    (all-both (λ i. ltb i (length rs) ≡ true) (λ i. test (recordAt rs i) ≡ true)
+    (λ i. frameColumns v rs i ≡ frameColumns v (keep test rs) (newIndex test rs i))
     (λ i b t. ap (λ (x : Record). v (x .side) (x .child)) (sym (kept-at test rs i (ltb-true i (length rs) b) t)))
     (columnsOf e) (columns-below (length rs) e r) (references rs e)))
 
@@ -93,7 +98,8 @@ extraction-value M fair v F m r = value-by match-laws M v F (fair, m) r
 
 -- ---- the exchange
 
-exchanged-columns : (v : Valuation) (rs : List Record) (i : ℕ) → frameColumns v (map exchangeRecord rs) i ≡ frameColumns (exchangedValues v) rs i
+exchanged-columns : (v : Valuation) (rs : List Record) (i : ℕ)
+    → frameColumns v (map exchangeRecord rs) i ≡ frameColumns (exchangedValues v) rs i
 unfolding frameColumns exchangedValues
 exchanged-columns v rs i = ap₂ v (side-at rs i) (child-at rs i)
 
@@ -101,10 +107,12 @@ frame-exchange-value : (M : Meaning) (v : Valuation) (F : Frame) → frameValue 
 unfolding frameValue exchangeFrame
 frame-exchange-value M v F = ap (λ (f : ℕ → ℕ). value M f (F .expr)) (fun-ext (exchanged-columns v (F .records)))
 
-predicate-exchange-value : (M : Meaning) → Fair M → (v : Valuation) (p : Predicate) → predicateValue M v (exchangePredicate p) ≡ predicateValue M (exchangedValues v) p
+predicate-exchange-value : (M : Meaning) → Fair M → (v : Valuation) (p : Predicate)
+    → predicateValue M v (exchangePredicate p) ≡ predicateValue M (exchangedValues v) p
 unfolding predicateValue exchangePredicate exchangedValues negate
 predicate-exchange-value M fair v (relation t l r) = fair .relationInverse t (value M (v right) l) (value M (v left) r)
-predicate-exchange-value M fair v (distance form side l r d) = form-symmetric M fair form (value M (v left) r) (value M (v right) l) (value M (v (negate side)) d)
+predicate-exchange-value M fair v (distance form side l r d) =
+    form-symmetric M fair form (value M (v left) r) (value M (v right) l) (value M (v (negate side)) d)
 predicate-exchange-value M fair v (knn k sp probe t l r) = refl
 
 remainder-exchange-value : (M : Meaning) (v : Valuation) (x : ℕ) (R : Option Frame)
@@ -113,7 +121,8 @@ unfolding andRemainder
 remainder-exchange-value M v x none = refl
 remainder-exchange-value M v x (some F) = ap (andValue x) (frame-exchange-value M v F)
 
-pub plan-exchange-value : (M : Meaning) → Fair M → (v : Valuation) (p : Plan) → planValue M v (exchangePlan p) ≡ planValue M (exchangedValues v) p
+pub plan-exchange-value : (M : Meaning) → Fair M → (v : Valuation) (p : Plan)
+    → planValue M v (exchangePlan p) ≡ planValue M (exchangedValues v) p
 unfolding planValue exchangePlan extractionValue exchangeExtraction
 plan-exchange-value M fair v empty = refl
 plan-exchange-value M fair v (held F) = frame-exchange-value M v F
@@ -123,17 +132,21 @@ plan-exchange-value M fair v (extracted X) =
 
 -- ---- the machine's plan
 
-base-value : (M : Meaning) (v : Valuation) (F : Frame) (x : Option Extraction) → SameValue M v F x → planValue M v (extractionOr (held F) x) ≡ frameValue M v F
+base-value : (M : Meaning) (v : Valuation) (F : Frame) (x : Option Extraction) → SameValue M v F x
+    → planValue M v (extractionOr (held F) x) ≡ frameValue M v F
 unfolding extractionOr planValue
 base-value M v F none h = refl
 base-value M v F (some X) h = h
 
 -- Whatever the list of calls, the plan has the frame's value; odd, with the values of left and right exchanged.
-pub machine-value : (M : Meaning) → Fair M → (v : Valuation) (F : Frame) → NoMarks (F .records) → InRange (indexBelow (length (F .records))) (F .expr)
-    → (e o : Bool) → planValue M v (machinePlan F (record { isExtracted = e; isOdd = o })) ≡ frameValue M (if o then exchangedValues v else v) F
+pub machine-value : (M : Meaning) → Fair M → (v : Valuation) (F : Frame) → NoMarks (F .records)
+    → InRange (indexBelow (length (F .records))) (F .expr)
+    → (e o : Bool) → planValue M v (machinePlan F (record { isExtracted = e; isOdd = o }))
+    ≡ frameValue M (if o then exchangedValues v else v) F
 unfolding machinePlan planValue
 machine-value M fair v F m r true true =
-    plan-exchange-value M fair v (extractionOr (held F) (extraction F)) ∙ base-value M (exchangedValues v) F (extraction F) (extraction-value M fair (exchangedValues v) F m r)
+    plan-exchange-value M fair v (extractionOr (held F) (extraction F))
+    ∙ base-value M (exchangedValues v) F (extraction F) (extraction-value M fair (exchangedValues v) F m r)
 machine-value M fair v F m r true false = base-value M v F (extraction F) (extraction-value M fair v F m r)
 machine-value M fair v F m r false true = plan-exchange-value M fair v (held F)
 machine-value M fair v F m r false false = refl

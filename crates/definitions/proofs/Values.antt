@@ -62,7 +62,8 @@ right-rest M f x l (some r) =
     ∙ ap (λ (y : ℕ). andValue y (value M f r)) (and-value-comm (value M f l) x)
     ∙ and-value-assoc x (value M f l) (value M f r)
 
-pub taken-value : (M : Meaning) (f : ℕ → ℕ) {e leaf : Expr} {rest : Option Expr} → Taken e leaf rest → value M f e ≡ andRest M f (value M f leaf) rest
+pub taken-value : (M : Meaning) (f : ℕ → ℕ) {e leaf : Expr} {rest : Option Expr} → Taken e leaf rest
+    → value M f e ≡ andRest M f (value M f leaf) rest
 unfolding value andRest
 taken-value M f here = refl
 taken-value M f (inLeft {leaf = leaf} {rest = rest} r t) =
@@ -75,18 +76,22 @@ taken-value M f (inRight {leaf = leaf} {rest = rest} l t) =
 mutual
   unfolding value mapColumns columnsOf
 
-  pub map-value : (M : Meaning) (f g : ℕ → ℕ) (h : ℕ → ℕ) (e : Expr) → All (λ i. f i ≡ g (h i)) (columnsOf e) → value M f e ≡ value M g (mapColumns h e)
+  pub map-value : (M : Meaning) (f g : ℕ → ℕ) (h : ℕ → ℕ) (e : Expr) → All (λ i. f i ≡ g (h i)) (columnsOf e)
+      → value M f e ≡ value M g (mapColumns h e)
   map-value M f g h (column i t) = λ a. a .0
   map-value M f g h (literal type v) = λ a. refl
   map-value M f g h (and l r) = λ a.
-      ap₂ andValue (map-value M f g h l (all-left (λ i. f i ≡ g (h i)) (columnsOf l) (columnsOf r) a)) (map-value M f g h r (all-right (λ i. f i ≡ g (h i)) (columnsOf l) (columnsOf r) a))
+      ap₂ andValue (map-value M f g h l (all-left (λ i. f i ≡ g (h i)) (columnsOf l) (columnsOf r) a))
+      (map-value M f g h r (all-right (λ i. f i ≡ g (h i)) (columnsOf l) (columnsOf r) a))
   map-value M f g h (binary o l r) = λ a.
-      ap₂ (M .binaryValue o) (map-value M f g h l (all-left (λ i. f i ≡ g (h i)) (columnsOf l) (columnsOf r) a)) (map-value M f g h r (all-right (λ i. f i ≡ g (h i)) (columnsOf l) (columnsOf r) a))
+      ap₂ (M .binaryValue o) (map-value M f g h l (all-left (λ i. f i ≡ g (h i)) (columnsOf l) (columnsOf r) a))
+      (map-value M f g h r (all-right (λ i. f i ≡ g (h i)) (columnsOf l) (columnsOf r) a))
   map-value M f g h (call name es) = λ a. ap (M .callValue name) (map-values M f g h es a)
   map-value M f g h (other tag es) = λ a. ap (M .otherValue tag) (map-values M f g h es a)
   map-value M f g h (field b t) = λ a. refl
 
-  map-values : (M : Meaning) (f g : ℕ → ℕ) (h : ℕ → ℕ) (es : Exprs) → All (λ i. f i ≡ g (h i)) (columnsOfAll es) → values M f es ≡ values M g (mapColumnsAll h es)
+  map-values : (M : Meaning) (f g : ℕ → ℕ) (h : ℕ → ℕ) (es : Exprs) → All (λ i. f i ≡ g (h i)) (columnsOfAll es)
+      → values M f es ≡ values M g (mapColumnsAll h es)
   map-values M f g h nil = λ a. refl
   map-values M f g h (cons e es) = λ a.
       ap₂ (λ (x : ℕ) (y : List ℕ). x ∷ y) (map-value M f g h e (all-left (λ i. f i ≡ g (h i)) (columnsOf e) (columnsOfAll es) a))
@@ -99,9 +104,11 @@ mutual
   same-value M f g (column i t) = λ a. a .0
   same-value M f g (literal type v) = λ a. refl
   same-value M f g (and l r) = λ a.
-      ap₂ andValue (same-value M f g l (all-left (λ i. f i ≡ g i) (columnsOf l) (columnsOf r) a)) (same-value M f g r (all-right (λ i. f i ≡ g i) (columnsOf l) (columnsOf r) a))
+      ap₂ andValue (same-value M f g l (all-left (λ i. f i ≡ g i) (columnsOf l) (columnsOf r) a))
+      (same-value M f g r (all-right (λ i. f i ≡ g i) (columnsOf l) (columnsOf r) a))
   same-value M f g (binary o l r) = λ a.
-      ap₂ (M .binaryValue o) (same-value M f g l (all-left (λ i. f i ≡ g i) (columnsOf l) (columnsOf r) a)) (same-value M f g r (all-right (λ i. f i ≡ g i) (columnsOf l) (columnsOf r) a))
+      ap₂ (M .binaryValue o) (same-value M f g l (all-left (λ i. f i ≡ g i) (columnsOf l) (columnsOf r) a))
+      (same-value M f g r (all-right (λ i. f i ≡ g i) (columnsOf l) (columnsOf r) a))
   same-value M f g (call name es) = λ a. ap (M .callValue name) (same-values M f g es a)
   same-value M f g (other tag es) = λ a. ap (M .otherValue tag) (same-values M f g es a)
   same-value M f g (field b t) = λ a. refl

@@ -9,13 +9,12 @@ use lib.Dec.{leb, eqb}
 use lib.Count.{ones}
 use Rattle.definitions.specs.Limits.{mostBytes, mostNodes}
 use Rattle.definitions.specs.Basics.{if_then_else_, Result, ok, refused, ascii, sameName, any}
-use Rattle.definitions.specs.Expression.{left, right, noSide, within, Expr, column, call, nil, cons, Record, Frame, Predicate, Extraction, Plan, held, extracted}
+use Rattle.definitions.specs.Expression.{left, right, noSide, within, Expr, column, call, nil, cons, Frame, Predicate, Extraction, Plan, held, extracted}
 use Rattle.definitions.specs.Encode.{exprBytes, frameBytes, predicateKind, extractionBytes, planBytes}
 use Rattle.definitions.specs.Leaves.{leaves}
 use Rattle.definitions.specs.Readers.{read}
 use Rattle.definitions.specs.Decode.{Columns, expression}
 use Rattle.definitions.specs.Plans.{frameOf, planOf}
-use Rattle.definitions.specs.Match.{matchLeaf}
 use Rattle.definitions.specs.Extract.{isKnn, without, prune, matchesOf, extraction}
 use Rattle.definitions.specs.Exchange.{exchangeFrame, exchangeExtraction, exchangePlan}
 use Rattle.definitions.specs.Calls.{LoadOutcome, load, Outcome, extract, exchange}
@@ -23,7 +22,6 @@ use Rattle.definitions.specs.Machine.{Kind, machinePlan, machineLength, 
 use Rattle.definitions.specs.Good.{AllBytes, nodes, Readable, GoodPlan, NoMarks}
 use Rattle.definitions.specs.Sessions.{Made, extractWith, exchangeWith, make, ListOutcome, machineAfter, accepted, Session, after, lengthAfter, planLeft, planAfter, extractedIn, oddIn, answerAfter}
 use Rattle.definitions.specs.Meaning.{Valuation, Meaning, Fair, andValue, frameValue, extractionValue, planValue, exchangedValues}
-use Rattle.definitions.specs.Matchers.{Matcher, matchesBy, extractionBy, Lawful, FairUnmarked}
 use Rattle.definitions.specs.Logical.{spatialNames, mask, distinct, logical}
 
 -- ---- exchange
@@ -68,7 +66,8 @@ ExchangeGood = (p : Plan) → GoodPlan p → GoodPlan (exchangePlan p) × (lengt
 abbrev pub LengthsShort : Type 0
 LengthsShort =
     ((frame : List ℕ) (n : ℕ) (buffer : List ℕ) (m : ℕ) → AllBytes frame → load frame n buffer .answer ≡ ok m → m ≤ mostBytes)
-    × ((kind : Kind) (n : ℕ) (buffer scratch : List ℕ) (m : ℕ) → AllBytes buffer → make kind n buffer scratch .answer ≡ ok m → m ≤ mostBytes)
+    × ((kind : Kind) (n : ℕ) (buffer scratch : List ℕ) (m : ℕ) → AllBytes buffer → make kind n buffer scratch .answer ≡ ok m
+    → m ≤ mostBytes)
 
 -- ---- demand 1: what a call changes, and the numbers of its refusals
 
@@ -337,7 +336,8 @@ FairMeaning =
     × (M .dwithinValue 3 5 2 ≡ 1) × (M .dwithinValue 3 5 1 ≡ 0)
     × (M .knnValue 3 5 2 0 2 ≡ 1) × (M .knnValue 3 5 1 0 2 ≡ 0)
 
--- Fairness leaves free what 01 leaves free: there is a fair meaning in which every five-argument `st_knn` is 1 and every four-argument one 0.
+-- Fairness leaves free what 01 leaves free: there is a fair meaning in which every five-argument `st_knn` is 1 and every four-argument one
+-- 0.
 abbrev pub FairByArguments : Type 0
 FairByArguments =
     (M : Meaning) × Fair M
@@ -347,37 +347,18 @@ FairByArguments =
 -- A frame with a mark column: `st_dwithin` of a left and a right column, its bound the mark column with child index 9.
 unfoldable pub markedFrame : Frame
 markedFrame = record {
-  records = record { side = left; child = 5; tag = 0 } ∷ record { side = right; child = 0; tag = 0 } ∷ record { side = noSide; child = 9; tag = 0 } ∷ [];
+  records =
+      record { side = left; child = 5; tag = 0 } ∷ record { side = right; child = 0; tag = 0 } ∷
+      record { side = noSide; child = 9; tag = 0 } ∷ [];
   expr = call (ascii "st_dwithin") (cons (column 0 0) (cons (column 1 0) (cons (column 2 0) nil)));
 }
 
--- Why mark columns are left out: in a fair meaning that frame can be true and its extraction, which copies the bound's own column number, false.
+-- Why mark columns are left out: in a fair meaning that frame can be true and its extraction, which copies the bound's own column number,
+-- false.
 abbrev pub MarksDiffer : Type 0
 MarksDiffer =
     (M : Meaning) × Fair M × (v : Valuation)
     × (frameValue M v markedFrame ≡ 1) × (Option·map (extractionValue M v) (extraction markedFrame) ≡ some 0)
-
--- ---- any matcher
-
--- What is claimed of extractions, of those with any matcher. (Ours.)
-pub record Extracts (match : Matcher) (Asks : Meaning → List Record → Type 0) : Type 0 where
-  -- Each takes the first KNN match, failing that the first match,
-  pub takes : (F : Frame) (X : Extraction) → extractionBy match F ≡ some X → (position : ℕ) × TookAmong (matchesBy match F) F X position
-  -- and where there is none no leaf matches.
-  pub untaken : (F : Frame) → extractionBy match F ≡ none → (position : ℕ) → matchAt (matchesBy match F) position ≡ none
-  -- That of the exchanged frame is the exchanged one.
-  pub exchanged : (F : Frame) → extractionBy match (exchangeFrame F) ≡ Option·map exchangeExtraction (extractionBy match F)
-  -- That of a good frame is good, and never longer than the frame.
-  pub good : (F : Frame) (X : Extraction) → GoodPlan (held F) → extractionBy match F ≡ some X
-      → GoodPlan (extracted X) × (length (extractionBytes X) ≤ length (frameBytes F))
-  -- It has the frame's value.
-  pub value : (M : Meaning) (v : Valuation) (F : Frame) (X : Extraction) → Asks M (F .records) → GoodPlan (held F)
-      → extractionBy match F ≡ some X → extractionValue M v X ≡ frameValue M v F
-
--- All of it holds of every lawful matcher, and 01's is one.
-abbrev pub AnyMatcher : Type 1
-AnyMatcher =
-    ((match : Matcher) (Asks : Meaning → List Record → Type 0) → Lawful match Asks → Extracts match Asks) × Lawful matchLeaf FairUnmarked
 
 -- ---- the logical call
 

@@ -36,6 +36,7 @@ pub mod Logical
 pub mod Program
 pub mod Hosts
 pub mod Claims
+pub mod AnyMatcher
 pub mod TenRows
 pub mod RefusalTable
 pub mod NameTables
