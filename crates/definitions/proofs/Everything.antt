@@ -25,7 +25,7 @@ unfolding Basics.ascii Basics.sameName Basics.bigEndian Basics.any Basics.all Ba
 basics = 0
 
 unfoldable pub expression : ℕ
-unfolding Expression.relations Expression.count
+unfolding Expression.relations Expression.invert Expression.count
 expression = 0
 
 unfoldable pub literals : ℕ
@@ -67,7 +67,7 @@ references = 0
 unfoldable pub match : ℕ
 unfolding Match.relationRequest Match.dwithinRequest Match.literalU32 Match.literalBool Match.knnLiterals Match.knnRequest
     Match.callRequest Match.distanceRequest Match.comparisonRequest Match.request Match.commonSide Match.sideOf Match.isSide Match.orderOf
-    Match.onChild Match.invert Match.matchRelation Match.boundOn Match.storeDistance Match.matchDistance Match.matchKnn Match.matchRequest
+    Match.onChild Match.matchRelation Match.boundOn Match.storeDistance Match.matchDistance Match.matchKnn Match.matchRequest
     Match.matchLeaf
 match = 0
 

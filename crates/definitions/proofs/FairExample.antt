@@ -9,10 +9,10 @@ use lib.Dec.{leb, ltb, eqb}
 use lib.IntN.{ℤ, pos}
 use borrow.Author.Tests.{eqb-true, eqb-false, eq-eqb, ne-eqb}
 use Rattle.definitions.specs.Basics.{if_then_else_, ascii, sameName}
-use Rattle.definitions.specs.Expression.{Side, Relation, intersects, contains, within, covers, coveredBy, touches, crosses, overlaps, equals, Expr, column, literal, and, binary, call, other, field, Exprs, nil, cons, Record, knn}
+use Rattle.definitions.specs.Expression.{Side, Relation, intersects, contains, within, covers, coveredBy, touches, crosses, overlaps, equals, Expr, column, literal, and, binary, call, other, field, Exprs, nil, cons, Record, knn, invert}
 use Rattle.definitions.specs.Literals.{signed, u32, numberU32}
 use Rattle.definitions.specs.Leaves.{relationNamed}
-use Rattle.definitions.specs.Match.{literalU32, literalBool, knnLiterals, knnRequest, invert, matchLeaf}
+use Rattle.definitions.specs.Match.{literalU32, literalBool, knnLiterals, knnRequest, matchLeaf}
 use Rattle.definitions.specs.Meaning.{Valuation, Meaning, value, frameColumns, Fair}
 use Rattle.definitions.specs.Claims.{FairMeaning, markedFrame, MarksDiffer}
 use Rattle.definitions.proofs.Everything.{everything}

@@ -8,11 +8,11 @@ use lib.ListN.{length, length-append}
 use lib.Dec.{lit<}
 use borrow.Author.Tests.{lt-ltb}
 use Rattle.definitions.specs.Basics.{bigEndian}
-use Rattle.definitions.specs.Expression.{Side, left, right, noSide, Relation, Expr, Record, relation, distance, knn}
+use Rattle.definitions.specs.Expression.{Side, left, right, noSide, Relation, Expr, Record, relation, distance, knn, invert}
 use Rattle.definitions.specs.Encode.{exprBytes, predicateFields}
 use Rattle.definitions.specs.Decode.{indexBelow}
 use Rattle.definitions.specs.References.{recordAt, columnsOf}
-use Rattle.definitions.specs.Match.{invert, Order, leftRight, rightLeft, noOrder, Request, askRelation, askDistance, askKnn, askNothing, request, onChild, ArgumentSide, noColumns, allOn, mixed, sideOf, orderOf, boundOn, matchRelation, storeDistance, matchDistance, matchKnn, matchRequest, matchLeaf}
+use Rattle.definitions.specs.Match.{Order, leftRight, rightLeft, noOrder, Request, askRelation, askDistance, askKnn, askNothing, request, onChild, ArgumentSide, noColumns, allOn, mixed, sideOf, orderOf, boundOn, matchRelation, storeDistance, matchDistance, matchKnn, matchRequest, matchLeaf}
 use Rattle.definitions.specs.Good.{OneOfTwo, nodes, depth, Short, InRange, Readable, RecordsInRange, predicateNodes}
 use Rattle.definitions.specs.Matchers.{Fits}
 use Rattle.definitions.proofs.Columns.{all-every, Fits as FitsIn, map-length, map-nodes, map-depth, map-in-range, widen}

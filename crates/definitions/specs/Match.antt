@@ -4,8 +4,9 @@ use mathlib.Core.Bool.{Bool, false, _&&_}
 use mathlib.Core.List.{List, [], _∷_, map}
 use mathlib.Core.Option.{Option, none, some}
 use Rattle.definitions.specs.Basics.{if_then_else_, given_then_else_, ascii, sameName, all}
-use Rattle.definitions.specs.Expression.{Side, left, right, noSide, Relation, intersects, contains, within, covers, coveredBy, touches, crosses, overlaps, equals, Expr, Exprs, nil, cons, functionOf, binaryOf, literalOf, Record, Predicate, relation, distance, knn}
+use Rattle.definitions.specs.Expression.{Side, left, right, noSide, Relation, Expr, Exprs, nil, cons, functionOf, binaryOf, literalOf, Record, Predicate, relation, distance, knn}
 use Rattle.definitions.specs.Literals.{numberU32, numberBool}
+unfoldable pub use Rattle.definitions.specs.Expression.{invert}
 unfoldable pub use Rattle.definitions.specs.References.{columnsOf, columnsOfAll, recordAt, sameSide, mapColumns, mapColumnsAll}
 use Rattle.definitions.specs.Leaves.{relationNamed, Comparison, compares, noComparison, comparison, distanceArguments}
 
@@ -122,18 +123,6 @@ orderOf a b =
 -- Columns become their record's child index.
 unfoldable pub onChild : List Record → Expr → Expr
 onChild records e = mapColumns (λ index. recordAt records index .child) e
-
--- The relation that holds of the exchanged arguments.
-unfoldable pub invert : Relation → Relation
-invert intersects = intersects
-invert contains = within
-invert within = contains
-invert covers = coveredBy
-invert coveredBy = covers
-invert touches = touches
-invert crosses = crosses
-invert overlaps = overlaps
-invert equals = equals
 
 -- The left geometry is stored first, the type inverted where that exchanges the arguments.
 unfoldable pub matchRelation : Relation → (first second : Expr) → Order → Option Predicate
