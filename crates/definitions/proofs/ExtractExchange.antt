@@ -143,6 +143,7 @@ module _ {match : Matcher} {Asks : Meaning → List Record → Type 0} (laws : L
   pub exchanged-by : (F : Frame) → extractionBy match (exchangeFrame F) ≡ Option·map exchangeExtraction (extractionBy match F)
   exchanged-by F = ap (takePick (exchangeFrame F)) (picked-exchanged F) ∙ take-exchanged F (pick (matchesBy match F))
 
+-- With 01's matcher too.
 pub extraction-exchange : (F : Frame) → extraction (exchangeFrame F) ≡ Option·map exchangeExtraction (extraction F)
 unfolding extraction matchesOf
 extraction-exchange F = exchanged-by match-laws F

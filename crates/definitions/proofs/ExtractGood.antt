@@ -185,6 +185,7 @@ module _ {match : Matcher} {Asks : Meaning → List Record → Type 0} (laws : L
   pub good-by : (F : Frame) → GoodPlan (held F) → GoodExtraction F (extractionBy match F)
   good-by F g = take-good F g (pick (matchesBy match F)) (picked (matchesBy match F) F)
 
+-- With 01's matcher too.
 pub extraction-good : (F : Frame) → GoodPlan (held F) → GoodExtraction F (extraction F)
 unfolding extraction matchesOf
 extraction-good F g = good-by match-laws F g

@@ -1,11 +1,11 @@
 -- 01's matcher obeys the laws of a matcher.
 use Rattle.definitions.specs.Match.{matchLeaf}
-use Rattle.definitions.specs.Matchers.{Lawful, FairUnmarked}
+use Rattle.definitions.specs.Matchers.{Lawful, LeafAsks}
 use Rattle.definitions.proofs.MatchTurns.{match-turns}
 use Rattle.definitions.proofs.MatchFits.{match-fits}
 use Rattle.definitions.proofs.MatchMeans.{leaf-match}
 
-pub match-laws : Lawful matchLeaf FairUnmarked
+pub match-laws : Lawful matchLeaf LeafAsks
 match-laws = record {
   turns = match-turns;
   fits = match-fits;

@@ -10,7 +10,7 @@ use Rattle.definitions.specs.Expression.{Record, Predicate, relation, di
 use Rattle.definitions.specs.Match.{matchLeaf}
 use Rattle.definitions.specs.Exchange.{exchangePredicate}
 use Rattle.definitions.specs.Meaning.{Meaning}
-use Rattle.definitions.specs.Matchers.{Matcher, Fits, Valued, Lawful, FairUnmarked}
+use Rattle.definitions.specs.Matchers.{Matcher, Fits, Valued, Lawful, LeafAsks}
 use Rattle.definitions.proofs.Tools.{by-test}
 use Rattle.definitions.proofs.MatchLaws.{match-laws}
 
@@ -68,5 +68,5 @@ k-unturned least greatest (relation type l r) = refl
 k-unturned least greatest (distance form side l r bound) = refl
 k-unturned least greatest (knn k spheroid probe ties l r) = refl
 
-pub k-between-laws : (least greatest : ℕ) → Lawful (onlyIf (kBetween least greatest) matchLeaf) FairUnmarked
+pub k-between-laws : (least greatest : ℕ) → Lawful (onlyIf (kBetween least greatest) matchLeaf) LeafAsks
 k-between-laws least greatest = only-laws (kBetween least greatest) (k-unturned least greatest) match-laws

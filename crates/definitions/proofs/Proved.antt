@@ -119,14 +119,14 @@ pub exchange-has-value : ExchangeValue
 exchange-has-value = plan-exchange-value
 
 pub extraction-has-value : ExtractionValue
-extraction-has-value M fair v F X m g e = subst (SameValue M v F) e (extraction-value M fair v F m (g .readable .expr .inRange))
+extraction-has-value M fair v F X m g e = subst (SameValue M v F) e (extraction-value M v F (fair, m) (g .readable .expr .inRange))
 
 pub list-has-value : ListValue
 list-has-value M fair v F s m calls =
     let b : Bits = told s calls in
     let reads : planOf (planAfter s calls) ≡ ok (machinePlan F b) =
     ap planOf (plan-told s calls) ∙ plan-reads _ (plan-good F (b .isExtracted) (b .isOdd) (s .good)) in
-    (machinePlan F b, reads, machine-value M fair v F m (s .good .readable .expr .inRange) (b .isExtracted) (b .isOdd))
+    (machinePlan F b, reads, machine-value M fair v F (fair, m) (s .good .readable .expr .inRange) (b .isExtracted) (b .isOdd))
 
 pub any-matcher : AnyMatcher
 any-matcher = (

@@ -15,11 +15,11 @@ use Rattle.definitions.specs.References.{columnsOf, recordAt}
 use Rattle.definitions.specs.Extract.{Pick, pick, without, referenced, newIndex, prune, takePick, matchesOf, extraction}
 use Rattle.definitions.specs.Exchange.{negate, exchangeRecord, exchangeFrame, exchangePredicate, exchangeExtraction, exchangePlan}
 use Rattle.definitions.specs.Machine.{machinePlan, extractionOr}
-use Rattle.definitions.specs.Good.{InRange, NoMarks}
+use Rattle.definitions.specs.Good.{InRange}
 use Rattle.definitions.specs.Meaning.{andValue, Valuation, Meaning, value, frameColumns, frameValue, predicateValue, andRemainder, extractionValue, planValue, exchangedValues, Fair}
 use Rattle.definitions.proofs.Columns.{all-both, columns-below}
 use Rattle.definitions.proofs.Taken.{Taken, leaf-in-range, rest-in-range, RestIs}
-use Rattle.definitions.specs.Matchers.{Matcher, matchesBy, extractionBy, Valued, Lawful}
+use Rattle.definitions.specs.Matchers.{Matcher, matchesBy, extractionBy, Valued, Lawful, LeafAsks}
 use Rattle.definitions.proofs.MatchLaws.{match-laws}
 use Rattle.definitions.proofs.Pick.{Picked, picked, leafAt, pick-taken, pick-matches}
 use Rattle.definitions.proofs.ExtractGood.{references}
@@ -90,11 +90,11 @@ module _ {match : Matcher} {Asks : Meaning → List Record → Type 0} (laws : L
   pub value-by : SameValue M v F (extractionBy match F)
   value-by = take-value (pick (matchesBy match F)) (picked (matchesBy match F) F)
 
--- The extraction of a frame without mark columns has the frame's value.
-pub extraction-value : (M : Meaning) → Fair M → (v : Valuation) (F : Frame) → NoMarks (F .records)
+-- With 01's matcher too.
+pub extraction-value : (M : Meaning) (v : Valuation) (F : Frame) → LeafAsks M (F .records)
     → InRange (indexBelow (length (F .records))) (F .expr) → SameValue M v F (extraction F)
 unfolding extraction matchesOf
-extraction-value M fair v F m r = value-by match-laws M v F (fair, m) r
+extraction-value M v F asked range = value-by match-laws M v F asked range
 
 -- ---- the exchange
 
@@ -139,14 +139,14 @@ base-value M v F none h = refl
 base-value M v F (some X) h = h
 
 -- Whatever the list of calls, the plan has the frame's value; odd, with the values of left and right exchanged.
-pub machine-value : (M : Meaning) → Fair M → (v : Valuation) (F : Frame) → NoMarks (F .records)
+pub machine-value : (M : Meaning) → Fair M → (v : Valuation) (F : Frame) → LeafAsks M (F .records)
     → InRange (indexBelow (length (F .records))) (F .expr)
     → (e o : Bool) → planValue M v (machinePlan F (record { isExtracted = e; isOdd = o }))
     ≡ frameValue M (if o then exchangedValues v else v) F
 unfolding machinePlan planValue
-machine-value M fair v F m r true true =
+machine-value M fair v F asked range true true =
     plan-exchange-value M fair v (extractionOr (held F) (extraction F))
-    ∙ base-value M (exchangedValues v) F (extraction F) (extraction-value M fair (exchangedValues v) F m r)
-machine-value M fair v F m r true false = base-value M v F (extraction F) (extraction-value M fair v F m r)
-machine-value M fair v F m r false true = plan-exchange-value M fair v (held F)
-machine-value M fair v F m r false false = refl
+    ∙ base-value M (exchangedValues v) F (extraction F) (extraction-value M (exchangedValues v) F asked range)
+machine-value M fair v F asked range true false = base-value M v F (extraction F) (extraction-value M v F asked range)
+machine-value M fair v F asked range false true = plan-exchange-value M fair v (held F)
+machine-value M fair v F asked range false false = refl

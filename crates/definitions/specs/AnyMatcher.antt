@@ -10,7 +10,7 @@ use Rattle.definitions.specs.Match.{matchLeaf}
 use Rattle.definitions.specs.Exchange.{exchangeFrame, exchangeExtraction}
 use Rattle.definitions.specs.Good.{GoodPlan}
 use Rattle.definitions.specs.Meaning.{Valuation, Meaning, frameValue, extractionValue}
-use Rattle.definitions.specs.Matchers.{Matcher, matchesBy, extractionBy, Lawful, FairUnmarked}
+use Rattle.definitions.specs.Matchers.{Matcher, matchesBy, extractionBy, Lawful, LeafAsks}
 use Rattle.definitions.specs.Claims.{matchAt, TookAmong}
 
 -- The extractions with a matcher; `Asks` is what their values ask of a meaning and of the records.
@@ -31,4 +31,4 @@ pub record Extracts (match : Matcher) (Asks : Meaning → List Record → Type 0
 -- All of it holds of every lawful matcher, and 01's is one.
 abbrev pub AnyMatcher : Type 1
 AnyMatcher =
-    ((match : Matcher) (Asks : Meaning → List Record → Type 0) → Lawful match Asks → Extracts match Asks) × Lawful matchLeaf FairUnmarked
+    ((match : Matcher) (Asks : Meaning → List Record → Type 0) → Lawful match Asks → Extracts match Asks) × Lawful matchLeaf LeafAsks

@@ -51,5 +51,5 @@ pub record Lawful (match : Matcher) (Asks : Meaning → List Record → Type 0) 
       → InRange (indexBelow (length records)) leaf → Valued M v (value M (frameColumns v records) leaf) (match records leaf)
 
 -- What `matchLeaf` asks: a fair meaning, and no mark column among the records.
-abbrev pub FairUnmarked : Meaning → List Record → Type 0
-FairUnmarked M records = Fair M × NoMarks records
+abbrev pub LeafAsks : Meaning → List Record → Type 0
+LeafAsks M records = Fair M × NoMarks records
