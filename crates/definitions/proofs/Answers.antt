@@ -14,7 +14,7 @@ use Rattle.definitions.specs.Calls.{Outcome}
 use Rattle.definitions.specs.Machine.{Kind, extractCall, exchangeCall, Bits, machinePlan, machineLength, Step, refuseStep, acceptStep, takeStep, machineStep, machineRun, fresh}
 use Rattle.definitions.specs.Sessions.{Made, extractWith, exchangeWith, make, callsRun, fed, machineAfter, accepted, isExtract, extractAccepted, exchangesOdd, Session, planAfter, extractedIn, oddIn, answerAfter}
 use Rattle.definitions.specs.Claims.{AnswersInPlace, SamePlan, someLeafMatches, ExchangeAccepted, ExtractAccepted}
-use Rattle.definitions.proofs.Requests.{by-test}
+use Rattle.definitions.proofs.Tools.{by-test}
 use Rattle.definitions.proofs.Pick.{Matched, matched}
 use Rattle.definitions.proofs.Lists.{bits, step-agrees}
 use Rattle.definitions.proofs.ListTheorem.{after-all}
@@ -30,7 +30,8 @@ either-bit x true true = refl
 either-bit x true false = refl
 either-bit x false e′ = refl
 
-flipped-bit : (x f f′ : Bool) → (if f′ then not (if f then not x else x) else if f then not x else x) ≡ (if (if f then not f′ else f′) then not x else x)
+flipped-bit : (x f f′ : Bool)
+    → (if f′ then not (if f then not x else x) else if f then not x else x) ≡ (if (if f then not f′ else f′) then not x else x)
 flipped-bit true true true = refl
 flipped-bit false true true = refl
 flipped-bit x true false = refl
@@ -67,11 +68,13 @@ step-follows F b exchangeCall room =
     by-test (Follows b exchangeCall) (leb (machineLength F b) room) _ _ (λ _. refl) (λ _. refuse-follows b exchangeCall 9)
 step-follows F b extractCall room =
     by-test (Follows b extractCall) (b .isExtracted) _ _ (λ _. refuse-follows b extractCall 12)
-    (λ _. by-test (Follows b extractCall) (leb (machineLength F b) room) _ _ (λ _. take-follows F b (extraction F)) (λ _. refuse-follows b extractCall 9))
+    (λ _. by-test (Follows b extractCall) (leb (machineLength F b) room) _ _ (λ _. take-follows F b (extraction F))
+    (λ _. refuse-follows b extractCall 9))
 
 run-follows : (F : Frame) (b : Bits) (calls : List Made)
     → machineRun F b (map fed calls) .bits
-    ≡ changed b (extractAccepted calls (machineRun F b (map fed calls) .answers)) (exchangesOdd calls (machineRun F b (map fed calls) .answers))
+    ≡ changed b (extractAccepted calls (machineRun F b (map fed calls) .answers))
+    (exchangesOdd calls (machineRun F b (map fed calls) .answers))
 unfolding machineRun fed extractAccepted exchangesOdd
 run-follows F b [] = refl
 run-follows F b (c ∷ cs) =
@@ -96,7 +99,8 @@ unfolding machineStep acceptStep refuseStep accepted
 exchange-accepts F b room =
     by-test (λ (s : Step). accepted (s .answer) ≡ leb (machineLength F b) room) (leb (machineLength F b) room) _ _ (λ e. sym e) (λ e. sym e)
 
-take-accepts : (F : Frame) (b : Bits) (x : Option Extraction) → Matched F x → accepted (takeStep F b x .answer) ≡ someLeafMatches F
+take-accepts : (F : Frame) (b : Bits) (x : Option Extraction) → Matched (someLeafMatches F) x
+    → accepted (takeStep F b x .answer) ≡ someLeafMatches F
 unfolding takeStep acceptStep refuseStep accepted
 take-accepts F b none m = sym m
 take-accepts F b (some X) m = sym m
@@ -120,7 +124,8 @@ extract-accepts F b room = first-accepts b _ (b .isExtracted) (leb (machineLengt
 in-place : (n : ℕ) (buffer : List ℕ) (before : List Made) (c : Made) (later : List Made)
     → (others : List (Result ℕ))
     × (callsRun n buffer (before ++ (c ∷ later)) .answers
-    ≡ callsRun n buffer before .answers ++ (make (c .kind) (callsRun n buffer before .n) (callsRun n buffer before .buffer) (c .scratch) .answer ∷ others))
+    ≡ callsRun n buffer before .answers
+    ++ (make (c .kind) (callsRun n buffer before .n) (callsRun n buffer before .buffer) (c .scratch) .answer ∷ others))
 unfolding callsRun
 in-place n buffer [] c later = (_, refl)
 in-place n buffer (b ∷ bs) c later =
@@ -140,7 +145,8 @@ module _ {F : Frame} (s : Session F) where
   pub bits-told : (calls : List Made) → machineAfter F calls .bits ≡ told s calls
   bits-told calls =
       run-follows F fresh calls ∙ changed-fresh _ _
-      ∙ ap (λ (answers : List (Result ℕ)). bits (extractAccepted calls answers) (exchangesOdd calls answers)) (sym (after-all s calls .answers))
+      ∙ ap (λ (answers : List (Result ℕ)). bits (extractAccepted calls answers) (exchangesOdd calls answers))
+      (sym (after-all s calls .answers))
 
   -- So they tell the plan that is left.
   pub plan-told : (calls : List Made) → planAfter s calls ≡ planBytes (machinePlan F (told s calls))

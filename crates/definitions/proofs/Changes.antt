@@ -75,7 +75,8 @@ loaded-wrote frame n buffer true e a = record {
 }
 loaded-wrote frame n buffer false e a = absurd (false≢true a)
 
-load-wrote : (frame : List ℕ) (n : ℕ) (buffer : List ℕ) (r : Result Frame) → accepted (finishLoad n buffer (newAfterLoad frame (length buffer) r) .answer) ≡ true
+load-wrote : (frame : List ℕ) (n : ℕ) (buffer : List ℕ) (r : Result Frame)
+    → accepted (finishLoad n buffer (newAfterLoad frame (length buffer) r) .answer) ≡ true
     → LoadWrote frame buffer (finishLoad n buffer (newAfterLoad frame (length buffer) r))
 unfolding newAfterLoad
 load-wrote frame n buffer (ok F) a = loaded-wrote frame n buffer (leb (length frame) (length buffer)) refl a
@@ -89,7 +90,8 @@ module _ (n : ℕ) (buffer scratch : List ℕ) where
   Fit (ok bytes) = (length bytes ≤ length buffer) × (n ≤ length scratch) × (n ≤ length buffer)
   Fit (refused number) = Unit {0}
 
-  finish-wrote : (x : Result (List ℕ)) → Fit x → accepted (finish n buffer scratch x .answer) ≡ true → CallWrote n buffer scratch (finish n buffer scratch x)
+  finish-wrote : (x : Result (List ℕ)) → Fit x → accepted (finish n buffer scratch x .answer) ≡ true
+      → CallWrote n buffer scratch (finish n buffer scratch x)
   unfolding finish accepted
   finish-wrote (ok bytes) fit a =
       let size : length (take n buffer) ≡ n = length-take-le n buffer (fit .2) in record {
@@ -112,11 +114,14 @@ module _ (n : ℕ) (buffer scratch : List ℕ) where
     unfolding newAfterExchange
     exchange-fit empty e = tt
     exchange-fit (held F) e =
-        if-fit (leb n (length scratch)) _ refl (λ room. (omega (arith, plan-as-long (held F), ap length e, length-take-le n buffer fits), room, fits))
+        if-fit (leb n (length scratch)) _ refl
+        (λ room. (omega (arith, plan-as-long (held F), ap length e, length-take-le n buffer fits), room, fits))
     exchange-fit (extracted X) e =
-        if-fit (leb n (length scratch)) _ refl (λ room. (omega (arith, plan-as-long (extracted X), ap length e, length-take-le n buffer fits), room, fits))
+        if-fit (leb n (length scratch)) _ refl
+        (λ room. (omega (arith, plan-as-long (extracted X), ap length e, length-take-le n buffer fits), room, fits))
 
-    taken-fit : (F : Frame) (x : Option Extraction) → GoodExtraction F x → frameBytes F ≡ take n buffer → n ≤ length scratch → Fit (matchedBytes x)
+    taken-fit : (F : Frame) (x : Option Extraction) → GoodExtraction F x → frameBytes F ≡ take n buffer → n ≤ length scratch
+        → Fit (matchedBytes x)
     unfolding matchedBytes planBytes
     taken-fit F none g e room = tt
     taken-fit F (some X) g e room = (omega (arith, g .1, ap length e, length-take-le n buffer fits), room, fits)
@@ -134,19 +139,23 @@ module _ (n : ℕ) (buffer scratch : List ℕ) where
   unfolding heldPlan
   held-fit write bytes none-from all-from = by-room (leb n (length buffer)) refl where
     of-plan : n ≤ length buffer → (r : Result Plan) → planOf (take n buffer) ≡ r → Fit (write r)
-    of-plan fits (ok p) e = let back = plan-back (take n buffer) p (bytes-up-to n buffer bytes) e in all-from fits p (back .1) (sym (back .0))
+    of-plan fits (ok p) e =
+        let back = plan-back (take n buffer) p (bytes-up-to n buffer bytes) e in all-from fits p (back .1) (sym (back .0))
     of-plan fits (refused number) e = none-from number
 
     by-room : (b : Bool) → leb n (length buffer) ≡ b → Fit (write (if b then planOf (take n buffer) else refused 10))
     by-room true e = of-plan (leb-true n (length buffer) e) (planOf (take n buffer)) refl
     by-room false e = none-from 10
 
-  make-wrote : (kind : Kind) → AllBytes buffer → accepted (make kind n buffer scratch .answer) ≡ true → CallWrote n buffer scratch (make kind n buffer scratch)
+  make-wrote : (kind : Kind) → AllBytes buffer → accepted (make kind n buffer scratch .answer) ≡ true
+      → CallWrote n buffer scratch (make kind n buffer scratch)
   unfolding make extract exchange
   make-wrote extractCall bytes a =
-      finish-wrote _ (held-fit (newAfterExtract n (length scratch)) bytes (λ number. unfold newAfterExtract in tt) (λ fits p g e. extract-fit fits p g e)) a
+      finish-wrote _ (held-fit (newAfterExtract n (length scratch)) bytes (λ number. unfold newAfterExtract in tt)
+      (λ fits p g e. extract-fit fits p g e)) a
   make-wrote exchangeCall bytes a =
-      finish-wrote _ (held-fit (newAfterExchange n (length scratch)) bytes (λ number. unfold newAfterExchange in tt) (λ fits p g e. exchange-fit fits p e)) a
+      finish-wrote _ (held-fit (newAfterExchange n (length scratch)) bytes (λ number. unfold newAfterExchange in tt)
+      (λ fits p g e. exchange-fit fits p e)) a
 
 pub accepted-write : AcceptedWrites
 unfolding load

@@ -12,7 +12,7 @@ use Rattle.definitions.specs.Expression.{Expr, column, literal, and, bin
 use Rattle.definitions.specs.Encode.{exprBytes, exprsBytes}
 use Rattle.definitions.specs.Leaves.{leaves, callArity, leafArity, arity, comparison, Comparison, compares, noComparison, comparisonArity, distanceArguments, distanceArity}
 use Rattle.definitions.specs.Decode.{indexBelow}
-use Rattle.definitions.specs.Match.{columnsOf, columnsOfAll, mapColumns, mapColumnsAll}
+use Rattle.definitions.specs.References.{columnsOf, columnsOfAll, mapColumns, mapColumnsAll}
 use Rattle.definitions.specs.Good.{All, nodes, nodesAll, depth, depthAll, InRange, InRangeAll, Short}
 
 pub all-left : (P : ℕ → Type 0) (xs ys : List ℕ) → All P (xs ++ ys) → All P xs
@@ -99,21 +99,31 @@ Fits bound f i = (ltb (f i) bound ≡ true) × Short (f i)
 mutual
   unfolding mapColumns columnsOf
 
-  pub map-in-range : (b b′ : ℕ) (f : ℕ → ℕ) (e : Expr) → All (Fits b′ f) (columnsOf e) → InRange (indexBelow b) e → InRange (indexBelow b′) (mapColumns f e)
+  pub map-in-range : (b b′ : ℕ) (f : ℕ → ℕ) (e : Expr) → All (Fits b′ f) (columnsOf e) → InRange (indexBelow b) e
+      → InRange (indexBelow b′) (mapColumns f e)
   map-in-range b b′ f (column i t) = λ a h. (a .0 .0, a .0 .1, h .2)
   map-in-range b b′ f (literal type v) = λ a h. h
-  map-in-range b b′ f (and l r) = λ a h.
-      (map-in-range b b′ f l (all-left (Fits b′ f) (columnsOf l) (columnsOf r) a) (h .0), map-in-range b b′ f r (all-right (Fits b′ f) (columnsOf l) (columnsOf r) a) (h .1))
-  map-in-range b b′ f (binary o l r) = λ a h.
-      (h .0, h .1, map-in-range b b′ f l (all-left (Fits b′ f) (columnsOf l) (columnsOf r) a) (h .2), map-in-range b b′ f r (all-right (Fits b′ f) (columnsOf l) (columnsOf r) a) (h .3))
+  map-in-range b b′ f (and l r) = λ a h. (
+    map-in-range b b′ f l (all-left (Fits b′ f) (columnsOf l) (columnsOf r) a) (h .0),
+    map-in-range b b′ f r (all-right (Fits b′ f) (columnsOf l) (columnsOf r) a) (h .1),
+  )
+  map-in-range b b′ f (binary o l r) = λ a h. (
+    h .0,
+    h .1,
+    map-in-range b b′ f l (all-left (Fits b′ f) (columnsOf l) (columnsOf r) a) (h .2),
+    map-in-range b b′ f r (all-right (Fits b′ f) (columnsOf l) (columnsOf r) a) (h .3),
+  )
   map-in-range b b′ f (call name es) = λ a h. (h .0, h .1, h .2, rw (map-count f es) (h .3), map-all-in-range b b′ f es a (h .4))
   map-in-range b b′ f (other tag es) = λ a h. (h .0, rw (map-count f es) (h .1), map-all-in-range b b′ f es a (h .2))
   map-in-range b b′ f (field bits t) = λ a h. h
 
-  map-all-in-range : (b b′ : ℕ) (f : ℕ → ℕ) (es : Exprs) → All (Fits b′ f) (columnsOfAll es) → InRangeAll (indexBelow b) es → InRangeAll (indexBelow b′) (mapColumnsAll f es)
+  map-all-in-range : (b b′ : ℕ) (f : ℕ → ℕ) (es : Exprs) → All (Fits b′ f) (columnsOfAll es) → InRangeAll (indexBelow b) es
+      → InRangeAll (indexBelow b′) (mapColumnsAll f es)
   map-all-in-range b b′ f nil = λ a h. h
-  map-all-in-range b b′ f (cons e es) = λ a h.
-      (map-in-range b b′ f e (all-left (Fits b′ f) (columnsOf e) (columnsOfAll es) a) (h .0), map-all-in-range b b′ f es (all-right (Fits b′ f) (columnsOf e) (columnsOfAll es) a) (h .1))
+  map-all-in-range b b′ f (cons e es) = λ a h. (
+    map-in-range b b′ f e (all-left (Fits b′ f) (columnsOf e) (columnsOfAll es) a) (h .0),
+    map-all-in-range b b′ f es (all-right (Fits b′ f) (columnsOf e) (columnsOfAll es) a) (h .1),
+  )
 
 -- A wider bound.
 mutual
@@ -205,12 +215,15 @@ mutual
   pub columns-below : (b : ℕ) (e : Expr) → InRange (indexBelow b) e → All (λ i. ltb i b ≡ true) (columnsOf e)
   columns-below b (column i t) = λ h. (h .0, tt)
   columns-below b (literal type v) = λ h. tt
-  columns-below b (and l r) = λ h. all-append (λ i. ltb i b ≡ true) (columnsOf l) (columnsOf r) (columns-below b l (h .0)) (columns-below b r (h .1))
-  columns-below b (binary o l r) = λ h. all-append (λ i. ltb i b ≡ true) (columnsOf l) (columnsOf r) (columns-below b l (h .2)) (columns-below b r (h .3))
+  columns-below b (and l r) =
+      λ h. all-append (λ i. ltb i b ≡ true) (columnsOf l) (columnsOf r) (columns-below b l (h .0)) (columns-below b r (h .1))
+  columns-below b (binary o l r) =
+      λ h. all-append (λ i. ltb i b ≡ true) (columnsOf l) (columnsOf r) (columns-below b l (h .2)) (columns-below b r (h .3))
   columns-below b (call name es) = λ h. columns-all-below b es (h .4)
   columns-below b (other tag es) = λ h. columns-all-below b es (h .2)
   columns-below b (field bits t) = λ h. tt
 
   columns-all-below : (b : ℕ) (es : Exprs) → InRangeAll (indexBelow b) es → All (λ i. ltb i b ≡ true) (columnsOfAll es)
   columns-all-below b nil = λ h. tt
-  columns-all-below b (cons e es) = λ h. all-append (λ i. ltb i b ≡ true) (columnsOf e) (columnsOfAll es) (columns-below b e (h .0)) (columns-all-below b es (h .1))
+  columns-all-below b (cons e es) =
+      λ h. all-append (λ i. ltb i b ≡ true) (columnsOf e) (columnsOfAll es) (columns-below b e (h .0)) (columns-all-below b es (h .1))

@@ -9,6 +9,7 @@ use Rattle.definitions.specs.Leaves as Leaves
 use Rattle.definitions.specs.Readers as Readers
 use Rattle.definitions.specs.Decode as Decode
 use Rattle.definitions.specs.Plans as Plans
+use Rattle.definitions.specs.References as References
 use Rattle.definitions.specs.Match as Match
 use Rattle.definitions.specs.Extract as Extract
 use Rattle.definitions.specs.Exchange as Exchange
@@ -24,7 +25,7 @@ unfolding Basics.ascii Basics.sameName Basics.bigEndian Basics.any Basics.all Ba
 basics = 0
 
 unfoldable pub expression : ℕ
-unfolding Expression.relations Expression.count
+unfolding Expression.relations Expression.invert Expression.count
 expression = 0
 
 unfoldable pub literals : ℕ
@@ -32,43 +33,62 @@ unfolding Literals.signed Literals.isInt32 Literals.literalInRange Literals.u32 
 literals = 0
 
 unfoldable pub encode : ℕ
-unfolding Bool.decide Encode.sideNumber Encode.positionIn Encode.relationNumber Encode.exprBytes Encode.recordBytes Encode.recordsBytes Encode.frameBytes Encode.predicateKind Encode.predicateFields Encode.remainderBytes Encode.extractionBytes Encode.planBytes
+unfolding Bool.decide Encode.sideNumber Encode.positionIn Encode.relationNumber Encode.exprBytes Encode.recordBytes Encode.recordsBytes
+    Encode.frameBytes Encode.predicateKind Encode.predicateFields Encode.remainderBytes Encode.extractionBytes Encode.planBytes
 encode = 0
 
 unfoldable pub leaves : ℕ
-unfolding Leaves.leaves Leaves.typeNamed Leaves.relationNamed Leaves.comparison Leaves.distanceArguments Leaves.relationArity Leaves.callArity Leaves.distanceArity Leaves.comparisonArity Leaves.leafArity Leaves.arity
+unfolding Leaves.leaves Leaves.typeNamed Leaves.relationNamed Leaves.comparison Leaves.distanceArguments Leaves.relationArity
+    Leaves.callArity Leaves.distanceArity Leaves.comparisonArity Leaves.leafArity Leaves.arity
 leaves = 0
 
 unfoldable pub readers : ℕ
-unfolding Readers.byteUpTo Readers.byteBetween Readers.numberAfter Readers.number Readers.repeat Readers.requireLength Readers.noneLeft Readers.atEnd Readers.resultOf
+unfolding Readers.byteUpTo Readers.byteBetween Readers.numberAfter Readers.number Readers.repeat Readers.requireLength Readers.noneLeft
+    Readers.atEnd Readers.resultOf
 readers = 0
 
 unfoldable pub decode : ℕ
-unfolding Decode.allowedKind Decode.columnNode Decode.fieldNode Decode.literalNode Decode.binaryExpr Decode.binaryNode Decode.repeatExprs Decode.callNode Decode.otherNode Decode.anyColumn Decode.nodeOfKind Decode.nodeKind Decode.node Decode.expression Decode.sideNumbered Decode.sideUpTo Decode.oneRecord Decode.recordCount Decode.frameBody Decode.argument Decode.relationNumbered Decode.relationPredicate Decode.distancePredicate Decode.knnPredicate Decode.predicateOfKind Decode.someRemainder Decode.remainderOfKind Decode.remainder Decode.extractionBody
+unfolding Decode.allowedKind Decode.columnNode Decode.fieldNode Decode.literalNode Decode.binaryExpr Decode.binaryNode Decode.repeatExprs
+    Decode.callNode Decode.otherNode Decode.anyColumn Decode.nodeOfKind Decode.nodeKind Decode.node Decode.expression Decode.sideNumbered
+    Decode.sideUpTo Decode.oneRecord Decode.recordCount Decode.frameBody Decode.argument Decode.relationNumbered Decode.relationPredicate
+    Decode.distancePredicate Decode.knnPredicate Decode.predicateOfKind Decode.someRemainder Decode.remainderOfKind Decode.remainder
+    Decode.extractionBody
 decode = 0
 
 unfoldable pub plans : ℕ
-unfolding Plans.physicalFrame Plans.logicalFrame Plans.wholeExtraction Plans.frameOf Plans.logicalOf Plans.extractionOf Plans.planOfKind Plans.planOf
+unfolding Plans.physicalFrame Plans.logicalFrame Plans.wholeExtraction Plans.frameOf Plans.logicalOf Plans.extractionOf Plans.planOfKind
+    Plans.planOf
 plans = 0
 
+unfoldable pub references : ℕ
+unfolding References.columnsOf References.recordAt References.sameSide References.mapColumns
+references = 0
+
 unfoldable pub match : ℕ
-unfolding Match.relationRequest Match.dwithinRequest Match.literalU32 Match.literalBool Match.knnLiterals Match.knnRequest Match.callRequest Match.distanceRequest Match.comparisonRequest Match.request Match.columnsOf Match.recordAt Match.sameSide Match.commonSide Match.sideOf Match.isSide Match.orderOf Match.mapColumns Match.onChild Match.invert Match.matchRelation Match.boundOn Match.storeDistance Match.matchDistance Match.matchKnn Match.matchRequest Match.matchLeaf
+unfolding Match.relationRequest Match.dwithinRequest Match.literalU32 Match.literalBool Match.knnLiterals Match.knnRequest
+    Match.callRequest Match.distanceRequest Match.comparisonRequest Match.request Match.commonSide Match.sideOf Match.isSide Match.orderOf
+    Match.onChild Match.matchRelation Match.boundOn Match.storeDistance Match.matchDistance Match.matchKnn Match.matchRequest
+    Match.matchLeaf
 match = 0
 
 unfoldable pub extract : ℕ
-unfolding Extract.isKnn Extract.later Extract.firstMatch Extract.firstOf Extract.pick Extract.andLeft Extract.andRight Extract.without Extract.sameColumn Extract.referenced Extract.newIndex Extract.prune Extract.takePick Extract.matchesOf Extract.extraction
+unfolding Extract.isKnn Extract.later Extract.firstMatch Extract.firstOf Extract.pick Extract.andLeft Extract.andRight Extract.without
+    Extract.sameColumn Extract.referenced Extract.newIndex Extract.prune Extract.takePick Extract.matchesOf Extract.extraction
 extract = 0
 
 unfoldable pub exchange : ℕ
-unfolding Exchange.negate Exchange.exchangeRecord Exchange.exchangeFrame Exchange.exchangePredicate Exchange.exchangeExtraction Exchange.exchangePlan
+unfolding Exchange.negate Exchange.exchangeRecord Exchange.exchangeFrame Exchange.exchangePredicate Exchange.exchangeExtraction
+    Exchange.exchangePlan
 exchange = 0
 
 unfoldable pub calls : ℕ
-unfolding Calls.writtenOver Calls.newAfterLoad Calls.finishLoad Calls.load Calls.finish Calls.heldPlan Calls.newAfterExchange Calls.exchange Calls.matchedBytes Calls.newAfterExtract Calls.extract
+unfolding Calls.writtenOver Calls.newAfterLoad Calls.finishLoad Calls.load Calls.finish Calls.heldPlan Calls.newAfterExchange
+    Calls.exchange Calls.matchedBytes Calls.newAfterExtract Calls.extract
 calls = 0
 
 unfoldable pub machine : ℕ
-unfolding Machine.extractionOr Machine.machinePlan Machine.machineLength Machine.refuseStep Machine.acceptStep Machine.takeStep Machine.machineStep Machine.machineRun Machine.fresh
+unfolding Machine.extractionOr Machine.machinePlan Machine.machineLength Machine.refuseStep Machine.acceptStep Machine.takeStep
+    Machine.machineStep Machine.machineRun Machine.fresh
 machine = 0
 
 unfoldable pub sessions : ℕ
@@ -76,17 +96,23 @@ unfolding Sessions.make Sessions.callsRun Sessions.fed Sessions.accepted Session
 sessions = 0
 
 unfoldable pub meaning : ℕ
-unfolding Meaning.andValue Meaning.value Meaning.frameColumns Meaning.frameValue Meaning.distanceByForm Meaning.predicateValue Meaning.andRemainder Meaning.extractionValue Meaning.planValue Meaning.exchangedValues
+unfolding Meaning.andValue Meaning.value Meaning.frameColumns Meaning.frameValue Meaning.distanceByForm Meaning.predicateValue
+    Meaning.andRemainder Meaning.extractionValue Meaning.planValue Meaning.exchangedValues
 meaning = 0
 
 unfoldable pub logical : ℕ
-unfolding Logical.lowerCase Logical.spatialNames Logical.functionName Logical.comparisonName Logical.leafName Logical.mask Logical.distinct Logical.bitsOf Logical.inLeft Logical.inRight Logical.schemaSide Logical.firstArgumentSide Logical.knnArguments Logical.querySideFrom Logical.querySide Logical.logicalAnswer Logical.logical Logical.logicalBytes
+unfolding Logical.lowerCase Logical.spatialNames Logical.functionName Logical.comparisonName Logical.leafName Logical.mask Logical.distinct
+    Logical.bitsOf Logical.inLeft Logical.inRight Logical.schemaSide Logical.firstArgumentSide Logical.knnArguments Logical.querySideFrom
+    Logical.querySide Logical.logicalAnswer Logical.logical Logical.logicalBytes
 logical = 0
 
 unfoldable pub program : ℕ
-unfolding Program.digitValue Program.pairBytes Program.digitBytes Program.orRefused Program.lineBytes Program.digit Program.digits Program.refusedLine Program.loadLine Program.logicalLine Program.callLine Program.lineOf Program.readLine Program.lineOutcome Program.writtenLine Program.intoFirst Program.linesOf Program.outputFrom Program.freshPlan Program.output
+unfolding Program.digitValue Program.pairBytes Program.digitBytes Program.orRefused Program.lineBytes Program.digit Program.digits
+    Program.refusedLine Program.loadLine Program.logicalLine Program.callLine Program.lineOf Program.readLine Program.lineOutcome
+    Program.writtenLine Program.intoFirst Program.linesOf Program.outputFrom Program.freshPlan Program.output
 program = 0
 
 unfoldable pub everything : ℕ
-unfolding basics expression literals encode leaves readers decode plans match extract exchange calls machine sessions meaning logical program
+unfolding basics expression literals encode leaves readers decode plans references match extract exchange calls machine sessions meaning
+    logical program
 everything = 0

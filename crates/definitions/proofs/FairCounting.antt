@@ -18,7 +18,7 @@ use Rattle.definitions.specs.Good.{InRange, InRangeAll}
 use Rattle.definitions.specs.Meaning.{Valuation, Meaning, value, values, frameColumns, Fair}
 use Rattle.definitions.specs.Claims.{FairByArguments}
 use Rattle.definitions.proofs.Everything.{everything}
-use Rattle.definitions.proofs.Requests.{same-name}
+use Rattle.definitions.proofs.Tools.{same-name}
 use Rattle.definitions.proofs.KnnLeaves.{Asked, Matched, leaf-matched}
 
 -- 1 for five arguments, 0 for another number of them.
@@ -72,7 +72,8 @@ absent-asked none spheroid a b = tt
 absent-asked (some k) none a b = tt
 absent-asked (some k) (some spheroid) a b = refl
 
-given-asked : (k spheroid ties : Option ℕ) (a b : Expr) → Flag ties → Asked (λ k spheroid ties. 1 ≡ byTies ties) (knnLiterals k spheroid ties a b)
+given-asked : (k spheroid ties : Option ℕ) (a b : Expr) → Flag ties
+    → Asked (λ k spheroid ties. 1 ≡ byTies ties) (knnLiterals k spheroid ties a b)
 unfolding knnLiterals
 given-asked none spheroid ties a b f = tt
 given-asked (some k) none ties a b f = tt
@@ -81,16 +82,20 @@ given-asked (some k) (some spheroid) (some ties) a b f = ap (λ (t : Bool). if t
 
 -- What an `st_knn` call asks for, by its arguments.
 knn-asked : (c : Columns) (M : Meaning) (columns : ℕ → ℕ) (a b : Expr) (more : Exprs) → InRangeAll c (cons a (cons b more))
-    → Asked (λ k spheroid ties. byCount (length (values M columns (cons a (cons b more)))) ≡ byTies ties) (knnRequest (cons a (cons b more)))
+    → Asked (λ k spheroid ties. byCount (length (values M columns (cons a (cons b more)))) ≡ byTies ties)
+    (knnRequest (cons a (cons b more)))
 unfolding knnRequest values
 knn-asked c M columns a b nil r = refl
 knn-asked c M columns a b (cons k nil) r = absent-asked (literalU32 k) (some 0) a b
 knn-asked c M columns a b (cons k (cons s nil)) r = absent-asked (literalU32 k) (literalBool s) a b
-knn-asked c M columns a b (cons k (cons s (cons t nil))) r = given-asked (literalU32 k) (literalBool s) (literalBool t) a b (flag c t (r .1 .1 .1 .1 .0))
+knn-asked c M columns a b (cons k (cons s (cons t nil))) r =
+    given-asked (literalU32 k) (literalBool s) (literalBool t) a b (flag c t (r .1 .1 .1 .1 .0))
 knn-asked c M columns a b (cons k (cons s (cons t (cons u more)))) r = tt
 
-counting-knn : (v : Valuation) (rs : List Record) (name : List ℕ) (a b : Expr) (more : Exprs) → InRangeAll (indexBelow (length rs)) (cons a (cons b more))
-    → (k spheroid ties : ℕ) (probe : Side) (l r : Expr) → matchLeaf rs (call name (cons a (cons b more))) ≡ some (knn k spheroid probe ties l r)
+counting-knn : (v : Valuation) (rs : List Record) (name : List ℕ) (a b : Expr) (more : Exprs)
+    → InRangeAll (indexBelow (length rs)) (cons a (cons b more))
+    → (k spheroid ties : ℕ) (probe : Side) (l r : Expr)
+    → matchLeaf rs (call name (cons a (cons b more))) ≡ some (knn k spheroid probe ties l r)
     → value counting (frameColumns v rs) (call name (cons a (cons b more))) ≡ byTies ties
 counting-knn v rs name a b more within k spheroid ties probe l r e =
     let es : Exprs = cons a (cons b more) in
@@ -105,7 +110,8 @@ relation-counted : (name : List ℕ) (type : Relation) (t : Bool) → relationNa
     → (arguments : List ℕ) → (if t then byCount (length arguments) else 2) ≡ 2
 unfolding everything
 relation-counted name type true e s arguments =
-    let z : _≡_ {A = ℕ} 0 1 = cc (subst (λ (x : List ℕ). relationNamed x ≡ some type) (same-name name (ascii "st_knn") s) e) in absurd (omega arith)
+    let z : _≡_ {A = ℕ} 0 1 =
+    cc (subst (λ (x : List ℕ). relationNamed x ≡ some type) (same-name name (ascii "st_knn") s) e) in absurd (omega arith)
 relation-counted name type false e s arguments = refl
 
 counting-fair : Fair counting

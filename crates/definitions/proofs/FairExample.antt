@@ -9,14 +9,14 @@ use lib.Dec.{leb, ltb, eqb}
 use lib.IntN.{ℤ, pos}
 use borrow.Author.Tests.{eqb-true, eqb-false, eq-eqb, ne-eqb}
 use Rattle.definitions.specs.Basics.{if_then_else_, ascii, sameName}
-use Rattle.definitions.specs.Expression.{Side, Relation, intersects, contains, within, covers, coveredBy, touches, crosses, overlaps, equals, Expr, column, literal, and, binary, call, other, field, Exprs, nil, cons, Record, knn}
+use Rattle.definitions.specs.Expression.{Side, Relation, intersects, contains, within, covers, coveredBy, touches, crosses, overlaps, equals, Expr, column, literal, and, binary, call, other, field, Exprs, nil, cons, Record, knn, invert}
 use Rattle.definitions.specs.Literals.{signed, u32, numberU32}
 use Rattle.definitions.specs.Leaves.{relationNamed}
-use Rattle.definitions.specs.Match.{literalU32, literalBool, knnLiterals, knnRequest, invert, matchLeaf}
+use Rattle.definitions.specs.Match.{literalU32, literalBool, knnLiterals, knnRequest, matchLeaf}
 use Rattle.definitions.specs.Meaning.{Valuation, Meaning, value, frameColumns, Fair}
 use Rattle.definitions.specs.Claims.{FairMeaning, markedFrame, MarksDiffer}
 use Rattle.definitions.proofs.Everything.{everything}
-use Rattle.definitions.proofs.Requests.{by-test}
+use Rattle.definitions.proofs.Tools.{by-test}
 use Rattle.definitions.proofs.KnnLeaves.{Asked, Matched, leaf-matched}
 
 -- ---- points on a line
@@ -124,7 +124,8 @@ u32-has n = by-test (Has n) (leb n 4294967295) (some n) none (λ _. refl) (λ _.
 
 signed-has : (bytes : ℕ) → Has bytes (u32 (signed bytes))
 unfolding signed
-signed-has bytes = by-test (λ (z : ℤ). Has bytes (u32 z)) (ltb bytes 9223372036854775808) (pos bytes) _ (λ _. u32-has bytes) (λ _. unfold u32 in tt)
+signed-has bytes =
+    by-test (λ (z : ℤ). Has bytes (u32 z)) (ltb bytes 9223372036854775808) (pos bytes) _ (λ _. u32-has bytes) (λ _. unfold u32 in tt)
 
 literal-has : (columns : ℕ → ℕ) (e : Expr) → Has (value points columns e) (literalU32 e)
 unfolding literalU32 numberU32 value points
@@ -166,7 +167,8 @@ module _ (columns : ℕ → ℕ) (a b : Expr) where
   knn-asked (cons k (cons s (cons t nil))) = k-asked k (cons s (cons t nil)) (literalBool s) (literalBool t)
   knn-asked (cons k (cons s (cons t (cons u more)))) = tt
 
-points-knn : (v : Valuation) (rs : List Record) (name : List ℕ) (a b : Expr) (more : Exprs) (k spheroid ties : ℕ) (probe : Side) (l r : Expr)
+points-knn : (v : Valuation) (rs : List Record) (name : List ℕ) (a b : Expr) (more : Exprs)
+    → (k spheroid ties : ℕ) (probe : Side) (l r : Expr)
     → matchLeaf rs (call name (cons a (cons b more))) ≡ some (knn k spheroid probe ties l r)
     → value points (frameColumns v rs) (call name (cons a (cons b more)))
     ≡ near (value points (frameColumns v rs) a) (value points (frameColumns v rs) b) k
@@ -199,7 +201,8 @@ fair-points = (points, points-fair, refl, refl, refl, refl, refl, refl)
 byChild : Valuation
 byChild side child = child
 
--- The frame reads the mark column's child index 9, two points 5 apart are near, and it is true; its extraction reads the copied column number 2 and is false.
+-- The frame reads the mark column's child index 9: two points 5 apart are near, and it is true. Its extraction reads the copied column
+-- number 2, and is false.
 pub marks-apart : MarksDiffer
 unfolding everything points called ofThree markedFrame byChild
 marks-apart = (points, points-fair, byChild, refl, refl)

@@ -18,7 +18,7 @@ use Rattle.definitions.specs.Decode.{repeatExprs, Columns, indexBelow, f
 use Rattle.definitions.specs.Good.{AllBytes, nodes, depth, nodesAll, depthAll, InRange, InRangeAll, NameBytes}
 use Rattle.definitions.proofs.ReaderLaws.{stopped-not-read, step, test, same-read, given}
 use Rattle.definitions.proofs.Columns.{all-right}
-use Rattle.definitions.proofs.Taken.{and-both}
+use Rattle.definitions.proofs.Tools.{and-both}
 
 -- ---- fields
 
@@ -49,7 +49,8 @@ number-after-back zero high n m v s t h e =
     (0, omega (arith, q .0), lit< tt, q .2, sym (q .1))
 number-after-back (suc w) high n m v [] t h e = absurd (stopped-not-read 3 v m t e)
 number-after-back (suc w) high n m v (b ∷ s) t h e =
-    let p : (u : ℕ) × (v ≡ (high * 256 + b) * 256 ^ w + u) × (u < 256 ^ w) × (s ≡ bigEndian w v ++ t) × (m ≡ n) = number-after-back w (high * 256 + b) n m v s t (h .1) e in
+    let p : (u : ℕ) × (v ≡ (high * 256 + b) * 256 ^ w + u) × (u < 256 ^ w) × (s ≡ bigEndian w v ++ t) × (m ≡ n) =
+    number-after-back w (high * 256 + b) n m v s t (h .1) e in
     let u : ℕ = p .0 in
     let digit : v / 256 ^ w % 256 ≡ b =
     ap (λ (x : ℕ). x / 256 ^ w % 256) (p .1) ∙ ap (λ (x : ℕ). x % 256) (digits-div (high * 256 + b) (p .2)) ∙ digits-mod high (h .0) in (
@@ -94,7 +95,8 @@ Sound c levels one = (n m : ℕ) (s t : List ℕ) (e : Expr) → AllBytes s → 
 pub join : (a b s t u : List ℕ) → s ≡ a ++ t → t ≡ b ++ u → s ≡ (a ++ b) ++ u
 join a b s t u e f = e ∙ ap (λ (x : List ℕ). a ++ x) f ∙ sym (append-assoc a b u)
 
-exprs-back : (c : Columns) (levels : ℕ) (one : Reader Expr) → Sound c levels one → (k n m : ℕ) (s t : List ℕ) (es : Exprs) → AllBytes s → n ≤ 1024
+exprs-back : (c : Columns) (levels : ℕ) (one : Reader Expr) → Sound c levels one → (k n m : ℕ) (s t : List ℕ) (es : Exprs) → AllBytes s
+    → n ≤ 1024
     → repeatExprs k one n s ≡ read es m t → (count es ≡ k) × NodesBack c levels n m s t es
 unfolding repeatExprs count exprBytes nodes depth
 exprs-back c levels one sound zero n m s t es h k e =
@@ -139,13 +141,15 @@ record FieldsBack (c : Columns) (levels n m kind : ℕ) (s t : List ℕ) (e : Ex
   counted : suc m ≡ n + nodes e
   few : m ≤ 1024
 
-literal-back : (c : Columns) (levels n m : ℕ) (s t : List ℕ) (e : Expr) → AllBytes s → n ≤ 1024 → literalNode n s ≡ read e m t → FieldsBack c levels n m 1 s t e
+literal-back : (c : Columns) (levels n m : ℕ) (s t : List ℕ) (e : Expr) → AllBytes s → n ≤ 1024 → literalNode n s ≡ read e m t
+    → FieldsBack c levels n m 1 s t e
 unfolding literalNode exprBytes nodes depth
 literal-back c levels n m s t e h k eq =
     step (byteUpTo 6 n s) _ eq (λ type n₁ s₁ e₁ f₁.
     let a : (s ≡ type ∷ s₁) × (type ≤ 6) × (n₁ ≡ n) = byte-up-to-back 6 n n₁ type s s₁ e₁ in
     step (number 8 n₁ s₁) _ f₁ (λ v n₂ s₂ e₂ f₂.
-    let b : (s₁ ≡ bigEndian 8 v ++ s₂) × (v < 256 ^ 8) × (n₂ ≡ n₁) = number-back 8 n₁ n₂ v s₁ s₂ (after-bytes (type ∷ []) s₁ s (a .0) h) e₂ in
+    let b : (s₁ ≡ bigEndian 8 v ++ s₂) × (v < 256 ^ 8) × (n₂ ≡ n₁) =
+    number-back 8 n₁ n₂ v s₁ s₂ (after-bytes (type ∷ []) s₁ s (a .0) h) e₂ in
     test 4 (literalInRange type v) (give (literal type v)) n₂ s₂ f₂ (λ ok f₃.
     given (λ x m t. FieldsBack c levels n m 1 s t x) (literal type v) e n₂ m s₂ t f₃ (record {
       bytes = ap (λ (x : List ℕ). 1 ∷ x) (a .0 ∙ ap (λ (x : List ℕ). type ∷ x) (b .0));
@@ -155,13 +159,15 @@ literal-back c levels n m s t e h k eq =
       few = omega (arith, a .2, b .2);
     }))))
 
-column-back : (bound levels n m : ℕ) (s t : List ℕ) (e : Expr) → AllBytes s → n ≤ 1024 → columnNode bound n s ≡ read e m t → FieldsBack (indexBelow bound) levels n m 0 s t e
+column-back : (bound levels n m : ℕ) (s t : List ℕ) (e : Expr) → AllBytes s → n ≤ 1024 → columnNode bound n s ≡ read e m t
+    → FieldsBack (indexBelow bound) levels n m 0 s t e
 unfolding columnNode exprBytes nodes depth
 column-back bound levels n m s t e h k eq =
     step (number 2 n s) _ eq (λ i n₁ s₁ e₁ f₁.
     let a : (s ≡ bigEndian 2 i ++ s₁) × (i < 256 ^ 2) × (n₁ ≡ n) = number-back 2 n n₁ i s s₁ h e₁ in
     step (number 2 n₁ s₁) _ f₁ (λ g n₂ s₂ e₂ f₂.
-    let b : (s₁ ≡ bigEndian 2 g ++ s₂) × (g < 256 ^ 2) × (n₂ ≡ n₁) = number-back 2 n₁ n₂ g s₁ s₂ (after-bytes (bigEndian 2 i) s₁ s (a .0) h) e₂ in
+    let b : (s₁ ≡ bigEndian 2 g ++ s₂) × (g < 256 ^ 2) × (n₂ ≡ n₁) =
+    number-back 2 n₁ n₂ g s₁ s₂ (after-bytes (bigEndian 2 i) s₁ s (a .0) h) e₂ in
     test 6 (ltb i bound) (give (column i g)) n₂ s₂ f₂ (λ ok f₃.
     given (λ x m t. FieldsBack (indexBelow bound) levels n m 0 s t x) (column i g) e n₂ m s₂ t f₃ (record {
       bytes = ap (λ (x : List ℕ). 0 ∷ x) (join (bigEndian 2 i) (bigEndian 2 g) s s₁ s₂ (a .0) (b .0));
@@ -171,7 +177,8 @@ column-back bound levels n m s t e h k eq =
       few = omega (arith, a .2, b .2);
     }))))
 
-field-back : (levels n m : ℕ) (s t : List ℕ) (e : Expr) → AllBytes s → n ≤ 1024 → fieldNode n s ≡ read e m t → FieldsBack fields levels n m 5 s t e
+field-back : (levels n m : ℕ) (s t : List ℕ) (e : Expr) → AllBytes s → n ≤ 1024 → fieldNode n s ≡ read e m t
+    → FieldsBack fields levels n m 5 s t e
 unfolding fieldNode exprBytes nodes depth
 field-back levels n m s t e h k eq =
     step (byteUpTo 3 n s) _ eq (λ i n₁ s₁ e₁ f₁.
@@ -187,7 +194,8 @@ field-back levels n m s t e h k eq =
     })))
 
 -- A binary expression from its parts.
-binary-parts : (c : Columns) (levels n m o : ℕ) (s t : List ℕ) (l r : Expr) → o ≤ 63 → InRange c l → InRange c r → s ≡ o ∷ ((exprBytes l ++ exprBytes r) ++ t)
+binary-parts : (c : Columns) (levels n m o : ℕ) (s t : List ℕ) (l r : Expr) → o ≤ 63 → InRange c l → InRange c r
+    → s ≡ o ∷ ((exprBytes l ++ exprBytes r) ++ t)
     → depth l ≤ levels → depth r ≤ levels → m ≡ n + nodes l + nodes r → m ≤ 1024 → FieldsBack c levels n m 2 s t (binaryExpr o l r)
 unfolding binaryExpr exprBytes nodes depth
 binary-parts c levels n m zero s t l r ho hl hr e dl dr k f = record {
@@ -240,7 +248,13 @@ call-back c levels n m one sound s t e h k eq =
     given (λ x m t. FieldsBack c levels n m 3 s t x) (call name es) e n₄ m s₄ t f₅ (record {
       bytes = ap (λ (x : List ℕ). 3 ∷ x) (a .0 ∙ ap₂ (λ (x : ℕ) (y : List ℕ). x ∷ y) (sym (b .1))
           (join name (count es ∷ exprsBytes es) s₁ s₂ s₄ (b .0) (d .0 ∙ ap₂ (λ (x : ℕ) (y : List ℕ). x ∷ y) (sym (z .0)) (z .1 .bytes))));
-      inRange = (omega (arith, b .1, leb-true 1 size (sizes .0)), omega (arith, b .1, leb-true size 32 (sizes .1)), b .2, omega (arith, z .0, d .1), z .1 .inRange);
+      inRange = (
+        omega (arith, b .1, leb-true 1 size (sizes .0)),
+        omega (arith, b .1, leb-true size 32 (sizes .1)),
+        b .2,
+        omega (arith, z .0, d .1),
+        z .1 .inRange,
+      );
       shallow = omega (arith, z .1 .shallow);
       counted = omega (arith, a .2, b .3, d .2, z .1 .counted);
       few = z .1 .few;
@@ -280,9 +294,12 @@ any-column-back fields levels n m kind s t e a n1 n2 n3 n4 h k eq =
     let is : 5 ≡ kind = omega (arith, leb-true 1 kind (both .0), leb-true kind 5 (both .1)) in
     subst (λ (x : ℕ). FieldsBack fields levels n m x s t e) is (field-back levels n m s t e h k eq)
 
-kind-back : (c : Columns) (levels n m kind : ℕ) (one : Reader Expr) → Sound c levels one → (s t : List ℕ) (e : Expr) → allowedKind c kind ≡ true → AllBytes s → n ≤ 1024
+kind-back : (c : Columns) (levels n m kind : ℕ) (one : Reader Expr) → Sound c levels one → (s t : List ℕ) (e : Expr)
+    → allowedKind c kind ≡ true → AllBytes s → n ≤ 1024
     → (b1 b2 b3 b4 : Bool) → eqb kind 1 ≡ b1 → eqb kind 2 ≡ b2 → eqb kind 3 ≡ b3 → eqb kind 4 ≡ b4
-    → (if b1 then literalNode else if b2 then binaryNode one else if b3 then callNode one else if b4 then otherNode one else anyColumn c) n s ≡ read e m t
+    → (if b1 then literalNode else if b2 then binaryNode one else if b3 then callNode one else if b4 then otherNode one
+    else anyColumn c) n s
+    ≡ read e m t
     → FieldsBack c levels n m kind s t e
 kind-back c levels n m kind one sound s t e a h k true b2 b3 b4 e1 e2 e3 e4 eq =
     subst (λ (x : ℕ). FieldsBack c levels n m x s t e) (sym (eqb-true kind 1 e1)) (literal-back c levels n m s t e h k eq)
@@ -295,14 +312,16 @@ kind-back c levels n m kind one sound s t e a h k false false false true e1 e2 e
 kind-back c levels n m kind one sound s t e a h k false false false false e1 e2 e3 e4 eq =
     any-column-back c levels n m kind s t e a (eqb-false kind 1 e1) (eqb-false kind 2 e2) (eqb-false kind 3 e3) (eqb-false kind 4 e4) h k eq
 
-node-kind-back : (c : Columns) (n m kind : ℕ) (s t : List ℕ) → nodeKind c n s ≡ read kind m t → (s ≡ kind ∷ t) × (allowedKind c kind ≡ true) × (m ≡ n)
+node-kind-back : (c : Columns) (n m kind : ℕ) (s t : List ℕ) → nodeKind c n s ≡ read kind m t
+    → (s ≡ kind ∷ t) × (allowedKind c kind ≡ true) × (m ≡ n)
 unfolding nodeKind
 node-kind-back c n m kind [] t e = absurd (stopped-not-read 3 kind m t e)
 node-kind-back c n m kind (x ∷ s) t e =
     test 4 (allowedKind c x) (give x) n s e (λ ok f.
     given (λ y m t. (x ∷ s ≡ y ∷ t) × (allowedKind c y ≡ true) × (m ≡ n)) x kind n m s t f (refl, ok, refl))
 
-counted-back : (x : Bool) (n m n₁ : ℕ) (s t : List ℕ) (b : Bool) → (if x then read true (suc n) s else stopped 5) ≡ read b n₁ t → (x ≡ true) × (n₁ ≡ suc n) × (t ≡ s)
+counted-back : (x : Bool) (n m n₁ : ℕ) (s t : List ℕ) (b : Bool) → (if x then read true (suc n) s else stopped 5) ≡ read b n₁ t
+    → (x ≡ true) × (n₁ ≡ suc n) × (t ≡ s)
 counted-back true n m n₁ s t b e = (refl, cc, cc)
 counted-back false n m n₁ s t b e = absurd (stopped-not-read 5 b n₁ t e)
 

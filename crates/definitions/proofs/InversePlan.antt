@@ -1,172 +1,24 @@
--- A list of bytes that is a good plan is the bytes of that plan.
+-- A list of bytes that is a good extraction, or a good plan, is the bytes of that extraction or plan.
 use Prim.Native.Nat.{ℕ, zero, suc, _+_, _^_, _≤_, _<_}
 use native.Mathlib.Omega.{arith}
 use mathlib.Core.Path.{_≡_, refl, sym, ap, ap₂, _∙_, subst}
-use mathlib.Core.Bool.{Bool, true, false, _&&_, false≢true, decide}
+use mathlib.Core.Bool.{Bool, true, false, decide}
 use mathlib.Core.List.{List, [], _∷_, _++_, append-nil}
 use mathlib.Core.Option.{Option, none, some}
-use lib.ListN.{length}
-use lib.Dec.{leb, eqb, lit≤}
-use borrow.Author.Tests.{leb-true, eqb-true}
+use lib.Dec.{eqb, lit≤}
+use borrow.Author.Tests.{eqb-true}
 use Rattle.definitions.specs.Basics.{if_then_else_, bigEndian, Result, ok, refused, mapResult}
-use Rattle.definitions.specs.Expression.{Side, left, right, noSide, relations, Expr, Record, Frame, Predicate, relation, distance, knn, Extraction, Plan, empty, held, extracted}
-use Rattle.definitions.specs.Encode.{exprBytes, sideNumber, recordBytes, recordsBytes, positionIn, relationNumber, frameBytes, predicateKind, predicateFields, remainderBytes, extractionBytes, planBytes}
+use Rattle.definitions.specs.Expression.{Side, left, right, noSide, relations, Expr, Frame, Predicate, relation, distance, knn, Extraction, Plan, empty, held, extracted}
+use Rattle.definitions.specs.Encode.{exprBytes, sideNumber, positionIn, relationNumber, frameBytes, predicateKind, predicateFields, remainderBytes, extractionBytes, planBytes}
 use Rattle.definitions.specs.Leaves.{arity}
-use Rattle.definitions.specs.Readers.{Read, read, stopped, Reader, continue, give, number, byteUpTo, repeat, firstByte, refuse, requireLength, noneLeft, atEnd, resultOf}
-use Rattle.definitions.specs.Decode.{Columns, indexBelow, node, expression, sideNumbered, sideUpTo, oneRecord, recordCount, frameBody, relationNumbered, relationPredicate, distancePredicate, knnPredicate, predicateOfKind, someRemainder, remainderOfKind, remainder, extractionBody, argument}
-use Rattle.definitions.specs.Plans.{physicalFrame, wholeExtraction, frameOf, extractionOf, planOfKind, planOf}
-use Rattle.definitions.specs.Good.{AllBytes, nodes, Short, Readable, RecordsInRange, OneOfTwo, ReadablePredicate, ReadableRemainder, predicateNodes, remainderNodes, planNodes, ReadablePlan, GoodPlan}
+use Rattle.definitions.specs.Readers.{Reader, continue, read, give, number, byteUpTo, firstByte, refuse}
+use Rattle.definitions.specs.Decode.{Columns, indexBelow, expression, sideUpTo, frameBody, relationNumbered, relationPredicate, distancePredicate, knnPredicate, predicateOfKind, someRemainder, remainderOfKind, remainder, extractionBody, argument}
+use Rattle.definitions.specs.Plans.{wholeExtraction, frameOf, extractionOf, planOfKind, planOf}
+use Rattle.definitions.specs.Good.{AllBytes, Readable, OneOfTwo, ReadablePredicate, ReadableRemainder, predicateNodes, remainderNodes, planNodes, ReadablePlan, GoodPlan}
 use Rattle.definitions.proofs.ReaderLaws.{stopped-not-read, step, test, given}
-use Rattle.definitions.proofs.Taken.{and-both}
 use Rattle.definitions.proofs.Inverse.{byte-back, byte-up-to-back, number-back, after-bytes, join, NodeBack, node-back}
-
-pub side-number : (n : ℕ) → n ≤ 2 → sideNumber (sideNumbered n) ≡ n
-unfolding sideNumber sideNumbered
-side-number zero h = refl
-side-number (suc zero) h = refl
-side-number (suc (suc zero)) h = refl
-side-number (suc (suc (suc n))) h = absurd (omega arith)
-
-side-back : (most n m : ℕ) (s t : List ℕ) (x : Side) → most ≤ 2 → sideUpTo most n s ≡ read x m t → (s ≡ sideNumber x ∷ t) × (sideNumber x ≤ most) × (m ≡ n)
-unfolding sideUpTo
-side-back most n m s t x k e =
-    step (byteUpTo most n s) _ e (λ b n₁ s₁ e₁ f₁.
-    let a : (s ≡ b ∷ s₁) × (b ≤ most) × (n₁ ≡ n) = byte-up-to-back most n n₁ b s s₁ e₁ in
-    let same : sideNumber (sideNumbered b) ≡ b = side-number b (omega (arith, a .1)) in
-    given (λ y m t. (s ≡ sideNumber y ∷ t) × (sideNumber y ≤ most) × (m ≡ n)) (sideNumbered b) x n₁ m s₁ t f₁
-    (a .0 ∙ ap (λ (y : ℕ). y ∷ s₁) (sym same), rw same (a .1), a .2))
-
-record-back : (n m : ℕ) (s t : List ℕ) (r : Record) → AllBytes s → oneRecord n s ≡ read r m t → (s ≡ recordBytes r ++ t) × (Short (r .child) × Short (r .tag)) × (m ≡ n)
-unfolding oneRecord recordBytes
-record-back n m s t r h e =
-    step (sideUpTo 2 n s) _ e (λ x n₁ s₁ e₁ f₁.
-    let a : (s ≡ sideNumber x ∷ s₁) × (sideNumber x ≤ 2) × (n₁ ≡ n) = side-back 2 n n₁ s s₁ x (lit≤ tt) e₁ in
-    let h₁ : AllBytes s₁ = after-bytes (sideNumber x ∷ []) s₁ s (a .0) h in
-    step (number 2 n₁ s₁) _ f₁ (λ c n₂ s₂ e₂ f₂.
-    let b : (s₁ ≡ bigEndian 2 c ++ s₂) × (c < 256 ^ 2) × (n₂ ≡ n₁) = number-back 2 n₁ n₂ c s₁ s₂ h₁ e₂ in
-    step (number 2 n₂ s₂) _ f₂ (λ g n₃ s₃ e₃ f₃.
-    let d : (s₂ ≡ bigEndian 2 g ++ s₃) × (g < 256 ^ 2) × (n₃ ≡ n₂) = number-back 2 n₂ n₃ g s₂ s₃ (after-bytes (bigEndian 2 c) s₂ s₁ (b .0) h₁) e₃ in
-    given (λ y m t. (s ≡ recordBytes y ++ t) × (Short (y .child) × Short (y .tag)) × (m ≡ n)) (record { side = x; child = c; tag = g }) r n₃ m s₃ t f₃
-    (a .0 ∙ ap (λ (y : List ℕ). sideNumber x ∷ y) (join (bigEndian 2 c) (bigEndian 2 g) s₁ s₂ s₃ (b .0) (d .0)), (b .1, d .1), d .2 ∙ b .2 ∙ a .2))))
-
-abbrev RecordsBack : (k n m : ℕ) (s t : List ℕ) (rs : List Record) → Type 0
-RecordsBack k n m s t rs = (s ≡ recordsBytes rs ++ t) × (length rs ≡ k) × RecordsInRange rs × (m ≡ n)
-
-records-back : (k n m : ℕ) (s t : List ℕ) (rs : List Record) → AllBytes s → repeat k oneRecord n s ≡ read rs m t → RecordsBack k n m s t rs
-unfolding repeat recordsBytes
-records-back zero n m s t rs h e = given (λ x m t. RecordsBack 0 n m s t x) [] rs n m s t e (refl, refl, tt, refl)
-records-back (suc j) n m s t rs h e =
-    step (oneRecord n s) _ e (λ r n₁ s₁ e₁ f₁.
-    let a : (s ≡ recordBytes r ++ s₁) × (Short (r .child) × Short (r .tag)) × (n₁ ≡ n) = record-back n n₁ s s₁ r h e₁ in
-    step (repeat j oneRecord n₁ s₁) _ f₁ (λ xs n₂ s₂ e₂ f₂.
-    let b : RecordsBack j n₁ n₂ s₁ s₂ xs = records-back j n₁ n₂ s₁ s₂ xs (after-bytes (recordBytes r) s₁ s (a .0) h) e₂ in
-    given (λ x m t. RecordsBack (suc j) n m s t x) (r ∷ xs) rs n₂ m s₂ t f₂
-    (join (recordBytes r) (recordsBytes xs) s s₁ s₂ (a .0) (b .0), ap suc (b .1), (a .1, b .2), b .3 ∙ a .2)))
-
-count-back : (n m k : ℕ) (s t : List ℕ) → AllBytes s → recordCount n s ≡ read k m t → (s ≡ bigEndian 2 k ++ t) × (k ≤ 256) × (m ≡ n)
-unfolding recordCount
-count-back n m k s t h e =
-    step (number 2 n s) _ e (λ c n₁ s₁ e₁ f₁.
-    let a : (s ≡ bigEndian 2 c ++ s₁) × (c < 256 ^ 2) × (n₁ ≡ n) = number-back 2 n n₁ c s s₁ h e₁ in
-    test 4 (leb c 256) (give c) n₁ s₁ f₁ (λ fine f₂.
-    given (λ y m t. (s ≡ bigEndian 2 y ++ t) × (y ≤ 256) × (m ≡ n)) c k n₁ m s₁ t f₂ (a .0, leb-true c 256 fine, a .2)))
-
--- The bytes of a frame after its first byte.
-pub frameFields : Frame → List ℕ
-frameFields F = bigEndian 2 (length (F .records)) ++ (recordsBytes (F .records) ++ exprBytes (F .expr))
-
--- What is known of a frame that was read, but for its arity.
-pub record FrameBack (n m : ℕ) (s t : List ℕ) (F : Frame) : Type 0 where
-  pub bytes : s ≡ frameFields F ++ t
-  pub few : length (F .records) ≤ 256
-  pub recordsInRange : RecordsInRange (F .records)
-  pub expr : Readable (indexBelow (length (F .records))) (F .expr)
-  pub counted : m ≡ n + nodes (F .expr)
-  pub fewNodes : m ≤ 1024
-
-pub body-back : (n m : ℕ) (s t : List ℕ) (F : Frame) → AllBytes s → n ≤ 1024 → frameBody n s ≡ read F m t → FrameBack n m s t F
-unfolding frameBody frameFields expression
-body-back n m s t F h k e =
-    step (recordCount n s) _ e (λ c n₁ s₁ e₁ f₁.
-    let a : (s ≡ bigEndian 2 c ++ s₁) × (c ≤ 256) × (n₁ ≡ n) = count-back n n₁ c s s₁ h e₁ in
-    let h₁ : AllBytes s₁ = after-bytes (bigEndian 2 c) s₁ s (a .0) h in
-    step (repeat c oneRecord n₁ s₁) _ f₁ (λ rs n₂ s₂ e₂ f₂.
-    let b : RecordsBack c n₁ n₂ s₁ s₂ rs = records-back c n₁ n₂ s₁ s₂ rs h₁ e₂ in
-    let h₂ : AllBytes s₂ = after-bytes (recordsBytes rs) s₂ s₁ (b .0) h₁ in
-    step (node (indexBelow c) 64 n₂ s₂) _ f₂ (λ x n₃ s₃ e₃ f₃.
-    let d : NodeBack (indexBelow c) 64 n₂ n₃ s₂ s₃ x = node-back (indexBelow c) 64 n₂ n₃ s₂ s₃ x h₂ (omega (arith, a .2, b .3)) e₃ in
-    given (λ y m t. FrameBack n m s t y) (record { records = rs; expr = x }) F n₃ m s₃ t f₃ (record {
-      bytes = join (bigEndian 2 (length rs)) (recordsBytes rs ++ exprBytes x) s s₁ s₃ (rw (b .1) (a .0)) (join (recordsBytes rs) (exprBytes x) s₁ s₂ s₃ (b .0) (d .bytes));
-      few = rw (b .1) (a .1);
-      recordsInRange = b .2;
-      expr = record { inRange = rw (b .1) (d .inRange); shallow = d .shallow };
-      counted = omega (arith, d .counted, b .3, a .2);
-      fewNodes = d .few;
-    }))))
-
--- ---- whole frames
-
-pub refused-not-ok : {A : Type 0} (k : ℕ) (a : A) → _≡_ {A = Result A} (refused k) (ok a) → ⊥
-refused-not-ok k a e = let z : _≡_ {A = ℕ} 0 1 = cc in omega arith
-
-pub same-ok : {A : Type 0} (a b : A) → _≡_ {A = Result A} (ok a) (ok b) → a ≡ b
-same-ok a b e = cc
-
--- A frame that was read as a whole: its bytes are not too many, and none is left.
-answer-back : {A : Type 0} (r : Read A) (a : A) → resultOf r ≡ ok a → (m : ℕ) × (t : List ℕ) × (r ≡ read a m t)
-unfolding resultOf
-answer-back (read b m t) a e = (m, t, ap (λ (x : _). read x m t) (same-ok b a e))
-answer-back (stopped k) a e = absurd (refused-not-ok k a e)
-
-opened : {A G : Type 0} (s : List ℕ) (next : Reader A) {a : A} {m : ℕ} {t : List ℕ} → continue (requireLength 0 s) (λ b. next) ≡ read a m t
-    → (length s ≤ 16384 → next 0 s ≡ read a m t → G) → G
-unfolding requireLength
-opened s next e go =
-    test 1 (leb 1 (length s) && leb (length s) 16384) next 0 s e
-    (λ fine f. go (leb-true (length s) 16384 (and-both (leb 1 (length s)) (leb (length s) 16384) fine .1)) f)
-
-none-left : (s : List ℕ) → noneLeft s ≡ true → s ≡ []
-unfolding noneLeft
-none-left [] e = refl
-none-left (b ∷ s) e = absurd (false≢true e)
-
-ended : {A G : Type 0} (n : ℕ) (s : List ℕ) (next : Reader A) {a : A} {m : ℕ} {t : List ℕ} → continue (atEnd n s) (λ b. next) ≡ read a m t
-    → (s ≡ [] → next n s ≡ read a m t → G) → G
-unfolding atEnd
-ended n s next e go = test 7 (noneLeft s) next n s e (λ fine f. go (none-left s fine) f)
-
--- What is known of a list of bytes that is a good frame.
-abbrev GoodFrame : List ℕ → Frame → Type 0
-GoodFrame s F = (s ≡ frameBytes F) × GoodPlan (held F)
-
-physical-back : (s : List ℕ) (F : Frame) (m : ℕ) (t : List ℕ) → AllBytes s → physicalFrame 0 s ≡ read F m t → GoodFrame s F
-unfolding physicalFrame frameBytes planBytes planNodes frameFields
-physical-back s F m t h e =
-    opened s _ e (λ few e₁.
-    step (firstByte 0 s) _ e₁ (λ first n₁ s₁ e₂ f₁.
-    let a : (s ≡ first ∷ s₁) × (n₁ ≡ 0) = byte-back 0 n₁ first s s₁ e₂ in
-    test 2 (eqb first 1) _ n₁ s₁ f₁ (λ is f₂.
-    step (frameBody n₁ s₁) _ f₂ (λ G n₂ s₂ e₃ f₃.
-    let b : FrameBack n₁ n₂ s₁ s₂ G = body-back n₁ n₂ s₁ s₂ G (after-bytes (first ∷ []) s₁ s (a .0) h) (omega (arith, a .1)) e₃ in
-    ended n₂ s₂ _ f₃ (λ none f₄.
-    test 8 (arity (G .expr)) _ n₂ s₂ f₄ (λ fine f₅.
-    let same : s ≡ 1 ∷ frameFields G =
-    a .0 ∙ ap₂ (λ (x : ℕ) (y : List ℕ). x ∷ y) (eqb-true first 1 is) (b .bytes ∙ ap (λ (y : List ℕ). frameFields G ++ y) none ∙ append-nil (frameFields G)) in
-    given (λ x m t. GoodFrame s x) G F n₂ m s₂ t f₅ (
-      same,
-      record {
-        readable = record { few = b .few; recordsInRange = b .recordsInRange; expr = b .expr; arity = fine };
-        fewNodes = omega (arith, b .counted, b .fewNodes);
-        fewBytes = subst (λ (x : List ℕ). length x ≤ 16384) same few;
-      },
-    )))))))
-
--- Bytes that are a good frame are that frame's bytes, and the frame is a good plan.
-pub frame-back : (s : List ℕ) (F : Frame) → AllBytes s → frameOf s ≡ ok F → GoodFrame s F
-unfolding frameOf
-frame-back s F h e =
-    let a : (m : ℕ) × (t : List ℕ) × (physicalFrame 0 s ≡ read F m t) = answer-back (physicalFrame 0 s) F e in
-    physical-back s F (a .0) (a .1) h (a .2)
+use Rattle.definitions.proofs.InverseFrame.{PlanBack, whole-plan, side-back, frameFields, FrameBack, body-back, answer-back, opened, ended, frame-back}
+pub use Rattle.definitions.proofs.InverseFrame.{side-number, refused-not-ok, same-ok}
 
 -- ---- extractions
 
@@ -209,70 +61,77 @@ record PredicateBack (n m kind : ℕ) (s t : List ℕ) (p : Predicate) : Type 0 
   counted : m ≡ n + predicateNodes p
   few : m ≤ 1024
 
-relation-back : (n m : ℕ) (s t : List ℕ) (p : Predicate) → AllBytes s → n ≤ 1024 → relationPredicate n s ≡ read p m t → PredicateBack n m 0x11 s t p
+-- Reading on: each step with what is known of it, and the bytes after it.
+module _ {G : Type 0} {p : Predicate} {m : ℕ} {t : List ℕ} where
+  byte-step : (most n : ℕ) (s : List ℕ) (next : ℕ → Reader Predicate) → AllBytes s → continue (byteUpTo most n s) next ≡ read p m t
+      → ((b n₁ : ℕ) (s₁ : List ℕ) → (s ≡ b ∷ s₁) × (b ≤ most) × (n₁ ≡ n) → AllBytes s₁ → next b n₁ s₁ ≡ read p m t → G) → G
+  byte-step most n s next h e go =
+      step (byteUpTo most n s) next e (λ b n₁ s₁ e₁ f₁.
+      let a : (s ≡ b ∷ s₁) × (b ≤ most) × (n₁ ≡ n) = byte-up-to-back most n n₁ b s s₁ e₁ in
+      go b n₁ s₁ a (after-bytes (b ∷ []) s₁ s (a .0) h) f₁)
+
+  side-step : (most n : ℕ) (s : List ℕ) (next : Side → Reader Predicate) → most ≤ 2 → AllBytes s
+      → continue (sideUpTo most n s) next ≡ read p m t
+      → ((x : Side) (n₁ : ℕ) (s₁ : List ℕ) → (s ≡ sideNumber x ∷ s₁) × (sideNumber x ≤ most) × (n₁ ≡ n) → AllBytes s₁
+      → next x n₁ s₁ ≡ read p m t → G)
+      → G
+  side-step most n s next k h e go =
+      step (sideUpTo most n s) next e (λ x n₁ s₁ e₁ f₁.
+      let a : (s ≡ sideNumber x ∷ s₁) × (sideNumber x ≤ most) × (n₁ ≡ n) = side-back most n n₁ s s₁ x k e₁ in
+      go x n₁ s₁ a (after-bytes (sideNumber x ∷ []) s₁ s (a .0) h) f₁)
+
+  expr-step : (n : ℕ) (s : List ℕ) (next : Expr → Reader Predicate) → AllBytes s → n ≤ 1024
+      → continue (expression Wide n s) next ≡ read p m t
+      → ((e : Expr) (n₁ : ℕ) (s₁ : List ℕ) → ExprBack n n₁ s s₁ e → AllBytes s₁ → next e n₁ s₁ ≡ read p m t → G) → G
+  expr-step n s next h k e go =
+      step (expression Wide n s) next e (λ x n₁ s₁ e₁ f₁.
+      let b : ExprBack n n₁ s s₁ x = expr-back n n₁ s s₁ x h k e₁ in
+      go x n₁ s₁ b (after-bytes (exprBytes x) s₁ s (b .bytes) h) f₁)
+
+relation-back : (n m : ℕ) (s t : List ℕ) (p : Predicate) → AllBytes s → n ≤ 1024 → relationPredicate n s ≡ read p m t
+    → PredicateBack n m 0x11 s t p
 unfolding relationPredicate argument predicateKind predicateFields predicateNodes
 relation-back n m s t p h k eq =
-    step (byteUpTo 8 n s) _ eq (λ type n₁ s₁ e₁ f₁.
-    let a : (s ≡ type ∷ s₁) × (type ≤ 8) × (n₁ ≡ n) = byte-up-to-back 8 n n₁ type s s₁ e₁ in
-    let h₁ : AllBytes s₁ = after-bytes (type ∷ []) s₁ s (a .0) h in
-    step (expression Wide n₁ s₁) _ f₁ (λ x n₂ s₂ e₂ f₂.
-    let l : ExprBack n₁ n₂ s₁ s₂ x = expr-back n₁ n₂ s₁ s₂ x h₁ (omega (arith, a .2)) e₂ in
-    let h₂ : AllBytes s₂ = after-bytes (exprBytes x) s₂ s₁ (l .bytes) h₁ in
-    step (expression Wide n₂ s₂) _ f₂ (λ y n₃ s₃ e₃ f₃.
-    let r : ExprBack n₂ n₃ s₂ s₃ y = expr-back n₂ n₃ s₂ s₃ y h₂ (l .few) e₃ in
+    byte-step 8 n s _ h eq (λ type n₁ s₁ a h₁ f₁.
+    expr-step n₁ s₁ _ h₁ (omega (arith, a .2)) f₁ (λ x n₂ s₂ l h₂ f₂.
+    expr-step n₂ s₂ _ h₂ (l .few) f₂ (λ y n₃ s₃ r h₃ f₃.
     given (λ z m t. PredicateBack n m 0x11 s t z) (relation (relationNumbered type) x y) p n₃ m s₃ t f₃ (record {
-      bytes = ap (λ (z : List ℕ). 0x11 ∷ z)
-          (a .0 ∙ ap₂ (λ (i : ℕ) (z : List ℕ). i ∷ z) (sym (relation-number type (a .1))) (join (exprBytes x) (exprBytes y) s₁ s₂ s₃ (l .bytes) (r .bytes)));
+      bytes = ap (λ (z : List ℕ). 0x11 ∷ z) (a .0 ∙ ap₂ (λ (i : ℕ) (z : List ℕ). i ∷ z) (sym (relation-number type (a .1)))
+          (join (exprBytes x) (exprBytes y) s₁ s₂ s₃ (l .bytes) (r .bytes)));
       readable = (readable n₁ n₂ s₁ s₂ x l, readable n₂ n₃ s₂ s₃ y r);
       counted = omega (arith, a .2, l .counted, r .counted);
       few = r .few;
     }))))
 
-distance-back : (n m : ℕ) (s t : List ℕ) (p : Predicate) → AllBytes s → n ≤ 1024 → distancePredicate n s ≡ read p m t → PredicateBack n m 0x12 s t p
+distance-back : (n m : ℕ) (s t : List ℕ) (p : Predicate) → AllBytes s → n ≤ 1024 → distancePredicate n s ≡ read p m t
+    → PredicateBack n m 0x12 s t p
 unfolding distancePredicate argument predicateKind predicateFields predicateNodes
 distance-back n m s t p h k eq =
-    step (byteUpTo 4 n s) _ eq (λ form n₁ s₁ e₁ f₁.
-    let a : (s ≡ form ∷ s₁) × (form ≤ 4) × (n₁ ≡ n) = byte-up-to-back 4 n n₁ form s s₁ e₁ in
-    let h₁ : AllBytes s₁ = after-bytes (form ∷ []) s₁ s (a .0) h in
-    step (sideUpTo 2 n₁ s₁) _ f₁ (λ side n₂ s₂ e₂ f₂.
-    let b : (s₁ ≡ sideNumber side ∷ s₂) × (sideNumber side ≤ 2) × (n₂ ≡ n₁) = side-back 2 n₁ n₂ s₁ s₂ side (lit≤ tt) e₂ in
-    let h₂ : AllBytes s₂ = after-bytes (sideNumber side ∷ []) s₂ s₁ (b .0) h₁ in
-    step (expression Wide n₂ s₂) _ f₂ (λ x n₃ s₃ e₃ f₃.
-    let l : ExprBack n₂ n₃ s₂ s₃ x = expr-back n₂ n₃ s₂ s₃ x h₂ (omega (arith, a .2, b .2)) e₃ in
-    let h₃ : AllBytes s₃ = after-bytes (exprBytes x) s₃ s₂ (l .bytes) h₂ in
-    step (expression Wide n₃ s₃) _ f₃ (λ y n₄ s₄ e₄ f₄.
-    let r : ExprBack n₃ n₄ s₃ s₄ y = expr-back n₃ n₄ s₃ s₄ y h₃ (l .few) e₄ in
-    let h₄ : AllBytes s₄ = after-bytes (exprBytes y) s₄ s₃ (r .bytes) h₃ in
-    step (expression Wide n₄ s₄) _ f₄ (λ d n₅ s₅ e₅ f₅.
-    let z : ExprBack n₄ n₅ s₄ s₅ d = expr-back n₄ n₅ s₄ s₅ d h₄ (r .few) e₅ in
+    byte-step 4 n s _ h eq (λ form n₁ s₁ a h₁ f₁.
+    side-step 2 n₁ s₁ _ (lit≤ tt) h₁ f₁ (λ side n₂ s₂ b h₂ f₂.
+    expr-step n₂ s₂ _ h₂ (omega (arith, a .2, b .2)) f₂ (λ x n₃ s₃ l h₃ f₃.
+    expr-step n₃ s₃ _ h₃ (l .few) f₃ (λ y n₄ s₄ r h₄ f₄.
+    expr-step n₄ s₄ _ h₄ (r .few) f₄ (λ d n₅ s₅ z h₅ f₅.
     given (λ q m t. PredicateBack n m 0x12 s t q) (distance form side x y d) p n₅ m s₅ t f₅ (record {
       bytes = ap (λ (q : List ℕ). 0x12 ∷ q) (a .0 ∙ ap (λ (q : List ℕ). form ∷ q) (b .0 ∙ ap (λ (q : List ℕ). sideNumber side ∷ q)
-          (join (exprBytes x) (exprBytes y ++ exprBytes d) s₂ s₃ s₅ (l .bytes) (join (exprBytes y) (exprBytes d) s₃ s₄ s₅ (r .bytes) (z .bytes)))));
+          (join (exprBytes x) (exprBytes y ++ exprBytes d) s₂ s₃ s₅ (l .bytes)
+          (join (exprBytes y) (exprBytes d) s₃ s₄ s₅ (r .bytes) (z .bytes)))));
       readable = (a .1, readable n₂ n₃ s₂ s₃ x l, readable n₃ n₄ s₃ s₄ y r, readable n₄ n₅ s₄ s₅ d z);
       counted = omega (arith, a .2, b .2, l .counted, r .counted, z .counted);
       few = z .few;
     }))))))
 
-knn-back : (n m : ℕ) (s t : List ℕ) (p : Predicate) → AllBytes s → n ≤ 1024 → knnPredicate n s ≡ read p m t → PredicateBack n m 0x13 s t p
+knn-back : (n m : ℕ) (s t : List ℕ) (p : Predicate) → AllBytes s → n ≤ 1024 → knnPredicate n s ≡ read p m t
+    → PredicateBack n m 0x13 s t p
 unfolding knnPredicate argument predicateKind predicateFields predicateNodes
 knn-back n m s t p h k eq =
     step (number 4 n s) _ eq (λ c n₁ s₁ e₁ f₁.
     let a : (s ≡ bigEndian 4 c ++ s₁) × (c < 256 ^ 4) × (n₁ ≡ n) = number-back 4 n n₁ c s s₁ h e₁ in
-    let h₁ : AllBytes s₁ = after-bytes (bigEndian 4 c) s₁ s (a .0) h in
-    step (byteUpTo 1 n₁ s₁) _ f₁ (λ sp n₂ s₂ e₂ f₂.
-    let b : (s₁ ≡ sp ∷ s₂) × (sp ≤ 1) × (n₂ ≡ n₁) = byte-up-to-back 1 n₁ n₂ sp s₁ s₂ e₂ in
-    let h₂ : AllBytes s₂ = after-bytes (sp ∷ []) s₂ s₁ (b .0) h₁ in
-    step (sideUpTo 1 n₂ s₂) _ f₂ (λ probe n₃ s₃ e₃ f₃.
-    let d : (s₂ ≡ sideNumber probe ∷ s₃) × (sideNumber probe ≤ 1) × (n₃ ≡ n₂) = side-back 1 n₂ n₃ s₂ s₃ probe (lit≤ tt) e₃ in
-    let h₃ : AllBytes s₃ = after-bytes (sideNumber probe ∷ []) s₃ s₂ (d .0) h₂ in
-    step (byteUpTo 2 n₃ s₃) _ f₃ (λ ties n₄ s₄ e₄ f₄.
-    let g : (s₃ ≡ ties ∷ s₄) × (ties ≤ 2) × (n₄ ≡ n₃) = byte-up-to-back 2 n₃ n₄ ties s₃ s₄ e₄ in
-    let h₄ : AllBytes s₄ = after-bytes (ties ∷ []) s₄ s₃ (g .0) h₃ in
-    step (expression Wide n₄ s₄) _ f₄ (λ x n₅ s₅ e₅ f₅.
-    let l : ExprBack n₄ n₅ s₄ s₅ x = expr-back n₄ n₅ s₄ s₅ x h₄ (omega (arith, a .2, b .2, d .2, g .2)) e₅ in
-    let h₅ : AllBytes s₅ = after-bytes (exprBytes x) s₅ s₄ (l .bytes) h₄ in
-    step (expression Wide n₅ s₅) _ f₅ (λ y n₆ s₆ e₆ f₆.
-    let r : ExprBack n₅ n₆ s₅ s₆ y = expr-back n₅ n₆ s₅ s₆ y h₅ (l .few) e₆ in
+    byte-step 1 n₁ s₁ _ (after-bytes (bigEndian 4 c) s₁ s (a .0) h) f₁ (λ sp n₂ s₂ b h₂ f₂.
+    side-step 1 n₂ s₂ _ (lit≤ tt) h₂ f₂ (λ probe n₃ s₃ d h₃ f₃.
+    byte-step 2 n₃ s₃ _ h₃ f₃ (λ ties n₄ s₄ g h₄ f₄.
+    expr-step n₄ s₄ _ h₄ (omega (arith, a .2, b .2, d .2, g .2)) f₄ (λ x n₅ s₅ l h₅ f₅.
+    expr-step n₅ s₅ _ h₅ (l .few) f₅ (λ y n₆ s₆ r h₆ f₆.
     given (λ q m t. PredicateBack n m 0x13 s t q) (knn c sp probe ties x y) p n₆ m s₆ t f₆ (record {
       bytes = ap (λ (q : List ℕ). 0x13 ∷ q)
           (join (bigEndian 4 c) (sp ∷ sideNumber probe ∷ ties ∷ (exprBytes x ++ exprBytes y)) s s₁ s₆ (a .0)
@@ -285,15 +144,21 @@ knn-back n m s t p h k eq =
 
 predicate-kind-back : (n m kind : ℕ) (s t : List ℕ) (p : Predicate) → AllBytes s → n ≤ 1024 → (b1 b2 b3 : Bool)
     → eqb kind 0x11 ≡ b1 → eqb kind 0x12 ≡ b2 → eqb kind 0x13 ≡ b3
-    → (if b1 then relationPredicate else if b2 then distancePredicate else if b3 then knnPredicate else refuse 2) n s ≡ read p m t → PredicateBack n m kind s t p
-predicate-kind-back n m kind s t p h k true b2 b3 e1 e2 e3 eq = subst (λ (x : ℕ). PredicateBack n m x s t p) (sym (eqb-true kind 0x11 e1)) (relation-back n m s t p h k eq)
-predicate-kind-back n m kind s t p h k false true b3 e1 e2 e3 eq = subst (λ (x : ℕ). PredicateBack n m x s t p) (sym (eqb-true kind 0x12 e2)) (distance-back n m s t p h k eq)
-predicate-kind-back n m kind s t p h k false false true e1 e2 e3 eq = subst (λ (x : ℕ). PredicateBack n m x s t p) (sym (eqb-true kind 0x13 e3)) (knn-back n m s t p h k eq)
+    → (if b1 then relationPredicate else if b2 then distancePredicate else if b3 then knnPredicate else refuse 2) n s ≡ read p m t
+    → PredicateBack n m kind s t p
+predicate-kind-back n m kind s t p h k true b2 b3 e1 e2 e3 eq =
+    subst (λ (x : ℕ). PredicateBack n m x s t p) (sym (eqb-true kind 0x11 e1)) (relation-back n m s t p h k eq)
+predicate-kind-back n m kind s t p h k false true b3 e1 e2 e3 eq =
+    subst (λ (x : ℕ). PredicateBack n m x s t p) (sym (eqb-true kind 0x12 e2)) (distance-back n m s t p h k eq)
+predicate-kind-back n m kind s t p h k false false true e1 e2 e3 eq =
+    subst (λ (x : ℕ). PredicateBack n m x s t p) (sym (eqb-true kind 0x13 e3)) (knn-back n m s t p h k eq)
 predicate-kind-back n m kind s t p h k false false false e1 e2 e3 eq = absurd (stopped-not-read 2 p m t eq)
 
-predicate-back : (n m kind : ℕ) (s t : List ℕ) (p : Predicate) → AllBytes s → n ≤ 1024 → predicateOfKind kind n s ≡ read p m t → PredicateBack n m kind s t p
+predicate-back : (n m kind : ℕ) (s t : List ℕ) (p : Predicate) → AllBytes s → n ≤ 1024 → predicateOfKind kind n s ≡ read p m t
+    → PredicateBack n m kind s t p
 unfolding predicateOfKind
-predicate-back n m kind s t p h k eq = predicate-kind-back n m kind s t p h k (eqb kind 0x11) (eqb kind 0x12) (eqb kind 0x13) refl refl refl eq
+predicate-back n m kind s t p h k eq =
+    predicate-kind-back n m kind s t p h k (eqb kind 0x11) (eqb kind 0x12) (eqb kind 0x13) refl refl refl eq
 
 -- What is known of a remainder that was read.
 record RemainderBack (n m : ℕ) (s t : List ℕ) (R : Option Frame) : Type 0 where
@@ -302,7 +167,8 @@ record RemainderBack (n m : ℕ) (s t : List ℕ) (R : Option Frame) : Type 0 wh
   counted : m ≡ n + remainderNodes R
   few : m ≤ 1024
 
-some-back : (n m : ℕ) (s t : List ℕ) (R : Option Frame) → AllBytes s → n ≤ 1024 → someRemainder n s ≡ read R m t → RemainderBack n m (1 ∷ s) t R
+some-back : (n m : ℕ) (s t : List ℕ) (R : Option Frame) → AllBytes s → n ≤ 1024 → someRemainder n s ≡ read R m t
+    → RemainderBack n m (1 ∷ s) t R
 unfolding someRemainder remainderBytes remainderNodes frameBytes frameFields
 some-back n m s t R h k eq =
     step (frameBody n s) _ eq (λ F n₁ s₁ e₁ f₁.
@@ -318,9 +184,11 @@ some-back n m s t R h k eq =
 none-back : (n m : ℕ) (s t : List ℕ) (R : Option Frame) → n ≤ 1024 → read none n s ≡ read R m t → RemainderBack n m (0 ∷ s) t R
 unfolding remainderBytes remainderNodes
 none-back n m s t R k eq =
-    given (λ x m t. RemainderBack n m (0 ∷ s) t x) none R n m s t eq (record { bytes = refl; readable = tt; counted = omega arith; few = k })
+    given (λ x m t. RemainderBack n m (0 ∷ s) t x) none R n m s t eq
+    (record { bytes = refl; readable = tt; counted = omega arith; few = k })
 
-remainder-kind-back : (n m kind : ℕ) (s t : List ℕ) (R : Option Frame) → AllBytes s → n ≤ 1024 → (b1 b2 : Bool) → eqb kind 0 ≡ b1 → eqb kind 1 ≡ b2
+remainder-kind-back : (n m kind : ℕ) (s t : List ℕ) (R : Option Frame) → AllBytes s → n ≤ 1024 → (b1 b2 : Bool) → eqb kind 0 ≡ b1
+    → eqb kind 1 ≡ b2
     → (if b1 then give none else if b2 then someRemainder else refuse 4) n s ≡ read R m t → RemainderBack n m (kind ∷ s) t R
 remainder-kind-back n m kind s t R h k true b2 e1 e2 eq =
     subst (λ (x : ℕ). RemainderBack n m (x ∷ s) t R) (sym (eqb-true kind 0 e1)) (none-back n m s t R k eq)
@@ -334,7 +202,8 @@ remainder-back n m s t R h k eq =
     step (firstByte n s) _ eq (λ kind n₁ s₁ e₁ f₁.
     let a : (s ≡ kind ∷ s₁) × (n₁ ≡ n) = byte-back n n₁ kind s s₁ e₁ in
     subst (λ (x : ℕ). RemainderBack x m s t R) (a .1) (subst (λ (x : List ℕ). RemainderBack n₁ m x t R) (sym (a .0))
-    (remainder-kind-back n₁ m kind s₁ t R (after-bytes (kind ∷ []) s₁ s (a .0) h) (omega (arith, a .1)) (eqb kind 0) (eqb kind 1) refl refl f₁)))
+    (remainder-kind-back n₁ m kind s₁ t R (after-bytes (kind ∷ []) s₁ s (a .0) h) (omega (arith, a .1)) (eqb kind 0)
+    (eqb kind 1) refl refl f₁)))
 
 -- What is known of an extraction that was read.
 record ExtractionBack (n m first : ℕ) (s t : List ℕ) (X : Extraction) : Type 0 where
@@ -343,14 +212,16 @@ record ExtractionBack (n m first : ℕ) (s t : List ℕ) (X : Extraction) : Type
   counted : m ≡ n + planNodes (extracted X)
   few : m ≤ 1024
 
-extraction-body-back : (n m first : ℕ) (s t : List ℕ) (X : Extraction) → AllBytes (first ∷ s) → n ≤ 1024 → extractionBody first n s ≡ read X m t
+extraction-body-back : (n m first : ℕ) (s t : List ℕ) (X : Extraction) → AllBytes (first ∷ s) → n ≤ 1024
+    → extractionBody first n s ≡ read X m t
     → ExtractionBack n m first s t X
 unfolding extractionBody extractionBytes planNodes
 extraction-body-back n m first s t X h k eq =
     step (predicateOfKind first n s) _ eq (λ p n₁ s₁ e₁ f₁.
     let a : PredicateBack n n₁ first s s₁ p = predicate-back n n₁ first s s₁ p (h .1) k e₁ in
     step (remainder n₁ s₁) _ f₁ (λ R n₂ s₂ e₂ f₂.
-    let b : RemainderBack n₁ n₂ s₁ s₂ R = remainder-back n₁ n₂ s₁ s₂ R (after-bytes (predicateKind p ∷ predicateFields p) s₁ (first ∷ s) (a .bytes) h) (a .few) e₂ in
+    let b : RemainderBack n₁ n₂ s₁ s₂ R =
+    remainder-back n₁ n₂ s₁ s₂ R (after-bytes (predicateKind p ∷ predicateFields p) s₁ (first ∷ s) (a .bytes) h) (a .few) e₂ in
     given (λ x m t. ExtractionBack n m first s t x) (record { predicate = p; remainder = R }) X n₂ m s₂ t f₂ (record {
       bytes = join (predicateKind p ∷ predicateFields p) (remainderBytes R) (first ∷ s) s₁ s₂ (a .bytes) (b .bytes);
       readable = (a .readable, b .readable);
@@ -369,41 +240,33 @@ whole-back s X m t h e =
     step (firstByte 0 s) _ e₁ (λ first n₁ s₁ e₂ f₁.
     let a : (s ≡ first ∷ s₁) × (n₁ ≡ 0) = byte-back 0 n₁ first s s₁ e₂ in
     step (extractionBody first n₁ s₁) _ f₁ (λ Y n₂ s₂ e₃ f₂.
-    let b : ExtractionBack n₁ n₂ first s₁ s₂ Y = extraction-body-back n₁ n₂ first s₁ s₂ Y (subst AllBytes (a .0) h) (omega (arith, a .1)) e₃ in
+    let b : ExtractionBack n₁ n₂ first s₁ s₂ Y =
+    extraction-body-back n₁ n₂ first s₁ s₂ Y (subst AllBytes (a .0) h) (omega (arith, a .1)) e₃ in
     ended n₂ s₂ _ f₂ (λ none f₃.
-    let same : s ≡ extractionBytes Y = a .0 ∙ b .bytes ∙ ap (λ (y : List ℕ). extractionBytes Y ++ y) none ∙ append-nil (extractionBytes Y) in
-    given (λ x m t. GoodBytes s x) Y X n₂ m s₂ t f₃ (
-      same,
-      record {
-        readable = b .readable;
-        fewNodes = omega (arith, b .counted, b .few);
-        fewBytes = subst (λ (x : List ℕ). length x ≤ 16384) same few;
-      },
-    )))))
+    given (λ x m t. GoodBytes s x) Y X n₂ m s₂ t f₃ (whole-plan s (extracted Y) few
+    (a .0 ∙ b .bytes ∙ ap (λ (y : List ℕ). extractionBytes Y ++ y) none ∙ append-nil (extractionBytes Y))
+    (b .readable) (omega (arith, b .counted, b .few)))))))
 
 -- Bytes that are a good extraction are that extraction's bytes.
 pub extraction-back : (s : List ℕ) (X : Extraction) → AllBytes s → extractionOf s ≡ ok X → GoodBytes s X
 unfolding extractionOf
-extraction-back s X h e =
-    let a : (m : ℕ) × (t : List ℕ) × (wholeExtraction 0 s ≡ read X m t) = answer-back (wholeExtraction 0 s) X e in
-    whole-back s X (a .0) (a .1) h (a .2)
+extraction-back s X h e = let (m, t, is) = answer-back (wholeExtraction 0 s) X e in whole-back s X m t h is
 
 -- ---- plans
-
-abbrev PlanBack : List ℕ → Plan → Type 0
-PlanBack s p = (s ≡ planBytes p) × GoodPlan p
 
 held-result : (s : List ℕ) (p : Plan) → AllBytes s → (r : Result Frame) → frameOf s ≡ r → mapResult held r ≡ ok p → PlanBack s p
 unfolding planBytes
 held-result s p h (ok F) e q = subst (PlanBack s) (same-ok (held F) p q) (frame-back s F h e)
 held-result s p h (refused k) e q = absurd (refused-not-ok k p q)
 
-extracted-result : (s : List ℕ) (p : Plan) → AllBytes s → (r : Result Extraction) → extractionOf s ≡ r → mapResult extracted r ≡ ok p → PlanBack s p
+extracted-result : (s : List ℕ) (p : Plan) → AllBytes s → (r : Result Extraction) → extractionOf s ≡ r → mapResult extracted r ≡ ok p
+    → PlanBack s p
 unfolding planBytes
 extracted-result s p h (ok X) e q = subst (PlanBack s) (same-ok (extracted X) p q) (extraction-back s X h e)
 extracted-result s p h (refused k) e q = absurd (refused-not-ok k p q)
 
-plan-test : (s : List ℕ) (p : Plan) → AllBytes s → (b : Bool) → (if b then mapResult held (frameOf s) else mapResult extracted (extractionOf s)) ≡ ok p → PlanBack s p
+plan-test : (s : List ℕ) (p : Plan) → AllBytes s → (b : Bool)
+    → (if b then mapResult held (frameOf s) else mapResult extracted (extractionOf s)) ≡ ok p → PlanBack s p
 plan-test s p h true e = held-result s p h (frameOf s) refl e
 plan-test s p h false e = extracted-result s p h (extractionOf s) refl e
 

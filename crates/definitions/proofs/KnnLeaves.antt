@@ -7,7 +7,7 @@ use Rattle.definitions.specs.Basics.{ascii, sameName}
 use Rattle.definitions.specs.Expression.{Side, noSide, Relation, Expr, call, Exprs, nil, cons, Record, Predicate, relation, distance, knn}
 use Rattle.definitions.specs.Leaves.{relationNamed}
 use Rattle.definitions.specs.Match.{Order, leftRight, rightLeft, noOrder, Request, askRelation, askDistance, askKnn, askNothing, relationRequest, dwithinRequest, knnRequest, callRequest, request, ArgumentSide, noColumns, allOn, mixed, matchRelation, storeDistance, matchDistance, matchKnn, matchRequest, matchLeaf}
-use Rattle.definitions.proofs.Requests.{by-test, same-name}
+use Rattle.definitions.proofs.Tools.{by-test, same-name}
 
 module _ (Q : (k spheroid ties : ℕ) → Type 0) where
   -- If KNN is asked for, it has the property; if KNN matched.

@@ -17,7 +17,8 @@ use Rattle.definitions.specs.Machine.{Kind, extractCall, exchangeCall}
 use Rattle.definitions.specs.Sessions.{make}
 use Rattle.definitions.specs.Good.{AllBytes, GoodPlan}
 use Rattle.definitions.specs.Claims.{LengthsShort}
-use Rattle.definitions.proofs.InversePlan.{refused-not-ok, same-ok, frame-back, plan-back}
+use Rattle.definitions.proofs.InverseFrame.{refused-not-ok, same-ok, frame-back}
+use Rattle.definitions.proofs.InversePlan.{plan-back}
 use Rattle.definitions.proofs.ExtractGood.{GoodExtraction, extraction-good}
 use Rattle.definitions.proofs.ExchangeGood.{exchange-good}
 
@@ -46,7 +47,8 @@ loaded-short n buffer (refused number) h e = absurd (refused-not-ok _ _ e)
 
 -- ---- extract and exchange
 
-finish-short : (n : ℕ) (buffer scratch : List ℕ) (x : Result (List ℕ)) {m : ℕ} → Short x → finish n buffer scratch x .answer ≡ ok m → m ≤ 16384
+finish-short : (n : ℕ) (buffer scratch : List ℕ) (x : Result (List ℕ)) {m : ℕ} → Short x → finish n buffer scratch x .answer ≡ ok m
+    → m ≤ 16384
 unfolding finish
 finish-short n buffer scratch (ok bytes) h e = subst (λ k. k ≤ 16384) (same-ok _ _ e) h
 finish-short n buffer scratch (refused number) h e = absurd (refused-not-ok _ _ e)
@@ -81,18 +83,22 @@ extracted-short F none g = tt
 extract-short : (n room : ℕ) (r : Result Plan) → Good r → Short (newAfterExtract n room r)
 unfolding newAfterExtract
 extract-short n room (ok empty) g = tt
-extract-short n room (ok (held F)) g = if-short (leb n room) (matchedBytes (extraction F)) 9 (extracted-short F (extraction F) (extraction-good F g))
+extract-short n room (ok (held F)) g =
+    if-short (leb n room) (matchedBytes (extraction F)) 9 (extracted-short F (extraction F) (extraction-good F g))
 extract-short n room (ok (extracted X)) g = tt
 extract-short n room (refused number) g = tt
 
 exchange-short : (n room : ℕ) (r : Result Plan) → Good r → Short (newAfterExchange n room r)
 unfolding newAfterExchange
 exchange-short n room (ok empty) g = tt
-exchange-short n room (ok (held F)) g = if-short (leb n room) (ok (planBytes (exchangePlan (held F)))) 9 (exchange-good (held F) g .fewBytes)
-exchange-short n room (ok (extracted X)) g = if-short (leb n room) (ok (planBytes (exchangePlan (extracted X)))) 9 (exchange-good (extracted X) g .fewBytes)
+exchange-short n room (ok (held F)) g =
+    if-short (leb n room) (ok (planBytes (exchangePlan (held F)))) 9 (exchange-good (held F) g .fewBytes)
+exchange-short n room (ok (extracted X)) g =
+    if-short (leb n room) (ok (planBytes (exchangePlan (extracted X)))) 9 (exchange-good (extracted X) g .fewBytes)
 exchange-short n room (refused number) g = tt
 
-make-short : (kind : Kind) (n : ℕ) (buffer scratch : List ℕ) {m : ℕ} → AllBytes buffer → make kind n buffer scratch .answer ≡ ok m → m ≤ 16384
+make-short : (kind : Kind) (n : ℕ) (buffer scratch : List ℕ) {m : ℕ} → AllBytes buffer → make kind n buffer scratch .answer ≡ ok m
+    → m ≤ 16384
 unfolding make extract exchange
 make-short extractCall n buffer scratch bytes e =
     finish-short n buffer scratch _ (extract-short n (length scratch) _ (held-good n buffer bytes)) e

@@ -1,4 +1,5 @@
 -- The theorems about the definitions, and the laws that they use.
+pub mod Tools
 pub mod ReaderLaws
 pub mod Everything
 pub mod Table
@@ -9,10 +10,19 @@ pub mod ExchangeGood
 pub mod Columns
 pub mod Taken
 pub mod Requests
+pub mod MatchTurns
+pub mod MatchFits
+pub mod Values
+pub mod MatchAsks
+pub mod MatchMeans
+pub mod MatchLaws
+pub mod OnlyIf
+pub mod ExtractExchange
 pub mod Pick
 pub mod ExtractGood
 pub mod Lists
 pub mod Inverse
+pub mod InverseFrame
 pub mod InversePlan
 pub mod ListTheorem
 pub mod Lengths

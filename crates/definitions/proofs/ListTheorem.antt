@@ -18,7 +18,7 @@ use Rattle.definitions.specs.Good.{AllBytes}
 use Rattle.definitions.specs.Sessions.{Made, machineAfter, accepted, Session, after}
 use Rattle.definitions.specs.Claims.{LoadAccepted, LoadHolds, ListOfCalls}
 use Rattle.definitions.proofs.RoundTripPlan.{frame-reads}
-use Rattle.definitions.proofs.InversePlan.{frame-back}
+use Rattle.definitions.proofs.InverseFrame.{frame-back}
 use Rattle.definitions.proofs.Lists.{Holds, AgreesAll, run-agrees}
 
 module _ (frame : List ℕ) (n : ℕ) (buffer : List ℕ) where
@@ -100,7 +100,8 @@ list-theorem F s calls =
 -- ---- when a load is accepted
 
 -- Whether the buffer has room decides, once the frame is read.
-room-decides : (frame : List ℕ) (n : ℕ) (buffer : List ℕ) (b : Bool) → accepted (finishLoad n buffer (if b then ok frame else refused 9) .answer) ≡ b
+room-decides : (frame : List ℕ) (n : ℕ) (buffer : List ℕ) (b : Bool)
+    → accepted (finishLoad n buffer (if b then ok frame else refused 9) .answer) ≡ b
 unfolding accepted finishLoad
 room-decides frame n buffer true = refl
 room-decides frame n buffer false = refl

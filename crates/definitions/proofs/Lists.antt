@@ -19,7 +19,8 @@ use Rattle.definitions.specs.Calls.{Outcome, writtenOver, finish, heldPl
 use Rattle.definitions.specs.Machine.{Kind, extractCall, exchangeCall, Bits, extractionOr, machinePlan, machineLength, Step, refuseStep, acceptStep, takeStep, machineStep, Run, machineRun}
 use Rattle.definitions.specs.Sessions.{Made, fed, make, ListOutcome, callsRun}
 use Rattle.definitions.specs.Good.{GoodPlan}
-use Rattle.definitions.proofs.Exchange.{plan-twice, extraction-exchange}
+use Rattle.definitions.proofs.Exchange.{plan-twice}
+use Rattle.definitions.proofs.ExtractExchange.{extraction-exchange}
 use Rattle.definitions.proofs.ExchangeGood.{plan-as-long, exchange-good}
 use Rattle.definitions.proofs.ExtractGood.{GoodExtraction, extraction-good}
 use Rattle.definitions.proofs.RoundTripPlan.{plan-reads}
@@ -81,7 +82,8 @@ plan-size : (F : Frame) (b : Bits) (n : ℕ) (buffer : List ℕ) → Holds F b n
 unfolding machineLength
 plan-size F b n buffer h = h .size
 
-pub held-plan : (F : Frame) (e o : Bool) (n : ℕ) (buffer : List ℕ) → GoodPlan (held F) → Holds F (bits e o) n buffer → heldPlan n buffer ≡ ok (machinePlan F (bits e o))
+pub held-plan : (F : Frame) (e o : Bool) (n : ℕ) (buffer : List ℕ) → GoodPlan (held F) → Holds F (bits e o) n buffer
+    → heldPlan n buffer ≡ ok (machinePlan F (bits e o))
 unfolding heldPlan
 held-plan F e o n buffer g h =
     ap (λ (b : Bool). if b then planOf (take n buffer) else refused 10) (le-leb n (length buffer) (h .fits))
@@ -100,7 +102,8 @@ unfolding refuseStep finish
 refuses F b n buffer scratch number h = record { answer = refl; holds = h }
 
 -- A new plan that fits is written.
-accepts : (F : Frame) (b : Bits) (n : ℕ) (buffer scratch new : List ℕ) → Reached F (b .isExtracted) → new ≡ planBytes (machinePlan F b) → length new ≤ length buffer
+accepts : (F : Frame) (b : Bits) (n : ℕ) (buffer scratch new : List ℕ) → Reached F (b .isExtracted) → new ≡ planBytes (machinePlan F b)
+    → length new ≤ length buffer
     → Agrees F (acceptStep F b) (finish n buffer scratch (ok new))
 unfolding acceptStep finish writtenOver machineLength
 accepts F b n buffer scratch new r e f = record {
@@ -138,7 +141,8 @@ plan-not-empty F true false = base-not-empty F (extraction F)
 plan-not-empty F false true = exchange-not-empty _ tt
 plan-not-empty F false false = tt
 
-exchange-bytes : (n room : ℕ) (p : Plan) → NotEmpty p → newAfterExchange n room (ok p) ≡ (if leb n room then ok (planBytes (exchangePlan p)) else refused 9)
+exchange-bytes : (n room : ℕ) (p : Plan) → NotEmpty p
+    → newAfterExchange n room (ok p) ≡ (if leb n room then ok (planBytes (exchangePlan p)) else refused 9)
 unfolding newAfterExchange
 exchange-bytes n room empty h = absurd h
 exchange-bytes n room (held F) h = refl
@@ -165,7 +169,8 @@ exchange-step F e o n buffer scratch g h =
 -- ---- extract
 
 -- An extracted plan is refused with 12.
-extract-again : (n room : ℕ) (X : Extraction) (o : Bool) → newAfterExtract n room (ok (if o then extracted (exchangeExtraction X) else extracted X)) ≡ refused 12
+extract-again : (n room : ℕ) (X : Extraction) (o : Bool)
+    → newAfterExtract n room (ok (if o then extracted (exchangeExtraction X) else extracted X)) ≡ refused 12
 unfolding newAfterExtract
 extract-again n room X true = refl
 extract-again n room X false = refl
@@ -193,7 +198,8 @@ unfolding takeStep matchedBytes planBytes exchangePlan
 take-step F true n buffer scratch g h none e k = refuses F (bits false true) n buffer scratch 13 h
 take-step F false n buffer scratch g h none e k = refuses F (bits false false) n buffer scratch 13 h
 take-step F true n buffer scratch g h (some X) e k =
-    accepts F (bits true true) n buffer scratch (planBytes (extracted (exchangeExtraction X))) (X, e) (ap planBytes (sym (plan-extracted F X true e)))
+    accepts F (bits true true) n buffer scratch (planBytes (extracted (exchangeExtraction X))) (X, e)
+    (ap planBytes (sym (plan-extracted F X true e)))
     (omega (arith, plan-as-long (extracted X), k .1, plan-size F (bits false true) n buffer h, held-length F true, h .fits))
 take-step F false n buffer scratch g h (some X) e k =
     accepts F (bits true false) n buffer scratch (planBytes (extracted X)) (X, e) (ap planBytes (sym (plan-extracted F X false e)))
@@ -210,11 +216,16 @@ extract-step : (F : Frame) (e o : Bool) (n : ℕ) (buffer scratch : List ℕ) �
     → Agrees F (machineStep F (bits e o) extractCall (length scratch)) (extract n buffer scratch)
 unfolding extract machineStep swapped-extraction
 extract-step F true o n buffer scratch g h =
-    rw (held-plan F true o n buffer g h, plan-extracted F (h .reached .0) o (h .reached .1), extract-again n (length scratch) (h .reached .0) o)
+    rw (
+      held-plan F true o n buffer g h,
+      plan-extracted F (h .reached .0) o (h .reached .1),
+      extract-again n (length scratch) (h .reached .0) o,
+    )
     (refuses F (bits true o) n buffer scratch 12 h)
 extract-step F false o n buffer scratch g h =
     rw (held-plan F false o n buffer g h, plan-held F o, extract-held n (length scratch) F o, ← (h .size))
-    (extract-room F o n buffer scratch (leb n (length scratch)) h (take-step F o n buffer scratch g h (extraction F) refl (extraction-good F g)))
+    (extract-room F o n buffer scratch (leb n (length scratch)) h
+    (take-step F o n buffer scratch g h (extraction F) refl (extraction-good F g)))
 
 -- ---- lists of calls
 
@@ -234,6 +245,8 @@ pub run-agrees : (F : Frame) → GoodPlan (held F) → (calls : List Made) (b : 
 unfolding machineRun callsRun fed
 run-agrees F g [] b n buffer h = record { answers = refl; holds = h }
 run-agrees F g (c ∷ cs) b n buffer h =
-    let one : Agrees F (machineStep F b (c .kind) (length (c .scratch))) (make (c .kind) n buffer (c .scratch)) = step-agrees F b (c .kind) n buffer (c .scratch) g h in
-    let after : AgreesAll F (machineRun F (machineStep F b (c .kind) (length (c .scratch)) .bits) (map fed cs)) _ = run-agrees F g cs _ _ _ (one .holds) in
+    let one : Agrees F (machineStep F b (c .kind) (length (c .scratch))) (make (c .kind) n buffer (c .scratch)) =
+    step-agrees F b (c .kind) n buffer (c .scratch) g h in
+    let after : AgreesAll F (machineRun F (machineStep F b (c .kind) (length (c .scratch)) .bits) (map fed cs)) _ =
+    run-agrees F g cs _ _ _ (one .holds) in
     record { answers = ap₂ (λ (a : Result ℕ) (l : List (Result ℕ)). a ∷ l) (one .answer) (after .answers); holds = after .holds }

@@ -1,4 +1,4 @@
--- A plan after an accepted extract is the frame's one extraction, exchanged or not, and whether there is one hangs on the frame alone: so two machines agree.
+-- A plan after an accepted extract is the frame's one extraction, exchanged or not, if it has one: so two machines agree.
 use Prim.Native.Nat.{ℕ, _≤_}
 use native.Mathlib.Omega.{arith}
 use mathlib.Core.Path.{_≡_, refl, sym, ap, _∙_, subst}
@@ -16,8 +16,8 @@ use Rattle.definitions.specs.Exchange.{exchangePredicate, exchangeExtrac
 use Rattle.definitions.specs.Calls.{Outcome}
 use Rattle.definitions.specs.Machine.{extractCall, Bits, machinePlan, machineLength, refuseStep, acceptStep, takeStep, machineStep}
 use Rattle.definitions.specs.Sessions.{Made, extractWith, make, callsRun, machineAfter, accepted, isExtract, extractAccepted, Session, lengthAfter, planAfter, extractedIn, oddIn, answerAfter}
-use Rattle.definitions.specs.Claims.{extractedPlan, ExtractTakes, priceLine, OnLine, PriceLineOfCalls, PriceLineStays, PriceLineExchanged, SameLeaf, SameRefusal, NeverMixed}
-use Rattle.definitions.proofs.Exchange.{extraction-exchange}
+use Rattle.definitions.specs.Claims.{someLeafMatches, extractedPlan, ExtractTakes, priceLine, OnLine, PriceLineOfCalls, PriceLineStays, PriceLineExchanged, SameLeaf, SameRefusal, NeverMixed}
+use Rattle.definitions.proofs.ExtractExchange.{extraction-exchange}
 use Rattle.definitions.proofs.Pick.{took, Matched, matched}
 use Rattle.definitions.proofs.Lists.{Reached, Holds, bits, plan-extracted}
 use Rattle.definitions.proofs.ListTheorem.{after-all}
@@ -133,7 +133,8 @@ pub same-refusal : SameRefusal
 same-refusal F s t before before′ scratch scratch′ e h = must-say-13 t before′ scratch′ (says-13 s before scratch e) h
 
 -- A list that extracted has a frame with an extraction.
-none-extracted : {F : Frame} (t : Session F) (calls : List Made) (b : Bool) → extractedIn t calls ≡ b → extraction F ≡ none → extractedIn t calls ≡ false
+none-extracted : {F : Frame} (t : Session F) (calls : List Made) (b : Bool) → extractedIn t calls ≡ b → extraction F ≡ none
+    → extractedIn t calls ≡ false
 none-extracted t calls true e x = let z : _≡_ {A = ℕ} 0 1 = cc (reached t calls e .1) in absurd (omega arith)
 none-extracted t calls false e x = e
 
@@ -154,9 +155,11 @@ extracted-last n buffer (b ∷ bs) scratch a =
     ∙ or-true (isExtract (b .kind) && accepted (one .answer))
 
 -- With the extraction known.
-line-with : (F : Frame) (s : Session F) (before : List Made) (scratch : List ℕ) (x : Option Extraction) → extraction F ≡ x → Matched F x
+line-with : (F : Frame) (s : Session F) (before : List Made) (scratch : List ℕ) (x : Option Extraction) → extraction F ≡ x
+    → Matched (someLeafMatches F) x
     → extractedIn s before ≡ false → lengthAfter s before ≤ length scratch
-    → OnLine (Option·map (λ X. predicateKind (X .predicate)) x) (answerAfter s before (extractWith scratch)) (planAfter s (before ++ (extractWith scratch ∷ [])))
+    → OnLine (Option·map (λ X. predicateKind (X .predicate)) x) (answerAfter s before (extractWith scratch))
+    (planAfter s (before ++ (extractWith scratch ∷ [])))
 line-with F s before scratch none x m e h = must-say-13 s before scratch x h
 line-with F s before scratch (some X) x m e h =
     let taken : accepted (answerAfter s before (extractWith scratch)) ≡ true =

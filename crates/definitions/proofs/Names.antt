@@ -1,4 +1,4 @@
--- The tables of names hold by computation. The lowest binary digit of the mask says whether the first name is found, and half of the mask is the other names' mask.
+-- The mask's lowest binary digit says whether the first name is found, and its half is the other names' mask; the tables compute.
 use Prim.Native.Nat.{ℕ, _+_, _*_}
 use native.Mathlib.Omega.{arith}
 use mathlib.Core.Path.{_≡_, refl, sym, ap, ap₂, _∙_}

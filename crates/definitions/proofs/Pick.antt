@@ -6,12 +6,15 @@ use mathlib.Core.Path.{_≡_, refl, sym, ap, ap₂, _∙_, subst}
 use mathlib.Core.Bool.{Bool, true, false, _||_, or-true, false≢true}
 use mathlib.Core.List.{List, [], _∷_}
 use mathlib.Core.Option.{Option, none, some, Option·map}
-use lib.ListN.{length, getD}
+use lib.ListN.{length, getD, length-map}
 use Rattle.definitions.specs.Basics.{any}
-use Rattle.definitions.specs.Expression.{Frame, Predicate, Extraction}
+use Rattle.definitions.specs.Expression.{Expr, literal, Frame, Predicate, Extraction}
+use Rattle.definitions.specs.Leaves.{leaves}
 use Rattle.definitions.specs.Extract.{Pick, isKnn, later, firstMatch, firstOf, pick, without, prune, takePick, matchesOf, extraction}
-use Rattle.definitions.specs.Claims.{isMatch, someLeafMatches, isKnnMatch, matchAt, Took, PickExactly}
-use Rattle.definitions.proofs.Requests.{by-test}
+use Rattle.definitions.specs.Claims.{isMatch, someLeafMatches, isKnnMatch, matchAt, TookAmong, PickExactly}
+use Rattle.definitions.specs.Matchers.{Matcher, matchesBy}
+use Rattle.definitions.proofs.Tools.{by-test, mapped-at}
+use Rattle.definitions.proofs.Taken.{Taken, taken}
 
 -- Whether a leaf matches and passes a test.
 passes : (Predicate → Bool) → Option Predicate → Bool
@@ -29,13 +32,16 @@ module _ (test : Predicate → Bool) where
   abbrev First : List (Option Predicate) → Option Pick → Type 0
   First ms none = (i : ℕ) → passes test (getD ms i none) ≡ false
   First ms (some p) =
-      (p .position < length ms) × (getD ms (p .position) none ≡ some (p .predicate)) × (test (p .predicate) ≡ true) × NoneBelow ms (p .position)
+      (p .position < length ms) × (getD ms (p .position) none ≡ some (p .predicate)) × (test (p .predicate) ≡ true)
+      × NoneBelow ms (p .position)
 
-  none-below : (m : Option Predicate) (ms : List (Option Predicate)) (k : ℕ) → passes test m ≡ false → NoneBelow ms k → NoneBelow (m ∷ ms) (suc k)
+  none-below : (m : Option Predicate) (ms : List (Option Predicate)) (k : ℕ) → passes test m ≡ false → NoneBelow ms k
+      → NoneBelow (m ∷ ms) (suc k)
   none-below m ms k e h zero b = e
   none-below m ms k e h (suc i) b = h i (le-of-suc-le-suc b)
 
-  later-first : (m : Option Predicate) (ms : List (Option Predicate)) (p : Option Pick) → passes test m ≡ false → First ms p → First (m ∷ ms) (later p)
+  later-first : (m : Option Predicate) (ms : List (Option Predicate)) (p : Option Pick) → passes test m ≡ false → First ms p
+      → First (m ∷ ms) (later p)
   unfolding later
   later-first m ms none e h = λ i. none-below m ms (suc i) e (λ j _. h j) i (omega arith)
   later-first m ms (some p) e h = (omega (arith, h .0), h .1, h .2, none-below m ms (p .position) e (h .3))
@@ -54,11 +60,6 @@ module _ (test : Predicate → Bool) where
 abbrev pub taking : Frame → Pick → Extraction
 taking F p = record { predicate = p .predicate; remainder = Option·map (prune (F .records)) (without (p .position) (F .expr)) }
 
--- What the pick is; if there is none, no leaf matches.
-abbrev pub Picked : Frame → Option Pick → Type 0
-Picked F none = (i : ℕ) → matchAt F i ≡ none
-Picked F (some p) = (p .position < length (matchesOf F)) × Took F (taking F p) (p .position)
-
 no-match : (m : Option Predicate) → passes (λ p. true) m ≡ false → m ≡ none
 unfolding passes
 no-match none e = refl
@@ -69,53 +70,64 @@ unfolding passes isKnnMatch
 no-knn none e = refl
 no-knn (some p) e = e
 
-first-picked : (F : Frame) (p q : Option Pick) → First isKnn (matchesOf F) p → First (λ p. true) (matchesOf F) q → Picked F (firstOf p q)
-unfolding firstOf
-first-picked F none none h k = λ i. no-match (matchAt F i) (k i)
-first-picked F none (some q) h k = (
-  k .0,
-  record {
-    match = k .1;
-    rest = refl;
-    firstKnn = λ _ i _. no-knn (matchAt F i) (h i);
-    noKnn = λ _ i. no-knn (matchAt F i) (h i);
-    firstMatch = λ _ i b. no-match (matchAt F i) (k .3 i b);
-  },
-)
-first-picked F (some p) q h k = (
-  h .0,
-  record {
-    match = h .1;
-    rest = refl;
-    firstKnn = λ _ i b. no-knn (matchAt F i) (h .3 i b);
-    noKnn = λ e i. absurd (false≢true (sym e ∙ h .2));
-    firstMatch = λ e i b. absurd (false≢true (sym e ∙ h .2));
-  },
-)
+-- Whatever the matches of a frame's leaves are:
+module _ (ms : List (Option Predicate)) (F : Frame) where
+  -- What the pick is; if there is none, no leaf matches.
+  abbrev pub Picked : Option Pick → Type 0
+  Picked none = (i : ℕ) → matchAt ms i ≡ none
+  Picked (some p) = (p .position < length ms) × TookAmong ms F (taking F p) (p .position)
 
-pub picked : (F : Frame) → Picked F (pick (matchesOf F))
-unfolding pick
-picked F = first-picked F (firstMatch isKnn (matchesOf F)) (firstMatch (λ p. true) (matchesOf F)) (first-is isKnn (matchesOf F)) (first-is (λ p. true) (matchesOf F))
+  first-picked : (p q : Option Pick) → First isKnn ms p → First (λ p. true) ms q → Picked (firstOf p q)
+  unfolding firstOf
+  first-picked none none h k = λ i. no-match (matchAt ms i) (k i)
+  first-picked none (some q) h k = (
+    k .0,
+    record {
+      match = k .1;
+      rest = refl;
+      firstKnn = λ _ i _. no-knn (matchAt ms i) (h i);
+      noKnn = λ _ i. no-knn (matchAt ms i) (h i);
+      firstMatch = λ _ i b. no-match (matchAt ms i) (k .3 i b);
+    },
+  )
+  first-picked (some p) q h k = (
+    h .0,
+    record {
+      match = h .1;
+      rest = refl;
+      firstKnn = λ _ i b. no-knn (matchAt ms i) (h .3 i b);
+      noKnn = λ e i. absurd (false≢true (sym e ∙ h .2));
+      firstMatch = λ e i b. absurd (false≢true (sym e ∙ h .2));
+    },
+  )
 
-took-by : (F : Frame) (p : Option Pick) → Picked F p → (X : Extraction) → takePick F p ≡ some X → (position : ℕ) × Took F X position
-unfolding takePick
-took-by F none h X e = let z : _≡_ {A = ℕ} 0 1 = cc in absurd (omega arith)
-took-by F (some p) h X e =
-    let same : taking F p ≡ X = cc in
-    (p .position, subst (λ (Y : Extraction). Took F Y (p .position)) same (h .1))
+  pub picked : Picked (pick ms)
+  unfolding pick
+  picked = first-picked (firstMatch isKnn ms) (firstMatch (λ p. true) ms) (first-is isKnn ms) (first-is (λ p. true) ms)
 
--- Where nothing was taken, nothing was picked.
-untaken : (F : Frame) (p : Option Pick) → Picked F p → takePick F p ≡ none → (i : ℕ) → matchAt F i ≡ none
-unfolding takePick
-untaken F none h e = h
-untaken F (some p) h e = let z : _≡_ {A = ℕ} 0 1 = cc in absurd (omega arith)
+  took-by : (p : Option Pick) → Picked p → (X : Extraction) → takePick F p ≡ some X → (position : ℕ) × TookAmong ms F X position
+  unfolding takePick
+  took-by none h X e = let z : _≡_ {A = ℕ} 0 1 = cc in absurd (omega arith)
+  took-by (some p) h X e =
+      let same : taking F p ≡ X = cc in
+      (p .position, subst (λ (Y : Extraction). TookAmong ms F Y (p .position)) same (h .1))
+
+  -- Where nothing was taken, nothing was picked.
+  untaken : (p : Option Pick) → Picked p → takePick F p ≡ none → (i : ℕ) → matchAt ms i ≡ none
+  unfolding takePick
+  untaken none h e = h
+  untaken (some p) h e = let z : _≡_ {A = ℕ} 0 1 = cc in absurd (omega arith)
+
+  -- What is taken, and what it means that nothing is.
+  pub takes-by : (X : Extraction) → takePick F (pick ms) ≡ some X → (position : ℕ) × TookAmong ms F X position
+  takes-by = took-by (pick ms) picked
+
+  pub none-by : takePick F (pick ms) ≡ none → (i : ℕ) → matchAt ms i ≡ none
+  none-by = untaken (pick ms) picked
 
 pub took : PickExactly
 unfolding extraction
-took = (
-  λ F X e. took-by F (pick (matchesOf F)) (picked F) X e,
-  λ F e. untaken F (pick (matchesOf F)) (picked F) e,
-)
+took = (λ F. takes-by (matchesOf F) F, λ F. none-by (matchesOf F) F)
 
 -- ---- whether a leaf matches
 
@@ -130,16 +142,37 @@ any-some [] i p e = let z : _≡_ {A = ℕ} 0 1 = cc in absurd (omega arith)
 any-some (m ∷ ms) zero p e = ap (λ (x : Option Predicate). isMatch x || any isMatch ms) e
 any-some (m ∷ ms) (suc i) p e = ap (λ (b : Bool). isMatch m || b) (any-some ms i p e) ∙ or-true (isMatch m)
 
--- A frame has an extraction exactly when a leaf matches.
-abbrev pub Matched : Frame → Option Extraction → Type 0
-Matched F none = someLeafMatches F ≡ false
-Matched F (some X) = someLeafMatches F ≡ true
+-- Whether there is an extraction, as a test says.
+abbrev pub Matched : Bool → Option Extraction → Type 0
+Matched found none = found ≡ false
+Matched found (some X) = found ≡ true
 
-take-matched : (F : Frame) (p : Option Pick) → Picked F p → Matched F (takePick F p)
-unfolding takePick someLeafMatches
-take-matched F none h = any-none (matchesOf F) h
-take-matched F (some p) h = any-some (matchesOf F) (p .position) (p .predicate) (h .1 .match)
+-- There is one exactly when a leaf matches.
+take-matched : (ms : List (Option Predicate)) (F : Frame) (p : Option Pick) → Picked ms F p → Matched (any isMatch ms) (takePick F p)
+unfolding takePick
+take-matched ms F none h = any-none ms h
+take-matched ms F (some p) h = any-some ms (p .position) (p .predicate) (h .1 .match)
 
-pub matched : (F : Frame) → Matched F (extraction F)
-unfolding extraction
-matched F = take-matched F (pick (matchesOf F)) (picked F)
+pub matched : (F : Frame) → Matched (someLeafMatches F) (extraction F)
+unfolding extraction someLeafMatches
+matched F = take-matched (matchesOf F) F (pick (matchesOf F)) (picked (matchesOf F) F)
+
+-- ---- the leaf that is picked
+
+-- The leaf at a position; a literal stands for a position that is not there.
+pub leafAt : Frame → ℕ → Expr
+leafAt F i = getD (leaves (F .expr)) i (literal 0 0)
+
+module _ (match : Matcher) (F : Frame) (p : Pick) (h : Picked (matchesBy match F) F (some p)) where
+  position-below : p .position < length (leaves (F .expr))
+  position-below = rw (length-map (leaves (F .expr)) (match (F .records))) at (h .0)
+
+  -- It is taken out of the expression,
+  pub pick-taken : Taken (F .expr) (leafAt F (p .position)) (without (p .position) (F .expr))
+  unfolding leafAt
+  pick-taken = taken (F .expr) (literal 0 0) (p .position) position-below
+
+  -- and the predicate is its match.
+  pub pick-matches : match (F .records) (leafAt F (p .position)) ≡ some (p .predicate)
+  unfolding leafAt
+  pick-matches = sym (mapped-at (match (F .records)) (leaves (F .expr)) (p .position) (literal 0 0) none position-below) ∙ h .1 .match

@@ -4,15 +4,18 @@ use Rattle.definitions.specs.Basics.{ok}
 use Rattle.definitions.specs.Plans.{planOf}
 use Rattle.definitions.specs.Machine.{Bits, machinePlan}
 use Rattle.definitions.specs.Sessions.{planAfter}
+use Rattle.definitions.specs.Matchers.{matchesBy}
 use Rattle.definitions.specs.Claims.{ExchangeTwice, ExtractExchanged, ExpressionReadBack, PlanReadBack, PlanOfBytes, ExtractionGood, ExchangeGood, LengthsShort, RefusedKeeps, AcceptedWrites, RefusalsOfCalls, LoadAccepted, LoadHolds, ListOfCalls, AnswersInPlace, SamePlan, ExchangeAccepted, ExtractAccepted, PickExactly, RestOfLeaves, ExtractTakes, PriceLineOfCalls, PriceLineStays, PriceLineExchanged, MachinesAgree, AndAssociative, AndCommutative, ExchangeValue, ExtractionValue, ListValue, FairMeaning, FairByArguments, MarksDiffer, NamesAreOnes, NamesOnce}
+use Rattle.definitions.specs.AnyMatcher.{AnyMatcher}
 use Rattle.definitions.specs.TenRows.{TenRows}
 use Rattle.definitions.specs.RefusalTable.{RefusalTable}
 use Rattle.definitions.specs.NameTables.{NameTables}
-use Rattle.definitions.proofs.Exchange.{plan-twice, extraction-exchange}
+use Rattle.definitions.proofs.Exchange.{plan-twice}
+use Rattle.definitions.proofs.ExtractExchange.{exchanged-by, extraction-exchange}
 use Rattle.definitions.proofs.RoundTripPlan.{expr-reads, plan-reads}
 use Rattle.definitions.proofs.InversePlan.{plan-back}
 use Rattle.definitions.proofs.Taken.{rest-of-leaves-are}
-use Rattle.definitions.proofs.ExtractGood.{GoodExtraction, extraction-good}
+use Rattle.definitions.proofs.ExtractGood.{GoodExtraction, good-by, extraction-good}
 use Rattle.definitions.proofs.ExchangeGood.{exchange-good, plan-as-long}
 use Rattle.definitions.proofs.Lists.{plan-good}
 use Rattle.definitions.proofs.ListTheorem.{load-accepts, load-held, list-theorem}
@@ -20,9 +23,11 @@ use Rattle.definitions.proofs.Lengths.{lengths-are-short}
 use Rattle.definitions.proofs.Changes.{refused-keep, accepted-write}
 use Rattle.definitions.proofs.RefusalNumbers.{refusals-of}
 use Rattle.definitions.proofs.Answers.{told, plan-told, answers-place, plans-same, exchange-among, extract-among}
-use Rattle.definitions.proofs.Pick.{took}
+use Rattle.definitions.proofs.MatchLaws.{match-laws}
+use Rattle.definitions.proofs.Pick.{takes-by, none-by, took}
 use Rattle.definitions.proofs.Machines.{extract-took, line-of-calls, line-stays, price-exchanged, same-leaf, same-refusal, never-mixed}
-use Rattle.definitions.proofs.Truth.{plan-exchange-value, and-value-assoc, and-value-comm, SameValue, extraction-value, machine-value}
+use Rattle.definitions.proofs.Truth.{plan-exchange-value, SameValue, value-by, extraction-value, machine-value}
+use Rattle.definitions.proofs.Values.{and-value-assoc, and-value-comm}
 use Rattle.definitions.proofs.FairExample.{fair-points, marks-apart}
 use Rattle.definitions.proofs.FairCounting.{fair-counting}
 use Rattle.definitions.proofs.Names.{each-once, names-ones, tables-hold}
@@ -114,14 +119,26 @@ pub exchange-has-value : ExchangeValue
 exchange-has-value = plan-exchange-value
 
 pub extraction-has-value : ExtractionValue
-extraction-has-value M fair v F X m g e = subst (SameValue M v F) e (extraction-value M fair v F m (g .readable .expr .inRange))
+extraction-has-value M fair v F X m g e = subst (SameValue M v F) e (extraction-value M v F (fair, m) (g .readable .expr .inRange))
 
 pub list-has-value : ListValue
 list-has-value M fair v F s m calls =
     let b : Bits = told s calls in
     let reads : planOf (planAfter s calls) ≡ ok (machinePlan F b) =
     ap planOf (plan-told s calls) ∙ plan-reads _ (plan-good F (b .isExtracted) (b .isOdd) (s .good)) in
-    (machinePlan F b, reads, machine-value M fair v F m (s .good .readable .expr .inRange) (b .isExtracted) (b .isOdd))
+    (machinePlan F b, reads, machine-value M fair v F (fair, m) (s .good .readable .expr .inRange) (b .isExtracted) (b .isOdd))
+
+pub any-matcher : AnyMatcher
+any-matcher = (
+  λ match Asks laws. record {
+    takes = λ F. takes-by (matchesBy match F) F;
+    untaken = λ F. none-by (matchesBy match F) F;
+    exchanged = exchanged-by laws;
+    good = λ F X g e. subst (GoodExtraction F) e (good-by laws F g);
+    value = λ M v F X asked g e. subst (SameValue M v F) e (value-by laws M v F asked (g .readable .expr .inRange));
+  },
+  match-laws,
+)
 
 pub fair-meaning : FairMeaning
 fair-meaning = fair-points

@@ -17,7 +17,7 @@ use Rattle.definitions.specs.Plans.{physicalFrame, logicalFrame, frameOf
 use Rattle.definitions.specs.Calls.{newAfterLoad, finishLoad, load, finish, heldPlan, newAfterExchange, exchange, matchedBytes, newAfterExtract, extract}
 use Rattle.definitions.specs.Logical.{logicalAnswer, logical}
 use Rattle.definitions.specs.Claims.{loadRefusals, extractRefusals, exchangeRefusals, logicalRefusals, RefusedBy, RefusalsOfCalls}
-use Rattle.definitions.proofs.Requests.{by-test}
+use Rattle.definitions.proofs.Tools.{by-test}
 
 -- ---- readers
 
@@ -268,7 +268,8 @@ load-refusals : (frame : List ℕ) (n : ℕ) (buffer : List ℕ) → RefusedBy l
 unfolding load frameOf loadRefusals any
 load-refusals frame n buffer =
     let read = physical-only (In loadRefusals) refl refl refl refl refl refl refl refl 0 frame in
-    let given = load-only (In loadRefusals) frame (length buffer) (frameOf frame) (result-only (In loadRefusals) (physicalFrame 0 frame) read) refl in
+    let given =
+    load-only (In loadRefusals) frame (length buffer) (frameOf frame) (result-only (In loadRefusals) (physicalFrame 0 frame) read) refl in
     refused-by loadRefusals (load frame n buffer .answer)
     (loaded-only (In loadRefusals) n buffer (newAfterLoad frame (length buffer) (frameOf frame)) given)
 

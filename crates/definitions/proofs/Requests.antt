@@ -1,14 +1,14 @@
 -- What a leaf asks for is made of parts of the leaf, with numbers in range.
 use Prim.Native.Nat.{ℕ, _+_, _≤_, _<_, max}
 use native.Mathlib.Omega.{arith}
-use mathlib.Core.Path.{_≡_, refl, ap, ap₂, subst}
-use mathlib.Core.Bool.{Bool, true, false, _||_, false≢true}
-use mathlib.Core.List.{List, [], _∷_}
+use mathlib.Core.Path.{_≡_, refl, ap, subst}
+use mathlib.Core.Bool.{Bool, true, false, _||_}
+use mathlib.Core.List.{List}
 use mathlib.Core.Option.{Option, none, some}
 use lib.ListN.{length, length-append}
 use lib.Dec.{leb, eqb, lit≤}
 use borrow.Author.Tests.{leb-true, eqb-true}
-use Rattle.definitions.specs.Basics.{if_then_else_, ascii, sameName}
+use Rattle.definitions.specs.Basics.{ascii, sameName}
 use Rattle.definitions.specs.Expression.{Relation, Expr, column, literal, and, binary, call, other, field, Exprs, nil, cons}
 use Rattle.definitions.specs.Literals.{signed, literalInRange, u32, numberU32, numberBool}
 use lib.IntN.{ℤ, pos, negsuc}
@@ -17,21 +17,7 @@ use Rattle.definitions.specs.Leaves.{relationNamed, Comparison, compares
 use Rattle.definitions.specs.Decode.{Columns}
 use Rattle.definitions.specs.Match.{literalU32, literalBool, Request, askRelation, askDistance, askKnn, askNothing, relationRequest, dwithinRequest, knnLiterals, knnRequest, callRequest, distanceRequest, comparisonRequest, request}
 use Rattle.definitions.specs.Good.{nodes, nodesAll, depth, depthAll, InRange, InRangeAll}
-use Rattle.definitions.proofs.Taken.{and-both}
-
--- By the two outcomes of a test.
-pub by-test {ℓ κ} : {X : Type ℓ} (P : X → Type κ) (b : Bool) (x y : X) → (b ≡ true → P x) → (b ≡ false → P y) → P (if b then x else y)
-by-test P true x y f g = f refl
-by-test P false x y f g = g refl
-
-pub same-name : (s t : List ℕ) → sameName s t ≡ true → s ≡ t
-unfolding sameName
-same-name [] [] e = refl
-same-name [] (b ∷ t) e = absurd (false≢true e)
-same-name (a ∷ s) [] e = absurd (false≢true e)
-same-name (a ∷ s) (b ∷ t) e =
-    let both : (eqb a b ≡ true) × (sameName s t ≡ true) = and-both (eqb a b) (sameName s t) e in
-    ap₂ (λ (x : ℕ) (y : List ℕ). x ∷ y) (eqb-true a b (both .0)) (same-name s t (both .1))
+pub use Rattle.definitions.proofs.Tools.{by-test, same-name}
 
 -- Short names for the sizes of an expression.
 abbrev bytes : Expr → ℕ
@@ -43,7 +29,8 @@ Within c room size levels (askRelation type a b) =
     InRange c a × InRange c b × (2 + bytes a + bytes b ≤ room) × (nodes a + nodes b ≤ size) × (depth a ≤ levels) × (depth b ≤ levels)
 Within c room size levels (askDistance form a b d) =
     (form ≤ 4) × InRange c a × InRange c b × InRange c d
-    × (3 + bytes a + bytes b + bytes d ≤ room) × (nodes a + nodes b + nodes d ≤ size) × (depth a ≤ levels) × (depth b ≤ levels) × (depth d ≤ levels)
+    × (3 + bytes a + bytes b + bytes d ≤ room) × (nodes a + nodes b + nodes d ≤ size) × (depth a ≤ levels) × (depth b ≤ levels)
+    × (depth d ≤ levels)
 Within c room size levels (askKnn k spheroid ties a b) =
     (k < 4294967296) × (spheroid ≤ 1) × (ties ≤ 2) × InRange c a × InRange c b
     × (8 + bytes a + bytes b ≤ room) × (nodes a + nodes b ≤ size) × (depth a ≤ levels) × (depth b ≤ levels)
@@ -76,7 +63,9 @@ u32-range (field b t) = tt
 bool-range : (c : Columns) (e : Expr) → InRange c e → AtMost 1 (literalBool e)
 unfolding literalBool numberBool literalInRange
 bool-range c (column i t) h = tt
-bool-range c (literal type v) h = by-test (AtMost 1) (eqb type 1) (some v) none (λ e. leb-true v 1 (subst (λ (t : ℕ). literalInRange t v ≡ true) (eqb-true type 1 e) (h .2))) (λ e. tt)
+bool-range c (literal type v) h =
+    by-test (AtMost 1) (eqb type 1) (some v) none
+    (λ e. leb-true v 1 (subst (λ (t : ℕ). literalInRange t v ≡ true) (eqb-true type 1 e) (h .2))) (λ e. tt)
 bool-range c (and l r) h = tt
 bool-range c (binary o l r) h = tt
 bool-range c (call name es) h = tt
@@ -93,7 +82,8 @@ bytesAll es = length (exprsBytes es)
 abbrev WithinAll : Columns → (over : ℕ) → Exprs → Request → Type 0
 WithinAll c over es q = Within c (over + bytesAll es) (nodesAll es) (depthAll es) q
 
-relation-within : (c : Columns) (over : ℕ) (t : Option Relation) (es : Exprs) → 2 ≤ over → InRangeAll c es → WithinAll c over es (relationRequest t es)
+relation-within : (c : Columns) (over : ℕ) (t : Option Relation) (es : Exprs) → 2 ≤ over → InRangeAll c es
+    → WithinAll c over es (relationRequest t es)
 unfolding relationRequest exprBytes nodes depth
 relation-within c over none es k h = tt
 relation-within c over (some t) nil k h = tt
@@ -116,7 +106,8 @@ unfolding knnLiterals
 knn-literals-within c room size levels none s t a b hk hs ht ha hb f1 f2 f3 f4 = tt
 knn-literals-within c room size levels (some k) none t a b hk hs ht ha hb f1 f2 f3 f4 = tt
 knn-literals-within c room size levels (some k) (some s) none a b hk hs ht ha hb f1 f2 f3 f4 = tt
-knn-literals-within c room size levels (some k) (some s) (some t) a b hk hs ht ha hb f1 f2 f3 f4 = (omega arith, hs, ht, ha, hb, f1, f2, f3, f4)
+knn-literals-within c room size levels (some k) (some s) (some t) a b hk hs ht ha hb f1 f2 f3 f4 =
+    (omega arith, hs, ht, ha, hb, f1, f2, f3, f4)
 
 at-most-more : (k : Option ℕ) → AtMost 1 k → AtMost 2 k
 at-most-more none h = tt
@@ -132,7 +123,8 @@ knn-within c over (cons a (cons b (cons x nil))) k h =
     knn-literals-within c _ _ _ (literalU32 x) (some 0) (some 2) a b (u32-range x) (lit≤ tt) (lit≤ tt) (h .0) (h .1 .0)
     (simp length-append (omega arith)) (omega arith) (omega arith) (omega arith)
 knn-within c over (cons a (cons b (cons x (cons s nil)))) k h =
-    knn-literals-within c _ _ _ (literalU32 x) (literalBool s) (some 2) a b (u32-range x) (bool-range c s (h .1 .1 .1 .0)) (lit≤ tt) (h .0) (h .1 .0)
+    knn-literals-within c _ _ _ (literalU32 x) (literalBool s) (some 2) a b (u32-range x) (bool-range c s (h .1 .1 .1 .0)) (lit≤ tt) (h .0)
+    (h .1 .0)
     (simp length-append (omega arith)) (omega arith) (omega arith) (omega arith)
 knn-within c over (cons a (cons b (cons x (cons s (cons t nil))))) k h =
     knn-literals-within c _ _ _ (literalU32 x) (literalBool s) (literalBool t) a b (u32-range x) (bool-range c s (h .1 .1 .1 .0))
@@ -145,13 +137,15 @@ unfolding callRequest ascii
 call-within c name es h =
     by-test (WithinAll c (3 + length name) es) (sameName name (ascii "st_knn")) (knnRequest es) _
     (λ e. knn-within c (3 + length name) es (omega (arith, ap length (same-name name (ascii "st_knn") e))) h)
-    (λ _. by-test (WithinAll c (3 + length name) es) (sameName name (ascii "st_dwithin")) (dwithinRequest es) (relationRequest (relationNamed name) es)
+    (λ _. by-test (WithinAll c (3 + length name) es) (sameName name (ascii "st_dwithin")) (dwithinRequest es)
+    (relationRequest (relationNamed name) es)
     (λ e. dwithin-within c (3 + length name) es (omega arith) h)
     (λ e. relation-within c (3 + length name) (relationNamed name) es (omega arith) h))
 
 -- A larger frame around the same request.
 within-more : (c : Columns) (r r′ s s′ l l′ : ℕ) (q : Request) → r ≤ r′ → s ≤ s′ → l ≤ l′ → Within c r s l q → Within c r′ s′ l′ q
-within-more c r r′ s s′ l l′ (askRelation t a b) hr hs hl h = (h .0, h .1, omega (arith, h .2), omega (arith, h .3), omega (arith, h .4), omega (arith, h .5))
+within-more c r r′ s s′ l l′ (askRelation t a b) hr hs hl h =
+    (h .0, h .1, omega (arith, h .2), omega (arith, h .3), omega (arith, h .4), omega (arith, h .5))
 within-more c r r′ s s′ l l′ (askDistance form a b d) hr hs hl h =
     (h .0, h .1, h .2, h .3, omega (arith, h .4), omega (arith, h .5), omega (arith, h .6), omega (arith, h .7), omega (arith, h .8))
 within-more c r r′ s s′ l l′ (askKnn k sp t a b) hr hs hl h =
@@ -169,10 +163,13 @@ distance-within c form (literal type v) d k h g = tt
 distance-within c form (and l r) d k h g = tt
 distance-within c form (binary o l r) d k h g = tt
 distance-within c form (call name es) d k h g =
-    by-test (λ (x : Option Exprs). Within c (2 + bytes (call name es) + bytes d) (nodes (call name es) + nodes d) (max (depth (call name es)) (depth d)) (distanceRequest form d x))
+    by-test (λ (x : Option Exprs). Within c (2 + bytes (call name es) + bytes d) (nodes (call name es) + nodes d)
+    (max (depth (call name es)) (depth d)) (distanceRequest form d x))
     (sameName name (ascii "st_distance")) (some es) none (λ e. two es (h .4)) (λ e. tt)
   where
-    two : (xs : Exprs) → InRangeAll c xs → Within c (2 + bytes (call name xs) + bytes d) (nodes (call name xs) + nodes d) (max (depth (call name xs)) (depth d)) (distanceRequest form d (some xs))
+    two : (xs : Exprs) → InRangeAll c xs
+        → Within c (2 + bytes (call name xs) + bytes d) (nodes (call name xs) + nodes d) (max (depth (call name xs)) (depth d))
+        (distanceRequest form d (some xs))
     two nil r = tt
     two (cons a nil) r = tt
     two (cons a (cons b more)) r =
@@ -194,7 +191,8 @@ comparison-within c o l r hl hr =
     by-test P (eqb o 1 || eqb o 2) (compares l r) _
     (λ e. distance-within c o l r (either o 1 2 (lit≤ tt) (lit≤ tt) e) hl hr)
     (λ _. by-test P (eqb o 3 || eqb o 4) (compares r l) noComparison
-    (λ e. within-more c _ _ _ _ _ _ (distanceRequest o l (distanceArguments r)) (omega arith) (omega arith) (omega arith) (distance-within c o r l (either o 3 4 (lit≤ tt) (lit≤ tt) e) hr hl))
+    (λ e. within-more c _ _ _ _ _ _ (distanceRequest o l (distanceArguments r)) (omega arith) (omega arith) (omega arith)
+    (distance-within c o r l (either o 3 4 (lit≤ tt) (lit≤ tt) e) hr hl))
     (λ e. tt))
   where
     P : Comparison → Type 0
@@ -206,8 +204,10 @@ request-within c (column i t) h = tt
 request-within c (literal type v) h = tt
 request-within c (and l r) h = tt
 request-within c (binary o l r) h =
-    within-more c _ _ _ _ _ _ (comparisonRequest o (comparison o l r)) (simp length-append (omega arith)) (omega arith) (omega arith) (comparison-within c o l r (h .2) (h .3))
+    within-more c _ _ _ _ _ _ (comparisonRequest o (comparison o l r)) (simp length-append (omega arith)) (omega arith) (omega arith)
+    (comparison-within c o l r (h .2) (h .3))
 request-within c (call name es) h =
-    within-more c _ _ _ _ _ _ (callRequest name es) (simp length-append (omega arith)) (omega arith) (omega arith) (call-within c name es (h .4))
+    within-more c _ _ _ _ _ _ (callRequest name es) (simp length-append (omega arith)) (omega arith) (omega arith)
+    (call-within c name es (h .4))
 request-within c (other tag es) h = tt
 request-within c (field b t) h = tt

@@ -23,13 +23,16 @@ use Rattle.definitions.specs.Good.{nodes, depth, nodesAll, depthAll, InR
 number-after : (w high v n : ℕ) (rest : List ℕ) → numberAfter high w n (bigEndian w v ++ rest) ≡ read (high * 256 ^ w + v % 256 ^ w) n rest
 unfolding numberAfter bigEndian
 number-after zero high v n rest = ap (λ (x : ℕ). read x n rest) (omega arith)
-number-after (suc w) high v n rest = number-after w (high * 256 + v / 256 ^ w % 256) v n rest ∙ ap (λ (x : ℕ). read x n rest) (rw (pow-succ' 256 w, mod-mul v (lit< tt) (one-le-pow w 256 (lit< tt))) (omega arith))
+number-after (suc w) high v n rest =
+    number-after w (high * 256 + v / 256 ^ w % 256) v n rest
+    ∙ ap (λ (x : ℕ). read x n rest) (rw (pow-succ' 256 w, mod-mul v (lit< tt) (one-le-pow w 256 (lit< tt))) (omega arith))
 
 pub number-reads : (w v n : ℕ) (rest : List ℕ) → v < 256 ^ w → number w n (bigEndian w v ++ rest) ≡ read v n rest
 unfolding number
 number-reads w v n rest h = number-after w 0 v n rest ∙ ap (λ (x : ℕ). read x n rest) (omega (arith, mod-eq-of-lt h))
 
-pub between-reads : (least most b n : ℕ) (rest : List ℕ) → (leb least b && leb b most) ≡ true → byteBetween least most n (b ∷ rest) ≡ read b n rest
+pub between-reads : (least most b n : ℕ) (rest : List ℕ) → (leb least b && leb b most) ≡ true
+    → byteBetween least most n (b ∷ rest) ≡ read b n rest
 unfolding byteBetween
 between-reads least most b n rest h = passes 4 (give b) n rest h
 
@@ -63,7 +66,8 @@ unfolding binaryNode
 binary-reads child operator n m k l r s t rest h el er =
     after _ (byte-reads 63 operator n s h) ∙ after _ el ∙ after _ er
 
-name-reads : (name : List ℕ) (n : ℕ) (rest : List ℕ) → NameBytes name → repeat (length name) (byteBetween 33 126) n (name ++ rest) ≡ read name n rest
+name-reads : (name : List ℕ) (n : ℕ) (rest : List ℕ) → NameBytes name
+    → repeat (length name) (byteBetween 33 126) n (name ++ rest) ≡ read name n rest
 unfolding repeat
 name-reads [] n rest h = refl
 name-reads (b ∷ s) n rest h =
@@ -75,7 +79,8 @@ call-reads : (child : Reader Expr) (name : List ℕ) (arguments : Exprs) (n m : 
     → callNode child n (length name ∷ (name ++ (count arguments ∷ s))) ≡ read (call name arguments) m rest
 unfolding callNode
 call-reads child name arguments n m s rest h1 h2 hn ha e =
-    after _ (between-reads 1 32 (length name) n (name ++ (count arguments ∷ s)) (ap₂ _&&_ (le-leb 1 (length name) h1) (le-leb (length name) 32 h2)))
+    after _ (between-reads 1 32 (length name) n (name ++ (count arguments ∷ s))
+    (ap₂ _&&_ (le-leb 1 (length name) h1) (le-leb (length name) 32 h2)))
     ∙ after _ (name-reads name n (count arguments ∷ s) hn)
     ∙ after _ (byte-reads 16 (count arguments) n s ha)
     ∙ after _ e
@@ -150,30 +155,37 @@ mutual
   pub node-reads : (c : Columns) (e : Expr) → Reads c e
   node-reads c (column i t) = column-node c i t
   node-reads c (literal type v) = λ levels n rest r d k.
-      at-level c (literal type v) 1 0 n (n + 1) (type ∷ bigEndian 8 v ++ rest) rest levels d (common-kind c 1 (lit≤ tt) (lit≤ tt)) (omega arith)
+      at-level c (literal type v) 1 0 n (n + 1) (type ∷ bigEndian 8 v ++ rest) rest levels d (common-kind c 1 (lit≤ tt) (lit≤ tt))
+      (omega arith)
       (λ l h. literal-reads type v (suc n) rest (r .0) (r .1) (r .2) ∙ count-is (literal type v) rest (omega arith))
   node-reads c (and x y) = λ levels n rest r d k. rw (append-assoc (exprBytes x) (exprBytes y) rest)
-      (at-level c (and x y) 2 (max (depth x) (depth y)) n (n + suc (nodes x + nodes y)) (0 ∷ (exprBytes x ++ (exprBytes y ++ rest))) rest levels d
+      (at-level c (and x y) 2 (max (depth x) (depth y)) n (n + suc (nodes x + nodes y))
+      (0 ∷ (exprBytes x ++ (exprBytes y ++ rest))) rest levels d
       (common-kind c 2 (lit≤ tt) (lit≤ tt)) (omega arith)
-      (λ l h. binary-reads (node c l) 0 (suc n) (suc n + nodes x) (suc n + nodes x + nodes y) x y (exprBytes x ++ (exprBytes y ++ rest)) (exprBytes y ++ rest) rest (lit≤ tt)
+      (λ l h. binary-reads (node c l) 0 (suc n) (suc n + nodes x) (suc n + nodes x + nodes y) x y (exprBytes x ++ (exprBytes y ++ rest))
+      (exprBytes y ++ rest) rest (lit≤ tt)
       (node-reads c x l (suc n) (exprBytes y ++ rest) (r .0) (omega arith) (omega arith))
       (node-reads c y l (suc n + nodes x) rest (r .1) (omega arith) (omega arith))
       ∙ count-is (and x y) rest (omega arith)))
   node-reads c (binary o x y) = λ levels n rest r d k. rw (append-assoc (exprBytes x) (exprBytes y) rest)
-      (at-level c (binary o x y) 2 (max (depth x) (depth y)) n (n + suc (nodes x + nodes y)) (o ∷ (exprBytes x ++ (exprBytes y ++ rest))) rest levels d
+      (at-level c (binary o x y) 2 (max (depth x) (depth y)) n (n + suc (nodes x + nodes y))
+      (o ∷ (exprBytes x ++ (exprBytes y ++ rest))) rest levels d
       (common-kind c 2 (lit≤ tt) (lit≤ tt)) (omega arith)
-      (λ l h. binary-reads (node c l) o (suc n) (suc n + nodes x) (suc n + nodes x + nodes y) x y (exprBytes x ++ (exprBytes y ++ rest)) (exprBytes y ++ rest) rest (r .1)
+      (λ l h. binary-reads (node c l) o (suc n) (suc n + nodes x) (suc n + nodes x + nodes y) x y (exprBytes x ++ (exprBytes y ++ rest))
+      (exprBytes y ++ rest) rest (r .1)
       (node-reads c x l (suc n) (exprBytes y ++ rest) (r .2) (omega arith) (omega arith))
       (node-reads c y l (suc n + nodes x) rest (r .3) (omega arith) (omega arith))
       ∙ ap₂ (λ (e : Expr) (m : ℕ). read e m rest) (binary-again o x y (r .0)) (omega arith)))
   node-reads c (call name es) = λ levels n rest r d k. rw (append-assoc name (count es ∷ exprsBytes es) rest)
-      (at-level c (call name es) 3 (depthAll es) n (n + suc (nodesAll es)) (length name ∷ (name ++ (count es ∷ (exprsBytes es ++ rest)))) rest levels d
+      (at-level c (call name es) 3 (depthAll es) n (n + suc (nodesAll es))
+      (length name ∷ (name ++ (count es ∷ (exprsBytes es ++ rest)))) rest levels d
       (common-kind c 3 (lit≤ tt) (lit≤ tt)) (omega arith)
       (λ l h. call-reads (node c l) name es (suc n) (suc n + nodesAll es) (exprsBytes es ++ rest) rest (r .0) (r .1) (r .2) (r .3)
       (nodes-read c es l (suc n) rest (r .4) h (omega arith))
       ∙ count-is (call name es) rest (omega arith)))
   node-reads c (other tag es) = λ levels n rest r d k. rw (append-assoc (bigEndian 2 tag) (count es ∷ exprsBytes es) rest)
-      (at-level c (other tag es) 4 (depthAll es) n (n + suc (nodesAll es)) (bigEndian 2 tag ++ (count es ∷ (exprsBytes es ++ rest))) rest levels d
+      (at-level c (other tag es) 4 (depthAll es) n (n + suc (nodesAll es))
+      (bigEndian 2 tag ++ (count es ∷ (exprsBytes es ++ rest))) rest levels d
       (common-kind c 4 (lit≤ tt) (lit≤ tt)) (omega arith)
       (λ l h. other-reads (node c l) tag es (suc n) (suc n + nodesAll es) (exprsBytes es ++ rest) rest (r .0) (r .1)
       (nodes-read c es l (suc n) rest (r .2) h (omega arith))

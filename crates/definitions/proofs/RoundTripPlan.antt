@@ -37,7 +37,8 @@ side-reads : (most : ℕ) (s : Side) (n : ℕ) (rest : List ℕ) → sideNumber 
 unfolding sideUpTo
 side-reads most s n rest h = after _ (byte-reads most (sideNumber s) n rest h) ∙ ap (λ (t : Side). read t n rest) (side-again s)
 
-record-reads : (r : Record) (n : ℕ) (rest : List ℕ) → Short (r .child) → Short (r .tag) → oneRecord n (recordBytes r ++ rest) ≡ read r n rest
+record-reads : (r : Record) (n : ℕ) (rest : List ℕ) → Short (r .child) → Short (r .tag)
+    → oneRecord n (recordBytes r ++ rest) ≡ read r n rest
 unfolding oneRecord recordBytes
 record-reads r n rest hc ht = rw (append-assoc (bigEndian 2 (r .child)) (bigEndian 2 (r .tag)) rest)
     (after _ (side-reads 2 (r .side) n (bigEndian 2 (r .child) ++ (bigEndian 2 (r .tag) ++ rest)) (side-small (r .side)))
@@ -142,7 +143,10 @@ predicate-reads (distance form side l r bound) n rest h k =
     ∙ after _ (expr-reads Wide bound (n + nodes l + nodes r) rest (h .3) (omega arith))
     ∙ ap (λ (m : ℕ). read (distance form side l r bound) m rest) (omega arith))
 predicate-reads (knn k₁ spheroid probe ties l r) n rest h k =
-    rw (append-assoc (bigEndian 4 k₁) (spheroid ∷ sideNumber probe ∷ ties ∷ (exprBytes l ++ exprBytes r)) rest, append-assoc (exprBytes l) (exprBytes r) rest)
+    rw (
+      append-assoc (bigEndian 4 k₁) (spheroid ∷ sideNumber probe ∷ ties ∷ (exprBytes l ++ exprBytes r)) rest,
+      append-assoc (exprBytes l) (exprBytes r) rest,
+    )
     (after _ (number-reads 4 k₁ n (spheroid ∷ sideNumber probe ∷ ties ∷ (exprBytes l ++ (exprBytes r ++ rest))) (h .0))
     ∙ after _ (byte-reads 1 spheroid n (sideNumber probe ∷ ties ∷ (exprBytes l ++ (exprBytes r ++ rest))) (h .1))
     ∙ after _ (side-reads 1 probe n (ties ∷ (exprBytes l ++ (exprBytes r ++ rest))) (probe-small probe (h .2)))

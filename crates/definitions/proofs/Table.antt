@@ -26,7 +26,8 @@ other-operator : (operator : ℕ) → 5 ≤ operator → (records : List Record)
     → extraction (record { records = records; expr = binary operator l r }) ≡ none
 unfolding extraction matchesOf leaves matchLeaf request comparisonRequest matchRequest pick firstMatch later firstOf takePick
 other-operator o h records l r =
-    ap (λ (c : Comparison). takePick (record { records = records; expr = binary o l r }) (pick (matchRequest records (comparisonRequest o c) ∷ []))) (no-comparison o h l r)
+    ap (λ (c : Comparison). takePick (record { records = records; expr = binary o l r })
+    (pick (matchRequest records (comparisonRequest o c) ∷ []))) (no-comparison o h l r)
 
 -- 01's table, one theorem, by computation.
 pub ten-rows-hold : TenRows

@@ -18,6 +18,7 @@ use Rattle.definitions.specs.Decode.{Columns}
 use Rattle.definitions.specs.Extract.{andLeft, andRight, without}
 use Rattle.definitions.specs.Good.{nodes, depth, InRange}
 use Rattle.definitions.specs.Claims.{RestOfLeaves}
+pub use Rattle.definitions.proofs.Tools.{and-both}
 
 -- A leaf taken out of an expression, and what is left.
 pub data Taken : Expr → Expr → Option Expr → Type 0 where
@@ -35,7 +36,8 @@ taken-and : (l r d : Expr) (i : ℕ) → i < length (leaves l ++ leaves r)
     → ((j : ℕ) → j < length (leaves l) → Taken l (getD (leaves l) j d) (without j l))
     → ((j : ℕ) → j < length (leaves r) → Taken r (getD (leaves r) j d) (without j r))
     → (b : Bool) → ltb i (length (leaves l)) ≡ b
-    → Taken (and l r) (getD (leaves l ++ leaves r) i d) (some (if b then andLeft (without i l) r else andRight l (without (i - length (leaves l)) r)))
+    → Taken (and l r) (getD (leaves l ++ leaves r) i d)
+    (some (if b then andLeft (without i l) r else andRight l (without (i - length (leaves l)) r)))
 taken-and l r d i h f g true e =
     let k : i < length (leaves l) = ltb-true i (length (leaves l)) e in
     rw (List·getD-append (leaves l) (leaves r) d i k) (inLeft r (f i k))
@@ -207,13 +209,8 @@ rest-in-range c (inRight {rest = rest} l t) h = right-in-range c l rest (h .0) (
 all-append : (xs ys : List Expr) → all leafArity (xs ++ ys) ≡ (all leafArity xs && all leafArity ys)
 unfolding all
 all-append [] ys = refl
-all-append (x ∷ xs) ys = ap (λ (b : Bool). leafArity x && b) (all-append xs ys) ∙ sym (and-assoc (leafArity x) (all leafArity xs) (all leafArity ys))
-
-pub and-both : (a b : Bool) → (a && b) ≡ true → (a ≡ true) × (b ≡ true)
-and-both true true e = (refl, refl)
-and-both true false e = (refl, e)
-and-both false true e = (e, refl)
-and-both false false e = (e, e)
+all-append (x ∷ xs) ys =
+    ap (λ (b : Bool). leafArity x && b) (all-append xs ys) ∙ sym (and-assoc (leafArity x) (all leafArity xs) (all leafArity ys))
 
 arity-and : (l r : Expr) → arity (and l r) ≡ (arity l && arity r)
 unfolding arity leaves

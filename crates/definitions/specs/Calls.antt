@@ -76,7 +76,7 @@ unfoldable pub matchedBytes : Option Extraction → Result (List ℕ)
 matchedBytes none = refused 13
 matchedBytes (some X) = ok (planBytes (extracted X))
 
--- The new plan of an extract: 10, 11, 12, 9, 13.
+-- The new plan of an extract: 10, 11, 12, 9, 13. (Matching enters the calls here, by `extraction`: settings of it would be given here.)
 unfoldable pub newAfterExtract : (n room : ℕ) → Result Plan → Result (List ℕ)
 newAfterExtract n room (refused number) = refused 10
 newAfterExtract n room (ok empty) = refused 11

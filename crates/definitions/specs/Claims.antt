@@ -66,7 +66,8 @@ ExchangeGood = (p : Plan) → GoodPlan p → GoodPlan (exchangePlan p) × (lengt
 abbrev pub LengthsShort : Type 0
 LengthsShort =
     ((frame : List ℕ) (n : ℕ) (buffer : List ℕ) (m : ℕ) → AllBytes frame → load frame n buffer .answer ≡ ok m → m ≤ mostBytes)
-    × ((kind : Kind) (n : ℕ) (buffer scratch : List ℕ) (m : ℕ) → AllBytes buffer → make kind n buffer scratch .answer ≡ ok m → m ≤ mostBytes)
+    × ((kind : Kind) (n : ℕ) (buffer scratch : List ℕ) (m : ℕ) → AllBytes buffer → make kind n buffer scratch .answer ≡ ok m
+    → m ≤ mostBytes)
 
 -- ---- demand 1: what a call changes, and the numbers of its refusals
 
@@ -198,22 +199,27 @@ isKnnMatch none = false
 isKnnMatch (some p) = isKnn p
 
 -- The match of the AND-leaf at a position.
-abbrev pub matchAt : Frame → (position : ℕ) → Option Predicate
-matchAt F position = getD (matchesOf F) position none
+abbrev pub matchAt : (matches : List (Option Predicate)) → (position : ℕ) → Option Predicate
+matchAt matches position = getD matches position none
 
--- The extraction took the leaf at a position: a match; if KNN, no earlier leaf is a KNN match; if not, none is one and no earlier leaf matches.
-pub record Took (F : Frame) (X : Extraction) (position : ℕ) : Type 0 where
-  pub match : matchAt F position ≡ some (X .predicate)
+-- With these matches of a frame's leaves the extraction took the leaf at a position: a match; if KNN, no earlier leaf is a KNN match;
+-- if not, none is one and no earlier leaf matches.
+pub record TookAmong (matches : List (Option Predicate)) (F : Frame) (X : Extraction) (position : ℕ) : Type 0 where
+  pub match : matchAt matches position ≡ some (X .predicate)
   pub rest : X .remainder ≡ Option·map (prune (F .records)) (without position (F .expr))
-  pub firstKnn : isKnn (X .predicate) ≡ true → (i : ℕ) → i < position → isKnnMatch (matchAt F i) ≡ false
-  pub noKnn : isKnn (X .predicate) ≡ false → (i : ℕ) → isKnnMatch (matchAt F i) ≡ false
-  pub firstMatch : isKnn (X .predicate) ≡ false → (i : ℕ) → i < position → matchAt F i ≡ none
+  pub firstKnn : isKnn (X .predicate) ≡ true → (i : ℕ) → i < position → isKnnMatch (matchAt matches i) ≡ false
+  pub noKnn : isKnn (X .predicate) ≡ false → (i : ℕ) → isKnnMatch (matchAt matches i) ≡ false
+  pub firstMatch : isKnn (X .predicate) ≡ false → (i : ℕ) → i < position → matchAt matches i ≡ none
+
+-- The extraction took the leaf at a position, with the matches of 01.
+abbrev pub Took : Frame → Extraction → (position : ℕ) → Type 0
+Took F X position = TookAmong (matchesOf F) F X position
 
 -- Every extraction takes its leaf so, and where there is none no leaf matches.
 abbrev pub PickExactly : Type 0
 PickExactly =
     ((F : Frame) (X : Extraction) → extraction F ≡ some X → (position : ℕ) × Took F X position)
-    × ((F : Frame) → extraction F ≡ none → (position : ℕ) → matchAt F position ≡ none)
+    × ((F : Frame) → extraction F ≡ none → (position : ℕ) → matchAt (matchesOf F) position ≡ none)
 
 -- What is left of an expression has its AND-leaves but for the one that was taken, in their order.
 abbrev pub RestOfLeaves : Type 0
@@ -330,7 +336,8 @@ FairMeaning =
     × (M .dwithinValue 3 5 2 ≡ 1) × (M .dwithinValue 3 5 1 ≡ 0)
     × (M .knnValue 3 5 2 0 2 ≡ 1) × (M .knnValue 3 5 1 0 2 ≡ 0)
 
--- Fairness leaves free what 01 leaves free: there is a fair meaning in which every five-argument `st_knn` is 1 and every four-argument one 0.
+-- Fairness leaves free what 01 leaves free: there is a fair meaning in which every five-argument `st_knn` is 1 and every four-argument one
+-- 0.
 abbrev pub FairByArguments : Type 0
 FairByArguments =
     (M : Meaning) × Fair M
@@ -340,11 +347,14 @@ FairByArguments =
 -- A frame with a mark column: `st_dwithin` of a left and a right column, its bound the mark column with child index 9.
 unfoldable pub markedFrame : Frame
 markedFrame = record {
-  records = record { side = left; child = 5; tag = 0 } ∷ record { side = right; child = 0; tag = 0 } ∷ record { side = noSide; child = 9; tag = 0 } ∷ [];
+  records =
+      record { side = left; child = 5; tag = 0 } ∷ record { side = right; child = 0; tag = 0 } ∷
+      record { side = noSide; child = 9; tag = 0 } ∷ [];
   expr = call (ascii "st_dwithin") (cons (column 0 0) (cons (column 1 0) (cons (column 2 0) nil)));
 }
 
--- Why mark columns are left out: in a fair meaning that frame can be true and its extraction, which copies the bound's own column number, false.
+-- Why mark columns are left out: in a fair meaning that frame can be true and its extraction, which copies the bound's own column number,
+-- false.
 abbrev pub MarksDiffer : Type 0
 MarksDiffer =
     (M : Meaning) × Fair M × (v : Valuation)

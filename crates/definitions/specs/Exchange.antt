@@ -1,8 +1,7 @@
 -- The exchange of a join's children.
 use mathlib.Core.List.{map}
 use mathlib.Core.Option.{Option·map}
-use Rattle.definitions.specs.Expression.{Side, left, right, noSide, Record, Frame, Predicate, relation, distance, knn, Extraction, Plan, empty, held, extracted}
-use Rattle.definitions.specs.Match.{invert}
+use Rattle.definitions.specs.Expression.{Side, left, right, noSide, Record, Frame, Predicate, relation, distance, knn, Extraction, Plan, empty, held, extracted, invert}
 
 -- The other side; that of none is none.
 unfoldable pub negate : Side → Side

@@ -31,6 +31,18 @@ relations =
     record { type = overlaps; names = "st_overlaps" ∷ [] } ∷
     record { type = equals; names = "st_equals" ∷ [] } ∷ []
 
+-- The relation that holds of the exchanged arguments.
+unfoldable pub invert : Relation → Relation
+invert intersects = intersects
+invert contains = within
+invert within = contains
+invert covers = coveredBy
+invert coveredBy = covers
+invert touches = touches
+invert crosses = crosses
+invert overlaps = overlaps
+invert equals = equals
+
 mutual
   -- An expression; a literal's eight bytes are one number, `and` is the binary operator 0, `field` a logical column.
   pub data Expr : Type 0 where

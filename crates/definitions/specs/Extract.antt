@@ -8,7 +8,8 @@ use lib.Dec.{ltb, eqb}
 use Rattle.definitions.specs.Basics.{if_then_else_, any, keep}
 use Rattle.definitions.specs.Expression.{Expr, column, literal, and, binary, call, other, field, Record, Frame, Predicate, relation, distance, knn, Extraction}
 use Rattle.definitions.specs.Leaves.{leaves}
-use Rattle.definitions.specs.Match.{matchLeaf, columnsOf, recordAt, sameSide, mapColumns}
+use Rattle.definitions.specs.References.{columnsOf, recordAt, sameSide, mapColumns}
+use Rattle.definitions.specs.Match.{matchLeaf}
 
 -- ---- the pick
 

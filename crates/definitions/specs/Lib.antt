@@ -22,6 +22,7 @@ pub mod Leaves
 pub mod Readers
 pub mod Decode
 pub mod Plans
+pub mod References
 pub mod Match
 pub mod Extract
 pub mod Exchange
@@ -30,10 +31,12 @@ pub mod Machine
 pub mod Good
 pub mod Sessions
 pub mod Meaning
+pub mod Matchers
 pub mod Logical
 pub mod Program
 pub mod Hosts
 pub mod Claims
+pub mod AnyMatcher
 pub mod TenRows
 pub mod RefusalTable
 pub mod NameTables

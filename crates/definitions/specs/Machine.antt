@@ -30,7 +30,7 @@ unfoldable pub extractionOr : Plan → Option Extraction → Plan
 extractionOr plan none = plan
 extractionOr plan (some X) = extracted X
 
--- F, or its extraction where that bit is 1; exchanged once where the odd bit is 1.
+-- F, or its extraction where that bit is 1; exchanged once where the odd bit is 1. (Settings of matching would be given here too.)
 unfoldable pub machinePlan : Frame → Bits → Plan
 machinePlan F bits =
     let base : Plan = if bits .isExtracted then extractionOr (held F) (extraction F) else held F in

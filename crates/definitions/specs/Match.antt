@@ -1,12 +1,13 @@
 -- What an AND-leaf asks for, the sides of its arguments, and whether it matches.
 use Prim.Native.Nat.{ℕ}
-use mathlib.Core.Bool.{Bool, true, false, _&&_}
-use mathlib.Core.List.{List, [], _∷_, _++_, map}
+use mathlib.Core.Bool.{Bool, false, _&&_}
+use mathlib.Core.List.{List, [], _∷_, map}
 use mathlib.Core.Option.{Option, none, some}
-use lib.ListN.{getD}
 use Rattle.definitions.specs.Basics.{if_then_else_, given_then_else_, ascii, sameName, all}
-use Rattle.definitions.specs.Expression.{Side, left, right, noSide, Relation, intersects, contains, within, covers, coveredBy, touches, crosses, overlaps, equals, Expr, column, literal, and, binary, call, other, field, Exprs, nil, cons, functionOf, binaryOf, literalOf, Record, Predicate, relation, distance, knn}
+use Rattle.definitions.specs.Expression.{Side, left, right, noSide, Relation, Expr, Exprs, nil, cons, functionOf, binaryOf, literalOf, Record, Predicate, relation, distance, knn}
 use Rattle.definitions.specs.Literals.{numberU32, numberBool}
+unfoldable pub use Rattle.definitions.specs.Expression.{invert}
+unfoldable pub use Rattle.definitions.specs.References.{columnsOf, columnsOfAll, recordAt, sameSide, mapColumns, mapColumnsAll}
 use Rattle.definitions.specs.Leaves.{relationNamed, Comparison, compares, noComparison, comparison, distanceArguments}
 
 -- ---- what a leaf asks for, before its columns are looked at
@@ -85,38 +86,6 @@ request e =
 
 -- ---- sides
 
-unfoldable mutual
-  -- The indexes of an expression's column nodes, in prefix order.
-  pub columnsOf : Expr → List ℕ
-  columnsOf (column index tag) = index ∷ []
-  columnsOf (literal type bytes) = []
-  columnsOf (and l r) = columnsOf l ++ columnsOf r
-  columnsOf (binary operator l r) = columnsOf l ++ columnsOf r
-  columnsOf (call name arguments) = columnsOfAll arguments
-  columnsOf (other tag children) = columnsOfAll children
-  columnsOf (field bits tag) = []
-
-  -- Those of several expressions.
-  pub columnsOfAll : Exprs → List ℕ
-  columnsOfAll nil = []
-  columnsOfAll (cons e es) = columnsOf e ++ columnsOfAll es
-
--- The record of a column index. (Never seen past the last, because such an index is refused with 6.)
-unfoldable pub recordAt : List Record → (index : ℕ) → Record
-recordAt records index = getD records index (record { side = noSide; child = 0; tag = 0 })
-
--- Whether two sides are the same.
-unfoldable pub sameSide : Side → Side → Bool
-sameSide left left = true
-sameSide left right = false
-sameSide left noSide = false
-sameSide right left = false
-sameSide right right = true
-sameSide right noSide = false
-sameSide noSide left = false
-sameSide noSide right = false
-sameSide noSide noSide = true
-
 -- An argument's side: none if it has no column, that of all its columns, or undefined since they differ.
 pub data ArgumentSide : Type 0 where
   noColumns : ArgumentSide
@@ -151,37 +120,9 @@ orderOf a b =
 
 -- ---- matching
 
-unfoldable mutual
-  -- The expression with each column index changed.
-  pub mapColumns : (ℕ → ℕ) → Expr → Expr
-  mapColumns f (column index tag) = column (f index) tag
-  mapColumns f (literal type bytes) = literal type bytes
-  mapColumns f (and l r) = and (mapColumns f l) (mapColumns f r)
-  mapColumns f (binary operator l r) = binary operator (mapColumns f l) (mapColumns f r)
-  mapColumns f (call name arguments) = call name (mapColumnsAll f arguments)
-  mapColumns f (other tag children) = other tag (mapColumnsAll f children)
-  mapColumns f (field bits tag) = field bits tag
-
-  -- Several expressions with each column index changed.
-  pub mapColumnsAll : (ℕ → ℕ) → Exprs → Exprs
-  mapColumnsAll f nil = nil
-  mapColumnsAll f (cons e es) = cons (mapColumns f e) (mapColumnsAll f es)
-
 -- Columns become their record's child index.
 unfoldable pub onChild : List Record → Expr → Expr
 onChild records e = mapColumns (λ index. recordAt records index .child) e
-
--- The relation that holds of the exchanged arguments.
-unfoldable pub invert : Relation → Relation
-invert intersects = intersects
-invert contains = within
-invert within = contains
-invert covers = coveredBy
-invert coveredBy = covers
-invert touches = touches
-invert crosses = crosses
-invert overlaps = overlaps
-invert equals = equals
 
 -- The left geometry is stored first, the type inverted where that exchanges the arguments.
 unfoldable pub matchRelation : Relation → (first second : Expr) → Order → Option Predicate

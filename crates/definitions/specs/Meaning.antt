@@ -6,9 +6,10 @@ use mathlib.Core.Option.{Option, none, some}
 use lib.Dec.{eqb}
 use lib.ListN.{length}
 use Rattle.definitions.specs.Basics.{if_then_else_, ascii}
-use Rattle.definitions.specs.Expression.{Side, left, right, Relation, Expr, column, literal, and, binary, call, other, field, Exprs, nil, cons, Record, Frame, Predicate, relation, distance, knn, Extraction, Plan, empty, held, extracted}
+use Rattle.definitions.specs.Expression.{Side, left, right, Relation, Expr, column, literal, and, binary, call, other, field, Exprs, nil, cons, Record, Frame, Predicate, relation, distance, knn, Extraction, Plan, empty, held, extracted, invert}
 use Rattle.definitions.specs.Leaves.{relationNamed}
-use Rattle.definitions.specs.Match.{recordAt, invert, matchLeaf}
+use Rattle.definitions.specs.References.{recordAt}
+use Rattle.definitions.specs.Match.{matchLeaf}
 use Rattle.definitions.specs.Exchange.{negate}
 use Rattle.definitions.specs.Decode.{indexBelow}
 use Rattle.definitions.specs.Good.{InRangeAll}

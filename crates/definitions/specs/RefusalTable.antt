@@ -65,7 +65,8 @@ physicalRows =
     (start (0 ∷ 0 ∷ 0 ∷ 0 ∷ []), refused 3) ∷ (frame (column 0 0), refused 6) ∷
     -- literals: type, Boolean, Int32, UInt32
     (start (1 ∷ 7 ∷ []), refused 4) ∷ (start (1 ∷ 1 ∷ replicate 7 255), refused 3) ∷ (start (1 ∷ 1 ∷ replicate 8 255), refused 4) ∷
-    (frame (literal 2 2147483648), refused 4) ∷ (frame (literal 2 18446744071562067968), ok 13) ∷ (frame (literal 4 4294967296), refused 4) ∷
+    (frame (literal 2 2147483648), refused 4) ∷ (frame (literal 2 18446744071562067968), ok 13) ∷
+    (frame (literal 4 4294967296), refused 4) ∷
     -- an operator, a name's length, its bytes, a count of children
     (start (2 ∷ 64 ∷ []), refused 4) ∷ (start (3 ∷ 0 ∷ []), refused 4) ∷ (start (3 ∷ 2 ∷ 32 ∷ []), refused 4) ∷
     (start (3 ∷ 2 ∷ 97 ∷ []), refused 3) ∷ (start (4 ∷ 0 ∷ 0 ∷ 17 ∷ []), refused 4) ∷

@@ -126,7 +126,9 @@ pub record TenRows : Type 0 where
   pub row8 : (operator : ℕ) → 5 ≤ operator → (records : List Record) (l r : Expr)
       → extraction (record { records = records; expr = binary operator l r }) ≡ none
   pub row9 : extractOf (record {
-    records = record { side = left; child = 4; tag = 1 } ∷ record { side = left; child = 4; tag = 2 } ∷ record { side = right; child = 0; tag = 3 } ∷ [];
+    records =
+        record { side = left; child = 4; tag = 1 } ∷ record { side = left; child = 4; tag = 2 } ∷
+        record { side = right; child = 0; tag = 3 } ∷ [];
     expr = and (call (ascii "st_intersects") (two (column 0 1) (column 2 3))) (column 1 2);
   })
       ≡ withRest (relation intersects (column 4 1) (column 0 3)) (record {

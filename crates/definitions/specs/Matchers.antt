@@ -1,0 +1,55 @@
+-- Matching as a parameter: what is claimed of extractions holds under every matcher that obeys the laws below, of which
+-- `matchLeaf` is 01's. (All of this is ours.)
+use Prim.Native.Nat.{ℕ, suc, _≤_}
+use mathlib.Core.Path.{_≡_}
+use mathlib.Core.List.{List, map}
+use mathlib.Core.Option.{Option, none, some, Option·map}
+use lib.ListN.{length}
+use Rattle.definitions.specs.Expression.{Expr, Record, Frame, Predicate, Extraction}
+use Rattle.definitions.specs.Encode.{exprBytes, predicateFields}
+use Rattle.definitions.specs.Leaves.{leaves}
+use Rattle.definitions.specs.Decode.{indexBelow}
+use Rattle.definitions.specs.Extract.{pick, takePick}
+use Rattle.definitions.specs.Exchange.{exchangeRecord, exchangePredicate}
+use Rattle.definitions.specs.Good.{nodes, InRange, Readable, RecordsInRange, ReadablePredicate, predicateNodes, NoMarks}
+use Rattle.definitions.specs.Meaning.{Valuation, Meaning, value, frameColumns, predicateValue, Fair}
+
+-- The predicate of a leaf over these records, if the leaf matches.
+abbrev pub Matcher : Type 0
+Matcher = (records : List Record) → (leaf : Expr) → Option Predicate
+
+-- The match of each AND-leaf; with `matchLeaf` these are `matchesOf`.
+abbrev pub matchesBy : Matcher → Frame → List (Option Predicate)
+matchesBy match F = map (match (F .records)) (leaves (F .expr))
+
+-- The extraction of a frame; with `matchLeaf` it is `extraction`.
+abbrev pub extractionBy : Matcher → Frame → Option Extraction
+extractionBy match F = takePick F (pick (matchesBy match F))
+
+-- ---- the laws
+
+-- A match in range, with its first byte of at most so many bytes, and of at most so many nodes.
+abbrev pub Fits : (room size : ℕ) → Option Predicate → Type 0
+Fits room size none = Unit {0}
+Fits room size (some p) = ReadablePredicate p × (suc (length (predicateFields p)) ≤ room) × (predicateNodes p ≤ size)
+
+-- A match whose value is this.
+abbrev pub Valued : Meaning → Valuation → (truth : ℕ) → Option Predicate → Type 0
+Valued M v truth none = Unit {0}
+Valued M v truth (some p) = truth ≡ predicateValue M v p
+
+-- The laws of a matcher; `Asks` is what its values ask of a meaning and of the records.
+pub record Lawful (match : Matcher) (Asks : Meaning → List Record → Type 0) : Type 0 where
+  -- Exchange respects it: over exchanged records the match of a leaf is the exchanged match.
+  pub turns : (records : List Record) (leaf : Expr)
+      → match (map exchangeRecord records) leaf ≡ Option·map exchangePredicate (match records leaf)
+  -- It makes nothing larger: the match of a leaf that can be read fits in the leaf's place.
+  pub fits : (records : List Record) (leaf : Expr) → RecordsInRange records → Readable (indexBelow (length records)) leaf
+      → Fits (length (exprBytes leaf)) (nodes leaf) (match records leaf)
+  -- Meaning respects it: the match of a leaf in range has the leaf's value.
+  pub means : (M : Meaning) (v : Valuation) (records : List Record) (leaf : Expr) → Asks M records
+      → InRange (indexBelow (length records)) leaf → Valued M v (value M (frameColumns v records) leaf) (match records leaf)
+
+-- What `matchLeaf` asks: a fair meaning, and no mark column among the records.
+abbrev pub LeafAsks : Meaning → List Record → Type 0
+LeafAsks M records = Fair M × NoMarks records
