@@ -11,8 +11,8 @@
  * BUFFERS. Each pointer is to as many bytes as the length after it says, any alignment. No buffer of a call may overlap with another
  * of the same call: that is undefined behaviour, as `restrict` says. A buffer of length 0 may be NULL.
  *
- * THREADS. The library has no state, allocates nothing and calls nothing but memset. Any number of threads may call it at once,
- * each with buffers that no other uses in the meantime. A frame that is only read may be lent to several calls at once.
+ * THREADS. The library has no state, allocates nothing and calls nothing but C's memory functions. Any number of threads may call
+ * it at once, each with buffers that no other uses in the meantime. A frame, which is only read, may be lent to several calls at once.
  *
  * STACK. A call needs at most SPATIALJOIN_STACK_BYTES of stack, which is measured (hosts/c/stack.c) and not proved.
  *
