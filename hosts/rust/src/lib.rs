@@ -20,7 +20,8 @@ pub const MOST_BYTES: usize = 16_384;
 /// The most bytes of stack that a call needs.
 pub const STACK_BYTES: usize = 131_072;
 
-/// The names in the order of their bits in [`Names::mask`], bit 0 first.
+/// The names in the order of their bits in [`Names::mask`], bit 0 first: that of the original's
+/// `collect_spatial_predicate_names`.
 pub const NAMES: [&str; 15] = [
     "st_intersects",
     "st_contains",
