@@ -1,4 +1,5 @@
-//! Logical columns. Stand-in for the crate's own: its names and signatures, with bodies of ours.
+//! Logical columns.
+//! Stand-in for the crate's own: its names and signatures, with bodies of ours.
 
 /// A logical column; here always without a table's name.
 #[derive(Clone, Debug, PartialEq, Eq, Hash)]

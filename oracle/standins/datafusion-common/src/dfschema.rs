@@ -1,4 +1,5 @@
-//! Whether a schema has a column. Stand-in for the crate's own: its names and signatures, with bodies of ours.
+//! Whether a schema has a column.
+//! Stand-in for the crate's own: its names and signatures, with bodies of ours.
 
 use crate::arrow::datatypes::Schema;
 use crate::{Column, DataFusionError};

@@ -1,4 +1,5 @@
-//! Errors with a text. Stand-in for the crate's own: its names and signatures, with bodies of ours.
+//! Errors with a text.
+//! Stand-in for the crate's own: its names and signatures, with bodies of ours.
 
 use std::fmt;
 

@@ -1,4 +1,5 @@
-//! Values of literals. Stand-in for the crate's own: its names and signatures, with bodies of ours.
+//! Values of literals.
+//! Stand-in for the crate's own: its names and signatures, with bodies of ours.
 
 use std::fmt;
 use std::sync::Arc;

@@ -1,4 +1,5 @@
-//! Walks over trees. Stand-in for the crate's own: its names and signatures, with bodies of ours.
+//! Walks over trees.
+//! Stand-in for the crate's own: its names and signatures, with bodies of ours.
 
 use std::sync::Arc;
 

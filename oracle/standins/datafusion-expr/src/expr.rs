@@ -1,4 +1,5 @@
-//! Logical expressions. Stand-in for the crate's own: its names and signatures, with bodies of ours.
+//! Logical expressions.
+//! Stand-in for the crate's own: its names and signatures, with bodies of ours.
 
 use std::collections::HashSet;
 use std::sync::Arc;

@@ -1,4 +1,5 @@
-//! Operators. Stand-in for the crate's own: its names and signatures, with bodies of ours.
+//! Operators.
+//! Stand-in for the crate's own: its names and signatures, with bodies of ours.
 
 use std::fmt;
 

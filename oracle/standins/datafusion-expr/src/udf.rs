@@ -1,5 +1,5 @@
-//! Functions, of which a frame has the names only. Stand-in for the crate's own: its names and signatures, with
-//! bodies of ours.
+//! Functions, of which a frame has the names only.
+//! Stand-in for the crate's own: its names and signatures, with bodies of ours.
 
 use std::fmt;
 use std::sync::Arc;

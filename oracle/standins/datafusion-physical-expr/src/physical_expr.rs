@@ -1,4 +1,5 @@
-//! Physical expressions. Stand-in for the crate's own: its names and signatures, with bodies of ours.
+//! Physical expressions.
+//! Stand-in for the crate's own: its names and signatures, with bodies of ours.
 
 use std::any::Any;
 use std::fmt::{self, Debug, Display};

@@ -1,5 +1,5 @@
-//! Names of a call that is not covered. Stand-in for the crate's own: its names and signatures, with
-//! bodies of ours.
+//! Names of a call that is not covered.
+//! Stand-in for the crate's own: its names and signatures, with bodies of ours.
 
 use std::sync::Arc;
 

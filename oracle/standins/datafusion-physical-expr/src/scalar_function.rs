@@ -1,4 +1,5 @@
-//! Physical calls of functions. Stand-in for the crate's own: its names and signatures, with bodies of ours.
+//! Physical calls of functions.
+//! Stand-in for the crate's own: its names and signatures, with bodies of ours.
 
 use std::fmt;
 use std::sync::Arc;
