@@ -12,8 +12,7 @@ LEVELS = [
     {"*": 10, "/": 11, "%": 12},
 ]
 COMPARISONS = 2
-OPERATORS = {sign: number for level in LEVELS for sign, number in level.items()}
-SIGNS = {number: sign for sign, number in OPERATORS.items()}
+SIGNS = {number: sign for level in LEVELS for sign, number in level.items()}
 
 # Columns by letter. Physical ones have the side of their record, logical ones the bits of the schemas that have them.
 SIDES = {"L": 0, "R": 1, "M": 2}

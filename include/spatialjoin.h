@@ -1,9 +1,9 @@
 /*
  * The join filter planner's calls for C and C++ hosts (libspatialjoin_c.a).
  *
- * PLANS. A plan is the first n bytes of a buffer that the host lends; n = 0 is a fresh plan. The host keeps n: after an accepted call
- * it is the answer, after a refused one it is what it was. A refused call changes no byte of any buffer. SPATIALJOIN_MOST_BYTES are
- * enough for every frame, plan and scratch. docs/FRAMES.md of the repository has the bytes of frames and plans.
+ * PLANS. The host lends a buffer and keeps n: the plan stands in the buffer's first n bytes, and at the start, when there is none, n is
+ * 0. After an accepted call n is the answer, after a refused one what it was. A refused call changes no byte of any buffer.
+ * SPATIALJOIN_MOST_BYTES are enough for every frame, plan and scratch. docs/FRAMES.md of the repository has their bytes.
  *
  * ANSWERS. An answer of at least 0 is a length (of spatialjoin_logical: see there). A negative one is a refusal: one of
  * enum spatialjoin_refusal.
@@ -104,7 +104,7 @@ enum spatialjoin_side {
 #define SPATIALJOIN_SIDE_OF(answer) ((unsigned)((answer) % 256))
 
 /* Loads a physical frame as the new plan: its length, or -1, -2, the first of -3 to -6 from left to right, -7, -8, -9 in this order.
- * Reads nothing of the old plan. */
+ * What was held before plays no part. */
 int64_t spatialjoin_load(const uint8_t *SPATIALJOIN_RESTRICT frame, size_t frame_len,
                          uint8_t *SPATIALJOIN_RESTRICT plan, size_t plan_len);
 

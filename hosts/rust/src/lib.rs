@@ -1,10 +1,11 @@
 //! The join filter planner's calls for Rust hosts, on slices. The functions behind them are proved
 //! to give what the definitions of the same names give, for every input.
 //!
-//! A plan is the first `n` bytes of a buffer that the host lends; `n` = 0 is a fresh plan. The host
-//! keeps `n`: after an accepted call it is the length that the call gave, after a refused one it is
-//! what it was. A refused call changes no byte of any buffer. [`MOST_BYTES`] are enough for every
-//! frame, plan and scratch. `docs/FRAMES.md` of the repository has the bytes of frames and plans.
+//! The host lends a buffer and keeps `n`: the plan stands in the buffer's first `n` bytes, and at
+//! the start, when there is none, `n` is 0. After an accepted call `n` is the length that the call
+//! gave, after a refused one what it was. A refused call changes no byte of any buffer.
+//! [`MOST_BYTES`] are enough for every frame, plan and scratch. `docs/FRAMES.md` of the repository
+//! has their bytes.
 //!
 //! The calls have no state and allocate nothing, so any number of threads may make them. A call
 //! needs at most [`STACK_BYTES`] of stack, which is measured and not proved.
@@ -58,7 +59,8 @@ pub enum Side {
     Right,
 }
 
-/// Loads a physical frame as the new plan and gives its length. Reads nothing of the old plan.
+/// Loads a physical frame as the new plan and gives its length. What was held before
+/// plays no part.
 ///
 /// # Errors
 ///
