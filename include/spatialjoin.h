@@ -1,17 +1,22 @@
 /*
  * The join filter planner's calls for C and C++ hosts (libspatialjoin_c.a).
  *
- * A plan is the first n bytes of a buffer that the host lends; n = 0 is a fresh plan. The host keeps n: after an accepted call it
- * is the answer, after a refused one it is what it was. A refused call changes no byte of any buffer.
+ * PLANS. The host lends a buffer and keeps n: the plan stands in the buffer's first n bytes, and at the start, when there is none, n is
+ * 0. After an accepted call n is the answer, after a refused one what it was. A refused call changes no byte of any buffer.
+ * SPATIALJOIN_MOST_BYTES are enough for every frame, plan and scratch. docs/FRAMES.md of the repository has their bytes.
  *
- * An answer of at least 0 is a length (spatialjoin_logical: see there); a negative one is minus the refusal's number:
- *   -1 frame empty or over 16,384 bytes    -2 wrong first byte           -3 frame ends inside a field
- *   -4 field out of its range              -5 too many nodes, too deep   -6 no such column
- *   -7 bytes after the end                 -8 too few arguments          -9 plan buffer or scratch too short
- *   -10 no good plan in the first n bytes  -11 plan empty                -12 plan already extracted
- *   -13 no conjunct matches
+ * ANSWERS. An answer of at least 0 is a length (of spatialjoin_logical: see there). A negative one is a refusal: one of
+ * enum spatialjoin_refusal.
  *
- * The buffers of one call must not overlap. A buffer of length 0 may have any address but NULL.
+ * BUFFERS. Each pointer is to as many bytes as the length after it says, any alignment. No buffer of a call may overlap with another
+ * of the same call: that is undefined behaviour, as `restrict` says. A buffer of length 0 may be NULL.
+ *
+ * THREADS. The library has no state, allocates nothing and calls nothing but C's memory functions. Any number of threads may call
+ * it at once, each with buffers that no other uses in the meantime. A frame, which is only read, may be lent to several calls at once.
+ *
+ * STACK. A call needs at most SPATIALJOIN_STACK_BYTES of stack, which is measured (hosts/c/stack.c) and not proved.
+ *
+ * MACHINE. The archive is for x86-64 Linux. The header is C89 or later with <stdint.h>, or C++98 or later.
  */
 #ifndef SPATIALJOIN_H
 #define SPATIALJOIN_H
@@ -19,24 +24,103 @@
 #include <stddef.h>
 #include <stdint.h>
 
+#define SPATIALJOIN_VERSION "0.1.0"
+#define SPATIALJOIN_VERSION_MAJOR 0
+#define SPATIALJOIN_VERSION_MINOR 1
+#define SPATIALJOIN_VERSION_PATCH 0
+
+/* The most bytes of a frame or plan. */
+#define SPATIALJOIN_MOST_BYTES 16384
+
+/* The most bytes of stack that a call needs. */
+#define SPATIALJOIN_STACK_BYTES 131072
+
+#if !defined(__cplusplus) && defined(__STDC_VERSION__) && __STDC_VERSION__ >= 199901L
+#define SPATIALJOIN_RESTRICT restrict
+#elif defined(__GNUC__)
+#define SPATIALJOIN_RESTRICT __restrict__
+#else
+#define SPATIALJOIN_RESTRICT
+#endif
+
 #ifdef __cplusplus
 extern "C" {
 #endif
 
+/* The refusals. Each is minus its number. */
+enum spatialjoin_refusal {
+    SPATIALJOIN_FRAME_LENGTH = -1,       /* frame empty or over SPATIALJOIN_MOST_BYTES */
+    SPATIALJOIN_FIRST_BYTE = -2,         /* wrong first byte */
+    SPATIALJOIN_FRAME_ENDS = -3,         /* the frame ends inside a field */
+    SPATIALJOIN_OUT_OF_RANGE = -4,       /* a field is out of its range */
+    SPATIALJOIN_TOO_LARGE = -5,          /* over 1,024 nodes, or over 64 levels */
+    SPATIALJOIN_NO_SUCH_COLUMN = -6,     /* a column's index is not below the column count */
+    SPATIALJOIN_BYTES_AFTER = -7,        /* bytes after the frame's end */
+    SPATIALJOIN_TOO_FEW_ARGUMENTS = -8,  /* a conjunct lacks arguments: see docs/FRAMES.md */
+    SPATIALJOIN_TOO_SHORT = -9,          /* the plan buffer (load) or the scratch is too short */
+    SPATIALJOIN_NO_GOOD_PLAN = -10,      /* n is over the buffer's length, or its first n bytes are no good plan */
+    SPATIALJOIN_PLAN_EMPTY = -11,        /* n is 0 */
+    SPATIALJOIN_ALREADY_EXTRACTED = -12, /* the plan is an extraction already */
+    SPATIALJOIN_NO_MATCH = -13           /* no conjunct matches: the join stays filtered */
+};
+
+/* The first byte of a plan. */
+enum spatialjoin_plan {
+    SPATIALJOIN_FRAME = 0x01,    /* a frame as it was loaded, exchanged or not */
+    SPATIALJOIN_RELATION = 0x11, /* an extraction: a spatial relation */
+    SPATIALJOIN_DISTANCE = 0x12, /* a distance */
+    SPATIALJOIN_KNN = 0x13       /* nearest neighbours */
+};
+
+/* The names in the mask of spatialjoin_logical. */
+enum spatialjoin_name {
+    SPATIALJOIN_ST_INTERSECTS = 0x0001,
+    SPATIALJOIN_ST_CONTAINS = 0x0002,
+    SPATIALJOIN_ST_WITHIN = 0x0004,
+    SPATIALJOIN_ST_COVERS = 0x0008,
+    SPATIALJOIN_ST_COVERED_BY = 0x0010,
+    SPATIALJOIN_ST_COVEREDBY = 0x0020,
+    SPATIALJOIN_ST_TOUCHES = 0x0040,
+    SPATIALJOIN_ST_CROSSES = 0x0080,
+    SPATIALJOIN_ST_OVERLAPS = 0x0100,
+    SPATIALJOIN_ST_EQUALS = 0x0200,
+    SPATIALJOIN_ST_DWITHIN = 0x0400, /* also an st_distance that is compared with a bound */
+    SPATIALJOIN_ST_KNN = 0x0800,
+    SPATIALJOIN_RS_INTERSECTS = 0x1000,
+    SPATIALJOIN_RS_CONTAINS = 0x2000,
+    SPATIALJOIN_RS_WITHIN = 0x4000
+};
+
+/* The query side of spatialjoin_logical. */
+enum spatialjoin_side {
+    SPATIALJOIN_LEFT = 0,
+    SPATIALJOIN_RIGHT = 1,
+    SPATIALJOIN_NO_SIDE = 2
+};
+
+/* The parts of an accepted spatialjoin_logical's answer. */
+#define SPATIALJOIN_MASK_OF(answer) ((unsigned)((answer) / 65536))
+#define SPATIALJOIN_NAMES_OF(answer) ((unsigned)((answer) / 256 % 256))
+#define SPATIALJOIN_SIDE_OF(answer) ((unsigned)((answer) % 256))
+
 /* Loads a physical frame as the new plan: its length, or -1, -2, the first of -3 to -6 from left to right, -7, -8, -9 in this order.
- * Reads nothing of the old plan. */
-int64_t spatialjoin_load(const uint8_t *frame, size_t frame_len, uint8_t *plan, size_t plan_len);
+ * What was held before plays no part. */
+int64_t spatialjoin_load(const uint8_t *SPATIALJOIN_RESTRICT frame, size_t frame_len,
+                         uint8_t *SPATIALJOIN_RESTRICT plan, size_t plan_len);
 
 /* Pulls the spatial predicate out of the held filter: the new plan's length, or -10, -11, -12, -9, -13 in this order.
  * The old plan is copied to the scratch's first n bytes. */
-int64_t spatialjoin_extract(uint8_t *plan, size_t plan_len, size_t n, uint8_t *scratch, size_t scratch_len);
+int64_t spatialjoin_extract(uint8_t *SPATIALJOIN_RESTRICT plan, size_t plan_len, size_t n,
+                            uint8_t *SPATIALJOIN_RESTRICT scratch, size_t scratch_len);
 
 /* Exchanges the join's children in the held plan: the new plan's length, or -10, -11, -9 in this order.
  * The old plan is copied to the scratch's first n bytes. */
-int64_t spatialjoin_exchange(uint8_t *plan, size_t plan_len, size_t n, uint8_t *scratch, size_t scratch_len);
+int64_t spatialjoin_exchange(uint8_t *SPATIALJOIN_RESTRICT plan, size_t plan_len, size_t n,
+                             uint8_t *SPATIALJOIN_RESTRICT scratch, size_t scratch_len);
 
-/* The spatial names of a logical frame and its KNN query side: mask * 65536 + names * 256 + side (0 left, 1 right, 2 none),
- * or -1, -2, the first of -3 to -5 from left to right, -7 in this order. Bit 0 of the mask is the first of the 15 names. */
+/* The spatial names of a logical frame and its KNN query side: mask * 65536 + names * 256 + side, which the macros above take apart,
+ * or -1, -2, the first of -3 to -5 from left to right, -7 in this order. The mask has a bit for each name that occurs (enum
+ * spatialjoin_name), `names` is how many they are, and side is one of enum spatialjoin_side. */
 int64_t spatialjoin_logical(const uint8_t *frame, size_t frame_len);
 
 #ifdef __cplusplus

@@ -8,8 +8,6 @@ mod operations;
 mod original;
 mod ours;
 mod parts;
-#[path = "../../include/spatialjoin.rs"]
-mod spatialjoin;
 mod table;
 
 use std::env;

@@ -4,6 +4,8 @@
 use std::collections::BTreeMap;
 use std::time::Duration;
 
+use driver::progress::Progress;
+
 use crate::clock::processor_time;
 
 /// Who does the work that is timed.
@@ -44,9 +46,11 @@ const WARM_UP: Duration = Duration::from_millis(20);
 
 pub fn measure(tasks: Vec<Task<'_>>, rounds: usize) -> Vec<Row> {
     let mut all: Vec<Course<'_>> = tasks.into_iter().map(Course::warmed_up).collect();
-    for _ in 0..rounds {
+    let mut progress = Progress::new("rounds of this operation", rounds as u64);
+    for round in 1..=rounds {
         let running = all.iter_mut().flat_map(|course| &mut course.running);
         running.for_each(Running::take_reading);
+        progress.done(round as u64);
     }
     all.into_iter().map(Course::row).collect()
 }

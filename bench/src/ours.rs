@@ -1,8 +1,7 @@
 //! The library on buffers of a host.
 
 use reading::frame::MAX_BYTES;
-
-use crate::spatialjoin;
+use spatialjoin::numbers;
 
 /// Both buffers as long as the longest frame; they are never cleared.
 pub struct Ours {
@@ -21,24 +20,24 @@ impl Ours {
     }
 
     pub fn load(&mut self, frame: &[u8]) {
-        let answer = spatialjoin::load(frame, &mut self.plan);
+        let answer = numbers::load(frame, &mut self.plan);
         self.keep(answer);
     }
 
     pub fn extract(&mut self) {
-        let answer = spatialjoin::extract(&mut self.plan, self.n, &mut self.scratch);
+        let answer = numbers::extract(&mut self.plan, self.n, &mut self.scratch);
         self.keep(answer);
     }
 
     /// Extracts, and holds the old plan again: the call left it in the scratch, so the buffers
     /// change places and nothing is copied.
     pub fn extract_and_return(&mut self) {
-        spatialjoin::extract(&mut self.plan, self.n, &mut self.scratch);
+        numbers::extract(&mut self.plan, self.n, &mut self.scratch);
         std::mem::swap(&mut self.plan, &mut self.scratch);
     }
 
     pub fn exchange(&mut self) {
-        let answer = spatialjoin::exchange(&mut self.plan, self.n, &mut self.scratch);
+        let answer = numbers::exchange(&mut self.plan, self.n, &mut self.scratch);
         self.keep(answer);
     }
 
@@ -54,5 +53,5 @@ impl Ours {
 
 /// Four bytes as the program writes them: mask, count, query side.
 pub fn logical(frame: &[u8]) -> [u8; 4] {
-    (spatialjoin::logical(frame) as u32).to_be_bytes()
+    (numbers::logical(frame) as u32).to_be_bytes()
 }

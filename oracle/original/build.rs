@@ -1,5 +1,6 @@
 //! Fetches a package's original files into the build folder, so that none is kept here. The
-//! folder is `SEDONA_DB_SRC`, or else `../shared/docs/src` beside the repository's root.
+//! folder is `SEDONA_DB_SRC`, or else `../shared/docs/src` beside the repository's root: a checkout
+//! of the original's repository, or a folder with files named after their paths there.
 
 use std::path::PathBuf;
 use std::{env, fs};
@@ -17,7 +18,11 @@ fn main() {
     };
     println!("cargo::rerun-if-env-changed=SEDONA_DB_SRC");
     for module in modules {
-        let file = source.join(format!("src--rust--{package}--src--{module}.rs.txt"));
+        let flat = source.join(format!("src--rust--{package}--src--{module}.rs.txt"));
+        let file = match flat.exists() {
+            true => flat,
+            false => source.join(format!("rust/{package}/src/{module}.rs")),
+        };
         println!("cargo::rerun-if-changed={}", file.display());
         let text = fs::read(&file).unwrap_or_else(|e| panic!("{}: {e}", file.display()));
         fs::write(out.join(format!("{module}.rs")), text).expect("the build folder is writable");

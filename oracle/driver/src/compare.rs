@@ -8,6 +8,7 @@ use reading::program::Program;
 use crate::make::{self, Case};
 use crate::original::{Original, try_refused};
 use crate::planner::Planner;
+use crate::progress::Progress;
 use crate::report::Report;
 use crate::shrink::shrink;
 
@@ -16,6 +17,7 @@ const FRAMES_PER_RUN: u64 = 5_000;
 
 pub struct Options {
     pub planner: PathBuf,
+    /// At least 1.
     pub frames: u64,
     pub seed: u64,
     /// How many differences to show with their smallest input.
@@ -36,6 +38,19 @@ pub struct References {
     original: Original,
 }
 
+impl Expected {
+    /// Reading and original have the same answer, or the original has none.
+    pub fn agrees(&self) -> bool {
+        let original = self.original.as_ref();
+        original.is_none_or(|line| *line == self.reading)
+    }
+
+    /// A refusal with 6 or 8, where document 01 lists that the original does something else.
+    pub fn is_listed_difference(&self) -> bool {
+        matches!(&self.reading[..], b"06" | b"08")
+    }
+}
+
 impl References {
     pub fn expect(&mut self, line: &[u8]) -> Expected {
         Expected {
@@ -54,8 +69,7 @@ pub struct Compared {
 
 impl Compared {
     pub fn agrees(&self) -> bool {
-        let original = self.expected.original.as_ref();
-        self.expected.reading == self.planner && original.is_none_or(|line| *line == self.planner)
+        self.expected.reading == self.planner && self.expected.agrees()
     }
 }
 
@@ -85,11 +99,16 @@ fn joined(lines: &[Vec<u8>], last_line_feed: bool) -> Vec<u8> {
 /// Compares as many frames as the options say.
 pub fn compare(options: &Options) -> io::Result<Report> {
     let mut report = Report::default();
+    let mut progress = Progress::new("frames compared", options.frames);
     let mut first = 0;
     while first < options.frames {
         let end = options.frames.min(first + FRAMES_PER_RUN);
         one_run(options, first, end, &mut report)?;
         first = end;
+        progress.done(first);
+    }
+    if report.written == 0 {
+        return Err(io::Error::other("the planner wrote no line"));
     }
     for difference in &mut report.shown {
         difference.smallest = shrink(&options.planner, &difference.case)?;
@@ -113,10 +132,11 @@ fn one_run(options: &Options, first: u64, end: u64, report: &mut Report) -> io::
     }
     let output = planner.finish()?;
     let mut lines = output.lines().into_iter();
+    let written = lines.len();
     for (number, case, expected) in cases {
         hold(number, &case, expected, &mut lines, options.show, report);
     }
-    report.end_of_run(lines.count(), output.status);
+    report.end_of_run(written, lines.count(), output.status);
     Ok(())
 }
 
@@ -143,7 +163,7 @@ fn hold(
             planner: planner.next().unwrap_or_default(),
         };
         report.count_line(&compared);
-        if matches!(&compared.expected.reading[..], b"06" | b"08")
+        if compared.expected.is_listed_difference()
             && let Some(tried) = try_refused(line)
         {
             report.count_tried(&compared.expected.reading, tried);

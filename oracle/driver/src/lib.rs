@@ -3,10 +3,12 @@
 pub mod answer;
 pub mod compare;
 pub mod host;
+pub mod lines;
 pub mod make;
 pub mod opaque;
 pub mod original;
 mod planner;
+pub mod progress;
 pub mod report;
 pub mod rng;
 pub mod sample;

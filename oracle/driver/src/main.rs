@@ -1,14 +1,17 @@
-//! Compares a planner program with the original, or writes a sample of the original's answers.
+//! Compares a planner program with the original, writes a sample of the original's answers, or
+//! runs the original on lines of one's own.
 
+use std::env;
+use std::io::{self, BufWriter};
 use std::path::PathBuf;
 use std::process::ExitCode;
-use std::{env, io};
 
 use driver::compare::{self, Options};
-use driver::{original, sample};
+use driver::{lines, original, sample};
 
 const USAGE: &str = "driver compare --planner PROGRAM [--frames N] [--seed S] [--show N]
-driver sample FOLDER [--seed S]";
+driver sample FOLDER [--seed S]
+driver lines";
 
 fn main() -> ExitCode {
     original::keep_guarded_panics_quiet();
@@ -26,6 +29,7 @@ fn run(words: &[String]) -> io::Result<ExitCode> {
     match words.split_first() {
         Some((mode, rest)) if mode == "compare" => run_compare(rest),
         Some((mode, rest)) if mode == "sample" => run_sample(rest),
+        Some((mode, [])) if mode == "lines" => run_lines(),
         _ => Err(io::Error::other(USAGE)),
     }
 }
@@ -46,14 +50,13 @@ fn run_compare(words: &[String]) -> io::Result<ExitCode> {
             _ => return Err(io::Error::other(USAGE)),
         }
     }
+    if options.frames == 0 {
+        return Err(io::Error::other("no frame to compare"));
+    }
     println!("seed {}, {} frames", options.seed, options.frames);
     let report = compare::compare(&options)?;
     println!("{report}");
-    Ok(if report.differences == 0 {
-        ExitCode::SUCCESS
-    } else {
-        ExitCode::FAILURE
-    })
+    Ok(code(report.differences == 0))
 }
 
 fn run_sample(words: &[String]) -> io::Result<ExitCode> {
@@ -64,6 +67,18 @@ fn run_sample(words: &[String]) -> io::Result<ExitCode> {
     };
     println!("{}", sample::sample(folder.as_ref(), seed)?);
     Ok(ExitCode::SUCCESS)
+}
+
+fn run_lines() -> io::Result<ExitCode> {
+    let output = BufWriter::new(io::stdout().lock());
+    lines::lines(io::stdin().lock(), output).map(code)
+}
+
+fn code(agreed: bool) -> ExitCode {
+    match agreed {
+        true => ExitCode::SUCCESS,
+        false => ExitCode::FAILURE,
+    }
 }
 
 fn number(text: &str) -> io::Result<u64> {

@@ -1,3 +1,5 @@
+//! Nodes of a frame that the original has no type for.
+
 use std::fmt;
 use std::hash::{Hash, Hasher};
 use std::sync::Arc;

@@ -22,7 +22,8 @@ use sedona_query_planner::spatial_predicate::{
 use crate::answer::{put_extraction, side_number, taken_leaf};
 use crate::host::{join_filter, logical_join};
 
-/// The names in the order of the original's list, which gives them their bits.
+/// The names in the order in which the original's `collect_spatial_predicate_names` lists them,
+/// which gives them their bits.
 const NAMES: [&str; 15] = [
     "st_intersects",
     "st_contains",

@@ -45,6 +45,8 @@ pub struct Report {
     answers: BTreeMap<&'static str, AnswerCount>,
     tried: BTreeMap<String, TriedCount>,
     runs: u64,
+    /// Lines that the planner wrote.
+    pub written: u64,
     first_difference: Option<u64>,
     pub differences: u64,
     pub shown: Vec<Difference>,
@@ -95,8 +97,9 @@ impl Report {
     }
 
     /// Lines that nobody asked for, or a bad end, are differences as well.
-    pub fn end_of_run(&mut self, lines_left: usize, status: ExitStatus) {
+    pub fn end_of_run(&mut self, lines: usize, lines_left: usize, status: ExitStatus) {
         self.runs += 1;
+        self.written += lines as u64;
         if lines_left > 0 {
             println!("the planner wrote {lines_left} lines too many");
             self.differences += 1;

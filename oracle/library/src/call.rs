@@ -6,9 +6,9 @@ use driver::rng::Rng;
 use reading::calls;
 use reading::program::hex;
 use reading::refusal::Refusal;
+use spatialjoin::numbers;
 
 use crate::lent::Lent;
-use crate::spatialjoin;
 
 #[derive(Clone, Copy, Debug, PartialEq, Eq, PartialOrd, Ord)]
 pub enum Kind {
@@ -68,10 +68,10 @@ impl Call {
         let mut scratch = Lent::new(rng, &self.scratch);
         let n = self.n;
         let answer = match self.kind {
-            Kind::Load => spatialjoin::load(frame.bytes(), plan.bytes_mut()),
-            Kind::Extract => spatialjoin::extract(plan.bytes_mut(), n, scratch.bytes_mut()),
-            Kind::Exchange => spatialjoin::exchange(plan.bytes_mut(), n, scratch.bytes_mut()),
-            Kind::Logical => spatialjoin::logical(frame.bytes()),
+            Kind::Load => numbers::load(frame.bytes(), plan.bytes_mut()),
+            Kind::Extract => numbers::extract(plan.bytes_mut(), n, scratch.bytes_mut()),
+            Kind::Exchange => numbers::exchange(plan.bytes_mut(), n, scratch.bytes_mut()),
+            Kind::Logical => numbers::logical(frame.bytes()),
         };
         Given {
             outcome: Outcome {

@@ -4,13 +4,12 @@ mod call;
 mod counts;
 mod held;
 mod lent;
-#[path = "../../../include/spatialjoin.rs"]
-mod spatialjoin;
 
 use std::env;
 use std::process::ExitCode;
 
 use driver::make::{self, Case};
+use driver::progress::Progress;
 use driver::rng::Rng;
 use reading::frame::{LOGICAL, MAX_BYTES, PHYSICAL};
 use reading::program::parse;
@@ -35,12 +34,14 @@ fn main() -> ExitCode {
     };
     println!("seed {seed}, {frames} frames");
     let mut counts = Counts::default();
+    let mut progress = Progress::new("frames compared", frames);
     for number in 1..=frames {
         let mut rng = Rng::new(!seed, number);
         if let Err(difference) = run(&mut rng, &make::case(seed, number), &mut counts) {
             println!("difference at frame {number}\n{difference}");
             return ExitCode::FAILURE;
         }
+        progress.done(number);
     }
     println!("{counts}, no difference");
     ExitCode::SUCCESS
@@ -53,7 +54,7 @@ fn options(words: &[String]) -> Option<(u64, u64)> {
             return None;
         };
         match name.as_str() {
-            "--frames" => frames = value.parse().ok()?,
+            "--frames" => frames = value.parse().ok().filter(|frames| *frames > 0)?,
             "--seed" => seed = value.parse().ok()?,
             _ => return None,
         }

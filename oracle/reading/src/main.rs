@@ -1,3 +1,5 @@
+//! The reading as a program: lines in, lines out.
+
 use std::io::{self, BufWriter};
 
 fn main() -> io::Result<()> {

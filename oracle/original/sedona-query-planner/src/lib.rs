@@ -1,4 +1,6 @@
-//! The original crate's two modules, as they were published, and a way to their inner functions.
+//! The original crate's two modules, as they were published, and a way to their inner functions:
+//! spatial_predicate.rs and spatial_expr_utils.rs of rust/sedona-query-planner/src. The build script
+//! fetches them; they are not kept here.
 
 pub mod reach;
 

@@ -1,4 +1,5 @@
-//! The original keeps these functions inside its crate; here the driver can call them.
+//! The original keeps these functions of rust/sedona-query-planner/src/spatial_expr_utils.rs inside
+//! its crate; here the driver can call them, by their own names.
 
 use std::collections::HashSet;
 

@@ -1,3 +1,6 @@
+//! Schemas and fields, of which a frame has the names only.
+//! Stand-in for the crate's own: its names and signatures, with bodies of ours.
+
 pub mod datatypes {
     use std::sync::Arc;
 

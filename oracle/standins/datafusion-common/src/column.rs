@@ -1,3 +1,6 @@
+//! Logical columns.
+//! Stand-in for the crate's own: its names and signatures, with bodies of ours.
+
 /// A logical column; here always without a table's name.
 #[derive(Clone, Debug, PartialEq, Eq, Hash)]
 pub struct Column {

@@ -1,3 +1,6 @@
+//! Whether a schema has a column.
+//! Stand-in for the crate's own: its names and signatures, with bodies of ours.
+
 use crate::arrow::datatypes::Schema;
 use crate::{Column, DataFusionError};
 

@@ -1,3 +1,6 @@
+//! Errors with a text.
+//! Stand-in for the crate's own: its names and signatures, with bodies of ours.
+
 use std::fmt;
 
 #[derive(Debug)]

@@ -1,3 +1,6 @@
+//! Sides of a join.
+//! Stand-in for the crate's own: its names and signatures, with bodies of ours.
+
 #[derive(Clone, Copy, Debug, PartialEq, Eq, Hash)]
 pub enum JoinSide {
     Left,

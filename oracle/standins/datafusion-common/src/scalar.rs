@@ -1,3 +1,6 @@
+//! Values of literals.
+//! Stand-in for the crate's own: its names and signatures, with bodies of ours.
+
 use std::fmt;
 use std::sync::Arc;
 

@@ -1,3 +1,6 @@
+//! Walks over trees.
+//! Stand-in for the crate's own: its names and signatures, with bodies of ours.
+
 use std::sync::Arc;
 
 use crate::Result;

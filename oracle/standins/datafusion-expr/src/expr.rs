@@ -1,3 +1,6 @@
+//! Logical expressions.
+//! Stand-in for the crate's own: its names and signatures, with bodies of ours.
+
 use std::collections::HashSet;
 use std::sync::Arc;
 

@@ -1,3 +1,6 @@
+//! Functions, of which a frame has the names only.
+//! Stand-in for the crate's own: its names and signatures, with bodies of ours.
+
 use std::fmt;
 use std::sync::Arc;
 

@@ -1,3 +1,6 @@
+//! Physical columns, literals and binary expressions.
+//! Stand-in for the crate's own: its names and signatures, with bodies of ours.
+
 use std::fmt;
 use std::sync::Arc;
 

@@ -1,3 +1,6 @@
+//! Physical expressions.
+//! Stand-in for the crate's own: its names and signatures, with bodies of ours.
+
 use std::any::Any;
 use std::fmt::{self, Debug, Display};
 use std::sync::Arc;

@@ -1,3 +1,6 @@
+//! Names of a call that is not covered.
+//! Stand-in for the crate's own: its names and signatures, with bodies of ours.
+
 use std::sync::Arc;
 
 use datafusion_common::{DataFusionError, Result};

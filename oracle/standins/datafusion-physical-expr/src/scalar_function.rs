@@ -1,3 +1,6 @@
+//! Physical calls of functions.
+//! Stand-in for the crate's own: its names and signatures, with bodies of ours.
+
 use std::fmt;
 use std::sync::Arc;
 

@@ -1,3 +1,6 @@
+//! Join filters.
+//! Stand-in for the crate's own: its names and signatures, with bodies of ours.
+
 pub mod utils {
     use std::sync::Arc;
 

@@ -1,13 +1,9 @@
-//! A Rust host: the worked run, its answers printed as the program spatialjoin prints them. `hosts`
-//! builds and runs it.
+//! A Rust host: the worked run, its answers printed as the program spatialjoin prints them.
 
-#[path = "../include/spatialjoin.rs"]
-mod spatialjoin;
-
-const LONGEST: usize = 16_384;
+use spatialjoin::{MOST_BYTES, Refusal};
 
 /// `st_within(column 0, column 1) AND column 1`; column 0 is column 3 of the right child, column 1
-/// column 0 of the left. `host.c` has it byte by byte.
+/// column 0 of the left. `hosts/c/host.c` has it byte by byte.
 const FRAME: &[u8] = b"\x01\0\x02\x01\0\x03\0\x07\0\0\0\0\x08\
     \x02\0\x03\x09st_within\x02\0\0\0\0\x07\0\0\x01\0\x08\0\0\x01\0\x08";
 
@@ -34,15 +30,14 @@ impl Host {
         self.take(answer);
     }
 
-    /// Keeps an accepted call's length and prints the plan; a refused call's number is printed
-    /// alone.
-    fn take(&mut self, answer: i64) {
-        match usize::try_from(answer) {
+    /// Keeps an accepted call's length and prints the plan; of a refused call, the number.
+    fn take(&mut self, answer: Result<usize, Refusal>) {
+        match answer {
             Ok(length) => {
                 self.n = length;
                 println!("00{}", hex(&self.plan[..length]));
             }
-            Err(_) => println!("{:02x}", -answer),
+            Err(refusal) => println!("{:02x}", refusal.number()),
         }
     }
 }
@@ -53,8 +48,8 @@ fn hex(bytes: &[u8]) -> String {
 
 fn main() {
     let mut host = Host {
-        plan: vec![0; LONGEST],
-        scratch: vec![0; LONGEST],
+        plan: vec![0; MOST_BYTES],
+        scratch: vec![0; MOST_BYTES],
         n: 0,
     };
     host.load(FRAME);

@@ -1,10 +1,8 @@
-/* A C host: the worked run, its answers printed as the program spatialjoin prints them. `hosts` builds and runs it. */
+/* A C host: the worked run, its answers printed as the program spatialjoin prints them. `../check` builds and runs it. */
 #include <inttypes.h>
 #include <stdio.h>
 
 #include "spatialjoin.h"
-
-#define LONGEST 16384
 
 /* st_within(column 0, column 1) AND column 1; column 0 is column 3 of the right child, column 1 column 0 of the left. */
 static const uint8_t frame[] = {
@@ -20,8 +18,8 @@ static const uint8_t frame[] = {
 };
 
 /* The host lends both buffers and keeps n, the length of the plan. */
-static uint8_t plan[LONGEST];
-static uint8_t scratch[LONGEST];
+static uint8_t plan[SPATIALJOIN_MOST_BYTES];
+static uint8_t scratch[SPATIALJOIN_MOST_BYTES];
 static size_t n = 0;
 
 /* Keeps an accepted call's length as n and prints the plan; a refused call's number is printed alone. */

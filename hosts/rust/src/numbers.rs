@@ -1,10 +1,7 @@
-//! The planner's calls for Rust hosts: the functions of `spatialjoin.h`, which says what they do,
-//! on slices. An answer is theirs: a length, or minus the refusal's number.
-//!
-//! A host takes the file in by `#[path = ".."] mod spatialjoin;` and links `libspatialjoin_c.a`.
+//! The calls with the answers of the C functions: a length (of [`logical`]: mask, count and side in
+//! one number), or minus the refusal's number. `include/spatialjoin.h` says what they do.
 
 mod c {
-    #[link(name = "spatialjoin_c", kind = "static")]
     unsafe extern "C" {
         pub fn spatialjoin_load(
             frame: *const u8,
@@ -47,8 +44,6 @@ pub fn exchange(plan: &mut [u8], n: usize, scratch: &mut [u8]) -> i64 {
     unsafe { c::spatialjoin_exchange(plan, plan_len, n, scratch.as_mut_ptr(), scratch.len()) }
 }
 
-/// Not every host has logical frames.
-#[allow(dead_code)]
 pub fn logical(frame: &[u8]) -> i64 {
     unsafe { c::spatialjoin_logical(frame.as_ptr(), frame.len()) }
 }

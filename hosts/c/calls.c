@@ -1,0 +1,147 @@
+/* Tests of the library as a C host sees it: every refusal by its constant, the names of the mask, NULL with length 0. Ends with 1
+ * where a call answers otherwise. `../check` builds and runs it. */
+#include <stdio.h>
+#include <string.h>
+
+#include "spatialjoin.h"
+
+#define RECORDS "\x01\x00\x02" "\x00\x00\x00\x00\x00" "\x01\x00\x00\x00\x00" /* columns 0 (left) and 1 (right) */
+#define LEFT "\x00\x00\x00\x00\x00"
+#define RIGHT "\x00\x00\x01\x00\x00"
+#define GOOD RECORDS "\x03\x09" "st_within" "\x02" LEFT RIGHT
+#define UNMATCHED RECORDS LEFT
+
+static uint8_t plan[SPATIALJOIN_MOST_BYTES];
+static uint8_t scratch[SPATIALJOIN_MOST_BYTES];
+static uint8_t frame[SPATIALJOIN_MOST_BYTES + 1];
+static int tried, failed;
+
+static void expect(const char *what, int64_t answer, int64_t expected)
+{
+    tried++;
+    if (answer != expected) {
+        failed++;
+        printf("%s: %ld, not %ld\n", what, (long)answer, (long)expected);
+    }
+}
+
+/* The bytes of a text, its last 0 not among them. */
+#define LOAD(text) spatialjoin_load((const uint8_t *)(text), sizeof(text) - 1, plan, sizeof plan)
+#define LOGICAL(text) spatialjoin_logical((const uint8_t *)(text), sizeof(text) - 1)
+
+/* A frame of this many levels: functions of one argument, the last of none. */
+static size_t levels(size_t count)
+{
+    static const uint8_t head[] = {1, 0, 0};
+    size_t i, length = sizeof head;
+    memcpy(frame, head, sizeof head);
+    for (i = 1; i <= count; i++) {
+        frame[length++] = 3;
+        frame[length++] = 1;
+        frame[length++] = 'f';
+        frame[length++] = i < count;
+    }
+    return length;
+}
+
+static void refusals_of_frames(void)
+{
+    expect("good", LOAD(GOOD), sizeof(GOOD) - 1);
+    expect("no bytes", LOAD(""), SPATIALJOIN_FRAME_LENGTH);
+    expect("too many bytes", spatialjoin_load(frame, sizeof frame, plan, sizeof plan), SPATIALJOIN_FRAME_LENGTH);
+    expect("first byte", LOAD("\x02\x04\x00\x00\x00"), SPATIALJOIN_FIRST_BYTE);
+    expect("cut", LOAD("\x01\x00\x00\x04"), SPATIALJOIN_FRAME_ENDS);
+    expect("kind 5", LOAD("\x01\x00\x00\x05"), SPATIALJOIN_OUT_OF_RANGE);
+    expect("64 levels", spatialjoin_load(frame, levels(64), plan, sizeof plan), 259);
+    expect("65 levels", spatialjoin_load(frame, levels(65), plan, sizeof plan), SPATIALJOIN_TOO_LARGE);
+    expect("no column 0", LOAD("\x01\x00\x00" LEFT), SPATIALJOIN_NO_SUCH_COLUMN);
+    expect("a byte more", LOAD(GOOD "\x00"), SPATIALJOIN_BYTES_AFTER);
+    expect("st_within()", LOAD(RECORDS "\x03\x09" "st_within" "\x00"), SPATIALJOIN_TOO_FEW_ARGUMENTS);
+    expect("plan too short", spatialjoin_load((const uint8_t *)GOOD, sizeof(GOOD) - 1, plan, sizeof(GOOD) - 2), SPATIALJOIN_TOO_SHORT);
+}
+
+static void refusals_of_plans(void)
+{
+    size_t n;
+    int64_t extracted;
+    expect("extract, n past the end", spatialjoin_extract(plan, 8, 9, scratch, sizeof scratch), SPATIALJOIN_NO_GOOD_PLAN);
+    expect("extract, n = 0", spatialjoin_extract(plan, sizeof plan, 0, scratch, sizeof scratch), SPATIALJOIN_PLAN_EMPTY);
+    expect("exchange, n = 0", spatialjoin_exchange(plan, sizeof plan, 0, scratch, sizeof scratch), SPATIALJOIN_PLAN_EMPTY);
+
+    n = (size_t)LOAD(UNMATCHED);
+    expect("no match", spatialjoin_extract(plan, sizeof plan, n, scratch, sizeof scratch), SPATIALJOIN_NO_MATCH);
+    expect("still a frame", plan[0], SPATIALJOIN_FRAME);
+
+    n = (size_t)LOAD(GOOD);
+    expect("extract, scratch too short", spatialjoin_extract(plan, sizeof plan, n, scratch, n - 1), SPATIALJOIN_TOO_SHORT);
+    expect("exchange, scratch too short", spatialjoin_exchange(plan, sizeof plan, n, scratch, n - 1), SPATIALJOIN_TOO_SHORT);
+    extracted = spatialjoin_extract(plan, sizeof plan, n, scratch, n);
+    expect("extract", extracted, 13);
+    expect("a relation", plan[0], SPATIALJOIN_RELATION);
+    expect("extract again", spatialjoin_extract(plan, sizeof plan, 13, scratch, 13), SPATIALJOIN_ALREADY_EXTRACTED);
+    expect("exchange", spatialjoin_exchange(plan, sizeof plan, 13, scratch, 13), 13);
+    plan[0] = SPATIALJOIN_FRAME;
+    expect("no plan", spatialjoin_exchange(plan, sizeof plan, 13, scratch, 13), SPATIALJOIN_NO_GOOD_PLAN);
+}
+
+static void names_of_frames(void)
+{
+    static const struct {
+        const char *name;
+        unsigned bit;
+    } names[] = {
+        {"st_intersects", SPATIALJOIN_ST_INTERSECTS}, {"st_contains", SPATIALJOIN_ST_CONTAINS},
+        {"st_within", SPATIALJOIN_ST_WITHIN},         {"st_covers", SPATIALJOIN_ST_COVERS},
+        {"st_covered_by", SPATIALJOIN_ST_COVERED_BY}, {"st_coveredby", SPATIALJOIN_ST_COVEREDBY},
+        {"st_touches", SPATIALJOIN_ST_TOUCHES},       {"st_crosses", SPATIALJOIN_ST_CROSSES},
+        {"st_overlaps", SPATIALJOIN_ST_OVERLAPS},     {"st_equals", SPATIALJOIN_ST_EQUALS},
+        {"st_dwithin", SPATIALJOIN_ST_DWITHIN},       {"st_knn", SPATIALJOIN_ST_KNN},
+        {"rs_intersects", SPATIALJOIN_RS_INTERSECTS}, {"rs_contains", SPATIALJOIN_RS_CONTAINS},
+        {"rs_within", SPATIALJOIN_RS_WITHIN},
+    };
+    size_t i, length;
+    int64_t answer;
+    for (i = 0; i < sizeof names / sizeof *names; i++) {
+        length = strlen(names[i].name);
+        frame[0] = 2;
+        frame[1] = 3;
+        frame[2] = (uint8_t)length;
+        memcpy(frame + 3, names[i].name, length);
+        frame[3 + length] = 0;
+        answer = spatialjoin_logical(frame, 4 + length);
+        expect(names[i].name, SPATIALJOIN_MASK_OF(answer), names[i].bit);
+        expect("one name", SPATIALJOIN_NAMES_OF(answer), 1);
+        expect("no side", SPATIALJOIN_SIDE_OF(answer), SPATIALJOIN_NO_SIDE);
+    }
+    answer = LOGICAL("\x02\x03\x06" "ST_KNN" "\x01" "\x05\x01\x00\x00");
+    expect("query left", SPATIALJOIN_SIDE_OF(answer), SPATIALJOIN_LEFT);
+    answer = LOGICAL("\x02\x03\x06" "ST_KNN" "\x01" "\x05\x02\x00\x00");
+    expect("query right", SPATIALJOIN_SIDE_OF(answer), SPATIALJOIN_RIGHT);
+    expect("logical, first byte", LOGICAL("\x01\x04\x00\x00\x00"), SPATIALJOIN_FIRST_BYTE);
+}
+
+static void null_buffers(void)
+{
+    size_t n;
+    expect("load NULL", spatialjoin_load(NULL, 0, plan, sizeof plan), SPATIALJOIN_FRAME_LENGTH);
+    expect("load NULL to NULL", spatialjoin_load(NULL, 0, NULL, 0), SPATIALJOIN_FRAME_LENGTH);
+    expect("load to NULL", spatialjoin_load((const uint8_t *)GOOD, sizeof(GOOD) - 1, NULL, 0), SPATIALJOIN_TOO_SHORT);
+    expect("logical NULL", spatialjoin_logical(NULL, 0), SPATIALJOIN_FRAME_LENGTH);
+    expect("extract from NULL", spatialjoin_extract(NULL, 0, 0, NULL, 0), SPATIALJOIN_PLAN_EMPTY);
+    expect("extract from NULL, n = 1", spatialjoin_extract(NULL, 0, 1, NULL, 0), SPATIALJOIN_NO_GOOD_PLAN);
+    expect("exchange in NULL", spatialjoin_exchange(NULL, 0, 0, NULL, 0), SPATIALJOIN_PLAN_EMPTY);
+    expect("exchange in NULL, n = 1", spatialjoin_exchange(NULL, 0, 1, NULL, 0), SPATIALJOIN_NO_GOOD_PLAN);
+    n = (size_t)LOAD(GOOD);
+    expect("extract with NULL", spatialjoin_extract(plan, sizeof plan, n, NULL, 0), SPATIALJOIN_TOO_SHORT);
+    expect("exchange with NULL", spatialjoin_exchange(plan, sizeof plan, n, NULL, 0), SPATIALJOIN_TOO_SHORT);
+}
+
+int main(void)
+{
+    refusals_of_frames();
+    refusals_of_plans();
+    names_of_frames();
+    null_buffers();
+    printf("%d answers, %d wrong\n", tried, failed);
+    return failed > 0;
+}

@@ -1,0 +1,251 @@
+/* Measures the stack that the library's calls need: makes them on a stack of its own that was filled with a pattern, and looks how
+ * far down the pattern is gone. The frames are 64 levels deep, the deepest that there are, in every shape that the calls walk by
+ * calling themselves. Ends with 1 where a call needs more than SPATIALJOIN_STACK_BYTES. `../check` builds and runs it. */
+#define _XOPEN_SOURCE 700
+#include <stdio.h>
+#include <string.h>
+#include <ucontext.h>
+
+#include "spatialjoin.h"
+
+#define DEPTH 64
+#define PATTERN 0xa5
+#define STACK_SIZE (4 * SPATIALJOIN_STACK_BYTES)
+
+enum call { LOAD, EXTRACT, EXCHANGE, LOGICAL, CALLS };
+static const char *const call_names[CALLS] = {"load", "extract", "exchange", "logical"};
+
+/* How a node holds the deeper one below it. */
+enum shape { AND_LEFT, AND_RIGHT, OR_LEFT, OR_RIGHT, FUNCTION_ONE, FUNCTION_LAST, OTHER_ONE, OTHER_LAST, SHAPES };
+
+/* The conjunct that matches, and which of its arguments is deep. */
+enum leaf { WITHIN, DWITHIN, LESS, GREATER, KNN, LEAVES };
+static const char *const leaf_names[LEAVES] = {"st_within", "st_dwithin", "st_distance", "st_distance", "st_knn"};
+static const int leaf_arguments[LEAVES] = {2, 3, 2, 2, 3};
+
+static uint8_t frame[SPATIALJOIN_MOST_BYTES];
+static size_t frame_len;
+static int logical_frame;
+
+static uint8_t plan[SPATIALJOIN_MOST_BYTES];
+static uint8_t scratch[SPATIALJOIN_MOST_BYTES];
+static size_t n;
+
+static uint8_t stack[STACK_SIZE];
+static ucontext_t caller, callee;
+static enum call called;
+static int64_t answer;
+
+static size_t most[CALLS];
+static unsigned long accepted[CALLS];
+
+static void put(unsigned byte)
+{
+    frame[frame_len++] = (uint8_t)byte;
+}
+
+/* Column 0 is of the left child, column 1 of the right; the logical ones are their fields. */
+static void put_column(unsigned column)
+{
+    if (logical_frame) {
+        put(5), put(column + 1), put(0), put(0);
+    } else {
+        put(0), put(0), put(column), put(0), put(0);
+    }
+}
+
+static void put_number(unsigned number)
+{
+    int i;
+    put(1), put(3);
+    for (i = 0; i < 7; i++) {
+        put(0);
+    }
+    put(number);
+}
+
+static void put_name(const char *name, int arguments)
+{
+    put(3), put((unsigned)strlen(name));
+    while (*name != '\0') {
+        put((uint8_t)*name++);
+    }
+    put((unsigned)arguments);
+}
+
+/* What stands before the deeper node. */
+static void put_before(enum shape shape)
+{
+    int i;
+    switch (shape) {
+    case AND_LEFT: put(2), put(0); break;
+    case AND_RIGHT: put(2), put(0), put_number(1); break;
+    case OR_LEFT: put(2), put(5); break;
+    case OR_RIGHT: put(2), put(5), put_number(1); break;
+    case FUNCTION_ONE: put_name("f", 1); break;
+    case FUNCTION_LAST: put_name("f", 16); break;
+    case OTHER_ONE: put(4), put(0), put(0), put(1); break;
+    case OTHER_LAST: put(4), put(0), put(0), put(16); break;
+    case SHAPES: break;
+    }
+    if (shape == FUNCTION_LAST || shape == OTHER_LAST) {
+        for (i = 0; i < 15; i++) {
+            put(4), put(0), put(0), put(0);
+        }
+    }
+}
+
+/* What stands after it. */
+static void put_after(enum shape shape)
+{
+    if (shape == AND_LEFT || shape == OR_LEFT) {
+        put_number(1);
+    }
+}
+
+static void put_deep(enum shape shape, int levels, unsigned column)
+{
+    int i;
+    for (i = 1; i < levels; i++) {
+        put_before(shape);
+    }
+    put_column(column);
+    for (i = 1; i < levels; i++) {
+        put_after(shape);
+    }
+}
+
+/* A function's arguments: the deep one of so many levels, columns of both sides, then a number. */
+static void put_arguments(int arguments, int deep, enum shape shape, int levels)
+{
+    int i;
+    for (i = 0; i < arguments; i++) {
+        if (i == deep) {
+            put_deep(shape, levels, i == 1);
+        } else if (i < 2) {
+            put_column((unsigned)i);
+        } else {
+            put_number(5);
+        }
+    }
+}
+
+/* A conjunct of so many levels. The third argument of a comparison is its bound. */
+static void put_leaf(enum leaf leaf, int deep, enum shape shape, int levels)
+{
+    int compared = leaf == LESS || leaf == GREATER;
+    int below = compared && deep < 2 ? levels - 2 : levels - 1;
+    if (compared) {
+        put(2), put(leaf == LESS ? 1 : 3);
+    }
+    if (leaf == GREATER) {
+        put_arguments(1, deep == 2 ? 0 : 1, shape, below);
+    }
+    put_name(leaf_names[leaf], leaf_arguments[leaf]);
+    put_arguments(leaf_arguments[leaf], deep, shape, below);
+    if (leaf == LESS) {
+        put_arguments(1, deep == 2 ? 0 : 1, shape, below);
+    }
+}
+
+/* A frame of 64 levels: so many Ands, then the conjunct. */
+static void make_frame(enum shape ands, int levels, enum leaf leaf, int deep, enum shape shape)
+{
+    static const uint8_t records[] = {1, 0, 2, 0, 0, 0, 0, 0, 1, 0, 0, 0, 0};
+    int i;
+    frame_len = 0;
+    if (logical_frame) {
+        put(2);
+    } else {
+        memcpy(frame, records, sizeof records);
+        frame_len = sizeof records;
+    }
+    for (i = 0; i < levels; i++) {
+        put_before(ands);
+    }
+    put_leaf(leaf, deep, shape, DEPTH - levels);
+    for (i = 0; i < levels; i++) {
+        put_after(ands);
+    }
+}
+
+/* On the filled stack. */
+static void make_call(void)
+{
+    switch (called) {
+    case LOAD: answer = spatialjoin_load(frame, frame_len, plan, sizeof plan); break;
+    case EXTRACT: answer = spatialjoin_extract(plan, sizeof plan, n, scratch, sizeof scratch); break;
+    case EXCHANGE: answer = spatialjoin_exchange(plan, sizeof plan, n, scratch, sizeof scratch); break;
+    case LOGICAL: answer = spatialjoin_logical(frame, frame_len); break;
+    case CALLS: break;
+    }
+}
+
+static void measure(enum call call)
+{
+    size_t untouched = 0;
+    memset(stack, PATTERN, sizeof stack);
+    getcontext(&callee);
+    callee.uc_stack.ss_sp = stack;
+    callee.uc_stack.ss_size = sizeof stack;
+    callee.uc_link = &caller;
+    makecontext(&callee, make_call, 0);
+    called = call;
+    swapcontext(&caller, &callee);
+
+    while (untouched < sizeof stack && stack[untouched] == PATTERN) {
+        untouched++;
+    }
+    if (sizeof stack - untouched > most[call]) {
+        most[call] = sizeof stack - untouched;
+    }
+    if (answer >= 0) {
+        accepted[call]++;
+        n = call == LOGICAL ? n : (size_t)answer;
+    }
+}
+
+static void measure_frame(void)
+{
+    if (logical_frame) {
+        measure(LOGICAL);
+    } else {
+        measure(LOAD);
+        measure(EXCHANGE);
+        measure(EXTRACT);
+        measure(EXCHANGE);
+    }
+}
+
+/* Every conjunct, each argument of it deep in every shape, below so many Ands. */
+static void measure_leaves(enum shape ands, int levels)
+{
+    unsigned leaf, deep, shape;
+    for (leaf = 0; leaf < LEAVES; leaf++) {
+        for (deep = 0; deep < 3; deep++) {
+            for (shape = 0; shape < SHAPES; shape++) {
+                make_frame(ands, levels, (enum leaf)leaf, (int)deep, (enum shape)shape);
+                measure_frame();
+            }
+        }
+    }
+}
+
+int main(void)
+{
+    static const int and_levels[] = {0, 1, 30, 60, 61, 62};
+    unsigned i;
+    int failed = 0;
+    for (logical_frame = 0; logical_frame < 2; logical_frame++) {
+        for (i = 0; i < sizeof and_levels / sizeof *and_levels; i++) {
+            measure_leaves(AND_LEFT, and_levels[i]);
+            measure_leaves(AND_RIGHT, and_levels[i]);
+        }
+    }
+    for (i = 0; i < CALLS; i++) {
+        printf("%-8s %6lu bytes of stack at the most, %lu calls accepted\n", call_names[i], (unsigned long)most[i], accepted[i]);
+        failed |= most[i] > SPATIALJOIN_STACK_BYTES || accepted[i] == 0;
+    }
+    printf("%s\n", failed ? "more than SPATIALJOIN_STACK_BYTES, or no call accepted" : "within SPATIALJOIN_STACK_BYTES");
+    return failed;
+}

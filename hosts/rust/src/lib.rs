@@ -1,0 +1,125 @@
+//! The join filter planner's calls for Rust hosts, on slices. The functions behind them are proved
+//! to give what the definitions of the same names give, for every input.
+//!
+//! The host lends a buffer and keeps `n`: the plan stands in the buffer's first `n` bytes, and at
+//! the start, when there is none, `n` is 0. After an accepted call `n` is the length that the call
+//! gave, after a refused one what it was. A refused call changes no byte of any buffer.
+//! [`MOST_BYTES`] are enough for every frame, plan and scratch. `docs/FRAMES.md` of the repository
+//! has their bytes.
+//!
+//! The calls have no state and allocate nothing, so any number of threads may make them. A call
+//! needs at most [`STACK_BYTES`] of stack, which is measured and not proved.
+
+pub mod numbers;
+mod refusal;
+
+pub use refusal::Refusal;
+
+/// The most bytes of a frame or plan.
+pub const MOST_BYTES: usize = 16_384;
+
+/// The most bytes of stack that a call needs.
+pub const STACK_BYTES: usize = 131_072;
+
+/// The names in the order of their bits in [`Names::mask`], bit 0 first: that of the original's
+/// `collect_spatial_predicate_names`.
+pub const NAMES: [&str; 15] = [
+    "st_intersects",
+    "st_contains",
+    "st_within",
+    "st_covers",
+    "st_covered_by",
+    "st_coveredby",
+    "st_touches",
+    "st_crosses",
+    "st_overlaps",
+    "st_equals",
+    "st_dwithin",
+    "st_knn",
+    "rs_intersects",
+    "rs_contains",
+    "rs_within",
+];
+
+/// What a logical frame has of spatial names, and the side of its KNN query.
+#[derive(Clone, Copy, Debug, PartialEq, Eq)]
+pub struct Names {
+    /// A bit for each of [`NAMES`] that occurs.
+    pub mask: u16,
+    /// How many of them occur.
+    pub count: u8,
+    /// The child that the query geometry of the first `st_knn` call is of, if it is of one.
+    pub query_side: Option<Side>,
+}
+
+/// A child of the join.
+#[derive(Clone, Copy, Debug, PartialEq, Eq)]
+pub enum Side {
+    Left,
+    Right,
+}
+
+/// Loads a physical frame as the new plan and gives its length. What was held before
+/// plays no part.
+///
+/// # Errors
+///
+/// Refusals 1 to 9.
+pub fn load(frame: &[u8], plan: &mut [u8]) -> Result<usize, Refusal> {
+    length(numbers::load(frame, plan))
+}
+
+/// Pulls the spatial predicate out of the filter in the plan's first `n` bytes and gives the new
+/// plan's length. The old plan is copied to the scratch's first `n` bytes.
+///
+/// # Errors
+///
+/// Refusals 9 to 13.
+pub fn extract(plan: &mut [u8], n: usize, scratch: &mut [u8]) -> Result<usize, Refusal> {
+    length(numbers::extract(plan, n, scratch))
+}
+
+/// Exchanges the join's children in the plan in the first `n` bytes and gives the new plan's
+/// length. The old plan is copied to the scratch's first `n` bytes.
+///
+/// # Errors
+///
+/// Refusals 9 to 11.
+pub fn exchange(plan: &mut [u8], n: usize, scratch: &mut [u8]) -> Result<usize, Refusal> {
+    length(numbers::exchange(plan, n, scratch))
+}
+
+/// The spatial names of a logical frame and its KNN query side.
+///
+/// # Errors
+///
+/// Refusals 1 to 5 and 7.
+pub fn logical(frame: &[u8]) -> Result<Names, Refusal> {
+    let answer = accepted(numbers::logical(frame))?;
+    let [mask_high, mask_low, count, side] = (answer as u32).to_be_bytes();
+    Ok(Names {
+        mask: u16::from_be_bytes([mask_high, mask_low]),
+        count,
+        query_side: match side {
+            0 => Some(Side::Left),
+            1 => Some(Side::Right),
+            _ => None,
+        },
+    })
+}
+
+fn length(answer: i64) -> Result<usize, Refusal> {
+    accepted(answer).map(|length| length as usize)
+}
+
+/// An answer that is no refusal.
+///
+/// # Panics
+///
+/// On a number that no call gives: another library was linked.
+fn accepted(answer: i64) -> Result<u64, Refusal> {
+    u64::try_from(answer).map_err(|_| {
+        let refusal = Refusal::from_number(answer.unsigned_abs());
+        refusal.unwrap_or_else(|| panic!("{answer} is no answer of the library"))
+    })
+}

@@ -1,0 +1,219 @@
+//! The worked run, every refusal of every call, the names of the mask and the query side.
+
+use spatialjoin::{MOST_BYTES, NAMES, Names, Refusal, STACK_BYTES, Side};
+use spatialjoin::{exchange, extract, load, logical};
+
+/// Columns 0 (of the left child) and 1 (of the right).
+const RECORDS: &[u8] = b"\x01\0\x02\0\0\0\0\0\x01\0\0\0\0";
+const LEFT: &[u8] = b"\0\0\0\0\0";
+const RIGHT: &[u8] = b"\0\0\x01\0\0";
+
+fn bytes(line: &str) -> Vec<u8> {
+    let digits = |at| u8::from_str_radix(&line[at..at + 2], 16).expect("hexadecimal");
+    (0..line.len()).step_by(2).map(digits).collect()
+}
+
+/// A call of this name without arguments; they are to follow.
+fn call(name: &str, arguments: u8) -> Vec<u8> {
+    [&[3, name.len() as u8], name.as_bytes(), &[arguments]].concat()
+}
+
+/// `st_within` of a left and a right column.
+fn good() -> Vec<u8> {
+    [RECORDS, &call("st_within", 2), LEFT, RIGHT].concat()
+}
+
+/// A physical frame of one conjunct without columns.
+fn frame_of(expression: &[u8]) -> Vec<u8> {
+    [b"\x01\0\0", expression].concat()
+}
+
+/// Functions of one argument, the last of none.
+fn levels(count: usize) -> Vec<u8> {
+    [call("f", 1).repeat(count - 1), call("f", 0)].concat()
+}
+
+/// The plan after an accepted load, and its length.
+fn loaded(frame: &[u8]) -> (Vec<u8>, usize) {
+    let mut plan = vec![0; MOST_BYTES];
+    let n = load(frame, &mut plan).expect("a good frame");
+    (plan, n)
+}
+
+/// What a load of the frame into a long buffer answers; refused, it changes nothing.
+fn load_alone(frame: &[u8]) -> Result<usize, Refusal> {
+    let mut plan = vec![7; MOST_BYTES];
+    let answer = load(frame, &mut plan);
+    assert!(answer.is_ok() || plan == vec![7; MOST_BYTES]);
+    answer
+}
+
+#[test]
+fn worked_run() {
+    let run = include_str!("../../../examples/worked-run.txt").lines();
+    let answers = include_str!("../../../examples/worked-run-answers.txt").lines();
+    let (mut plan, mut scratch, mut n) = (vec![0; MOST_BYTES], vec![0; MOST_BYTES], 0);
+    let mut lines = 0;
+    for (line, answer) in run.zip(answers) {
+        let given = match line {
+            "21" => extract(&mut plan, n, &mut scratch),
+            "22" => exchange(&mut plan, n, &mut scratch),
+            _ => load(&bytes(line), &mut plan),
+        };
+        let expected = bytes(answer);
+        match given {
+            Ok(length) => {
+                n = length;
+                assert_eq!([&[0], &plan[..n]].concat(), expected);
+            }
+            Err(refusal) => assert_eq!([refusal.number()], expected[..]),
+        }
+        lines += 1;
+    }
+    assert_eq!(lines, 4);
+}
+
+#[test]
+fn refusals_of_a_load() {
+    let deep = |count| frame_of(&levels(count));
+    let long = vec![1; MOST_BYTES + 1];
+    let good = good();
+    assert_eq!(load_alone(&good), Ok(good.len()));
+    assert_eq!(load_alone(b""), Err(Refusal::FrameLength));
+    assert_eq!(load_alone(&long), Err(Refusal::FrameLength));
+    assert_eq!(load_alone(b"\x02"), Err(Refusal::FirstByte));
+    assert_eq!(load_alone(&good[..9]), Err(Refusal::FrameEnds));
+    assert_eq!(load_alone(&frame_of(b"\x05")), Err(Refusal::OutOfRange));
+    assert_eq!(load_alone(&deep(64)), Ok(3 + 64 * 4));
+    assert_eq!(load_alone(&deep(65)), Err(Refusal::TooLarge));
+    assert_eq!(load_alone(&frame_of(LEFT)), Err(Refusal::NoSuchColumn));
+    let longer = [&good[..], b"\0"].concat();
+    assert_eq!(load_alone(&longer), Err(Refusal::BytesAfter));
+    let fewer = frame_of(&call("st_within", 0));
+    assert_eq!(load_alone(&fewer), Err(Refusal::TooFewArguments));
+    let mut short = vec![7; good.len() - 1];
+    assert_eq!(load(&good, &mut short), Err(Refusal::TooShort));
+    assert_eq!(load(&good, &mut []), Err(Refusal::TooShort));
+}
+
+#[test]
+fn refusals_of_an_extract() {
+    let (mut plan, n) = loaded(&good());
+    let mut scratch = vec![0; n];
+    let past = plan.len() + 1;
+    let refused = extract(&mut plan, past, &mut scratch);
+    assert_eq!(refused, Err(Refusal::NoGoodPlan));
+    assert_eq!(
+        extract(&mut plan, n - 1, &mut scratch),
+        Err(Refusal::NoGoodPlan)
+    );
+    assert_eq!(extract(&mut plan, 0, &mut scratch), Err(Refusal::PlanEmpty));
+    let refused = extract(&mut plan, n, &mut scratch[1..]);
+    assert_eq!(refused, Err(Refusal::TooShort));
+    assert_eq!(plan[..n], good());
+
+    let extracted = extract(&mut plan, n, &mut scratch).expect("it matches");
+    assert_eq!(plan[..extracted], [&[0x11, 2], LEFT, LEFT, &[0]].concat());
+    assert_eq!(scratch, good());
+    let again = extract(&mut plan, extracted, &mut scratch);
+    assert_eq!(again, Err(Refusal::AlreadyExtracted));
+
+    let (mut plan, n) = loaded(&[RECORDS, LEFT].concat());
+    assert_eq!(extract(&mut plan, n, &mut scratch), Err(Refusal::NoMatch));
+}
+
+#[test]
+fn refusals_of_an_exchange() {
+    let (mut plan, n) = loaded(&good());
+    let mut scratch = vec![0; n];
+    assert_eq!(
+        exchange(&mut plan, n - 1, &mut scratch),
+        Err(Refusal::NoGoodPlan)
+    );
+    assert_eq!(
+        exchange(&mut plan, 0, &mut scratch),
+        Err(Refusal::PlanEmpty)
+    );
+    let refused = exchange(&mut plan, n, &mut scratch[1..]);
+    assert_eq!(refused, Err(Refusal::TooShort));
+    assert_eq!(exchange(&mut plan, n, &mut scratch), Ok(n));
+    assert_eq!(scratch, good());
+}
+
+#[test]
+fn refusals_of_a_logical_call() {
+    let logical_frame = |expression: &[u8]| [&[2], expression].concat();
+    assert_eq!(logical(b""), Err(Refusal::FrameLength));
+    assert_eq!(logical(&good()), Err(Refusal::FirstByte));
+    assert_eq!(logical(b"\x02"), Err(Refusal::FrameEnds));
+    assert_eq!(logical(&logical_frame(LEFT)), Err(Refusal::OutOfRange));
+    let deep = logical_frame(&levels(65));
+    assert_eq!(logical(&deep), Err(Refusal::TooLarge));
+    let longer = logical_frame(b"\x05\x01\0\0\0");
+    assert_eq!(logical(&longer), Err(Refusal::BytesAfter));
+}
+
+#[test]
+fn names_have_their_bits() {
+    for (bit, name) in NAMES.iter().enumerate() {
+        let expected = Names {
+            mask: 1 << bit,
+            count: 1,
+            query_side: None,
+        };
+        for name in [name.to_string(), name.to_uppercase()] {
+            let frame = [&[2][..], &call(&name, 0)].concat();
+            assert_eq!(logical(&frame), Ok(expected));
+        }
+    }
+}
+
+#[test]
+fn query_sides() {
+    let sides = [None, Some(Side::Left), Some(Side::Right), None];
+    for (bits, side) in (0..).zip(sides) {
+        let column = [5, bits, 0, 0];
+        let frame = [&[2][..], &call("st_knn", 1), &column].concat();
+        assert_eq!(logical(&frame).map(|names| names.query_side), Ok(side));
+    }
+}
+
+#[test]
+fn every_refusal_has_its_number_and_text() {
+    let texts: Vec<String> = (1..=13)
+        .map(|number| format!("refusal {number}: "))
+        .collect();
+    let refusals = [
+        Refusal::FrameLength,
+        Refusal::FirstByte,
+        Refusal::FrameEnds,
+        Refusal::OutOfRange,
+        Refusal::TooLarge,
+        Refusal::NoSuchColumn,
+        Refusal::BytesAfter,
+        Refusal::TooFewArguments,
+        Refusal::TooShort,
+        Refusal::NoGoodPlan,
+        Refusal::PlanEmpty,
+        Refusal::AlreadyExtracted,
+        Refusal::NoMatch,
+    ];
+    for (refusal, text) in refusals.iter().zip(&texts) {
+        assert!(refusal.to_string().starts_with(text));
+    }
+}
+
+#[test]
+fn the_header_has_the_same_limits_and_version() {
+    let header = include_str!("../../../include/spatialjoin.h");
+    let defines = |name: &str, value: String| {
+        let line = format!("#define SPATIALJOIN_{name} {value}");
+        assert!(header.lines().any(|known| known == line), "{line}");
+    };
+    defines("MOST_BYTES", MOST_BYTES.to_string());
+    defines("STACK_BYTES", STACK_BYTES.to_string());
+    defines("VERSION", format!("{:?}", env!("CARGO_PKG_VERSION")));
+    defines("VERSION_MAJOR", env!("CARGO_PKG_VERSION_MAJOR").to_owned());
+    defines("VERSION_MINOR", env!("CARGO_PKG_VERSION_MINOR").to_owned());
+    defines("VERSION_PATCH", env!("CARGO_PKG_VERSION_PATCH").to_owned());
+}

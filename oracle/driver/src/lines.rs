@@ -1,0 +1,81 @@
+//! The original on lines of one's own.
+
+use std::io::{self, BufRead, Write};
+
+use crate::compare::{Expected, References};
+use crate::original::{Tried, try_refused};
+
+/// Answers every line of the input, and says whether reading and original agreed on all of them.
+/// It is an error if there is none.
+pub fn lines(input: impl BufRead, mut output: impl Write) -> io::Result<bool> {
+    let mut references = References::default();
+    let mut agreed = true;
+    let mut count = 0;
+    for line in input.split(b'\n') {
+        let line = line?;
+        let expected = references.expect(&line);
+        agreed &= expected.agrees();
+        writeln!(output, "{}", told(&line, &expected))?;
+        count += 1;
+    }
+    match count {
+        0 => Err(io::Error::other("no line")),
+        _ => Ok(agreed),
+    }
+}
+
+fn told(line: &[u8], expected: &Expected) -> String {
+    let text = |answer: &[u8]| String::from_utf8_lossy(answer).into_owned();
+    let reading = text(&expected.reading);
+    match &expected.original {
+        Some(original) if expected.agrees() => format!("original {}", text(original)),
+        Some(original) => format!("differ {}, the reading {reading}", text(original)),
+        None => format!("reading {reading}{}", nonetheless(line, expected)),
+    }
+}
+
+/// What the original does with a frame that is refused with 6 or 8.
+fn nonetheless(line: &[u8], expected: &Expected) -> &'static str {
+    if !expected.is_listed_difference() {
+        return "";
+    }
+    match try_refused(line) {
+        Some(Tried::Panics) => ", the original panics",
+        Some(Tried::Extracts) => ", the original extracts",
+        Some(Tried::FindsNothing) => ", the original finds nothing",
+        None => "",
+    }
+}
+
+#[cfg(test)]
+mod tests {
+    use super::lines;
+
+    #[test]
+    fn the_worked_run_is_the_originals_but_for_loads_and_refusals() {
+        let run = include_bytes!("../../../examples/worked-run.txt");
+        let answers = include_str!("../../../examples/worked-run-answers.txt");
+        let mut output = Vec::new();
+        assert!(lines(&run[..], &mut output).unwrap());
+        let who = ["reading", "original", "original", "reading"];
+        let expected: Vec<String> = who
+            .iter()
+            .zip(answers.lines())
+            .map(|(who, answer)| format!("{who} {answer}\n"))
+            .collect();
+        assert_eq!(String::from_utf8(output).unwrap(), expected.concat());
+    }
+
+    #[test]
+    fn a_frame_that_is_refused_is_given_to_the_original_nonetheless() {
+        let mut output = Vec::new();
+        let within = "010000030973745f77697468696e00";
+        assert!(lines(within.as_bytes(), &mut output).unwrap());
+        assert_eq!(output, b"reading 08, the original panics\n");
+    }
+
+    #[test]
+    fn no_line_is_an_error() {
+        assert!(lines(&b""[..], Vec::new()).is_err());
+    }
+}
