@@ -12,9 +12,10 @@ use lines::sessions::feed;
 use lines::sessions::finish;
 use lines::sessions::fresh;
 ghost use mathlib.Core.Path.{_≡_};
-ghost use Prim.Native.Nat.{_≤_};
-ghost use lib.ListN.{length};
-ghost use Rattle.spatialjoin.specs.Turns.{Settled};
+ghost use Prim.Native.Nat.{ℕ, _≤_};
+ghost use lib.ListN.{length, take};
+ghost use Rattle.lines.specs.Sessions.{lent, Ends};
+ghost use Rattle.spatialjoin.specs.Turns.{Flushed, Handed, ReadOn};
 
 // What follows a read: another one, the end of the input, or nothing, since reading or writing failed.
 enum Turn {
@@ -26,7 +27,7 @@ enum Turn {
 // Writes what is to be written.
 fn flush(out: &[u8], state: State) -> Turn
     requires { ⌜ state .filled ≤ length (now out) ⌝ }
-    ensures { λ r. ⌜ Settled r ⌝ }
+    ensures { λ r. ⌜ Flushed state r ⌝ }
 {
     let filled = state.filled;
     if io::write_all(STDOUT_FILENO, &out[..filled]) {
@@ -51,7 +52,7 @@ fn feed_all(
     state: State,
 ) -> Turn
     requires { ⌜ (size ≤ length (now chunk)) × (state .filled ≡ 0) ⌝ }
-    ensures { λ r. ⌜ Settled r ⌝ }
+    ensures { λ r. ⌜ Handed (take size (now (chunk .entry))) (lent (now (out .entry)) (now (plan .entry)) (now (line .entry))) state (lent (now (out .exit)) (now (plan .exit)) (now (line .exit))) r ⌝ }
 {
     let mut current = state;
     let mut at: usize = 0;
@@ -79,7 +80,7 @@ fn read_on(
     state: State,
 ) -> Turn
     requires { ⌜ state .filled ≡ 0 ⌝ }
-    ensures { λ r. ⌜ Settled r ⌝ }
+    ensures { λ r. ⌜ ReadOn (now (chunk .exit)) (lent (now (out .entry)) (now (plan .entry)) (now (line .entry))) state (lent (now (out .exit)) (now (plan .exit)) (now (line .exit))) r ⌝ }
 {
     let got = libc::read(STDIN_FILENO, chunk);
     if got < 0 {
@@ -101,6 +102,7 @@ fn write_last(
     state: State,
 )
     requires { ⌜ state .filled ≡ 0 ⌝ }
+    ensures { λ _. ⌜ ((filled : ℕ) × Ends (lent (now (out .entry)) (now (plan .entry)) (now (line .entry))) state (now (out .exit)) filled) ⌝ }
 {
     let last = finish(out, plan, scratch, line, state);
     flush(out, last);

@@ -11,12 +11,13 @@ abbrev μ-loop : tie.MeasureT-loop
 μ-loop out₀ plan₀ scratch₀ line₀ chunk₀ state₀ turns₀ out plan scratch line chunk state turns = turns
 
 loop-again : tie.Need-loop-again Inv-loop μ-loop
-loop-again c = rw (c .before .next .given .1) at (c .before .before .before .read-on .ensures)
+loop-again c = (rw (c .before .next .given .1) at (c .before .before .before .read-on .ensures)) .2 .0
 
 write-last-requires : tie.Need-write-last-requires Inv-loop μ-loop
 write-last-requires c κs =
     let told = c .before .before .before .before .before in
-    rw (told .last .given .1) at (told .before .before .read-on .ensures)
+    let e = (rw (told .last .given .1) at (told .before .before .read-on .ensures)) .0 in
+    rw e (told .before .before .before .before .before .before .before .before .before .loop .inv)
 
 pub main-spec : {M : Type 1} → statement M
 main-spec =
