@@ -9,11 +9,8 @@ use lib.Dec.{eqb}
 use borrow.Author.Tests.{eqb-true, eqb-false, ne-eqb}
 use Rattle.definitions.specs.Basics.{if_then_else_}
 use Rattle.lines.specs.Pieces.{Session, Step, endLine, join, character, piece, firstLine, hasFeed}
+use Rattle.lines.specs.Collecting.{takenOf}
 use Rattle.lines.proofs.CollectLaws.{no-feed}
-
--- What of a piece is taken.
-abbrev pub takenOf : List ℕ → ℕ
-takenOf p = length (firstLine p) + (if hasFeed p then 1 else 0)
 
 abbrev pub joined : Session → (characters : List ℕ) → Session
 joined s characters = record { kept = s .kept; begun = s .begun ++ characters }

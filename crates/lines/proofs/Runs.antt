@@ -10,6 +10,7 @@ use Rattle.lines.specs.Pieces.{piece, freshSession}
 use Rattle.lines.specs.declared.sessions.State.{State}
 use Rattle.lines.specs.Sessions.{Lent, Stands}
 use Rattle.lines.specs.Runs.{together, Reached, start, feeding, writing, RunsWrite}
+use Rattle.lines.proofs.SessionLaws.{at-end}
 use Rattle.lines.proofs.Whole.{piece-append, whole-input}
 
 -- What was written from a place on follows what stood before it.
@@ -52,6 +53,6 @@ holds (writing r) =
 
 pub runs-write : RunsWrite
 unfolding RunsWrite
-runs-write ps w b state out filled r room ends =
+runs-write ps w b after state last r room ends =
     let h = holds r in
-    next-written h (ends _ (h .stands) room) ∙ whole-input (together ps)
+    next-written h (at-end ends _ (h .stands) room) ∙ whole-input (together ps)

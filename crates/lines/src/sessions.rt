@@ -1,18 +1,18 @@
 // The program between two pieces of its input.
-use super::answers::Answer;
-use super::answers::put_answer;
-use super::calls::answer_line;
 use super::collecting::collect;
 use frame::refusals::Refusal;
+use line_calls::answers::Answer;
+use line_calls::answers::put_answer;
+use line_calls::calls::answer_line;
 ghost use mathlib.Core.Path.{_≡_};
 ghost use mathlib.Core.List.{List};
 ghost use Prim.Native.Nat.{ℕ, _+_, _*_, _≤_};
 ghost use lib.ListN.{length, take, replicate};
 ghost use Rattle.definitions.specs.Program.{lineOutcome};
-ghost use Rattle.lines.specs.Answers.{planLength, lengthAfter, keptAs, AnswerIs};
+ghost use Rattle.line_calls.specs.Answers.{planLength, lengthAfter, keptAs, AnswerIs};
 ghost use Rattle.lines.specs.Pieces as pieces;
 ghost use Rattle.lines.specs.Collecting.{Begun};
-ghost use Rattle.lines.specs.Sessions.{lent, Stands, Makes, Taken, Ends};
+ghost use Rattle.lines.specs.Sessions.{lent, Stands, begunScratch, EndedIs, FedIs, FinishedIs};
 
 // The most bytes that may wait to be written where a line is answered.
 pub const MOST_FILLED: usize = 32757;
@@ -33,7 +33,7 @@ pub struct Fed {
 // The state at the start, over a plan buffer of zeros.
 pub fn fresh() -> State
     ensures { λ r. ⌜ r .filled ≡ 0 ⌝ }
-    ensures { λ r. ⌜ ((out line : List ℕ) → Stands (lent out (replicate 16384 0) line) r pieces.freshSession) ⌝ }
+    ensures { λ r. ⌜ ((out scratch line : List ℕ) → Stands (lent out (replicate 16384 0) scratch line) r pieces.freshSession) ⌝ }
 {
     State {
         n: 0,
@@ -58,6 +58,7 @@ fn answer_begun(plan: &mut [u8], scratch: &mut [u8], line: &[u8], count: usize, 
     requires { ⌜ (length (now scratch) ≡ 16384) × (length (now line) ≡ 32768) ⌝ }
     ensures { λ r. ⌜ planLength r ≤ length (now (plan .entry)) ⌝ }
     ensures { λ r. ⌜ ((begun : List ℕ) → Begun (now (line .entry)) count begun → AnswerIs (lineOutcome begun (keptAs n (now (plan .entry)))) n (now (plan .exit)) r) ⌝ }
+    ensures { λ _. ⌜ now (scratch .exit) ≡ begunScratch (now (line .entry)) count n (now (plan .entry)) (now (scratch .entry)) ⌝ }
 {
     if line.len() < count {
         return Answer::Refused(Refusal::NotHexadecimal);
@@ -69,8 +70,7 @@ fn answer_begun(plan: &mut [u8], scratch: &mut [u8], line: &[u8], count: usize, 
 fn end_line(out: &mut [u8], plan: &mut [u8], scratch: &mut [u8], line: &[u8], state: State) -> State
     requires { ⌜ (length (now scratch) ≡ 16384) × (length (now line) ≡ 32768) ⌝ }
     requires { ⌜ state .filled + 2 * length (now plan) + 11 ≤ length (now out) ⌝ }
-    ensures { λ r. ⌜ r .filled ≤ length (now (out .entry)) ⌝ }
-    ensures { λ r. ⌜ Makes pieces.endLine (lent (now (out .entry)) (now (plan .entry)) (now (line .entry))) state (lent (now (out .exit)) (now (plan .exit)) (now (line .entry))) r ⌝ }
+    ensures { λ r. ⌜ EndedIs (lent (now (out .entry)) (now (plan .entry)) (now (scratch .entry)) (now (line .entry))) state (lent (now (out .exit)) (now (plan .exit)) (now (scratch .exit)) (now (line .entry))) r ⌝ }
 {
     let n = state.n;
     let answer = answer_begun(plan, scratch, line, state.count, n);
@@ -91,8 +91,7 @@ pub fn feed(
     piece: &[u8],
     state: State,
 ) -> Fed
-    ensures { λ r. ⌜ Taken (now (piece .entry)) state r ⌝ }
-    ensures { λ r. ⌜ Makes (λ s. pieces.piece s (take (r .taken) (now (piece .entry)))) (lent (now (out .entry)) (now (plan .entry)) (now (line .entry))) state (lent (now (out .exit)) (now (plan .exit)) (now (line .exit))) (r .state) ⌝ }
+    ensures { λ r. ⌜ FedIs (now (piece .entry)) (lent (now (out .entry)) (now (plan .entry)) (now (scratch .entry)) (now (line .entry))) state (lent (now (out .exit)) (now (plan .exit)) (now (scratch .exit)) (now (line .exit))) r ⌝ }
 {
     if MOST_FILLED < state.filled {
         return Fed { taken: 0, state };
@@ -119,11 +118,10 @@ pub fn finish(
     out: &mut [u8; 65536],
     plan: &mut [u8; 16384],
     scratch: &mut [u8; 16384],
-    line: &mut [u8; 32768],
+    line: &[u8; 32768],
     state: State,
 ) -> State
-    ensures { λ r. ⌜ (state .filled ≤ 65536 → r .filled ≤ 65536) ⌝ }
-    ensures { λ r. ⌜ Ends (lent (now (out .entry)) (now (plan .entry)) (now (line .entry))) state (now (out .exit)) (r .filled) ⌝ }
+    ensures { λ r. ⌜ FinishedIs (lent (now (out .entry)) (now (plan .entry)) (now (scratch .entry)) (now (line .entry))) state (lent (now (out .exit)) (now (plan .exit)) (now (scratch .exit)) (now (line .entry))) r ⌝ }
 {
     if state.count == 0 {
         return state;

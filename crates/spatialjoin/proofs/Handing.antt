@@ -1,21 +1,21 @@
 -- What was handed over makes up the piece that the state stands after.
-use Prim.Native.Nat.{ℕ, _≤_, _+_, _-_}
+use Prim.Native.Nat.{ℕ, _≤_, _<_, _+_, _-_}
 use native.Mathlib.Omega.{arith}
-use mathlib.Core.Path.{_≡_, refl, sym, ap, _∙_}
-use mathlib.Core.List.{List}
+use mathlib.Core.Path.{_≡_, refl}
+use mathlib.Core.Bool.{Bool, true, false}
+use mathlib.Core.List.{List, [], _++_}
 use lib.ListN.{length, take, drop}
 use lib.Seq.{take-add, take-take}
-use Rattle.lines.specs.Pieces.{Session, piece}
-use Rattle.lines.specs.Sessions.{Lent, Stands, Makes}
+use lib.Dec.{leb}
+use borrow.Author.Tests.{leb-true, lt-leb}
+use Rattle.definitions.specs.Basics.{if_then_else_}
+use Rattle.lines.specs.Pieces.{Session, piece, freshSession}
+use Rattle.lines.specs.Sessions.{Lent, Stands, Makes, mostFilled}
 use Rattle.lines.specs.declared.sessions.State.{State}
 use Rattle.lines.proofs.Whole.{piece-append}
-use Rattle.spatialjoin.specs.Turns.{Flushed, Handed, ReadOn}
+use Rattle.spatialjoin.specs.Turns.{settled, Flushed, Roomy, After, Handed, ReadOn, Reached}
 use Rattle.spatialjoin.specs.declared.Turn.{Turn}
-use Rattle.spatialjoin.specs.declared.Turn.the-variants.{More, Ended, Failed}
-
--- Every session that the one stands for, the other stands for after p.
-abbrev pub After : (p : List ℕ) (before : Lent) (state : State) (after : Lent) (next : State) → Type 0
-After p before state after next = (s : Session) → Stands before state s → Stands after next (piece s p .after)
+use Rattle.spatialjoin.specs.declared.Turn.the-variants.{More, Ended, NotRead, NotWritten}
 
 pub none : (b : Lent) (state : State) (chunk : List ℕ) → After (take 0 chunk) b state b state
 unfolding piece
@@ -29,18 +29,50 @@ taken chunk at size k fits old makes s h =
     (rw (take-take k (size - at) (drop at chunk) fits) at (makes (piece s (take at chunk) .after) (old s h) .stands))
 
 -- Nothing waits any more.
-pub settled : {b : Lent} {state : State} {s : Session} → Stands b state s → Stands b (record { n = state .n; count = state .count; filled = 0 }) s
-settled h = record { room = omega arith; kept = h .kept; begun = h .begun }
+settled-stands : {b : Lent} {state : State} {s : Session} → Stands b state s → Stands b (settled state) s
+settled-stands h = record { room = omega arith; kept = h .kept; begun = h .begun }
 
-pub flushed : (p : List ℕ) {before b : Lent} {state current next : State} → Flushed current (More next) → After p before state b current → After p before state b next
-flushed p e old s h = rw e (settled (old s h))
+-- There is room for what a line gives, no more waits than did, and the state stands for the same.
+abbrev pub HasRoom : (characters : List ℕ) (before : Lent) (state : State) (after : Lent) (current next : State) → Type 0
+HasRoom characters before state after current next = (next .filled ≤ mostFilled) × (next .filled ≤ current .filled) × After characters before state after next
+
+made-room : (p : List ℕ) {before b : Lent} {state current : State} (room : Bool) → leb (current .filled) mostFilled ≡ room → After p before state b current
+    → HasRoom p before state b current (if room then current else settled current)
+made-room p {current = current} true e old = (leb-true (current .filled) mostFilled e, omega arith, old)
+made-room p false e old = (omega arith, omega arith, λ s h. settled-stands (old s h))
+
+pub roomy : (p : List ℕ) {before b : Lent} {state current next : State} → Roomy current (More next) → After p before state b current
+    → HasRoom p before state b current next
+roomy p {current = current} e old = rw e (made-room p (leb (current .filled) mostFilled) refl old)
+
+pub flushed-roomy : (state : State) (r : Turn) → mostFilled < state .filled → Flushed state r → Roomy state r
+flushed-roomy state (More next) h e = rw (lt-leb (state .filled) mostFilled h) e
+flushed-roomy state (Ended next) h e = e
+flushed-roomy state NotRead h e = e
+flushed-roomy state NotWritten h e = e
 
 pub handed : (p : List ℕ) (before b : Lent) (state current : State) (r : Turn) → Flushed current r → After p before state b current → Handed p before state b r
-handed p before b state current (More next) e old = (rw e refl, flushed p e old)
+handed p before b state current (More next) e old = (rw e refl, λ s h. rw e (settled-stands (old s h)))
 handed p before b state current (Ended next) e old = e
-handed p before b state current Failed e old = e
+handed p before b state current NotRead e old = e
+handed p before b state current NotWritten e old = e
 
-pub read-handed : (chunk : List ℕ) (size : ℕ) (before b : Lent) (state : State) (r : Turn) → Handed (take size chunk) before state b r → size ≤ length chunk → ReadOn chunk before state b r
+pub read-handed : (chunk : List ℕ) (size : ℕ) (before b : Lent) (state : State) (r : Turn) → Handed (take size chunk) before state b r → size ≤ length chunk
+    → ReadOn chunk before state b r
 read-handed chunk size before b state (More next) h fits = (size, fits, h)
 read-handed chunk size before b state (Ended next) h fits = absurd h
-read-handed chunk size before b state Failed h fits = h
+read-handed chunk size before b state NotRead h fits = absurd h
+read-handed chunk size before b state NotWritten h fits = h
+
+-- ---- a run
+
+pub reached-none : {b : Lent} {state : State} → state .filled ≡ 0 → Stands b state freshSession → Reached b state
+unfolding piece
+reached-none e stands = (e, [], stands)
+
+pub reached-more : (chunk : List ℕ) {before after : Lent} {state next : State} → Reached before state → ReadOn chunk before state after (More next) → Reached after next
+reached-more chunk r on =
+    (on .2 .0, r .1 ++ take (on .0) chunk, rw (piece-append freshSession (r .1) (take (on .0) chunk) .1) (on .2 .1 _ (r .2)))
+
+pub reached-end : {before after : Lent} {state last : State} → Reached before state → (last ≡ state) × (after ≡ before) → Reached after last
+reached-end r on = rw (on .0, on .1) r

@@ -3,26 +3,61 @@ use Prim.Native.Nat.{ℕ, _≤_}
 use mathlib.Core.Path.{_≡_}
 use mathlib.Core.List.{List}
 use lib.ListN.{take, length}
-use Rattle.lines.specs.Pieces.{Session, piece}
-use Rattle.lines.specs.Sessions.{Lent, Stands}
+use lib.Dec.{leb}
+use Rattle.definitions.specs.Basics.{if_then_else_}
+use Rattle.lines.specs.Pieces.{Session, piece, freshSession}
+use Rattle.lines.specs.Sessions.{Lent, Stands, mostFilled, FinishedIs}
 use Rattle.lines.specs.declared.sessions.State.{State}
 use Rattle.spatialjoin.specs.declared.Turn.{Turn}
-use Rattle.spatialjoin.specs.declared.Turn.the-variants.{More, Ended, Failed}
+use Rattle.spatialjoin.specs.declared.Turn.the-variants.{More, Ended, NotRead, NotWritten}
 
--- What waits was handed to the system: the state is as it was, and nothing waits.
+-- The state once what waits was written.
+abbrev pub settled : State → State
+settled state = record { n = state .n; count = state .count; filled = 0 }
+
+-- What waits was handed to the system.
 abbrev pub Flushed : State → Turn → Type 0
-Flushed state (More next) = next ≡ record { n = state .n; count = state .count; filled = 0 }
+Flushed state (More next) = next ≡ settled state
 Flushed state (Ended next) = ⊥
-Flushed state Failed = Unit {0}
+Flushed state NotRead = ⊥
+Flushed state NotWritten = Unit {0}
 
--- The characters p were handed over, each once and in order: the state and the buffers stand for the session after them.
-abbrev pub Handed : (p : List ℕ) (before : Lent) (state : State) (after : Lent) → Turn → Type 0
-Handed p before state after (More next) = (next .filled ≡ 0) × ((s : Session) → Stands before state s → Stands after next (piece s p .after))
-Handed p before state after (Ended next) = ⊥
-Handed p before state after Failed = Unit {0}
+-- The same where there is no room for what another line gives.
+abbrev pub Roomy : State → Turn → Type 0
+Roomy state (More next) = next ≡ (if leb (state .filled) mostFilled then state else settled state)
+Roomy state (Ended next) = ⊥
+Roomy state NotRead = ⊥
+Roomy state NotWritten = Unit {0}
 
--- A read: the characters at the start of the chunk were handed over, or the input has ended and the state is as it was.
+-- Every session that the one stands for, the other stands for after these characters.
+abbrev pub After : (characters : List ℕ) (before : Lent) (state : State) (after : Lent) (next : State) → Type 0
+After characters before state after next = (s : Session) → Stands before state s → Stands after next (piece s characters .after)
+
+-- The characters were handed over, each once and in order, and what they gave does not wait any more.
+abbrev pub Handed : (characters : List ℕ) (before : Lent) (state : State) (after : Lent) → Turn → Type 0
+Handed characters before state after (More next) = (next .filled ≡ 0) × After characters before state after next
+Handed characters before state after (Ended next) = ⊥
+Handed characters before state after NotRead = ⊥
+Handed characters before state after NotWritten = Unit {0}
+
+-- A read: characters at the start of the chunk were handed over; or the input has ended or could not be read, and all is as it was.
 abbrev pub ReadOn : (chunk : List ℕ) (before : Lent) (state : State) (after : Lent) → Turn → Type 0
 ReadOn chunk before state after (More next) = (size : ℕ) × (size ≤ length chunk) × Handed (take size chunk) before state after (More next)
 ReadOn chunk before state after (Ended next) = (next ≡ state) × (after ≡ before)
-ReadOn chunk before state after Failed = Unit {0}
+ReadOn chunk before state after NotRead = after ≡ before
+ReadOn chunk before state after NotWritten = Unit {0}
+
+-- The state stands for what the program makes of some input, and nothing waits.
+abbrev pub Reached : (b : Lent) (state : State) → Type 0
+Reached b state = (state .filled ≡ 0) × (input : List ℕ) × Stands b state (piece freshSession input .after)
+
+-- A run reached the end of the input, with a state that stands for what came before it; or it stopped where reading or writing failed.
+abbrev pub Ran : (after : Lent) → Turn → Type 0
+Ran after (More next) = Reached after next
+Ran after (Ended last) = Reached after last
+Ran after NotRead = Unit {0}
+Ran after NotWritten = Unit {0}
+
+-- The end of the input is what it is for `lines`, and what it gives was handed to the system.
+abbrev pub LastIs : (before : Lent) (state : State) (after : Lent) → Turn → Type 0
+LastIs before state after r = (last : State) × FinishedIs before state after last × Flushed last r

@@ -1,9 +1,12 @@
-// Reads lines of hexadecimal from standard input and writes a line for each to standard output.
+// Reads lines of hexadecimal from standard input and writes a line for each to standard output. Where reading or writing fails it
+// ends, with a line on standard error.
 //
-// `lines::sessions` says what is written for a piece of the input, and `runs-write` that this is
-// the program's output, wherever the input is cut and whenever what waits is written out. What is
-// left here, and no contract can say, is that each piece is read once and handed over once, in
-// order, and that what waits is written once.
+// `lines::sessions` says what is written for a piece of the input, and `runs-write` that this is the program's output, wherever the
+// input is cut and whenever what waits is written out. Here it is proved that every character of what was read is handed over once
+// and in order, and that nothing of the state is lost between two pieces. What no contract can say, and is left to be read, is which
+// bytes `libc::read` and `io::write_all` move: that a piece is what was read, that what waits is written, and that a run goes on to
+// the end of the input.
+use libc::STDERR_FILENO;
 use libc::STDIN_FILENO;
 use libc::STDOUT_FILENO;
 use lines::sessions::MOST_FILLED;
@@ -13,18 +16,19 @@ use lines::sessions::finish;
 use lines::sessions::fresh;
 ghost use mathlib.Core.Path.{_≡_};
 ghost use Prim.Native.Nat.{ℕ, _≤_};
-ghost use lib.ListN.{length, take};
-ghost use Rattle.lines.specs.Sessions.{lent, Ends};
-ghost use Rattle.spatialjoin.specs.Turns.{Flushed, Handed, ReadOn};
+ghost use lib.ListN.{length, take, replicate};
+ghost use Rattle.lines.specs.Sessions.{lent};
+ghost use Rattle.spatialjoin.specs.Turns.{Flushed, Roomy, Handed, ReadOn, Ran, LastIs};
 
-// What follows a read: another one, the end of the input, or nothing, since reading or writing failed.
+// What follows a read: another one, or the end of the input; or it failed, or a write did.
 enum Turn {
     More(State),
     Ended(State),
-    Failed,
+    NotRead,
+    NotWritten,
 }
 
-// Writes what is to be written.
+// Writes what waits.
 fn flush(out: &[u8], state: State) -> Turn
     requires { ⌜ state .filled ≤ length (now out) ⌝ }
     ensures { λ r. ⌜ Flushed state r ⌝ }
@@ -37,8 +41,19 @@ fn flush(out: &[u8], state: State) -> Turn
             filled: 0,
         })
     } else {
-        Turn::Failed
+        Turn::NotWritten
     }
+}
+
+// Writes what waits where there is no room for what another line gives.
+fn make_room(out: &[u8], state: State) -> Turn
+    requires { ⌜ state .filled ≤ length (now out) ⌝ }
+    ensures { λ r. ⌜ Roomy state r ⌝ }
+{
+    if MOST_FILLED < state.filled {
+        return flush(out, state);
+    }
+    Turn::More(state)
 }
 
 // Hands over the first `size` characters of a chunk, and writes what they give.
@@ -52,20 +67,17 @@ fn feed_all(
     state: State,
 ) -> Turn
     requires { ⌜ (size ≤ length (now chunk)) × (state .filled ≡ 0) ⌝ }
-    ensures { λ r. ⌜ Handed (take size (now (chunk .entry))) (lent (now (out .entry)) (now (plan .entry)) (now (line .entry))) state (lent (now (out .exit)) (now (plan .exit)) (now (line .exit))) r ⌝ }
+    ensures { λ r. ⌜ Handed (take size (now (chunk .entry))) (lent (now (out .entry)) (now (plan .entry)) (now (scratch .entry)) (now (line .entry))) state (lent (now (out .exit)) (now (plan .exit)) (now (scratch .exit)) (now (line .exit))) r ⌝ }
 {
     let mut current = state;
     let mut at: usize = 0;
     while at < size {
         let fed = feed(out, plan, scratch, line, &chunk[at..size], current);
+        let Turn::More(next) = make_room(out, fed.state) else {
+            return Turn::NotWritten;
+        };
         at += fed.taken;
-        current = fed.state;
-        if MOST_FILLED < current.filled {
-            let Turn::More(flushed) = flush(out, current) else {
-                return Turn::Failed;
-            };
-            current = flushed;
-        }
+        current = next;
     }
     flush(out, current)
 }
@@ -80,11 +92,11 @@ fn read_on(
     state: State,
 ) -> Turn
     requires { ⌜ state .filled ≡ 0 ⌝ }
-    ensures { λ r. ⌜ ReadOn (now (chunk .exit)) (lent (now (out .entry)) (now (plan .entry)) (now (line .entry))) state (lent (now (out .exit)) (now (plan .exit)) (now (line .exit))) r ⌝ }
+    ensures { λ r. ⌜ ReadOn (now (chunk .exit)) (lent (now (out .entry)) (now (plan .entry)) (now (scratch .entry)) (now (line .entry))) state (lent (now (out .exit)) (now (plan .exit)) (now (scratch .exit)) (now (line .exit))) r ⌝ }
 {
     let got = libc::read(STDIN_FILENO, chunk);
     if got < 0 {
-        return Turn::Failed;
+        return Turn::NotRead;
     }
     if got == 0 {
         return Turn::Ended(state);
@@ -93,51 +105,91 @@ fn read_on(
     feed_all(out, plan, scratch, line, chunk, size, state)
 }
 
+// Reads up to the end of the input, or until reading or writing fails. A proved loop has to end, and nothing says that the input
+// does: so the loop counts its turns down, from a number that no run uses up.
+fn run(
+    out: &mut [u8; 65536],
+    plan: &mut [u8; 16384],
+    scratch: &mut [u8; 16384],
+    line: &mut [u8; 32768],
+    chunk: &mut [u8; 65536],
+) -> Turn
+    requires { ⌜ now plan ≡ replicate 16384 0 ⌝ }
+    ensures { λ r. ⌜ Ran (lent (now (out .exit)) (now (plan .exit)) (now (scratch .exit)) (now (line .exit))) r ⌝ }
+{
+    let mut state = fresh();
+    let mut turns = u64::MAX;
+    while turns > 0 {
+        turns -= 1;
+        match read_on(out, plan, scratch, line, chunk, state) {
+            Turn::More(next) => {
+                state = next;
+            }
+            Turn::Ended(last) => {
+                return Turn::Ended(last);
+            }
+            Turn::NotRead => {
+                return Turn::NotRead;
+            }
+            Turn::NotWritten => {
+                return Turn::NotWritten;
+            }
+        }
+    }
+    Turn::More(state)
+}
+
 // Writes what a last line without a line feed gives.
 fn write_last(
     out: &mut [u8; 65536],
     plan: &mut [u8; 16384],
     scratch: &mut [u8; 16384],
-    line: &mut [u8; 32768],
+    line: &[u8; 32768],
     state: State,
-)
+) -> Turn
     requires { ⌜ state .filled ≡ 0 ⌝ }
-    ensures { λ _. ⌜ ((filled : ℕ) × Ends (lent (now (out .entry)) (now (plan .entry)) (now (line .entry))) state (now (out .exit)) filled) ⌝ }
+    ensures { λ r. ⌜ LastIs (lent (now (out .entry)) (now (plan .entry)) (now (scratch .entry)) (now (line .entry))) state (lent (now (out .exit)) (now (plan .exit)) (now (scratch .exit)) (now (line .entry))) r ⌝ }
 {
     let last = finish(out, plan, scratch, line, state);
-    flush(out, last);
+    flush(out, last)
 }
 
-// A proved loop has to end, and nothing says that the input does: so the loop counts its turns
-// down, from a number that no run uses up.
+// Says what failed, if anything did.
+fn report(turn: Turn) {
+    match turn {
+        Turn::NotRead => {
+            io::write_all(
+                STDERR_FILENO,
+                b"spatialjoin: standard input could not be read\n",
+            );
+        }
+        Turn::NotWritten => {
+            io::write_all(
+                STDERR_FILENO,
+                b"spatialjoin: standard output could not be written\n",
+            );
+        }
+        Turn::More(_) => {}
+        Turn::Ended(_) => {}
+    }
+}
+
 fn main() {
     let mut out = [0u8; 65536];
     let mut plan = [0u8; 16384];
     let mut scratch = [0u8; 16384];
     let mut line = [0u8; 32768];
     let mut chunk = [0u8; 65536];
-    let mut state = fresh();
-    let mut turns = u64::MAX;
-    while turns > 0 {
-        turns -= 1;
-        match read_on(
-            &mut out,
-            &mut plan,
-            &mut scratch,
-            &mut line,
-            &mut chunk,
-            state,
-        ) {
-            Turn::More(next) => {
-                state = next;
-            }
-            Turn::Ended(last) => {
-                write_last(&mut out, &mut plan, &mut scratch, &mut line, last);
-                return;
-            }
-            Turn::Failed => {
-                return;
-            }
+    match run(&mut out, &mut plan, &mut scratch, &mut line, &mut chunk) {
+        Turn::Ended(last) => {
+            report(write_last(&mut out, &mut plan, &mut scratch, &line, last));
         }
+        Turn::NotRead => {
+            report(Turn::NotRead);
+        }
+        Turn::NotWritten => {
+            report(Turn::NotWritten);
+        }
+        Turn::More(_) => {}
     }
 }

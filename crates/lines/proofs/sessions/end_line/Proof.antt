@@ -23,7 +23,10 @@ returns : tie.Need-returns
 returns c =
     let put = c .before .before .before .put-answer in
     let call = c .before .before .before .before .before .before .before .before .before .before .answer-begun in
-    (omega (arith, room c, put .kept .0), rw (c .length-after .ensures) (line-ended (call .result) (call .ensures .1) (put .ensures) (room c)))
+    record {
+      makes = rw (c .length-after .ensures) (line-ended _ _ (call .result) (call .ensures .1 .0) (put .ensures) (room c));
+      scratch = call .ensures .1 .1;
+    }
 
 pub end-line-spec : {M : Type 1} → statement M
 end-line-spec =

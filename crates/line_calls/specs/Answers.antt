@@ -6,8 +6,8 @@ use lib.ListN.{length, take}
 use Rattle.definitions.specs.Basics.{Result, ok, refused}
 use Rattle.definitions.specs.Program.{Kept, LineOutcome}
 use Rattle.frame.specs.Refusals.{numberOf}
-use Rattle.lines.specs.declared.answers.Answer.{Answer}
-use Rattle.lines.specs.declared.answers.Answer.the-variants.{Plan, Logical, Refused}
+use Rattle.line_calls.specs.declared.answers.Answer.{Answer}
+use Rattle.line_calls.specs.declared.answers.Answer.the-variants.{Plan, Logical, Refused}
 
 -- The bytes that a line gives, with the plan buffer as it is afterwards; else the refusal's number.
 abbrev pub answerBytes : (plan : List ℕ) → Answer → Result (List ℕ)

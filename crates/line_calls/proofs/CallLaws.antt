@@ -21,9 +21,10 @@ use Rattle.frame.specs.declared.refusals.Refusal.{Refusal}
 use Rattle.join_filter.specs.Outcomes.{answerOf, nAfter, LoadIs, OutcomeIs}
 use Rattle.join_filter.specs.declared.answers.Answer.{Answer as CallAnswer}
 use Rattle.join_filter.specs.declared.answers.Answer.the-variants.{Length, Refused as CallRefused}
-use Rattle.lines.specs.declared.answers.Answer.the-variants.{Logical, Refused}
-use Rattle.lines.specs.Answers.{planLength, keptAs, AnswerIs}
-use Rattle.lines.specs.Calling.{lineAnswer}
+use Rattle.line_calls.specs.declared.answers.Answer.the-variants.{Logical, Refused}
+use Rattle.line_calls.specs.Answers.{planLength, keptAs, AnswerIs}
+use Rattle.line_calls.specs.Calling.{lineAnswer}
+use Rattle.line_calls.specs.Scratch.{callScratch}
 
 -- ---- the answer of a call
 
@@ -93,14 +94,27 @@ unfolding callLine
 call-gives kind n before s {after} a is size =
     rw (same-call kind n before (replicate 16384 0) s (length-replicate {A = ℕ} 16384 0 ∙ sym size) ∙ ap made is) (answer-given a n after (call-fits kind n before s a is))
 
+-- Nothing but the scratch that it was lent is left there.
+pub call-leaves : (kind : Kind) (n : ℕ) (before s : List ℕ) {after t : List ℕ} (a : CallAnswer) → OutcomeIs (make kind n before s) n after t a
+    → t ≡ callScratch kind [] (keptAs n before) s
+unfolding callScratch
+call-leaves kind n before s a is = sym (ap (λ (o : Outcome). o .scratch) is)
+
 -- More bytes follow, or none.
+more-bytes : (size : ℕ) (bytes : List ℕ) → 1 < size → 1 < length bytes → (b : ℕ) × (more : List ℕ) × (drop 1 (take size bytes) ≡ b ∷ more)
+more-bytes zero bytes h k = absurd (omega arith)
+more-bytes (suc zero) bytes h k = absurd (omega arith)
+more-bytes (suc (suc size)) [] h k = absurd (omega arith)
+more-bytes (suc (suc size)) (a ∷ []) h k = absurd (omega arith)
+more-bytes (suc (suc size)) (a ∷ b ∷ bytes) h k = (b, take size bytes, refl)
+
 pub more-follow : (kind : Kind) (size : ℕ) (bytes : List ℕ) (kept : Kept) → 1 < size → 1 < length bytes → refusedLine 7 kept ≡ callLine kind (drop 1 (take size bytes)) kept
 unfolding callLine
-more-follow kind zero bytes kept h k = absurd (omega arith)
-more-follow kind (suc zero) bytes kept h k = absurd (omega arith)
-more-follow kind (suc (suc size)) [] kept h k = absurd (omega arith)
-more-follow kind (suc (suc size)) (a ∷ []) kept h k = absurd (omega arith)
-more-follow kind (suc (suc size)) (a ∷ b ∷ bytes) kept h k = refl
+more-follow kind size bytes kept h k = rw (more-bytes size bytes h k .2) refl
+
+pub more-leave : (kind : Kind) (size : ℕ) (bytes : List ℕ) (kept : Kept) (s : List ℕ) → 1 < size → 1 < length bytes → s ≡ callScratch kind (drop 1 (take size bytes)) kept s
+unfolding callScratch
+more-leave kind size bytes kept s h k = rw (more-bytes size bytes h k .2) refl
 
 pub none-follow : (size : ℕ) (bytes : List ℕ) → size ≤ 1 → drop 1 (take size bytes) ≡ []
 none-follow zero bytes h = refl

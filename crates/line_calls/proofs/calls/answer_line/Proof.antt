@@ -6,9 +6,9 @@ use lib.ListN.{take}
 use Rattle.definitions.specs.Basics.{ok}
 use Rattle.definitions.specs.Program.{lineBytes}
 use Rattle.hexadecimal.specs.Hex.{decodedBytes}
-use Rattle.lines.proofs.LineLaws.{refused-line, good-bytes, bad-line, short-line}
-use Rattle.lines.proofs.calls.answer_line.Statement.{statement}
-use Rattle.lines.proofs.calls.answer_line.Tie as tie
+use Rattle.line_calls.proofs.LineLaws.{refused-line, good-bytes, good-leaves, bad-line, bad-leaves, short-line}
+use Rattle.line_calls.proofs.calls.answer_line.Statement.{statement}
+use Rattle.line_calls.proofs.calls.answer_line.Tie as tie
 
 -- The line's bytes are the first of the scratch.
 bytes : (c : tie.After-known-told)
@@ -28,12 +28,16 @@ call-line-requires c κs =
 returns : tie.Need-returns
 returns c =
     let call = c .before .before .before .before .decode in
-    rw (← bad-line _ _ (sym (ap (decodedBytes (call .last .0)) (c .enum-told .given .1)) ∙ call .ensures .bytes)) (refused-line _ _ _)
+    let bad = sym (ap (decodedBytes (call .last .0)) (c .enum-told .given .1)) ∙ call .ensures .bytes in
+    (rw (← bad-line _ _ bad) (refused-line _ _ _), bad-leaves _ _ _ bad (call .ensures .wrote))
 
 returns-2 : tie.Need-returns-2
 returns-2 c =
     let known = c .before .before .before .before .before .before .before in
-    rw (← good-bytes _ _ (bytes known)) (c .before .before .before .before .call-line .ensures)
+    let call = c .before .before .before .before .call-line in (
+      rw (← good-bytes _ _ (bytes known)) (call .ensures .0),
+      call .ensures .1 ∙ good-leaves _ _ _ (bytes known) (known .before .before .before .before .before .decode .ensures .wrote),
+    )
 
 pub answer-line-spec : {M : Type 1} → statement M
 answer-line-spec =

@@ -6,9 +6,9 @@ use Rattle.definitions.specs.Basics.{ok}
 use Rattle.definitions.specs.Logical.{logical}
 use Rattle.sedona_query_planner.specs.Logicals.{querySideIs}
 use Rattle.join_filter.specs.Outcomes.{namesOf}
-use Rattle.lines.proofs.CallLaws.{few-names, names-give, refusal-gives}
-use Rattle.lines.proofs.calls.logical_line.Statement.{statement}
-use Rattle.lines.proofs.calls.logical_line.Tie as tie
+use Rattle.line_calls.proofs.CallLaws.{few-names, names-give, refusal-gives}
+use Rattle.line_calls.proofs.calls.logical_line.Statement.{statement}
+use Rattle.line_calls.proofs.calls.logical_line.Tie as tie
 
 -- What was found is the definition's answer.
 found : (c : tie.After-known-told2)

@@ -1,8 +1,8 @@
 -- `load_line`: the call's answer as that of its line.
 use borrow.Author.Needs.{needs}
-use Rattle.lines.proofs.CallLaws.{load-gives}
-use Rattle.lines.proofs.calls.load_line.Statement.{statement}
-use Rattle.lines.proofs.calls.load_line.Tie as tie
+use Rattle.line_calls.proofs.CallLaws.{load-gives}
+use Rattle.line_calls.proofs.calls.load_line.Statement.{statement}
+use Rattle.line_calls.proofs.calls.load_line.Tie as tie
 
 returns : tie.Need-returns
 returns c =

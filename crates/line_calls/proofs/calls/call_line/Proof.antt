@@ -1,12 +1,14 @@
 -- `call_line`: the first byte decides, as in the definition.
 use borrow.Author.Needs.{needs}
-use mathlib.Core.Path.{_≡_, sym}
+use native.Mathlib.Omega.{arith}
+use mathlib.Core.Path.{_≡_, sym, _∙_}
 use mathlib.Core.List.{_∷_}
 use lib.ListN.{take, drop, getD}
 use lib.Seq.{length-take-le}
-use Rattle.lines.proofs.LineLaws.{refused-line, no-bytes, begins, load-byte, logical-byte, extract-byte, exchange-byte, other-byte}
-use Rattle.lines.proofs.calls.call_line.Statement.{statement}
-use Rattle.lines.proofs.calls.call_line.Tie as tie
+use Rattle.line_calls.proofs.LineLaws.{refused-line, no-bytes, begins, load-byte, logical-byte, extract-byte, exchange-byte, other-byte}
+use Rattle.line_calls.proofs.LineLaws.{none-leave, extract-leaves, exchange-leaves, other-leaves}
+use Rattle.line_calls.proofs.calls.call_line.Statement.{statement}
+use Rattle.line_calls.proofs.calls.call_line.Tie as tie
 
 -- The bytes begin with the one that is looked at.
 first : (c : tie.After-slice-known3)
@@ -16,32 +18,47 @@ first c =
     begins (start .args .size) (start .args .scratch .now) (c .before .if1 .left) (start .pre .0)
 
 returns : tie.Need-returns
-returns c = rw (← no-bytes _ _ _ (c .if1 .taken)) (refused-line _ _ _)
+returns c = (rw (← no-bytes _ _ _ (c .if1 .taken)) (refused-line _ _ _), none-leave _ _ _ _ (c .if1 .taken))
 
 returns-2 : tie.Need-returns-2
 returns-2 c =
     let at = c .before .before .before .before .before in
-    rw (← load-byte _ (first (at .before)) (at .match .keys1)) (c .before .before .load-line .ensures)
+    let is = at .match .keys1 in (
+      rw (← load-byte _ (first (at .before)) is) (c .before .before .load-line .ensures),
+      other-leaves _ (first (at .before)) _ (λ h. omega arith) (λ h. omega arith),
+    )
 
 returns-3 : tie.Need-returns-3
 returns-3 c =
     let at = c .before .before in
-    rw (← logical-byte _ (first (at .before)) (at .match .keys2)) (c .logical-line .ensures _ _)
+    let is = at .match .keys2 in (
+      rw (← logical-byte _ (first (at .before)) is) (c .logical-line .ensures _ _),
+      other-leaves _ (first (at .before)) _ (λ h. omega arith) (λ h. omega arith),
+    )
 
 returns-4 : tie.Need-returns-4
 returns-4 c =
     let at = c .before .before .before .before .before .before .before in
-    rw (← extract-byte _ (first (at .before)) (at .match .keys3)) (c .before .before .before .before .plan-line .ensures)
+    let call = c .before .before .before .before .plan-line in (
+      rw (← extract-byte _ (first (at .before)) (at .match .keys3)) (call .ensures .0),
+      call .ensures .1 ∙ extract-leaves _ (first (at .before)) _ (at .match .keys3),
+    )
 
 returns-5 : tie.Need-returns-5
 returns-5 c =
     let at = c .before .before .before .before .before .before .before in
-    rw (← exchange-byte _ (first (at .before)) (at .match .keys4)) (c .before .before .before .before .plan-line2 .ensures)
+    let call = c .before .before .before .before .plan-line2 in (
+      rw (← exchange-byte _ (first (at .before)) (at .match .keys4)) (call .ensures .0),
+      call .ensures .1 ∙ exchange-leaves _ (first (at .before)) _ (at .match .keys4),
+    )
 
 returns-6 : tie.Need-returns-6
 returns-6 c =
     let not = c .match .rest in
-    rw (← other-byte _ (first (c .before)) (not .0 .0 .0 .1) (not .0 .0 .1) (not .0 .1) (not .1)) (refused-line _ _ _)
+    let is = first (c .before) in (
+      rw (← other-byte _ is (not .0 .0 .0 .1) (not .0 .0 .1) (not .0 .1) (not .1)) (refused-line _ _ _),
+      other-leaves _ is _ (not .0 .1) (not .1),
+    )
 
 pub call-line-spec : {M : Type 1} → statement M
 call-line-spec =

@@ -8,13 +8,17 @@ use lib.ListN.{length, take, drop, getD}
 use lib.Dec.{leb}
 use borrow.Author.Tests.{ne-eqb, leb-true}
 use Rattle.definitions.specs.Basics.{if_then_else_, ok, refused}
+use Rattle.definitions.specs.Calls.{writtenOver}
 use Rattle.definitions.specs.Machine.{extractCall, exchangeCall}
 use Rattle.definitions.specs.Program.{Kept, refusedLine, loadLine, logicalLine, callLine, lineOf, digitBytes, orRefused, lineBytes, readLine, lineOutcome}
 use Rattle.definitions.proofs.InversePlan.{refused-not-ok}
 use Rattle.frame.specs.Refusals.{numberOf}
 use Rattle.frame.specs.declared.refusals.Refusal.{Refusal}
-use Rattle.lines.specs.declared.answers.Answer.the-variants.{Refused}
-use Rattle.lines.specs.Answers.{keptAs, AnswerIs}
+use Rattle.line_calls.specs.declared.answers.Answer.the-variants.{Refused}
+use Rattle.line_calls.specs.Answers.{keptAs, AnswerIs}
+use Rattle.line_calls.specs.Scratch.{callScratch, bytesScratch, readScratch, lineScratch}
+use Rattle.hexadecimal.specs.Hex.{decodedTo}
+use Rattle.plan_writer.specs.Written.{Wrote}
 
 -- A refusal keeps the plan.
 pub refused-line : (n : ℕ) (plan : List ℕ) (why : Refusal) → AnswerIs (refusedLine (numberOf why) (keptAs n plan)) n plan (Refused why)
@@ -26,6 +30,10 @@ refused-line n plan why = record { answer = refl; kept = refl; fits = omega arit
 pub no-bytes : (size : ℕ) (bytes : List ℕ) (kept : Kept) → size ≡ 0 → refusedLine 1 kept ≡ lineOf (take size bytes) kept
 unfolding lineOf
 no-bytes size bytes kept e = rw e
+
+pub none-leave : (size : ℕ) (bytes : List ℕ) (kept : Kept) (s : List ℕ) → size ≡ 0 → s ≡ bytesScratch (take size bytes) kept s
+unfolding bytesScratch
+none-leave size bytes kept s e = rw e
 
 pub begins : (size : ℕ) (bytes : List ℕ) → (size ≡ 0 → ⊥) → size ≤ length bytes → take size bytes ≡ getD bytes 0 0 ∷ drop 1 (take size bytes)
 begins zero bytes h k = absurd (h refl)
@@ -53,15 +61,37 @@ module _ {bytes more : List ℕ} {first : ℕ} (kept : Kept) (e : bytes ≡ firs
   unfolding lineOf
   other-byte a b c d = rw e (simp (ne-eqb first 1 a, ne-eqb first 2 b, ne-eqb first 0x21 c, ne-eqb first 0x22 d))
 
+  -- What is left in the scratch.
+  pub extract-leaves : (s : List ℕ) → first ≡ 0x21 → callScratch extractCall (drop 1 bytes) kept s ≡ bytesScratch bytes kept s
+  unfolding bytesScratch
+  extract-leaves s is = rw (e, is)
+
+  pub exchange-leaves : (s : List ℕ) → first ≡ 0x22 → callScratch exchangeCall (drop 1 bytes) kept s ≡ bytesScratch bytes kept s
+  unfolding bytesScratch
+  exchange-leaves s is = rw (e, is)
+
+  pub other-leaves : (s : List ℕ) → (first ≡ 0x21 → ⊥) → (first ≡ 0x22 → ⊥) → s ≡ bytesScratch bytes kept s
+  unfolding bytesScratch
+  other-leaves s a b = rw e (simp (ne-eqb first 0x21 a, ne-eqb first 0x22 b))
+
 -- ---- by what was decoded
 
-pub good-bytes : (line : List ℕ) (kept : Kept) {bytes : List ℕ} → ok bytes ≡ lineBytes line → lineOf bytes kept ≡ lineOutcome line kept
-unfolding readLine lineOutcome
-good-bytes line kept e = rw (← e)
+module _ (line : List ℕ) (kept : Kept) where
+  pub good-bytes : {bytes : List ℕ} → ok bytes ≡ lineBytes line → lineOf bytes kept ≡ lineOutcome line kept
+  unfolding readLine lineOutcome
+  good-bytes e = rw (← e)
 
-pub bad-line : (line : List ℕ) (kept : Kept) → refused 14 ≡ lineBytes line → refusedLine 14 kept ≡ lineOutcome line kept
-unfolding readLine lineOutcome
-bad-line line kept e = rw (← e)
+  pub bad-line : refused 14 ≡ lineBytes line → refusedLine 14 kept ≡ lineOutcome line kept
+  unfolding readLine lineOutcome
+  bad-line e = rw (← e)
+
+  pub good-leaves : {bytes after : List ℕ} (s : List ℕ) → ok bytes ≡ lineBytes line → Wrote (decodedTo line) s after → bytesScratch bytes kept after ≡ lineScratch line kept s
+  unfolding writtenOver readScratch lineScratch
+  good-leaves s e w = rw (w, ← e)
+
+  pub bad-leaves : {after : List ℕ} (s : List ℕ) → refused 14 ≡ lineBytes line → Wrote (decodedTo line) s after → after ≡ lineScratch line kept s
+  unfolding writtenOver readScratch lineScratch
+  bad-leaves s e w = rw (w, ← e)
 
 -- A line that has bytes has at most 32,768 digits.
 short : (line : List ℕ) {bytes : List ℕ} (b : Bool) → leb (length line) 32768 ≡ b

@@ -15,8 +15,9 @@ ghost use mathlib.Core.List.{List};
 ghost use Prim.Native.Nat.{ℕ, _≤_};
 ghost use lib.ListN.{length, take, drop};
 ghost use Rattle.definitions.specs.Program as program;
-ghost use Rattle.lines.specs.Answers.{keptAs, AnswerIs};
-ghost use Rattle.lines.specs.Calling.{kindOf, lineAnswer};
+ghost use Rattle.line_calls.specs.Answers.{keptAs, AnswerIs};
+ghost use Rattle.line_calls.specs.Calling.{kindOf, lineAnswer};
+ghost use Rattle.line_calls.specs.Scratch.{callScratch, bytesScratch, lineScratch};
 
 // The calls that change a plan.
 enum Call {
@@ -64,6 +65,7 @@ fn logical_line(bytes: &[u8]) -> Answer
 fn plan_line(plan: &mut [u8], scratch: &mut [u8], size: usize, n: usize, call: Call) -> Answer
     requires { ⌜ length (now scratch) ≡ 16384 ⌝ }
     ensures { λ r. ⌜ AnswerIs (program.callLine (kindOf call) (drop 1 (take size (now (scratch .entry)))) (keptAs n (now (plan .entry)))) n (now (plan .exit)) r ⌝ }
+    ensures { λ _. ⌜ now (scratch .exit) ≡ callScratch (kindOf call) (drop 1 (take size (now (scratch .entry)))) (keptAs n (now (plan .entry))) (now (scratch .entry)) ⌝ }
 {
     if 1 < size {
         return Answer::Refused(Refusal::BytesAfterEnd);
@@ -78,6 +80,7 @@ fn plan_line(plan: &mut [u8], scratch: &mut [u8], size: usize, n: usize, call: C
 fn call_line(plan: &mut [u8], scratch: &mut [u8], size: usize, n: usize) -> Answer
     requires { ⌜ (size ≤ length (now scratch)) × (length (now scratch) ≡ 16384) ⌝ }
     ensures { λ r. ⌜ AnswerIs (program.lineOf (take size (now (scratch .entry))) (keptAs n (now (plan .entry)))) n (now (plan .exit)) r ⌝ }
+    ensures { λ _. ⌜ now (scratch .exit) ≡ bytesScratch (take size (now (scratch .entry))) (keptAs n (now (plan .entry))) (now (scratch .entry)) ⌝ }
 {
     if size == 0 {
         return Answer::Refused(Refusal::EmptyOrTooLong);
@@ -95,6 +98,7 @@ fn call_line(plan: &mut [u8], scratch: &mut [u8], size: usize, n: usize) -> Answ
 pub fn answer_line(plan: &mut [u8], scratch: &mut [u8], line: &[u8], n: usize) -> Answer
     requires { ⌜ length (now scratch) ≡ 16384 ⌝ }
     ensures { λ r. ⌜ AnswerIs (program.lineOutcome (now (line .entry)) (keptAs n (now (plan .entry)))) n (now (plan .exit)) r ⌝ }
+    ensures { λ _. ⌜ now (scratch .exit) ≡ lineScratch (now (line .entry)) (keptAs n (now (plan .entry))) (now (scratch .entry)) ⌝ }
 {
     match decode(scratch, line) {
         Decoded::Bad => Answer::Refused(Refusal::NotHexadecimal),

@@ -6,8 +6,8 @@ use mathlib.Core.Path.{sym}
 use lib.ListN.{length}
 use lib.Seq.{length-take-le}
 use Rattle.definitions.specs.Program.{writtenLine}
-use Rattle.lines.proofs.answers.put_answer.Statement.{statement}
-use Rattle.lines.proofs.answers.put_answer.Tie as tie
+use Rattle.line_calls.proofs.answers.put_answer.Statement.{statement}
+use Rattle.line_calls.proofs.answers.put_answer.Tie as tie
 
 -- The plan is as long as the answer says.
 plan-fits : (c : tie.After-put-line-arg2) → c .before .before .before .answer .given .0 .0 ≤ length (c .before .before .before .before .before .before .before .args .plan .now)

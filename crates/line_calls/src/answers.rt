@@ -6,7 +6,7 @@ ghost use Prim.Native.Nat.{_+_, _*_, _≤_};
 ghost use lib.ListN.{length};
 ghost use Rattle.definitions.specs.Program.{writtenLine};
 ghost use Rattle.plan_writer.specs.Written.{WroteAt};
-ghost use Rattle.lines.specs.Answers.{answerBytes, planLength};
+ghost use Rattle.line_calls.specs.Answers.{answerBytes, planLength};
 
 // The length of the new plan, the four bytes of the logical call, or a refusal.
 pub enum Answer {

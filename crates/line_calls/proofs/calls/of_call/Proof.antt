@@ -1,9 +1,9 @@
 -- `of_call`: each answer by itself.
 use borrow.Author.Needs.{needs}
 use mathlib.Core.Path.{sym, ap}
-use Rattle.lines.specs.Calling.{lineAnswer}
-use Rattle.lines.proofs.calls.of_call.Statement.{statement}
-use Rattle.lines.proofs.calls.of_call.Tie as tie
+use Rattle.line_calls.specs.Calling.{lineAnswer}
+use Rattle.line_calls.proofs.calls.of_call.Statement.{statement}
+use Rattle.line_calls.proofs.calls.of_call.Tie as tie
 
 pub of-call-spec : {M : Type 1} → statement M
 of-call-spec =
