@@ -1,3 +1,2 @@
 // What the program does with its input: lines of hexadecimal in, a line out for each.
-mod collecting;
 pub mod sessions;

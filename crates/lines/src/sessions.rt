@@ -1,46 +1,20 @@
-// The program between two pieces of its input.
-use super::collecting::collect;
+// The program between two pieces of its input. Public for the program.
 use frame::refusals::Refusal;
 use line_calls::answers::Answer;
 use line_calls::answers::put_answer;
 use line_calls::calls::answer_line;
+use pieces::collecting::collect;
+use pieces::states::Fed;
+use pieces::states::MOST_FILLED;
+use pieces::states::State;
 ghost use mathlib.Core.Path.{_≡_};
 ghost use mathlib.Core.List.{List};
 ghost use Prim.Native.Nat.{ℕ, _+_, _*_, _≤_};
-ghost use lib.ListN.{length, take, replicate};
+ghost use lib.ListN.{length};
 ghost use Rattle.definitions.specs.Program.{lineOutcome};
 ghost use Rattle.line_calls.specs.Answers.{planLength, lengthAfter, keptAs, AnswerIs};
-ghost use Rattle.lines.specs.Pieces as pieces;
-ghost use Rattle.lines.specs.Collecting.{Begun};
-ghost use Rattle.lines.specs.Sessions.{lent, Stands, begunScratch, EndedIs, FedIs, FinishedIs};
-
-// The most bytes that may wait to be written where a line is answered.
-pub const MOST_FILLED: usize = 32757;
-
-// The plan's length, how many characters the line has, and how many bytes are to be written.
-pub struct State {
-    pub n: usize,
-    pub count: usize,
-    pub filled: usize,
-}
-
-// How much of a piece was taken, and the state afterwards.
-pub struct Fed {
-    pub taken: usize,
-    pub state: State,
-}
-
-// The state at the start, over a plan buffer of zeros.
-pub fn fresh() -> State
-    ensures { λ r. ⌜ r .filled ≡ 0 ⌝ }
-    ensures { λ r. ⌜ ((out scratch line : List ℕ) → Stands (lent out (replicate 16384 0) scratch line) r pieces.freshSession) ⌝ }
-{
-    State {
-        n: 0,
-        count: 0,
-        filled: 0,
-    }
-}
+ghost use Rattle.pieces.specs.Collecting.{Begun};
+ghost use Rattle.pieces.specs.Sessions.{lent, begunScratch, EndedIs, FedIs, FinishedIs};
 
 // The plan's length after an answer.
 fn length_after(n: usize, answer: Answer) -> usize

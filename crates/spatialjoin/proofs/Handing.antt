@@ -9,10 +9,10 @@ use lib.Seq.{take-add, take-take}
 use lib.Dec.{leb}
 use borrow.Author.Tests.{leb-true, lt-leb}
 use Rattle.definitions.specs.Basics.{if_then_else_}
-use Rattle.lines.specs.Pieces.{Session, piece, freshSession}
-use Rattle.lines.specs.Sessions.{Lent, Stands, Makes, mostFilled}
-use Rattle.lines.specs.declared.sessions.State.{State}
-use Rattle.lines.proofs.Whole.{piece-append}
+use Rattle.pieces.specs.Pieces.{Session, piece, freshSession}
+use Rattle.pieces.specs.Sessions.{Lent, Stands, Makes, mostFilled}
+use Rattle.pieces.specs.declared.states.State.{State}
+use Rattle.pieces.proofs.Whole.{piece-append}
 use Rattle.spatialjoin.specs.Turns.{settled, Flushed, Roomy, After, Handed, ReadOn, Reached}
 use Rattle.spatialjoin.specs.declared.Turn.{Turn}
 use Rattle.spatialjoin.specs.declared.Turn.the-variants.{More, Ended, NotRead, NotWritten}

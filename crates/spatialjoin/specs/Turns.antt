@@ -5,9 +5,9 @@ use mathlib.Core.List.{List}
 use lib.ListN.{take, length}
 use lib.Dec.{leb}
 use Rattle.definitions.specs.Basics.{if_then_else_}
-use Rattle.lines.specs.Pieces.{Session, piece, freshSession}
-use Rattle.lines.specs.Sessions.{Lent, Stands, mostFilled, FinishedIs}
-use Rattle.lines.specs.declared.sessions.State.{State}
+use Rattle.pieces.specs.Pieces.{Session, piece, freshSession}
+use Rattle.pieces.specs.Sessions.{Lent, Stands, mostFilled, FinishedIs}
+use Rattle.pieces.specs.declared.states.State.{State}
 use Rattle.spatialjoin.specs.declared.Turn.{Turn}
 use Rattle.spatialjoin.specs.declared.Turn.the-variants.{More, Ended, NotRead, NotWritten}
 

@@ -9,15 +9,15 @@
 use libc::STDERR_FILENO;
 use libc::STDIN_FILENO;
 use libc::STDOUT_FILENO;
-use lines::sessions::MOST_FILLED;
-use lines::sessions::State;
 use lines::sessions::feed;
 use lines::sessions::finish;
-use lines::sessions::fresh;
+use pieces::states::MOST_FILLED;
+use pieces::states::State;
+use pieces::states::fresh;
 ghost use mathlib.Core.Path.{_≡_};
 ghost use Prim.Native.Nat.{ℕ, _≤_};
 ghost use lib.ListN.{length, take, replicate};
-ghost use Rattle.lines.specs.Sessions.{lent};
+ghost use Rattle.pieces.specs.Sessions.{lent};
 ghost use Rattle.spatialjoin.specs.Turns.{Flushed, Roomy, Handed, ReadOn, Ran, LastIs};
 
 // What follows a read: another one, or the end of the input; or it failed, or a write did.

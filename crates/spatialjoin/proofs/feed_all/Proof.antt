@@ -4,8 +4,8 @@ use borrow.Author.Needs.{needs}
 use native.Mathlib.Omega.{arith}
 use mathlib.Core.Path.{_≡_}
 use lib.ListN.{length, take, length-take, length-drop}
-use Rattle.lines.specs.Sessions.{lent, mostFilled}
-use Rattle.lines.proofs.SessionLaws.{taken-within, taken-some, fed-room}
+use Rattle.pieces.specs.Sessions.{lent, mostFilled}
+use Rattle.pieces.proofs.SessionLaws.{taken-within, taken-some, fed-room}
 use Rattle.spatialjoin.specs.Turns.{After}
 use Rattle.spatialjoin.proofs.Handing.{none, taken, roomy, handed}
 use Rattle.spatialjoin.proofs.feed_all.Statement.{statement}

@@ -1,7 +1,7 @@
 -- `write_last`: what the end of the input gives fits its buffer.
 use borrow.Author.Needs.{needs}
 use native.Mathlib.Omega.{arith}
-use Rattle.lines.proofs.SessionLaws.{finished-room}
+use Rattle.pieces.proofs.SessionLaws.{finished-room}
 use Rattle.spatialjoin.proofs.write_last.Statement.{statement}
 use Rattle.spatialjoin.proofs.write_last.Tie as tie
 

@@ -4,7 +4,7 @@ use native.Mathlib.Omega.{arith}
 use mathlib.Core.Path.{refl, sym}
 use lib.Seq.{length-take-le}
 use borrow.Author.Tests.{le-leb, lt-leb}
-use Rattle.lines.proofs.SessionLaws.{too-long}
+use Rattle.pieces.proofs.SessionLaws.{too-long}
 use Rattle.lines.proofs.sessions.answer_begun.Statement.{statement}
 use Rattle.lines.proofs.sessions.answer_begun.Tie as tie
 

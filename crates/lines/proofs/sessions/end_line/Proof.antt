@@ -3,7 +3,7 @@ use Prim.Native.Nat.{_≤_}
 use lib.ListN.{length}
 use borrow.Author.Needs.{needs}
 use native.Mathlib.Omega.{arith}
-use Rattle.lines.proofs.SessionLaws.{written-fits, line-ended}
+use Rattle.pieces.proofs.SessionLaws.{written-fits, line-ended}
 use Rattle.lines.proofs.sessions.end_line.Statement.{statement}
 use Rattle.lines.proofs.sessions.end_line.Tie as tie
 

@@ -1,7 +1,7 @@
 -- `feed`: what is collected is a piece of the input, which ends a line or goes on with it.
 use borrow.Author.Needs.{needs}
 use native.Mathlib.Omega.{arith}
-use Rattle.lines.proofs.SessionLaws.{fed-none, fed-ended, fed-open}
+use Rattle.pieces.proofs.SessionLaws.{fed-none, fed-ended, fed-open}
 use Rattle.lines.proofs.sessions.feed.Statement.{statement}
 use Rattle.lines.proofs.sessions.feed.Tie as tie
 

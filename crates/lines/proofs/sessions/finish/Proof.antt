@@ -1,7 +1,7 @@
 -- `finish`: no line has begun where the count is 0, else it is at its end.
 use borrow.Author.Needs.{needs}
 use native.Mathlib.Omega.{arith}
-use Rattle.lines.proofs.SessionLaws.{finished-none, finished-full}
+use Rattle.pieces.proofs.SessionLaws.{finished-none, finished-full}
 use Rattle.lines.proofs.sessions.finish.Statement.{statement}
 use Rattle.lines.proofs.sessions.finish.Tie as tie
 

@@ -1,5 +1,5 @@
 // The line that has begun, of any length, in a buffer of fixed length.
-ghost use Rattle.lines.specs.Collecting.{CollectedIs};
+ghost use Rattle.pieces.specs.Collecting.{CollectedIs};
 
 // How many characters were taken, how many the line has so far, and whether it is at its end.
 pub struct Collected {

@@ -9,10 +9,10 @@ use Rattle.plan_writer.specs.Written.{WroteAt}
 use Rattle.definitions.specs.Basics.{if_then_else_}
 use Rattle.line_calls.specs.Answers.{keptAs}
 use Rattle.line_calls.specs.Scratch.{lineScratch}
-use Rattle.lines.specs.Pieces.{Session, Step, endLine, piece, firstLine, hasFeed}
-use Rattle.lines.specs.Collecting.{Begun, takenOf, countAfter}
-use Rattle.lines.specs.declared.sessions.State.{State}
-use Rattle.lines.specs.declared.sessions.Fed.{Fed}
+use Rattle.pieces.specs.Pieces.{Session, Step, endLine, piece, firstLine, hasFeed}
+use Rattle.pieces.specs.Collecting.{Begun, takenOf, countAfter}
+use Rattle.pieces.specs.declared.states.State.{State}
+use Rattle.pieces.specs.declared.states.Fed.{Fed}
 
 -- The buffers that are lent: what is to be written, the plan, the scratch, the line that has begun.
 pub record Lent : Type 0 where

@@ -8,9 +8,9 @@ use lib.ListN.{length, take}
 use lib.Dec.{eqb}
 use borrow.Author.Tests.{eqb-true, eqb-false, ne-eqb}
 use Rattle.definitions.specs.Basics.{if_then_else_}
-use Rattle.lines.specs.Pieces.{Session, Step, endLine, join, character, piece, firstLine, hasFeed}
-use Rattle.lines.specs.Collecting.{takenOf}
-use Rattle.lines.proofs.CollectLaws.{no-feed}
+use Rattle.pieces.specs.Pieces.{Session, Step, endLine, join, character, piece, firstLine, hasFeed}
+use Rattle.pieces.specs.Collecting.{takenOf}
+use Rattle.pieces.proofs.CollectLaws.{no-feed}
 
 abbrev pub joined : Session → (characters : List ℕ) → Session
 joined s characters = record { kept = s .kept; begun = s .begun ++ characters }

@@ -4,9 +4,9 @@ use mathlib.Core.Path.{_≡_}
 use mathlib.Core.List.{List, [], _∷_, _++_}
 use lib.ListN.{take}
 use Rattle.definitions.specs.Program.{output}
-use Rattle.lines.specs.Pieces.{piece, freshSession}
-use Rattle.lines.specs.declared.sessions.State.{State}
-use Rattle.lines.specs.Sessions.{Lent, Stands, Makes, mostFilled, FinishedIs}
+use Rattle.pieces.specs.Pieces.{piece, freshSession}
+use Rattle.pieces.specs.declared.states.State.{State}
+use Rattle.pieces.specs.Sessions.{Lent, Stands, Makes, mostFilled, FinishedIs}
 
 -- The input that pieces make up.
 unfoldable pub together : List (List ℕ) → List ℕ

@@ -6,12 +6,12 @@ use mathlib.Core.List.{List, [], _∷_, _++_, append-assoc, append-nil}
 use lib.ListN.{length, take, drop, length-append}
 use lib.Seq.{length-take-le, take-at}
 use Rattle.plan_writer.specs.Written.{WroteAt}
-use Rattle.lines.specs.Pieces.{piece, freshSession}
-use Rattle.lines.specs.declared.sessions.State.{State}
-use Rattle.lines.specs.Sessions.{Lent, Stands}
-use Rattle.lines.specs.Runs.{together, Reached, start, feeding, writing, RunsWrite}
-use Rattle.lines.proofs.SessionLaws.{at-end}
-use Rattle.lines.proofs.Whole.{piece-append, whole-input}
+use Rattle.pieces.specs.Pieces.{piece, freshSession}
+use Rattle.pieces.specs.declared.states.State.{State}
+use Rattle.pieces.specs.Sessions.{Lent, Stands}
+use Rattle.pieces.specs.Runs.{together, Reached, start, feeding, writing, RunsWrite}
+use Rattle.pieces.proofs.SessionLaws.{at-end}
+use Rattle.pieces.proofs.Whole.{piece-append, whole-input}
 
 -- What was written from a place on follows what stood before it.
 follows : {at end : ℕ} {x before after : List ℕ} → at ≤ length before → WroteAt at x before after end → take end after ≡ take at before ++ x

@@ -6,7 +6,7 @@ use mathlib.Core.List.{List, [], _∷_, _++_, append-assoc, append-nil}
 use lib.Dec.{eqb}
 use borrow.Author.Tests.{eqb-true, eqb-false, ne-eqb}
 use Rattle.definitions.specs.Program.{Kept, intoFirst, linesOf, outputFrom, output}
-use Rattle.lines.specs.Pieces.{Session, Step, endLine, join, character, piece, inputEnd, freshSession}
+use Rattle.pieces.specs.Pieces.{Session, Step, endLine, join, character, piece, inputEnd, freshSession}
 
 -- ---- lines
 

@@ -13,17 +13,17 @@ use Rattle.frame.specs.Refusals.{numberOf}
 use Rattle.frame.specs.declared.refusals.Refusal.the-variants.{NotHexadecimal}
 use Rattle.line_calls.specs.declared.answers.Answer.{Answer}
 use Rattle.line_calls.specs.declared.answers.Answer.the-variants.{Plan, Logical, Refused}
-use Rattle.lines.specs.declared.sessions.State.{State}
+use Rattle.pieces.specs.declared.states.State.{State}
 use Rattle.plan_writer.specs.Written.{WroteAt}
 use Rattle.line_calls.specs.Answers.{answerBytes, planLength, keptAs, lengthAfter, AnswerIs}
-use Rattle.lines.specs.Pieces.{Session, endLine, piece, inputEnd, freshSession, firstLine, hasFeed}
-use Rattle.lines.specs.Collecting.{Begun, CollectedIs}
-use Rattle.lines.specs.Sessions.{Lent, lent, Stands, Makes, mostFilled, EndedIs, TakenIs, FedIs, FinishedIs}
-use Rattle.lines.specs.declared.sessions.Fed.{Fed}
-use Rattle.lines.specs.declared.collecting.Collected.{Collected}
+use Rattle.pieces.specs.Pieces.{Session, endLine, piece, inputEnd, freshSession, firstLine, hasFeed}
+use Rattle.pieces.specs.Collecting.{Begun, CollectedIs}
+use Rattle.pieces.specs.Sessions.{Lent, lent, Stands, Makes, mostFilled, EndedIs, TakenIs, FedIs, FinishedIs}
+use Rattle.pieces.specs.declared.states.Fed.{Fed}
+use Rattle.pieces.specs.declared.collecting.Collected.{Collected}
 use Rattle.hexadecimal.proofs.DecodeLaws.{long-line}
 use Rattle.hexadecimal.proofs.EncodeLaws.{length-digits, wrote-nothing}
-use Rattle.lines.proofs.PieceLaws.{joined, stopped, upto}
+use Rattle.pieces.proofs.PieceLaws.{joined, stopped, upto}
 use Rattle.line_calls.proofs.LineLaws.{refused-line, bad-line}
 
 abbrev stateOf : (n count filled : ℕ) → State

@@ -5,8 +5,8 @@ use mathlib.Core.List.{List, _++_}
 use lib.ListN.{length, take}
 use lib.Seq.{sets}
 use Rattle.definitions.specs.Basics.{if_then_else_}
-use Rattle.lines.specs.Pieces.{firstLine, hasFeed}
-use Rattle.lines.specs.declared.collecting.Collected.{Collected}
+use Rattle.pieces.specs.Pieces.{firstLine, hasFeed}
+use Rattle.pieces.specs.declared.collecting.Collected.{Collected}
 
 -- A line has begun: its characters are counted and stand in the buffer; a count over the buffer's length says that it holds more than that.
 pub record Begun (buffer : List ℕ) (count : ℕ) (line : List ℕ) : Type 0 where

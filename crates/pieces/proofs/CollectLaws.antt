@@ -11,8 +11,8 @@ use lib.Seq.{drop-cons, take-suc, take-suc-set, length-take-le, set-out, sets}
 use lib.Dec.{ltb}
 use borrow.Author.Tests.{ne-eqb, ltb-true, ltb-false}
 use Rattle.definitions.specs.Basics.{if_then_else_}
-use Rattle.lines.specs.Pieces.{firstLine, hasFeed}
-use Rattle.lines.specs.Collecting.{Begun, Joined, countAfter, CollectedIs}
+use Rattle.pieces.specs.Pieces.{firstLine, hasFeed}
+use Rattle.pieces.specs.Collecting.{Begun, Joined, countAfter, CollectedIs}
 
 -- ---- one character
 

@@ -3,9 +3,9 @@ use Prim.Native.Nat.{_-_}
 use borrow.Author.Needs.{needs}
 use native.Mathlib.Omega.{arith}
 use lib.ListN.{length}
-use Rattle.lines.proofs.CollectLaws.{Collecting, collect-none, collect-one, collect-past, at-feed, at-end}
-use Rattle.lines.proofs.collecting.collect.Statement.{statement}
-use Rattle.lines.proofs.collecting.collect.Tie as tie
+use Rattle.pieces.proofs.CollectLaws.{Collecting, collect-none, collect-one, collect-past, at-feed, at-end}
+use Rattle.pieces.proofs.collecting.collect.Statement.{statement}
+use Rattle.pieces.proofs.collecting.collect.Tie as tie
 
 abbrev Inv-loop : tie.InvT-loop
 Inv-loop line₀ piece count counted₀ at₀ line counted at = Collecting piece line₀ count at line counted
