@@ -7,7 +7,7 @@ use mathlib.Core.List.{List, [], _++_}
 use lib.ListN.{length, take, drop}
 use lib.Seq.{take-add, take-take}
 use lib.Dec.{leb}
-use borrow.Author.Tests.{leb-true, lt-leb}
+use borrow.Author.Tests.{leb-true, le-leb, lt-leb}
 use Rattle.definitions.specs.Basics.{if_then_else_}
 use Rattle.pieces.specs.Pieces.{Session, piece, freshSession}
 use Rattle.pieces.specs.Sessions.{Lent, Stands, Makes, mostFilled}
@@ -50,6 +50,9 @@ flushed-roomy state (More next) h e = rw (lt-leb (state .filled) mostFilled h) e
 flushed-roomy state (Ended next) h e = e
 flushed-roomy state NotRead h e = e
 flushed-roomy state NotWritten h e = e
+
+pub roomy-kept : (state : State) → state .filled ≤ mostFilled → Roomy state (More state)
+roomy-kept state h = rw (le-leb (state .filled) mostFilled h) refl
 
 pub handed : (p : List ℕ) (before b : Lent) (state current : State) (r : Turn) → Flushed current r → After p before state b current → Handed p before state b r
 handed p before b state current (More next) e old = (rw e refl, λ s h. rw e (settled-stands (old s h)))

@@ -73,10 +73,11 @@ fn feed_all(
     let mut at: usize = 0;
     while at < size {
         let fed = feed(out, plan, scratch, line, &chunk[at..size], current);
+        let taken = fed.taken;
         let Turn::More(next) = make_room(out, fed.state) else {
             return Turn::NotWritten;
         };
-        at += fed.taken;
+        at += taken;
         current = next;
     }
     flush(out, current)

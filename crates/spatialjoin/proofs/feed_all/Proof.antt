@@ -35,9 +35,9 @@ make-room-requires c κs = omega (arith, room (c .before .before))
 
 loop-again : tie.Need-loop-again Inv-loop μ-loop
 loop-again c =
-    let f = c .before .before .before .before .before .before .before in
+    let f = c .before .before .before .before .before .before in
     let l = f .before .before .before .before .before .before .before in
-    let e = rw (c .before .before .next .given .1) at (c .before .before .before .before .make-room .ensures) in
+    let e = rw (c .before .next .given .1) at (c .before .before .before .make-room .ensures) in
     let a = l .before .before .args in
     let on = roomy _ e (taken (a .chunk .now) (l .loop .at) (a .size) _ (within f) (l .loop .inv .3) (f .feed .ensures .makes)) in
     (omega (arith, within f), on .0, omega (arith, on .1, room f), on .2)
@@ -63,8 +63,8 @@ feed-all-spec =
     make-room-requires
     (λ c. search needs)
     (λ c. search needs)
-    (λ c. omega (arith, within (c .before .before .before .before .before .before .before)))
-    (λ c. omega (arith, some (c .before .before .before .before .before .before .before)))
+    (λ c. omega (arith, within (c .before .before .before .before .before .before)))
+    (λ c. omega (arith, some (c .before .before .before .before .before .before)))
     loop-again
     (λ c κs. search needs)
     returns-2)
