@@ -19,7 +19,8 @@ abbrev ahead : List ℕ → Option (List ℕ) → Option (List ℕ)
 ahead bytes none = none
 ahead bytes (some others) = some (bytes ++ others)
 
-pair-ahead : (h l : Option ℕ) {b : ℕ} (others : Option (List ℕ)) → some (b ∷ []) ≡ pairBytes h l (some []) → pairBytes h l others ≡ ahead (b ∷ []) others
+pair-ahead : (h l : Option ℕ) {b : ℕ} (others : Option (List ℕ)) → some (b ∷ []) ≡ pairBytes h l (some [])
+    → pairBytes h l others ≡ ahead (b ∷ []) others
 unfolding pairBytes
 pair-ahead none l others e = absurd (let z : _≡_ {A = ℕ} 0 1 = cc in omega arith)
 pair-ahead (some h) none others e = absurd (let z : _≡_ {A = ℕ} 0 1 = cc in omega arith)
@@ -55,14 +56,16 @@ odd-none : (line : List ℕ) → length line % 2 ≡ 1 → digitBytes line ≡ n
 unfolding digitBytes
 odd-none [] h = absurd (omega arith)
 odd-none (a ∷ []) h = refl
-odd-none (a ∷ b ∷ line) h = ap (pairBytes (digitValue a) (digitValue b)) (odd-none line (omega arith)) ∙ pair-of-none (digitValue a) (digitValue b)
+odd-none (a ∷ b ∷ line) h = ap (pairBytes (digitValue a) (digitValue b)) (odd-none line (omega arith)) ∙ pair-of-none (digitValue a)
+    (digitValue b)
 
 -- Two more characters of a list.
 two-more : (s : List ℕ) (i : ℕ) → 2 * i + 1 < length s → drop (2 * i) s ≡ getD s (2 * i) 0 ∷ getD s (2 * i + 1) 0 ∷ drop (2 * (i + 1)) s
 two-more s i h =
     let next : 2 * (i + 1) ≡ suc (2 * i + 1) = omega arith in
     drop-cons s (2 * i) 0 (omega arith)
-    ∙ ap (λ (l : List ℕ). getD s (2 * i) 0 ∷ l) (rw (← add-one (2 * i)) (drop-cons s (2 * i + 1) 0 h ∙ ap (λ (k : ℕ). getD s (2 * i + 1) 0 ∷ drop k s) (sym next)))
+    ∙ ap (λ (l : List ℕ). getD s (2 * i) 0 ∷ l)
+    (rw (← add-one (2 * i)) (drop-cons s (2 * i + 1) 0 h ∙ ap (λ (k : ℕ). getD s (2 * i + 1) 0 ∷ drop k s) (sym next)))
 
 -- i bytes stand at the start of `out`, and the later digits decide.
 pub record DecodedSoFar (line before out : List ℕ) (i : ℕ) : Type 0 where
@@ -88,12 +91,14 @@ abbrev pub pairAt : List ℕ → ℕ → Option (List ℕ)
 pairAt line i = pairBytes (digitValue (getD line (2 * i) 0)) (digitValue (getD line (2 * i + 1) 0)) (some [])
 
 digits-at : (line : List ℕ) (i : ℕ) → 2 * i + 1 < length line
-    → digitBytes (drop (2 * i) line) ≡ pairBytes (digitValue (getD line (2 * i) 0)) (digitValue (getD line (2 * i + 1) 0)) (digitBytes (drop (2 * (i + 1)) line))
+    → digitBytes (drop (2 * i) line) ≡ pairBytes (digitValue (getD line (2 * i) 0)) (digitValue (getD line (2 * i + 1) 0))
+    (digitBytes (drop (2 * (i + 1)) line))
 unfolding digitBytes
 digits-at line i h = ap digitBytes (two-more line i h)
 
 leading-at : (line : List ℕ) (i : ℕ) → 2 * i + 1 < length line
-    → leadingBytes (drop (2 * i) line) ≡ leadingPair (digitValue (getD line (2 * i) 0)) (digitValue (getD line (2 * i + 1) 0)) (leadingBytes (drop (2 * (i + 1)) line))
+    → leadingBytes (drop (2 * i) line) ≡ leadingPair (digitValue (getD line (2 * i) 0)) (digitValue (getD line (2 * i + 1) 0))
+    (leadingBytes (drop (2 * (i + 1)) line))
 unfolding leadingBytes
 leading-at line i h = ap leadingBytes (two-more line i h)
 
@@ -105,7 +110,8 @@ decoded-more {line} {before} {out} {i} {v} d h room e =
     record {
       within = omega arith;
       bytes =
-          d .bytes ∙ ap (ahead (take i out)) (digits-at line i h ∙ pair-ahead _ _ (digitBytes later) e) ∙ ahead-ahead (take i out) (v ∷ []) (digitBytes later)
+          d .bytes ∙ ap (ahead (take i out)) (digits-at line i h ∙ pair-ahead _ _ (digitBytes later) e) ∙ ahead-ahead (take i out) (v ∷ [])
+          (digitBytes later)
           ∙ ap (λ (l : List ℕ). ahead l (digitBytes later)) more;
       leading =
           d .leading ∙ ap (λ (l : List ℕ). take i out ++ l) (leading-at line i h ∙ lead-pair _ _ (leadingBytes later) e)
@@ -144,7 +150,8 @@ odd-count line out h odd = record {
   wrote = simp (le-leb (length line) 32768 h, odd);
 }
 
-module _ {line before out : List ℕ} {i : ℕ} (d : DecodedSoFar line before out i) (room : i ≤ length out) (short : length line ≤ 32768) (even : length line % 2 ≡ 1 → ⊥) where
+module _ {line before out : List ℕ} {i : ℕ} (d : DecodedSoFar line before out i) (room : i ≤ length out) (short : length line ≤ 32768)
+    (even : length line % 2 ≡ 1 → ⊥) where
   -- Where no pair follows, the bytes so far are what decoding writes.
   so-far : leadingBytes (drop (2 * i) line) ≡ [] → Wrote (decodedTo line) before out
   unfolding decodedTo

@@ -32,12 +32,14 @@ use Rattle.line_calls.specs.Scratch.{callScratch}
 abbrev given : (answer : Result ℕ) (n : ℕ) (plan : List ℕ) → LineOutcome
 given answer n plan = record { answer = mapResult (λ m. take m plan) answer; kept = record { n = n; buffer = plan } }
 
-answer-given : (a : CallAnswer) (n : ℕ) (plan : List ℕ) → planLength (lineAnswer a) ≤ length plan → AnswerIs (given (answerOf a) (nAfter n a) plan) n plan (lineAnswer a)
+answer-given : (a : CallAnswer) (n : ℕ) (plan : List ℕ) → planLength (lineAnswer a) ≤ length plan
+    → AnswerIs (given (answerOf a) (nAfter n a) plan) n plan (lineAnswer a)
 answer-given (Length m) n plan h = record { answer = refl; kept = refl; fits = h }
 answer-given (CallRefused why) n plan h = record { answer = refl; kept = refl; fits = h }
 
 -- A plan that was written is in its buffer.
-plan-written : (bytes before : List ℕ) {after : List ℕ} {m : ℕ} → ok (length bytes) ≡ ok m → writtenOver bytes before ≡ after → m ≤ length after
+plan-written : (bytes before : List ℕ) {after : List ℕ} {m : ℕ} → ok (length bytes) ≡ ok m → writtenOver bytes before ≡ after
+    → m ≤ length after
 unfolding writtenOver
 plan-written bytes before {after} {m} e f =
     let size : length bytes ≡ m = cc in
@@ -45,17 +47,21 @@ plan-written bytes before {after} {m} e f =
 
 -- ---- load
 
-loaded-fits : (x : Result (List ℕ)) (n : ℕ) (before : List ℕ) {m k : ℕ} {after : List ℕ} → finishLoad n before x ≡ record { answer = ok m; n = k; buffer = after } → m ≤ length after
+loaded-fits : (x : Result (List ℕ)) (n : ℕ) (before : List ℕ) {m k : ℕ} {after : List ℕ}
+    → finishLoad n before x ≡ record { answer = ok m; n = k; buffer = after } → m ≤ length after
 unfolding finishLoad
-loaded-fits (ok bytes) n before e = plan-written bytes before (ap (λ (o : LoadOutcome). o .answer) e) (ap (λ (o : LoadOutcome). o .buffer) e)
+loaded-fits (ok bytes) n before e = plan-written bytes before (ap (λ (o : LoadOutcome). o .answer) e)
+    (ap (λ (o : LoadOutcome). o .buffer) e)
 loaded-fits (refused number) n before e = absurd (refused-not-ok _ _ (ap (λ (o : LoadOutcome). o .answer) e))
 
-load-fits : (frame before : List ℕ) {after : List ℕ} (a : CallAnswer) → LoadIs frame before after a → planLength (lineAnswer a) ≤ length after
+load-fits : (frame before : List ℕ) {after : List ℕ} (a : CallAnswer) → LoadIs frame before after a
+    → planLength (lineAnswer a) ≤ length after
 unfolding load
 load-fits frame before (Length m) is = loaded-fits (newAfterLoad frame (length before) (frameOf frame)) 0 before (is 0)
 load-fits frame before (CallRefused why) is = omega arith
 
-pub load-gives : (frame before : List ℕ) {after : List ℕ} (a : CallAnswer) → LoadIs frame before after a → (n : ℕ) → AnswerIs (loadLine frame (keptAs n before)) n after (lineAnswer a)
+pub load-gives : (frame before : List ℕ) {after : List ℕ} (a : CallAnswer) → LoadIs frame before after a → (n : ℕ)
+    → AnswerIs (loadLine frame (keptAs n before)) n after (lineAnswer a)
 unfolding loadLine
 load-gives frame before {after} a is n =
     rw (ap (λ (o : LoadOutcome). given (o .answer) (o .n) (o .buffer)) (is n)) (answer-given a n after (load-fits frame before a is))
@@ -82,20 +88,24 @@ unfolding finish
 finish-fits (ok bytes) n before s e = plan-written bytes before (ap (λ (o : Outcome). o .answer) e) (ap (λ (o : Outcome). o .buffer) e)
 finish-fits (refused number) n before s e = absurd (refused-not-ok _ _ (ap (λ (o : Outcome). o .answer) e))
 
-call-fits : (kind : Kind) (n : ℕ) (before s : List ℕ) {after t : List ℕ} (a : CallAnswer) → OutcomeIs (make kind n before s) n after t a → planLength (lineAnswer a) ≤ length after
+call-fits : (kind : Kind) (n : ℕ) (before s : List ℕ) {after t : List ℕ} (a : CallAnswer) → OutcomeIs (make kind n before s) n after t a
+    → planLength (lineAnswer a) ≤ length after
 unfolding make extract exchange
 call-fits extractCall n before s (Length m) is = finish-fits (newAfterExtract n (length s) (heldPlan n before)) n before s is
 call-fits exchangeCall n before s (Length m) is = finish-fits (newAfterExchange n (length s) (heldPlan n before)) n before s is
 call-fits kind n before s (CallRefused why) is = omega arith
 
-pub call-gives : (kind : Kind) (n : ℕ) (before s : List ℕ) {after t : List ℕ} (a : CallAnswer) → OutcomeIs (make kind n before s) n after t a → length s ≡ 16384
+pub call-gives : (kind : Kind) (n : ℕ) (before s : List ℕ) {after t : List ℕ} (a : CallAnswer)
+    → OutcomeIs (make kind n before s) n after t a → length s ≡ 16384
     → AnswerIs (callLine kind [] (keptAs n before)) n after (lineAnswer a)
 unfolding callLine
 call-gives kind n before s {after} a is size =
-    rw (same-call kind n before (replicate 16384 0) s (length-replicate {A = ℕ} 16384 0 ∙ sym size) ∙ ap made is) (answer-given a n after (call-fits kind n before s a is))
+    rw (same-call kind n before (replicate 16384 0) s (length-replicate {A = ℕ} 16384 0 ∙ sym size) ∙ ap made is)
+    (answer-given a n after (call-fits kind n before s a is))
 
 -- Nothing but the scratch that it was lent is left there.
-pub call-leaves : (kind : Kind) (n : ℕ) (before s : List ℕ) {after t : List ℕ} (a : CallAnswer) → OutcomeIs (make kind n before s) n after t a
+pub call-leaves : (kind : Kind) (n : ℕ) (before s : List ℕ) {after t : List ℕ} (a : CallAnswer)
+    → OutcomeIs (make kind n before s) n after t a
     → t ≡ callScratch kind [] (keptAs n before) s
 unfolding callScratch
 call-leaves kind n before s a is = sym (ap (λ (o : Outcome). o .scratch) is)
@@ -108,11 +118,13 @@ more-bytes (suc (suc size)) [] h k = absurd (omega arith)
 more-bytes (suc (suc size)) (a ∷ []) h k = absurd (omega arith)
 more-bytes (suc (suc size)) (a ∷ b ∷ bytes) h k = (b, take size bytes, refl)
 
-pub more-follow : (kind : Kind) (size : ℕ) (bytes : List ℕ) (kept : Kept) → 1 < size → 1 < length bytes → refusedLine 7 kept ≡ callLine kind (drop 1 (take size bytes)) kept
+pub more-follow : (kind : Kind) (size : ℕ) (bytes : List ℕ) (kept : Kept) → 1 < size → 1 < length bytes
+    → refusedLine 7 kept ≡ callLine kind (drop 1 (take size bytes)) kept
 unfolding callLine
 more-follow kind size bytes kept h k = rw (more-bytes size bytes h k .2) refl
 
-pub more-leave : (kind : Kind) (size : ℕ) (bytes : List ℕ) (kept : Kept) (s : List ℕ) → 1 < size → 1 < length bytes → s ≡ callScratch kind (drop 1 (take size bytes)) kept s
+pub more-leave : (kind : Kind) (size : ℕ) (bytes : List ℕ) (kept : Kept) (s : List ℕ) → 1 < size → 1 < length bytes
+    → s ≡ callScratch kind (drop 1 (take size bytes)) kept s
 unfolding callScratch
 more-leave kind size bytes kept s h k = rw (more-bytes size bytes h k .2) refl
 
@@ -156,8 +168,10 @@ mask-bytes mask h =
     let low : mask / 1 % 256 ≡ mask % 256 = omega arith in
     cc
 
-pub names-give : (frame : List ℕ) {mask names : ℕ} {side : Side} → ok (record { mask = mask; names = names; side = side }) ≡ logical frame → mask < 65536
-    → (n : ℕ) (plan : List ℕ) → AnswerIs (logicalLine frame (keptAs n plan)) n plan (Logical (mask / 256) (mask % 256) names (sideNumber side))
+pub names-give : (frame : List ℕ) {mask names : ℕ} {side : Side} → ok (record { mask = mask; names = names; side = side }) ≡ logical frame
+    → mask < 65536
+    → (n : ℕ) (plan : List ℕ)
+    → AnswerIs (logicalLine frame (keptAs n plan)) n plan (Logical (mask / 256) (mask % 256) names (sideNumber side))
 unfolding logicalLine logicalBytes
 names-give frame {mask} {names} {side} is h n plan = record {
   answer = rw (← is) (ap (λ (l : List ℕ). ok (l ++ (names ∷ sideNumber side ∷ []))) (mask-bytes mask h));

@@ -35,7 +35,8 @@ pub none-leave : (size : ℕ) (bytes : List ℕ) (kept : Kept) (s : List ℕ) �
 unfolding bytesScratch
 none-leave size bytes kept s e = rw e
 
-pub begins : (size : ℕ) (bytes : List ℕ) → (size ≡ 0 → ⊥) → size ≤ length bytes → take size bytes ≡ getD bytes 0 0 ∷ drop 1 (take size bytes)
+pub begins : (size : ℕ) (bytes : List ℕ) → (size ≡ 0 → ⊥) → size ≤ length bytes
+    → take size bytes ≡ getD bytes 0 0 ∷ drop 1 (take size bytes)
 begins zero bytes h k = absurd (h refl)
 begins (suc size) [] h k = absurd (omega arith)
 begins (suc size) (b ∷ bytes) h k = refl
@@ -85,11 +86,13 @@ module _ (line : List ℕ) (kept : Kept) where
   unfolding readLine lineOutcome
   bad-line e = rw (← e)
 
-  pub good-leaves : {bytes after : List ℕ} (s : List ℕ) → ok bytes ≡ lineBytes line → Wrote (decodedTo line) s after → bytesScratch bytes kept after ≡ lineScratch line kept s
+  pub good-leaves : {bytes after : List ℕ} (s : List ℕ) → ok bytes ≡ lineBytes line → Wrote (decodedTo line) s after
+      → bytesScratch bytes kept after ≡ lineScratch line kept s
   unfolding writtenOver readScratch lineScratch
   good-leaves s e w = rw (w, ← e)
 
-  pub bad-leaves : {after : List ℕ} (s : List ℕ) → refused 14 ≡ lineBytes line → Wrote (decodedTo line) s after → after ≡ lineScratch line kept s
+  pub bad-leaves : {after : List ℕ} (s : List ℕ) → refused 14 ≡ lineBytes line → Wrote (decodedTo line) s after
+      → after ≡ lineScratch line kept s
   unfolding writtenOver readScratch lineScratch
   bad-leaves s e w = rw (w, ← e)
 

@@ -64,8 +64,11 @@ fn logical_line(bytes: &[u8]) -> Answer
 // `21` and `22`: extract and exchange, 7 where more follows.
 fn plan_line(plan: &mut [u8], scratch: &mut [u8], size: usize, n: usize, call: Call) -> Answer
     requires { ⌜ length (now scratch) ≡ 16384 ⌝ }
-    ensures { λ r. ⌜ AnswerIs (program.callLine (kindOf call) (drop 1 (take size (now (scratch .entry)))) (keptAs n (now (plan .entry)))) n (now (plan .exit)) r ⌝ }
-    ensures { λ _. ⌜ now (scratch .exit) ≡ callScratch (kindOf call) (drop 1 (take size (now (scratch .entry)))) (keptAs n (now (plan .entry))) (now (scratch .entry)) ⌝ }
+    ensures { λ r. ⌜ AnswerIs
+        (program.callLine (kindOf call) (drop 1 (take size (now (scratch .entry)))) (keptAs n (now (plan .entry))))
+        n (now (plan .exit)) r ⌝ }
+    ensures { λ _. ⌜ now (scratch .exit)
+        ≡ callScratch (kindOf call) (drop 1 (take size (now (scratch .entry)))) (keptAs n (now (plan .entry))) (now (scratch .entry)) ⌝ }
 {
     if 1 < size {
         return Answer::Refused(Refusal::BytesAfterEnd);
@@ -80,7 +83,8 @@ fn plan_line(plan: &mut [u8], scratch: &mut [u8], size: usize, n: usize, call: C
 fn call_line(plan: &mut [u8], scratch: &mut [u8], size: usize, n: usize) -> Answer
     requires { ⌜ (size ≤ length (now scratch)) × (length (now scratch) ≡ 16384) ⌝ }
     ensures { λ r. ⌜ AnswerIs (program.lineOf (take size (now (scratch .entry))) (keptAs n (now (plan .entry)))) n (now (plan .exit)) r ⌝ }
-    ensures { λ _. ⌜ now (scratch .exit) ≡ bytesScratch (take size (now (scratch .entry))) (keptAs n (now (plan .entry))) (now (scratch .entry)) ⌝ }
+    ensures { λ _. ⌜ now (scratch .exit)
+        ≡ bytesScratch (take size (now (scratch .entry))) (keptAs n (now (plan .entry))) (now (scratch .entry)) ⌝ }
 {
     if size == 0 {
         return Answer::Refused(Refusal::EmptyOrTooLong);

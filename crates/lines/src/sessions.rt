@@ -31,7 +31,8 @@ fn length_after(n: usize, answer: Answer) -> usize
 fn answer_begun(plan: &mut [u8], scratch: &mut [u8], line: &[u8], count: usize, n: usize) -> Answer
     requires { ⌜ (length (now scratch) ≡ 16384) × (length (now line) ≡ 32768) ⌝ }
     ensures { λ r. ⌜ planLength r ≤ length (now (plan .entry)) ⌝ }
-    ensures { λ r. ⌜ ((begun : List ℕ) → Begun (now (line .entry)) count begun → AnswerIs (lineOutcome begun (keptAs n (now (plan .entry)))) n (now (plan .exit)) r) ⌝ }
+    ensures { λ r. ⌜ ((begun : List ℕ) → Begun (now (line .entry)) count begun
+        → AnswerIs (lineOutcome begun (keptAs n (now (plan .entry)))) n (now (plan .exit)) r) ⌝ }
     ensures { λ _. ⌜ now (scratch .exit) ≡ begunScratch (now (line .entry)) count n (now (plan .entry)) (now (scratch .entry)) ⌝ }
 {
     if line.len() < count {
@@ -44,7 +45,9 @@ fn answer_begun(plan: &mut [u8], scratch: &mut [u8], line: &[u8], count: usize, 
 fn end_line(out: &mut [u8], plan: &mut [u8], scratch: &mut [u8], line: &[u8], state: State) -> State
     requires { ⌜ (length (now scratch) ≡ 16384) × (length (now line) ≡ 32768) ⌝ }
     requires { ⌜ state .filled + 2 * length (now plan) + 11 ≤ length (now out) ⌝ }
-    ensures { λ r. ⌜ EndedIs (lent (now (out .entry)) (now (plan .entry)) (now (scratch .entry)) (now (line .entry))) state (lent (now (out .exit)) (now (plan .exit)) (now (scratch .exit)) (now (line .entry))) r ⌝ }
+    ensures { λ r. ⌜ EndedIs
+        (lent (now (out .entry)) (now (plan .entry)) (now (scratch .entry)) (now (line .entry))) state
+        (lent (now (out .exit)) (now (plan .exit)) (now (scratch .exit)) (now (line .entry))) r ⌝ }
 {
     let n = state.n;
     let answer = answer_begun(plan, scratch, line, state.count, n);
@@ -65,7 +68,9 @@ pub fn feed(
     piece: &[u8],
     state: State,
 ) -> Fed
-    ensures { λ r. ⌜ FedIs (now (piece .entry)) (lent (now (out .entry)) (now (plan .entry)) (now (scratch .entry)) (now (line .entry))) state (lent (now (out .exit)) (now (plan .exit)) (now (scratch .exit)) (now (line .exit))) r ⌝ }
+    ensures { λ r. ⌜ FedIs (now (piece .entry))
+        (lent (now (out .entry)) (now (plan .entry)) (now (scratch .entry)) (now (line .entry))) state
+        (lent (now (out .exit)) (now (plan .exit)) (now (scratch .exit)) (now (line .exit))) r ⌝ }
 {
     if MOST_FILLED < state.filled {
         return Fed { taken: 0, state };
@@ -95,7 +100,9 @@ pub fn finish(
     line: &[u8; 32768],
     state: State,
 ) -> State
-    ensures { λ r. ⌜ FinishedIs (lent (now (out .entry)) (now (plan .entry)) (now (scratch .entry)) (now (line .entry))) state (lent (now (out .exit)) (now (plan .exit)) (now (scratch .exit)) (now (line .entry))) r ⌝ }
+    ensures { λ r. ⌜ FinishedIs
+        (lent (now (out .entry)) (now (plan .entry)) (now (scratch .entry)) (now (line .entry))) state
+        (lent (now (out .exit)) (now (plan .exit)) (now (scratch .exit)) (now (line .entry))) r ⌝ }
 {
     if state.count == 0 {
         return state;

@@ -16,20 +16,23 @@ use Rattle.pieces.specs.Collecting.{Begun, Joined, countAfter, Collected
 
 -- ---- one character
 
-pub join-one : {buffer line : List ℕ} {count : ℕ} (c : ℕ) → Begun buffer count line → count < length buffer → Begun (set buffer count c) (count + 1) (line ++ (c ∷ []))
+pub join-one : {buffer line : List ℕ} {count : ℕ} (c : ℕ) → Begun buffer count line → count < length buffer
+    → Begun (set buffer count c) (count + 1) (line ++ (c ∷ []))
 join-one {buffer} {line} {count} c b h = record {
   held = λ e. rw (add-one, take-suc-set buffer count c) (ap (λ (l : List ℕ). l ++ (c ∷ [])) (b .held (omega arith)));
   long = λ e. absurd (omega (arith, length-set buffer count c));
 }
 
 -- A line that fills the buffer or is longer is longer than it with one more.
-fills : {buffer line : List ℕ} {count : ℕ} (over : Bool) → ltb (length buffer) count ≡ over → Begun buffer count line → length buffer ≤ count → length buffer ≤ length line
+fills : {buffer line : List ℕ} {count : ℕ} (over : Bool) → ltb (length buffer) count ≡ over → Begun buffer count line
+    → length buffer ≤ count → length buffer ≤ length line
 fills {buffer} {line} {count} true e b h = omega (arith, b .long (ltb-true (length buffer) count e))
 fills {buffer} {line} {count} false e b h =
     let below : count ≤ length buffer = ltb-false (length buffer) count e in
     omega (arith, length-take-le count buffer below, ap length (b .held below))
 
-pub join-past : {buffer line : List ℕ} {count : ℕ} (c : ℕ) → Begun buffer count line → length buffer ≤ count → Begun buffer (length buffer + 1) (line ++ (c ∷ []))
+pub join-past : {buffer line : List ℕ} {count : ℕ} (c : ℕ) → Begun buffer count line → length buffer ≤ count
+    → Begun buffer (length buffer + 1) (line ++ (c ∷ []))
 join-past {buffer} {line} {count} c b h = record {
   held = λ e. absurd (omega arith);
   long = λ e. simp length-append (omega (arith, fills (ltb (length buffer) count) refl b h));
@@ -86,9 +89,11 @@ unfolding firstLine hasFeed
 no-feed c s h = (simp (ne-eqb c 10 h), simp (ne-eqb c 10 h))
 
 -- One character more, however it joined the line.
-one-more : {piece before after next : List ℕ} {count at counted total : ℕ} → Collecting piece before count at after counted → at < length piece
+one-more : {piece before after next : List ℕ} {count at counted total : ℕ} → Collecting piece before count at after counted
+    → at < length piece
     → (getD piece at 0 ≡ 10 → ⊥) → ((line : List ℕ) → Begun after counted line → Begun next total (line ++ (getD piece at 0 ∷ [])))
-    → total ≡ countAfter (length before) count (at + 1) → next ≡ set after (count + at) (getD piece at 0) → Collecting piece before count (at + 1) next total
+    → total ≡ countAfter (length before) count (at + 1) → next ≡ set after (count + at) (getD piece at 0)
+    → Collecting piece before count (at + 1) next total
 one-more {piece} {before} {after} {next} {count} {at} {counted} {total} s h c joins size stored =
     let here : drop at piece ≡ getD piece at 0 ∷ drop (at + 1) piece = rw (add-one at) (drop-cons piece at 0 h) in
     let front : take (at + 1) piece ≡ take at piece ++ (getD piece at 0 ∷ []) = rw (add-one at) (take-suc piece at 0 h) in
@@ -109,17 +114,20 @@ one-more {piece} {before} {after} {next} {count} {at} {counted} {total} s h c jo
     }
 
 pub collect-one : {piece before after : List ℕ} {count at counted : ℕ} → Collecting piece before count at after counted → at < length piece
-    → (getD piece at 0 ≡ 10 → ⊥) → counted < length after → Collecting piece before count (at + 1) (set after counted (getD piece at 0)) (counted + 1)
+    → (getD piece at 0 ≡ 10 → ⊥) → counted < length after
+    → Collecting piece before count (at + 1) (set after counted (getD piece at 0)) (counted + 1)
 collect-one {piece} {before} {after} {count} {at} {counted} s h c room =
     let below : countAfter (length before) count at < length before = rw (← s .counts, ← s .kept) room in
-    one-more s h c (λ line b. join-one (getD piece at 0) b room) (ap (λ (k : ℕ). k + 1) (s .counts) ∙ sym (count-one (length before) count at below))
+    one-more s h c (λ line b. join-one (getD piece at 0) b room)
+    (ap (λ (k : ℕ). k + 1) (s .counts) ∙ sym (count-one (length before) count at below))
     (ap (λ (k : ℕ). set after k (getD piece at 0)) (s .counts ∙ place-one (length before) count at below))
 
 pub collect-past : {piece before after : List ℕ} {count at counted : ℕ} → Collecting piece before count at after counted → at < length piece
     → (getD piece at 0 ≡ 10 → ⊥) → length after ≤ counted → Collecting piece before count (at + 1) after (length after + 1)
 collect-past {piece} {before} {after} {count} {at} {counted} s h c full =
     let past : length before ≤ countAfter (length before) count at = rw (← s .counts, ← s .kept) full in
-    one-more s h c (λ line b. join-past (getD piece at 0) b full) (ap (λ (k : ℕ). k + 1) (s .kept) ∙ sym (count-past (length before) count at past))
+    one-more s h c (λ line b. join-past (getD piece at 0) b full)
+    (ap (λ (k : ℕ). k + 1) (s .kept) ∙ sym (count-past (length before) count at past))
     (sym (set-out after (count + at) (getD piece at 0) (rw (s .kept) (place-past (length before) count at past))))
 
 -- ---- the answers
@@ -139,7 +147,8 @@ stopped {piece} {before} {after} {count} {at} {counted} taken feed s none is siz
       line = rw line (s .joined);
     }
 
-pub at-feed : {piece before after : List ℕ} {count at counted : ℕ} → Collecting piece before count at after counted → at < length piece → getD piece at 0 ≡ 10
+pub at-feed : {piece before after : List ℕ} {count at counted : ℕ} → Collecting piece before count at after counted → at < length piece
+    → getD piece at 0 ≡ 10
     → CollectedIs piece before count after (record { taken = at + 1; count = counted; ended = true })
 unfolding firstLine hasFeed
 at-feed {piece} {before} {after} {count} {at} s h c =

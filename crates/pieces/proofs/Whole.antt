@@ -70,7 +70,8 @@ joins s c h = simp (ne-eqb c 10 h)
 whole-more : (c : ℕ) (input : List ℕ) → (c ≡ 10 → ⊥) → Whole input → Whole (c ∷ input)
 unfolding Whole piece join
 whole-more c input h ih s n =
-    subst (λ (one : Step). left s (c ∷ input) ≡ (one .out ++ piece (one .after) input .out) ++ atEnd (piece (one .after) input .after)) (joins s c h)
+    subst (λ (one : Step). left s (c ∷ input) ≡ (one .out ++ piece (one .after) input .out) ++ atEnd (piece (one .after) input .after))
+    (joins s c h)
     (ap (λ (l : List ℕ). outputFrom (s .kept) (linesOf l)) (sym (append-assoc (s .begun) (c ∷ []) input))
     ∙ ih (join s (c ∷ []) .after) (one-more n h))
 
@@ -85,7 +86,8 @@ whole (c ∷ input) = whole-one c input (eqb c 10) refl (whole input)
 -- ---- a piece that is cut
 
 pub piece-append : (s : Session) (p q : List ℕ)
-    → (piece s (p ++ q) .out ≡ piece s p .out ++ piece (piece s p .after) q .out) × (piece s (p ++ q) .after ≡ piece (piece s p .after) q .after)
+    → (piece s (p ++ q) .out ≡ piece s p .out ++ piece (piece s p .after) q .out) ×
+    (piece s (p ++ q) .after ≡ piece (piece s p .after) q .after)
 unfolding piece
 piece-append s [] q = (refl, refl)
 piece-append s (c ∷ p) q =
@@ -96,6 +98,7 @@ piece-append s (c ∷ p) q =
 
 -- ---- the program
 
-pub whole-input : (input : List ℕ) → (let last = piece freshSession input in last .out ++ inputEnd (last .after .kept) (last .after .begun) ≡ output input)
+pub whole-input : (input : List ℕ)
+    → (let last = piece freshSession input in last .out ++ inputEnd (last .after .kept) (last .after .begun) ≡ output input)
 unfolding freshSession output Whole
 whole-input input = sym (whole input freshSession none)

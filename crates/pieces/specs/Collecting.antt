@@ -26,7 +26,8 @@ abbrev pub countAfter : (size count k : ℕ) → ℕ
 countAfter size count zero = count
 countAfter size count (suc k) = min (count + suc k) (size + 1)
 
--- The characters of a piece up to its first line feed were taken with it and joined the line: each that the buffer has room for is stored in its place.
+-- The characters of a piece up to its first line feed were taken with it and joined the line: each that the buffer has room for is
+-- stored in its place.
 pub record CollectedIs (piece before : List ℕ) (count : ℕ) (after : List ℕ) (r : Collected) : Type 0 where
   pub taken : r .taken ≡ takenOf piece
   pub ended : r .ended ≡ hasFeed piece

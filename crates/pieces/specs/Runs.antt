@@ -27,4 +27,5 @@ pub data Reached : (fed : List (List ℕ)) (written : List ℕ) (b : Lent) (stat
 unfoldable pub RunsWrite : Type 0
 RunsWrite =
     (ps : List (List ℕ)) (w : List ℕ) (b after : Lent) (state last : State)
-    → Reached ps w b state → state .filled ≤ mostFilled → FinishedIs b state after last → w ++ take (last .filled) (after .out) ≡ output (together ps)
+    → Reached ps w b state → state .filled ≤ mostFilled → FinishedIs b state after last
+    → w ++ take (last .filled) (after .out) ≡ output (together ps)

@@ -67,10 +67,12 @@ pub record TakenIs (p : List ℕ) (before : Lent) (state : State) (after : Lent)
   pub counts : r .state .count ≡ (if hasFeed p then 0 else joinedCount p before state)
   pub line : after .line ≡ sets (before .line) (state .count) (firstLine p)
   pub scratch :
-      after .scratch ≡ (if hasFeed p then begunScratch (after .line) (joinedCount p before state) (state .n) (before .plan) (before .scratch) else before .scratch)
+      after .scratch ≡
+      (if hasFeed p then begunScratch (after .line) (joinedCount p before state) (state .n) (before .plan)
+      (before .scratch) else before .scratch)
 
--- A piece was fed: taken up to its first line feed where there is room for what a line gives, else nothing is done. For every session that the state
--- stands for it is the session's step for what was taken.
+-- A piece was fed: taken up to its first line feed where there is room for what a line gives, else nothing is done. For every
+-- session that the state stands for it is the session's step for what was taken.
 pub record FedIs (p : List ℕ) (before : Lent) (state : State) (after : Lent) (r : Fed) : Type 0 where
   pub takes : state .filled ≤ mostFilled → TakenIs p before state after r
   pub full : mostFilled < state .filled → (r .taken ≡ 0) × Idle before state after (r .state)

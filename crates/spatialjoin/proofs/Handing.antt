@@ -22,8 +22,10 @@ unfolding piece
 none b state chunk s h = h
 
 -- What was taken from `at` on follows what was handed over before.
-pub taken : {before b after : Lent} {state current next : State} (chunk : List ℕ) (at size k : ℕ) → k ≤ size - at → After (take at chunk) before state b current
-    → Makes (λ s. piece s (take k (take (size - at) (drop at chunk)))) b current after next → After (take (at + k) chunk) before state after next
+pub taken : {before b after : Lent} {state current next : State} (chunk : List ℕ) (at size k : ℕ) → k ≤ size - at
+    → After (take at chunk) before state b current
+    → Makes (λ s. piece s (take k (take (size - at) (drop at chunk)))) b current after next
+    → After (take (at + k) chunk) before state after next
 taken chunk at size k fits old makes s h =
     rw (take-add at k chunk, piece-append s (take at chunk) (take k (drop at chunk)) .1)
     (rw (take-take k (size - at) (drop at chunk) fits) at (makes (piece s (take at chunk) .after) (old s h) .stands))
@@ -34,9 +36,11 @@ settled-stands h = record { room = omega arith; kept = h .kept; begun = h .begun
 
 -- There is room for what a line gives, no more waits than did, and the state stands for the same.
 abbrev pub HasRoom : (characters : List ℕ) (before : Lent) (state : State) (after : Lent) (current next : State) → Type 0
-HasRoom characters before state after current next = (next .filled ≤ mostFilled) × (next .filled ≤ current .filled) × After characters before state after next
+HasRoom characters before state after current next =
+    (next .filled ≤ mostFilled) × (next .filled ≤ current .filled) × After characters before state after next
 
-made-room : (p : List ℕ) {before b : Lent} {state current : State} (room : Bool) → leb (current .filled) mostFilled ≡ room → After p before state b current
+made-room : (p : List ℕ) {before b : Lent} {state current : State} (room : Bool) → leb (current .filled) mostFilled ≡ room
+    → After p before state b current
     → HasRoom p before state b current (if room then current else settled current)
 made-room p {current = current} true e old = (leb-true (current .filled) mostFilled e, omega arith, old)
 made-room p false e old = (omega arith, omega arith, λ s h. settled-stands (old s h))
@@ -54,13 +58,15 @@ flushed-roomy state NotWritten h e = e
 pub roomy-kept : (state : State) → state .filled ≤ mostFilled → Roomy state (More state)
 roomy-kept state h = rw (le-leb (state .filled) mostFilled h) refl
 
-pub handed : (p : List ℕ) (before b : Lent) (state current : State) (r : Turn) → Flushed current r → After p before state b current → Handed p before state b r
+pub handed : (p : List ℕ) (before b : Lent) (state current : State) (r : Turn) → Flushed current r → After p before state b current
+    → Handed p before state b r
 handed p before b state current (More next) e old = (rw e refl, λ s h. rw e (settled-stands (old s h)))
 handed p before b state current (Ended next) e old = e
 handed p before b state current NotRead e old = e
 handed p before b state current NotWritten e old = e
 
-pub read-handed : (chunk : List ℕ) (size : ℕ) (before b : Lent) (state : State) (r : Turn) → Handed (take size chunk) before state b r → size ≤ length chunk
+pub read-handed : (chunk : List ℕ) (size : ℕ) (before b : Lent) (state : State) (r : Turn) → Handed (take size chunk) before state b r
+    → size ≤ length chunk
     → ReadOn chunk before state b r
 read-handed chunk size before b state (More next) h fits = (size, fits, h)
 read-handed chunk size before b state (Ended next) h fits = absurd h
@@ -73,7 +79,8 @@ pub reached-none : {b : Lent} {state : State} → state .filled ≡ 0 → Stands
 unfolding piece
 reached-none e stands = (e, [], stands)
 
-pub reached-more : (chunk : List ℕ) {before after : Lent} {state next : State} → Reached before state → ReadOn chunk before state after (More next) → Reached after next
+pub reached-more : (chunk : List ℕ) {before after : Lent} {state next : State} → Reached before state
+    → ReadOn chunk before state after (More next) → Reached after next
 reached-more chunk r on =
     (on .2 .0, r .1 ++ take (on .0) chunk, rw (piece-append freshSession (r .1) (take (on .0) chunk) .1) (on .2 .1 _ (r .2)))
 

@@ -67,7 +67,9 @@ fn feed_all(
     state: State,
 ) -> Turn
     requires { ⌜ (size ≤ length (now chunk)) × (state .filled ≡ 0) ⌝ }
-    ensures { λ r. ⌜ Handed (take size (now (chunk .entry))) (lent (now (out .entry)) (now (plan .entry)) (now (scratch .entry)) (now (line .entry))) state (lent (now (out .exit)) (now (plan .exit)) (now (scratch .exit)) (now (line .exit))) r ⌝ }
+    ensures { λ r. ⌜ Handed (take size (now (chunk .entry)))
+        (lent (now (out .entry)) (now (plan .entry)) (now (scratch .entry)) (now (line .entry))) state
+        (lent (now (out .exit)) (now (plan .exit)) (now (scratch .exit)) (now (line .exit))) r ⌝ }
 {
     let mut current = state;
     let mut at: usize = 0;
@@ -93,7 +95,9 @@ fn read_on(
     state: State,
 ) -> Turn
     requires { ⌜ state .filled ≡ 0 ⌝ }
-    ensures { λ r. ⌜ ReadOn (now (chunk .exit)) (lent (now (out .entry)) (now (plan .entry)) (now (scratch .entry)) (now (line .entry))) state (lent (now (out .exit)) (now (plan .exit)) (now (scratch .exit)) (now (line .exit))) r ⌝ }
+    ensures { λ r. ⌜ ReadOn (now (chunk .exit))
+        (lent (now (out .entry)) (now (plan .entry)) (now (scratch .entry)) (now (line .entry))) state
+        (lent (now (out .exit)) (now (plan .exit)) (now (scratch .exit)) (now (line .exit))) r ⌝ }
 {
     let got = libc::read(STDIN_FILENO, chunk);
     if got < 0 {
@@ -149,7 +153,9 @@ fn write_last(
     state: State,
 ) -> Turn
     requires { ⌜ state .filled ≡ 0 ⌝ }
-    ensures { λ r. ⌜ LastIs (lent (now (out .entry)) (now (plan .entry)) (now (scratch .entry)) (now (line .entry))) state (lent (now (out .exit)) (now (plan .exit)) (now (scratch .exit)) (now (line .entry))) r ⌝ }
+    ensures { λ r. ⌜ LastIs
+        (lent (now (out .entry)) (now (plan .entry)) (now (scratch .entry)) (now (line .entry))) state
+        (lent (now (out .exit)) (now (plan .exit)) (now (scratch .exit)) (now (line .entry))) r ⌝ }
 {
     let last = finish(out, plan, scratch, line, state);
     flush(out, last)

@@ -24,7 +24,8 @@ some : (c : tie.After-feed Inv-loop μ-loop) → 0 < c .feed .result .taken
 some c = taken-some (c .feed .ensures .takes (omega arith)) (simp (length-take, length-drop) (omega arith))
 
 within : (c : tie.After-feed Inv-loop μ-loop)
-    → (let l = c .before .before .before .before .before .before .before in c .feed .result .taken ≤ l .before .before .args .size - l .loop .at)
+    → (let l = c .before .before .before .before .before .before .before in
+    c .feed .result .taken ≤ l .before .before .args .size - l .loop .at)
 within c = omega (arith, simp (length-take, length-drop) at (taken-within (c .feed .ensures .takes (omega arith))))
 
 room : (c : tie.After-feed Inv-loop μ-loop) → c .feed .result .state .filled ≤ length (c .feed .last .0)

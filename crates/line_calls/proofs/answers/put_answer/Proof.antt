@@ -10,7 +10,8 @@ use Rattle.line_calls.proofs.answers.put_answer.Statement.{statement}
 use Rattle.line_calls.proofs.answers.put_answer.Tie as tie
 
 -- The plan is as long as the answer says.
-plan-fits : (c : tie.After-put-line-arg2) → c .before .before .before .answer .given .0 .0 ≤ length (c .before .before .before .before .before .before .before .args .plan .now)
+plan-fits : (c : tie.After-put-line-arg2)
+    → c .before .before .before .answer .given .0 .0 ≤ length (c .before .before .before .before .before .before .before .args .plan .now)
 plan-fits c = rw (c .before .before .before .answer .given .1) at (c .before .before .before .before .before .before .before .pre .0)
 
 put-line-requires : tie.Need-put-line-requires
@@ -27,7 +28,10 @@ returns-2 c = rw (c .before .before .before .before .before .before .answer2 .gi
 returns-3 : tie.Need-returns-3
 unfolding writtenLine
 returns-3 c =
-    rw (c .before .before .before .before .before .before .before .answer3 .given .1, ← c .before .before .before .before .before .refusal-number .ensures)
+    rw (
+      c .before .before .before .before .before .before .before .answer3 .given .1,
+      ← c .before .before .before .before .before .refusal-number .ensures,
+    )
     (c .before .before .put-line3 .ensures)
 
 pub put-answer-spec : {M : Type 1} → statement M

@@ -13,7 +13,8 @@ use Rattle.line_calls.proofs.calls.answer_line.Tie as tie
 -- The line's bytes are the first of the scratch.
 bytes : (c : tie.After-known-told)
     → (let call = c .before .before .before .before .before .decode in
-    ok (take (c .before .size .given .0 .0) (call .last .0)) ≡ lineBytes (c .before .before .before .before .before .before .before .before .before .before .args .line .now))
+    ok (take (c .before .size .given .0 .0) (call .last .0)) ≡ lineBytes
+    (c .before .before .before .before .before .before .before .before .before .before .args .line .now))
 bytes c =
     let call = c .before .before .before .before .before .decode in
     sym (ap (decodedBytes (call .last .0)) (c .before .size .given .1)) ∙ call .ensures .bytes

@@ -12,7 +12,8 @@ use Rattle.line_calls.proofs.calls.call_line.Tie as tie
 
 -- The bytes begin with the one that is looked at.
 first : (c : tie.After-slice-known3)
-    → (let a = c .before .before .before .before .args in take (a .size) (a .scratch .now) ≡ getD (a .scratch .now) 0 0 ∷ drop 1 (take (a .size) (a .scratch .now)))
+    → (let a = c .before .before .before .before .args in take (a .size) (a .scratch .now)
+    ≡ getD (a .scratch .now) 0 0 ∷ drop 1 (take (a .size) (a .scratch .now)))
 first c =
     let start = c .before .before .before .before in
     begins (start .args .size) (start .args .scratch .now) (c .before .if1 .left) (start .pre .0)

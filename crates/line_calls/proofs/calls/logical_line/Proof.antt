@@ -13,7 +13,8 @@ use Rattle.line_calls.proofs.calls.logical_line.Tie as tie
 -- What was found is the definition's answer.
 found : (c : tie.After-known-told2)
     → (let names = c .before .found .given .0 in
-    ok (record { mask = names .0 .mask; names = names .0 .names; side = querySideIs (names .1 .0) }) ≡ logical (c .before .before .before .before .before .args .bytes .now))
+    ok (record { mask = names .0 .mask; names = names .0 .names; side = querySideIs (names .1 .0) }) ≡ logical
+    (c .before .before .before .before .before .args .bytes .now))
 found c = sym (ap namesOf (c .before .found .given .1)) ∙ c .before .before .before .logical .ensures
 
 cast-names : tie.Need-cast-t13

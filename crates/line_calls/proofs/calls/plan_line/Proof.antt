@@ -22,7 +22,8 @@ returns-2 c =
     let told = c .before .before .before .before .before .before .before .before in
     let a = told .before .before .before .before .before .args in
     let none = none-follow (a .size) (a .scratch .now) (told .before .before .if1 .left) in (
-      rw (c .of-call .ensures, told .enum-told .given .1, none) (call-gives extractCall _ _ _ (call .result) (call .ensures) (search needs)),
+      rw (c .of-call .ensures, told .enum-told .given .1, none)
+          (call-gives extractCall _ _ _ (call .result) (call .ensures) (search needs)),
       rw (told .enum-told .given .1, none) (call-leaves extractCall _ _ _ (call .result) (call .ensures)),
     )
 
@@ -33,7 +34,8 @@ returns-3 c =
     let told = c .before .before .before .before .before .before .before .before in
     let a = told .before .before .before .before .before .args in
     let none = none-follow (a .size) (a .scratch .now) (told .before .before .if1 .left) in (
-      rw (c .of-call2 .ensures, told .enum-told2 .given .1, none) (call-gives exchangeCall _ _ _ (call .result) (call .ensures) (search needs)),
+      rw (c .of-call2 .ensures, told .enum-told2 .given .1, none)
+          (call-gives exchangeCall _ _ _ (call .result) (call .ensures) (search needs)),
       rw (told .enum-told2 .given .1, none) (call-leaves exchangeCall _ _ _ (call .result) (call .ensures)),
     )
 

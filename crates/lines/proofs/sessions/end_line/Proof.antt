@@ -17,7 +17,13 @@ room : (c : tie.After-length-after) → (let put = c .before .before .before .pu
 room c =
     let put = c .before .before .before .put-answer in
     let call = c .before .before .before .before .before .before .before .before .before .before .answer-begun in
-    omega (arith, put .ensures .ends, put .kept .0, call .kept .0, written-fits (call .last .0) (call .result) (omega (arith, call .ensures .0, call .kept .0)))
+    omega (
+      arith,
+      put .ensures .ends,
+      put .kept .0,
+      call .kept .0,
+      written-fits (call .last .0) (call .result) (omega (arith, call .ensures .0, call .kept .0)),
+    )
 
 returns : tie.Need-returns
 returns c =

@@ -18,11 +18,13 @@ returns c = at-feed (c .before .before .before .loop .inv) (c .before .before .l
 
 loop-again : tie.Need-loop-again Inv-loop μ-loop
 loop-again c =
-    collect-one (c .before .before .before .before .loop .inv) (c .before .before .before .loop-test .taken) (c .before .if1 .left) (c .if2 .taken)
+    collect-one (c .before .before .before .before .loop .inv) (c .before .before .before .loop-test .taken) (c .before .if1 .left)
+    (c .if2 .taken)
 
 loop-again-2 : tie.Need-loop-again-2 Inv-loop μ-loop
 loop-again-2 c =
-    collect-past (c .before .before .before .before .loop .inv) (c .before .before .before .loop-test .taken) (c .before .if1 .left) (c .if2 .left)
+    collect-past (c .before .before .before .before .loop .inv) (c .before .before .before .loop-test .taken) (c .before .if1 .left)
+    (c .if2 .left)
 
 pub collect-spec : {M : Type 1} → statement M
 collect-spec =
