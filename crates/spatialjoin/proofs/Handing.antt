@@ -6,14 +6,17 @@ use mathlib.Core.Bool.{Bool, true, false}
 use mathlib.Core.List.{List, [], _++_}
 use lib.ListN.{length, take, drop}
 use lib.Seq.{take-add, take-take}
+use lib.IntN.{ℤ, pos, negsuc}
+use lib.Signed.{ltZ}
 use lib.Dec.{leb}
-use borrow.Author.Tests.{leb-true, le-leb, lt-leb}
+use borrow.Author.Tests.{leb-true, le-leb, lt-leb, ltb-true}
 use Rattle.definitions.specs.Basics.{if_then_else_}
 use Rattle.pieces.specs.Pieces.{Session, piece, freshSession}
 use Rattle.pieces.specs.Sessions.{Lent, Stands, Makes, mostFilled}
 use Rattle.pieces.specs.declared.states.State.{State}
 use Rattle.pieces.proofs.Whole.{piece-append}
-use Rattle.spatialjoin.specs.Turns.{settled, Flushed, Roomy, After, Handed, ReadOn, Reached}
+use Rattle.spatialjoin.specs.Turns.{settled, Flushed, Roomy, After, Handed, Below, TakenIn, ReadOn, Reached}
+use Rattle.io.specs.Counts.{clamped}
 use Rattle.spatialjoin.specs.declared.Turn.{Turn}
 use Rattle.spatialjoin.specs.declared.Turn.the-variants.{More, Ended, NotRead, NotWritten}
 
@@ -65,13 +68,16 @@ handed p before b state current (Ended next) e old = e
 handed p before b state current NotRead e old = e
 handed p before b state current NotWritten e old = e
 
-pub read-handed : (chunk : List ℕ) (size : ℕ) (before b : Lent) (state : State) (r : Turn) → Handed (take size chunk) before state b r
-    → size ≤ length chunk
-    → ReadOn chunk before state b r
-read-handed chunk size before b state (More next) h fits = (size, fits, h)
-read-handed chunk size before b state (Ended next) h fits = absurd h
-read-handed chunk size before b state NotRead h fits = absurd h
-read-handed chunk size before b state NotWritten h fits = h
+pub below-zero : (z : ℤ) → ltZ z (pos 0) ≡ true → Below z
+below-zero (pos n) e = omega (arith, ltb-true n 0 e)
+below-zero (negsuc n) e = tt
+
+pub taken-in : (got : ℤ) (chunk : List ℕ) (size : ℕ) (before b : Lent) (state : State) (r : Turn) → size ≡ clamped got (length chunk)
+    → Handed (take size chunk) before state b r → TakenIn got chunk before state b r
+taken-in got chunk size before b state (More next) e h = rw (← e) h
+taken-in got chunk size before b state (Ended next) e h = absurd h
+taken-in got chunk size before b state NotRead e h = absurd h
+taken-in got chunk size before b state NotWritten e h = h
 
 -- ---- a run
 
@@ -82,7 +88,8 @@ reached-none e stands = (e, [], stands)
 pub reached-more : (chunk : List ℕ) {before after : Lent} {state next : State} → Reached before state
     → ReadOn chunk before state after (More next) → Reached after next
 reached-more chunk r on =
-    (on .2 .0, r .1 ++ take (on .0) chunk, rw (piece-append freshSession (r .1) (take (on .0) chunk) .1) (on .2 .1 _ (r .2)))
+    let characters : List ℕ = take (clamped (on .0) (length chunk)) chunk in
+    (on .1 .0, r .1 ++ characters, rw (piece-append freshSession (r .1) characters .1) (on .1 .1 _ (r .2)))
 
 pub reached-end : {before after : Lent} {state last : State} → Reached before state → (last ≡ state) × (after ≡ before) → Reached after last
 reached-end r on = rw (on .0, on .1) r

@@ -1,9 +1,11 @@
 -- What holds after a turn.
-use Prim.Native.Nat.{ℕ, _≤_}
+use Prim.Native.Nat.{ℕ}
 use mathlib.Core.Path.{_≡_}
 use mathlib.Core.List.{List}
 use lib.ListN.{take, length}
+use lib.IntN.{ℤ, pos, negsuc}
 use lib.Dec.{leb}
+use Rattle.io.specs.Counts.{clamped}
 use Rattle.definitions.specs.Basics.{if_then_else_}
 use Rattle.pieces.specs.Pieces.{Session, piece, freshSession}
 use Rattle.pieces.specs.Sessions.{Lent, Stands, mostFilled, FinishedIs}
@@ -40,12 +42,22 @@ Handed characters before state after (Ended next) = ⊥
 Handed characters before state after NotRead = ⊥
 Handed characters before state after NotWritten = Unit {0}
 
--- A read: characters at the start of the chunk were handed over; or the input has ended or could not be read, and all is as it was.
+-- A failed read gives a number below 0.
+abbrev pub Below : ℤ → Type 0
+Below (pos k) = ⊥
+Below (negsuc k) = Unit {0}
+
+-- What a read gave was taken in: as many characters of the chunk as it says were handed over; 0 is the end of the input and a
+-- number below it a failure, and all is as it was.
+abbrev pub TakenIn : (got : ℤ) (chunk : List ℕ) (before : Lent) (state : State) (after : Lent) → Turn → Type 0
+TakenIn got chunk before state after (More next) = Handed (take (clamped got (length chunk)) chunk) before state after (More next)
+TakenIn got chunk before state after (Ended next) = (got ≡ pos 0) × (next ≡ state) × (after ≡ before)
+TakenIn got chunk before state after NotRead = Below got × (after ≡ before)
+TakenIn got chunk before state after NotWritten = Unit {0}
+
+-- A read gave some number, and what it gave was taken in.
 abbrev pub ReadOn : (chunk : List ℕ) (before : Lent) (state : State) (after : Lent) → Turn → Type 0
-ReadOn chunk before state after (More next) = (size : ℕ) × (size ≤ length chunk) × Handed (take size chunk) before state after (More next)
-ReadOn chunk before state after (Ended next) = (next ≡ state) × (after ≡ before)
-ReadOn chunk before state after NotRead = after ≡ before
-ReadOn chunk before state after NotWritten = Unit {0}
+ReadOn chunk before state after r = (got : ℤ) × TakenIn got chunk before state after r
 
 -- The state stands for what the program makes of some input, and nothing waits.
 abbrev pub Reached : (b : Lent) (state : State) → Type 0

@@ -2,10 +2,10 @@
 // ends, with a line on standard error.
 //
 // `lines::sessions` says what is written for a piece of the input, and `runs-write` that this is the program's output, wherever the
-// input is cut and whenever what waits is written out. Here it is proved that every character of what was read is handed over once
-// and in order, and that nothing of the state is lost between two pieces. What no contract can say, and is left to be read, is which
-// bytes `libc::read` and `io::write_all` move: that a piece is what was read, that what waits is written, and that a run goes on to
-// the end of the input.
+// input is cut and whenever what waits is written out. Here it is proved that of what a read gave every character is handed over once
+// and in order, and that nothing of the state is lost between two pieces. What no contract can say, and is left to be read: that
+// `read_on` hands over what its read gave, that `flush` writes what waits, that `run` goes on until a read gives nothing or something
+// fails, that `main` then ends the last line, and that `report` says what failed.
 use libc::STDERR_FILENO;
 use libc::STDIN_FILENO;
 use libc::STDOUT_FILENO;
@@ -18,7 +18,7 @@ ghost use mathlib.Core.Path.{_≡_};
 ghost use Prim.Native.Nat.{ℕ, _≤_};
 ghost use lib.ListN.{length, take, replicate};
 ghost use Rattle.pieces.specs.Sessions.{lent};
-ghost use Rattle.spatialjoin.specs.Turns.{Flushed, Roomy, Handed, ReadOn, Ran, LastIs};
+ghost use Rattle.spatialjoin.specs.Turns.{Flushed, Roomy, Handed, TakenIn, ReadOn, Ran, LastIs};
 
 // What follows a read: another one, or the end of the input; or it failed, or a write did.
 enum Turn {
@@ -85,6 +85,31 @@ fn feed_all(
     flush(out, current)
 }
 
+// Handles what a read gave: as many characters of the chunk as it says, the end of the input, or that it failed.
+fn take_in(
+    out: &mut [u8; 65536],
+    plan: &mut [u8; 16384],
+    scratch: &mut [u8; 16384],
+    line: &mut [u8; 32768],
+    chunk: &[u8],
+    got: isize,
+    state: State,
+) -> Turn
+    requires { ⌜ state .filled ≡ 0 ⌝ }
+    ensures { λ r. ⌜ TakenIn got (now (chunk .entry))
+        (lent (now (out .entry)) (now (plan .entry)) (now (scratch .entry)) (now (line .entry))) state
+        (lent (now (out .exit)) (now (plan .exit)) (now (scratch .exit)) (now (line .exit))) r ⌝ }
+{
+    if got < 0 {
+        return Turn::NotRead;
+    }
+    if got == 0 {
+        return Turn::Ended(state);
+    }
+    let size = io::count(got, chunk);
+    feed_all(out, plan, scratch, line, chunk, size, state)
+}
+
 // Reads once, and handles what came.
 fn read_on(
     out: &mut [u8; 65536],
@@ -100,14 +125,7 @@ fn read_on(
         (lent (now (out .exit)) (now (plan .exit)) (now (scratch .exit)) (now (line .exit))) r ⌝ }
 {
     let got = libc::read(STDIN_FILENO, chunk);
-    if got < 0 {
-        return Turn::NotRead;
-    }
-    if got == 0 {
-        return Turn::Ended(state);
-    }
-    let size = io::count(got, chunk);
-    feed_all(out, plan, scratch, line, chunk, size, state)
+    take_in(out, plan, scratch, line, chunk, got, state)
 }
 
 // Reads up to the end of the input, or until reading or writing fails. A proved loop has to end, and nothing says that the input

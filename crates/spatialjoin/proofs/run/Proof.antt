@@ -19,13 +19,14 @@ loop-again : tie.Need-loop-again Inv-loop μ-loop
 loop-again c =
     let on = c .before .before .before .read-on in
     let l = c .before .before .before .before .before .before .before .before .before .before .loop in
-    reached-more _ (l .inv) (rw (c .before .next .given .1) at (on .ensures))
+    reached-more (on .last .1 .1 .1 .1 .0) (l .inv) (rw (c .before .next .given .1) at (on .ensures))
 
 returns : tie.Need-returns Inv-loop μ-loop
 returns c =
     let on = c .before .before .before .read-on in
     let l = c .before .before .before .before .before .before .before .before .before .before .loop in
-    reached-end (l .inv) (rw (c .before .last .given .1) at (on .ensures))
+    let end = rw (c .before .last .given .1) at (on .ensures) in
+    reached-end (l .inv) (end .1 .1, end .1 .2)
 
 pub run-spec : {M : Type 1} → statement M
 run-spec =
