@@ -42,13 +42,16 @@ pub encoded-room : {bytes before after : List ℕ} {at i next : ℕ} → Encoded
 encoded-room {bytes} {before} {after} {at} {i} e h room =
     omega (arith, e .kept, e .wrote .ends, length-digits (take i bytes), length-take-le i bytes (e .within))
 
-two-digits : (next a b : ℕ) (out : List ℕ) → next + 1 < length out → WroteAt next (a ∷ b ∷ []) out (set (set out next a) (next + 1) b) (next + 2)
+two-digits : (next a b : ℕ) (out : List ℕ) → next + 1 < length out
+    → WroteAt next (a ∷ b ∷ []) out (set (set out next a) (next + 1) b) (next + 2)
 two-digits next a b out h =
     let end : next + 1 + 1 ≡ next + 2 = omega arith in
     rw end at (chain (omega arith) (store out next a (omega arith)) (store (set out next a) (next + 1) b (rw length-set h)))
 
-pub encoded-more : {bytes before after : List ℕ} {at i next : ℕ} → Encoded bytes at i before after next → i < length bytes → at ≤ length before → next + 1 < length after
-    → Encoded bytes at (i + 1) before (set (set after next (digit (getD bytes i 0 / 16))) (next + 1) (digit (getD bytes i 0 % 16))) (next + 2)
+pub encoded-more : {bytes before after : List ℕ} {at i next : ℕ} → Encoded bytes at i before after next → i < length bytes
+    → at ≤ length before → next + 1 < length after
+    → Encoded bytes at (i + 1) before (set (set after next (digit (getD bytes i 0 / 16))) (next + 1) (digit (getD bytes i 0 % 16)))
+    (next + 2)
 unfolding digits
 encoded-more {bytes} {before} {after} {at} {i} {next} e h start room =
     let more : digits (take (i + 1) bytes) ≡ digits (take i bytes) ++ digits (getD bytes i 0 ∷ []) =
@@ -59,12 +62,14 @@ encoded-more {bytes} {before} {after} {at} {i} {next} e h start room =
       wrote = rw more (chain start (e .wrote) (two-digits next _ _ after room));
     }
 
-pub all-encoded : {bytes before after : List ℕ} {at i next : ℕ} → Encoded bytes at i before after next → length bytes ≤ i → WroteAt at (digits bytes) before after next
+pub all-encoded : {bytes before after : List ℕ} {at i next : ℕ} → Encoded bytes at i before after next → length bytes ≤ i
+    → WroteAt at (digits bytes) before after next
 all-encoded {bytes} {before} {after} {at} {i} {next} e h = rw (take-all i bytes h) at (e .wrote)
 
 -- ---- a line: the digits of a byte, those of more, a line feed
 
-module _ (first : ℕ) (more : List ℕ) {at w : ℕ} {before middle : List ℕ} (head : WroteAt at (digits (first ∷ [])) before middle w) (size : length middle ≡ length before)
+module _ (first : ℕ) (more : List ℕ) {at w : ℕ} {before middle : List ℕ} (head : WroteAt at (digits (first ∷ [])) before middle w)
+    (size : length middle ≡ length before)
     (room : at + 2 * length more + 3 ≤ length before) where
   pub digits-room : w + 2 * length more ≤ length middle
   digits-room = omega (arith, head .ends, length-digits (first ∷ []))

@@ -44,7 +44,8 @@ fn digit_pair(high: u8, low: u8) -> Digits
     }
 }
 
-// The bytes of a line's digits go to the start of `out`.
+// The bytes of a line's digits go to the start of `out`, also those before a character that is no digit.
+// Public for the crate that answers lines.
 pub fn decode(out: &mut [u8], line: &[u8]) -> Decoded
     requires { ⌜ 16384 ≤ length (now out) ⌝ }
     ensures { λ r. ⌜ DecodedIs (now (line .entry)) (now (out .entry)) (now (out .exit)) r ⌝ }

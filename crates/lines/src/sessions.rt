@@ -1,46 +1,20 @@
-// The program between two pieces of its input.
-use super::answers::Answer;
-use super::answers::put_answer;
-use super::calls::answer_line;
-use super::collecting::collect;
+// The program between two pieces of its input. Public for the program.
 use frame::refusals::Refusal;
+use line_calls::answers::Answer;
+use line_calls::answers::put_answer;
+use line_calls::calls::answer_line;
+use pieces::collecting::collect;
+use pieces::states::Fed;
+use pieces::states::MOST_FILLED;
+use pieces::states::State;
 ghost use mathlib.Core.Path.{_≡_};
 ghost use mathlib.Core.List.{List};
 ghost use Prim.Native.Nat.{ℕ, _+_, _*_, _≤_};
-ghost use lib.ListN.{length, take, replicate};
+ghost use lib.ListN.{length};
 ghost use Rattle.definitions.specs.Program.{lineOutcome};
-ghost use Rattle.lines.specs.Answers.{planLength, lengthAfter, keptAs, AnswerIs};
-ghost use Rattle.lines.specs.Pieces as pieces;
-ghost use Rattle.lines.specs.Collecting.{Begun};
-ghost use Rattle.lines.specs.Sessions.{lent, Stands, Makes, Taken, Ends};
-
-// The most bytes that may wait to be written where a line is answered.
-pub const MOST_FILLED: usize = 32757;
-
-// The plan's length, how many characters the line has, and how many bytes are to be written.
-pub struct State {
-    pub n: usize,
-    pub count: usize,
-    pub filled: usize,
-}
-
-// How much of a piece was taken, and the state afterwards.
-pub struct Fed {
-    pub taken: usize,
-    pub state: State,
-}
-
-// The state at the start, over a plan buffer of zeros.
-pub fn fresh() -> State
-    ensures { λ r. ⌜ r .filled ≡ 0 ⌝ }
-    ensures { λ r. ⌜ ((out line : List ℕ) → Stands (lent out (replicate 16384 0) line) r pieces.freshSession) ⌝ }
-{
-    State {
-        n: 0,
-        count: 0,
-        filled: 0,
-    }
-}
+ghost use Rattle.line_calls.specs.Answers.{planLength, lengthAfter, keptAs, AnswerIs};
+ghost use Rattle.pieces.specs.Collecting.{Begun};
+ghost use Rattle.pieces.specs.Sessions.{lent, begunScratch, EndedIs, FedIs, FinishedIs};
 
 // The plan's length after an answer.
 fn length_after(n: usize, answer: Answer) -> usize
@@ -57,7 +31,9 @@ fn length_after(n: usize, answer: Answer) -> usize
 fn answer_begun(plan: &mut [u8], scratch: &mut [u8], line: &[u8], count: usize, n: usize) -> Answer
     requires { ⌜ (length (now scratch) ≡ 16384) × (length (now line) ≡ 32768) ⌝ }
     ensures { λ r. ⌜ planLength r ≤ length (now (plan .entry)) ⌝ }
-    ensures { λ r. ⌜ ((begun : List ℕ) → Begun (now (line .entry)) count begun → AnswerIs (lineOutcome begun (keptAs n (now (plan .entry)))) n (now (plan .exit)) r) ⌝ }
+    ensures { λ r. ⌜ ((begun : List ℕ) → Begun (now (line .entry)) count begun
+        → AnswerIs (lineOutcome begun (keptAs n (now (plan .entry)))) n (now (plan .exit)) r) ⌝ }
+    ensures { λ _. ⌜ now (scratch .exit) ≡ begunScratch (now (line .entry)) count n (now (plan .entry)) (now (scratch .entry)) ⌝ }
 {
     if line.len() < count {
         return Answer::Refused(Refusal::NotHexadecimal);
@@ -69,8 +45,9 @@ fn answer_begun(plan: &mut [u8], scratch: &mut [u8], line: &[u8], count: usize, 
 fn end_line(out: &mut [u8], plan: &mut [u8], scratch: &mut [u8], line: &[u8], state: State) -> State
     requires { ⌜ (length (now scratch) ≡ 16384) × (length (now line) ≡ 32768) ⌝ }
     requires { ⌜ state .filled + 2 * length (now plan) + 11 ≤ length (now out) ⌝ }
-    ensures { λ r. ⌜ r .filled ≤ length (now (out .entry)) ⌝ }
-    ensures { λ r. ⌜ Makes pieces.endLine (lent (now (out .entry)) (now (plan .entry)) (now (line .entry))) state (lent (now (out .exit)) (now (plan .exit)) (now (line .entry))) r ⌝ }
+    ensures { λ r. ⌜ EndedIs
+        (lent (now (out .entry)) (now (plan .entry)) (now (scratch .entry)) (now (line .entry))) state
+        (lent (now (out .exit)) (now (plan .exit)) (now (scratch .exit)) (now (line .entry))) r ⌝ }
 {
     let n = state.n;
     let answer = answer_begun(plan, scratch, line, state.count, n);
@@ -91,8 +68,9 @@ pub fn feed(
     piece: &[u8],
     state: State,
 ) -> Fed
-    ensures { λ r. ⌜ Taken (now (piece .entry)) state r ⌝ }
-    ensures { λ r. ⌜ Makes (λ s. pieces.piece s (take (r .taken) (now (piece .entry)))) (lent (now (out .entry)) (now (plan .entry)) (now (line .entry))) state (lent (now (out .exit)) (now (plan .exit)) (now (line .exit))) (r .state) ⌝ }
+    ensures { λ r. ⌜ FedIs (now (piece .entry))
+        (lent (now (out .entry)) (now (plan .entry)) (now (scratch .entry)) (now (line .entry))) state
+        (lent (now (out .exit)) (now (plan .exit)) (now (scratch .exit)) (now (line .exit))) r ⌝ }
 {
     if MOST_FILLED < state.filled {
         return Fed { taken: 0, state };
@@ -119,11 +97,12 @@ pub fn finish(
     out: &mut [u8; 65536],
     plan: &mut [u8; 16384],
     scratch: &mut [u8; 16384],
-    line: &mut [u8; 32768],
+    line: &[u8; 32768],
     state: State,
 ) -> State
-    ensures { λ r. ⌜ (state .filled ≤ 65536 → r .filled ≤ 65536) ⌝ }
-    ensures { λ r. ⌜ Ends (lent (now (out .entry)) (now (plan .entry)) (now (line .entry))) state (now (out .exit)) (r .filled) ⌝ }
+    ensures { λ r. ⌜ FinishedIs
+        (lent (now (out .entry)) (now (plan .entry)) (now (scratch .entry)) (now (line .entry))) state
+        (lent (now (out .exit)) (now (plan .exit)) (now (scratch .exit)) (now (line .entry))) r ⌝ }
 {
     if state.count == 0 {
         return state;

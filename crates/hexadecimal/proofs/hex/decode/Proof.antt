@@ -17,15 +17,17 @@ abbrev μ-loop : tie.MeasureT-loop
 returns-3 : tie.Need-returns-3 Inv-loop μ-loop
 returns-3 c =
     let head = c .before .before .before .before .before .before in
-    bad-pair (head .loop .inv) (omega arith) (omega arith) (sym (ap bytesOf (c .enum-told .given .1)) ∙ c .before .before .digit-pair .ensures)
+    bad-pair (head .loop .inv) (omega arith) (omega arith) (head .before .if2 .left) (omega arith)
+    (sym (ap bytesOf (c .enum-told .given .1)) ∙ c .before .before .digit-pair .ensures)
 
 loop-again : tie.Need-loop-again Inv-loop μ-loop
 loop-again c =
     let head = c .before .before .before .before .before .before .before in
-    decoded-more (head .loop .inv) (omega arith) (omega arith) (sym (ap bytesOf (c .before .byte .given .1)) ∙ c .before .before .before .digit-pair .ensures)
+    decoded-more (head .loop .inv) (omega arith) (omega arith)
+    (sym (ap bytesOf (c .before .byte .given .1)) ∙ c .before .before .before .digit-pair .ensures)
 
 returns-4 : tie.Need-returns-4 Inv-loop μ-loop
-returns-4 c = all-decoded (c .before .loop .inv) (omega arith) (omega arith) (c .before .before .if2 .left)
+returns-4 c = all-decoded (c .before .loop .inv) (omega arith) (omega arith) (c .before .before .if2 .left) (omega arith)
 
 pub decode-spec : {M : Type 1} → statement M
 decode-spec =

@@ -13,7 +13,8 @@ use Rattle.hexadecimal.proofs.hex.digit_pair.Tie as tie
 high : (c : tie.After-known-told) → some (c .before .h .given .0 .0) ≡ digitValue (c .before .before .before .before .args .high)
 high c = sym (ap valueOf (c .before .h .given .1)) ∙ c .before .before .before .digit-value .ensures
 
-low : (c : tie.After-known-told2) → some (c .before .l .given .0 .0) ≡ digitValue (c .before .before .before .before .before .before .before .before .args .low)
+low : (c : tie.After-known-told2)
+    → some (c .before .l .given .0 .0) ≡ digitValue (c .before .before .before .before .before .before .before .before .args .low)
 low c = sym (ap valueOf (c .before .l .given .1)) ∙ c .before .before .before .digit-value2 .ensures
 
 abbrev before-low : tie.After-known-told2 → tie.After-known-told
@@ -29,7 +30,8 @@ returns : tie.Need-returns
 returns c = high-other _ _ (sym (ap valueOf (c .enum-told .given .1)) ∙ c .before .before .digit-value .ensures)
 
 returns-2 : tie.Need-returns-2
-returns-2 c = low-other _ _ (high (c .before .before .before)) (sym (ap valueOf (c .enum-told2 .given .1)) ∙ c .before .before .digit-value2 .ensures)
+returns-2 c =
+    low-other _ _ (high (c .before .before .before)) (sym (ap valueOf (c .enum-told2 .given .1)) ∙ c .before .before .digit-value2 .ensures)
 
 returns-3 : tie.Need-returns-3
 returns-3 c = both-digits _ _ (high (before-low c)) (low c)

@@ -23,7 +23,8 @@ high-requires c κs = omega (arith, c .shared-slice-known2 .given (c .before .be
 loop-again : tie.Need-loop-again Inv-loop μ-loop
 loop-again c =
     let head = c .before .before .before .before in
-    rw (c .before .digit .ensures, c .digit2 .ensures) (encoded-more (head .loop .inv) (c .before .before .before .loop-test .taken) (omega arith) (room (c .before)))
+    rw (c .before .digit .ensures, c .digit2 .ensures)
+    (encoded-more (head .loop .inv) (c .before .before .before .loop-test .taken) (omega arith) (room (c .before)))
 
 pub encode-spec : {M : Type 1} → statement M
 encode-spec =

@@ -3,7 +3,7 @@ use Prim.Native.Nat.{_≤_}
 use lib.ListN.{length}
 use borrow.Author.Needs.{needs}
 use native.Mathlib.Omega.{arith}
-use Rattle.lines.proofs.SessionLaws.{written-fits, line-ended}
+use Rattle.pieces.proofs.SessionLaws.{written-fits, line-ended}
 use Rattle.lines.proofs.sessions.end_line.Statement.{statement}
 use Rattle.lines.proofs.sessions.end_line.Tie as tie
 
@@ -17,13 +17,22 @@ room : (c : tie.After-length-after) → (let put = c .before .before .before .pu
 room c =
     let put = c .before .before .before .put-answer in
     let call = c .before .before .before .before .before .before .before .before .before .before .answer-begun in
-    omega (arith, put .ensures .ends, put .kept .0, call .kept .0, written-fits (call .last .0) (call .result) (omega (arith, call .ensures .0, call .kept .0)))
+    omega (
+      arith,
+      put .ensures .ends,
+      put .kept .0,
+      call .kept .0,
+      written-fits (call .last .0) (call .result) (omega (arith, call .ensures .0, call .kept .0)),
+    )
 
 returns : tie.Need-returns
 returns c =
     let put = c .before .before .before .put-answer in
     let call = c .before .before .before .before .before .before .before .before .before .before .answer-begun in
-    (omega (arith, room c, put .kept .0), rw (c .length-after .ensures) (line-ended (call .result) (call .ensures .1) (put .ensures) (room c)))
+    record {
+      makes = rw (c .length-after .ensures) (line-ended _ _ (call .result) (call .ensures .1 .0) (put .ensures) (room c));
+      scratch = call .ensures .1 .1;
+    }
 
 pub end-line-spec : {M : Type 1} → statement M
 end-line-spec =
