@@ -17,13 +17,19 @@ module _ {s : List ℕ} {at : ℕ} where
   pub end-node : {c : Columns} {t : Expr} → Stands c s at t → (h : Head) → HeadIs at h t
       → (r : ℕ) → OfTrees s (h .next) (h .children) (λ ts. r ≡ h .next + length (exprsBytes ts)) → r ≡ at + length (exprBytes t)
   end-node {c} {t} stands h head r is =
-      omega (arith, head .next, tree-length t, is c (childrenOf t) (children-stand stands (h .next) (h .children) (head .next) (head .children)))
+      omega (
+        arith,
+        head .next,
+        tree-length t,
+        is c (childrenOf t) (children-stand stands (h .next) (h .children) (head .next) (head .children)),
+      )
 
   pub end-none : {c : Columns} {n : ℕ} {ts : Exprs} → Row c s at n ts → n ≡ 0 → at ≡ at + length (exprsBytes ts)
   unfolding exprsBytes
   end-none {c} {n} {ts} row e = no-children (λ ts. at ≡ at + length (exprsBytes ts)) (omega arith) ts (row .counted ∙ e)
 
-  pub end-some : {c : Columns} {n : ℕ} {ts : Exprs} → Row c s at n ts → (n ≡ 0 → ⊥) → (p r : ℕ) → OfTree s at (λ t. p ≡ at + length (exprBytes t))
+  pub end-some : {c : Columns} {n : ℕ} {ts : Exprs} → Row c s at n ts → (n ≡ 0 → ⊥) → (p r : ℕ)
+      → OfTree s at (λ t. p ≡ at + length (exprBytes t))
       → OfTrees s p (n - 1) (λ ts. r ≡ p + length (exprsBytes ts)) → r ≡ at + length (exprsBytes ts)
   unfolding exprsBytes
   end-some {c} {n} {ts} row some p r one others = some-children (λ ts. Row c s at n ts → r ≡ at + length (exprsBytes ts))
@@ -43,13 +49,15 @@ module _ {s : List ℕ} {at : ℕ} where
 
   pub rest-there : {n : ℕ} → Trees s at n → (n ≡ 0 → ⊥) → (q : ℕ) → OfTree s at (λ t. q ≡ at + length (exprBytes t)) → Trees s q (n - 1)
   rest-there {n} p some q is = some-children (λ ts. Row (p .0) s at n ts → Trees s q (n - 1))
-      (λ t ts w. (p .0, ts, rest-stands w q (n - 1) (is (p .0) t (first-stands w)) (omega arith))) (p .1) (omega (arith, p .2 .counted)) (p .2)
+      (λ t ts w. (p .0, ts, rest-stands w q (n - 1) (is (p .0) t (first-stands w)) (omega arith))) (p .1) (omega (arith, p .2 .counted))
+      (p .2)
 
 -- What the loop over a row keeps: where those left end, the whole row ends.
 pub record InEnds (s : List ℕ) (at n next left : ℕ) : Type 0 where
   pub there : Trees s next left
   pub low : at ≤ next
-  pub rest : (r : ℕ) → OfTrees s next left (λ ts. r ≡ next + length (exprsBytes ts)) → OfTrees s at n (λ ts. r ≡ at + length (exprsBytes ts))
+  pub rest : (r : ℕ) → OfTrees s next left (λ ts. r ≡ next + length (exprsBytes ts))
+      → OfTrees s at n (λ ts. r ≡ at + length (exprsBytes ts))
 
 module _ {s : List ℕ} {at n : ℕ} where
   pub ends-begin : Trees s at n → InEnds s at n at n

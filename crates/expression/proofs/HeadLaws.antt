@@ -20,7 +20,8 @@ call-name : {s : List ℕ} {at : ℕ} (name : List ℕ) (args : Exprs) → Holds
 unfolding headBytes
 call-name name args k = byte-at k 1 (omega arith)
 
-call-count : {s : List ℕ} {at : ℕ} (name : List ℕ) (args : Exprs) → Holds s at (headBytes (call name args)) → getD s (at + getD s (at + 1) 0 + 2) 0 ≡ count args
+call-count : {s : List ℕ} {at : ℕ} (name : List ℕ) (args : Exprs) → Holds s at (headBytes (call name args))
+    → getD s (at + getD s (at + 1) 0 + 2) 0 ≡ count args
 unfolding headBytes
 call-count {s} {at} name args k =
     ap (λ (p : ℕ). getD s p 0) (omega (arith, call-name name args k))
@@ -31,11 +32,13 @@ module _ {c : Columns} {s : List ℕ} {at : ℕ} {t : Expr} where
   -- The head has as many bytes as its kind says.
   pub head-column : Stands c s at t → getD s at 0 ≡ 0 → HeadIs at (record { next = at + 5; children = 0 }) t
   unfolding headBytes childrenOf bigEndian count
-  head-column h e = a-column (HeadIs at (record { next = at + 5; children = 0 })) (λ i g. record { next = refl; children = refl }) t (kind-is h ∙ e)
+  head-column h e =
+      a-column (HeadIs at (record { next = at + 5; children = 0 })) (λ i g. record { next = refl; children = refl }) t (kind-is h ∙ e)
 
   pub head-literal : Stands c s at t → getD s at 0 ≡ 1 → HeadIs at (record { next = at + 10; children = 0 }) t
   unfolding headBytes childrenOf bigEndian count
-  head-literal h e = a-literal (HeadIs at (record { next = at + 10; children = 0 })) (λ y v. record { next = refl; children = refl }) t (kind-is h ∙ e)
+  head-literal h e =
+      a-literal (HeadIs at (record { next = at + 10; children = 0 })) (λ y v. record { next = refl; children = refl }) t (kind-is h ∙ e)
 
   pub head-binary : Stands c s at t → getD s at 0 ≡ 2 → HeadIs at (record { next = at + 2; children = 2 }) t
   unfolding headBytes childrenOf count
@@ -44,7 +47,9 @@ module _ {c : Columns} {s : List ℕ} {at : ℕ} {t : Expr} where
 
   pub head-field : Stands c s at t → 4 < getD s at 0 → HeadIs at (record { next = at + 4; children = 0 }) t
   unfolding headBytes childrenOf bigEndian count
-  head-field h e = a-field (HeadIs at (record { next = at + 4; children = 0 })) (λ b g. record { next = refl; children = refl }) t (omega (arith, kind-is h))
+  head-field h e =
+      a-field (HeadIs at (record { next = at + 4; children = 0 })) (λ b g. record { next = refl; children = refl }) t
+      (omega (arith, kind-is h))
 
   pub head-other : Stands c s at t → getD s at 0 ≡ 4 → HeadIs at (record { next = at + 4; children = getD s (at + 3) 0 }) t
   unfolding headBytes childrenOf bigEndian
@@ -55,7 +60,8 @@ module _ {c : Columns} {s : List ℕ} {at : ℕ} {t : Expr} where
       → HeadIs at (record { next = at + getD s (at + 1) 0 + 2 + 1; children = getD s (at + getD s (at + 1) 0 + 2) 0 }) t
   unfolding headBytes childrenOf
   head-call h e = a-call
-      (λ t. Holds s at (headBytes t) → HeadIs at (record { next = at + getD s (at + 1) 0 + 2 + 1; children = getD s (at + getD s (at + 1) 0 + 2) 0 }) t)
+      (λ t. Holds s at (headBytes t)
+      → HeadIs at (record { next = at + getD s (at + 1) 0 + 2 + 1; children = getD s (at + getD s (at + 1) 0 + 2) 0 }) t)
       (λ name args k. record { next = simp length-append (omega (arith, call-name name args k)); children = call-count name args k })
       t (kind-is h ∙ e) (head-stands h)
 

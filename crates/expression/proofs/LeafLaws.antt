@@ -49,17 +49,27 @@ module _ {c : Columns} {s : List ℕ} {at : ℕ} {t : Expr} where
   pub operator-within : Stands c s at t → getD s at 0 ≡ 2 → at + 1 < length s
   unfolding headBytes
   operator-within h e =
-      a-binary (λ t. at + length (headBytes t) ≤ length s → at + 1 < length s) (λ l r k. omega arith) (λ o l r k. omega arith) t (kind-is h ∙ e) (head-fits h)
+      a-binary (λ t. at + length (headBytes t) ≤ length s → at + 1 < length s) (λ l r k. omega arith) (λ o l r k. omega arith) t
+      (kind-is h ∙ e) (head-fits h)
 
   module _ (h : Head) where
     pub node-and : Stands c s at t → HeadIs at h t → getD s at 0 ≡ 2 → getD s (at + 1) 0 ≡ 0 → Both and c s at (h .next) t
     unfolding headBytes childrenOf count
     node-and stands is e z = a-binary (λ t. Stands c s at t → HeadIs at h t → Both and c s at (h .next) t)
-        (λ l r st i. record { l = l; r = r; is = refl; children = refl; begins = i .next; row = children-stand st (h .next) 2 (i .next) refl })
+        (λ l r st i. record {
+          l = l;
+          r = r;
+          is = refl;
+          children = refl;
+          begins = i .next;
+          row = children-stand st (h .next) 2
+              (i .next) refl;
+        })
         (λ o l r st i. absurd (omega (arith, st .inRange .0, byte-at (head-stands st) 1 (omega arith))))
         t (kind-is stands ∙ e) stands is
 
-    pub node-binary : Stands c s at t → HeadIs at h t → getD s at 0 ≡ 2 → (getD s (at + 1) 0 ≡ 0 → ⊥) → Both (binary (getD s (at + 1) 0)) c s at (h .next) t
+    pub node-binary : Stands c s at t → HeadIs at h t → getD s at 0 ≡ 2 → (getD s (at + 1) 0 ≡ 0 → ⊥)
+        → Both (binary (getD s (at + 1) 0)) c s at (h .next) t
     unfolding headBytes childrenOf count
     node-binary stands is e some = a-binary (λ t. Stands c s at t → HeadIs at h t → Both (binary (getD s (at + 1) 0)) c s at (h .next) t)
         (λ l r st i. absurd (some (byte-at (head-stands st) 1 (omega arith))))
@@ -77,7 +87,8 @@ module _ {c : Columns} {s : List ℕ} {at : ℕ} {t : Expr} where
         → CallIs c s at (record { name = at + 2; end = h .next - 1; first = h .next; count = h .children }) t
     unfolding headBytes childrenOf
     node-call stands is e =
-        a-call (λ t. Stands c s at t → HeadIs at h t → CallIs c s at (record { name = at + 2; end = h .next - 1; first = h .next; count = h .children }) t)
+        a-call (λ t. Stands c s at t → HeadIs at h t
+        → CallIs c s at (record { name = at + 2; end = h .next - 1; first = h .next; count = h .children }) t)
         (λ name args st i.
         let size : h .next ≡ at + 3 + length name = i .next ∙ simp length-append (omega arith) in
         let here : Holds s (at + 2) name = name-stands name args (head-stands st) in
@@ -96,7 +107,8 @@ module _ {c : Columns} {s : List ℕ} {at : ℕ} {t : Expr} where
         t (kind-is stands ∙ e) stands is
 
 -- Where a function was not found, none stands.
-pub no-call : {c : Columns} {s : List ℕ} {at : ℕ} {t : Expr} → Stands c s at t → (r : Node) → OneOf (0 ∷ 1 ∷ 3 ∷ []) (tagOf the-type r) → NodeIs c s at r t → kindOf t ≡ 3 → ⊥
+pub no-call : {c : Columns} {s : List ℕ} {at : ℕ} {t : Expr} → Stands c s at t → (r : Node) → OneOf (0 ∷ 1 ∷ 3 ∷ []) (tagOf the-type r)
+    → NodeIs c s at r t → kindOf t ≡ 3 → ⊥
 unfolding kindOf
 no-call h (And first) o b e = let z : _≡_ {A = ℕ} 2 3 = ap kindOf (sym (b .is)) ∙ e in omega arith
 no-call h (Binary operator first) o b e = let z : _≡_ {A = ℕ} 2 3 = ap kindOf (sym (b .is)) ∙ e in omega arith

@@ -5,8 +5,10 @@ pub mod Records
 pub mod Standing
 pub mod HeadLaws
 pub mod LeafLaws
+pub mod AndLeaves
 pub mod EndWalk
 pub mod NameLaws
 pub mod WordLaws
 pub mod Parts
 pub mod There
+pub mod Signed

@@ -27,7 +27,8 @@ a-literal P f (call n args) e = absurd (omega arith)
 a-literal P f (other g cs) e = absurd (omega arith)
 a-literal P f (field b g) e = absurd (omega arith)
 
-pub a-binary : (P : Expr → Type 0) → ((l r : Expr) → P (and l r)) → ((operator : ℕ) (l r : Expr) → P (binary operator l r)) → (t : Expr) → kindOf t ≡ 2 → P t
+pub a-binary : (P : Expr → Type 0) → ((l r : Expr) → P (and l r)) → ((operator : ℕ) (l r : Expr) → P (binary operator l r)) → (t : Expr)
+    → kindOf t ≡ 2 → P t
 unfolding kindOf
 a-binary P f h (column i g) e = absurd (omega arith)
 a-binary P f h (literal y v) e = absurd (omega arith)

@@ -13,18 +13,21 @@ use Rattle.expression.specs.declared.leaves.Called.{Called}
 use Rattle.expression.proofs.Standing.{tree-length, node-some, after-head, first-stands, rest-stands, some-children}
 
 -- A node ends where the row of its children does.
-pub row-ends : (t : Expr) (at first r : ℕ) → first ≡ at + length (headBytes t) → r ≡ first + length (exprsBytes (childrenOf t)) → r ≡ at + length (exprBytes t)
+pub row-ends : (t : Expr) (at first r : ℕ) → first ≡ at + length (headBytes t) → r ≡ first + length (exprsBytes (childrenOf t))
+    → r ≡ at + length (exprBytes t)
 row-ends t at first r e f = omega (arith, tree-length t)
 
 -- ---- rows
 
 module _ {c : Columns} {s : List ℕ} {at : ℕ} where
   -- What stands after the first of a row.
-  pub rest-row : {n : ℕ} {t : Expr} {ts : Exprs} → Row c s at n (cons t ts) → (p : ℕ) → OfTree s at (λ t. p ≡ at + length (exprBytes t)) → Row c s p (n - 1) ts
+  pub rest-row : {n : ℕ} {t : Expr} {ts : Exprs} → Row c s at n (cons t ts) → (p : ℕ) → OfTree s at (λ t. p ≡ at + length (exprBytes t))
+      → Row c s p (n - 1) ts
   unfolding count
   rest-row {n} {t} row p ends = rest-stands row p (n - 1) (ends c t (first-stands row)) (omega (arith, row .counted))
 
-  pub pair-right : {l r : Expr} → Row c s at 2 (cons l (cons r nil)) → (p : ℕ) → OfTree s at (λ t. p ≡ at + length (exprBytes t)) → Stands c s p r
+  pub pair-right : {l r : Expr} → Row c s at 2 (cons l (cons r nil)) → (p : ℕ) → OfTree s at (λ t. p ≡ at + length (exprBytes t))
+      → Stands c s p r
   pair-right row p ends = first-stands (rest-row row p ends)
 
   pub pair-ends : {l r : Expr} → Row c s at 2 (cons l (cons r nil)) → (p q : ℕ) → OfTree s at (λ t. p ≡ at + length (exprBytes t))
@@ -39,7 +42,8 @@ two-of P f nil h = absurd (omega arith)
 two-of P f (cons a nil) h = absurd (omega arith)
 two-of P f (cons a (cons b more)) h = f a b more
 
-pub three-of : (P : Exprs → Type 0) → ((a b d : Expr) (more : Exprs) → P (cons a (cons b (cons d more)))) → (ts : Exprs) → 3 ≤ count ts → P ts
+pub three-of : (P : Exprs → Type 0) → ((a b d : Expr) (more : Exprs) → P (cons a (cons b (cons d more)))) → (ts : Exprs) → 3 ≤ count ts
+    → P ts
 unfolding count
 three-of P f ts h = two-of (λ ts. 3 ≤ count ts → P ts)
     (λ a b more k. some-children (λ more. P (cons a (cons b more))) (λ d more. f a b d more) more (omega arith))
@@ -57,11 +61,13 @@ module _ {build : Expr → Expr → Expr} {c : Columns} {s : List ℕ} {at first
   pub both-end : (r : ℕ) → r ≡ first + length (exprsBytes (cons (b .l) (cons (b .r) nil))) → r ≡ at + length (exprBytes t)
   both-end r e = row-ends t at first r (b .begins) (rw (b .children) e)
 
-  pub both-ends : (p r : ℕ) → OfTree s first (λ l. p ≡ first + length (exprBytes l)) → OfTree s p (λ k. r ≡ p + length (exprBytes k)) → r ≡ at + length (exprBytes t)
+  pub both-ends : (p r : ℕ) → OfTree s first (λ l. p ≡ first + length (exprBytes l)) → OfTree s p (λ k. r ≡ p + length (exprBytes k))
+      → r ≡ at + length (exprBytes t)
   both-ends p r ends end = both-end r (pair-ends (b .row) p r ends end)
 
 -- What a walk to the children requires, where the bytes left fall.
-module _ {build : Expr → Expr → Expr} {c : Columns} {s : List ℕ} {at first : ℕ} {t : Expr} (st : Stands c s at t) (b : Both build c s at first t)
+module _ {build : Expr → Expr → Expr} {c : Columns} {s : List ℕ} {at first : ℕ} {t : Expr} (st : Stands c s at t)
+    (b : Both build c s at first t)
     {m : ℕ} (e : length s - at ≡ m) where
   pub left-there : (length s - first < m) × Tree s first
   left-there = (omega (arith, node-some st, after-head st first (b .begins)), (c, b .l, left-stands b))

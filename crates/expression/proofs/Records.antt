@@ -25,9 +25,11 @@ pub entry-at : {s : List ℕ} {rec : ℕ} (rs : List Record) → Holds s rec (re
     → (p : ℕ) → p ≡ rec + 5 * i → Holds s p (recordBytes (recordAt rs i))
 unfolding recordsBytes recordAt
 entry-at [] h i b p e = absurd (not-suc-le-zero b)
-entry-at {s} {rec} (r ∷ rs) h zero b p e = subst (λ (q : ℕ). Holds s q (recordBytes r)) (omega arith) (front (recordBytes r) (recordsBytes rs) h)
+entry-at {s} {rec} (r ∷ rs) h zero b p e =
+    subst (λ (q : ℕ). Holds s q (recordBytes r)) (omega arith) (front (recordBytes r) (recordsBytes rs) h)
 entry-at {s} {rec} (r ∷ rs) h (suc i) b p e =
-    entry-at {rec = rec + 5} rs (back (recordBytes r) (recordsBytes rs) h (rec + 5) (omega (arith, record-length r))) i (omega arith) p (omega arith)
+    entry-at {rec = rec + 5} rs (back (recordBytes r) (recordsBytes rs) h (rec + 5) (omega (arith, record-length r))) i (omega arith) p
+    (omega arith)
 
 pub short-length : (v : ℕ) → length (bigEndian 2 v) ≡ 2
 unfolding bigEndian

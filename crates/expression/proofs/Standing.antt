@@ -3,14 +3,15 @@ use Prim.Native.Nat.{ℕ, suc, _+_, _≤_, _<_}
 use native.Mathlib.Omega.{arith}
 use mathlib.Core.Path.{_≡_, refl, sym, ap, _∙_, subst}
 use mathlib.Core.List.{List, [], _∷_, _++_, append-assoc, append-nil}
-use lib.ListN.{length, getD, length-append}
+use lib.ListN.{length, drop, getD, length-append}
+use lib.Seq.{drop-drop, drop-append-seam}
 use Rattle.definitions.specs.Basics.{bigEndian}
 use Rattle.definitions.specs.Expression.{Expr, column, literal, and, binary, call, other, field, Exprs, nil, cons, count}
 use Rattle.definitions.specs.Encode.{exprBytes, exprsBytes}
 use Rattle.definitions.specs.Decode.{Columns}
 use Rattle.definitions.specs.Good.{InRange, InRangeAll}
-use Rattle.expression.specs.Places.{Holds}
-use Rattle.expression.specs.Nodes.{headBytes, childrenOf, kindOf, Stands, Row}
+use Rattle.expression.specs.Places.{Holds, Between}
+use Rattle.expression.specs.Nodes.{headBytes, childrenOf, kindOf, Stands, Spans, Row}
 use Rattle.expression.proofs.Placed.{fits, byte-at, front, back}
 
 -- ---- a node is its head and its children
@@ -78,7 +79,8 @@ module _ {c : Columns} {s : List ℕ} {at : ℕ} where
   kind-is {t} h = sym (ap (λ (p : ℕ). getD s p 0) (omega arith) ∙ byte-at (head-stands h) 0 (head-some t) ∙ head-first t)
 
   -- The one law from a node to its children.
-  pub children-stand : {t : Expr} → Stands c s at t → (p n : ℕ) → p ≡ at + length (headBytes t) → n ≡ count (childrenOf t) → Row c s p n (childrenOf t)
+  pub children-stand : {t : Expr} → Stands c s at t → (p n : ℕ) → p ≡ at + length (headBytes t) → n ≡ count (childrenOf t)
+      → Row c s p n (childrenOf t)
   children-stand {t} h p n e k = record {
     bytes = back (headBytes t) (exprsBytes (childrenOf t)) (split h) p e;
     inRange = children-in-range c t (h .inRange);
@@ -90,7 +92,8 @@ module _ {c : Columns} {s : List ℕ} {at : ℕ} where
   unfolding exprBytes
   first-stands {n} {t} {ts} h = record { bytes = front (exprBytes t) (exprsBytes ts) (h .bytes); inRange = h .inRange .0 }
 
-  pub rest-stands : {n : ℕ} {t : Expr} {ts : Exprs} → Row c s at n (cons t ts) → (p m : ℕ) → p ≡ at + length (exprBytes t) → suc m ≡ n → Row c s p m ts
+  pub rest-stands : {n : ℕ} {t : Expr} {ts : Exprs} → Row c s at n (cons t ts) → (p m : ℕ) → p ≡ at + length (exprBytes t) → suc m ≡ n
+      → Row c s p m ts
   unfolding exprBytes count
   rest-stands {n} {t} {ts} h p m e k = record {
     bytes = back (exprBytes t) (exprsBytes ts) (h .bytes) p e;
@@ -116,3 +119,14 @@ pub some-children : (P : Exprs → Type 0) → ((t : Expr) (ts : Exprs) → P (c
 unfolding count
 some-children P f nil e = absurd (omega arith)
 some-children P f (cons t ts) e = f t ts
+
+-- ---- an expression up to its end
+
+pub spans-between : {c : Columns} {s : List ℕ} {at end : ℕ} {t : Expr} → Spans c s at end t → Between s at end (exprBytes t)
+spans-between {c} {s} {at} {end} {t} h =
+    let x : List ℕ = exprBytes t in
+    let holds : Holds s at x = h .stands .bytes in
+    let rest : drop end s ≡ holds .rest =
+    ap (λ (k : ℕ). drop k s) (h .ends) ∙ sym (drop-drop (length x) at s) ∙ ap (drop (length x)) (holds .bytes)
+    ∙ drop-append-seam x (holds .rest) in
+    record { bytes = holds .bytes ∙ ap (λ (l : List ℕ). x ++ l) (sym rest); ends = h .ends; within = omega (arith, h .ends, fits holds) }

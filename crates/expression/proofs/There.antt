@@ -20,7 +20,8 @@ module _ {s : List ℕ} {at : ℕ} (tree : Tree s at) {r : Node} (is : OfTreeIn 
   pub and-left-there : {first : ℕ} → r ≡ And first → {m : ℕ} → length s - at ≡ m → (length s - first < m) × Tree s first
   and-left-there e left = left-there (tree .2) (rw e at (is (tree .0) (tree .1) (tree .2))) left
 
-  pub and-right-there : {first : ℕ} → r ≡ And first → {m : ℕ} → length s - at ≡ m → (p : ℕ) → OfTree s first (λ l. p ≡ first + length (exprBytes l))
+  pub and-right-there : {first : ℕ} → r ≡ And first → {m : ℕ} → length s - at ≡ m → (p : ℕ)
+      → OfTree s first (λ l. p ≡ first + length (exprBytes l))
       → (length s - p < m) × Tree s p
   and-right-there e left p ends = right-there (tree .2) (rw e at (is (tree .0) (tree .1) (tree .2))) left p ends
 

@@ -55,7 +55,8 @@ module _ (s : List ℕ) (from : ℕ) where
   word-begins h = record { low = omega arith; high = h; begun = rw (part-none s from) }
 
   module _ (to : ℕ) (inv : InWord s from to) where
-    here : to < length s → (space : Bool) → eqb (getD s to 0) 32 ≡ space → words (drop to s) ≡ wordsBy space (getD s to 0) (words (drop (to + 1) s))
+    here : to < length s → (space : Bool) → eqb (getD s to 0) 32 ≡ space
+        → words (drop to s) ≡ wordsBy space (getD s to 0) (words (drop (to + 1) s))
     unfolding words
     here h space e = rw (drop-cons s to 0 h, e, add-one)
 
@@ -72,7 +73,9 @@ module _ (s : List ℕ) (from : ℕ) where
       low = inv .low;
       high = inv .high;
       later = words (drop (to + 1) s);
-      first = inv .begun ∙ ap (inFront (part s from to)) (here h true (eq-eqb (getD s to 0) 32 k)) ∙ front-all (part s from to) (words (drop (to + 1) s));
+      first =
+          inv .begun ∙ ap (inFront (part s from to)) (here h true (eq-eqb (getD s to 0) 32 k))
+          ∙ front-all (part s from to) (words (drop (to + 1) s));
       more = λ b. refl;
       last = λ e. absurd (omega arith);
     }
@@ -127,7 +130,8 @@ module _ (s : List ℕ) (from : ℕ) where
     more = λ h. absurd (omega arith);
   }
   ends-from (suc left) to e inv =
-      by-byte to (omega arith) inv (λ (grown : InWord s from (to + 1)). ends-from left (to + 1) (omega arith) grown) (eqb (getD s to 0) 32) refl
+      by-byte to (omega arith) inv (λ (grown : InWord s from (to + 1)). ends-from left (to + 1) (omega arith) grown)
+      (eqb (getD s to 0) 32) refl
 
   pub word-end : from ≤ length s → EndIs s from (endsFrom from (drop from s))
   word-end h = ends-from (length s - from) from (omega arith) (word-begins s from h)
@@ -145,7 +149,8 @@ pub none-passed : (name s ends : List ℕ) → ends ≡ wordEnds s → Passed na
 none-passed name s ends e = record { within = omega arith; few = omega arith; left = omega arith; rest = e }
 
 -- How the first of some names counts.
-counted : (name x : List ℕ) (xs : List (List ℕ)) (t : Bool) → sameName name x ≡ t → position name (x ∷ xs) ≡ (if t then 0 else suc (position name xs))
+counted : (name x : List ℕ) (xs : List (List ℕ)) (t : Bool) → sameName name x ≡ t
+    → position name (x ∷ xs) ≡ (if t then 0 else suc (position name xs))
 unfolding position
 counted name x xs t e = rw e
 
@@ -173,7 +178,8 @@ module _ (name s ends : List ℕ) (from i : ℕ) (inv : Passed name s ends from 
   ends-later : getD ends i 0 < length s → drop (i + 1) ends ≡ endsFrom (getD ends i 0 + 1) (drop (getD ends i 0 + 1) s)
   ends-later h = rw (add-one i, ap (drop 1) split, end-is) (next .more (omega (arith, end-is)))
 
-  first-is : (t : Bool) → sameName name (part s from (getD ends i 0)) ≡ t → position name (words s) ≡ i + (if t then 0 else suc (position name (word-there .later)))
+  first-is : (t : Bool) → sameName name (part s from (getD ends i 0)) ≡ t
+      → position name (words s) ≡ i + (if t then 0 else suc (position name (word-there .later)))
   first-is t e =
       inv .left
       ∙ ap (λ (n : ℕ). i + n) (ap (position name) (word-there .first) ∙ counted name (part s from (getD ends i 0)) (word-there .later) t e)

@@ -4,3 +4,4 @@ pub mod Nodes
 pub mod Heads
 pub mod Names
 pub mod Leaves
+pub mod Cuts

@@ -45,6 +45,11 @@ pub record Stands (c : Columns) (s : List ℕ) (at : ℕ) (t : Expr) : Type 0 wh
   pub bytes : Holds s at (exprBytes t)
   pub inRange : InRange c t
 
+-- An expression stands from a place up to its end.
+pub record Spans (c : Columns) (s : List ℕ) (at end : ℕ) (t : Expr) : Type 0 where
+  pub stands : Stands c s at t
+  pub ends : end ≡ at + length (exprBytes t)
+
 -- n expressions stand in a row.
 pub record Row (c : Columns) (s : List ℕ) (at n : ℕ) (ts : Exprs) : Type 0 where
   pub bytes : Holds s at (exprsBytes ts)

@@ -10,6 +10,12 @@ pub record Holds (s : List ℕ) (at : ℕ) (x : List ℕ) : Type 0 where
   pub bytes : drop at s ≡ x ++ rest
   pub within : at ≤ length s
 
+-- The bytes x stand in s from `at` up to `end`.
+pub record Between (s : List ℕ) (at end : ℕ) (x : List ℕ) : Type 0 where
+  pub bytes : drop at s ≡ x ++ drop end s
+  pub ends : end ≡ at + length x
+  pub within : end ≤ length s
+
 -- The number in the two bytes at a place.
 abbrev pub shortAt : List ℕ → ℕ → ℕ
 shortAt s at = getD s at 0 * 256 + getD s (at + 1) 0

@@ -9,7 +9,7 @@ use lib.ListN.{length, take, drop, getD, set, length-set, drop-of-length-le, tak
 use lib.Seq.{drop-cons, take-suc-set, drop-set-lt, drop-drop, length-take-le}
 use borrow.Author.Tests.{le-leb, lt-leb}
 use Rattle.hexadecimal.specs.Hex.{leadingPair, leadingBytes, decodedTo, DecodedIs}
-use Rattle.plan_writer.specs.Written.{Wrote}
+use Rattle.writing.specs.Written.{Wrote}
 use Rattle.hexadecimal.specs.declared.hex.Decoded.the-variants.{Bytes, Bad}
 use Rattle.definitions.specs.Basics.{ok, refused}
 use Rattle.definitions.specs.Program.{digitValue, pairBytes, digitBytes, orRefused, lineBytes}

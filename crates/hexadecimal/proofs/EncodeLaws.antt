@@ -8,8 +8,8 @@ use mathlib.Core.List.{List, [], _∷_, _++_}
 use lib.ListN.{length, take, getD, set, length-set, take-append-drop}
 use lib.Seq.{take-suc, take-all, length-take-le}
 use Rattle.definitions.specs.Program.{digit, digits}
-use Rattle.plan_writer.specs.Written.{WroteAt}
-use Rattle.plan_writer.proofs.Written.{store, chain}
+use Rattle.writing.specs.Written.{WroteAt}
+use Rattle.writing.proofs.Written.{store, chain}
 
 pub length-digits : (bytes : List ℕ) → length (digits bytes) ≡ 2 * length bytes
 unfolding digits

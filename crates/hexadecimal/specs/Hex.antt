@@ -9,7 +9,7 @@ use lib.Dec.{leb, eqb}
 use Rattle.definitions.specs.Limits.{mostDigits}
 use Rattle.definitions.specs.Basics.{if_then_else_, Result, ok, refused}
 use Rattle.definitions.specs.Program.{digitValue, lineBytes}
-use Rattle.plan_writer.specs.Written.{Wrote}
+use Rattle.writing.specs.Written.{Wrote}
 use Rattle.hexadecimal.specs.declared.hex.Digits.{Digits}
 use Rattle.hexadecimal.specs.declared.hex.Digits.the-variants.{Value, Other}
 use Rattle.hexadecimal.specs.declared.hex.Decoded.{Decoded}

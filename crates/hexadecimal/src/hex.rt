@@ -6,7 +6,7 @@ ghost use Prim.Native.Nat.{_+_, _*_, _≤_, _<_};
 ghost use lib.ListN.{length};
 ghost use Rattle.definitions.specs.Program as program;
 ghost use Rattle.hexadecimal.specs.Hex.{valueOf, bytesOf, DecodedIs};
-ghost use Rattle.plan_writer.specs.Written.{WroteAt};
+ghost use Rattle.writing.specs.Written.{WroteAt};
 
 // What one or two characters stand for.
 enum Digits {

@@ -70,8 +70,10 @@ module _ (frame : List ℕ) (F : Frame) (bytes : AllBytes frame) (good : frameOf
       let (t, is′) = session-of r′ in
       sym (ap planLeft is)
       ∙ same-plan F s t calls calls′
-      (ap (λ (x : ListOutcome). extractAccepted calls (x .answers)) is ∙ e ∙ sym (ap (λ (x : ListOutcome). extractAccepted calls′ (x .answers)) is′))
-      (ap (λ (x : ListOutcome). exchangesOdd calls (x .answers)) is ∙ o ∙ sym (ap (λ (x : ListOutcome). exchangesOdd calls′ (x .answers)) is′))
+      (ap (λ (x : ListOutcome). extractAccepted calls (x .answers)) is ∙ e
+      ∙ sym (ap (λ (x : ListOutcome). extractAccepted calls′ (x .answers)) is′))
+      (ap (λ (x : ListOutcome). exchangesOdd calls (x .answers)) is ∙ o
+      ∙ sym (ap (λ (x : ListOutcome). exchangesOdd calls′ (x .answers)) is′))
       ∙ ap planLeft is′
 
   demand-three : DemandThree frame F

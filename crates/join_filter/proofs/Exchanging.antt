@@ -12,14 +12,14 @@ use Rattle.definitions.specs.Expression.{Frame, Extraction, Plan, empty, held, 
 use Rattle.definitions.specs.Encode.{planBytes}
 use Rattle.definitions.specs.Plans.{planOf}
 use Rattle.definitions.specs.Exchange.{exchangePlan}
-use Rattle.definitions.specs.Calls.{finish, heldPlan, newAfterExchange, exchange}
+use Rattle.definitions.specs.Calls.{finish, newAfterExchange, exchange}
 use Rattle.definitions.specs.Good.{AllBytes}
-use Rattle.frame.specs.Frames.{FrameAt}
+use Rattle.frame_reader.specs.Frames.{FrameAt}
 use Rattle.plan_reader.specs.Plans.{ExtractionAt}
-use Rattle.frame.specs.declared.whole.Frame as places
-use Rattle.plan_reader.specs.declared.plans.Extraction.{Extraction as Places}
-use Rattle.plan_exchange.specs.Held.{ExtractionHeld}
+use Rattle.frame_reader.specs.declared.frames.Frame as places
+use Rattle.plan_reader.specs.declared.held_plans.Extraction.{Extraction as Places}
 use Rattle.plan_exchange.specs.Exchanged.{HeldPlan, PlanIs}
+use Rattle.join_filter.proofs.Refusing.{exchange-call, refuses, outcome}
 use Rattle.join_filter.proofs.Keeping.{plan-length, held-is, plan-size, kept, kept-over}
 
 -- A plan that an exchange takes.
@@ -28,51 +28,32 @@ Exchangeable empty = ⊥
 Exchangeable (held F) = Unit {0}
 Exchangeable (extracted X) = Unit {0}
 
-by-room : (n room : ℕ) (p : Plan) → Exchangeable p → newAfterExchange n room (ok p) ≡ (if leb n room then ok (planBytes (exchangePlan p)) else refused 9)
+by-room : (n room : ℕ) (p : Plan) → Exchangeable p
+    → newAfterExchange n room (ok p) ≡ (if leb n room then ok (planBytes (exchangePlan p)) else refused 9)
 unfolding newAfterExchange
 by-room n room empty h = absurd h
 by-room n room (held F) h = refl
 by-room n room (extracted X) h = refl
 
-module _ (n : ℕ) (before scratch : List ℕ) where
-  outcome : {r : Result Plan} {b : Result (List ℕ)} → heldPlan n before ≡ r → newAfterExchange n (length scratch) r ≡ b
-      → exchange n before scratch ≡ finish n before scratch b
-  unfolding exchange
-  outcome e f = ap (λ (r : Result Plan). finish n before scratch (newAfterExchange n (length scratch) r)) e ∙ ap (finish n before scratch) f
+module _ (n : ℕ) (before scratch : List ℕ) (fits : n ≤ length before) (p : Plan) (takes : Exchangeable p)
+    (is : planOf (take n before) ≡ ok p) where
+  by-test : (b : Bool) → leb n (length scratch) ≡ b
+      → exchange n before scratch ≡ finish n before scratch (if b then ok (planBytes (exchangePlan p)) else refused 9)
+  by-test b t =
+      outcome exchange-call n before scratch (held-is n before fits is)
+      (by-room n (length scratch) p takes ∙ ap (λ (x : Bool). if x then ok (planBytes (exchangePlan p)) else refused 9) t)
 
-  pub no-room-for-n : length before < n → exchange n before scratch ≡ record { answer = refused 10; n = n; buffer = before; scratch = scratch }
-  unfolding heldPlan newAfterExchange finish
-  no-room-for-n h =
-      outcome (ap (λ (b : Bool). if b then planOf (take n before) else refused 10) (lt-leb n (length before) h)) refl
+  pub scratch-short : length scratch < n → exchange n before scratch ≡ refuses n before scratch 9
+  unfolding finish
+  scratch-short h = by-test false (lt-leb n (length scratch) h)
 
-  pub no-plan : n ≤ length before → (number : ℕ) → planOf (take n before) ≡ refused number
-      → exchange n before scratch ≡ record { answer = refused 10; n = n; buffer = before; scratch = scratch }
-  unfolding newAfterExchange finish
-  no-plan fits number e = outcome (held-is n before fits e) refl
-
-  pub empty-plan : n ≤ length before → planOf (take n before) ≡ ok empty
-      → exchange n before scratch ≡ record { answer = refused 11; n = n; buffer = before; scratch = scratch }
-  unfolding newAfterExchange finish
-  empty-plan fits e = outcome (held-is n before fits e) refl
-
-  module _ (fits : n ≤ length before) (p : Plan) (takes : Exchangeable p) (is : planOf (take n before) ≡ ok p) where
-    by-test : (b : Bool) → leb n (length scratch) ≡ b
-        → exchange n before scratch ≡ finish n before scratch (if b then ok (planBytes (exchangePlan p)) else refused 9)
-    by-test b t =
-        outcome (held-is n before fits is)
-        (by-room n (length scratch) p takes ∙ ap (λ (x : Bool). if x then ok (planBytes (exchangePlan p)) else refused 9) t)
-
-    pub scratch-short : length scratch < n → exchange n before scratch ≡ record { answer = refused 9; n = n; buffer = before; scratch = scratch }
-    unfolding finish
-    scratch-short h = by-test false (lt-leb n (length scratch) h)
-
-    pub exchanges : n ≤ length scratch → (after scratchAfter : List ℕ) (answer : ℕ) → PlanIs p before after answer
-        → scratchAfter ≡ take n (drop 0 before) ++ drop n scratch
-        → exchange n before scratch ≡ record { answer = ok answer; n = answer; buffer = after; scratch = scratchAfter }
-    unfolding finish
-    exchanges h after scratchAfter answer x copied =
-        by-test true (le-leb n (length scratch) h)
-        ∙ rw (← (x .size), ← (x .buffer), kept-over n before fits scratch scratchAfter copied) refl
+  pub exchanges : n ≤ length scratch → (after scratchAfter : List ℕ) (answer : ℕ) → PlanIs p before after answer
+      → scratchAfter ≡ take n (drop 0 before) ++ drop n scratch
+      → exchange n before scratch ≡ record { answer = ok answer; n = answer; buffer = after; scratch = scratchAfter }
+  unfolding finish
+  exchanges h after scratchAfter answer x copied =
+      by-test true (le-leb n (length scratch) h)
+      ∙ rw (← (x .size), ← (x .buffer), kept-over n before fits scratch scratchAfter copied) refl
 
 -- ---- what the writers require
 
@@ -81,17 +62,16 @@ module _ (n : ℕ) (before scratch after : List ℕ) (fits : n ≤ length before
   pub frame-kept : {f : places.Frame} {F : Frame} → FrameAt (take n before) f (length (take n before)) F → FrameAt (take n after) f n F
   frame-kept stands = rw (kept n before fits scratch after copied) (rw (plan-length n before fits) at stands)
 
-  pub frame-held : {f : places.Frame} {F : Frame} → FrameAt (take n before) f (length (take n before)) F → planOf (take n before) ≡ ok (held F)
+  pub frame-held : {f : places.Frame} {F : Frame} → FrameAt (take n before) f (length (take n before)) F
+      → planOf (take n before) ≡ ok (held F)
       → HeldPlan (FrameAt (take n after) f n) held before
   frame-held {f} {F} stands is = record { it = F; stands = frame-kept stands; room = omega (arith, plan-size n before fits bytes is .0) }
 
   pub extraction-kept : {x : Places} {X : Extraction} → ExtractionAt (take n before) x (length (take n before)) X
-      → planOf (take n before) ≡ ok (extracted X) → ExtractionHeld (take n after) x n X
-  extraction-kept stands is = record {
-    stands = rw (kept n before fits scratch after copied) (rw (plan-length n before fits) at stands);
-    inRange = plan-size n before fits bytes is .1 .readable .0;
-  }
+      → ExtractionAt (take n after) x n X
+  extraction-kept stands = rw (kept n before fits scratch after copied) (rw (plan-length n before fits) at stands)
 
   pub extraction-held : {x : Places} {X : Extraction} → ExtractionAt (take n before) x (length (take n before)) X
-      → planOf (take n before) ≡ ok (extracted X) → HeldPlan (ExtractionHeld (take n after) x n) extracted before
-  extraction-held {x} {X} stands is = record { it = X; stands = extraction-kept stands is; room = omega (arith, plan-size n before fits bytes is .0) }
+      → planOf (take n before) ≡ ok (extracted X) → HeldPlan (ExtractionAt (take n after) x n) extracted before
+  extraction-held {x} {X} stands is =
+      record { it = X; stands = extraction-kept stands; room = omega (arith, plan-size n before fits bytes is .0) }

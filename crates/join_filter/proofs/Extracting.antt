@@ -16,40 +16,19 @@ use Rattle.definitions.specs.Extract.{Pick, pick, takePick, matchesOf, extracti
 use Rattle.definitions.specs.Calls.{Outcome, writtenOver, finish, heldPlan, matchedBytes, newAfterExtract, extract}
 use Rattle.definitions.specs.Good.{AllBytes, ReadableFrame}
 use Rattle.definitions.proofs.ExtractGood.{GoodExtraction, extraction-good}
-use Rattle.frame.specs.declared.whole.Frame as places
-use Rattle.spatial_expr_utils.specs.Frames.{Over}
+use Rattle.frame_reader.specs.declared.frames.Frame as places
+use Rattle.argument_sides.specs.Frames.{Over}
 use Rattle.spatial_expr_utils.specs.Picks.{TakenIs}
 use Rattle.spatial_expr_utils.specs.declared.pick.Pick as picks
 use Rattle.join_filter.specs.Extractions.{Taking, takes, ExtractionFits, ExtractionPut, HoldsFrame}
-use Rattle.join_filter.proofs.Standing.{between-holds, expr-stands}
+use Rattle.frame_reader.proofs.Standing.{between-holds, expr-stands}
+use Rattle.join_filter.proofs.Refusing.{extract-call, refuses, outcome}
 use Rattle.join_filter.proofs.Keeping.{held-is, plan-size, kept, kept-over}
 
-module _ (n : ℕ) (before scratch : List ℕ) where
-  -- A call that is refused keeps everything.
-  abbrev refuses : (number : ℕ) → Outcome
-  refuses number = record { answer = refused number; n = n; buffer = before; scratch = scratch }
-
-  outcome : {r : Result Plan} {b : Result (List ℕ)} → heldPlan n before ≡ r → newAfterExtract n (length scratch) r ≡ b
-      → extract n before scratch ≡ finish n before scratch b
-  unfolding extract
-  outcome e f = ap (λ (r : Result Plan). finish n before scratch (newAfterExtract n (length scratch) r)) e ∙ ap (finish n before scratch) f
-
-  pub no-room-for-n : length before < n → extract n before scratch ≡ refuses 10
-  unfolding heldPlan newAfterExtract finish
-  no-room-for-n h = outcome (ap (λ (b : Bool). if b then planOf (take n before) else refused 10) (lt-leb n (length before) h)) refl
-
-  module _ (fits : n ≤ length before) where
-    pub no-plan : (number : ℕ) → planOf (take n before) ≡ refused number → extract n before scratch ≡ refuses 10
-    unfolding newAfterExtract finish
-    no-plan number e = outcome (held-is n before fits e) refl
-
-    pub empty-plan : planOf (take n before) ≡ ok empty → extract n before scratch ≡ refuses 11
-    unfolding newAfterExtract finish
-    empty-plan e = outcome (held-is n before fits e) refl
-
-    pub extracted-before : (X : Extraction) → planOf (take n before) ≡ ok (extracted X) → extract n before scratch ≡ refuses 12
-    unfolding newAfterExtract finish
-    extracted-before X e = outcome (held-is n before fits e) refl
+pub extracted-before : (n : ℕ) (before scratch : List ℕ) → n ≤ length before → (X : Extraction) → planOf (take n before) ≡ ok (extracted X)
+    → extract n before scratch ≡ refuses n before scratch 12
+unfolding newAfterExtract finish
+extracted-before n before scratch fits X e = outcome extract-call n before scratch (held-is n before fits e) refl
 
 -- ---- a held frame
 
@@ -61,8 +40,9 @@ module _ (n : ℕ) (before scratch : List ℕ) {f : places.Frame} (h : HoldsFram
       → extract n before scratch ≡ finish n before scratch (if b then matchedBytes x else refused 9)
   unfolding newAfterExtract
   by-test b t x e =
-      outcome n before scratch (held-is n before (h .fits) (h .is))
-      (ap (λ (y : Bool). if y then matchedBytes (extraction F) else refused 9) t ∙ ap (λ (y : Option Extraction). if b then matchedBytes y else refused 9) e)
+      outcome extract-call n before scratch (held-is n before (h .fits) (h .is))
+      (ap (λ (y : Bool). if y then matchedBytes (extraction F) else refused 9) t
+      ∙ ap (λ (y : Option Extraction). if b then matchedBytes y else refused 9) e)
 
   pub scratch-short : length scratch < n → extract n before scratch ≡ refuses n before scratch 9
   unfolding finish

@@ -9,16 +9,8 @@ use lib.Dec.{leb}
 use borrow.Author.Tests.{le-leb, lt-leb}
 use Rattle.definitions.specs.Basics.{if_then_else_, Result, ok, refused}
 use Rattle.definitions.specs.Expression.{Frame}
-use Rattle.definitions.specs.Leaves.{arity}
 use Rattle.definitions.specs.Plans.{frameOf}
 use Rattle.definitions.specs.Calls.{writtenOver, newAfterLoad, finishLoad, load}
-use Rattle.frame.specs.Frames.{arityLeft}
-
-pub with-arity : (r : Result Frame) (F : Frame) → r ≡ arityLeft F → arity (F .expr) ≡ true → r ≡ ok F
-with-arity r F e a = e ∙ ap (λ (b : Bool). if b then ok F else refused 8) a
-
-pub without-arity : (r : Result Frame) (F : Frame) → r ≡ arityLeft F → arity (F .expr) ≡ false → r ≡ refused 8
-without-arity r F e a = e ∙ ap (λ (b : Bool). if b then ok F else refused 8) a
 
 module _ (frame before : List ℕ) where
   pub load-refuses : (number : ℕ) → frameOf frame ≡ refused number

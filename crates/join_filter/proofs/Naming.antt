@@ -7,8 +7,8 @@ use Rattle.definitions.specs.Expression.{Side, Expr}
 use Rattle.definitions.specs.Leaves.{leaves}
 use Rattle.definitions.specs.Plans.{logicalOf}
 use Rattle.definitions.specs.Logical.{LogicalAnswer, querySide, logicalAnswer, logical}
-use Rattle.sedona_query_planner.specs.Logicals.{PredicateNamesAre}
-use Rattle.sedona_query_planner.specs.declared.spatial_expr_utils.logical.PredicateNames.{PredicateNames}
+use Rattle.logical_filter.specs.Logicals.{PredicateNamesAre}
+use Rattle.logical_filter.specs.declared.predicate_names.PredicateNames.{PredicateNames}
 
 pub logical-refuses : (s : List ℕ) (number : ℕ) → logicalOf s ≡ refused number → refused number ≡ logical s
 unfolding logical

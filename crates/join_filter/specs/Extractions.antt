@@ -11,36 +11,21 @@ use Rattle.definitions.specs.Decode.{indexBelow}
 use Rattle.definitions.specs.Plans.{planOf}
 use Rattle.definitions.specs.Extract.{without, prune}
 use Rattle.expression.specs.Nodes.{Stands}
-use Rattle.frame.specs.Frames.{FrameAt}
-use Rattle.frame.specs.declared.whole.Frame.{Frame}
-use Rattle.spatial_expr_utils.specs.Matches.{PredicateIs}
-use Rattle.spatial_expr_utils.specs.Picks.{CutAt}
-use Rattle.spatial_expr_utils.specs.declared.predicates.SpatialPredicate.{SpatialPredicate}
+use Rattle.frame_reader.specs.Frames.{FrameAt}
+use Rattle.frame_reader.specs.declared.frames.Frame.{Frame}
+use Rattle.sedona_query_planner.specs.Predicates.{onChildren, PredicateAt}
+use Rattle.expression.specs.Cuts.{CutAt}
 use Rattle.spatial_expr_utils.specs.declared.pick.Pick.{Pick}
-use Rattle.plan_writer.specs.Written.{Wrote}
+use Rattle.writing.specs.Written.{Wrote}
 use Rattle.plan_writer.specs.Tables.{Entries}
-use Rattle.plan_writer.specs.declared.cuts.Cut.{Cut}
-
--- The predicate q is what p says, over `count` records that stand at their place.
-pub record PredicateOf (s : List ℕ) (rec count : ℕ) (p : SpatialPredicate) (q : tree.Predicate) : Type 0 where
-  pub records : List tree.Record
-  pub entries : Entries s rec count records
-  pub few : count ≤ 256
-  pub stands : PredicateIs s rec records p q
-
--- The cut that a pick makes.
-pub record CutOf (p : Pick) (cut : Cut) : Type 0 where
-  pub leaf : cut .leaf ≡ p .leaf
-  pub end : cut .end ≡ p .«leaf_end»
-  pub parent : cut .parent ≡ p .parent
 
 -- The frame F stands in s, and the pick takes its leaf at the pick's position, which is the predicate q.
 pub record Taking (s : List ℕ) (f : Frame) (p : Pick) (F : tree.Frame) (q : tree.Predicate) : Type 0 where
   pub entries : Entries s (f .records) (f .columns) (F .records)
   pub few : f .columns ≤ 256
   pub expr : Stands (indexBelow (length (F .records))) s (f .root) (F .expr)
-  pub predicate : PredicateIs s (f .records) (F .records) (p .predicate) q
-  pub cut : CutAt p (f .root) (F .expr) (f .root) (p .position)
+  pub predicate : PredicateAt (onChildren (F .records)) s (p .predicate) q
+  pub cut : CutAt (p .cut) (f .root) (F .expr) (f .root) (p .position)
 
 -- The extraction that it takes.
 abbrev pub takes : tree.Frame → Pick → tree.Predicate → tree.Extraction

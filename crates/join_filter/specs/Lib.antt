@@ -1,5 +1,4 @@
 -- What the contracts cite, and what is claimed of them.
-pub mod Good
 pub mod Outcomes
 pub mod Extractions
 pub mod Lists

@@ -5,8 +5,8 @@ use mathlib.Core.List.{List}
 use Rattle.definitions.specs.Basics.{Result, ok, refused}
 use Rattle.definitions.specs.Calls.{Outcome, load}
 use Rattle.definitions.specs.Logical as definitions
-use Rattle.sedona_query_planner.specs.Logicals.{querySideIs}
-use Rattle.frame.specs.Refusals.{numberOf}
+use Rattle.logical_filter.specs.Logicals.{querySideIs}
+use Rattle.terms.specs.Refusals.{numberOf}
 use Rattle.join_filter.specs.declared.answers.Answer.{Answer}
 use Rattle.join_filter.specs.declared.answers.Answer.the-variants.{Length, Refused}
 use Rattle.join_filter.specs.declared.logical.Names.{Names}

@@ -1,5 +1,5 @@
 // What load, extract and exchange answer.
-use frame::refusals::Refusal;
+use terms::refusals::Refusal;
 
 // The new plan's length, or why the call is refused.
 pub enum Answer {

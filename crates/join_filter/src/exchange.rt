@@ -1,22 +1,23 @@
 // The call exchange.
 use crate::answers::Answer;
-use crate::held::good_plan;
-use frame::refusals::Refusal;
-use plan_exchange::plans::exchange_extraction;
-use plan_exchange::plans::exchange_frame;
-use plan_reader::plans::Held;
-use plan_writer::copies::copy_bytes;
+use plan_exchange::exchanged_plans::exchange_extraction;
+use plan_exchange::exchanged_plans::exchange_frame;
+use plan_reader::held_plans::Held;
+use plan_reader::held_plans::held_plan;
+use terms::refusals::Refusal;
+use writing::copies::copy_bytes;
 ghost use Rattle.definitions.specs.Calls as definitions;
 ghost use Rattle.join_filter.specs.Outcomes.{OutcomeIs};
 
 // Copies the old plan to the scratch, then writes its exchange over the plan's start.
 pub fn exchange(plan: &mut [u8], n: usize, scratch: &mut [u8]) -> Answer
-    ensures { λ r. ⌜ OutcomeIs (definitions.exchange n (now (plan .entry)) (now (scratch .entry))) n (now (plan .exit)) (now (scratch .exit)) r ⌝ }
+    ensures { λ r. ⌜ OutcomeIs (definitions.exchange n (now (plan .entry)) (now (scratch .entry))) n (now (plan .exit))
+        (now (scratch .exit)) r ⌝ }
 {
     if plan.len() < n {
         return Answer::Refused(Refusal::NoGoodPlan);
     }
-    match good_plan(&plan[..n]) {
+    match held_plan(&plan[..n]) {
         Held::Bad => Answer::Refused(Refusal::NoGoodPlan),
         Held::Empty => Answer::Refused(Refusal::PlanEmpty),
         Held::Frame(f) => {

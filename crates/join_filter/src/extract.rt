@@ -1,13 +1,15 @@
 // The call extract.
+// A port of `transform_join_filter` of
+// rust/sedona-query-planner/src/spatial_expr_utils.rs.
 use crate::answers::Answer;
 use crate::extraction::put_extraction;
-use crate::held::good_plan;
-use frame::refusals::Refusal;
-use frame::whole::Frame;
-use plan_reader::plans::Held;
-use plan_writer::copies::copy_bytes;
+use frame_reader::frames::Frame;
+use plan_reader::held_plans::Held;
+use plan_reader::held_plans::held_plan;
 use spatial_expr_utils::pick::Picked;
 use spatial_expr_utils::pick::extract_spatial_predicate;
+use terms::refusals::Refusal;
+use writing::copies::copy_bytes;
 ghost use Rattle.definitions.specs.Calls as definitions;
 ghost use Rattle.join_filter.specs.Outcomes.{OutcomeIs};
 ghost use Rattle.join_filter.specs.Extractions.{HoldsFrame};
@@ -15,7 +17,8 @@ ghost use Rattle.join_filter.specs.Extractions.{HoldsFrame};
 // A held frame: copies it to the scratch, then writes its extraction over the plan's start.
 fn extract_frame(plan: &mut [u8], n: usize, scratch: &mut [u8], f: Frame) -> Answer
     requires { ⌜ HoldsFrame n (now plan) f ⌝ }
-    ensures { λ r. ⌜ OutcomeIs (definitions.extract n (now (plan .entry)) (now (scratch .entry))) n (now (plan .exit)) (now (scratch .exit)) r ⌝ }
+    ensures { λ r. ⌜ OutcomeIs (definitions.extract n (now (plan .entry)) (now (scratch .entry))) n (now (plan .exit))
+        (now (scratch .exit)) r ⌝ }
 {
     if scratch.len() < n {
         return Answer::Refused(Refusal::BufferTooShort);
@@ -30,12 +33,13 @@ fn extract_frame(plan: &mut [u8], n: usize, scratch: &mut [u8], f: Frame) -> Ans
 }
 
 pub fn extract(plan: &mut [u8], n: usize, scratch: &mut [u8]) -> Answer
-    ensures { λ r. ⌜ OutcomeIs (definitions.extract n (now (plan .entry)) (now (scratch .entry))) n (now (plan .exit)) (now (scratch .exit)) r ⌝ }
+    ensures { λ r. ⌜ OutcomeIs (definitions.extract n (now (plan .entry)) (now (scratch .entry))) n (now (plan .exit))
+        (now (scratch .exit)) r ⌝ }
 {
     if plan.len() < n {
         return Answer::Refused(Refusal::NoGoodPlan);
     }
-    match good_plan(&plan[..n]) {
+    match held_plan(&plan[..n]) {
         Held::Bad => Answer::Refused(Refusal::NoGoodPlan),
         Held::Empty => Answer::Refused(Refusal::PlanEmpty),
         Held::Extraction(_) => Answer::Refused(Refusal::AlreadyExtracted),

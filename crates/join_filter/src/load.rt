@@ -1,11 +1,9 @@
 // The call load.
 use crate::answers::Answer;
-use frame::refusals::Refusal;
-use frame::whole::Physical;
-use frame::whole::physical_frame;
-use plan_writer::copies::copy_bytes;
-use sedona_query_planner::arity::Arity;
-use sedona_query_planner::arity::check_arity;
+use frame_reader::frames::Physical;
+use frame_reader::frames::physical_frame;
+use terms::refusals::Refusal;
+use writing::copies::copy_bytes;
 ghost use Rattle.join_filter.specs.Outcomes.{LoadIs};
 
 // Copies a good frame to the plan's start and gives its length; reads nothing of the old plan.
@@ -14,19 +12,13 @@ pub fn load(plan: &mut [u8], frame: &[u8]) -> Answer
 {
     match physical_frame(frame) {
         Physical::Refused(why) => Answer::Refused(why),
-        Physical::Good(f) => {
-            let root = f.root;
-            match check_arity(frame, root) {
-                Arity::Short => Answer::Refused(Refusal::TooFewArguments),
-                Arity::Enough(_) => {
-                    let n = frame.len();
-                    if plan.len() < n {
-                        return Answer::Refused(Refusal::BufferTooShort);
-                    }
-                    copy_bytes(plan, frame, 0, n);
-                    Answer::Length(n)
-                }
+        Physical::Good(_) => {
+            let n = frame.len();
+            if plan.len() < n {
+                return Answer::Refused(Refusal::BufferTooShort);
             }
+            copy_bytes(plan, frame, 0, n);
+            Answer::Length(n)
         }
     }
 }

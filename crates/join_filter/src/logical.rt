@@ -1,11 +1,11 @@
 // The call logical.
-use frame::refusals::Refusal;
-use frame::whole::Logical;
-use frame::whole::logical_frame;
-use sedona_query_planner::spatial_expr_utils::logical::KNNJoinQuerySide;
-use sedona_query_planner::spatial_expr_utils::logical::PredicateNames;
-use sedona_query_planner::spatial_expr_utils::logical::collect_spatial_predicate_names;
-use sedona_query_planner::spatial_expr_utils::logical::find_knn_query_side;
+use frame_reader::frames::Logical;
+use frame_reader::frames::logical_frame;
+use logical_filter::knn_query_side::KNNJoinQuerySide;
+use logical_filter::knn_query_side::find_knn_query_side;
+use logical_filter::predicate_names::PredicateNames;
+use logical_filter::predicate_names::collect_spatial_predicate_names;
+use terms::refusals::Refusal;
 ghost use mathlib.Core.Path.{_≡_};
 ghost use Rattle.definitions.specs.Logical as definitions;
 ghost use Rattle.join_filter.specs.Outcomes.{namesOf};

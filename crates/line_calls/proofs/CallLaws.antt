@@ -16,8 +16,8 @@ use Rattle.definitions.specs.Sessions.{make}
 use Rattle.definitions.specs.Logical.{LogicalAnswer, leafName, distinct, spatialNames, logicalAnswer, logical, logicalBytes}
 use Rattle.definitions.specs.Program.{Kept, LineOutcome, refusedLine, loadLine, logicalLine, callLine}
 use Rattle.definitions.proofs.InversePlan.{refused-not-ok}
-use Rattle.frame.specs.Refusals.{numberOf}
-use Rattle.frame.specs.declared.refusals.Refusal.{Refusal}
+use Rattle.terms.specs.Refusals.{numberOf}
+use Rattle.terms.specs.declared.refusals.Refusal.{Refusal}
 use Rattle.join_filter.specs.Outcomes.{answerOf, nAfter, LoadIs, OutcomeIs}
 use Rattle.join_filter.specs.declared.answers.Answer.{Answer as CallAnswer}
 use Rattle.join_filter.specs.declared.answers.Answer.the-variants.{Length, Refused as CallRefused}

@@ -12,13 +12,13 @@ use Rattle.definitions.specs.Calls.{writtenOver}
 use Rattle.definitions.specs.Machine.{extractCall, exchangeCall}
 use Rattle.definitions.specs.Program.{Kept, refusedLine, loadLine, logicalLine, callLine, lineOf, digitBytes, orRefused, lineBytes, readLine, lineOutcome}
 use Rattle.definitions.proofs.InversePlan.{refused-not-ok}
-use Rattle.frame.specs.Refusals.{numberOf}
-use Rattle.frame.specs.declared.refusals.Refusal.{Refusal}
+use Rattle.terms.specs.Refusals.{numberOf}
+use Rattle.terms.specs.declared.refusals.Refusal.{Refusal}
 use Rattle.line_calls.specs.declared.answers.Answer.the-variants.{Refused}
 use Rattle.line_calls.specs.Answers.{keptAs, AnswerIs}
 use Rattle.line_calls.specs.Scratch.{callScratch, bytesScratch, readScratch, lineScratch}
 use Rattle.hexadecimal.specs.Hex.{decodedTo}
-use Rattle.plan_writer.specs.Written.{Wrote}
+use Rattle.writing.specs.Written.{Wrote}
 
 -- A refusal keeps the plan.
 pub refused-line : (n : ℕ) (plan : List ℕ) (why : Refusal) → AnswerIs (refusedLine (numberOf why) (keptAs n plan)) n plan (Refused why)

@@ -5,7 +5,7 @@ use mathlib.Core.List.{List, [], _∷_}
 use lib.ListN.{length, take}
 use Rattle.definitions.specs.Basics.{Result, ok, refused}
 use Rattle.definitions.specs.Program.{Kept, LineOutcome}
-use Rattle.frame.specs.Refusals.{numberOf}
+use Rattle.terms.specs.Refusals.{numberOf}
 use Rattle.line_calls.specs.declared.answers.Answer.{Answer}
 use Rattle.line_calls.specs.declared.answers.Answer.the-variants.{Plan, Logical, Refused}
 

@@ -1,11 +1,11 @@
 // What a line gives, and how it is written.
-use frame::refusals::Refusal;
-use frame::refusals::refusal_number;
-use hexadecimal::writing::put_line;
+use hexadecimal::digit_lines::put_line;
+use terms::refusals::Refusal;
+use terms::refusals::refusal_number;
 ghost use Prim.Native.Nat.{_+_, _*_, _≤_};
 ghost use lib.ListN.{length};
 ghost use Rattle.definitions.specs.Program.{writtenLine};
-ghost use Rattle.plan_writer.specs.Written.{WroteAt};
+ghost use Rattle.writing.specs.Written.{WroteAt};
 ghost use Rattle.line_calls.specs.Answers.{answerBytes, planLength};
 
 // The length of the new plan, the four bytes of the logical call, or a refusal.

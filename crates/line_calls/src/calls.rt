@@ -1,6 +1,5 @@
 // The call that a line asks for.
 use super::answers::Answer;
-use frame::refusals::Refusal;
 use hexadecimal::hex::Decoded;
 use hexadecimal::hex::decode;
 use join_filter::answers;
@@ -9,7 +8,8 @@ use join_filter::extract::extract;
 use join_filter::load::load;
 use join_filter::logical::Names;
 use join_filter::logical::logical;
-use sedona_query_planner::spatial_expr_utils::logical::query_side_number;
+use logical_filter::knn_query_side::query_side_number;
+use terms::refusals::Refusal;
 ghost use mathlib.Core.Path.{_≡_};
 ghost use mathlib.Core.List.{List};
 ghost use Prim.Native.Nat.{ℕ, _≤_};

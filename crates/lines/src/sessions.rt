@@ -1,5 +1,4 @@
 // The program between two pieces of its input. Public for the program.
-use frame::refusals::Refusal;
 use line_calls::answers::Answer;
 use line_calls::answers::put_answer;
 use line_calls::calls::answer_line;
@@ -7,6 +6,7 @@ use pieces::collecting::collect;
 use pieces::states::Fed;
 use pieces::states::MOST_FILLED;
 use pieces::states::State;
+use terms::refusals::Refusal;
 ghost use mathlib.Core.Path.{_≡_};
 ghost use mathlib.Core.List.{List};
 ghost use Prim.Native.Nat.{ℕ, _+_, _*_, _≤_};

@@ -5,7 +5,7 @@ use mathlib.Core.Path.{_≡_, refl, sym, ap, _∙_}
 use mathlib.Core.List.{List, [], _∷_, _++_, append-assoc, append-nil}
 use lib.ListN.{length, take, drop, length-append}
 use lib.Seq.{length-take-le, take-at}
-use Rattle.plan_writer.specs.Written.{WroteAt}
+use Rattle.writing.specs.Written.{WroteAt}
 use Rattle.pieces.specs.Pieces.{piece, freshSession}
 use Rattle.pieces.specs.declared.states.State.{State}
 use Rattle.pieces.specs.Sessions.{Lent, Stands}

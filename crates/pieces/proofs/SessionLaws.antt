@@ -9,12 +9,12 @@ use lib.Seq.{length-take-le}
 use lib.Dec.{leb, eqb}
 use borrow.Author.Tests.{leb-true, leb-false, eqb-true, eqb-false}
 use Rattle.definitions.specs.Program.{Kept, lineOutcome, writtenLine, freshPlan}
-use Rattle.frame.specs.Refusals.{numberOf}
-use Rattle.frame.specs.declared.refusals.Refusal.the-variants.{NotHexadecimal}
+use Rattle.terms.specs.Refusals.{numberOf}
+use Rattle.terms.specs.declared.refusals.Refusal.the-variants.{NotHexadecimal}
 use Rattle.line_calls.specs.declared.answers.Answer.{Answer}
 use Rattle.line_calls.specs.declared.answers.Answer.the-variants.{Plan, Logical, Refused}
 use Rattle.pieces.specs.declared.states.State.{State}
-use Rattle.plan_writer.specs.Written.{WroteAt}
+use Rattle.writing.specs.Written.{WroteAt}
 use Rattle.line_calls.specs.Answers.{answerBytes, planLength, keptAs, lengthAfter, AnswerIs}
 use Rattle.pieces.specs.Pieces.{Session, endLine, piece, inputEnd, freshSession, firstLine, hasFeed}
 use Rattle.pieces.specs.Collecting.{Begun, CollectedIs}

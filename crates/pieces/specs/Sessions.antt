@@ -5,7 +5,7 @@ use mathlib.Core.List.{List}
 use lib.ListN.{length, take}
 use lib.Seq.{sets}
 use lib.Dec.{leb}
-use Rattle.plan_writer.specs.Written.{WroteAt}
+use Rattle.writing.specs.Written.{WroteAt}
 use Rattle.definitions.specs.Basics.{if_then_else_}
 use Rattle.line_calls.specs.Answers.{keptAs}
 use Rattle.line_calls.specs.Scratch.{lineScratch}

@@ -9,15 +9,17 @@ use Rattle.definitions.specs.Encode.{planBytes}
 use Rattle.definitions.specs.Exchange.{exchangePlan}
 use Rattle.definitions.specs.Calls.{writtenOver}
 use Rattle.definitions.proofs.ExchangeGood.{plan-as-long}
-use Rattle.plan_exchange.specs.Writing.{Room, Puts}
+use Rattle.writing.specs.Writing.{Room, Puts}
 use Rattle.plan_exchange.specs.Exchanged.{frameExchanged, extractionExchanged, HeldPlan, ExchangedPlan}
 
 as-long : (p : Plan) (x : List ℕ) → planBytes (exchangePlan p) ≡ x → length x ≡ length (planBytes p)
 as-long p x is = rw (← is) (plan-as-long p)
 
-module _ {A : Type 0} {At : A → Type 0} (plan : A → Plan) {bytes : A → List ℕ} (is : (a : A) → planBytes (exchangePlan (plan a)) ≡ bytes a) where
+module _ {A : Type 0} {At : A → Type 0} (plan : A → Plan) {bytes : A → List ℕ}
+    (is : (a : A) → planBytes (exchangePlan (plan a)) ≡ bytes a) where
   pub held-room : {buffer : List ℕ} → HeldPlan At plan buffer → Room At bytes 0 buffer
-  held-room p = record { it = p .it; stands = p .stands; room = omega (arith, p .room, as-long (plan (p .it)) (bytes (p .it)) (is (p .it))) }
+  held-room p =
+      record { it = p .it; stands = p .stands; room = omega (arith, p .room, as-long (plan (p .it)) (bytes (p .it)) (is (p .it))) }
 
   pub held-put : {before after : List ℕ} {r : ℕ} → Puts At bytes before after r → ExchangedPlan At plan before after r
   unfolding writtenOver

@@ -4,15 +4,10 @@ use mathlib.Core.Path.{_≡_}
 use mathlib.Core.List.{List, map}
 use mathlib.Core.Option.{Option, Option·map}
 use lib.ListN.{length}
-use Rattle.definitions.specs.Expression.{Record, Frame, Predicate, Extraction, Plan}
+use Rattle.definitions.specs.Expression.{Record, Frame, Extraction, Plan}
 use Rattle.definitions.specs.Encode.{recordsBytes, frameBytes, remainderBytes, extractionBytes, planBytes}
-use Rattle.definitions.specs.Exchange.{exchangeRecord, exchangeFrame, exchangePredicate, exchangeExtraction, exchangePlan}
+use Rattle.definitions.specs.Exchange.{exchangeRecord, exchangeFrame, exchangeExtraction, exchangePlan}
 use Rattle.definitions.specs.Calls.{writtenOver}
-use Rattle.plan_exchange.specs.Held.{predicateBytes}
-
--- Whatever a number says, the answer is the number of what f makes of that.
-abbrev pub Renumbered : {A : Type 0} → (numberOf : A → ℕ) → (f : A → A) → (number answer : ℕ) → Type 0
-Renumbered {A = A} numberOf f number answer = (a : A) → number ≡ numberOf a → answer ≡ numberOf (f a)
 
 -- The bytes of what is exchanged.
 abbrev pub recordsExchanged : List Record → List ℕ
@@ -23,9 +18,6 @@ frameExchanged F = frameBytes (exchangeFrame F)
 
 abbrev pub remainderExchanged : Option Frame → List ℕ
 remainderExchanged R = remainderBytes (Option·map exchangeFrame R)
-
-abbrev pub predicateExchanged : Predicate → List ℕ
-predicateExchanged P = predicateBytes (exchangePredicate P)
 
 abbrev pub extractionExchanged : Extraction → List ℕ
 extractionExchanged X = extractionBytes (exchangeExtraction X)

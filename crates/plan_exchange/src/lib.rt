@@ -1,6 +1,3 @@
 // The exchange of a held plan, written over the plan from a copy of it.
-pub mod copies;
-pub mod frames;
-pub mod numbers;
-pub mod plans;
-pub mod predicates;
+pub mod exchanged_frames;
+pub mod exchanged_plans;

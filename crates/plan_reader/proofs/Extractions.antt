@@ -1,38 +1,32 @@
--- Whole extractions and held plans: the predicate, the remainder, the end, and the arity that is left to test.
+-- Whole extractions and held plans: the predicate, the remainder, the end.
 use Prim.Native.Nat.{ℕ, _≤_, _<_}
 use native.Mathlib.Omega.{arith}
 use mathlib.Core.Path.{_≡_, refl, sym, ap, _∙_}
-use mathlib.Core.Bool.{Bool, true, false}
 use mathlib.Core.List.{List, [], _∷_}
 use mathlib.Core.Option.{Option}
 use lib.ListN.{length, drop, getD}
 use borrow.Author.Tests.{eq-eqb, ne-eqb}
-use Rattle.definitions.specs.Basics.{if_then_else_, ok, refused, mapResult}
-use Rattle.definitions.specs.Expression.{Frame, Predicate, Extraction, empty, held, extracted}
-use Rattle.definitions.specs.Readers.{Read, read, stopped, Reader, continue, _>>_, give, require, byte, requireLength, atEnd, resultOf}
+use Rattle.definitions.specs.Basics.{ok, refused, mapResult}
+use Rattle.definitions.specs.Expression.{Frame, Extraction, empty, held, extracted}
+use Rattle.definitions.specs.Readers.{Read, read, stopped, Reader, continue, _>>_, give, byte, requireLength, atEnd, resultOf}
 use Rattle.definitions.specs.Decode.{extractionBody}
 use Rattle.definitions.specs.Plans.{wholeExtraction, frameOf, extractionOf, planOfKind, planOf}
 use Rattle.definitions.proofs.ReaderLaws.{after, halts, passes, fails}
-use Rattle.frame.specs.Frames.{firstOf}
-use Rattle.plan_reader.specs.Plans.{remainderArity}
-use Rattle.frame.proofs.Wholes.{regroup, none-after, some-after, left-to-test}
+use Rattle.frame_reader.specs.Frames.{firstOf}
+use Rattle.plan_reader.specs.Plans.{RemainderIs}
+use Rattle.plan_reader.specs.declared.held_plans.Remained.{Remained}
+use Rattle.plan_reader.specs.declared.held_plans.Remained.the-variants as remained
+use Rattle.frame_reader.proofs.Wholes.{regroup, none-after, some-after}
 
--- A result with a test left, changed.
-pub mapped-test : {A B : Type 0} (f : A → B) (t : Bool) (a : A) (number : ℕ)
-    → mapResult f (if t then ok a else refused number) ≡ (if t then ok (f a) else refused number)
-mapped-test f true a number = refl
-mapped-test f false a number = refl
+-- ---- remainders
+
+-- What is right for the rest is right for the whole.
+pub follows : (s : List ℕ) (at place before : ℕ) (whole rest : Reader (Option Frame)) (r : Remained)
+    → whole before (drop at s) ≡ rest before (drop place s) → RemainderIs s place before r rest → RemainderIs s at before r whole
+follows s at place before whole rest (remained.Read r end) e h = (h .0, h .1, h .2, h .3, e ∙ h .4)
+follows s at place before whole rest (remained.Refused why) e h = e ∙ h
 
 -- ---- whole extractions
-
--- A predicate and the remainder after it: what is left to test of the remainder is left of both.
-pub joined : (p : Predicate) (R : Option Frame) (r : Read (Option Frame)) (count : ℕ) (t : List ℕ)
-    → r ≡ continue (require 8 (remainderArity R) count t) (λ b. give R)
-    → continue r (λ R. give (record { predicate = p; remainder = R }))
-    ≡ continue (require 8 (remainderArity R) count t) (λ b. give {A = Extraction} (record { predicate = p; remainder = R }))
-joined p R r count t e =
-    ap (λ (r : Read (Option Frame)). continue r (λ R. give (record { predicate = p; remainder = R }))) e
-    ∙ regroup (require 8 (remainderArity R) count t) (λ b. give R) (λ R. give (record { predicate = p; remainder = R }))
 
 abbrev ending : Extraction → Reader Extraction
 ending X = atEnd >> give X
@@ -50,36 +44,22 @@ module _ (s : List ℕ) where
   unopened e = stops (opens ∙ halts _ e)
 
   module _ (first at : ℕ) (e : firstOf 0 s ≡ read first 0 (drop at s)) where
-    pub body-stops : {number : ℕ} → extractionBody first 0 (drop at s) ≡ stopped number → mapResult extracted (extractionOf s) ≡ refused number
+    pub body-stops : {number : ℕ} → extractionBody first 0 (drop at s) ≡ stopped number
+        → mapResult extracted (extractionOf s) ≡ refused number
     body-stops f = stops (opens ∙ after _ e ∙ halts ending f)
 
-    module _ (X : Extraction) (end count : ℕ) where
-      abbrev tested : Bool → Read Extraction
-      tested t = continue (require 8 t count (drop end s)) (λ b. give X)
+    module _ (X : Extraction) (end count : ℕ) (f : extractionBody first 0 (drop at s) ≡ read X count (drop end s)) where
+      last : wholeExtraction 0 s ≡ ending X count (drop end s)
+      last = opens ∙ after _ e ∙ after ending f
 
-      module _ (f : extractionBody first 0 (drop at s) ≡ tested (remainderArity (X .remainder))) where
-        last : wholeExtraction 0 s ≡ continue (tested (remainderArity (X .remainder))) ending
-        last = opens ∙ after _ e ∙ ap (λ (r : Read Extraction). continue r ending) f
+      pub ends : end ≡ length s → mapResult extracted (extractionOf s) ≡ ok (extracted X)
+      unfolding extractionOf atEnd resultOf
+      ends z =
+          ap (λ (r : Read Extraction). mapResult extracted (resultOf r)) (last ∙ passes 7 (give X) count (drop end s) (none-after s end z))
 
-        at-end : (t : Bool) → end ≡ length s → continue (tested t) ending ≡ tested t
-        unfolding atEnd
-        at-end true z = passes 7 (give X) count (drop end s) (none-after s end z)
-        at-end false z = refl
-
-        pub ends : end ≡ length s → mapResult extracted (extractionOf s) ≡ (if remainderArity (X .remainder) then ok (extracted X) else refused 8)
-        unfolding extractionOf
-        ends z =
-            ap (λ (r : Read Extraction). mapResult extracted (resultOf r)) (last ∙ at-end (remainderArity (X .remainder)) z)
-            ∙ ap (mapResult extracted) (left-to-test 8 (remainderArity (X .remainder)) X count (drop end s))
-            ∙ mapped-test extracted (remainderArity (X .remainder)) X 8
-
-        after-end : (t : Bool) → end ≤ length s → (end ≡ length s → ⊥) → continue (tested t) ending ≡ stopped (if t then 7 else 8)
-        unfolding atEnd
-        after-end true low z = fails 7 (give X) count (drop end s) (some-after s end low z)
-        after-end false low z = refl
-
-        pub goes-on : end ≤ length s → (end ≡ length s → ⊥) → mapResult extracted (extractionOf s) ≡ refused (if remainderArity (X .remainder) then 7 else 8)
-        goes-on low z = stops (last ∙ after-end (remainderArity (X .remainder)) low z)
+      pub goes-on : end ≤ length s → (end ≡ length s → ⊥) → mapResult extracted (extractionOf s) ≡ refused 7
+      unfolding atEnd
+      goes-on low z = stops (last ∙ fails 7 (give X) count (drop end s) (some-after s end low z))
 
 -- ---- held plans
 

@@ -1,4 +1,4 @@
--- What the answers about predicates say: where their arguments stand.
+-- What the answers about held predicates say: which predicate it is, and where its arguments stand.
 use Prim.Native.Nat.{ℕ, _≤_}
 use mathlib.Core.Path.{_≡_}
 use mathlib.Core.List.{List}
@@ -6,23 +6,16 @@ use lib.ListN.{length, drop}
 use Rattle.definitions.specs.Expression as tree
 use Rattle.definitions.specs.Expression.{Expr}
 use Rattle.definitions.specs.Readers.{read, stopped, Reader, _>>=_, give, byteUpTo}
-use Rattle.definitions.specs.Decode.{indexBelow, sideUpTo, argument}
-use Rattle.frame.specs.Refusals.{numberOf}
-use Rattle.frame.specs.Fields.{joinSide}
-use Rattle.frame.specs.Places.{ExprAt}
-use Rattle.sedona_query_planner.specs.Relations.{relationOf}
-use Rattle.plan_reader.specs.declared.predicates.Predicate.{Predicate}
-use Rattle.plan_reader.specs.declared.predicates.Predicate.the-variants as predicate
-use Rattle.plan_reader.specs.declared.predicates.Predicated.{Predicated}
-use Rattle.plan_reader.specs.declared.predicates.Predicated.the-variants as predicated
-use Rattle.plan_reader.specs.declared.predicates.Pair.{Pair}
-use Rattle.plan_reader.specs.declared.predicates.Pair.the-variants as pair
-use Rattle.plan_reader.specs.declared.predicates.Flagged.{Flagged}
-use Rattle.plan_reader.specs.declared.predicates.Flagged.the-variants as flagged
-
--- An argument stands from `at` up to `end`.
-abbrev pub ArgumentAt : List ℕ → (at end : ℕ) → Expr → Type 0
-ArgumentAt s at end e = ExprAt (indexBelow 65536) s at end e
+use Rattle.definitions.specs.Decode.{sideUpTo, argument}
+use Rattle.terms.specs.Refusals.{numberOf}
+use Rattle.terms.specs.Sides.{joinSide}
+use Rattle.sedona_query_planner.specs.Predicates.{flag, tiesNumber, unchanged, ArgumentAt, PredicateAt}
+use Rattle.plan_reader.specs.declared.held_predicates.Predicated.{Predicated}
+use Rattle.plan_reader.specs.declared.held_predicates.Predicated.the-variants as predicated
+use Rattle.plan_reader.specs.declared.held_predicates.Pair.{Pair}
+use Rattle.plan_reader.specs.declared.held_predicates.Pair.the-variants as pair
+use Rattle.plan_reader.specs.declared.held_predicates.Flagged.{Flagged}
+use Rattle.plan_reader.specs.declared.held_predicates.Flagged.the-variants as flagged
 
 -- ---- two arguments
 
@@ -36,7 +29,7 @@ thenBoth next = do
 -- Two arguments were read.
 abbrev pub PairIs : List ℕ → (at : ℕ) → Pair → Type 0
 PairIs s at (pair.Read right end count) =
-    (l r : Expr) × ArgumentAt s at right l × ArgumentAt s right end r
+    (end ≤ length s) × (l r : Expr) × ArgumentAt unchanged s at right l × ArgumentAt unchanged s right end r
     × ((next : Expr → Expr → Reader tree.Predicate) → thenBoth next 0 (drop at s) ≡ next l r count (drop end s))
 PairIs s at (pair.Refused why) = (next : Expr → Expr → Reader tree.Predicate) → thenBoth next 0 (drop at s) ≡ stopped (numberOf why)
 
@@ -55,7 +48,7 @@ abbrev pub FlagsIs : List ℕ → (at : ℕ) → Flagged → Type 0
 FlagsIs s at (flagged.Read f end) =
     (end ≤ length s)
     × ((next : ℕ → tree.Side → ℕ → Reader tree.Predicate) (n : ℕ)
-    → thenFlags next n (drop at s) ≡ next (f .spheroid) (joinSide (f .probe)) (f .ties) n (drop end s))
+    → thenFlags next n (drop at s) ≡ next (flag (f .«use_spheroid»)) (joinSide (f .«probe_side»)) (tiesNumber (f .ties)) n (drop end s))
 FlagsIs s at (flagged.Refused why) =
     (next : ℕ → tree.Side → ℕ → Reader tree.Predicate) (n : ℕ) → thenFlags next n (drop at s) ≡ stopped (numberOf why)
 
@@ -65,20 +58,8 @@ FlagsIs s at (flagged.Refused why) =
 abbrev pub distanceArguments : (form : ℕ) → tree.Side → Reader tree.Predicate
 distanceArguments form side = thenBoth (λ l r. argument >>= λ bound. give (tree.distance form side l r bound))
 
--- The predicate P stands in s: each argument from its place up to the next.
-abbrev pub PredicateAt : List ℕ → Predicate → tree.Predicate → Type 0
-PredicateAt s (predicate.Relation p) P =
-    (l r : Expr) × (P ≡ tree.relation (relationOf (p .relation)) l r)
-    × ArgumentAt s (p .left) (p .right) l × ArgumentAt s (p .right) (p .end) r
-PredicateAt s (predicate.Distance p) P =
-    (l r bound : Expr) × (P ≡ tree.distance (p .form) (joinSide (p .side)) l r bound)
-    × ArgumentAt s (p .left) (p .right) l × ArgumentAt s (p .right) (p .distance) r × ArgumentAt s (p .distance) (p .end) bound
-PredicateAt s (predicate.Knn p) P =
-    (l r : Expr) × (P ≡ tree.knn (p .k) (p .flags .spheroid) (joinSide (p .flags .probe)) (p .flags .ties) l r)
-    × ArgumentAt s (p .left) (p .right) l × ArgumentAt s (p .right) (p .end) r
-
 -- A predicate was read.
 abbrev pub PredicateIs : List ℕ → (at : ℕ) → Predicated → Reader tree.Predicate → Type 0
 PredicateIs s at (predicated.Read p next count) reader =
-    (next ≤ length s) × (P : tree.Predicate) × PredicateAt s p P × (reader 0 (drop at s) ≡ read P count (drop next s))
+    (next ≤ length s) × (P : tree.Predicate) × PredicateAt unchanged s p P × (reader 0 (drop at s) ≡ read P count (drop next s))
 PredicateIs s at (predicated.Refused why) reader = reader 0 (drop at s) ≡ stopped (numberOf why)

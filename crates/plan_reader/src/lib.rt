@@ -1,3 +1,3 @@
-// Reading held plans: a frame or an extraction, and where its parts stand.
-pub mod plans;
-pub mod predicates;
+// Reading held plans: what the bytes are, and where the parts stand.
+pub mod held_plans;
+pub mod held_predicates;

@@ -16,16 +16,17 @@ use Rattle.expression.specs.Heads.{HeadIs}
 use Rattle.expression.specs.declared.heads.Head.{Head}
 use Rattle.expression.proofs.Placed.{fits}
 use Rattle.expression.proofs.Standing.{tree-length, head-stands, kind-is, children-stand, first-stands, rest-stands, some-children, no-children, head-fits, after-node}
-use Rattle.plan_writer.specs.Written.{Wrote, WroteAt}
-use Rattle.plan_writer.specs.Copies.{copyOf, copiesOf, ColumnThere, ColumnPut, CopyFits, CopiesFit, CopyFitsAt, CopyIs, NodeCopied, RowCopied, CopiedAt}
-use Rattle.plan_writer.specs.declared.copies.Copied.{Copied}
-use Rattle.plan_writer.proofs.Written.{behind, together, behind-length, together-length, part-wrote, then-wrote, copied-wrote, chain, nothing-wrote, to-start}
+use Rattle.writing.specs.Written.{Wrote, WroteAt}
+use Rattle.plan_writer.specs.Copies.{copyOf, copiesOf, ColumnThere, ColumnPut, CopyFits, CopiesFit, CopyIs, NodeCopied, RowCopied}
+use Rattle.plan_writer.specs.declared.arguments.Copied.{Copied}
+use Rattle.writing.proofs.Written.{behind, together, behind-length, together-length, part-wrote, then-wrote, copied-wrote, chain, nothing-wrote, to-start}
 use Rattle.plan_writer.proofs.Fields.{column-is, column-size}
 
 -- ---- what is written for a node
 
 -- Its head, and its children with their indexes changed.
-map-node : (f : ℕ → ℕ) (t : Expr) → (kindOf t ≡ 0 → ⊥) → exprBytes (mapColumns f t) ≡ headBytes t ++ exprsBytes (mapColumnsAll f (childrenOf t))
+map-node : (f : ℕ → ℕ) (t : Expr) → (kindOf t ≡ 0 → ⊥)
+    → exprBytes (mapColumns f t) ≡ headBytes t ++ exprsBytes (mapColumnsAll f (childrenOf t))
 unfolding kindOf exprBytes headBytes childrenOf mapColumns
 map-node f (column i g) n = absurd (n refl)
 map-node f (literal y v) n = sym (append-nil _)
@@ -40,12 +41,15 @@ column-within p = omega (arith, fits (p .2), column-size (p .0) (p .1))
 
 -- A copied column with the two bytes of its index overwritten.
 pub column-put : (v : ℕ) (before : List ℕ) {middle after s : List ℕ} {at r : ℕ} (index tag : ℕ) → Holds s at (exprBytes (column index tag))
-    → middle ≡ take 5 (drop at s) ++ drop 5 before → WroteAt 1 (bigEndian 2 v) middle after r → Wrote (exprBytes (column v tag)) before after
+    → middle ≡ take 5 (drop at s) ++ drop 5 before → WroteAt 1 (bigEndian 2 v) middle after r
+    → Wrote (exprBytes (column v tag)) before after
 unfolding exprBytes bigEndian
-column-put v before index tag there is put = put .out ∙ ap (λ (m : List ℕ). take 1 m ++ (bigEndian 2 v ++ drop 3 m)) (copied-wrote before 5 there refl is)
+column-put v before index tag there is put =
+    put .out ∙ ap (λ (m : List ℕ). take 1 m ++ (bigEndian 2 v ++ drop 3 m)) (copied-wrote before 5 there refl is)
 
 module _ (to : List ℕ) {s : List ℕ} {at : ℕ} where
-  no-column : (t : Expr) → Stands (indexBelow (length to)) s at t → (getD s at 0 ≡ 0 → ⊥) → copyOf to t ≡ headBytes t ++ copiesOf to (childrenOf t)
+  no-column : (t : Expr) → Stands (indexBelow (length to)) s at t → (getD s at 0 ≡ 0 → ⊥)
+      → copyOf to t ≡ headBytes t ++ copiesOf to (childrenOf t)
   no-column t h n = map-node (λ index. getD to index 0) t (λ k. n (sym (kind-is h) ∙ k))
 
   pub copy-column : (t : Expr) → Stands (indexBelow (length to)) s at t → getD s at 0 ≡ 0 → (index : ℕ) → index ≡ shortAt s (at + 1)
@@ -73,11 +77,14 @@ module _ (to : List ℕ) {s : List ℕ} {at : ℕ} where
       rw (no-column t stands n) (record {
         read = omega (arith, below .read, head .next, tree-length t);
         wrote = simp length-append (omega (arith, below .wrote));
-        out = then-wrote (headBytes t) (copiesOf to (childrenOf t)) before middle part w long (copied-wrote before w (head-stands stands) long copied) (below .out);
+        out =
+            then-wrote (headBytes t) (copiesOf to (childrenOf t)) before middle part w long
+            (copied-wrote before w (head-stands stands) long copied) (below .out);
       })
 
   -- A node without children is its head.
-  pub copy-alone : (t : Expr) → Stands (indexBelow (length to)) s at t → (getD s at 0 ≡ 0 → ⊥) → (h : Head) → OfTree s at (HeadIs at h) → h .children ≡ 0
+  pub copy-alone : (t : Expr) → Stands (indexBelow (length to)) s at t → (getD s at 0 ≡ 0 → ⊥) → (h : Head) → OfTree s at (HeadIs at h)
+      → h .children ≡ 0
       → (before middle : List ℕ) (w : ℕ) → w ≡ h .next - at → middle ≡ take w (drop at s) ++ drop w before
       → CopyIs at (length (exprBytes t)) (copyOf to t) before middle (record { read = h .next; wrote = w })
   unfolding exprsBytes mapColumnsAll
@@ -85,7 +92,9 @@ module _ (to : List ℕ) {s : List ℕ} {at : ℕ} where
       let head : HeadIs at h t = its (indexBelow (length to)) t stands in
       let empty : count (childrenOf t) ≡ 0 = children-stand stands (h .next) (h .children) (head .next) (head .children) .counted ∙ none in
       let long : w ≡ length (headBytes t) = omega (arith, head .next) in
-      let own : copyOf to t ≡ headBytes t = no-column t stands n ∙ ap (λ (l : List ℕ). headBytes t ++ l) (no-children (λ ts. copiesOf to ts ≡ []) refl (childrenOf t) empty) ∙ append-nil (headBytes t) in
+      let own : copyOf to t ≡ headBytes t =
+      no-column t stands n ∙ ap (λ (l : List ℕ). headBytes t ++ l) (no-children (λ ts. copiesOf to ts ≡ []) refl (childrenOf t) empty)
+      ∙ append-nil (headBytes t) in
       rw own (record {
         read = omega (arith, head .next, tree-length t, no-children (λ ts. length (exprsBytes ts) ≡ 0) refl (childrenOf t) empty);
         wrote = long;
@@ -140,14 +149,17 @@ module _ {s : List ℕ} {at : ℕ} {to : List ℕ} where
 
   pub first-fits : {n : ℕ} {out : List ℕ} → CopiesFit s at n to out → (n ≡ 0 → ⊥) → CopyFits s at to out
   unfolding exprsBytes mapColumnsAll
-  first-fits {n} {out} p some = some-children (λ ts. Row (indexBelow (length to)) s at n ts → length (copiesOf to ts) ≤ length out → CopyFits s at to out)
+  first-fits {n} {out} p some =
+      some-children (λ ts. Row (indexBelow (length to)) s at n ts → length (copiesOf to ts) ≤ length out → CopyFits s at to out)
       (λ t ts o room. record { tree = t; stands = first-stands o; room = omega (arith, simp length-append at room) })
       (p .trees) (omega (arith, p .row .counted)) (p .row) (p .room)
 
-  pub first-room : {before : List ℕ} → CopyFits s at to before → (middle : List ℕ) (r : Copied) → NodeCopied s at to before middle r → r .wrote ≤ length before
+  pub first-room : {before : List ℕ} → CopyFits s at to before → (middle : List ℕ) (r : Copied) → NodeCopied s at to before middle r
+      → r .wrote ≤ length before
   first-room p middle r is = omega (arith, p .room, is (p .tree) (p .stands) .wrote)
 
-  pub first-later : {before : List ℕ} → CopyFits s at to before → (middle : List ℕ) (r : Copied) → NodeCopied s at to before middle r → at < r .read
+  pub first-later : {before : List ℕ} → CopyFits s at to before → (middle : List ℕ) (r : Copied) → NodeCopied s at to before middle r
+      → at < r .read
   first-later p middle r is = after-node (p .stands) (r .read) (is (p .tree) (p .stands) .read)
 
 -- ---- the loop over a row
@@ -197,9 +209,11 @@ module _ {s : List ℕ} {at n : ℕ} {to before : List ℕ} where
     module _ (some : 0 < left) where
       pub copying-first : CopyFits s next to (behind w out)
       copying-first = first-fits
-          (record { trees = inv .there .trees; row = inv .there .row; room = omega (arith, inv .there .room, behind-length w out) }) (λ z. omega arith)
+          (record { trees = inv .there .trees; row = inv .there .row; room = omega (arith, inv .there .room, behind-length w out) })
+          (λ z. omega arith)
 
-      module _ (part : List ℕ) (kept : length part ≡ length (behind w out)) (r : Copied) (is : NodeCopied s next to (behind w out) part r) where
+      module _ (part : List ℕ) (kept : length part ≡ length (behind w out)) (r : Copied)
+          (is : NodeCopied s next to (behind w out) part r) where
         pub copying-sum : w + r .wrote ≤ length out
         copying-sum = omega (arith, copying-room, first-room copying-first part r is, behind-length w out)
 
@@ -209,7 +223,8 @@ module _ {s : List ℕ} {at n : ℕ} {to before : List ℕ} where
         others-fit : CopiesFitAt s (r .read) (left - 1) to (w + r .wrote) (together w out part)
         unfolding exprsBytes mapColumnsAll
         others-fit = some-children
-            (λ ts. Row (indexBelow (length to)) s next left ts → w + length (copiesOf to ts) ≤ length out → CopiesFitAt s (r .read) (left - 1) to (w + r .wrote) (together w out part))
+            (λ ts. Row (indexBelow (length to)) s next left ts → w + length (copiesOf to ts) ≤ length out
+            → CopiesFitAt s (r .read) (left - 1) to (w + r .wrote) (together w out part))
             (λ t ts o room.
             let one = is t (first-stands o) in
             record {
@@ -238,12 +253,3 @@ module _ {s : List ℕ} {at n : ℕ} {to before : List ℕ} where
           same = long ∙ inv .same;
           rest = λ after q others. inv .rest after q (others-copied after q others);
         }
-
--- ---- a copy that begins at w
-
-module _ {s : List ℕ} {at w : ℕ} {out : List ℕ} where
-  pub part-fits : {to : List ℕ} → CopyFitsAt s at to w out → CopyFits s at to (behind w out)
-  part-fits p = record { tree = p .tree; stands = p .stands; room = omega (arith, p .room, behind-length w out) }
-
-  pub copied-at : (to part : List ℕ) (a : Copied) → NodeCopied s at to (behind w out) part a → CopiedAt s at to w out (together w out part) (w + a .wrote)
-  copied-at to part a is t stands = let copied = is t stands in part-wrote (copyOf to t) out part w (copied .out) (a .wrote) (copied .wrote)

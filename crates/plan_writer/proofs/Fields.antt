@@ -42,7 +42,13 @@ column-is {n} {s} {at} {t} stands e = a-column (λ t. Stands (indexBelow n) s at
     (λ i g o.
     let both : Holds s (at + 1) (bigEndian 2 i ++ bigEndian 2 g) = next (head-stands o) (at + 1) refl in
     let index : i ≡ shortAt s (at + 1) = sym (short-is (front (bigEndian 2 i) (bigEndian 2 g) both) (o .inRange .1)) in
-    let tag : g ≡ shortAt s (at + 3) = sym (short-is (back (bigEndian 2 i) (bigEndian 2 g) both (at + 3) (omega (arith, short-length i))) (o .inRange .2)) in
+    let tag : g ≡ shortAt s (at + 3) =
+    sym (short-is (back (bigEndian 2 i) (bigEndian 2 g) both (at + 3) (omega (arith, short-length i))) (o .inRange .2)) in
     let is : column i g ≡ column (shortAt s (at + 1)) (shortAt s (at + 3)) = ap₂ column index tag in
-    record { tree = is; below = omega (arith, ltb-true i n (o .inRange .0)); bytes = subst (λ (t : Expr). Holds s at (exprBytes t)) is (o .bytes) })
+    record {
+      tree = is;
+      below = omega (arith, ltb-true i n (o .inRange .0));
+      bytes = subst (λ (t : Expr). Holds s at (exprBytes t)) is
+          (o .bytes);
+    })
     t (kind-is stands ∙ e) stands

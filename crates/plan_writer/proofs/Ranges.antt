@@ -48,20 +48,3 @@ module _ (n : ℕ) (f g : ℕ → ℕ) (same : (i : ℕ) → i < n → f i ≡ g
     maps-agree : (ts : Exprs) → InRangeAll (indexBelow n) ts → mapColumnsAll f ts ≡ mapColumnsAll g ts
     maps-agree nil = λ h. refl
     maps-agree (cons t ts) = λ h. ap₂ cons (map-agrees t (h .0)) (maps-agree ts (h .1))
-
--- The identity changes nothing.
-mutual
-  unfolding mapColumns
-
-  pub map-same : (t : Expr) → mapColumns (λ i. i) t ≡ t
-  map-same (column i k) = refl
-  map-same (literal y v) = refl
-  map-same (and l r) = ap₂ and (map-same l) (map-same r)
-  map-same (binary o l r) = ap₂ (binary o) (map-same l) (map-same r)
-  map-same (call name ts) = ap (call name) (maps-same ts)
-  map-same (other k ts) = ap (other k) (maps-same ts)
-  map-same (field bits k) = refl
-
-  maps-same : (ts : Exprs) → mapColumnsAll (λ i. i) ts ≡ ts
-  maps-same nil = refl
-  maps-same (cons t ts) = ap₂ cons (map-same t) (maps-same ts)

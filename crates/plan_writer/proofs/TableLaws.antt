@@ -20,7 +20,7 @@ use Rattle.plan_writer.specs.Copies.{copyOf}
 use Rattle.plan_writer.specs.Tables.{Table, Entry, Entries, Recorded, ChildTable}
 use Rattle.expression.proofs.Records.{short-is, entry-at}
 use Rattle.plan_writer.proofs.Fields.{child-short}
-use Rattle.plan_writer.proofs.Ranges.{map-agrees, map-same}
+use Rattle.plan_writer.proofs.Ranges.{map-agrees}
 
 -- None yet, one entry more, and all of them.
 pub table-none : {new : ℕ → ℕ} {to : List ℕ} → Table new 0 to
@@ -40,9 +40,14 @@ table-more new to i room h = record {
 pub records-within : {s : List ℕ} {rec count : ℕ} → Recorded s rec count → rec + 5 * count ≤ length s
 records-within p = omega (arith, fits (p .1 .bytes), records-length (p .0), p .1 .counted)
 
-pub entry-of : {s : List ℕ} {rec count : ℕ} {records : List Record} → Entries s rec count records → (j : ℕ) → j < count → Entry s (rec + 5 * j) (recordAt records j)
+pub entry-of : {s : List ℕ} {rec count : ℕ} {records : List Record} → Entries s rec count records → (j : ℕ) → j < count
+    → Entry s (rec + 5 * j) (recordAt records j)
 entry-of {s} {rec} {count} {records} h j b =
-    record { bytes = entry-at records (h .bytes) j (omega (arith, h .counted)) (rec + 5 * j) refl; short = child-short records j (h .inRange) }
+    record {
+      bytes = entry-at records (h .bytes) j (omega (arith, h .counted)) (rec + 5 * j) refl;
+      short = child-short records j
+          (h .inRange);
+    }
 
 pub entry-child : {s : List ℕ} {at : ℕ} {r : Record} → Entry s at r → shortAt s (at + 1) ≡ r .child
 unfolding recordBytes
@@ -51,7 +56,8 @@ entry-child {s} {at} {r} h = short-is (front (bigEndian 2 (r .child)) (bigEndian
 pub child-fits : {s : List ℕ} {rec count : ℕ} → Recorded s rec count → (j : ℕ) → j < count → shortAt s (rec + 5 * j + 1) < 65536
 child-fits p j b = let entry = entry-of (p .1) j b in omega (arith, entry-child entry, entry .short)
 
-pub child-table : {s : List ℕ} {rec : ℕ} (count : ℕ) {to : List ℕ} → Table (λ j. shortAt s (rec + 5 * j + 1)) count to → ChildTable s rec count to
+pub child-table : {s : List ℕ} {rec : ℕ} (count : ℕ) {to : List ℕ} → Table (λ j. shortAt s (rec + 5 * j + 1)) count to
+    → ChildTable s rec count to
 child-table count h records entries = record { entry = λ j b. h .entry j b ∙ entry-child (entry-of entries j b) }
 
 -- ---- what a table makes of an expression
@@ -61,11 +67,9 @@ pub table-copies : {new : ℕ → ℕ} {count : ℕ} {to : List ℕ} → Table n
     → copyOf to t ≡ exprBytes (mapColumns new t)
 table-copies {new} {count} {to} h t range = ap exprBytes (map-agrees count (λ i. getD to i 0) new (h .entry) t range)
 
--- Child indexes put it on its child, the columns' own leave it as it is.
-pub children-copied : {s : List ℕ} {rec count : ℕ} (to : List ℕ) → ChildTable s rec count to → {records : List Record} → Entries s rec count records
+-- Child indexes put it on its child.
+pub children-copied : {s : List ℕ} {rec count : ℕ} (to : List ℕ) → ChildTable s rec count to → {records : List Record}
+    → Entries s rec count records
     → (t : Expr) → InRange (indexBelow count) t → copyOf to t ≡ exprBytes (onChild records t)
 unfolding onChild
 children-copied to h {records} entries t range = table-copies (h records entries) t range
-
-pub own-copied : {count : ℕ} {to : List ℕ} → Table (λ j. j) count to → (t : Expr) → InRange (indexBelow count) t → copyOf to t ≡ exprBytes t
-own-copied h t range = table-copies h t range ∙ ap exprBytes (map-same t)

@@ -9,8 +9,8 @@ use Rattle.definitions.specs.Decode.{indexBelow}
 use Rattle.definitions.specs.Match.{mapColumns, mapColumnsAll}
 use Rattle.expression.specs.Places.{Holds}
 use Rattle.expression.specs.Nodes.{Stands, Row}
-use Rattle.plan_writer.specs.Written.{Wrote, WroteAt}
-use Rattle.plan_writer.specs.declared.copies.Copied.{Copied}
+use Rattle.writing.specs.Written.{Wrote}
+use Rattle.plan_writer.specs.declared.arguments.Copied.{Copied}
 
 -- The bytes of an expression whose columns have the indexes that a table gives them; of several.
 abbrev pub copyOf : (to : List ℕ) → Expr → List ℕ
@@ -38,25 +38,17 @@ pub record CopiesFit (s : List ℕ) (at n : ℕ) (to out : List ℕ) : Type 0 wh
   pub row : Row (indexBelow (length to)) s at n trees
   pub room : length (copiesOf to trees) ≤ length out
 
--- The same of a copy that begins at w.
-pub record CopyFitsAt (s : List ℕ) (at : ℕ) (to : List ℕ) (w : ℕ) (out : List ℕ) : Type 0 where
-  pub tree : Expr
-  pub stands : Stands (indexBelow (length to)) s at tree
-  pub room : w + length (copyOf to tree) ≤ length out
-
 -- `size` bytes were read at a place and x was written.
 pub record CopyIs (at size : ℕ) (x before after : List ℕ) (r : Copied) : Type 0 where
   pub read : r .read ≡ at + size
   pub wrote : r .wrote ≡ length x
   pub out : Wrote x before after
 
--- What was copied of the expression at a place, of n expressions in a row, and from w on.
+-- What was copied of the expression at a place, and of n expressions in a row.
 abbrev pub NodeCopied : (s : List ℕ) (at : ℕ) (to before after : List ℕ) → Copied → Type 0
-NodeCopied s at to before after r = (t : Expr) → Stands (indexBelow (length to)) s at t → CopyIs at (length (exprBytes t)) (copyOf to t) before after r
+NodeCopied s at to before after r =
+    (t : Expr) → Stands (indexBelow (length to)) s at t → CopyIs at (length (exprBytes t)) (copyOf to t) before after r
 
 abbrev pub RowCopied : (s : List ℕ) (at n : ℕ) (to before after : List ℕ) → Copied → Type 0
 RowCopied s at n to before after r =
     (ts : Exprs) → Row (indexBelow (length to)) s at n ts → CopyIs at (length (exprsBytes ts)) (copiesOf to ts) before after r
-
-abbrev pub CopiedAt : (s : List ℕ) (at : ℕ) (to : List ℕ) (w : ℕ) (before after : List ℕ) → ℕ → Type 0
-CopiedAt s at to w before after r = (t : Expr) → Stands (indexBelow (length to)) s at t → WroteAt w (copyOf to t) before after r

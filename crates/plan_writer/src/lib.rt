@@ -1,9 +1,5 @@
-// Writing an extraction into lent buffers: its predicate, the arguments, the remainder.
-pub mod copies;
-pub mod cuts;
-pub mod numbers;
-pub mod predicates;
-pub mod records;
-pub mod references;
-pub mod remainder;
-pub mod tables;
+// Writing the parts of plans into lent buffers: arguments, predicates, the head of a frame.
+pub mod arguments;
+pub mod column_tables;
+pub mod frame_heads;
+pub mod put_predicate;

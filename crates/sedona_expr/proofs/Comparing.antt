@@ -47,7 +47,8 @@ module _ (l r : Expr) (operator : ℕ) where
 -- The sides of two expressions in a row.
 module _ {c : Columns} {s : List ℕ} {left : ℕ} {l r : Expr} (row : Row c s left 2 (cons l (cons r nil))) (right : ℕ)
     (ends : OfTree s left (λ t. right ≡ left + length (exprBytes t))) (operator : ℕ) {answer : Compared} where
-  pub sides-found : {measured bound : ℕ} → answer ≡ Sides measured bound → ComparisonIs operator left right answer → BothSides c s measured bound (comparison operator l r)
+  pub sides-found : {measured bound : ℕ} → answer ≡ Sides measured bound → ComparisonIs operator left right answer
+      → BothSides c s measured bound (comparison operator l r)
   sides-found e is = rw e at (is c s l r (first-stands row) (pair-right row right ends))
 
   pub sides-missing : answer ≡ Nothing → ComparisonIs operator left right answer → comparison operator l r ≡ noComparison
@@ -55,7 +56,8 @@ module _ {c : Columns} {s : List ℕ} {left : ℕ} {l r : Expr} (row : Row c s l
 
 -- So there is something to measure.
 pub measured-there : {s : List ℕ} {left : ℕ} (pair : Pair s left) (right : ℕ) → OfTree s left (λ t. right ≡ left + length (exprBytes t))
-    → (operator : ℕ) {answer : Compared} {measured bound : ℕ} → answer ≡ Sides measured bound → ComparisonIs operator left right answer → Tree s measured
+    → (operator : ℕ) {answer : Compared} {measured bound : ℕ} → answer ≡ Sides measured bound → ComparisonIs operator left right answer
+    → Tree s measured
 measured-there pair right ends operator e is =
     let sides = sides-found (pair .3) right ends operator e is in
     (pair .0, sides .m, sides .standsMeasured)

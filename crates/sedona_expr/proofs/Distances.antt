@@ -154,7 +154,8 @@ module _ {c : Columns} {s : List ℕ} {at : ℕ} {t : Expr} where
   unfolding request isDistance
   and-asks b = rw (b .is)
 
-  pub binary-asks : {operator first : ℕ} (b : Both (binary operator) c s at first t) → request t ≡ comparisonRequest operator (comparison operator (b .l) (b .r))
+  pub binary-asks : {operator first : ℕ} (b : Both (binary operator) c s at first t)
+      → request t ≡ comparisonRequest operator (comparison operator (b .l) (b .r))
   unfolding request
   binary-asks b = ap request (b .is)
 

@@ -34,7 +34,8 @@ ComparedIs c s compared.Nothing q = q ≡ definitions.noComparison
 -- Whatever stands on the left and on the right, these are its sides.
 abbrev pub ComparisonIs : (operator left right : ℕ) → Compared → Type 0
 ComparisonIs operator left right answer =
-    (c : Columns) (s : List ℕ) (l r : Expr) → Stands c s left l → Stands c s right r → ComparedIs c s answer (definitions.comparison operator l r)
+    (c : Columns) (s : List ℕ) (l r : Expr) → Stands c s left l → Stands c s right r
+    → ComparedIs c s answer (definitions.comparison operator l r)
 
 -- ---- the arguments of `st_distance`
 

@@ -63,7 +63,8 @@ pub fn distance_arguments(s: &[u8], at: usize) -> DistanceCall
 // A comparison takes the first two arguments of `st_distance`.
 fn parse_comparison(s: &[u8], operator: u8, left: usize) -> Parsed
     requires { ⌜ Pair (now s) left ⌝ }
-    ensures { λ p. ⌜ OfPair (now (s .entry)) left (λ c l r. ParsedIs c (now (s .entry)) p (comparisonRequest operator (definitions.comparison operator l r))) ⌝ }
+    ensures { λ p. ⌜ OfPair (now (s .entry)) left
+        (λ c l r. ParsedIs c (now (s .entry)) p (comparisonRequest operator (definitions.comparison operator l r))) ⌝ }
 {
     let right = end_node(s, left);
     let Compared::Sides(measured, bound) = comparison(operator, left, right) else {

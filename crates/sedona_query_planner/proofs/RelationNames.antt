@@ -42,7 +42,8 @@ module _ (name : List ℕ) (type : Relation) (names : List (List ℕ)) (types : 
   unfolding any position
   one-of [] = e
   one-of (text ∷ texts) = either (sameName name (ascii text)) (any (λ text. sameName name (ascii text)) texts) (some type) later
-      ∙ first-or-later (sameName name (ascii text)) (some type) (map (λ text. some type) texts ++ types) (position name (map ascii texts ++ names)) none _
+      ∙ first-or-later (sameName name (ascii text)) (some type) (map (λ text. some type) texts ++ types)
+      (position name (map ascii texts ++ names)) none _
       (one-of texts)
 
 type-at : (name : List ℕ) (rows : List Named) → typeNamed rows name ≡ getD (typesIn rows) (position name (namesIn rows)) none
@@ -63,7 +64,8 @@ relation-at name = type-at name relations
 -- ---- names of other lengths
 
 -- All names have a length that passes a test, and this one has not: it is none of them.
-position-past : (test : ℕ → Bool) (name : List ℕ) → test (length name) ≡ false → (names : List (List ℕ)) → all (λ x. test (length x)) names ≡ true
+position-past : (test : ℕ → Bool) (name : List ℕ) → test (length name) ≡ false → (names : List (List ℕ))
+    → all (λ x. test (length x)) names ≡ true
     → position name names ≡ length names
 unfolding position all
 position-past test name out [] e = refl
@@ -90,7 +92,8 @@ pub long-name : (name : List ℕ) → 13 < length name → none ≡ relationName
 long-name name h = unusual name (rw (lt-leb (length name) 13 h) (and-false (leb 9 (length name))))
 
 -- Where two neighbours are the same, so is what stands at either.
-pub neighbours : {A : Type 0} (xs : List A) (other : A) (k i : ℕ) → getD xs (suc k) other ≡ getD xs k other → k ≤ i → i < k + 2 → getD xs i other ≡ getD xs k other
+pub neighbours : {A : Type 0} (xs : List A) (other : A) (k i : ℕ) → getD xs (suc k) other ≡ getD xs k other → k ≤ i → i < k + 2
+    → getD xs i other ≡ getD xs k other
 neighbours xs other k i e low high = at (eqb i k) refl
   where
     at : (t : Bool) → eqb i k ≡ t → getD xs i other ≡ getD xs k other

@@ -1,4 +1,3 @@
 -- What the contracts cite, in the order to read them.
 pub mod Relations
-pub mod Arities
-pub mod Logicals
+pub mod Predicates

@@ -3,12 +3,58 @@ ghost use mathlib.Core.Path.{_≡_};
 ghost use Prim.Native.Nat.{_≤_};
 ghost use lib.ListN.{length};
 ghost use Rattle.definitions.specs.Encode.{relationNumber};
+ghost use Rattle.definitions.specs.Decode.{relationNumbered};
 ghost use Rattle.definitions.specs.Leaves.{relationNamed};
 ghost use Rattle.definitions.specs.Match as definitions;
 ghost use Rattle.expression.specs.Places.{part};
 ghost use Rattle.sedona_query_planner.specs.Relations.{relationOf, namedRelation};
+ghost use Rattle.sedona_query_planner.specs.Predicates.{flag, tiesNumber, tiesNumbered, unchanged, RelationAt, DistanceAt, KnnAt, PredicateAt, Exchanges};
 use expression::names::Case;
 use expression::names::name_index;
+use terms::sides::JoinSide;
+
+// A predicate of two geometries and what relates them; each argument stands from its start up to its end.
+pub enum SpatialPredicate {
+    Distance(DistancePredicate),
+    Relation(RelationPredicate),
+    KNearestNeighbors(KNNPredicate),
+}
+
+pub struct DistancePredicate {
+    pub left: usize,
+    pub left_end: usize,
+    pub right: usize,
+    pub right_end: usize,
+    pub distance: usize,
+    pub distance_end: usize,
+    pub distance_side: JoinSide,
+    pub form: u8,
+}
+
+pub struct RelationPredicate {
+    pub left: usize,
+    pub left_end: usize,
+    pub right: usize,
+    pub right_end: usize,
+    pub relation_type: SpatialRelationType,
+}
+
+// Whether objects as near as the k-th are found too; where it is absent, the session decides.
+pub enum TieBreakers {
+    Given(bool),
+    Absent,
+}
+
+pub struct KNNPredicate {
+    pub left: usize,
+    pub left_end: usize,
+    pub right: usize,
+    pub right_end: usize,
+    pub k: u32,
+    pub use_spheroid: bool,
+    pub probe_side: JoinSide,
+    pub include_tie_breakers: TieBreakers,
+}
 
 pub enum SpatialRelationType {
     Intersects,
@@ -91,5 +137,125 @@ pub fn relation_number(relation: SpatialRelationType) -> u8
         SpatialRelationType::Crosses => 6,
         SpatialRelationType::Overlaps => 7,
         SpatialRelationType::Equals => 8,
+    }
+}
+
+// The relation type of a number, 0 to 8.
+pub fn relation_numbered(number: u64) -> SpatialRelationType
+    ensures { λ r. ⌜ relationOf r ≡ relationNumbered number ⌝ }
+{
+    match number {
+        0 => SpatialRelationType::Intersects,
+        1 => SpatialRelationType::Contains,
+        2 => SpatialRelationType::Within,
+        3 => SpatialRelationType::Covers,
+        4 => SpatialRelationType::CoveredBy,
+        5 => SpatialRelationType::Touches,
+        6 => SpatialRelationType::Crosses,
+        7 => SpatialRelationType::Overlaps,
+        _ => SpatialRelationType::Equals,
+    }
+}
+
+// Document 01's number of a flag.
+pub fn flag_number(value: bool) -> u8
+    ensures { λ r. ⌜ r ≡ flag value ⌝ }
+{
+    if value { 1 } else { 0 }
+}
+
+// Document 01's number of ties.
+pub fn ties_number(ties: TieBreakers) -> u8
+    ensures { λ r. ⌜ r ≡ tiesNumber ties ⌝ }
+{
+    match ties {
+        TieBreakers::Given(value) => flag_number(value),
+        TieBreakers::Absent => 2,
+    }
+}
+
+// The ties of a number; 2 is absent.
+pub fn ties_numbered(number: u64) -> TieBreakers
+    ensures { λ r. ⌜ tiesNumber r ≡ tiesNumbered number ⌝ }
+{
+    match number {
+        0 => TieBreakers::Given(false),
+        1 => TieBreakers::Given(true),
+        _ => TieBreakers::Absent,
+    }
+}
+
+impl RelationPredicate {
+    pub fn swap_for_swapped_children(self) -> Self
+        ensures { λ r. ⌜ Exchanges (λ s. RelationAt unchanged s self) (λ s. RelationAt unchanged s r) ⌝ }
+    {
+        let relation = self.relation_type;
+        let inverse = relation.invert();
+        RelationPredicate {
+            left: self.right,
+            left_end: self.right_end,
+            right: self.left,
+            right_end: self.left_end,
+            relation_type: inverse,
+        }
+    }
+}
+
+impl DistancePredicate {
+    pub fn swap_for_swapped_children(self) -> Self
+        ensures { λ r. ⌜ Exchanges (λ s. DistanceAt unchanged s self) (λ s. DistanceAt unchanged s r) ⌝ }
+    {
+        let side = self.distance_side;
+        let other = side.negate();
+        DistancePredicate {
+            left: self.right,
+            left_end: self.right_end,
+            right: self.left,
+            right_end: self.left_end,
+            distance: self.distance,
+            distance_end: self.distance_end,
+            distance_side: other,
+            form: self.form,
+        }
+    }
+}
+
+impl KNNPredicate {
+    // Query and object stay; only which child is probed changes.
+    pub fn swap_for_swapped_children(self) -> Self
+        ensures { λ r. ⌜ Exchanges (λ s. KnnAt unchanged s self) (λ s. KnnAt unchanged s r) ⌝ }
+    {
+        let probe = self.probe_side;
+        let other = probe.negate();
+        let ties = self.include_tie_breakers;
+        KNNPredicate {
+            left: self.left,
+            left_end: self.left_end,
+            right: self.right,
+            right_end: self.right_end,
+            k: self.k,
+            use_spheroid: self.use_spheroid,
+            probe_side: other,
+            include_tie_breakers: ties,
+        }
+    }
+}
+
+impl SpatialPredicate {
+    // The predicate over exchanged children, from the same bytes.
+    pub fn swap_for_swapped_children(self) -> Self
+        ensures { λ r. ⌜ Exchanges (λ s. PredicateAt unchanged s self) (λ s. PredicateAt unchanged s r) ⌝ }
+    {
+        match self {
+            SpatialPredicate::Relation(p) => {
+                SpatialPredicate::Relation(p.swap_for_swapped_children())
+            }
+            SpatialPredicate::Distance(p) => {
+                SpatialPredicate::Distance(p.swap_for_swapped_children())
+            }
+            SpatialPredicate::KNearestNeighbors(p) => {
+                SpatialPredicate::KNearestNeighbors(p.swap_for_swapped_children())
+            }
+        }
     }
 }

@@ -20,10 +20,11 @@ use Rattle.expression.specs.Leaves.{Both, NodeIs}
 use Rattle.expression.specs.declared.leaves.Node.{Node}
 use Rattle.expression.specs.declared.leaves.Node.the-variants as node
 use Rattle.expression.proofs.Standing.{node-some, first-stands, rest-stands}
-use Rattle.spatial_expr_utils.specs.Frames.{Over, Framed, OfFrame}
-use Rattle.spatial_expr_utils.specs.Matches.{Lacks, Matches}
-use Rattle.spatial_expr_utils.specs.Picks.{wants, matches, CutAt, here, inLeft, inRight, FirstIs, NothingIs, FoundIs, TakenIs}
-use Rattle.spatial_expr_utils.specs.declared.predicates.SpatialPredicate.{SpatialPredicate}
+use Rattle.argument_sides.specs.Frames.{Over, Framed, OfFrame}
+use Rattle.leaf_matching.specs.Matches.{Lacks, Matches}
+use Rattle.spatial_expr_utils.specs.Picks.{wants, matches, FirstIs, NothingIs, FoundIs, TakenIs}
+use Rattle.expression.specs.Cuts.{CutAt, here, inLeft, inRight}
+use Rattle.sedona_query_planner.specs.declared.spatial_predicate.SpatialPredicate.{SpatialPredicate}
 use Rattle.spatial_expr_utils.specs.declared.pick.Wanted.{Wanted}
 use Rattle.spatial_expr_utils.specs.declared.pick.Pick.{Pick}
 use Rattle.spatial_expr_utils.specs.declared.pick.Found.{Found}
@@ -46,8 +47,11 @@ module _ (test : Predicate → Bool) (records : List Record) (l r : Expr) where
   and-first : firstMatch test (matches records (and l r))
       ≡ firstOf (firstMatch test (matches records l)) (moved (length (leaves l)) (firstMatch test (matches records r)))
   unfolding leaves
-  and-first = ap (firstMatch test) (map-append (matchLeaf records) (leaves l) (leaves r)) ∙ first-append test (matches records l) (matches records r)
-      ∙ ap (λ (n : ℕ). firstOf (firstMatch test (matches records l)) (moved n (firstMatch test (matches records r)))) (length-map (leaves l) (matchLeaf records))
+  and-first =
+      ap (firstMatch test) (map-append (matchLeaf records) (leaves l) (leaves r))
+      ∙ first-append test (matches records l) (matches records r)
+      ∙ ap (λ (n : ℕ). firstOf (firstMatch test (matches records l)) (moved n (firstMatch test (matches records r))))
+      (length-map (leaves l) (matchLeaf records))
 
   and-left : {p : definition.Pick} → firstMatch test (matches records l) ≡ some p → firstMatch test (matches records (and l r)) ≡ some p
   unfolding firstOf
@@ -63,14 +67,18 @@ module _ (test : Predicate → Bool) (records : List Record) (l r : Expr) where
 one-match : (records : List Record) (t : Expr) → leaves t ≡ t ∷ [] → matches records t ≡ matchLeaf records t ∷ []
 one-match records t single = ap (map (matchLeaf records)) single
 
-module _ (wanted : Wanted) {s : List ℕ} {rec at : ℕ} {records : List Record} {t : Expr} (over : Over s rec at records t) (single : leaves t ≡ t ∷ []) where
+module _ (wanted : Wanted) {s : List ℕ} {rec at : ℕ} {records : List Record} {t : Expr} (over : Over s rec at records t)
+    (single : leaves t ≡ t ∷ []) where
   pub leaf-matched : {before up : ℕ} (p : SpatialPredicate) (end : ℕ)
       → Matches (wants wanted) s rec records p (matchLeaf records t) × (end ≡ at + length (exprBytes t))
-      → FirstIs wanted s rec at before up (record { predicate = p; position = before; leaf = at; «leaf_end» = end; parent = up }) records t
+      → FirstIs wanted s rec at before up
+      (record { predicate = p; position = before; cut = record { leaf = at; end = end; parent = up } }) records t
   leaf-matched {before} p end m = record {
     i = 0;
     q = m .0 .q;
-    first = ap (firstMatch (wants wanted)) (one-match records t single) ∙ first-match (wants wanted) (matchLeaf records t) (m .0 .q) (m .0 .is) (m .0 .passes);
+    first =
+        ap (firstMatch (wants wanted)) (one-match records t single)
+        ∙ first-match (wants wanted) (matchLeaf records t) (m .0 .q) (m .0 .is) (m .0 .passes);
     counted = omega arith;
     stands = m .0 .stands;
     cut = here single refl (m .1) refl;
@@ -95,7 +103,8 @@ pub record Children (s : List ℕ) (rec at left : ℕ) (records : List Record) (
   pub first : Over s rec left records l
   pub second : (p : ℕ) → p ≡ left + length (exprBytes l) → Over s rec p records r
 
-module _ {s : List ℕ} {rec at left : ℕ} {found : Node} (is : OfTreeIn s at (λ c t. NodeIs c s at found t)) (told : found ≡ node.And left) where
+module _ {s : List ℕ} {rec at left : ℕ} {found : Node} (is : OfTreeIn s at (λ c t. NodeIs c s at found t))
+    (told : found ≡ node.And left) where
   pub its-children : {records : List Record} {t : Expr} → Over s rec at records t → Children s rec at left records t
   unfolding headBytes
   its-children {records} {t} over =
@@ -127,7 +136,7 @@ module _ {s : List ℕ} {rec at left : ℕ} {found : Node} (is : OfTreeIn s at (
           first = and-left (wants wanted) records (c .l) (c .r) (f .first);
           counted = f .counted;
           stands = f .stands;
-          cut = inLeft (subst (λ (a : ℕ). CutAt p at (c .l) a (f .i)) (c .begins) (f .cut));
+          cut = inLeft (subst (λ (a : ℕ). CutAt (p .cut) at (c .l) a (f .i)) (c .begins) (f .cut));
         })
 
     module _ {right count : ℕ} (inner : OfFrame s rec left (NothingIs wanted left before right count)) where
@@ -154,7 +163,7 @@ module _ {s : List ℕ} {rec at left : ℕ} {found : Node} (is : OfTreeIn s at (
             first = and-right (wants wanted) records (c .l) (c .r) (n .first) ∙ ap (moved (length (leaves (c .l)))) (f .first);
             counted = omega (arith, f .counted, n .counted);
             stands = f .stands;
-            cut = inRight (subst (λ (a : ℕ). CutAt p at (c .r) a (f .i)) place (f .cut));
+            cut = inRight (subst (λ (a : ℕ). CutAt (p .cut) at (c .r) a (f .i)) place (f .cut));
           })
       match-right up (Nothing next many) outer records t over =
           let c : Children s rec at left records t = its-children over in
@@ -171,7 +180,8 @@ pub record Along (wanted : Wanted) (s : List ℕ) (rec at before up next count p
   pub there : Framed s rec next
   pub low : at ≤ next
   pub few : count ≤ next
-  pub rest : (r : Found) → OfFrame s rec next (FoundIs wanted s rec next count parent r) → OfFrame s rec at (FoundIs wanted s rec at before up r)
+  pub rest : (r : Found) → OfFrame s rec next (FoundIs wanted s rec next count parent r)
+      → OfFrame s rec at (FoundIs wanted s rec at before up r)
 
 module _ {wanted : Wanted} {s : List ℕ} {rec at before up : ℕ} where
   pub along-begins : Framed s rec at → before ≤ at → Along wanted s rec at before up at before up
@@ -181,10 +191,13 @@ module _ {wanted : Wanted} {s : List ℕ} {rec at before up : ℕ} where
       (is : OfTreeIn s next (λ c t. NodeIs c s next found t)) (told : found ≡ node.And left) where
     pub left-there : {m : ℕ} → length s - at ≡ m → (length s - left < m) × (Framed s rec left × (count ≤ left))
     left-there whole =
-        let after = left-after is told (inv .there) in
-        (omega (arith, whole, after, inv .low, node-some (inv .there .2 .tree)), (left-framed is told (inv .there), omega (arith, after, inv .few)))
+        let after = left-after is told (inv .there) in (
+          omega (arith, whole, after, inv .low, node-some (inv .there .2 .tree)),
+          (left-framed is told (inv .there), omega (arith, after, inv .few)),
+        )
 
-    pub along-left : {p : Pick} → OfFrame s rec left (FirstIs wanted s rec left count next p) → OfFrame s rec at (FirstIs wanted s rec at before up p)
+    pub along-left : {p : Pick} → OfFrame s rec left (FirstIs wanted s rec left count next p)
+        → OfFrame s rec at (FirstIs wanted s rec at before up p)
     along-left {p} inner = inv .rest (Leaf p) (match-left is told inner)
 
     module _ {right counted : ℕ} (inner : OfFrame s rec left (NothingIs wanted left count right counted)) where
@@ -205,7 +218,8 @@ module _ {wanted : Wanted} {s : List ℕ} {rec at before up : ℕ} where
 -- ---- two passes
 
 -- The first match of a pass is the pick.
-pub taken-is : {s : List ℕ} {rec at : ℕ} {wanted : Wanted} {p : Pick} {records : List Record} {t : Expr} → FirstIs wanted s rec at 0 at p records t
+pub taken-is : {s : List ℕ} {rec at : ℕ} {wanted : Wanted} {p : Pick} {records : List Record} {t : Expr}
+    → FirstIs wanted s rec at 0 at p records t
     → definition.pick (matches records t) ≡ firstMatch (wants wanted) (matches records t) → TakenIs s rec at p records t
 unfolding matchesOf
 taken-is {s} {rec} {at} {wanted} {p} {records} {t} f e =
@@ -214,5 +228,5 @@ taken-is {s} {rec} {at} {wanted} {p} {records} {t} f e =
       q = f .q;
       is = e ∙ f .first ∙ ap (λ (i : ℕ). at-position i (f .q)) (sym same);
       stands = f .stands;
-      cut = subst⁻¹ (CutAt p at t at) same (f .cut);
+      cut = subst⁻¹ (CutAt (p .cut) at t at) same (f .cut);
     }

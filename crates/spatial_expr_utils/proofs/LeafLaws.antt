@@ -16,20 +16,22 @@ use Rattle.expression.specs.declared.leaves.Called.{Called}
 use Rattle.expression.specs.declared.leaves.Node.{Node}
 use Rattle.expression.specs.declared.leaves.Node.the-variants.{Call}
 use Rattle.expression.proofs.Parts.{row-ends}
-use Rattle.spatial_expr_utils.specs.Frames.{Over, Framed, CallOver, CallFramed, OfCallFrame}
-use Rattle.spatial_expr_utils.specs.Matches.{isRelation, isDistance, Lacks, MatchingIs, LeafMatching, CallMatching}
+use Rattle.argument_sides.specs.Frames.{Over, Framed, CallOver, CallFramed, OfCallFrame}
+use Rattle.leaf_matching.specs.Matches.{isRelation, isDistance, Lacks, MatchingIs, LeafMatching, CallMatching}
 use Rattle.spatial_expr_utils.specs.Picks.{isOther}
-use Rattle.spatial_expr_utils.specs.declared.predicates.SpatialPredicate.{SpatialPredicate}
-use Rattle.spatial_expr_utils.specs.declared.predicates.Matching.{Matching}
-use Rattle.spatial_expr_utils.specs.declared.predicates.Matching.the-variants.{Matched, Unmatched, NotAsked}
+use Rattle.sedona_query_planner.specs.declared.spatial_predicate.SpatialPredicate.{SpatialPredicate}
+use Rattle.leaf_matching.specs.declared.matching.Matching.{Matching}
+use Rattle.leaf_matching.specs.declared.matching.Matching.the-variants.{Matched, Unmatched, NotAsked}
 
 -- ---- a leaf that is a function
 
-module _ {s : List ℕ} {rec at : ℕ} {node : Node} (is : OfTreeIn s at (λ c t. NodeIs c s at node t)) {k : Called} (told : node ≡ Call k) where
+module _ {s : List ℕ} {rec at : ℕ} {node : Node} (is : OfTreeIn s at (λ c t. NodeIs c s at node t)) {k : Called}
+    (told : node ≡ Call k) where
   its-call : {records : List Record} {t : Expr} → Over s rec at records t → CallIs (indexBelow (length records)) s at k t
   its-call {records} {t} over = rw told at (is (indexBelow (length records)) t (over .tree))
 
-  call-over : {records : List Record} {t : Expr} → (over : Over s rec at records t) → CallOver s rec k records (its-call over .name) (its-call over .arguments)
+  call-over : {records : List Record} {t : Expr} → (over : Over s rec at records t)
+      → CallOver s rec k records (its-call over .name) (its-call over .arguments)
   call-over over = record { entries = over .entries; stands = its-call over .stands }
 
   pub call-framed : Framed s rec at → CallFramed s rec k
@@ -43,7 +45,8 @@ module _ {s : List ℕ} {rec at : ℕ} {node : Node} (is : OfTreeIn s at (λ c t
       let ending : k .first + length (exprsBytes (it .arguments)) ≡ at + length (exprBytes t) = row-ends t at (k .first) _ (it .begins)
       (ap (λ (t : Expr). k .first + length (exprsBytes (childrenOf t))) (sym (it .is))) in
       subst (λ (e : ℕ). MatchingIs kind s rec records (matchLeaf records t) e r) ending
-      (subst (λ (t : Expr). MatchingIs kind s rec records (matchLeaf records t) (k .first + length (exprsBytes (it .arguments))) r) (sym (it .is))
+      (subst (λ (t : Expr). MatchingIs kind s rec records (matchLeaf records t) (k .first + length (exprsBytes (it .arguments))) r)
+      (sym (it .is))
       (answer records (it .name) (it .arguments) (call-over over)))
 
 -- ---- kinds that are not KNN
@@ -78,6 +81,7 @@ module _ {s : List ℕ} {rec at : ℕ} {records : List Record} {t : Expr} (over 
   -- A leaf that is no relation is of a kind that is not KNN if it is a distance.
   pub distance-matching : (r : Matching) → Lacks isRelation (matchLeaf records t) → LeafMatching isDistance s rec at r records t
       → LeafMatching isOther s rec at r records t
-  distance-matching (Matched p end) e m = (record { q = m .0 .q; is = m .0 .is; passes = distance-other _ (m .0 .passes); stands = m .0 .stands }, m .1)
+  distance-matching (Matched p end) e m =
+      (record { q = m .0 .q; is = m .0 .is; passes = distance-other _ (m .0 .passes); stands = m .0 .stands }, m .1)
   distance-matching (Unmatched end) e m = m
   distance-matching NotAsked e m = lacks-other (matchLeaf records t) e m

@@ -15,12 +15,13 @@ use Rattle.expression.specs.Leaves.{NodeIs, PlainNode, plainColumn, plainLitera
 use Rattle.expression.specs.declared.leaves.Node.{Node}
 use Rattle.expression.specs.declared.leaves.Node.the-variants.{And, Binary, Call, Plain}
 use Rattle.expression.proofs.leaves.Node.{the-type}
-use Rattle.sedona_query_planner.proofs.AndLeaves.{plain-leaf}
-use Rattle.spatial_expr_utils.specs.Matches.{isRelation, Lacks}
-use Rattle.spatial_expr_utils.proofs.Asked.{requestKind, Only, comparison-only, only-distance}
+use Rattle.expression.proofs.AndLeaves.{plain-leaf}
+use Rattle.leaf_matching.specs.Matches.{isRelation, Lacks}
+use Rattle.leaf_matching.proofs.Asked.{requestKind, Only, comparison-only, only-distance}
 
 -- Any node but And is an AND-leaf.
-leaf-node : (c : Columns) (s : List ℕ) (at : ℕ) (t : Expr) (node : Node) → OneOf (1 ∷ 2 ∷ 3 ∷ []) (tagOf the-type node) → NodeIs c s at node t → leaves t ≡ t ∷ []
+leaf-node : (c : Columns) (s : List ℕ) (at : ℕ) (t : Expr) (node : Node) → OneOf (1 ∷ 2 ∷ 3 ∷ []) (tagOf the-type node)
+    → NodeIs c s at node t → leaves t ≡ t ∷ []
 unfolding leaves
 leaf-node c s at t (And first) tag is = absurd (miss (1 ∷ 2 ∷ 3 ∷ []) 0 tt tag)
 leaf-node c s at t (Binary operator first) tag is = subst⁻¹ (λ (t : Expr). leaves t ≡ t ∷ []) (is .is) refl
@@ -35,14 +36,17 @@ plain-only plainLiteral = inr refl
 plain-only plainOther = inr refl
 plain-only plainField = inr refl
 
-node-only : (c : Columns) (s : List ℕ) (at : ℕ) (t : Expr) (node : Node) → OneOf (0 ∷ 1 ∷ 3 ∷ []) (tagOf the-type node) → NodeIs c s at node t → Only 2 (request t)
+node-only : (c : Columns) (s : List ℕ) (at : ℕ) (t : Expr) (node : Node) → OneOf (0 ∷ 1 ∷ 3 ∷ []) (tagOf the-type node)
+    → NodeIs c s at node t → Only 2 (request t)
 unfolding requestKind request
 node-only c s at t (And first) tag is = subst⁻¹ (λ (t : Expr). Only 2 (request t)) (is .is) (inr refl)
-node-only c s at t (Binary operator first) tag is = subst⁻¹ (λ (t : Expr). Only 2 (request t)) (is .is) (comparison-only operator (comparison operator _ _))
+node-only c s at t (Binary operator first) tag is =
+    subst⁻¹ (λ (t : Expr). Only 2 (request t)) (is .is) (comparison-only operator (comparison operator _ _))
 node-only c s at t (Call k) tag is = absurd (miss (0 ∷ 1 ∷ 3 ∷ []) 2 tt tag)
 node-only c s at t (Plain head) tag is = plain-only (is .0)
 
-module _ {c : Columns} {s : List ℕ} {at : ℕ} {t : Expr} (node : Node) (is : OfTreeIn s at (λ c t. NodeIs c s at node t)) (stands : Stands c s at t) where
+module _ {c : Columns} {s : List ℕ} {at : ℕ} {t : Expr} (node : Node) (is : OfTreeIn s at (λ c t. NodeIs c s at node t))
+    (stands : Stands c s at t) where
   pub single-leaf : OneOf (1 ∷ 2 ∷ 3 ∷ []) (tagOf the-type node) → leaves t ≡ t ∷ []
   single-leaf tag = leaf-node c s at t node tag (is c t stands)
 

@@ -9,7 +9,7 @@ use lib.ListN.{length}
 use Rattle.definitions.specs.Basics.{if_then_else_}
 use Rattle.definitions.specs.Expression.{Predicate}
 use Rattle.definitions.specs.Extract.{Pick, isKnn, later, firstMatch, firstOf, pick}
-use Rattle.spatial_expr_utils.specs.Matches.{Lacks}
+use Rattle.leaf_matching.specs.Matches.{Lacks}
 use Rattle.spatial_expr_utils.specs.Picks.{isOther}
 
 abbrev pub at-position : ℕ → Predicate → Option Pick
@@ -38,7 +38,8 @@ module _ (test : Predicate → Bool) where
   by-one false p x y q e = e
 
   -- The first match of two lists is that of the first, else that of the second.
-  pub first-append : (xs ys : List (Option Predicate)) → firstMatch test (xs ++ ys) ≡ firstOf (firstMatch test xs) (moved (length xs) (firstMatch test ys))
+  pub first-append : (xs ys : List (Option Predicate))
+      → firstMatch test (xs ++ ys) ≡ firstOf (firstMatch test xs) (moved (length xs) (firstMatch test ys))
   unfolding firstMatch firstOf
   first-append [] ys = moved-zero (firstMatch test ys)
   first-append (none ∷ xs) ys = ap later (first-append xs ys) ∙ later-moved (length xs) (firstMatch test xs) (firstMatch test ys)

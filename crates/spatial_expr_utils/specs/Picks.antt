@@ -2,17 +2,17 @@
 use Prim.Native.Nat.{ℕ, _+_}
 use mathlib.Core.Path.{_≡_}
 use mathlib.Core.Bool.{Bool, not}
-use mathlib.Core.List.{List, [], _∷_, map}
+use mathlib.Core.List.{List, map}
 use mathlib.Core.Option.{Option, none, some}
 use lib.ListN.{length}
-use Rattle.definitions.specs.Expression.{Expr, and, Record, Predicate}
+use Rattle.definitions.specs.Expression.{Expr, Record, Predicate}
 use Rattle.definitions.specs.Encode.{exprBytes}
 use Rattle.definitions.specs.Leaves.{leaves}
 use Rattle.definitions.specs.Match.{matchLeaf}
 use Rattle.definitions.specs.Extract as definition
 use Rattle.definitions.specs.Extract.{isKnn, firstMatch, matchesOf}
-use Rattle.expression.specs.Nodes.{leftOf, rightOf}
-use Rattle.spatial_expr_utils.specs.Matches.{PredicateIs}
+use Rattle.expression.specs.Cuts.{CutAt}
+use Rattle.sedona_query_planner.specs.Predicates.{onChildren, PredicateAt}
 use Rattle.spatial_expr_utils.specs.declared.pick.Wanted.{Wanted}
 use Rattle.spatial_expr_utils.specs.declared.pick.Wanted.the-variants.{Knn, Other}
 use Rattle.spatial_expr_utils.specs.declared.pick.Pick.{Pick}
@@ -34,14 +34,6 @@ wants Other = isOther
 abbrev pub matches : List Record → Expr → List (Option Predicate)
 matches records t = map (matchLeaf records) (leaves t)
 
--- ---- where a leaf stands
-
--- The AND-leaf at a position, from 0, of the expression at a place is the one that the pick says; `up` is the place of the And above.
-pub data CutAt (p : Pick) : (up : ℕ) → Expr → (at position : ℕ) → Type 0 where
-  here : {up : ℕ} {t : Expr} {at : ℕ} → leaves t ≡ t ∷ [] → p .leaf ≡ at → p .«leaf_end» ≡ at + length (exprBytes t) → p .parent ≡ up → CutAt p up t at 0
-  inLeft : {up : ℕ} {l r : Expr} {at position : ℕ} → CutAt p at l (leftOf at) position → CutAt p up (and l r) at position
-  inRight : {up : ℕ} {l r : Expr} {at position : ℕ} → CutAt p at r (rightOf at l) position → CutAt p up (and l r) at (length (leaves l) + position)
-
 -- ---- the answers
 
 -- The first match that is wanted below a node, `before` AND-leaves being before it.
@@ -50,8 +42,8 @@ pub record FirstIs (wanted : Wanted) (s : List ℕ) (rec at before up : ℕ) (p 
   pub q : Predicate
   pub first : firstMatch (wants wanted) (matches records t) ≡ some (record { position = i; predicate = q })
   pub counted : p .position ≡ before + i
-  pub stands : PredicateIs s rec records (p .predicate) q
-  pub cut : CutAt p up t at i
+  pub stands : PredicateAt (onChildren records) s (p .predicate) q
+  pub cut : CutAt (p .cut) up t at i
 
 pub record NothingIs (wanted : Wanted) (at before next count : ℕ) (records : List Record) (t : Expr) : Type 0 where
   pub first : firstMatch (wants wanted) (matches records t) ≡ none
@@ -66,8 +58,8 @@ FoundIs wanted s rec at before up (found.Nothing next count) records t = Nothing
 pub record TakenIs (s : List ℕ) (rec at : ℕ) (p : Pick) (records : List Record) (t : Expr) : Type 0 where
   pub q : Predicate
   pub is : definition.pick (matchesOf (record { records = records; expr = t })) ≡ some (record { position = p .position; predicate = q })
-  pub stands : PredicateIs s rec records (p .predicate) q
-  pub cut : CutAt p at t at (p .position)
+  pub stands : PredicateAt (onChildren records) s (p .predicate) q
+  pub cut : CutAt (p .cut) at t at (p .position)
 
 abbrev pub PickedIs : (s : List ℕ) (rec at : ℕ) → Picked → (records : List Record) → Expr → Type 0
 PickedIs s rec at (picked.Leaf p) records t = TakenIs s rec at p records t

@@ -1,8 +1,3 @@
-// Which AND-leaf of a join filter is taken, and the spatial predicate that it is.
-pub mod distance;
-pub mod knn;
-pub mod literals;
+// Which AND-leaf of a join filter is taken: a port of `extract_spatial_predicate` of
+// rust/sedona-query-planner/src/spatial_expr_utils.rs.
 pub mod pick;
-pub mod predicates;
-pub mod relation;
-pub mod sides;

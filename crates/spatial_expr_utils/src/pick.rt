@@ -1,21 +1,24 @@
 // The AND-leaf that is taken: the first KNN match, else the first other match.
+// A port of `extract_spatial_predicate` and `extract_knn_predicate_prioritized` of
+// rust/sedona-query-planner/src/spatial_expr_utils.rs.
 ghost use Prim.Native.Nat.{_≤_};
 ghost use mathlib.Core.Path.{_≡_};
 ghost use mathlib.Core.List.{[], _∷_};
 ghost use Rattle.definitions.specs.Leaves.{leaves};
 ghost use Rattle.expression.specs.Nodes.{OfTreeIn};
 ghost use Rattle.expression.specs.Leaves.{NodeIs};
-ghost use Rattle.spatial_expr_utils.specs.Frames.{Framed, OfFrame};
-ghost use Rattle.spatial_expr_utils.specs.Matches.{LeafMatching};
+ghost use Rattle.argument_sides.specs.Frames.{Framed, OfFrame};
+ghost use Rattle.leaf_matching.specs.Matches.{LeafMatching};
 ghost use Rattle.spatial_expr_utils.specs.Picks.{isOther, wants, FoundIs, PickedIs};
-use super::distance::match_distance_predicate;
-use super::knn::match_knn_predicate;
-use super::predicates::Matching;
-use super::predicates::SpatialPredicate;
-use super::relation::match_relation_predicate;
+use expression::cuts::Cut;
 use expression::ends::end_node;
 use expression::leaves::Node;
 use expression::leaves::node_at;
+use leaf_matching::distance::match_distance_predicate;
+use leaf_matching::knn::match_knn_predicate;
+use leaf_matching::matching::Matching;
+use leaf_matching::relation::match_relation_predicate;
+use sedona_query_planner::spatial_predicate::SpatialPredicate;
 
 // Which matches a pass over the AND-leaves is for: KNN, or relations and distances.
 pub enum Wanted {
@@ -23,14 +26,12 @@ pub enum Wanted {
     Other,
 }
 
-// An AND-leaf that is taken: its predicate, its position among the AND-leaves, where it stands and ends, and where its parent And
-// stands; the root counts as its own parent.
+// An AND-leaf that is taken: its predicate, its position among the AND-leaves, and where it is cut out; the root counts as its
+// own parent.
 pub struct Pick {
     pub predicate: SpatialPredicate,
     pub position: usize,
-    pub leaf: usize,
-    pub leaf_end: usize,
-    pub parent: usize,
+    pub cut: Cut,
 }
 
 // What a pass found below a node; if nothing, where the node ends and how many AND-leaves there are up to its end.
@@ -93,13 +94,16 @@ fn leaf_match(
     ensures { λ r. ⌜ OfFrame (now (s .entry)) rec at (FoundIs wanted (now (s .entry)) rec at position parent r) ⌝ }
 {
     match match_wanted(s, rec, at, node, wanted) {
-        Matching::Matched(predicate, leaf_end) => {
+        Matching::Matched(predicate, end) => {
+            let cut = Cut {
+                leaf: at,
+                end,
+                parent,
+            };
             return Found::Leaf(Pick {
                 predicate,
                 position,
-                leaf: at,
-                leaf_end,
-                parent,
+                cut,
             });
         }
         Matching::Unmatched(end) => {
@@ -146,7 +150,7 @@ fn first_match(
 }
 
 // The first KNN match.
-pub fn extract_knn_predicate_prioritized(s: &[u8], rec: usize, at: usize) -> Found
+fn extract_knn_predicate_prioritized(s: &[u8], rec: usize, at: usize) -> Found
     requires { ⌜ Framed (now s) rec at ⌝ }
     ensures { λ r. ⌜ OfFrame (now (s .entry)) rec at (FoundIs Wanted.Knn (now (s .entry)) rec at 0 at r) ⌝ }
 {

@@ -24,7 +24,8 @@ module _ (frame before after : List ℕ) (r : Answer) (is : LoadIs frame before 
   pub load-hosted : (z : ℤ) → z ≡ hosted (answerOf r) → LoadHosted frame before after z
   load-hosted z e n = rw (e, ap (λ (o : LoadOutcome). o .answer) (is n), ap (λ (o : LoadOutcome). o .buffer) (is n)) (refl, refl)
 
-module _ (kind : Kind) (n : ℕ) (before scratch after kept : List ℕ) (r : Answer) (is : OutcomeIs (make kind n before scratch) n after kept r) where
+module _ (kind : Kind) (n : ℕ) (before scratch after kept : List ℕ) (r : Answer)
+    (is : OutcomeIs (make kind n before scratch) n after kept r) where
   pub call-short : AllBytes before → Short r
   call-short = short r is where
     short : (r : Answer) → OutcomeIs (make kind n before scratch) n after kept r → AllBytes before → Short r

@@ -1,12 +1,12 @@
 // A call's answer as one number: a length, or minus the number of the refusal.
-use frame::refusals::Refusal;
-use frame::refusals::refusal_number;
 use join_filter::answers::Answer;
+use terms::refusals::Refusal;
+use terms::refusals::refusal_number;
 ghost use mathlib.Core.Path.{_≡_};
 ghost use Prim.Native.Nat.{_≤_};
 ghost use lib.IntN.{pos, negℤ};
 ghost use Rattle.definitions.specs.Hosts.{hosted};
-ghost use Rattle.frame.specs.Refusals.{numberOf};
+ghost use Rattle.terms.specs.Refusals.{numberOf};
 ghost use Rattle.join_filter.specs.Outcomes.{answerOf};
 ghost use Rattle.spatialjoin_c.specs.Hosted.{Short};
 

@@ -6,7 +6,7 @@ use join_filter::extract::extract;
 use join_filter::load::load;
 use join_filter::logical::Names;
 use join_filter::logical::logical;
-use sedona_query_planner::spatial_expr_utils::logical::query_side_number;
+use logical_filter::knn_query_side::query_side_number;
 ghost use mathlib.Core.Path.{_≡_};
 ghost use Rattle.definitions.specs.Calls as definitions;
 ghost use Rattle.definitions.specs.Hosts.{hostedNames};
@@ -18,13 +18,15 @@ ghost use Rattle.spatialjoin_c.specs.Hosted.{LoadHosted, CallHosted};
 pub extern "C" fn spatialjoin_load(frame: &[u8], plan: &mut [u8]) -> i64
     ensures { λ r. ⌜ LoadHosted (now (frame .entry)) (now (plan .entry)) (now (plan .exit)) r ⌝ }
 {
-    answer_number(load(plan, frame))
+    let answer = load(plan, frame);
+    answer_number(answer)
 }
 
 // Pulls the predicate out of the plan in the first n bytes.
 #[no_mangle]
 pub extern "C" fn spatialjoin_extract(plan: &mut [u8], n: usize, scratch: &mut [u8]) -> i64
-    ensures { λ r. ⌜ CallHosted (definitions.extract n (now (plan .entry)) (now (scratch .entry))) (now (plan .exit)) (now (scratch .exit)) r ⌝ }
+    ensures { λ r. ⌜ CallHosted (definitions.extract n (now (plan .entry)) (now (scratch .entry))) (now (plan .exit))
+        (now (scratch .exit)) r ⌝ }
 {
     answer_number(extract(plan, n, scratch))
 }
@@ -32,7 +34,8 @@ pub extern "C" fn spatialjoin_extract(plan: &mut [u8], n: usize, scratch: &mut [
 // Exchanges the join's children in the plan in the first n bytes.
 #[no_mangle]
 pub extern "C" fn spatialjoin_exchange(plan: &mut [u8], n: usize, scratch: &mut [u8]) -> i64
-    ensures { λ r. ⌜ CallHosted (definitions.exchange n (now (plan .entry)) (now (scratch .entry))) (now (plan .exit)) (now (scratch .exit)) r ⌝ }
+    ensures { λ r. ⌜ CallHosted (definitions.exchange n (now (plan .entry)) (now (scratch .entry))) (now (plan .exit))
+        (now (scratch .exit)) r ⌝ }
 {
     answer_number(exchange(plan, n, scratch))
 }

@@ -1,4 +1,5 @@
--- `end_node` and `end_children`: a node walk goes further on, a row walk to a node at its own place; so the measure is twice the bytes left, one more for a row.
+-- `end_node` and `end_children`: a node walk goes further on, a row walk to a node at its own place; so the measure is twice the bytes
+-- left, one more for a row.
 use Prim.Native.Nat.{ℕ, _<_, _+_, _-_, _*_}
 use native.Mathlib.Omega.{arith}
 use lib.ListN.{length}
@@ -54,18 +55,26 @@ end-children-Inv-loop s at n next₀ left₀ next left = InEnds s at n next left
 abbrev end-children-μ-loop : end-children-lts.MeasureT-loop
 end-children-μ-loop s at n next₀ left₀ next left = left
 
-end-children-loop-holds : (t : ℕ) → end-children-lts.Need-loop-holds (end-children-calls t) (end-children-at t) end-children.Post end-children-Inv-loop end-children-μ-loop
+end-children-loop-holds : (t : ℕ)
+    → end-children-lts.Need-loop-holds (end-children-calls t)
+    (end-children-at t) end-children.Post end-children-Inv-loop end-children-μ-loop
 end-children-loop-holds t c = ends-begin (c .before .pre .1)
 
-end-children-end-node-requires : (t : ℕ) → end-children-lts.Need-end-node-requires (end-children-calls t) (end-children-at t) end-children.Post end-children-Inv-loop end-children-μ-loop
+end-children-end-node-requires : (t : ℕ)
+    → end-children-lts.Need-end-node-requires (end-children-calls t)
+    (end-children-at t) end-children.Post end-children-Inv-loop end-children-μ-loop
 end-children-end-node-requires t c κs =
     let inv = c .before .loop .inv in
     (omega (arith, c .before .before .before .pre .0, inv .low), ends-first inv (c .loop-test .taken))
 
-end-children-loop-again : (t : ℕ) → end-children-lts.Need-loop-again (end-children-calls t) (end-children-at t) end-children.Post end-children-Inv-loop end-children-μ-loop
-end-children-loop-again t c = ends-go-on (c .before .before .loop .inv) (c .before .loop-test .taken) (c .end-node .result) (c .end-node .ensures)
+end-children-loop-again : (t : ℕ)
+    → end-children-lts.Need-loop-again (end-children-calls t)
+    (end-children-at t) end-children.Post end-children-Inv-loop end-children-μ-loop
+end-children-loop-again t c =
+    ends-go-on (c .before .before .loop .inv) (c .before .loop-test .taken) (c .end-node .result) (c .end-node .ensures)
 
-end-children-returns : (t : ℕ) → end-children-lts.Need-returns (end-children-calls t) (end-children-at t) end-children.Post end-children-Inv-loop end-children-μ-loop
+end-children-returns : (t : ℕ)
+    → end-children-lts.Need-returns (end-children-calls t) (end-children-at t) end-children.Post end-children-Inv-loop end-children-μ-loop
 end-children-returns t c = ends-end (c .before .loop .inv) (c .loop-test .left)
 
 end-node-head-at-requires : (t : ℕ) → end-node-lts.Need-head-at-requires (end-node-calls t) (end-node-at t) end-node.Post

@@ -35,8 +35,10 @@ returns-3 c = λ d t h.
     node-call (head .result) h (head .ensures d t h) (c .match .keys2)
 
 returns-4 : tie.Need-returns-4
-returns-4 c = λ d t h.
-    (plain-node t (λ e. c .match .rest .0 .1 (sym (kind-is h) ∙ e)) (λ e. c .match .rest .1 (sym (kind-is h) ∙ e)), c .before .before .head-at .ensures d t h)
+returns-4 c = λ d t h. (
+  plain-node t (λ e. c .match .rest .0 .1 (sym (kind-is h) ∙ e)) (λ e. c .match .rest .1 (sym (kind-is h) ∙ e)),
+  c .before .before .head-at .ensures d t h,
+)
 
 pub node-at-spec : {M : Type 1} → statement M
 node-at-spec =

@@ -23,12 +23,14 @@ returns c = name-found _ _ _ _ _ (c .before .before .before .before .loop .inv) 
 returns-2 : tie.Need-returns-2 Inv-loop μ-loop
 unfolding part
 returns-2 c =
-    name-missing _ _ _ _ _ (c .before .before .before .before .before .loop .inv) (sym (c .before .before .same-bytes .ensures) ∙ c .before .if1 .left) (c .if2 .taken)
+    name-missing _ _ _ _ _ (c .before .before .before .before .before .loop .inv)
+    (sym (c .before .before .same-bytes .ensures) ∙ c .before .if1 .left) (c .if2 .taken)
 
 loop-again : tie.Need-loop-again Inv-loop μ-loop
 unfolding part
 loop-again c =
-    name-passed _ _ _ _ _ (c .before .before .before .before .before .loop .inv) (sym (c .before .before .same-bytes .ensures) ∙ c .before .if1 .left) (c .if2 .left)
+    name-passed _ _ _ _ _ (c .before .before .before .before .before .loop .inv)
+    (sym (c .before .before .same-bytes .ensures) ∙ c .before .if1 .left) (c .if2 .left)
 
 pub name-index-spec : {M : Type 1} → statement M
 name-index-spec =
@@ -47,5 +49,9 @@ name-index-spec =
     (λ c. omega (arith, end-there _ _ _ _ _ (c .before .before .before .before .loop .inv)))
     returns-2
     (λ c. omega (arith, word-there _ _ _ _ _ (c .before .before .before .before .before .loop .inv) .high))
-    (λ c. omega (arith, word-there _ _ _ _ _ (c .before .before .before .before .before .loop .inv) .low, word-there _ _ _ _ _ (c .before .before .before .before .before .loop .inv) .high))
+    (λ c. omega (
+      arith,
+      word-there _ _ _ _ _ (c .before .before .before .before .before .loop .inv) .low,
+      word-there _ _ _ _ _ (c .before .before .before .before .before .loop .inv) .high,
+    ))
     loop-again)

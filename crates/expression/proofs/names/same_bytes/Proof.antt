@@ -27,23 +27,28 @@ returns-2 c =
     let head = c .before .before .before .before .before in
     let start = head .before .before .before .before in
     let a = start .args in
-    sym (same-less (a .case) (a .s .now) (a .name .now) (a .at) (a .end) (start .pre .0) (start .pre .1) (head .before .if1 .left) (head .loop .i) (head .loop .inv)
-    (c .before .before .before .before .loop-test .taken) (c .before .before .letter-in .result) (c .before .before .letter-in .ensures) (c .if2 .taken))
+    sym (same-less (a .case) (a .s .now) (a .name .now) (a .at) (a .end) (start .pre .0) (start .pre .1) (head .before .if1 .left)
+    (head .loop .i) (head .loop .inv)
+    (c .before .before .before .before .loop-test .taken) (c .before .before .letter-in .result) (c .before .before .letter-in .ensures)
+    (c .if2 .taken))
 
 loop-again : tie.Need-loop-again Inv-loop μ-loop
 loop-again c =
     let head = c .before .before .before .before .before in
     let start = head .before .before .before .before in
     let a = start .args in
-    same-more (a .case) (a .s .now) (a .name .now) (a .at) (a .end) (start .pre .0) (start .pre .1) (head .before .if1 .left) (head .loop .i) (head .loop .inv)
-    (c .before .before .before .before .loop-test .taken) (c .before .before .letter-in .result) (c .before .before .letter-in .ensures) (c .if2 .left)
+    same-more (a .case) (a .s .now) (a .name .now) (a .at) (a .end) (start .pre .0) (start .pre .1) (head .before .if1 .left)
+    (head .loop .i) (head .loop .inv)
+    (c .before .before .before .before .loop-test .taken) (c .before .before .letter-in .result) (c .before .before .letter-in .ensures)
+    (c .if2 .left)
 
 returns-3 : tie.Need-returns-3 Inv-loop μ-loop
 returns-3 c =
     let head = c .before in
     let start = head .before .before .before .before in
     let a = start .args in
-    sym (same-all (a .case) (a .s .now) (a .name .now) (a .at) (a .end) (start .pre .0) (start .pre .1) (head .before .if1 .left) (head .loop .i) (head .loop .inv)
+    sym (same-all (a .case) (a .s .now) (a .name .now) (a .at) (a .end) (start .pre .0) (start .pre .1) (head .before .if1 .left)
+    (head .loop .i) (head .loop .inv)
     (c .loop-test .left))
 
 pub same-bytes-spec : {M : Type 1} → statement M

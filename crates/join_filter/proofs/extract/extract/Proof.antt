@@ -4,37 +4,39 @@ use mathlib.Core.Path.{sym}
 use Rattle.join_filter.proofs.extract.extract.Statement.{statement}
 use Rattle.join_filter.proofs.extract.extract.Tie as tie
 use Rattle.join_filter.proofs.Keeping.{plan-length}
-use Rattle.join_filter.proofs.Extracting.{no-room-for-n, no-plan, empty-plan, extracted-before}
+use Rattle.join_filter.proofs.Refusing.{extract-call, no-room-for-n, no-plan, empty-plan}
+use Rattle.join_filter.proofs.Extracting.{extracted-before}
 
 returns : tie.Need-returns
-returns c = let a = c .before .before .before .args in no-room-for-n (a .n) (a .plan .now) (a .scratch .now) (c .if1 .taken)
+returns c = let a = c .before .before .before .args in no-room-for-n extract-call (a .n) (a .plan .now) (a .scratch .now) (c .if1 .taken)
 
-slice-aggregate-good-plan : tie.Need-slice-aggregate-good-plan
-slice-aggregate-good-plan c = let a = c .before .before .before .before .args in sym (plan-length (a .n) (a .plan .now) (c .before .if1 .left))
+slice-aggregate-held-plan : tie.Need-slice-aggregate-held-plan
+slice-aggregate-held-plan c =
+    let a = c .before .before .before .before .args in sym (plan-length (a .n) (a .plan .now) (c .before .if1 .left))
 
 extract-frame-requires : tie.Need-extract-frame-requires
 extract-frame-requires c κs =
     let at-f = c .before .before .before in
-    let good = rw (at-f .f .given .1) at (at-f .before .before .good-plan .ensures) in
+    let good = rw (at-f .f .given .1) at (at-f .before .before .held-plan .ensures) in
     record { frame = good .0; fits = at-f .before .before .before .before .if1 .left; stands = good .1; is = good .2 }
 
 returns-2 : tie.Need-returns-2
 returns-2 c =
-    let bad = rw (c .enum-told .given .1) at (c .before .before .good-plan .ensures) in
+    let bad = rw (c .enum-told .given .1) at (c .before .before .held-plan .ensures) in
     let fits = c .before .before .before .before in
     let a = fits .before .before .before .args in
-    no-plan (a .n) (a .plan .now) (a .scratch .now) (fits .if1 .left) (bad .0) (bad .1)
+    no-plan extract-call (a .n) (a .plan .now) (a .scratch .now) (fits .if1 .left) (bad .0) (bad .1)
 
 returns-3 : tie.Need-returns-3
 returns-3 c =
-    let none = rw (c .enum-told2 .given .1) at (c .before .before .good-plan .ensures) in
+    let none = rw (c .enum-told2 .given .1) at (c .before .before .held-plan .ensures) in
     let fits = c .before .before .before .before in
     let a = fits .before .before .before .args in
-    empty-plan (a .n) (a .plan .now) (a .scratch .now) (fits .if1 .left) none
+    empty-plan extract-call (a .n) (a .plan .now) (a .scratch .now) (fits .if1 .left) none
 
 returns-4 : tie.Need-returns-4
 returns-4 c =
-    let good = rw (c .enum-told3 .given .1) at (c .before .before .good-plan .ensures) in
+    let good = rw (c .enum-told3 .given .1) at (c .before .before .held-plan .ensures) in
     let fits = c .before .before .before .before in
     let a = fits .before .before .before .args in
     extracted-before (a .n) (a .plan .now) (a .scratch .now) (fits .if1 .left) (good .0) (good .2)
@@ -45,7 +47,7 @@ extract-spec =
     (tie.spec
     returns
     (λ c. search needs)
-    slice-aggregate-good-plan
+    slice-aggregate-held-plan
     (λ c κs. search needs)
     (λ c. search needs)
     (λ c. search needs)

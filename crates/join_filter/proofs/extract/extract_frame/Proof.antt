@@ -2,7 +2,7 @@
 use borrow.Author.Needs.{needs}
 use mathlib.Core.Path.{sym, ap, _∙_}
 use lib.ListN.{length}
-use Rattle.frame.proofs.Standing.{all-bytes}
+use Rattle.reading.proofs.Standing.{all-bytes}
 use Rattle.join_filter.proofs.extract.extract_frame.Statement.{statement}
 use Rattle.join_filter.proofs.extract.extract_frame.Tie as tie
 use Rattle.join_filter.proofs.Keeping.{plan-length, kept}
@@ -31,7 +31,8 @@ slice-aggregate-put-extraction c =
     let copied = c .before .before .before .before in
     let start = copied .before .before .before .before .before .before .before .before .before .before .before in
     let a = start .args in
-    sym (ap length (kept (a .n) (a .plan .now) (start .pre .fits) (a .scratch .now) (copied .copy-bytes .last .0) (copied .copy-bytes .ensures))
+    sym (ap length (kept (a .n) (a .plan .now) (start .pre .fits) (a .scratch .now) (copied .copy-bytes .last .0)
+    (copied .copy-bytes .ensures))
     ∙ plan-length (a .n) (a .plan .now) (start .pre .fits))
 
 put-extraction-requires : tie.Need-put-extraction-requires
@@ -41,8 +42,10 @@ put-extraction-requires c κs =
     let start = at-pick .before .before .before .before .before .before .before in
     let a = start .args in
     let found = rw (at-pick .pick .given .1) at (at-pick .before .before .extract-spatial-predicate .ensures) in
-    extraction-fits (a .n) (a .plan .now) (a .scratch .now) (start .pre) (all-bytes (a .plan .now) (at-pick .before .before .before .before .before .before .slice-known .given))
-    (at-pick .pick .given .0 .0) (found _ _ (over (a .n) (a .plan .now) (a .scratch .now) (start .pre))) (copied .copy-bytes .last .0) (copied .copy-bytes .ensures)
+    extraction-fits (a .n) (a .plan .now) (a .scratch .now) (start .pre)
+    (all-bytes (a .plan .now) (at-pick .before .before .before .before .before .before .slice-known .given))
+    (at-pick .pick .given .0 .0) (found _ _ (over (a .n) (a .plan .now) (a .scratch .now) (start .pre))) (copied .copy-bytes .last .0)
+    (copied .copy-bytes .ensures)
 
 returns-2 : tie.Need-returns-2
 returns-2 c =
@@ -60,9 +63,12 @@ returns-3 c =
     let start = at-pick .before .before .before .before .before .before .before in
     let a = start .args in
     let found = rw (at-pick .pick .given .1) at (at-pick .before .before .extract-spatial-predicate .ensures) in
-    extracts (a .n) (a .plan .now) (a .scratch .now) (start .pre) (all-bytes (a .plan .now) (at-pick .before .before .before .before .before .before .slice-known .given))
-    (at-pick .pick .given .0 .0) (found _ _ (over (a .n) (a .plan .now) (a .scratch .now) (start .pre))) (copied .copy-bytes .last .0) (copied .copy-bytes .ensures)
-    (at-pick .before .before .before .before .if1 .left) (written .put-extraction .last .0) (written .put-extraction .result) (written .put-extraction .ensures)
+    extracts (a .n) (a .plan .now) (a .scratch .now) (start .pre)
+    (all-bytes (a .plan .now) (at-pick .before .before .before .before .before .before .slice-known .given))
+    (at-pick .pick .given .0 .0) (found _ _ (over (a .n) (a .plan .now) (a .scratch .now) (start .pre))) (copied .copy-bytes .last .0)
+    (copied .copy-bytes .ensures)
+    (at-pick .before .before .before .before .if1 .left) (written .put-extraction .last .0) (written .put-extraction .result)
+    (written .put-extraction .ensures)
 
 pub extract-frame-spec : {M : Type 1} → statement M
 extract-frame-spec =

@@ -1,9 +1,9 @@
 -- A good frame's names and query side are those of the expression that stands in it; a refusal is the frame's own.
 use borrow.Author.Needs.{needs}
-use Rattle.sedona_query_planner.specs.Logicals.{querySideIs}
+use Rattle.logical_filter.specs.Logicals.{querySideIs}
 use Rattle.join_filter.proofs.logical.logical.Statement.{statement}
 use Rattle.join_filter.proofs.logical.logical.Tie as tie
-use Rattle.join_filter.proofs.Standing.{expr-stands}
+use Rattle.frame_reader.proofs.Standing.{expr-stands}
 use Rattle.join_filter.proofs.Naming.{logical-refuses, logical-finds}
 
 collect-spatial-predicate-names-requires : tie.Need-collect-spatial-predicate-names-requires

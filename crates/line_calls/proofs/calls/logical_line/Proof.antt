@@ -4,7 +4,7 @@ use borrow.Author.Needs.{needs}
 use native.Mathlib.Omega.{arith}
 use Rattle.definitions.specs.Basics.{ok}
 use Rattle.definitions.specs.Logical.{logical}
-use Rattle.sedona_query_planner.specs.Logicals.{querySideIs}
+use Rattle.logical_filter.specs.Logicals.{querySideIs}
 use Rattle.join_filter.specs.Outcomes.{namesOf}
 use Rattle.line_calls.proofs.CallLaws.{few-names, names-give, refusal-gives}
 use Rattle.line_calls.proofs.calls.logical_line.Statement.{statement}

@@ -19,12 +19,15 @@ end-node-requires c κs = first-of-pair (c .before .pre)
 returns : tie.Need-returns
 returns c = λ d l r row.
     let ended = c .before .before .before in
-    not-compared _ (sides-missing row (ended .end-node .result) (ended .end-node .ensures) _ (c .enum-told .given .1) (c .before .before .comparison .ensures))
+    not-compared _ (sides-missing row (ended .end-node .result) (ended .end-node .ensures) _ (c .enum-told .given .1)
+    (c .before .before .comparison .ensures))
 
 -- Where a comparison was found, its sides stand.
 sides : (c : tie.After-known-told) (d : Columns) (l r : Expr)
-    → Row d (c .before .before .before .before .before .before .args .s .now) (c .before .before .before .before .before .before .args .left) 2 (cons l (cons r nil))
-    → BothSides d (c .before .before .before .before .before .before .args .s .now) (c .before .measured .given .0 .0) (c .before .measured .given .0 .1 .0)
+    → Row d (c .before .before .before .before .before .before .args .s .now)
+    (c .before .before .before .before .before .before .args .left) 2 (cons l (cons r nil))
+    → BothSides d (c .before .before .before .before .before .before .args .s .now) (c .before .measured .given .0 .0)
+    (c .before .measured .given .0 .1 .0)
     (comparison (c .before .before .before .before .before .before .args .operator) l r)
 sides c d l r row =
     let ended = c .before .before .before .before .end-node in
@@ -39,27 +42,31 @@ distance-arguments-requires c κs =
 returns-2 : tie.Need-returns-2
 returns-2 c = λ d l r row.
     let both = sides (c .before .before .before) d l r row in
-    not-measured _ both (rw (c .enum-told2 .given .1) at (c .before .before .distance-arguments .ensures d (both .m) (both .standsMeasured)))
+    not-measured _ both (rw (c .enum-told2 .given .1) at
+    (c .before .before .distance-arguments .ensures d (both .m) (both .standsMeasured)))
 
 returns-3 : tie.Need-returns-3
 returns-3 c = λ d l r row.
     let arm = c .before .before in
     let both = sides (arm .before .before .before) d l r row in
-    too-few _ both (rw (arm .first .given .1) at (arm .before .before .distance-arguments .ensures d (both .m) (both .standsMeasured))) (c .if1 .taken)
+    too-few _ both (rw (arm .first .given .1) at (arm .before .before .distance-arguments .ensures d (both .m) (both .standsMeasured)))
+    (c .if1 .taken)
 
 end-node-requires-2 : tie.Need-end-node-requires-2
 end-node-requires-2 c κs =
     let arm = c .before .before in
     let pair = arm .before .before .before .before .before .before .before .before .before .pre in
     let both = sides (arm .before .before .before) (pair .0) (pair .1) (pair .2) (pair .3) in
-    let found = rw (arm .first .given .1) at (arm .before .before .distance-arguments .ensures (pair .0) (both .m) (both .standsMeasured)) in
+    let found =
+    rw (arm .first .given .1) at (arm .before .before .distance-arguments .ensures (pair .0) (both .m) (both .standsMeasured)) in
     first-there (pair .0, found .all, found .row) (omega arith)
 
 returns-4 : tie.Need-returns-4
 returns-4 c = λ d l r row.
     let arm = c .before .before .before in
     let both = sides (arm .before .before .before) d l r row in
-    compared-distance _ both (rw (arm .first .given .1) at (arm .before .before .distance-arguments .ensures d (both .m) (both .standsMeasured)))
+    compared-distance _ both
+    (rw (arm .first .given .1) at (arm .before .before .distance-arguments .ensures d (both .m) (both .standsMeasured)))
     (c .before .if1 .left) (c .end-node2 .result) (c .end-node2 .ensures)
 
 pub parse-comparison-spec : {M : Type 1} → statement M

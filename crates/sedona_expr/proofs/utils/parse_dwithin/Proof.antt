@@ -15,7 +15,9 @@ returns c = λ d name args st. not-dwithin st (c .before .same-name .ensures) (n
 
 returns-2 : tie.Need-returns-2
 unfolding ascii
-returns-2 c = λ d name args st. dwithin-too-few st (c .before .before .before .same-name .ensures) (not-false _ (c .before .before .if1 .left)) (c .if2 .taken)
+returns-2 c =
+    λ d name args st. dwithin-too-few st (c .before .before .before .same-name .ensures) (not-false _ (c .before .before .if1 .left))
+    (c .if2 .taken)
 
 end-node-requires : tie.Need-end-node-requires
 end-node-requires c κs =
@@ -30,7 +32,8 @@ end-node-requires-2 c κs =
 returns-3 : tie.Need-returns-3
 unfolding ascii
 returns-3 c = λ d name args st.
-    dwithin-distance st (c .before .before .before .before .before .same-name .ensures) (not-false _ (c .before .before .before .before .if1 .left)) (c .before .before .if2 .left)
+    dwithin-distance st (c .before .before .before .before .before .same-name .ensures)
+    (not-false _ (c .before .before .before .before .if1 .left)) (c .before .before .if2 .left)
     (c .before .end-node .result) (c .end-node2 .result) (c .before .end-node .ensures) (c .end-node2 .ensures)
 
 pub parse-dwithin-spec : {M : Type 1} → statement M

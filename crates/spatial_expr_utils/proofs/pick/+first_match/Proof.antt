@@ -1,7 +1,8 @@
--- `first_match`: in an And, what the left side finds comes first, and the loop goes on with the right side, where the walk of the left ended.
+-- `first_match`: in an And, what the left side finds comes first, and the loop goes on with the right side, where the walk of the left
+-- ended.
 -- A call goes to a place further on, so the measure is the bytes left.
 use lib.ListN.{length}
-use Rattle.spatial_expr_utils.proofs.Framing.{framed-tree}
+use Rattle.argument_sides.proofs.Framing.{framed-tree}
 use Rattle.spatial_expr_utils.proofs.Nodes.{single-leaf}
 use Rattle.spatial_expr_utils.proofs.FirstLaws.{Along, along-begins, left-there, along-left, along-less, along-right}
 use borrow.Author.Needs.{needs}
@@ -43,13 +44,16 @@ Inv-loop s rec at wanted position parent next₀ count₀ up₀ next count up = 
 abbrev μ-loop : first-match-lts.MeasureT-loop
 μ-loop s rec at wanted position parent next₀ count₀ up₀ next count up = length s - next
 
-first-match-loop-holds : (t : ℕ) → first-match-lts.Need-loop-holds (first-match-claims t) (first-match-at t) first-match.Post Inv-loop μ-loop
+first-match-loop-holds : (t : ℕ)
+    → first-match-lts.Need-loop-holds (first-match-claims t) (first-match-at t) first-match.Post Inv-loop μ-loop
 first-match-loop-holds t c = along-begins (c .before .pre .1 .0) (c .before .pre .1 .1)
 
-first-match-node-at-requires : (t : ℕ) → first-match-lts.Need-node-at-requires (first-match-claims t) (first-match-at t) first-match.Post Inv-loop μ-loop
+first-match-node-at-requires : (t : ℕ)
+    → first-match-lts.Need-node-at-requires (first-match-claims t) (first-match-at t) first-match.Post Inv-loop μ-loop
 first-match-node-at-requires t c κs = framed-tree (c .loop .inv .there)
 
-first-match-leaf-match-requires : (t : ℕ) → first-match-lts.Need-leaf-match-requires (first-match-claims t) (first-match-at t) first-match.Post Inv-loop μ-loop
+first-match-leaf-match-requires : (t : ℕ)
+    → first-match-lts.Need-leaf-match-requires (first-match-claims t) (first-match-at t) first-match.Post Inv-loop μ-loop
 first-match-leaf-match-requires t c κs =
     let inv = c .before .before .loop .inv in
     let node = c .before .node-at in
@@ -58,7 +62,8 @@ first-match-leaf-match-requires t c κs =
 first-match-returns : (t : ℕ) → first-match-lts.Need-returns (first-match-claims t) (first-match-at t) first-match.Post Inv-loop μ-loop
 first-match-returns t c = c .before .before .before .loop .inv .rest (c .leaf-match .result) (c .leaf-match .ensures)
 
-first-match-first-match-requires : (t : ℕ) → first-match-lts.Need-first-match-requires (first-match-claims t) (first-match-at t) first-match.Post Inv-loop μ-loop
+first-match-first-match-requires : (t : ℕ)
+    → first-match-lts.Need-first-match-requires (first-match-claims t) (first-match-at t) first-match.Post Inv-loop μ-loop
 first-match-first-match-requires t c κs =
     let turn = c .before .before .before .before in
     left-there (turn .loop .inv) (c .before .before .before .node-at .ensures) (c .before .node .given .1) (turn .before .before .pre .0)
@@ -75,7 +80,8 @@ first-match-loop-less t c =
     along-less (at-node .before .before .before .loop .inv) (at-node .before .before .node-at .ensures) (at-node .node .given .1)
     (λ records u over. rw (c .before .right .given .1) at (c .before .before .before .first-match .ensures records u over))
 
-first-match-loop-again : (t : ℕ) → first-match-lts.Need-loop-again (first-match-claims t) (first-match-at t) first-match.Post Inv-loop μ-loop
+first-match-loop-again : (t : ℕ)
+    → first-match-lts.Need-loop-again (first-match-claims t) (first-match-at t) first-match.Post Inv-loop μ-loop
 first-match-loop-again t c =
     let at-node = c .before .before .before .before .before in
     along-right (at-node .before .before .before .loop .inv) (at-node .before .before .node-at .ensures) (at-node .node .given .1)

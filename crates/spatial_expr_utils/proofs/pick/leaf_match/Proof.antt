@@ -2,8 +2,8 @@
 use native.Mathlib.Omega.{arith}
 use Rattle.expression.proofs.Standing.{node-some}
 use Rattle.spatial_expr_utils.specs.Picks.{wants}
-use Rattle.spatial_expr_utils.proofs.Framing.{framed-tree}
-use Rattle.spatial_expr_utils.proofs.Asked.{none-lacks}
+use Rattle.argument_sides.proofs.Framing.{framed-tree}
+use Rattle.leaf_matching.proofs.Asked.{none-lacks}
 use Rattle.spatial_expr_utils.proofs.FirstLaws.{leaf-matched, leaf-lacks}
 use borrow.Author.Needs.{needs}
 use Rattle.spatial_expr_utils.proofs.pick.leaf_match.Statement.{statement}
@@ -16,8 +16,8 @@ returns c = λ records u over.
     leaf-matched (start .args .wanted) over (start .pre .1 .1 .0 records u over) _ _
     (rw (c .before .predicate .given .1) at (at-leaf .match-wanted .ensures records u over))
 
-add-t13 : tie.Need-add-t13
-add-t13 c =
+add-t14 : tie.Need-add-t14
+add-t14 c =
     let start = c .before .before .before .before .before in
     omega (arith, start .pre .1 .1 .1, node-some (start .pre .0 .2 .tree))
 
@@ -29,8 +29,8 @@ returns-2 c = λ records u over.
     let answer = rw (c .before .end .given .1) at (at-leaf .match-wanted .ensures records u over) in
     leaf-lacks wanted over (start .pre .1 .1 .0 records u over) _ (none-lacks (wants wanted) _ (answer .0)) (answer .1)
 
-add-t15 : tie.Need-add-t15
-add-t15 c =
+add-t16 : tie.Need-add-t16
+add-t16 c =
     let start = c .before .before .before .before .before in
     omega (arith, start .pre .1 .1 .1, node-some (start .pre .0 .2 .tree))
 
@@ -49,9 +49,9 @@ leaf-match-spec =
     (λ c. search needs)
     returns
     (λ c. search needs)
-    add-t13
+    add-t14
     returns-2
     (λ c. search needs)
     (λ c κs. framed-tree (c .before .before .before .before .pre .0))
-    add-t15
+    add-t16
     returns-3)

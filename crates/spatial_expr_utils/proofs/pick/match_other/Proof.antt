@@ -1,6 +1,6 @@
 -- `match_other`: a function of relation name is no distance, any other leaf no relation.
-use Rattle.spatial_expr_utils.specs.Frames.{OfFrame}
-use Rattle.spatial_expr_utils.specs.Matches.{isRelation, LeafMatching}
+use Rattle.argument_sides.specs.Frames.{OfFrame}
+use Rattle.leaf_matching.specs.Matches.{isRelation, LeafMatching}
 use Rattle.spatial_expr_utils.proofs.Nodes.{no-function}
 use Rattle.spatial_expr_utils.proofs.LeafLaws.{call-framed, call-leaf, relation-matched, distance-matching}
 use borrow.Author.Needs.{needs}
@@ -27,11 +27,13 @@ as-relation : (c : tie.After-match-relation-predicate)
 as-relation c records t over =
     let at-node = c .before .before in
     let start = at-node .before .before .before in
-    call-leaf (start .pre .1) (at-node .node .given .1) isRelation (c .match-relation-predicate .result) (c .match-relation-predicate .ensures) over
+    call-leaf (start .pre .1) (at-node .node .given .1) isRelation (c .match-relation-predicate .result)
+    (c .match-relation-predicate .ensures) over
 
 returns-2 : tie.Need-returns-2
 returns-2 c =
-    λ records t over. relation-matched over _ _ (rw (c .before .predicate .given .1) at (as-relation (c .before .before .before) records t over))
+    λ records t over. relation-matched over _ _
+    (rw (c .before .predicate .given .1) at (as-relation (c .before .before .before) records t over))
 
 returns-3 : tie.Need-returns-3
 returns-3 c = λ records t over. rw (c .before .end .given .1) at (as-relation (c .before .before .before) records t over)

@@ -2,7 +2,7 @@
 use borrow.Author.Needs.{needs}
 use Rattle.definitions.specs.Machine.{exchangeCall}
 use Rattle.definitions.specs.Sessions.{make}
-use Rattle.frame.proofs.Standing.{all-bytes}
+use Rattle.reading.proofs.Standing.{all-bytes}
 use Rattle.spatialjoin_c.proofs.Numbers.{given-back}
 use Rattle.spatialjoin_c.proofs.Hosting.{call-short, call-hosted}
 use Rattle.spatialjoin_c.proofs.calls.spatialjoin_exchange.Statement.{statement}

@@ -1,6 +1,6 @@
 -- `spatialjoin_load`: the load's answer as one number.
 use borrow.Author.Needs.{needs}
-use Rattle.frame.proofs.Standing.{all-bytes}
+use Rattle.reading.proofs.Standing.{all-bytes}
 use Rattle.spatialjoin_c.proofs.Numbers.{given-back}
 use Rattle.spatialjoin_c.proofs.Hosting.{load-short, load-hosted}
 use Rattle.spatialjoin_c.proofs.calls.spatialjoin_load.Statement.{statement}

@@ -48,13 +48,15 @@ too-short : tie.Need-returns
 too-short c =
     let start = c .before .before in
     let a = start .args in
-    short-name (part (a .s .now) (a .at) (a .end)) (omega (arith, c .if1 .taken, part-length (a .s .now) (a .at) (a .end) (start .pre .0) (start .pre .1)))
+    short-name (part (a .s .now) (a .at) (a .end))
+    (omega (arith, c .if1 .taken, part-length (a .s .now) (a .at) (a .end) (start .pre .0) (start .pre .1)))
 
 too-long : tie.Need-returns-2
 too-long c =
     let start = c .before .before .before in
     let a = start .args in
-    long-name (part (a .s .now) (a .at) (a .end)) (omega (arith, c .if2 .taken, part-length (a .s .now) (a .at) (a .end) (start .pre .0) (start .pre .1)))
+    long-name (part (a .s .now) (a .at) (a .end))
+    (omega (arith, c .if2 .taken, part-length (a .s .now) (a .at) (a .end) (start .pre .0) (start .pre .1)))
 
 pub from-name-spec : {M : Type 1} → statement M
 unfolding relationTypes typesIn relations

@@ -1,0 +1,5 @@
+-- Laws that several proofs use.
+pub mod Framing
+pub mod SideLaws
+pub mod SideWalk
+pub mod LiteralLaws

@@ -1,0 +1,50 @@
+-- The AND-leaves of what `node_at` found: those of both children of an And, and any other node is its only one.
+use Prim.Native.Nat.{ℕ}
+use mathlib.Core.Path.{_≡_, refl, sym, ap, _∙_}
+use mathlib.Core.Bool.{Bool, true, false, _&&_}
+use mathlib.Core.List.{List, [], _∷_, _++_}
+use Rattle.definitions.specs.Basics.{all}
+use Rattle.definitions.specs.Expression.{Expr, and, binary, call}
+use Rattle.definitions.specs.Leaves.{leaves}
+use Rattle.definitions.specs.Decode.{Columns}
+use Rattle.expression.specs.Leaves.{Both, CallIs, PlainNode, plainColumn, plainLiteral, plainOther, plainField}
+use Rattle.expression.specs.declared.leaves.Called.{Called}
+
+module _ {c : Columns} {s : List ℕ} {at : ℕ} {t : Expr} where
+  pub and-leaves : {first : ℕ} (b : Both and c s at first t) → leaves t ≡ leaves (b .l) ++ leaves (b .r)
+  unfolding leaves
+  and-leaves b = ap leaves (b .is)
+
+  pub binary-leaf : {operator first : ℕ} (b : Both (binary operator) c s at first t) → leaves t ≡ binary operator (b .l) (b .r) ∷ []
+  unfolding leaves
+  binary-leaf b = ap leaves (b .is)
+
+  pub call-leaf : {k : Called} (b : CallIs c s at k t) → leaves t ≡ call (b .name) (b .arguments) ∷ []
+  unfolding leaves
+  call-leaf b = ap leaves (b .is)
+
+pub plain-leaf : {t : Expr} → PlainNode t → leaves t ≡ t ∷ []
+unfolding leaves
+plain-leaf plainColumn = refl
+plain-leaf plainLiteral = refl
+plain-leaf plainOther = refl
+plain-leaf plainField = refl
+
+-- ---- what holds of all
+
+and-assoc : (a b d : Bool) → (a && b) && d ≡ a && (b && d)
+and-assoc true b d = refl
+and-assoc false b d = refl
+
+pub all-append : {A : Type 0} (f : A → Bool) (xs ys : List A) → all f (xs ++ ys) ≡ all f xs && all f ys
+unfolding all
+all-append f [] ys = refl
+all-append f (x ∷ xs) ys = ap (λ (t : Bool). f x && t) (all-append f xs ys) ∙ sym (and-assoc (f x) (all f xs) (all f ys))
+
+pub all-one : {A : Type 0} (f : A → Bool) (x : A) → all f (x ∷ []) ≡ f x
+unfolding all
+all-one f x = and-true (f x)
+  where
+    and-true : (t : Bool) → t && true ≡ t
+    and-true true = refl
+    and-true false = refl

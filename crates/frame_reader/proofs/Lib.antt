@@ -1,0 +1,4 @@
+-- Laws that several proofs use.
+pub mod Standing
+pub mod Recorded
+pub mod Wholes

@@ -1,0 +1,113 @@
+-- `match_distance_predicate`: the parsed arguments stand in the frame, so their sides are those of the definition.
+use Rattle.argument_sides.specs.Frames.{Framed}
+use Rattle.argument_sides.proofs.Framing.{framed-tree}
+use Rattle.leaf_matching.proofs.DistanceLaws.{no-distance, parses, arguments-framed, Walked, distance-undefined, distance-neither, distance-left, distance-right}
+use borrow.Author.Needs.{needs}
+use Rattle.leaf_matching.proofs.distance.match_distance_predicate.Statement.{
+  statement,
+}
+use Rattle.leaf_matching.proofs.distance.match_distance_predicate.Tie as tie
+
+parse-distance-predicate-requires : tie.Need-parse-distance-predicate-requires
+parse-distance-predicate-requires c κs = framed-tree (c .before .pre)
+
+returns : tie.Need-returns
+returns c =
+    let at-parse-distance-predicate = c .before .before in
+    λ records t over. no-distance records t (rw (c .enum-told .given .1) at
+    (at-parse-distance-predicate .parse-distance-predicate .ensures _ t (over .tree)))
+
+end-node-requires : tie.Need-end-node-requires
+end-node-requires c κs = framed-tree (c .before .before .before .before .before .pre)
+
+-- The parsed arguments stand in the frame.
+framed : (c : tie.After-end-node)
+    → let start = c .before .before .before .before .before .before .args in
+    let found = c .before .before .parsed .given .0 .0 in
+    Framed (start .s .now) (start .rec) (found .arg0) × Framed (start .s .now) (start .rec) (found .arg1)
+    × Framed (start .s .now) (start .rec) (found .«arg_distance»)
+framed c =
+    let at-parsed = c .before .before in
+    arguments-framed (parses (at-parsed .before .before .parse-distance-predicate .ensures) (at-parsed .parsed .given .1))
+    (c .before .before .before .before .before .before .pre)
+
+side-of-column-references-requires : tie.Need-side-of-column-references-requires
+side-of-column-references-requires c κs = framed c .2
+
+side-of-column-references-requires-2 : tie.Need-side-of-column-references-requires-2
+side-of-column-references-requires-2 c κs = framed (c .before) .0
+
+side-of-column-references-requires-3 : tie.Need-side-of-column-references-requires-3
+side-of-column-references-requires-3 c κs = framed (c .before .before) .1
+
+walked : (c : tie.After-side-of-column-references3)
+    → let start = c .before .before .before .before .before .before .before .before .before .args in
+    Walked (start .s .now) (start .rec) (start .at) (c .before .before .before .before .before .parsed .given .0 .0)
+    (c .before .side-of-column-references2 .result)
+    (c .side-of-column-references3 .result) (c .before .before .side-of-column-references .result)
+    (c .before .before .before .end-node .result)
+walked c =
+    let at-side-of-column-references = c .before .before in
+    let at-end-node = at-side-of-column-references .before in
+    let at-parsed = at-end-node .before .before in
+    let at-parse-distance-predicate = at-parsed .before .before in
+    record {
+      asked = parses (at-parse-distance-predicate .parse-distance-predicate .ensures) (at-parsed .parsed .given .1);
+      first = c .before .side-of-column-references2 .ensures;
+      second = c .side-of-column-references3 .ensures;
+      limit = at-side-of-column-references .side-of-column-references .ensures;
+      ends = at-end-node .end-node .ensures;
+    }
+
+returns-2 : tie.Need-returns-2
+returns-2 c =
+    λ records t over. distance-undefined (walked (c .before .before .before)) over _ (c .before .before .side-of-distance .ensures)
+    (c .enum-told2 .given .1)
+
+returns-3 : tie.Need-returns-3
+returns-3 c =
+    let at-resolve-column-reference-sides = c .before .before in
+    let at-distance-side = at-resolve-column-reference-sides .before .before in
+    λ records t over. distance-neither (walked (at-distance-side .before .before .before)) over _
+    (at-distance-side .before .before .side-of-distance .ensures) _ (at-distance-side .distance-side .given .1) _
+    (at-resolve-column-reference-sides .resolve-column-reference-sides .ensures) (c .enum-told5 .given .1)
+
+returns-4 : tie.Need-returns-4
+returns-4 c =
+    let at-resolve-column-reference-sides = c .before .before in
+    let at-distance-side = at-resolve-column-reference-sides .before .before in
+    λ records t over. distance-left (walked (at-distance-side .before .before .before)) over _
+    (at-distance-side .before .before .side-of-distance .ensures) _ (at-distance-side .distance-side .given .1) _
+    (at-resolve-column-reference-sides .resolve-column-reference-sides .ensures) (c .enum-told3 .given .1)
+
+returns-5 : tie.Need-returns-5
+returns-5 c =
+    let at-resolve-column-reference-sides = c .before .before in
+    let at-distance-side = at-resolve-column-reference-sides .before .before in
+    λ records t over. distance-right (walked (at-distance-side .before .before .before)) over _
+    (at-distance-side .before .before .side-of-distance .ensures) _ (at-distance-side .distance-side .given .1) _
+    (at-resolve-column-reference-sides .resolve-column-reference-sides .ensures) (c .enum-told4 .given .1)
+
+pub match-distance-predicate-spec : {M : Type 1} → statement M
+match-distance-predicate-spec =
+    tie.close
+    (tie.spec
+    parse-distance-predicate-requires
+    (λ c. search needs)
+    (λ c. search needs)
+    returns
+    end-node-requires
+    side-of-column-references-requires
+    side-of-column-references-requires-2
+    side-of-column-references-requires-3
+    (λ c κs. search needs)
+    (λ c. search needs)
+    (λ c. search needs)
+    returns-2
+    (λ c κs. search needs)
+    (λ c. search needs)
+    (λ c. search needs)
+    (λ c. search needs)
+    returns-3
+    returns-4
+    returns-5)

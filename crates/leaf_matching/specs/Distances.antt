@@ -1,0 +1,12 @@
+-- What the answer about a distance's side means.
+use Rattle.terms.specs.declared.sides.JoinSide.the-variants.{None}
+use Rattle.argument_sides.specs.declared.sides.Sides.{Sides}
+use Rattle.argument_sides.specs.declared.sides.Sides.the-variants.{NoColumns, AllOn, Mixed}
+use Rattle.leaf_matching.specs.declared.distance.DistanceSide.{DistanceSide}
+use Rattle.leaf_matching.specs.declared.distance.DistanceSide.the-variants.{Known, Undefined}
+
+-- The side of a distance: none without columns, undefined if they differ.
+abbrev pub distanceSide : Sides → DistanceSide
+distanceSide NoColumns = Known None
+distanceSide (AllOn side) = Known side
+distanceSide Mixed = Undefined

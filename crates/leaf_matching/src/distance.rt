@@ -1,0 +1,74 @@
+// Distance predicates.
+// A port of `match_distance_predicate` of
+// rust/sedona-query-planner/src/spatial_expr_utils.rs.
+ghost use mathlib.Core.Path.{_≡_};
+ghost use Rattle.argument_sides.specs.Frames.{Framed, OfFrame};
+ghost use Rattle.leaf_matching.specs.Matches.{isDistance, LeafMatching};
+ghost use Rattle.leaf_matching.specs.Distances.{distanceSide};
+use super::matching::Matching;
+use argument_sides::sides::Order;
+use argument_sides::sides::Sides;
+use argument_sides::sides::resolve_column_reference_sides;
+use argument_sides::sides::side_of_column_references;
+use expression::ends::end_node;
+use sedona_expr::utils::Parsed;
+use sedona_expr::utils::parse_distance_predicate;
+use sedona_query_planner::spatial_predicate::DistancePredicate;
+use sedona_query_planner::spatial_predicate::SpatialPredicate;
+use terms::sides::JoinSide;
+
+// The side of a distance; undefined if its columns differ.
+pub enum DistanceSide {
+    Known(JoinSide),
+    Undefined,
+}
+
+// Without columns it is none.
+fn side_of_distance(of: Sides) -> DistanceSide
+    ensures { λ r. ⌜ r ≡ distanceSide of ⌝ }
+{
+    match of {
+        Sides::NoColumns => DistanceSide::Known(JoinSide::None),
+        Sides::AllOn(side) => DistanceSide::Known(side),
+        Sides::Mixed => DistanceSide::Undefined,
+    }
+}
+
+// The left geometry is stored first; the distance needs a defined side.
+pub fn match_distance_predicate(s: &[u8], rec: usize, at: usize) -> Matching
+    requires { ⌜ Framed (now s) rec at ⌝ }
+    ensures { λ r. ⌜ OfFrame (now (s .entry)) rec at (LeafMatching isDistance (now (s .entry)) rec at r) ⌝ }
+{
+    let Parsed::Distance(parsed) = parse_distance_predicate(s, at) else {
+        return Matching::NotAsked;
+    };
+    let end = end_node(s, at);
+    let distance = side_of_column_references(s, rec, parsed.arg_distance);
+    let arg0 = side_of_column_references(s, rec, parsed.arg0);
+    let arg1 = side_of_column_references(s, rec, parsed.arg1);
+    let columns = distance.side;
+    let DistanceSide::Known(distance_side) = side_of_distance(columns) else {
+        return Matching::Unmatched(end);
+    };
+    let mut predicate = DistancePredicate {
+        left: parsed.arg0,
+        left_end: arg0.end,
+        right: parsed.arg1,
+        right_end: arg1.end,
+        distance: parsed.arg_distance,
+        distance_end: distance.end,
+        distance_side,
+        form: parsed.form,
+    };
+    match resolve_column_reference_sides(arg0, arg1) {
+        Order::LeftRight => {}
+        Order::RightLeft => {
+            predicate.left = parsed.arg1;
+            predicate.left_end = arg1.end;
+            predicate.right = parsed.arg0;
+            predicate.right_end = arg0.end;
+        }
+        Order::Neither => return Matching::Unmatched(end),
+    }
+    Matching::Matched(SpatialPredicate::Distance(predicate), end)
+}

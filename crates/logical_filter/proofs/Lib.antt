@@ -1,0 +1,4 @@
+-- Laws that several proofs use.
+pub mod NameMasks
+pub mod NameWalk
+pub mod QueryWalk

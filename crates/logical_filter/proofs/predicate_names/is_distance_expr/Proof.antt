@@ -1,0 +1,36 @@
+-- `is_distance_expr`: only a function has a name, and it is compared in small letters.
+use mathlib.Core.Path.{ap, _∙_}
+use mathlib.Core.List.{List}
+use Prim.Native.Nat.{ℕ}
+use borrow.Author.Needs.{needs}
+use Rattle.definitions.specs.Basics.{ascii, sameName}
+use Rattle.expression.proofs.LeafLaws.{no-call}
+use Rattle.expression.proofs.There.{call-there, name-there}
+use Rattle.logical_filter.proofs.NameWalk.{no-distance, small-name}
+use Rattle.logical_filter.proofs.predicate_names.is_distance_expr.Statement.{statement}
+use Rattle.logical_filter.proofs.predicate_names.is_distance_expr.Tie as tie
+
+returns : tie.Need-returns
+returns c = λ d t h. no-distance t (no-call h (c .before .node-at .result) (c .match .keys2) (c .before .node-at .ensures d t h))
+
+same-name-ignore-case-requires : tie.Need-same-name-ignore-case-requires
+same-name-ignore-case-requires c κs =
+    let arm = c .before .before in
+    name-there (call-there (arm .before .before .before .before .pre) (arm .before .before .node-at .ensures) (arm .call .given .1))
+
+returns-2 : tie.Need-returns-2
+unfolding ascii
+returns-2 c = λ d t h.
+    let arm = c .before .before .before in
+    let call = rw (arm .call .given .1) at (arm .before .before .node-at .ensures d t h) in
+    c .same-name-ignore-case .ensures ∙ ap (λ (n : List ℕ). sameName n (ascii "st_distance")) (small-name call)
+
+pub is-distance-expr-spec : {M : Type 1} → statement M
+is-distance-expr-spec =
+    tie.close
+    (tie.spec
+    (λ c κs. search needs) (λ c. search needs)
+    returns
+    (λ c. search needs)
+    same-name-ignore-case-requires
+    returns-2)

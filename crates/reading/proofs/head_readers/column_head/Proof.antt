@@ -1,0 +1,38 @@
+-- The bound is tested last, after index and tag.
+use borrow.Author.Needs.{needs}
+use mathlib.Core.Path.{_∙_}
+use borrow.Author.Tests.{lt-ltb, le-ltb}
+use Rattle.definitions.specs.Expression.{column}
+use Rattle.definitions.specs.Readers.{number}
+use Rattle.definitions.specs.Decode.{repeatExprs, columnNode}
+use Rattle.definitions.proofs.ReaderLaws.{after, passes, fails}
+use Rattle.reading.proofs.Reading.{stops-in-two}
+use Rattle.reading.proofs.head_readers.column_head.Statement.{statement}
+use Rattle.reading.proofs.head_readers.column_head.Tie as tie
+
+returns : tie.Need-returns
+unfolding columnNode
+returns c child n =
+    stops-in-two (number 2 n _) (number 2) _ ((rw (c .before .why .given .1) at (c .before .before .before .two-fields .ensures)) n)
+
+returns-2 : tie.Need-returns-2
+unfolding repeatExprs columnNode
+returns-2 c =
+    let p = c .before .before in
+    let two = rw (p .index .given .1) at (p .before .before .two-fields .ensures) in (
+      two .0,
+      (λ es. column (p .index .given .0 .0) (p .index .given .0 .1 .0)),
+      λ child n. after _ (two .2 n) ∙ after _ (two .3 n)
+          ∙ passes 6 _ n _ (lt-ltb _ _ (c .if1 .taken)),
+    )
+
+returns-3 : tie.Need-returns-3
+unfolding columnNode
+returns-3 c child n =
+    let p = c .before .before in
+    let two = rw (p .index .given .1) at (p .before .before .two-fields .ensures) in
+    after _ (two .2 n) ∙ after _ (two .3 n) ∙ fails 6 _ n _ (le-ltb _ _ (c .if1 .left))
+
+pub column-head-spec : {M : Type 1} → statement M
+column-head-spec =
+    tie.close (tie.spec (λ c κs. search needs) (λ c. search needs) (λ c. search needs) returns returns-2 returns-3)

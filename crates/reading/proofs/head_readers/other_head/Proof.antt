@@ -1,0 +1,26 @@
+-- Tag and child count, and then so many children.
+use borrow.Author.Needs.{needs}
+use mathlib.Core.Path.{_∙_}
+use Rattle.definitions.specs.Expression.{other}
+use Rattle.definitions.specs.Readers.{byteUpTo, number}
+use Rattle.definitions.specs.Decode.{otherNode}
+use Rattle.definitions.proofs.ReaderLaws.{after}
+use Rattle.reading.proofs.Reading.{stops-in-two}
+use Rattle.reading.proofs.head_readers.other_head.Statement.{statement}
+use Rattle.reading.proofs.head_readers.other_head.Tie as tie
+
+returns : tie.Need-returns
+unfolding otherNode
+returns c child n =
+    stops-in-two (number 2 n _) (byteUpTo 16) _ ((rw (c .before .why .given .1) at (c .before .before .before .two-fields .ensures)) n)
+
+returns-2 : tie.Need-returns-2
+unfolding otherNode
+returns-2 c =
+    let p = c .before in
+    let two = rw (p .many .given .1) at (p .before .before .two-fields .ensures) in
+    (two .0, other _, λ child n. after _ (two .2 n) ∙ after _ (two .3 n))
+
+pub other-head-spec : {M : Type 1} → statement M
+other-head-spec =
+    tie.close (tie.spec (λ c κs. search needs) (λ c. search needs) (λ c. search needs) returns returns-2)

@@ -1,0 +1,25 @@
+-- Where an expression stands that was read.
+use Prim.Native.Nat.{ℕ}
+use mathlib.Core.Path.{_≡_}
+use mathlib.Core.List.{List}
+use lib.ListN.{drop}
+use Rattle.definitions.specs.Expression.{Expr}
+use Rattle.definitions.specs.Encode.{exprBytes}
+use Rattle.definitions.specs.Readers.{read, stopped}
+use Rattle.definitions.specs.Decode.{Columns, expression}
+use Rattle.definitions.specs.Good.{Readable}
+use Rattle.terms.specs.Refusals.{numberOf}
+use Rattle.expression.specs.Places.{Between}
+use Rattle.reading.specs.declared.walk.Walked.{Walked}
+use Rattle.reading.specs.declared.walk.Walked.the-variants.{To, Refused}
+
+-- The expression e stands from `at` up to `end`, its fields in their ranges and its depth at most 64.
+pub record ExprAt (c : Columns) (s : List ℕ) (at end : ℕ) (e : Expr) : Type 0 where
+  pub bytes : Between s at end (exprBytes e)
+  pub readable : Readable c e
+
+-- An expression was read, `before` nodes counted up to its place.
+abbrev pub ExpressionIs : List ℕ → (at before : ℕ) → Walked → Columns → Type 0
+ExpressionIs s at before (To next count) c =
+    (e : Expr) × (expression c before (drop at s) ≡ read e count (drop next s)) × ExprAt c s at next e
+ExpressionIs s at before (Refused why) c = expression c before (drop at s) ≡ stopped (numberOf why)

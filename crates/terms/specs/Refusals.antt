@@ -1,0 +1,20 @@
+-- Document 01's number of each refusal.
+use Prim.Native.Nat.{ℕ}
+use Rattle.terms.specs.declared.refusals.Refusal.{Refusal}
+use Rattle.terms.specs.declared.refusals.Refusal.the-variants.{EmptyOrTooLong, WrongFirstByte, EndsInsideField, OutOfRange, TooManyOrTooDeep, NoSuchColumn, BytesAfterEnd, TooFewArguments, BufferTooShort, NoGoodPlan, PlanEmpty, AlreadyExtracted, NoLeafMatches, NotHexadecimal}
+
+abbrev pub numberOf : Refusal → ℕ
+numberOf EmptyOrTooLong = 1
+numberOf WrongFirstByte = 2
+numberOf EndsInsideField = 3
+numberOf OutOfRange = 4
+numberOf TooManyOrTooDeep = 5
+numberOf NoSuchColumn = 6
+numberOf BytesAfterEnd = 7
+numberOf TooFewArguments = 8
+numberOf BufferTooShort = 9
+numberOf NoGoodPlan = 10
+numberOf PlanEmpty = 11
+numberOf AlreadyExtracted = 12
+numberOf NoLeafMatches = 13
+numberOf NotHexadecimal = 14

@@ -1,0 +1,3 @@
+// Terms of document 01 that every layer speaks of, as enums with their numbers.
+pub mod refusals;
+pub mod sides;

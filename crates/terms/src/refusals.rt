@@ -1,0 +1,43 @@
+// Refusals and their numbers.
+ghost use mathlib.Core.Path.{_≡_};
+ghost use Rattle.terms.specs.Refusals.{numberOf};
+
+// Why a call is refused, in the order of document 01's numbers, 1 to 14.
+pub enum Refusal {
+    EmptyOrTooLong,
+    WrongFirstByte,
+    EndsInsideField,
+    OutOfRange,
+    TooManyOrTooDeep,
+    NoSuchColumn,
+    BytesAfterEnd,
+    TooFewArguments,
+    BufferTooShort,
+    NoGoodPlan,
+    PlanEmpty,
+    AlreadyExtracted,
+    NoLeafMatches,
+    NotHexadecimal,
+}
+
+// Document 01's number of a refusal.
+pub fn refusal_number(why: Refusal) -> u8
+    ensures { λ r. ⌜ r ≡ numberOf why ⌝ }
+{
+    match why {
+        Refusal::EmptyOrTooLong => 1,
+        Refusal::WrongFirstByte => 2,
+        Refusal::EndsInsideField => 3,
+        Refusal::OutOfRange => 4,
+        Refusal::TooManyOrTooDeep => 5,
+        Refusal::NoSuchColumn => 6,
+        Refusal::BytesAfterEnd => 7,
+        Refusal::TooFewArguments => 8,
+        Refusal::BufferTooShort => 9,
+        Refusal::NoGoodPlan => 10,
+        Refusal::PlanEmpty => 11,
+        Refusal::AlreadyExtracted => 12,
+        Refusal::NoLeafMatches => 13,
+        Refusal::NotHexadecimal => 14,
+    }
+}

@@ -1,0 +1,3 @@
+// Writing bytes into lent buffers: numbers and copies, one after another.
+pub mod copies;
+pub mod numbers;
