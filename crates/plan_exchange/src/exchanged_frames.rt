@@ -50,7 +50,12 @@ pub(crate) fn put_frame_exchanged(out: &mut [u8], src: &[u8], f: Frame, end: usi
 }
 
 // `00`, or the frame exchanged.
-pub(crate) fn put_remainder_exchanged(out: &mut [u8], src: &[u8], rest: Remainder, end: usize) -> usize
+pub(crate) fn put_remainder_exchanged(
+    out: &mut [u8],
+    src: &[u8],
+    rest: Remainder,
+    end: usize,
+) -> usize
     requires { ⌜ Room (RemainderAt (now src) rest end) remainderExchanged 0 (now out) ⌝ }
     ensures { λ r. ⌜ Puts (RemainderAt (now (src .entry)) rest end) remainderExchanged (now (out .entry)) (now (out .exit)) r ⌝ }
 {

@@ -51,14 +51,7 @@ fn node(s: &[u8], at: usize, levels: usize, count: usize, columns: Columns) -> W
 }
 
 // So many nodes, one after the other, each with this many levels left.
-fn nodes(
-    s: &[u8],
-    at: usize,
-    levels: usize,
-    count: usize,
-    columns: Columns,
-    many: u64,
-) -> Walked
+fn nodes(s: &[u8], at: usize, levels: usize, count: usize, columns: Columns, many: u64) -> Walked
     requires { ⌜ (at ≤ length (now s)) × (count ≤ 1024) ⌝ }
     ensures read { λ r. ⌜ WalkedIs (now (s .entry)) at count r (decode.repeatExprs many (decode.node (columnsOf columns) levels)) ⌝ }
     ensures counted { λ r. ⌜ Counted count 0 r ⌝ }

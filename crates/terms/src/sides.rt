@@ -51,6 +51,9 @@ pub fn side_number(side: JoinSide) -> u8
 pub fn negated_number(number: u8) -> u8
     ensures { λ r. ⌜ r ≡ sideNumber (definitions.negate (sideNumbered number)) ⌝ }
 {
-    let side = side_numbered(number as u64);
-    side_number(side.negate())
+    match number {
+        0 => 1,
+        1 => 0,
+        _ => 2,
+    }
 }

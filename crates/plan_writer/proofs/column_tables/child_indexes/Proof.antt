@@ -39,8 +39,9 @@ loop-again c =
 
 returns : tie.Need-returns Inv-loop μ-loop
 returns c = (
-    child-table (c .before .before .before .before .args .count) (table-whole (omega arith) (c .before .loop .inv .2)),
-    c .before .loop .inv .3)
+  child-table (c .before .before .before .before .args .count) (table-whole (omega arith) (c .before .loop .inv .2)),
+  c .before .loop .inv .3,
+)
 
 pub child-indexes-spec : {M : Type 1} → statement M
 child-indexes-spec =
