@@ -1,9 +1,4 @@
--- Laws that several proofs use, and the theorem about the code.
-pub mod Loading
-pub mod Naming
+-- Laws that the proofs of extract and exchange use, and the theorem about lists of calls.
 pub mod Keeping
 pub mod Refusing
-pub mod Exchanging
-pub mod Taking
-pub mod Extracting
 pub mod DemandThree

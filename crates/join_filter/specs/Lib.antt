@@ -1,4 +1,3 @@
--- What the contracts cite, and what is claimed of them.
+-- What the contracts of the calls say, and what follows from them.
 pub mod Outcomes
-pub mod Extractions
 pub mod Lists

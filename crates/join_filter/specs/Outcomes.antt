@@ -4,13 +4,9 @@ use mathlib.Core.Path.{_≡_}
 use mathlib.Core.List.{List}
 use Rattle.definitions.specs.Basics.{Result, ok, refused}
 use Rattle.definitions.specs.Calls.{Outcome, load}
-use Rattle.definitions.specs.Logical as definitions
-use Rattle.logical_filter.specs.Logicals.{querySideIs}
 use Rattle.terms.specs.Refusals.{numberOf}
 use Rattle.join_filter.specs.declared.answers.Answer.{Answer}
 use Rattle.join_filter.specs.declared.answers.Answer.the-variants.{Length, Refused}
-use Rattle.join_filter.specs.declared.logical.Names.{Names}
-use Rattle.join_filter.specs.declared.logical.Names.the-variants as names
 
 -- Document 01's answer for each case: a length, or the number of the refusal.
 abbrev pub answerOf : Answer → Result ℕ
@@ -29,8 +25,3 @@ LoadIs frame before after r = (n : ℕ) → load frame n before ≡ record { ans
 -- The call is the definition's: answer, n and both buffers.
 abbrev pub OutcomeIs : Outcome → (n : ℕ) → (after scratch : List ℕ) → Answer → Type 0
 OutcomeIs o n after scratch r = o ≡ record { answer = answerOf r; n = nAfter n r; buffer = after; scratch = scratch }
-
--- Document 01's answer of the logical call for each case: mask, count and side, or the number of the refusal.
-abbrev pub namesOf : Names → Result definitions.LogicalAnswer
-namesOf (names.Found found side) = ok (record { mask = found .mask; names = found .names; side = querySideIs side })
-namesOf (names.Refused why) = refused (numberOf why)

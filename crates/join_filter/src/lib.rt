@@ -1,8 +1,3 @@
-// The calls of the join filter planner: what a host calls. `transform_join_filter` of
-// rust/sedona-query-planner/src/spatial_expr_utils.rs is the call extract.
+// What the calls load, extract and exchange answer, and which definition that is; and demand 3 from those contracts alone. The calls
+// themselves are the crates `call_load`, `call_extract`, `call_exchange` and `call_logical`. Public for users.
 pub mod answers;
-pub mod exchange;
-pub mod extract;
-mod extraction;
-pub mod load;
-pub mod logical;

@@ -21,10 +21,10 @@ use Rattle.terms.specs.declared.refusals.Refusal.{Refusal}
 use Rattle.join_filter.specs.Outcomes.{answerOf, nAfter, LoadIs, OutcomeIs}
 use Rattle.join_filter.specs.declared.answers.Answer.{Answer as CallAnswer}
 use Rattle.join_filter.specs.declared.answers.Answer.the-variants.{Length, Refused as CallRefused}
-use Rattle.line_calls.specs.declared.answers.Answer.the-variants.{Logical, Refused}
-use Rattle.line_calls.specs.Answers.{planLength, keptAs, AnswerIs}
+use Rattle.line_answers.specs.declared.Answer.the-variants.{Logical, Refused}
+use Rattle.line_answers.specs.Answers.{planLength, keptAs, AnswerIs}
 use Rattle.line_calls.specs.Calling.{lineAnswer}
-use Rattle.line_calls.specs.Scratch.{callScratch}
+use Rattle.line_answers.specs.Scratch.{callScratch}
 
 -- ---- the answer of a call
 

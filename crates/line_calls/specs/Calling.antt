@@ -1,11 +1,11 @@
 -- The calls of a line, and their answers.
 use Rattle.definitions.specs.Machine.{Kind, extractCall, exchangeCall}
-use Rattle.line_calls.specs.declared.calls.Call.{Call}
-use Rattle.line_calls.specs.declared.calls.Call.the-variants.{Extract, Exchange}
+use Rattle.line_calls.specs.declared.Call.{Call}
+use Rattle.line_calls.specs.declared.Call.the-variants.{Extract, Exchange}
 use Rattle.join_filter.specs.declared.answers.Answer.{Answer as CallAnswer}
 use Rattle.join_filter.specs.declared.answers.Answer.the-variants.{Length, Refused as CallRefused}
-use Rattle.line_calls.specs.declared.answers.Answer.{Answer}
-use Rattle.line_calls.specs.declared.answers.Answer.the-variants.{Plan, Refused}
+use Rattle.line_answers.specs.declared.Answer.{Answer}
+use Rattle.line_answers.specs.declared.Answer.the-variants.{Plan, Refused}
 
 -- A length is that of the new plan.
 abbrev pub lineAnswer : CallAnswer → Answer

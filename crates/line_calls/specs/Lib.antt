@@ -1,4 +1,2 @@
--- What the contracts cite, in the order to read them.
-pub mod Answers
+-- What the contracts cite.
 pub mod Calling
-pub mod Scratch

@@ -11,11 +11,11 @@ use borrow.Author.Tests.{leb-true, leb-false, eqb-true, eqb-false}
 use Rattle.definitions.specs.Program.{Kept, lineOutcome, writtenLine, freshPlan}
 use Rattle.terms.specs.Refusals.{numberOf}
 use Rattle.terms.specs.declared.refusals.Refusal.the-variants.{NotHexadecimal}
-use Rattle.line_calls.specs.declared.answers.Answer.{Answer}
-use Rattle.line_calls.specs.declared.answers.Answer.the-variants.{Plan, Logical, Refused}
+use Rattle.line_answers.specs.declared.Answer.{Answer}
+use Rattle.line_answers.specs.declared.Answer.the-variants.{Plan, Logical, Refused}
 use Rattle.pieces.specs.declared.states.State.{State}
 use Rattle.writing.specs.Written.{WroteAt}
-use Rattle.line_calls.specs.Answers.{answerBytes, planLength, keptAs, lengthAfter, AnswerIs}
+use Rattle.line_answers.specs.Answers.{answerBytes, planLength, keptAs, lengthAfter, AnswerIs}
 use Rattle.pieces.specs.Pieces.{Session, endLine, piece, inputEnd, freshSession, firstLine, hasFeed}
 use Rattle.pieces.specs.Collecting.{Begun, CollectedIs}
 use Rattle.pieces.specs.Sessions.{Lent, lent, Stands, Makes, mostFilled, EndedIs, TakenIs, FedIs, FinishedIs}
@@ -24,7 +24,7 @@ use Rattle.pieces.specs.declared.collecting.Collected.{Collected}
 use Rattle.hexadecimal.proofs.DecodeLaws.{long-line}
 use Rattle.hexadecimal.proofs.EncodeLaws.{length-digits, wrote-nothing}
 use Rattle.pieces.proofs.PieceLaws.{joined, stopped, upto}
-use Rattle.line_calls.proofs.LineLaws.{refused-line, bad-line}
+use Rattle.line_answers.proofs.LineLaws.{refused-line, bad-line}
 
 abbrev stateOf : (n count filled : ℕ) → State
 stateOf n count filled = record { n = n; count = count; filled = filled }

@@ -7,8 +7,8 @@ use lib.Seq.{sets}
 use lib.Dec.{leb}
 use Rattle.writing.specs.Written.{WroteAt}
 use Rattle.definitions.specs.Basics.{if_then_else_}
-use Rattle.line_calls.specs.Answers.{keptAs}
-use Rattle.line_calls.specs.Scratch.{lineScratch}
+use Rattle.line_answers.specs.Answers.{keptAs}
+use Rattle.line_answers.specs.Scratch.{lineScratch}
 use Rattle.pieces.specs.Pieces.{Session, Step, endLine, piece, firstLine, hasFeed}
 use Rattle.pieces.specs.Collecting.{Begun, takenOf, countAfter}
 use Rattle.pieces.specs.declared.states.State.{State}

@@ -1,2 +1,2 @@
--- Laws that several proofs use.
-pub mod Handing
+-- Laws that the proofs use.
+pub mod Running

@@ -1,114 +1,22 @@
 // Reads lines of hexadecimal from standard input and writes a line for each to standard output. Where reading or writing fails it
 // ends, with a line on standard error.
 //
-// `lines::sessions` says what is written for a piece of the input, and `runs-write` that this is the program's output, wherever the
-// input is cut and whenever what waits is written out. Here it is proved that of what a read gave every character is handed over once
-// and in order, and that nothing of the state is lost between two pieces. What no contract can say, and is left to be read: that
-// `read_on` hands over what its read gave, that `flush` writes what waits, that `run` goes on until a read gives nothing or something
-// fails, that `main` then ends the last line, and that `report` says what failed.
+// `lines` says what is written for a piece of the input, and `runs-write` that this is the program's output, wherever the input is cut
+// and whenever what waits is written out. `feeding` hands every character of what a read gave over once and in order, and here it is
+// proved that nothing of the state is lost between two reads. What no contract can say, and is left to be read: that `read_on` hands
+// over what its read gave, that `output::flush` writes what waits, that `run` goes on until a read gives nothing or something fails,
+// that `main` then ends the last line, and that `report` says what failed.
+use feeding::take_in;
+use feeding::write_last;
 use libc::STDERR_FILENO;
 use libc::STDIN_FILENO;
-use libc::STDOUT_FILENO;
-use lines::sessions::feed;
-use lines::sessions::finish;
-use pieces::states::MOST_FILLED;
+use output::Turn;
 use pieces::states::State;
 use pieces::states::fresh;
 ghost use mathlib.Core.Path.{_≡_};
-ghost use Prim.Native.Nat.{ℕ, _≤_};
-ghost use lib.ListN.{length, take, replicate};
+ghost use lib.ListN.{replicate};
 ghost use Rattle.pieces.specs.Sessions.{lent};
-ghost use Rattle.spatialjoin.specs.Turns.{Flushed, Roomy, Handed, TakenIn, ReadOn, Ran, LastIs};
-
-// What follows a read: another one, or the end of the input; or it failed, or a write did.
-enum Turn {
-    More(State),
-    Ended(State),
-    NotRead,
-    NotWritten,
-}
-
-// Writes what waits.
-fn flush(out: &[u8], state: State) -> Turn
-    requires { ⌜ state .filled ≤ length (now out) ⌝ }
-    ensures { λ r. ⌜ Flushed state r ⌝ }
-{
-    let filled = state.filled;
-    if io::write_all(STDOUT_FILENO, &out[..filled]) {
-        Turn::More(State {
-            n: state.n,
-            count: state.count,
-            filled: 0,
-        })
-    } else {
-        Turn::NotWritten
-    }
-}
-
-// Writes what waits where there is no room for what another line gives.
-fn make_room(out: &[u8], state: State) -> Turn
-    requires { ⌜ state .filled ≤ length (now out) ⌝ }
-    ensures { λ r. ⌜ Roomy state r ⌝ }
-{
-    if MOST_FILLED < state.filled {
-        return flush(out, state);
-    }
-    Turn::More(state)
-}
-
-// Hands over the first `size` characters of a chunk, and writes what they give.
-fn feed_all(
-    out: &mut [u8; 65536],
-    plan: &mut [u8; 16384],
-    scratch: &mut [u8; 16384],
-    line: &mut [u8; 32768],
-    chunk: &[u8],
-    size: usize,
-    state: State,
-) -> Turn
-    requires { ⌜ (size ≤ length (now chunk)) × (state .filled ≡ 0) ⌝ }
-    ensures { λ r. ⌜ Handed (take size (now (chunk .entry)))
-        (lent (now (out .entry)) (now (plan .entry)) (now (scratch .entry)) (now (line .entry))) state
-        (lent (now (out .exit)) (now (plan .exit)) (now (scratch .exit)) (now (line .exit))) r ⌝ }
-{
-    let mut current = state;
-    let mut at: usize = 0;
-    while at < size {
-        let fed = feed(out, plan, scratch, line, &chunk[at..size], current);
-        let taken = fed.taken;
-        let Turn::More(next) = make_room(out, fed.state) else {
-            return Turn::NotWritten;
-        };
-        at += taken;
-        current = next;
-    }
-    flush(out, current)
-}
-
-// Handles what a read gave: as many characters of the chunk as it says, the end of the input, or that it failed.
-fn take_in(
-    out: &mut [u8; 65536],
-    plan: &mut [u8; 16384],
-    scratch: &mut [u8; 16384],
-    line: &mut [u8; 32768],
-    chunk: &[u8],
-    got: isize,
-    state: State,
-) -> Turn
-    requires { ⌜ state .filled ≡ 0 ⌝ }
-    ensures { λ r. ⌜ TakenIn got (now (chunk .entry))
-        (lent (now (out .entry)) (now (plan .entry)) (now (scratch .entry)) (now (line .entry))) state
-        (lent (now (out .exit)) (now (plan .exit)) (now (scratch .exit)) (now (line .exit))) r ⌝ }
-{
-    if got < 0 {
-        return Turn::NotRead;
-    }
-    if got == 0 {
-        return Turn::Ended(state);
-    }
-    let size = io::count(got, chunk);
-    feed_all(out, plan, scratch, line, chunk, size, state)
-}
+ghost use Rattle.spatialjoin.specs.Runs.{ReadOn, Ran};
 
 // Reads once, and handles what came.
 fn read_on(
@@ -160,23 +68,6 @@ fn run(
         }
     }
     Turn::More(state)
-}
-
-// Writes what a last line without a line feed gives.
-fn write_last(
-    out: &mut [u8; 65536],
-    plan: &mut [u8; 16384],
-    scratch: &mut [u8; 16384],
-    line: &[u8; 32768],
-    state: State,
-) -> Turn
-    requires { ⌜ state .filled ≡ 0 ⌝ }
-    ensures { λ r. ⌜ LastIs
-        (lent (now (out .entry)) (now (plan .entry)) (now (scratch .entry)) (now (line .entry))) state
-        (lent (now (out .exit)) (now (plan .exit)) (now (scratch .exit)) (now (line .entry))) r ⌝ }
-{
-    let last = finish(out, plan, scratch, line, state);
-    flush(out, last)
 }
 
 // Says what failed, if anything did.

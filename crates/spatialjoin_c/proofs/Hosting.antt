@@ -12,7 +12,8 @@ use Rattle.definitions.proofs.Lengths.{lengths-are-short}
 use Rattle.join_filter.specs.Outcomes.{answerOf, LoadIs, OutcomeIs}
 use Rattle.join_filter.specs.declared.answers.Answer.{Answer}
 use Rattle.join_filter.specs.declared.answers.Answer.the-variants.{Length, Refused}
-use Rattle.spatialjoin_c.specs.Hosted.{Short, LoadHosted, CallHosted}
+use Rattle.spatialjoin_c.specs.Hosted.{LoadHosted, CallHosted}
+use Rattle.host_answers.specs.Short.{Short}
 
 module _ (frame before after : List ℕ) (r : Answer) (is : LoadIs frame before after r) where
   pub load-short : AllBytes frame → Short r

@@ -1,17 +1,10 @@
 -- Which definition each number is, and what the buffers are.
-use Prim.Native.Nat.{ℕ, _≤_}
+use Prim.Native.Nat.{ℕ}
 use mathlib.Core.Path.{_≡_}
 use mathlib.Core.List.{List}
 use lib.IntN.{ℤ}
 use Rattle.definitions.specs.Calls.{load, Outcome}
 use Rattle.definitions.specs.Hosts.{hosted}
-use Rattle.join_filter.specs.declared.answers.Answer.{Answer}
-use Rattle.join_filter.specs.declared.answers.Answer.the-variants.{Length, Refused}
-
--- A length is at most 16,384.
-abbrev pub Short : Answer → Type 0
-Short (Length n) = n ≤ 16384
-Short (Refused why) = Unit {0}
 
 -- The load is the definition's, whatever n the host had.
 abbrev pub LoadHosted : (frame before after : List ℕ) → ℤ → Type 0

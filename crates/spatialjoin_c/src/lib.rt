@@ -1,3 +1,57 @@
-// The calls for C and Rust hosts: include/spatialjoin.h declares them.
-mod answers;
-pub mod calls;
+// What C and Rust hosts call; include/spatialjoin.h declares it. Each answer is a number of 64 bits; the buffers are as the definitions' calls leave them.
+use call_exchange::exchange;
+use call_extract::extract;
+use call_load::load;
+use call_logical::Names;
+use call_logical::logical;
+use host_answers::answer_number;
+use host_answers::minus_refusal;
+use logical_filter::knn_query_side::query_side_number;
+ghost use mathlib.Core.Path.{_≡_};
+ghost use Rattle.definitions.specs.Calls as definitions;
+ghost use Rattle.definitions.specs.Hosts.{hostedNames};
+ghost use Rattle.definitions.specs.Logical as logicals;
+ghost use Rattle.spatialjoin_c.specs.Hosted.{LoadHosted, CallHosted};
+
+// Loads a frame as the new plan; reads nothing of the old one.
+#[no_mangle]
+pub extern "C" fn spatialjoin_load(frame: &[u8], plan: &mut [u8]) -> i64
+    ensures { λ r. ⌜ LoadHosted (now (frame .entry)) (now (plan .entry)) (now (plan .exit)) r ⌝ }
+{
+    let answer = load(plan, frame);
+    answer_number(answer)
+}
+
+// Pulls the predicate out of the plan in the first n bytes.
+#[no_mangle]
+pub extern "C" fn spatialjoin_extract(plan: &mut [u8], n: usize, scratch: &mut [u8]) -> i64
+    ensures { λ r. ⌜ CallHosted (definitions.extract n (now (plan .entry)) (now (scratch .entry))) (now (plan .exit))
+        (now (scratch .exit)) r ⌝ }
+{
+    answer_number(extract(plan, n, scratch))
+}
+
+// Exchanges the join's children in the plan in the first n bytes.
+#[no_mangle]
+pub extern "C" fn spatialjoin_exchange(plan: &mut [u8], n: usize, scratch: &mut [u8]) -> i64
+    ensures { λ r. ⌜ CallHosted (definitions.exchange n (now (plan .entry)) (now (scratch .entry))) (now (plan .exit))
+        (now (scratch .exit)) r ⌝ }
+{
+    answer_number(exchange(plan, n, scratch))
+}
+
+// The spatial names of a logical frame, how many they are, and its KNN query side.
+#[no_mangle]
+pub extern "C" fn spatialjoin_logical(frame: &[u8]) -> i64
+    ensures { λ r. ⌜ r ≡ hostedNames (logicals.logical (now (frame .entry))) ⌝ }
+{
+    match logical(frame) {
+        Names::Refused(why) => minus_refusal(why),
+        Names::Found(found, side) => {
+            let mask = found.mask as u64;
+            let names = found.names as u64;
+            let side = query_side_number(side) as u64;
+            (mask * 65536 + names * 256 + side) as i64
+        }
+    }
+}

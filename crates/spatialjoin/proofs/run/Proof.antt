@@ -1,8 +1,8 @@
 -- `run`: between two reads the state stands for what came before; the measure is the turns that are left.
 use borrow.Author.Needs.{needs}
 use Rattle.pieces.specs.Sessions.{lent}
-use Rattle.spatialjoin.specs.Turns.{Reached}
-use Rattle.spatialjoin.proofs.Handing.{reached-none, reached-more, reached-end}
+use Rattle.spatialjoin.specs.Runs.{Reached}
+use Rattle.spatialjoin.proofs.Running.{reached-none, reached-more, reached-end}
 use Rattle.spatialjoin.proofs.run.Statement.{statement}
 use Rattle.spatialjoin.proofs.run.Tie as tie
 

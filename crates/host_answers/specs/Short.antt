@@ -1,0 +1,9 @@
+-- What a length may be.
+use Prim.Native.Nat.{_≤_}
+use Rattle.join_filter.specs.declared.answers.Answer.{Answer}
+use Rattle.join_filter.specs.declared.answers.Answer.the-variants.{Length, Refused}
+
+-- A length is at most 16,384.
+abbrev pub Short : Answer → Type 0
+Short (Length n) = n ≤ 16384
+Short (Refused why) = Unit {0}

@@ -1,0 +1,26 @@
+-- What holds after a read, and after a run.
+use Prim.Native.Nat.{ℕ}
+use mathlib.Core.Path.{_≡_}
+use mathlib.Core.List.{List}
+use lib.IntN.{ℤ}
+use Rattle.pieces.specs.Pieces.{piece, freshSession}
+use Rattle.pieces.specs.Sessions.{Lent, Stands}
+use Rattle.pieces.specs.declared.states.State.{State}
+use Rattle.feeding.specs.Handing.{TakenIn}
+use Rattle.output.specs.declared.Turn.{Turn}
+use Rattle.output.specs.declared.Turn.the-variants.{More, Ended, NotRead, NotWritten}
+
+-- A read gave some number, and what it gave was taken in.
+abbrev pub ReadOn : (chunk : List ℕ) (before : Lent) (state : State) (after : Lent) → Turn → Type 0
+ReadOn chunk before state after r = (got : ℤ) × TakenIn got chunk before state after r
+
+-- The state stands for what the program makes of some input, and nothing waits.
+abbrev pub Reached : (b : Lent) (state : State) → Type 0
+Reached b state = (state .filled ≡ 0) × (input : List ℕ) × Stands b state (piece freshSession input .after)
+
+-- A run reached the end of the input, with a state that stands for what came before it; or it stopped where reading or writing failed.
+abbrev pub Ran : (after : Lent) → Turn → Type 0
+Ran after (More next) = Reached after next
+Ran after (Ended last) = Reached after last
+Ran after NotRead = Unit {0}
+Ran after NotWritten = Unit {0}

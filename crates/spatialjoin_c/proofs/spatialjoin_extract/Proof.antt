@@ -1,0 +1,27 @@
+-- `spatialjoin_extract`: the extract's answer as one number.
+use borrow.Author.Needs.{needs}
+use Rattle.definitions.specs.Machine.{extractCall}
+use Rattle.definitions.specs.Sessions.{make}
+use Rattle.reading.proofs.Standing.{all-bytes}
+use Rattle.host_answers.proofs.Numbers.{given-back}
+use Rattle.spatialjoin_c.proofs.Hosting.{call-short, call-hosted}
+use Rattle.spatialjoin_c.proofs.spatialjoin_extract.Statement.{statement}
+use Rattle.spatialjoin_c.proofs.spatialjoin_extract.Tie as tie
+
+answer-number-requires : tie.Need-answer-number-requires
+unfolding make
+answer-number-requires c κs =
+    let called = c .before .before .before .before in
+    let known = called .before .before .before .before in
+    call-short extractCall _ _ _ _ _ (called .extract .result) (called .extract .ensures)
+    (all-bytes (known .before .args .plan .now) (known .slice-known .given))
+
+returns : tie.Need-returns
+unfolding make
+returns c =
+    let call = c .before .before .before .before .before .extract in
+    call-hosted extractCall _ _ _ _ _ (call .result) (call .ensures) _ (given-back _ _ (c .answer-number .ok) (c .answer-number .ensures))
+
+pub spatialjoin-extract-spec : {M : Type 1} → statement M
+spatialjoin-extract-spec =
+    tie.close (tie.spec (λ c κs. search needs) answer-number-requires (λ c. search needs) (λ c. search needs) returns)
