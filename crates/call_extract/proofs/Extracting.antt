@@ -12,8 +12,8 @@ use Rattle.definitions.specs.Basics.{if_then_else_, Result, ok, refused}
 use Rattle.definitions.specs.Expression.{Frame, Extraction, Plan, empty, extracted}
 use Rattle.definitions.specs.Encode.{planBytes, extractionBytes}
 use Rattle.definitions.specs.Plans.{planOf}
-use Rattle.definitions.specs.Extract.{Pick, pick, takePick, matchesOf, extraction}
-use Rattle.definitions.specs.Calls.{Outcome, writtenOver, finish, heldPlan, matchedBytes, newAfterExtract, extract}
+use Rattle.definitions.specs.Extract.{Pick, pick, takePick, matchesOf, extractionBy, extraction}
+use Rattle.definitions.specs.Calls.{Outcome, writtenOver, finish, heldPlan, matchedBytes, newAfterExtractBy, extract}
 use Rattle.definitions.specs.Good.{AllBytes, ReadableFrame}
 use Rattle.definitions.proofs.ExtractGood.{GoodExtraction, extraction-good}
 use Rattle.frame_reader.specs.declared.frames.Frame as places
@@ -27,7 +27,7 @@ use Rattle.join_filter.proofs.Keeping.{held-is, plan-size, kept, kept-over}
 
 pub extracted-before : (n : ℕ) (before scratch : List ℕ) → n ≤ length before → (X : Extraction) → planOf (take n before) ≡ ok (extracted X)
     → extract n before scratch ≡ refuses n before scratch 12
-unfolding newAfterExtract finish
+unfolding newAfterExtractBy finish
 extracted-before n before scratch fits X e = outcome extract-call n before scratch (held-is n before fits e) refl
 
 -- ---- a held frame
@@ -38,7 +38,7 @@ module _ (n : ℕ) (before scratch : List ℕ) {f : places.Frame} (h : HoldsFram
 
   by-test : (b : Bool) → leb n (length scratch) ≡ b → (x : Option Extraction) → extraction F ≡ x
       → extract n before scratch ≡ finish n before scratch (if b then matchedBytes x else refused 9)
-  unfolding newAfterExtract
+  unfolding newAfterExtractBy
   by-test b t x e =
       outcome extract-call n before scratch (held-is n before (h .fits) (h .is))
       (ap (λ (y : Bool). if y then matchedBytes (extraction F) else refused 9) t
@@ -49,7 +49,7 @@ module _ (n : ℕ) (before scratch : List ℕ) {f : places.Frame} (h : HoldsFram
   scratch-short short = by-test false (lt-leb n (length scratch) short) (extraction F) refl
 
   pub no-leaf : n ≤ length scratch → pick (matchesOf F) ≡ none → extract n before scratch ≡ refuses n before scratch 13
-  unfolding finish extraction takePick matchedBytes
+  unfolding finish extractionBy takePick matchedBytes
   no-leaf room e = by-test true (le-leb n (length scratch) room) none (ap (takePick F) e)
 
   -- The frame's expression over its records, where the pick looks.
@@ -61,7 +61,7 @@ module _ (n : ℕ) (before scratch : List ℕ) {f : places.Frame} (h : HoldsFram
     X = takes F p (t .q)
 
     extraction-is : extraction F ≡ some X
-    unfolding extraction takePick
+    unfolding extractionBy takePick
     extraction-is = ap (takePick F) (t .is)
 
     -- The extraction is not longer than the frame, whose bytes the plan is.

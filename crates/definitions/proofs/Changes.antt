@@ -10,17 +10,19 @@ use lib.Seq.{take-append-seam, drop-append-seam, length-take-le}
 use lib.Dec.{leb}
 use borrow.Author.Tests.{leb-true}
 use Rattle.definitions.specs.Basics.{if_then_else_, Result, ok, refused}
-use Rattle.definitions.specs.Expression.{Frame, Extraction, Plan, empty, held, extracted}
+use Rattle.definitions.specs.Expression.{Record, Frame, Extraction, Plan, empty, held, extracted}
 use Rattle.definitions.specs.Encode.{frameBytes, planBytes}
 use Rattle.definitions.specs.Plans.{frameOf, planOf}
-use Rattle.definitions.specs.Extract.{extraction}
-use Rattle.definitions.specs.Calls.{writtenOver, newAfterLoad, finishLoad, load, finish, heldPlan, newAfterExchange, exchange, matchedBytes, newAfterExtract, extract}
+use Rattle.definitions.specs.Extract.{Matcher, extractionBy}
+use Rattle.definitions.specs.Calls.{writtenOver, newAfterLoad, finishLoad, load, finish, heldPlan, newAfterExchange, exchange, matchedBytes, newAfterExtractBy, extractBy}
 use Rattle.definitions.specs.Machine.{Kind, extractCall, exchangeCall}
 use Rattle.definitions.specs.Good.{AllBytes, GoodPlan}
-use Rattle.definitions.specs.Sessions.{make, accepted}
-use Rattle.definitions.specs.Claims.{RefusedKeeps, SameFrom, LoadWrote, CallWrote, AcceptedWrites}
+use Rattle.definitions.specs.Sessions.{makeBy, accepted}
+use Rattle.definitions.specs.Meaning.{Meaning}
+use Rattle.definitions.specs.Matchers.{Lawful}
+use Rattle.definitions.specs.Claims.{SameFrom, LoadWrote, CallWrote}
 use Rattle.definitions.proofs.InversePlan.{plan-back}
-use Rattle.definitions.proofs.ExtractGood.{GoodExtraction, extraction-good}
+use Rattle.definitions.proofs.ExtractGood.{GoodExtraction, good-by}
 use Rattle.definitions.proofs.ExchangeGood.{plan-as-long}
 use Rattle.definitions.proofs.Lengths.{bytes-up-to}
 
@@ -38,15 +40,18 @@ unfolding finish accepted
 finish-keeps n buffer scratch (ok bytes) a = absurd (false≢true (sym a))
 finish-keeps n buffer scratch (refused number) a = (refl, refl, refl)
 
-make-keeps : (kind : Kind) (n : ℕ) (buffer scratch : List ℕ) → accepted (make kind n buffer scratch .answer) ≡ false
-    → (make kind n buffer scratch .n ≡ n) × (make kind n buffer scratch .buffer ≡ buffer) × (make kind n buffer scratch .scratch ≡ scratch)
-unfolding make extract exchange
-make-keeps extractCall n buffer scratch a = finish-keeps n buffer scratch _ a
-make-keeps exchangeCall n buffer scratch a = finish-keeps n buffer scratch _ a
-
-pub refused-keep : RefusedKeeps
+pub load-keeps : (frame : List ℕ) (n : ℕ) (buffer : List ℕ) → accepted (load frame n buffer .answer) ≡ false
+    → (load frame n buffer .n ≡ n) × (load frame n buffer .buffer ≡ buffer)
 unfolding load
-refused-keep = (λ frame n buffer a. loaded-keeps n buffer _ a, make-keeps)
+load-keeps frame n buffer a = loaded-keeps n buffer _ a
+
+pub make-keeps : (match : Matcher) (kind : Kind) (n : ℕ) (buffer scratch : List ℕ)
+    → accepted (makeBy match kind n buffer scratch .answer) ≡ false
+    → (makeBy match kind n buffer scratch .n ≡ n) × (makeBy match kind n buffer scratch .buffer ≡ buffer)
+    × (makeBy match kind n buffer scratch .scratch ≡ scratch)
+unfolding makeBy extractBy exchange
+make-keeps match extractCall n buffer scratch a = finish-keeps n buffer scratch _ a
+make-keeps match exchangeCall n buffer scratch a = finish-keeps n buffer scratch _ a
 
 -- ---- bytes written over others
 
@@ -75,12 +80,17 @@ loaded-wrote frame n buffer true e a = record {
 }
 loaded-wrote frame n buffer false e a = absurd (false≢true a)
 
-load-wrote : (frame : List ℕ) (n : ℕ) (buffer : List ℕ) (r : Result Frame)
+read-wrote : (frame : List ℕ) (n : ℕ) (buffer : List ℕ) (r : Result Frame)
     → accepted (finishLoad n buffer (newAfterLoad frame (length buffer) r) .answer) ≡ true
     → LoadWrote frame buffer (finishLoad n buffer (newAfterLoad frame (length buffer) r))
 unfolding newAfterLoad
-load-wrote frame n buffer (ok F) a = loaded-wrote frame n buffer (leb (length frame) (length buffer)) refl a
-load-wrote frame n buffer (refused number) a = unfold finishLoad accepted in absurd (false≢true a)
+read-wrote frame n buffer (ok F) a = loaded-wrote frame n buffer (leb (length frame) (length buffer)) refl a
+read-wrote frame n buffer (refused number) a = unfold finishLoad accepted in absurd (false≢true a)
+
+pub load-wrote : (frame : List ℕ) (n : ℕ) (buffer : List ℕ) → accepted (load frame n buffer .answer) ≡ true
+    → LoadWrote frame buffer (load frame n buffer)
+unfolding load
+load-wrote frame n buffer a = read-wrote frame n buffer (frameOf frame) a
 
 -- ---- extract and exchange
 
@@ -126,11 +136,13 @@ module _ (n : ℕ) (buffer scratch : List ℕ) where
     taken-fit F none g e room = tt
     taken-fit F (some X) g e room = (omega (arith, g .1, ap length e, length-take-le n buffer fits), room, fits)
 
-    extract-fit : (p : Plan) → GoodPlan p → planBytes p ≡ take n buffer → Fit (newAfterExtract n (length scratch) (ok p))
-    unfolding newAfterExtract planBytes
-    extract-fit empty g e = tt
-    extract-fit (held F) g e = if-fit (leb n (length scratch)) _ refl (λ room. taken-fit F (extraction F) (extraction-good F g) e room)
-    extract-fit (extracted X) g e = tt
+    extract-fit : {match : Matcher} {Asks : Meaning → List Record → Type 0} → Lawful match Asks → (p : Plan) → GoodPlan p
+        → planBytes p ≡ take n buffer → Fit (newAfterExtractBy match n (length scratch) (ok p))
+    unfolding newAfterExtractBy planBytes
+    extract-fit laws empty g e = tt
+    extract-fit {match} laws (held F) g e =
+        if-fit (leb n (length scratch)) _ refl (λ room. taken-fit F (extractionBy match F) (good-by laws F g) e room)
+    extract-fit laws (extracted X) g e = tt
 
   -- What is written from a plan fits if it fits for every good plan that the first n bytes are, and nothing is written for a refusal.
   held-fit : (write : Result Plan → Result (List ℕ)) → AllBytes buffer → ((number : ℕ) → Fit (write (refused number)))
@@ -147,19 +159,12 @@ module _ (n : ℕ) (buffer scratch : List ℕ) where
     by-room true e = of-plan (leb-true n (length buffer) e) (planOf (take n buffer)) refl
     by-room false e = none-from 10
 
-  make-wrote : (kind : Kind) → AllBytes buffer → accepted (make kind n buffer scratch .answer) ≡ true
-      → CallWrote n buffer scratch (make kind n buffer scratch)
-  unfolding make extract exchange
-  make-wrote extractCall bytes a =
-      finish-wrote _ (held-fit (newAfterExtract n (length scratch)) bytes (λ number. unfold newAfterExtract in tt)
-      (λ fits p g e. extract-fit fits p g e)) a
-  make-wrote exchangeCall bytes a =
+  pub make-wrote : {match : Matcher} {Asks : Meaning → List Record → Type 0} → Lawful match Asks → (kind : Kind) → AllBytes buffer
+      → accepted (makeBy match kind n buffer scratch .answer) ≡ true → CallWrote n buffer scratch (makeBy match kind n buffer scratch)
+  unfolding makeBy extractBy exchange
+  make-wrote {match} laws extractCall bytes a =
+      finish-wrote _ (held-fit (newAfterExtractBy match n (length scratch)) bytes (λ number. unfold newAfterExtractBy in tt)
+      (λ fits p g e. extract-fit fits laws p g e)) a
+  make-wrote laws exchangeCall bytes a =
       finish-wrote _ (held-fit (newAfterExchange n (length scratch)) bytes (λ number. unfold newAfterExchange in tt)
       (λ fits p g e. exchange-fit fits p e)) a
-
-pub accepted-write : AcceptedWrites
-unfolding load
-accepted-write = (
-  λ frame n buffer a. load-wrote frame n buffer (frameOf frame) a,
-  λ kind n buffer scratch bytes a. make-wrote n buffer scratch kind bytes a,
-)

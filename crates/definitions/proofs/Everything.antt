@@ -73,7 +73,7 @@ match = 0
 
 unfoldable pub extract : ℕ
 unfolding Extract.isKnn Extract.later Extract.firstMatch Extract.firstOf Extract.pick Extract.andLeft Extract.andRight Extract.without
-    Extract.sameColumn Extract.referenced Extract.newIndex Extract.prune Extract.takePick Extract.matchesOf Extract.extraction
+    Extract.sameColumn Extract.referenced Extract.newIndex Extract.prune Extract.takePick Extract.matchesBy Extract.extractionBy
 extract = 0
 
 unfoldable pub exchange : ℕ
@@ -83,7 +83,7 @@ exchange = 0
 
 unfoldable pub calls : ℕ
 unfolding Calls.writtenOver Calls.newAfterLoad Calls.finishLoad Calls.load Calls.finish Calls.heldPlan Calls.newAfterExchange
-    Calls.exchange Calls.matchedBytes Calls.newAfterExtract Calls.extract
+    Calls.exchange Calls.matchedBytes Calls.newAfterExtractBy Calls.extractBy
 calls = 0
 
 unfoldable pub machine : ℕ
@@ -92,7 +92,8 @@ unfolding Machine.extractionOr Machine.machinePlan Machine.machineLength Machine
 machine = 0
 
 unfoldable pub sessions : ℕ
-unfolding Sessions.make Sessions.callsRun Sessions.fed Sessions.accepted Sessions.isExtract Sessions.extractAccepted Sessions.exchangesOdd
+unfolding Sessions.makeBy Sessions.callsRunBy Sessions.fed Sessions.accepted Sessions.isExtract Sessions.extractAccepted
+    Sessions.exchangesOdd
 sessions = 0
 
 unfoldable pub meaning : ℕ

@@ -9,11 +9,10 @@ use Rattle.definitions.specs.Basics.{if_then_else_, any, keep}
 use Rattle.definitions.specs.Expression.{Expr, Record, Frame, Predicate, relation, distance, knn}
 use Rattle.definitions.specs.Leaves.{leaves}
 use Rattle.definitions.specs.References.{recordAt, mapColumns, columnsOf}
-use Rattle.definitions.specs.Extract.{Pick, isKnn, later, firstMatch, firstOf, pick, sameColumn, referenced, newIndex, prune, takePick, matchesOf, extraction}
+use Rattle.definitions.specs.Extract.{Pick, isKnn, later, firstMatch, firstOf, pick, sameColumn, referenced, newIndex, prune, takePick, Matcher, matchesBy, extractionBy}
 use Rattle.definitions.specs.Exchange.{exchangeRecord, exchangeFrame, exchangePredicate, exchangeExtraction}
 use Rattle.definitions.specs.Meaning.{Meaning}
-use Rattle.definitions.specs.Matchers.{Matcher, matchesBy, extractionBy, Lawful}
-use Rattle.definitions.proofs.MatchLaws.{match-laws}
+use Rattle.definitions.specs.Matchers.{Lawful}
 use Rattle.definitions.proofs.Exchange.{swapped, record-at, same-negated}
 
 -- ---- the pick
@@ -136,14 +135,10 @@ matches-turned match turns rs (e ∷ es) =
 module _ {match : Matcher} {Asks : Meaning → List Record → Type 0} (laws : Lawful match Asks) where
   -- The pick of the exchanged frame is the exchanged pick, at the same position.
   picked-exchanged : (F : Frame) → pick (matchesBy match (exchangeFrame F)) ≡ Option·map exchangePick (pick (matchesBy match F))
-  unfolding exchangeFrame
+  unfolding exchangeFrame matchesBy
   picked-exchanged F = ap pick (matches-turned match (laws .turns) (F .records) (leaves (F .expr))) ∙ pick-exchanged (matchesBy match F)
 
   -- The extraction of the exchanged frame is the exchanged extraction; where one is none so is the other.
   pub exchanged-by : (F : Frame) → extractionBy match (exchangeFrame F) ≡ Option·map exchangeExtraction (extractionBy match F)
+  unfolding extractionBy
   exchanged-by F = ap (takePick (exchangeFrame F)) (picked-exchanged F) ∙ take-exchanged F (pick (matchesBy match F))
-
--- With 01's matcher too.
-pub extraction-exchange : (F : Frame) → extraction (exchangeFrame F) ≡ Option·map exchangeExtraction (extraction F)
-unfolding extraction matchesOf
-extraction-exchange F = exchanged-by match-laws F

@@ -15,12 +15,12 @@ use Rattle.definitions.specs.Encode.{exprBytes, frameBytes, predicateFie
 use Rattle.definitions.specs.Leaves.{arity}
 use Rattle.definitions.specs.Decode.{indexBelow}
 use Rattle.definitions.specs.References.{recordAt, columnsOf, sameSide}
-use Rattle.definitions.specs.Extract.{Pick, pick, without, sameColumn, referenced, newIndex, prune, takePick, matchesOf, extraction}
+use Rattle.definitions.specs.Extract.{Pick, pick, without, sameColumn, referenced, newIndex, prune, takePick, Matcher, matchesBy, extractionBy, extraction}
 use Rattle.definitions.specs.Good.{All, nodes, depth, InRange, RecordsInRange, ReadableFrame, ReadableRemainder, remainderNodes, planNodes, GoodPlan}
 use Rattle.definitions.proofs.Columns.{Fits as FitsIn, map-length, map-nodes, map-depth, map-in-range, map-arity, all-both, columns-below}
 use Rattle.definitions.proofs.Taken.{Taken, taken-bytes, taken-nodes, leaf-depth, rest-depth, leaf-in-range, rest-in-range, rest-arity, restBytes, restNodes, RestIs}
 use Rattle.definitions.specs.Meaning.{Meaning}
-use Rattle.definitions.specs.Matchers.{Matcher, matchesBy, extractionBy, Fits, Lawful}
+use Rattle.definitions.specs.Matchers.{Fits, Lawful}
 use Rattle.definitions.proofs.MatchLaws.{match-laws}
 use Rattle.definitions.proofs.Pick.{taking, Picked, picked, leafAt, pick-taken, pick-matches}
 use Rattle.definitions.proofs.Tools.{by-test}
@@ -183,9 +183,9 @@ module _ {match : Matcher} {Asks : Meaning → List Record → Type 0} (laws : L
 
   -- The extraction of a good frame is good, and never longer than the frame.
   pub good-by : (F : Frame) → GoodPlan (held F) → GoodExtraction F (extractionBy match F)
+  unfolding extractionBy
   good-by F g = take-good F g (pick (matchesBy match F)) (picked (matchesBy match F) F)
 
 -- With 01's matcher too.
 pub extraction-good : (F : Frame) → GoodPlan (held F) → GoodExtraction F (extraction F)
-unfolding extraction matchesOf
-extraction-good F g = good-by match-laws F g
+extraction-good = good-by match-laws

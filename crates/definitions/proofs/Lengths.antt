@@ -7,19 +7,20 @@ use mathlib.Core.Option.{Option, none, some}
 use lib.ListN.{length, take}
 use lib.Dec.{leb}
 use Rattle.definitions.specs.Basics.{if_then_else_, Result, ok, refused}
-use Rattle.definitions.specs.Expression.{Frame, Extraction, Plan, empty, held, extracted}
+use Rattle.definitions.specs.Expression.{Record, Frame, Extraction, Plan, empty, held, extracted}
 use Rattle.definitions.specs.Encode.{planBytes}
 use Rattle.definitions.specs.Plans.{frameOf, planOf}
-use Rattle.definitions.specs.Extract.{extraction}
+use Rattle.definitions.specs.Extract.{Matcher, extractionBy}
 use Rattle.definitions.specs.Exchange.{exchangePlan}
-use Rattle.definitions.specs.Calls.{newAfterLoad, finishLoad, load, finish, heldPlan, newAfterExchange, exchange, matchedBytes, newAfterExtract, extract}
+use Rattle.definitions.specs.Calls.{newAfterLoad, finishLoad, load, finish, heldPlan, newAfterExchange, exchange, matchedBytes, newAfterExtractBy, extractBy}
 use Rattle.definitions.specs.Machine.{Kind, extractCall, exchangeCall}
-use Rattle.definitions.specs.Sessions.{make}
+use Rattle.definitions.specs.Sessions.{makeBy}
 use Rattle.definitions.specs.Good.{AllBytes, GoodPlan}
-use Rattle.definitions.specs.Claims.{LengthsShort}
+use Rattle.definitions.specs.Meaning.{Meaning}
+use Rattle.definitions.specs.Matchers.{Lawful}
 use Rattle.definitions.proofs.InverseFrame.{refused-not-ok, same-ok, frame-back}
 use Rattle.definitions.proofs.InversePlan.{plan-back}
-use Rattle.definitions.proofs.ExtractGood.{GoodExtraction, extraction-good}
+use Rattle.definitions.proofs.ExtractGood.{GoodExtraction, good-by}
 use Rattle.definitions.proofs.ExchangeGood.{exchange-good}
 
 -- Bytes, if there are any, are at most 16,384.
@@ -44,6 +45,10 @@ loaded-short : (n : ℕ) (buffer : List ℕ) (x : Result (List ℕ)) {m : ℕ} �
 unfolding finishLoad
 loaded-short n buffer (ok bytes) h e = subst (λ k. k ≤ 16384) (same-ok _ _ e) h
 loaded-short n buffer (refused number) h e = absurd (refused-not-ok _ _ e)
+
+pub load-is-short : (frame : List ℕ) (n : ℕ) (buffer : List ℕ) (m : ℕ) → AllBytes frame → load frame n buffer .answer ≡ ok m → m ≤ 16384
+unfolding load
+load-is-short frame n buffer m bytes e = loaded-short n buffer _ (load-short frame (length buffer) (frameOf frame) bytes refl) e
 
 -- ---- extract and exchange
 
@@ -80,14 +85,6 @@ unfolding matchedBytes
 extracted-short F (some X) g = g .0 .fewBytes
 extracted-short F none g = tt
 
-extract-short : (n room : ℕ) (r : Result Plan) → Good r → Short (newAfterExtract n room r)
-unfolding newAfterExtract
-extract-short n room (ok empty) g = tt
-extract-short n room (ok (held F)) g =
-    if-short (leb n room) (matchedBytes (extraction F)) 9 (extracted-short F (extraction F) (extraction-good F g))
-extract-short n room (ok (extracted X)) g = tt
-extract-short n room (refused number) g = tt
-
 exchange-short : (n room : ℕ) (r : Result Plan) → Good r → Short (newAfterExchange n room r)
 unfolding newAfterExchange
 exchange-short n room (ok empty) g = tt
@@ -97,17 +94,19 @@ exchange-short n room (ok (extracted X)) g =
     if-short (leb n room) (ok (planBytes (exchangePlan (extracted X)))) 9 (exchange-good (extracted X) g .fewBytes)
 exchange-short n room (refused number) g = tt
 
-make-short : (kind : Kind) (n : ℕ) (buffer scratch : List ℕ) {m : ℕ} → AllBytes buffer → make kind n buffer scratch .answer ≡ ok m
-    → m ≤ 16384
-unfolding make extract exchange
-make-short extractCall n buffer scratch bytes e =
-    finish-short n buffer scratch _ (extract-short n (length scratch) _ (held-good n buffer bytes)) e
-make-short exchangeCall n buffer scratch bytes e =
-    finish-short n buffer scratch _ (exchange-short n (length scratch) _ (held-good n buffer bytes)) e
+module _ {match : Matcher} {Asks : Meaning → List Record → Type 0} (laws : Lawful match Asks) where
+  extract-short : (n room : ℕ) (r : Result Plan) → Good r → Short (newAfterExtractBy match n room r)
+  unfolding newAfterExtractBy
+  extract-short n room (ok empty) g = tt
+  extract-short n room (ok (held F)) g =
+      if-short (leb n room) (matchedBytes (extractionBy match F)) 9 (extracted-short F (extractionBy match F) (good-by laws F g))
+  extract-short n room (ok (extracted X)) g = tt
+  extract-short n room (refused number) g = tt
 
-pub lengths-are-short : LengthsShort
-unfolding load
-lengths-are-short = (
-  λ frame n buffer m bytes e. loaded-short n buffer _ (load-short frame (length buffer) (frameOf frame) bytes refl) e,
-  λ kind n buffer scratch m bytes e. make-short kind n buffer scratch bytes e,
-)
+  pub make-short : (kind : Kind) (n : ℕ) (buffer scratch : List ℕ) (m : ℕ) → AllBytes buffer
+      → makeBy match kind n buffer scratch .answer ≡ ok m → m ≤ 16384
+  unfolding makeBy extractBy exchange
+  make-short extractCall n buffer scratch m bytes e =
+      finish-short n buffer scratch _ (extract-short n (length scratch) _ (held-good n buffer bytes)) e
+  make-short exchangeCall n buffer scratch m bytes e =
+      finish-short n buffer scratch _ (exchange-short n (length scratch) _ (held-good n buffer bytes)) e

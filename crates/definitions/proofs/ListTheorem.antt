@@ -9,14 +9,17 @@ use lib.Seq.{take-append-seam, length-take-le}
 use lib.Dec.{leb}
 use borrow.Author.Tests.{leb-true}
 use Rattle.definitions.specs.Basics.{if_then_else_, Result, ok, refused}
-use Rattle.definitions.specs.Expression.{Frame}
+use Rattle.definitions.specs.Expression.{Record, Frame}
 use Rattle.definitions.specs.Encode.{planBytes, frameBytes}
 use Rattle.definitions.specs.Plans.{frameOf}
+use Rattle.definitions.specs.Extract.{Matcher}
 use Rattle.definitions.specs.Calls.{LoadOutcome, writtenOver, newAfterLoad, finishLoad, load}
 use Rattle.definitions.specs.Machine.{machinePlan, machineLength, fresh}
 use Rattle.definitions.specs.Good.{AllBytes}
-use Rattle.definitions.specs.Sessions.{Made, machineAfter, accepted, Session, after}
-use Rattle.definitions.specs.Claims.{LoadAccepted, LoadHolds, ListOfCalls}
+use Rattle.definitions.specs.Sessions.{Made, machineAfterBy, accepted, SessionBy, after}
+use Rattle.definitions.specs.Meaning.{Meaning}
+use Rattle.definitions.specs.Matchers.{Lawful}
+use Rattle.definitions.specs.Claims.{LoadAccepted, AgreeBy}
 use Rattle.definitions.proofs.RoundTripPlan.{frame-reads}
 use Rattle.definitions.proofs.InverseFrame.{frame-back}
 use Rattle.definitions.proofs.Lists.{Holds, AgreesAll, run-agrees}
@@ -46,11 +49,12 @@ module _ (frame : List ℕ) (n : ℕ) (buffer : List ℕ) where
 
 -- ---- a load
 
--- What it leaves is a session of the frame.
-frame-held : (frame : List ℕ) (n : ℕ) (buffer : List ℕ) (F : Frame) → AllBytes frame → frameOf frame ≡ ok F → length frame ≤ length buffer
-    → (s : Session F) × (s .n ≡ finishLoad n buffer (ok frame) .n) × (s .buffer ≡ finishLoad n buffer (ok frame) .buffer)
+-- What it leaves is a session of the frame, whatever the matcher.
+frame-held : (match : Matcher) (frame : List ℕ) (n : ℕ) (buffer : List ℕ) (F : Frame) → AllBytes frame → frameOf frame ≡ ok F
+    → length frame ≤ length buffer
+    → (s : SessionBy match F) × (s .n ≡ finishLoad n buffer (ok frame) .n) × (s .buffer ≡ finishLoad n buffer (ok frame) .buffer)
 unfolding finishLoad writtenOver
-frame-held frame n buffer F bytes is fits =
+frame-held match frame n buffer F bytes is fits =
     let back = frame-back frame F bytes is in (
       record {
         n = length frame;
@@ -63,11 +67,14 @@ frame-held frame n buffer F bytes is fits =
       refl,
     )
 
-pub load-held : LoadHolds
+pub load-held : (match : Matcher) (frame : List ℕ) (n : ℕ) (buffer : List ℕ) → AllBytes frame
+    → accepted (load frame n buffer .answer) ≡ true
+    → (F : Frame) × (frameOf frame ≡ ok F) × (load frame n buffer .answer ≡ ok (length frame))
+    × (s : SessionBy match F) × (s .n ≡ load frame n buffer .n) × (s .buffer ≡ load frame n buffer .buffer)
 unfolding load finishLoad
-load-held frame n buffer bytes a =
+load-held match frame n buffer bytes a =
     let t : Taken frame n buffer (frameOf frame) = taken-by frame n buffer a in
-    let h = frame-held frame n buffer (t .0) bytes (t .1) (t .2) in
+    let h = frame-held match frame n buffer (t .0) bytes (t .1) (t .2) in
     let same : finishLoad n buffer (ok frame) ≡ load frame n buffer = sym (t .3) in (
       t .0,
       t .1,
@@ -79,23 +86,23 @@ load-held frame n buffer bytes a =
 
 -- ---- lists of calls
 
-module _ {F : Frame} (s : Session F) where
+module _ {match : Matcher} {Asks : Meaning → List Record → Type 0} (laws : Lawful match Asks) {F : Frame} (s : SessionBy match F) where
   session-size : s .n ≡ length (frameBytes F)
   session-size = sym (length-take-le (s .n) (s .buffer) (s .fits)) ∙ ap length (s .holds)
 
   -- The machine's first plan is the frame.
-  pub session-holds : Holds F fresh (s .n) (s .buffer)
+  pub session-holds : Holds laws F fresh (s .n) (s .buffer)
   unfolding fresh machinePlan machineLength planBytes
   session-holds = record { reached = tt; size = session-size; bytes = s .holds; fits = s .fits }
 
   -- So any list of calls gives the machine's answers and leaves the machine's plan.
-  pub after-all : (calls : List Made) → AgreesAll F (machineAfter F calls) (after s calls)
-  after-all calls = run-agrees F (s .good) calls fresh _ _ session-holds
+  pub after-all : (calls : List Made) → AgreesAll laws F (machineAfterBy match F calls) (after s calls)
+  after-all calls = run-agrees laws F (s .good) calls fresh _ _ session-holds
 
-pub list-theorem : ListOfCalls
-list-theorem F s calls =
-    let a : AgreesAll F (machineAfter F calls) (after s calls) = after-all s calls in
-    record { answers = a .answers; plan = a .holds .bytes; size = a .holds .size }
+  pub list-agrees : (calls : List Made) → AgreeBy match F (after s calls) (machineAfterBy match F calls)
+  list-agrees calls =
+      let a : AgreesAll laws F (machineAfterBy match F calls) (after s calls) = after-all calls in
+      record { answers = a .answers; plan = a .holds .bytes; size = a .holds .size }
 
 -- ---- when a load is accepted
 

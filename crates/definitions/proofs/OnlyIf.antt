@@ -8,9 +8,10 @@ use lib.Dec.{leb}
 use Rattle.definitions.specs.Basics.{if_then_else_}
 use Rattle.definitions.specs.Expression.{Record, Predicate, relation, distance, knn}
 use Rattle.definitions.specs.Match.{matchLeaf}
+use Rattle.definitions.specs.Extract.{Matcher}
 use Rattle.definitions.specs.Exchange.{exchangePredicate}
 use Rattle.definitions.specs.Meaning.{Meaning}
-use Rattle.definitions.specs.Matchers.{Matcher, Fits, Valued, Lawful, LeafAsks}
+use Rattle.definitions.specs.Matchers.{Fits, Valued, Lawful, LeafAsks}
 use Rattle.definitions.proofs.Tools.{by-test}
 use Rattle.definitions.proofs.MatchLaws.{match-laws}
 

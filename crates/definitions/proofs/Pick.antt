@@ -10,9 +10,8 @@ use lib.ListN.{length, getD, length-map}
 use Rattle.definitions.specs.Basics.{any}
 use Rattle.definitions.specs.Expression.{Expr, literal, Frame, Predicate, Extraction}
 use Rattle.definitions.specs.Leaves.{leaves}
-use Rattle.definitions.specs.Extract.{Pick, isKnn, later, firstMatch, firstOf, pick, without, prune, takePick, matchesOf, extraction}
-use Rattle.definitions.specs.Claims.{isMatch, someLeafMatches, isKnnMatch, matchAt, TookAmong, PickExactly}
-use Rattle.definitions.specs.Matchers.{Matcher, matchesBy}
+use Rattle.definitions.specs.Extract.{Pick, isKnn, later, firstMatch, firstOf, pick, without, prune, takePick, Matcher, matchesBy, extractionBy}
+use Rattle.definitions.specs.Claims.{isMatch, someLeafMatchesBy, isKnnMatch, matchAt, TookAmong}
 use Rattle.definitions.proofs.Tools.{by-test, mapped-at}
 use Rattle.definitions.proofs.Taken.{Taken, taken}
 
@@ -118,16 +117,15 @@ module _ (ms : List (Option Predicate)) (F : Frame) where
   untaken none h e = h
   untaken (some p) h e = let z : _≡_ {A = ℕ} 0 1 = cc in absurd (omega arith)
 
-  -- What is taken, and what it means that nothing is.
-  pub takes-by : (X : Extraction) → takePick F (pick ms) ≡ some X → (position : ℕ) × TookAmong ms F X position
-  takes-by = took-by (pick ms) picked
+-- What is taken, and what it means that nothing is.
+module _ (match : Matcher) (F : Frame) where
+  pub takes-by : (X : Extraction) → extractionBy match F ≡ some X → (position : ℕ) × TookAmong (matchesBy match F) F X position
+  unfolding extractionBy
+  takes-by = took-by (matchesBy match F) F (pick (matchesBy match F)) (picked (matchesBy match F) F)
 
-  pub none-by : takePick F (pick ms) ≡ none → (i : ℕ) → matchAt ms i ≡ none
-  none-by = untaken (pick ms) picked
-
-pub took : PickExactly
-unfolding extraction
-took = (λ F. takes-by (matchesOf F) F, λ F. none-by (matchesOf F) F)
+  pub none-by : extractionBy match F ≡ none → (i : ℕ) → matchAt (matchesBy match F) i ≡ none
+  unfolding extractionBy
+  none-by = untaken (matchesBy match F) F (pick (matchesBy match F)) (picked (matchesBy match F) F)
 
 -- ---- whether a leaf matches
 
@@ -153,9 +151,9 @@ unfolding takePick
 take-matched ms F none h = any-none ms h
 take-matched ms F (some p) h = any-some ms (p .position) (p .predicate) (h .1 .match)
 
-pub matched : (F : Frame) → Matched (someLeafMatches F) (extraction F)
-unfolding extraction someLeafMatches
-matched F = take-matched (matchesOf F) F (pick (matchesOf F)) (picked (matchesOf F) F)
+pub matched : (match : Matcher) (F : Frame) → Matched (someLeafMatchesBy match F) (extractionBy match F)
+unfolding extractionBy someLeafMatchesBy
+matched match F = take-matched (matchesBy match F) F (pick (matchesBy match F)) (picked (matchesBy match F) F)
 
 -- ---- the leaf that is picked
 
@@ -165,6 +163,7 @@ leafAt F i = getD (leaves (F .expr)) i (literal 0 0)
 
 module _ (match : Matcher) (F : Frame) (p : Pick) (h : Picked (matchesBy match F) F (some p)) where
   position-below : p .position < length (leaves (F .expr))
+  unfolding matchesBy
   position-below = rw (length-map (leaves (F .expr)) (match (F .records))) at (h .0)
 
   -- It is taken out of the expression,
@@ -174,5 +173,5 @@ module _ (match : Matcher) (F : Frame) (p : Pick) (h : Picked (matchesBy match F
 
   -- and the predicate is its match.
   pub pick-matches : match (F .records) (leafAt F (p .position)) ≡ some (p .predicate)
-  unfolding leafAt
+  unfolding leafAt matchesBy
   pick-matches = sym (mapped-at (match (F .records)) (leaves (F .expr)) (p .position) (literal 0 0) none position-below) ∙ h .1 .match

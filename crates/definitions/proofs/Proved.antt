@@ -1,32 +1,37 @@
 -- Each claim of specs/Claims.antt and of the tables beside it, proved.
 use mathlib.Core.Path.{_≡_, ap, _∙_, subst}
+use mathlib.Core.List.{List}
 use Rattle.definitions.specs.Basics.{ok}
+use Rattle.definitions.specs.Expression.{Record, Frame}
 use Rattle.definitions.specs.Plans.{planOf}
+use Rattle.definitions.specs.Match.{matchLeaf}
+use Rattle.definitions.specs.Extract.{Matcher}
 use Rattle.definitions.specs.Machine.{Bits, machinePlan}
-use Rattle.definitions.specs.Sessions.{planAfter}
-use Rattle.definitions.specs.Matchers.{matchesBy}
-use Rattle.definitions.specs.Claims.{ExchangeTwice, ExtractExchanged, ExpressionReadBack, PlanReadBack, PlanOfBytes, ExtractionGood, ExchangeGood, LengthsShort, RefusedKeeps, AcceptedWrites, RefusalsOfCalls, LoadAccepted, LoadHolds, ListOfCalls, AnswersInPlace, SamePlan, ExchangeAccepted, ExtractAccepted, PickExactly, RestOfLeaves, ExtractTakes, PriceLineOfCalls, PriceLineStays, PriceLineExchanged, MachinesAgree, AndAssociative, AndCommutative, ExchangeValue, ExtractionValue, ListValue, FairMeaning, FairByArguments, MarksDiffer, NamesAreOnes, NamesOnce}
-use Rattle.definitions.specs.AnyMatcher.{AnyMatcher}
+use Rattle.definitions.specs.Sessions.{Made, SessionBy, planAfter, oddIn}
+use Rattle.definitions.specs.Meaning.{Valuation, Meaning, frameValue}
+use Rattle.definitions.specs.Matchers.{Lawful, Symmetric, LeafAsks}
+use Rattle.definitions.specs.Claims.{ExchangeTwice, ExtractExchanged, ExpressionReadBack, PlanReadBack, PlanOfBytes, ExtractionGood, ExchangeGood, LengthsShort, RefusedKeeps, AcceptedWrites, RefusalsOfCalls, LoadAccepted, LoadHolds, ListOfCalls, AnswersInPlace, SamePlan, ExchangeAccepted, ExtractAccepted, PickExactly, RestOfLeaves, ExtractTakes, PriceLineOfCalls, PriceLineStays, PriceLineExchanged, MachinesAgree, AndAssociative, AndCommutative, ExchangeValue, ExtractionValue, valuesWhen, HasValue, ListValue, FairMeaning, FairByArguments, MarksDiffer, NamesAreOnes, NamesOnce}
+use Rattle.definitions.specs.AnyMatcher.{Extracts, OneCall, Lists, AnyMatcher}
 use Rattle.definitions.specs.TenRows.{TenRows}
 use Rattle.definitions.specs.RefusalTable.{RefusalTable}
 use Rattle.definitions.specs.NameTables.{NameTables}
 use Rattle.definitions.proofs.Exchange.{plan-twice}
-use Rattle.definitions.proofs.ExtractExchange.{exchanged-by, extraction-exchange}
+use Rattle.definitions.proofs.ExtractExchange.{exchanged-by}
 use Rattle.definitions.proofs.RoundTripPlan.{expr-reads, plan-reads}
 use Rattle.definitions.proofs.InversePlan.{plan-back}
 use Rattle.definitions.proofs.Taken.{rest-of-leaves-are}
-use Rattle.definitions.proofs.ExtractGood.{GoodExtraction, good-by, extraction-good}
+use Rattle.definitions.proofs.ExtractGood.{GoodExtraction, good-by}
 use Rattle.definitions.proofs.ExchangeGood.{exchange-good, plan-as-long}
 use Rattle.definitions.proofs.Lists.{plan-good}
-use Rattle.definitions.proofs.ListTheorem.{load-accepts, load-held, list-theorem}
-use Rattle.definitions.proofs.Lengths.{lengths-are-short}
-use Rattle.definitions.proofs.Changes.{refused-keep, accepted-write}
-use Rattle.definitions.proofs.RefusalNumbers.{refusals-of}
-use Rattle.definitions.proofs.Answers.{told, plan-told, answers-place, plans-same, exchange-among, extract-among}
+use Rattle.definitions.proofs.ListTheorem.{load-accepts, load-held, list-agrees}
+use Rattle.definitions.proofs.Lengths.{load-is-short, make-short}
+use Rattle.definitions.proofs.Changes.{load-keeps, make-keeps, load-wrote, make-wrote}
+use Rattle.definitions.proofs.RefusalNumbers.{load-refusals, extract-refusals, exchange-refusals, logical-refusals}
+use Rattle.definitions.proofs.Answers.{told, plan-told, in-place, plans-same, exchange-among, extract-among}
 use Rattle.definitions.proofs.MatchLaws.{match-laws}
-use Rattle.definitions.proofs.Pick.{takes-by, none-by, took}
+use Rattle.definitions.proofs.Pick.{takes-by, none-by}
 use Rattle.definitions.proofs.Machines.{extract-took, line-of-calls, line-stays, price-exchanged, same-leaf, same-refusal, never-mixed}
-use Rattle.definitions.proofs.Truth.{plan-exchange-value, SameValue, value-by, extraction-value, machine-value}
+use Rattle.definitions.proofs.Truth.{fair-symmetric, plan-exchange-value, SameValue, value-by, machine-value}
 use Rattle.definitions.proofs.Values.{and-value-assoc, and-value-comm}
 use Rattle.definitions.proofs.FairExample.{fair-points, marks-apart}
 use Rattle.definitions.proofs.FairCounting.{fair-counting}
@@ -34,11 +39,67 @@ use Rattle.definitions.proofs.Names.{each-once, names-ones, tables-hold
 use Rattle.definitions.proofs.Table.{ten-rows-hold}
 use Rattle.definitions.proofs.Refusals.{refusals-hold}
 
+-- ---- with every lawful matcher
+
+module _ {match : Matcher} {Asks : Meaning → List Record → Type 0} (laws : Lawful match Asks) where
+  extracts : Extracts match Asks
+  extracts = record {
+    takes = takes-by match;
+    untaken = none-by match;
+    exchanged = exchanged-by laws;
+    good = λ F X g e. subst (GoodExtraction F) e (good-by laws F g);
+    value = λ M v F X asked g e. subst (SameValue M v F) e (value-by laws M v F asked (g .readable .expr .inRange));
+  }
+
+  one-call : OneCall match
+  one-call = record {
+    short = make-short laws;
+    keeps = make-keeps match;
+    writes = λ kind n buffer scratch. make-wrote n buffer scratch laws kind;
+    refusals = extract-refusals match;
+  }
+
+  list-value : (M : Meaning) → Symmetric M → (v : Valuation) (F : Frame) (s : SessionBy match F) → Asks M (F .records) → (calls : List Made)
+      → HasValue M v (planAfter s calls) (frameValue M (valuesWhen (oddIn s calls) v) F)
+  list-value M turns v F s asked calls =
+      let b : Bits = told s calls in
+      let reads : planOf (planAfter s calls) ≡ ok (machinePlan match F b) =
+      ap planOf (plan-told laws s calls) ∙ plan-reads _ (plan-good laws F (b .isExtracted) (b .isOdd) (s .good)) in
+      let range = s .good .readable .expr .inRange in
+      (machinePlan match F b, reads, machine-value laws M turns v F asked range (b .isExtracted) (b .isOdd))
+
+  lists : Lists match Asks
+  lists = record {
+    loads = load-held match;
+    machine = λ F. list-agrees laws;
+    inPlace = λ F s. in-place match (s .n) (s .buffer);
+    samePlan = λ F. plans-same laws;
+    exchangeAccepted = λ F. exchange-among laws;
+    extractAccepted = λ F. extract-among laws;
+    takes = λ F. extract-took laws;
+    line = λ F. line-of-calls laws;
+    lineStays = λ F. line-stays laws;
+    lineExchanged = price-exchanged laws;
+    sameLeaf = λ F. same-leaf laws;
+    sameRefusal = λ F. same-refusal laws;
+    neverMixed = λ F. never-mixed laws;
+    value = list-value;
+  }
+
+pub any-matcher : AnyMatcher
+any-matcher = (λ match Asks laws. (extracts laws, one-call laws, lists laws), match-laws)
+
+-- So with 01's.
+by-leaf : Extracts matchLeaf LeafAsks × OneCall matchLeaf × Lists matchLeaf LeafAsks
+by-leaf = any-matcher .0 matchLeaf LeafAsks (any-matcher .1)
+
+-- ---- the claims
+
 pub exchange-twice : ExchangeTwice
 exchange-twice = plan-twice
 
 pub extract-exchanged : ExtractExchanged
-extract-exchanged = extraction-exchange
+extract-exchanged = by-leaf .0 .exchanged
 
 pub expression-read-back : ExpressionReadBack
 expression-read-back = expr-reads
@@ -50,64 +111,64 @@ pub plan-of-bytes : PlanOfBytes
 plan-of-bytes = plan-back
 
 pub extraction-is-good : ExtractionGood
-extraction-is-good F X g e = subst (GoodExtraction F) e (extraction-good F g)
+extraction-is-good = by-leaf .0 .good
 
 pub exchange-is-good : ExchangeGood
 exchange-is-good p g = (exchange-good p g, plan-as-long p)
 
 pub lengths-short : LengthsShort
-lengths-short = lengths-are-short
+lengths-short = (load-is-short, by-leaf .1 .short)
 
 pub refused-keeps : RefusedKeeps
-refused-keeps = refused-keep
+refused-keeps = (load-keeps, by-leaf .1 .keeps)
 
 pub accepted-writes : AcceptedWrites
-accepted-writes = accepted-write
+accepted-writes = (load-wrote, by-leaf .1 .writes)
 
 pub refusals-of-calls : RefusalsOfCalls
-refusals-of-calls = refusals-of
+refusals-of-calls = (load-refusals, by-leaf .1 .refusals, exchange-refusals, logical-refusals)
 
 pub load-accepted : LoadAccepted
 load-accepted = load-accepts
 
 pub load-holds : LoadHolds
-load-holds = load-held
+load-holds = by-leaf .2 .loads
 
 pub list-of-calls : ListOfCalls
-list-of-calls = list-theorem
+list-of-calls = by-leaf .2 .machine
 
 pub answers-in-place : AnswersInPlace
-answers-in-place = answers-place
+answers-in-place = by-leaf .2 .inPlace
 
 pub same-plan : SamePlan
-same-plan = plans-same
+same-plan = by-leaf .2 .samePlan
 
 pub exchange-accepted : ExchangeAccepted
-exchange-accepted = exchange-among
+exchange-accepted = by-leaf .2 .exchangeAccepted
 
 pub extract-accepted : ExtractAccepted
-extract-accepted = extract-among
+extract-accepted = by-leaf .2 .extractAccepted
 
 pub pick-exactly : PickExactly
-pick-exactly = took
+pick-exactly = (by-leaf .0 .takes, by-leaf .0 .untaken)
 
 pub rest-of-leaves : RestOfLeaves
 rest-of-leaves = rest-of-leaves-are
 
 pub extract-takes : ExtractTakes
-extract-takes = extract-took
+extract-takes = by-leaf .2 .takes
 
 pub price-line-of-calls : PriceLineOfCalls
-price-line-of-calls = line-of-calls
+price-line-of-calls = by-leaf .2 .line
 
 pub price-line-stays : PriceLineStays
-price-line-stays = line-stays
+price-line-stays = by-leaf .2 .lineStays
 
 pub price-line-exchanged : PriceLineExchanged
-price-line-exchanged = price-exchanged
+price-line-exchanged = by-leaf .2 .lineExchanged
 
 pub machines-agree : MachinesAgree
-machines-agree = (same-leaf, same-refusal, never-mixed)
+machines-agree = (by-leaf .2 .sameLeaf, by-leaf .2 .sameRefusal, by-leaf .2 .neverMixed)
 
 pub and-associative : AndAssociative
 and-associative = and-value-assoc
@@ -116,29 +177,13 @@ pub and-commutative : AndCommutative
 and-commutative = and-value-comm
 
 pub exchange-has-value : ExchangeValue
-exchange-has-value = plan-exchange-value
+exchange-has-value M fair = plan-exchange-value M (fair-symmetric M fair)
 
 pub extraction-has-value : ExtractionValue
-extraction-has-value M fair v F X m g e = subst (SameValue M v F) e (extraction-value M v F (fair, m) (g .readable .expr .inRange))
+extraction-has-value M fair v F X m = by-leaf .0 .value M v F X (fair, m)
 
 pub list-has-value : ListValue
-list-has-value M fair v F s m calls =
-    let b : Bits = told s calls in
-    let reads : planOf (planAfter s calls) ≡ ok (machinePlan F b) =
-    ap planOf (plan-told s calls) ∙ plan-reads _ (plan-good F (b .isExtracted) (b .isOdd) (s .good)) in
-    (machinePlan F b, reads, machine-value M fair v F (fair, m) (s .good .readable .expr .inRange) (b .isExtracted) (b .isOdd))
-
-pub any-matcher : AnyMatcher
-any-matcher = (
-  λ match Asks laws. record {
-    takes = λ F. takes-by (matchesBy match F) F;
-    untaken = λ F. none-by (matchesBy match F) F;
-    exchanged = exchanged-by laws;
-    good = λ F X g e. subst (GoodExtraction F) e (good-by laws F g);
-    value = λ M v F X asked g e. subst (SameValue M v F) e (value-by laws M v F asked (g .readable .expr .inRange));
-  },
-  match-laws,
-)
+list-has-value M fair v F s m = by-leaf .2 .value M (fair-symmetric M fair) v F s (fair, m)
 
 pub fair-meaning : FairMeaning
 fair-meaning = fair-points

@@ -10,13 +10,13 @@ use Rattle.definitions.specs.Basics.{if_then_else_, Result, ok, refused,
 use Rattle.definitions.specs.Expression.{Frame, Extraction, Plan, empty, held, extracted}
 use Rattle.definitions.specs.Literals.{literalInRange}
 use Rattle.definitions.specs.Leaves.{arity}
-use Rattle.definitions.specs.Extract.{extraction}
+use Rattle.definitions.specs.Extract.{Matcher, extractionBy}
 use Rattle.definitions.specs.Readers.{Read, read, stopped, Reader, continue, require, firstByte, byteUpTo, byteBetween, numberAfter, number, repeat, requireLength, noneLeft, atEnd, resultOf}
 use Rattle.definitions.specs.Decode.{Columns, indexBelow, fields, allowedKind, columnNode, fieldNode, literalNode, binaryNode, repeatExprs, callNode, otherNode, anyColumn, nodeOfKind, countNode, nodeKind, node, expression, sideUpTo, oneRecord, recordCount, frameBody}
 use Rattle.definitions.specs.Plans.{physicalFrame, logicalFrame, frameOf, logicalOf}
-use Rattle.definitions.specs.Calls.{newAfterLoad, finishLoad, load, finish, heldPlan, newAfterExchange, exchange, matchedBytes, newAfterExtract, extract}
+use Rattle.definitions.specs.Calls.{newAfterLoad, finishLoad, load, finish, heldPlan, newAfterExchange, exchange, matchedBytes, newAfterExtractBy, extractBy}
 use Rattle.definitions.specs.Logical.{logicalAnswer, logical}
-use Rattle.definitions.specs.Claims.{loadRefusals, extractRefusals, exchangeRefusals, logicalRefusals, RefusedBy, RefusalsOfCalls}
+use Rattle.definitions.specs.Claims.{loadRefusals, extractRefusals, exchangeRefusals, logicalRefusals, RefusedBy}
 use Rattle.definitions.proofs.Tools.{by-test}
 
 -- ---- readers
@@ -249,12 +249,13 @@ module _ (P : ℕ → Type 0) where
       taken-only none = p13
       taken-only (some X) = tt
 
-      extract-only : (r : Result Plan) → Refuses (newAfterExtract n room r)
-      unfolding newAfterExtract
-      extract-only (refused number) = p10
-      extract-only (ok empty) = p11
-      extract-only (ok (extracted X)) = p12
-      extract-only (ok (held F)) = if-only (leb n room) (matchedBytes (extraction F)) (taken-only (extraction F)) p9
+      extract-only : (match : Matcher) (r : Result Plan) → Refuses (newAfterExtractBy match n room r)
+      unfolding newAfterExtractBy
+      extract-only match (refused number) = p10
+      extract-only match (ok empty) = p11
+      extract-only match (ok (extracted X)) = p12
+      extract-only match (ok (held F)) =
+          if-only (leb n room) (matchedBytes (extractionBy match F)) (taken-only (extractionBy match F)) p9
 
 -- The numbers of a list.
 abbrev In : List ℕ → ℕ → Type 0
@@ -264,7 +265,7 @@ refused-by : {A : Type 0} (numbers : List ℕ) (r : Result A) → Refuses (In nu
 refused-by numbers (ok a) h = tt
 refused-by numbers (refused number) h = h
 
-load-refusals : (frame : List ℕ) (n : ℕ) (buffer : List ℕ) → RefusedBy loadRefusals (load frame n buffer .answer)
+pub load-refusals : (frame : List ℕ) (n : ℕ) (buffer : List ℕ) → RefusedBy loadRefusals (load frame n buffer .answer)
 unfolding load frameOf loadRefusals any
 load-refusals frame n buffer =
     let read = physical-only (In loadRefusals) refl refl refl refl refl refl refl refl 0 frame in
@@ -273,26 +274,24 @@ load-refusals frame n buffer =
     refused-by loadRefusals (load frame n buffer .answer)
     (loaded-only (In loadRefusals) n buffer (newAfterLoad frame (length buffer) (frameOf frame)) given)
 
-extract-refusals : (n : ℕ) (buffer scratch : List ℕ) → RefusedBy extractRefusals (extract n buffer scratch .answer)
-unfolding extract extractRefusals any
-extract-refusals n buffer scratch =
-    refused-by extractRefusals (extract n buffer scratch .answer)
-    (finish-only (In extractRefusals) n buffer scratch (newAfterExtract n (length scratch) (heldPlan n buffer))
-    (extract-only (In extractRefusals) refl refl refl n (length scratch) refl refl (heldPlan n buffer)))
+pub extract-refusals : (match : Matcher) (n : ℕ) (buffer scratch : List ℕ)
+    → RefusedBy extractRefusals (extractBy match n buffer scratch .answer)
+unfolding extractBy extractRefusals any
+extract-refusals match n buffer scratch =
+    refused-by extractRefusals (extractBy match n buffer scratch .answer)
+    (finish-only (In extractRefusals) n buffer scratch (newAfterExtractBy match n (length scratch) (heldPlan n buffer))
+    (extract-only (In extractRefusals) refl refl refl n (length scratch) refl refl match (heldPlan n buffer)))
 
-exchange-refusals : (n : ℕ) (buffer scratch : List ℕ) → RefusedBy exchangeRefusals (exchange n buffer scratch .answer)
+pub exchange-refusals : (n : ℕ) (buffer scratch : List ℕ) → RefusedBy exchangeRefusals (exchange n buffer scratch .answer)
 unfolding exchange exchangeRefusals any
 exchange-refusals n buffer scratch =
     refused-by exchangeRefusals (exchange n buffer scratch .answer)
     (finish-only (In exchangeRefusals) n buffer scratch (newAfterExchange n (length scratch) (heldPlan n buffer))
     (exchange-only (In exchangeRefusals) refl refl refl n (length scratch) (heldPlan n buffer)))
 
-logical-refusals : (frame : List ℕ) → RefusedBy logicalRefusals (logical frame)
+pub logical-refusals : (frame : List ℕ) → RefusedBy logicalRefusals (logical frame)
 unfolding logical logicalOf logicalRefusals any
 logical-refusals frame =
     let read = logical-only (In logicalRefusals) refl refl refl refl refl refl 0 frame in
     refused-by logicalRefusals (logical frame)
     (map-only (In logicalRefusals) logicalAnswer (logicalOf frame) (result-only (In logicalRefusals) (logicalFrame 0 frame) read))
-
-pub refusals-of : RefusalsOfCalls
-refusals-of = (load-refusals, extract-refusals, exchange-refusals, logical-refusals)

@@ -10,7 +10,7 @@ use borrow.Author.Tests.{ne-eqb}
 use Rattle.definitions.specs.Expression.{Expr, binary, Record}
 use Rattle.definitions.specs.Leaves.{leaves, comparison, Comparison, noComparison}
 use Rattle.definitions.specs.Match.{matchLeaf, matchRequest, request, comparisonRequest}
-use Rattle.definitions.specs.Extract.{extraction, matchesOf, pick, firstMatch, later, firstOf, takePick}
+use Rattle.definitions.specs.Extract.{matchesBy, extractionBy, extraction, pick, firstMatch, later, firstOf, takePick}
 use Rattle.definitions.specs.TenRows.{TenRows}
 use Rattle.definitions.proofs.Everything.{everything}
 
@@ -24,7 +24,7 @@ no-comparison o h l r = rw (other 1 (omega arith), other 2 (omega arith), other 
 
 other-operator : (operator : ℕ) → 5 ≤ operator → (records : List Record) (l r : Expr)
     → extraction (record { records = records; expr = binary operator l r }) ≡ none
-unfolding extraction matchesOf leaves matchLeaf request comparisonRequest matchRequest pick firstMatch later firstOf takePick
+unfolding extractionBy matchesBy leaves matchLeaf request comparisonRequest matchRequest pick firstMatch later firstOf takePick
 other-operator o h records l r =
     ap (λ (c : Comparison). takePick (record { records = records; expr = binary o l r })
     (pick (matchRequest records (comparisonRequest o c) ∷ []))) (no-comparison o h l r)

@@ -9,18 +9,17 @@ use lib.ListN.{length, take, getD}
 use lib.Dec.{ltb}
 use borrow.Author.Tests.{ltb-true}
 use Rattle.definitions.specs.Basics.{if_then_else_, keep}
-use Rattle.definitions.specs.Expression.{left, right, noSide, Expr, Record, Frame, Predicate, relation, distance, knn, Extraction, Plan, empty, held, extracted}
+use Rattle.definitions.specs.Expression.{left, right, noSide, Expr, Record, Frame, relation, distance, knn, Extraction, Plan, empty, held, extracted}
 use Rattle.definitions.specs.Decode.{indexBelow}
 use Rattle.definitions.specs.References.{columnsOf, recordAt}
-use Rattle.definitions.specs.Extract.{Pick, pick, without, referenced, newIndex, prune, takePick, matchesOf, extraction}
+use Rattle.definitions.specs.Extract.{Pick, pick, without, referenced, newIndex, prune, takePick, Matcher, matchesBy, extractionBy}
 use Rattle.definitions.specs.Exchange.{negate, exchangeRecord, exchangeFrame, exchangePredicate, exchangeExtraction, exchangePlan}
 use Rattle.definitions.specs.Machine.{machinePlan, extractionOr}
 use Rattle.definitions.specs.Good.{InRange}
 use Rattle.definitions.specs.Meaning.{andValue, Valuation, Meaning, value, frameColumns, frameValue, predicateValue, andRemainder, extractionValue, planValue, exchangedValues, Fair}
 use Rattle.definitions.proofs.Columns.{all-both, columns-below}
 use Rattle.definitions.proofs.Taken.{Taken, leaf-in-range, rest-in-range, RestIs}
-use Rattle.definitions.specs.Matchers.{Matcher, matchesBy, extractionBy, Valued, Lawful, LeafAsks}
-use Rattle.definitions.proofs.MatchLaws.{match-laws}
+use Rattle.definitions.specs.Matchers.{Valued, Lawful, Symmetric}
 use Rattle.definitions.proofs.Pick.{Picked, picked, leafAt, pick-taken, pick-matches}
 use Rattle.definitions.proofs.ExtractGood.{references}
 use Rattle.definitions.proofs.Exchange.{child-at, side-at}
@@ -88,13 +87,8 @@ module _ {match : Matcher} {Asks : Meaning → List Record → Type 0} (laws : L
 
   -- The extraction of a frame has the frame's value, where the matcher has what it asks.
   pub value-by : SameValue M v F (extractionBy match F)
+  unfolding extractionBy
   value-by = take-value (pick (matchesBy match F)) (picked (matchesBy match F) F)
-
--- With 01's matcher too.
-pub extraction-value : (M : Meaning) (v : Valuation) (F : Frame) → LeafAsks M (F .records)
-    → InRange (indexBelow (length (F .records))) (F .expr) → SameValue M v F (extraction F)
-unfolding extraction matchesOf
-extraction-value M v F asked range = value-by match-laws M v F asked range
 
 -- ---- the exchange
 
@@ -107,13 +101,13 @@ frame-exchange-value : (M : Meaning) (v : Valuation) (F : Frame) → frameValue 
 unfolding frameValue exchangeFrame
 frame-exchange-value M v F = ap (λ (f : ℕ → ℕ). value M f (F .expr)) (fun-ext (exchanged-columns v (F .records)))
 
-predicate-exchange-value : (M : Meaning) → Fair M → (v : Valuation) (p : Predicate)
-    → predicateValue M v (exchangePredicate p) ≡ predicateValue M (exchangedValues v) p
+-- A fair meaning is one that exchange respects.
+pub fair-symmetric : (M : Meaning) → Fair M → Symmetric M
 unfolding predicateValue exchangePredicate exchangedValues negate
-predicate-exchange-value M fair v (relation t l r) = fair .relationInverse t (value M (v right) l) (value M (v left) r)
-predicate-exchange-value M fair v (distance form side l r d) =
+fair-symmetric M fair v (relation t l r) = fair .relationInverse t (value M (v right) l) (value M (v left) r)
+fair-symmetric M fair v (distance form side l r d) =
     form-symmetric M fair form (value M (v left) r) (value M (v right) l) (value M (v (negate side)) d)
-predicate-exchange-value M fair v (knn k sp probe t l r) = refl
+fair-symmetric M fair v (knn k sp probe t l r) = refl
 
 remainder-exchange-value : (M : Meaning) (v : Valuation) (x : ℕ) (R : Option Frame)
     → andRemainder M v x (Option·map exchangeFrame R) ≡ andRemainder M (exchangedValues v) x R
@@ -121,13 +115,13 @@ unfolding andRemainder
 remainder-exchange-value M v x none = refl
 remainder-exchange-value M v x (some F) = ap (andValue x) (frame-exchange-value M v F)
 
-pub plan-exchange-value : (M : Meaning) → Fair M → (v : Valuation) (p : Plan)
+pub plan-exchange-value : (M : Meaning) → Symmetric M → (v : Valuation) (p : Plan)
     → planValue M v (exchangePlan p) ≡ planValue M (exchangedValues v) p
 unfolding planValue exchangePlan extractionValue exchangeExtraction
-plan-exchange-value M fair v empty = refl
-plan-exchange-value M fair v (held F) = frame-exchange-value M v F
-plan-exchange-value M fair v (extracted X) =
-    ap (λ (x : ℕ). andRemainder M v x (Option·map exchangeFrame (X .remainder))) (predicate-exchange-value M fair v (X .predicate))
+plan-exchange-value M turns v empty = refl
+plan-exchange-value M turns v (held F) = frame-exchange-value M v F
+plan-exchange-value M turns v (extracted X) =
+    ap (λ (x : ℕ). andRemainder M v x (Option·map exchangeFrame (X .remainder))) (turns v (X .predicate))
     ∙ remainder-exchange-value M v (predicateValue M (exchangedValues v) (X .predicate)) (X .remainder)
 
 -- ---- the machine's plan
@@ -139,14 +133,14 @@ base-value M v F none h = refl
 base-value M v F (some X) h = h
 
 -- Whatever the list of calls, the plan has the frame's value; odd, with the values of left and right exchanged.
-pub machine-value : (M : Meaning) → Fair M → (v : Valuation) (F : Frame) → LeafAsks M (F .records)
-    → InRange (indexBelow (length (F .records))) (F .expr)
-    → (e o : Bool) → planValue M v (machinePlan F (record { isExtracted = e; isOdd = o }))
-    ≡ frameValue M (if o then exchangedValues v else v) F
-unfolding machinePlan planValue
-machine-value M fair v F asked range true true =
-    plan-exchange-value M fair v (extractionOr (held F) (extraction F))
-    ∙ base-value M (exchangedValues v) F (extraction F) (extraction-value M (exchangedValues v) F asked range)
-machine-value M fair v F asked range true false = base-value M v F (extraction F) (extraction-value M v F asked range)
-machine-value M fair v F asked range false true = plan-exchange-value M fair v (held F)
-machine-value M fair v F asked range false false = refl
+module _ {match : Matcher} {Asks : Meaning → List Record → Type 0} (laws : Lawful match Asks) (M : Meaning) (turns : Symmetric M)
+    (v : Valuation) (F : Frame) (asked : Asks M (F .records)) (range : InRange (indexBelow (length (F .records))) (F .expr)) where
+  pub machine-value : (e o : Bool)
+      → planValue M v (machinePlan match F (record { isExtracted = e; isOdd = o })) ≡ frameValue M (if o then exchangedValues v else v) F
+  unfolding machinePlan planValue
+  machine-value true true =
+      plan-exchange-value M turns v (extractionOr (held F) (extractionBy match F))
+      ∙ base-value M (exchangedValues v) F (extractionBy match F) (value-by laws M (exchangedValues v) F asked range)
+  machine-value true false = base-value M v F (extractionBy match F) (value-by laws M v F asked range)
+  machine-value false true = plan-exchange-value M turns v (held F)
+  machine-value false false = refl

@@ -8,7 +8,8 @@ use Rattle.definitions.specs.Basics.{if_then_else_, Result, ok, refused}
 use Rattle.definitions.specs.Expression.{Frame, Extraction, Plan, empty, held, extracted}
 use Rattle.definitions.specs.Encode.{planBytes}
 use Rattle.definitions.specs.Plans.{frameOf, planOf}
-use Rattle.definitions.specs.Extract.{extraction}
+use Rattle.definitions.specs.Match.{matchLeaf}
+use Rattle.definitions.specs.Extract.{Matcher, extractionBy}
 use Rattle.definitions.specs.Exchange.{exchangePlan}
 
 -- These bytes at the start, the bytes after them as they were.
@@ -76,13 +77,21 @@ unfoldable pub matchedBytes : Option Extraction → Result (List ℕ)
 matchedBytes none = refused 13
 matchedBytes (some X) = ok (planBytes (extracted X))
 
--- The new plan of an extract: 10, 11, 12, 9, 13. (Matching enters the calls here, by `extraction`: settings of it would be given here.)
-unfoldable pub newAfterExtract : (n room : ℕ) → Result Plan → Result (List ℕ)
-newAfterExtract n room (refused number) = refused 10
-newAfterExtract n room (ok empty) = refused 11
-newAfterExtract n room (ok (extracted X)) = refused 12
-newAfterExtract n room (ok (held F)) = if leb n room then matchedBytes (extraction F) else refused 9
+-- The new plan of an extract: 10, 11, 12, 9, 13.
+unfoldable pub newAfterExtractBy : Matcher → (n room : ℕ) → Result Plan → Result (List ℕ)
+newAfterExtractBy match n room (refused number) = refused 10
+newAfterExtractBy match n room (ok empty) = refused 11
+newAfterExtractBy match n room (ok (extracted X)) = refused 12
+newAfterExtractBy match n room (ok (held F)) = if leb n room then matchedBytes (extractionBy match F) else refused 9
+
+-- 01's, with `matchLeaf`.
+abbrev pub newAfterExtract : (n room : ℕ) → Result Plan → Result (List ℕ)
+newAfterExtract = newAfterExtractBy matchLeaf
 
 -- The call extract.
-unfoldable pub extract : (n : ℕ) → (buffer scratch : List ℕ) → Outcome
-extract n buffer scratch = finish n buffer scratch (newAfterExtract n (length scratch) (heldPlan n buffer))
+unfoldable pub extractBy : Matcher → (n : ℕ) → (buffer scratch : List ℕ) → Outcome
+extractBy match n buffer scratch = finish n buffer scratch (newAfterExtractBy match n (length scratch) (heldPlan n buffer))
+
+-- 01's, with `matchLeaf`.
+abbrev pub extract : (n : ℕ) → (buffer scratch : List ℕ) → Outcome
+extract = extractBy matchLeaf

@@ -15,7 +15,8 @@ use Rattle.definitions.specs.Leaves.{leaves}
 use Rattle.definitions.specs.Readers.{read}
 use Rattle.definitions.specs.Decode.{Columns, expression}
 use Rattle.definitions.specs.Plans.{frameOf, planOf}
-use Rattle.definitions.specs.Extract.{isKnn, without, prune, matchesOf, extraction}
+use Rattle.definitions.specs.Match.{matchLeaf}
+use Rattle.definitions.specs.Extract.{isKnn, without, prune, Matcher, matchesBy, matchesOf, extractionBy, extraction}
 use Rattle.definitions.specs.Exchange.{exchangeFrame, exchangeExtraction, exchangePlan}
 use Rattle.definitions.specs.Calls.{LoadOutcome, load, Outcome, extract, exchange}
 use Rattle.definitions.specs.Machine.{Kind, machinePlan, machineLength, Run}
@@ -148,10 +149,14 @@ LoadHolds =
     × (s : Session F) × (s .n ≡ load frame n buffer .n) × (s .buffer ≡ load frame n buffer .buffer)
 
 -- The calls give the machine's answers, and leave the machine's plan and its length.
-pub record Agree (F : Frame) (o : ListOutcome) (m : Run) : Type 0 where
+pub record AgreeBy (match : Matcher) (F : Frame) (o : ListOutcome) (m : Run) : Type 0 where
   pub answers : o .answers ≡ m .answers
-  pub plan : planLeft o ≡ planBytes (machinePlan F (m .bits))
-  pub size : o .n ≡ machineLength F (m .bits)
+  pub plan : planLeft o ≡ planBytes (machinePlan match F (m .bits))
+  pub size : o .n ≡ machineLength match F (m .bits)
+
+-- 01's, with `matchLeaf`.
+abbrev pub Agree : Frame → ListOutcome → Run → Type 0
+Agree = AgreeBy matchLeaf
 
 -- From a held frame every list of calls gives what the two-bit machine gives.
 abbrev pub ListOfCalls : Type 0
@@ -175,8 +180,12 @@ isMatch none = false
 isMatch (some p) = true
 
 -- Whether an AND-leaf of a frame matches.
-unfoldable pub someLeafMatches : Frame → Bool
-someLeafMatches F = any isMatch (matchesOf F)
+unfoldable pub someLeafMatchesBy : Matcher → Frame → Bool
+someLeafMatchesBy match F = any isMatch (matchesBy match F)
+
+-- 01's, with `matchLeaf`.
+abbrev pub someLeafMatches : Frame → Bool
+someLeafMatches = someLeafMatchesBy matchLeaf
 
 -- After every list: an exchange is accepted exactly when its scratch is at least as long as the plan.
 abbrev pub ExchangeAccepted : Type 0
@@ -240,8 +249,12 @@ ExtractTakes =
 -- ---- the price line
 
 -- The price line of a frame: the first byte of its extraction; none for a join that stays filtered. (Ours.)
-unfoldable pub priceLine : Frame → Option ℕ
-priceLine F = Option·map (λ X. predicateKind (X .predicate)) (extraction F)
+unfoldable pub priceLineBy : Matcher → Frame → Option ℕ
+priceLineBy match F = Option·map (λ X. predicateKind (X .predicate)) (extractionBy match F)
+
+-- 01's, with `matchLeaf`.
+abbrev pub priceLine : Frame → Option ℕ
+priceLine = priceLineBy matchLeaf
 
 -- An extract is on a line: accepted, it leaves a plan with that first byte; where there is no line, it is refused with 13. (Ours.)
 abbrev pub OnLine : Option ℕ → (answer : Result ℕ) → (plan : List ℕ) → Type 0

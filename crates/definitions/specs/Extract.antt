@@ -97,10 +97,22 @@ takePick F (some p) = some (record {
   remainder = Option·map (prune (F .records)) (without (p .position) (F .expr));
 })
 
+-- The predicate of a leaf over these records, if the leaf matches. 01's matcher is `matchLeaf`; others may stand in its place.
+abbrev pub Matcher : Type 0
+Matcher = (records : List Record) → (leaf : Expr) → Option Predicate
+
 -- The match of each AND-leaf.
-unfoldable pub matchesOf : Frame → List (Option Predicate)
-matchesOf F = map (matchLeaf (F .records)) (leaves (F .expr))
+unfoldable pub matchesBy : Matcher → Frame → List (Option Predicate)
+matchesBy match F = map (match (F .records)) (leaves (F .expr))
+
+-- 01's, with `matchLeaf`.
+abbrev pub matchesOf : Frame → List (Option Predicate)
+matchesOf = matchesBy matchLeaf
 
 -- The extraction of a frame; none if no leaf matches.
-unfoldable pub extraction : Frame → Option Extraction
-extraction F = takePick F (pick (matchesOf F))
+unfoldable pub extractionBy : Matcher → Frame → Option Extraction
+extractionBy match F = takePick F (pick (matchesBy match F))
+
+-- 01's, with `matchLeaf`.
+abbrev pub extraction : Frame → Option Extraction
+extraction = extractionBy matchLeaf

@@ -1,4 +1,4 @@
--- The two-bit machine: fed a frame and, for each call of a list, its kind and the length of its scratch.
+-- The two-bit machine: fed a frame and, for each call of a list, its kind and the length of its scratch. 01's matcher is `matchLeaf`.
 use Prim.Native.Nat.{ℕ}
 use mathlib.Core.Bool.{Bool, true, false, not}
 use mathlib.Core.List.{List, [], _∷_}
@@ -8,7 +8,7 @@ use lib.Dec.{leb}
 use Rattle.definitions.specs.Basics.{if_then_else_, Result, ok, refused}
 use Rattle.definitions.specs.Expression.{Frame, Extraction, Plan, held, extracted}
 use Rattle.definitions.specs.Encode.{planBytes}
-use Rattle.definitions.specs.Extract.{extraction}
+use Rattle.definitions.specs.Extract.{Matcher, extractionBy}
 use Rattle.definitions.specs.Exchange.{exchangePlan}
 
 -- The calls of a list: extract and exchange.
@@ -30,15 +30,15 @@ unfoldable pub extractionOr : Plan → Option Extraction → Plan
 extractionOr plan none = plan
 extractionOr plan (some X) = extracted X
 
--- F, or its extraction where that bit is 1; exchanged once where the odd bit is 1. (Settings of matching would be given here too.)
-unfoldable pub machinePlan : Frame → Bits → Plan
-machinePlan F bits =
-    let base : Plan = if bits .isExtracted then extractionOr (held F) (extraction F) else held F in
+-- F, or its extraction where that bit is 1; exchanged once where the odd bit is 1.
+unfoldable pub machinePlan : Matcher → Frame → Bits → Plan
+machinePlan match F bits =
+    let base : Plan = if bits .isExtracted then extractionOr (held F) (extractionBy match F) else held F in
     if bits .isOdd then exchangePlan base else base
 
 -- The length of the machine's plan.
-unfoldable pub machineLength : Frame → Bits → ℕ
-machineLength F bits = length (planBytes (machinePlan F bits))
+unfoldable pub machineLength : Matcher → Frame → Bits → ℕ
+machineLength match F bits = length (planBytes (machinePlan match F bits))
 
 -- The machine's answer, and its bits afterwards.
 pub record Step : Type 0 where
@@ -50,23 +50,23 @@ unfoldable pub refuseStep : Bits → ℕ → Step
 refuseStep bits number = record { answer = refused number; bits = bits }
 
 -- An accepted call gives the length of the machine's new plan.
-unfoldable pub acceptStep : Frame → Bits → Step
-acceptStep F bits = record { answer = ok (machineLength F bits); bits = bits }
+unfoldable pub acceptStep : Matcher → Frame → Bits → Step
+acceptStep match F bits = record { answer = ok (machineLength match F bits); bits = bits }
 
 -- 13 if no AND-leaf of F matches, else the extracted bit becomes 1.
-unfoldable pub takeStep : Frame → Bits → Option Extraction → Step
-takeStep F bits none = refuseStep bits 13
-takeStep F bits (some X) = acceptStep F (record { isExtracted = true; isOdd = bits .isOdd })
+unfoldable pub takeStep : Matcher → Frame → Bits → Option Extraction → Step
+takeStep match F bits none = refuseStep bits 13
+takeStep match F bits (some X) = acceptStep match F (record { isExtracted = true; isOdd = bits .isOdd })
 
 -- Exchange: 9, else the odd bit flips. Extract: 12, 9, 13, else the extracted bit becomes 1.
-unfoldable pub machineStep : Frame → Bits → Kind → (room : ℕ) → Step
-machineStep F bits exchangeCall room =
-    if leb (machineLength F bits) room
-    then acceptStep F (record { isExtracted = bits .isExtracted; isOdd = not (bits .isOdd) })
+unfoldable pub machineStep : Matcher → Frame → Bits → Kind → (room : ℕ) → Step
+machineStep match F bits exchangeCall room =
+    if leb (machineLength match F bits) room
+    then acceptStep match F (record { isExtracted = bits .isExtracted; isOdd = not (bits .isOdd) })
     else refuseStep bits 9
-machineStep F bits extractCall room =
+machineStep match F bits extractCall room =
     if bits .isExtracted then refuseStep bits 12 else
-    if leb (machineLength F bits) room then takeStep F bits (extraction F) else
+    if leb (machineLength match F bits) room then takeStep match F bits (extractionBy match F) else
     refuseStep bits 9
 
 -- The answers of a list of calls, and the bits at its end.
@@ -75,11 +75,11 @@ pub record Run : Type 0 where
   pub bits : Bits
 
 -- The machine fed a list of calls.
-unfoldable pub machineRun : Frame → Bits → List Fed → Run
-machineRun F bits [] = record { answers = []; bits = bits }
-machineRun F bits (c ∷ cs) =
-    let step : Step = machineStep F bits (c .kind) (c .room) in
-    let after : Run = machineRun F (step .bits) cs in
+unfoldable pub machineRun : Matcher → Frame → Bits → List Fed → Run
+machineRun match F bits [] = record { answers = []; bits = bits }
+machineRun match F bits (c ∷ cs) =
+    let step : Step = machineStep match F bits (c .kind) (c .room) in
+    let after : Run = machineRun match F (step .bits) cs in
     record { answers = step .answer ∷ after .answers; bits = after .bits }
 
 -- Both bits are 0 at the start.

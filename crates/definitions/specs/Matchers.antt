@@ -1,32 +1,16 @@
--- Matching as a parameter: what is claimed of extractions holds under every matcher that obeys the laws below, of which
--- `matchLeaf` is 01's. (All of this is ours.)
+-- The laws of a matcher: under every one that obeys them hold the claims of extractions and of calls (AnyMatcher). (All of this is ours.)
 use Prim.Native.Nat.{ℕ, suc, _≤_}
 use mathlib.Core.Path.{_≡_}
 use mathlib.Core.List.{List, map}
 use mathlib.Core.Option.{Option, none, some, Option·map}
 use lib.ListN.{length}
-use Rattle.definitions.specs.Expression.{Expr, Record, Frame, Predicate, Extraction}
+use Rattle.definitions.specs.Expression.{Expr, Record, Predicate}
 use Rattle.definitions.specs.Encode.{exprBytes, predicateFields}
-use Rattle.definitions.specs.Leaves.{leaves}
 use Rattle.definitions.specs.Decode.{indexBelow}
-use Rattle.definitions.specs.Extract.{pick, takePick}
+use Rattle.definitions.specs.Extract.{Matcher}
 use Rattle.definitions.specs.Exchange.{exchangeRecord, exchangePredicate}
 use Rattle.definitions.specs.Good.{nodes, InRange, Readable, RecordsInRange, ReadablePredicate, predicateNodes, NoMarks}
-use Rattle.definitions.specs.Meaning.{Valuation, Meaning, value, frameColumns, predicateValue, Fair}
-
--- The predicate of a leaf over these records, if the leaf matches.
-abbrev pub Matcher : Type 0
-Matcher = (records : List Record) → (leaf : Expr) → Option Predicate
-
--- The match of each AND-leaf; with `matchLeaf` these are `matchesOf`.
-abbrev pub matchesBy : Matcher → Frame → List (Option Predicate)
-matchesBy match F = map (match (F .records)) (leaves (F .expr))
-
--- The extraction of a frame; with `matchLeaf` it is `extraction`.
-abbrev pub extractionBy : Matcher → Frame → Option Extraction
-extractionBy match F = takePick F (pick (matchesBy match F))
-
--- ---- the laws
+use Rattle.definitions.specs.Meaning.{Valuation, Meaning, value, frameColumns, predicateValue, exchangedValues, Fair}
 
 -- A match in range, with its first byte of at most so many bytes, and of at most so many nodes.
 abbrev pub Fits : (room size : ℕ) → Option Predicate → Type 0
@@ -49,6 +33,10 @@ pub record Lawful (match : Matcher) (Asks : Meaning → List Record → Type 0) 
   -- Meaning respects it: the match of a leaf in range has the leaf's value.
   pub means : (M : Meaning) (v : Valuation) (records : List Record) (leaf : Expr) → Asks M records
       → InRange (indexBelow (length records)) leaf → Valued M v (value M (frameColumns v records) leaf) (match records leaf)
+
+-- A meaning that exchange respects: an exchanged predicate has the predicate's value, those of left and right columns exchanged.
+abbrev pub Symmetric : Meaning → Type 0
+Symmetric M = (v : Valuation) (p : Predicate) → predicateValue M v (exchangePredicate p) ≡ predicateValue M (exchangedValues v) p
 
 -- What `matchLeaf` asks: a fair meaning, and no mark column among the records.
 abbrev pub LeafAsks : Meaning → List Record → Type 0

@@ -7,7 +7,9 @@ use lib.ListN.{length, take}
 use Rattle.definitions.specs.Basics.{if_then_else_, Result, ok, refused}
 use Rattle.definitions.specs.Expression.{Frame, held}
 use Rattle.definitions.specs.Encode.{frameBytes}
-use Rattle.definitions.specs.Calls.{Outcome, extract, exchange}
+use Rattle.definitions.specs.Match.{matchLeaf}
+use Rattle.definitions.specs.Extract.{Matcher}
+use Rattle.definitions.specs.Calls.{Outcome, extractBy, exchange}
 use Rattle.definitions.specs.Machine.{Kind, extractCall, exchangeCall, Fed, Run, machineRun, fresh}
 use Rattle.definitions.specs.Good.{GoodPlan}
 
@@ -27,9 +29,13 @@ abbrev pub exchangeWith : (scratch : List ℕ) → Made
 exchangeWith scratch = record { kind = exchangeCall; scratch = scratch }
 
 -- The call of a kind.
-unfoldable pub make : Kind → (n : ℕ) → (buffer scratch : List ℕ) → Outcome
-make extractCall n buffer scratch = extract n buffer scratch
-make exchangeCall n buffer scratch = exchange n buffer scratch
+unfoldable pub makeBy : Matcher → Kind → (n : ℕ) → (buffer scratch : List ℕ) → Outcome
+makeBy match extractCall n buffer scratch = extractBy match n buffer scratch
+makeBy match exchangeCall n buffer scratch = exchange n buffer scratch
+
+-- 01's, with `matchLeaf`.
+abbrev pub make : Kind → (n : ℕ) → (buffer scratch : List ℕ) → Outcome
+make = makeBy matchLeaf
 
 -- The answers of a list of calls, and n and the plan buffer at its end.
 pub record ListOutcome : Type 0 where
@@ -38,20 +44,28 @@ pub record ListOutcome : Type 0 where
   pub buffer : List ℕ
 
 -- A list of calls, each given the last n and the plan buffer as it was left.
-unfoldable pub callsRun : (n : ℕ) → (buffer : List ℕ) → List Made → ListOutcome
-callsRun n buffer [] = record { answers = []; n = n; buffer = buffer }
-callsRun n buffer (c ∷ cs) =
-    let one : Outcome = make (c .kind) n buffer (c .scratch) in
-    let after : ListOutcome = callsRun (one .n) (one .buffer) cs in
+unfoldable pub callsRunBy : Matcher → (n : ℕ) → (buffer : List ℕ) → List Made → ListOutcome
+callsRunBy match n buffer [] = record { answers = []; n = n; buffer = buffer }
+callsRunBy match n buffer (c ∷ cs) =
+    let one : Outcome = makeBy match (c .kind) n buffer (c .scratch) in
+    let after : ListOutcome = callsRunBy match (one .n) (one .buffer) cs in
     record { answers = one .answer ∷ after .answers; n = after .n; buffer = after .buffer }
+
+-- 01's, with `matchLeaf`.
+abbrev pub callsRun : (n : ℕ) → (buffer : List ℕ) → List Made → ListOutcome
+callsRun = callsRunBy matchLeaf
 
 -- A call as the machine is fed it: its kind and the length of its scratch.
 unfoldable pub fed : Made → Fed
 fed c = record { kind = c .kind; room = length (c .scratch) }
 
 -- The machine after the same list.
+abbrev pub machineAfterBy : Matcher → Frame → List Made → Run
+machineAfterBy match F calls = machineRun match F fresh (map fed calls)
+
+-- 01's, with `matchLeaf`.
 abbrev pub machineAfter : Frame → List Made → Run
-machineAfter F calls = machineRun F fresh (map fed calls)
+machineAfter = machineAfterBy matchLeaf
 
 -- ---- what the answers tell
 
@@ -80,20 +94,24 @@ exchangesOdd (c ∷ cs) (a ∷ answers) =
 
 -- ---- sessions
 
--- The good frame F is held: its bytes are the first n of a plan buffer.
-pub record Session (F : Frame) : Type 0 where
+-- The good frame F is held: its bytes are the first n of a plan buffer. All calls of a session are made with its matcher.
+pub record SessionBy (match : Matcher) (F : Frame) : Type 0 where
   pub n : ℕ
   pub buffer : List ℕ
   pub good : GoodPlan (held F)
   pub fits : n ≤ length buffer
   pub holds : take n buffer ≡ frameBytes F
 
+-- 01's, with `matchLeaf`.
+abbrev pub Session : Frame → Type 0
+Session = SessionBy matchLeaf
+
 -- What a list of calls answers and leaves.
-abbrev pub after : {F : Frame} → Session F → List Made → ListOutcome
-after s calls = callsRun (s .n) (s .buffer) calls
+abbrev pub after : {match : Matcher} {F : Frame} → SessionBy match F → List Made → ListOutcome
+after {match} s calls = callsRunBy match (s .n) (s .buffer) calls
 
 -- n after a list of calls: the plan's length.
-abbrev pub lengthAfter : {F : Frame} → Session F → List Made → ℕ
+abbrev pub lengthAfter : {match : Matcher} {F : Frame} → SessionBy match F → List Made → ℕ
 lengthAfter s calls = after s calls .n
 
 -- The first n bytes of the plan buffer at the end of a list of calls.
@@ -101,17 +119,17 @@ abbrev pub planLeft : ListOutcome → List ℕ
 planLeft o = take (o .n) (o .buffer)
 
 -- The plan after a list of calls.
-abbrev pub planAfter : {F : Frame} → Session F → List Made → List ℕ
+abbrev pub planAfter : {match : Matcher} {F : Frame} → SessionBy match F → List Made → List ℕ
 planAfter s calls = planLeft (after s calls)
 
 -- Whether an extract was accepted in a list of calls.
-abbrev pub extractedIn : {F : Frame} → Session F → List Made → Bool
+abbrev pub extractedIn : {match : Matcher} {F : Frame} → SessionBy match F → List Made → Bool
 extractedIn s calls = extractAccepted calls (after s calls .answers)
 
 -- Whether accepted exchanges are odd in number in a list of calls.
-abbrev pub oddIn : {F : Frame} → Session F → List Made → Bool
+abbrev pub oddIn : {match : Matcher} {F : Frame} → SessionBy match F → List Made → Bool
 oddIn s calls = exchangesOdd calls (after s calls .answers)
 
 -- The answer of a call that is made after a list of calls.
-abbrev pub answerAfter : {F : Frame} → Session F → (before : List Made) → Made → Result ℕ
-answerAfter s before c = make (c .kind) (after s before .n) (after s before .buffer) (c .scratch) .answer
+abbrev pub answerAfter : {match : Matcher} {F : Frame} → SessionBy match F → (before : List Made) → Made → Result ℕ
+answerAfter {match} s before c = makeBy match (c .kind) (after s before .n) (after s before .buffer) (c .scratch) .answer

@@ -13,7 +13,7 @@ use Rattle.definitions.specs.Plans.{frameOf}
 use Rattle.definitions.specs.Calls.{LoadOutcome, load, Outcome}
 use Rattle.definitions.specs.Machine.{extractCall, exchangeCall}
 use Rattle.definitions.specs.Good.{AllBytes}
-use Rattle.definitions.specs.Sessions.{Made, make, ListOutcome, callsRun, machineAfter, accepted, extractAccepted, exchangesOdd, Session, after, planLeft, extractedIn, oddIn}
+use Rattle.definitions.specs.Sessions.{Made, make, ListOutcome, callsRunBy, callsRun, machineAfter, accepted, extractAccepted, exchangesOdd, Session, after, planLeft, extractedIn, oddIn}
 use Rattle.definitions.specs.Meaning.{frameValue}
 use Rattle.definitions.specs.Claims.{Agree, someLeafMatches, Took, extractedPlan, priceLine, valuesWhen, HasValue}
 use Rattle.definitions.proofs.InversePlan.{same-ok}
@@ -25,7 +25,7 @@ use Rattle.join_filter.specs.declared.answers.Answer.the-variants.{Lengt
 
 ran-is : {n last : ℕ} {buffer left : List ℕ} {calls : List Made} {answers : List Answer} → Ran n buffer calls answers last left
     → callsRun n buffer calls ≡ record { answers = map answerOf answers; n = last; buffer = left }
-unfolding callsRun
+unfolding callsRunBy
 ran-is noCall = refl
 ran-is (called {r = r} e more) =
     rw e (ap (λ (c : ListOutcome). record { answers = answerOf r ∷ c .answers; n = c .n; buffer = c .buffer }) (ran-is more))

@@ -8,7 +8,7 @@ use borrow.Author.Tests.{lt-leb}
 use Rattle.definitions.specs.Basics.{if_then_else_, Result, ok, refused}
 use Rattle.definitions.specs.Expression.{Plan, empty}
 use Rattle.definitions.specs.Plans.{planOf}
-use Rattle.definitions.specs.Calls.{Outcome, finish, heldPlan, newAfterExchange, exchange, newAfterExtract, extract}
+use Rattle.definitions.specs.Calls.{Outcome, finish, heldPlan, newAfterExchange, exchange, newAfterExtractBy, newAfterExtract, extractBy, extract}
 use Rattle.join_filter.proofs.Keeping.{held-is}
 
 -- A call by the new plan that it makes of the held one.
@@ -23,7 +23,7 @@ unfolding exchange newAfterExchange
 exchange-call = record { opens = λ n before scratch. refl; bad = λ n room number. refl; none = λ n room. refl }
 
 pub extract-call : Call extract newAfterExtract
-unfolding extract newAfterExtract
+unfolding extractBy newAfterExtractBy
 extract-call = record { opens = λ n before scratch. refl; bad = λ n room number. refl; none = λ n room. refl }
 
 -- A call that is refused keeps everything.

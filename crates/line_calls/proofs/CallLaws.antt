@@ -10,9 +10,9 @@ use Rattle.definitions.specs.Encode.{sideNumber}
 use Rattle.definitions.specs.Expression.{Expr, Side}
 use Rattle.definitions.specs.Leaves.{leaves}
 use Rattle.definitions.specs.Plans.{frameOf, logicalOf}
-use Rattle.definitions.specs.Calls.{LoadOutcome, Outcome, writtenOver, newAfterLoad, finishLoad, load, finish, heldPlan, newAfterExtract, extract, newAfterExchange, exchange}
+use Rattle.definitions.specs.Calls.{LoadOutcome, Outcome, writtenOver, newAfterLoad, finishLoad, load, finish, heldPlan, newAfterExtract, extractBy, newAfterExchange, exchange}
 use Rattle.definitions.specs.Machine.{Kind, extractCall, exchangeCall}
-use Rattle.definitions.specs.Sessions.{make}
+use Rattle.definitions.specs.Sessions.{makeBy, make}
 use Rattle.definitions.specs.Logical.{LogicalAnswer, leafName, distinct, spatialNames, logicalAnswer, logical, logicalBytes}
 use Rattle.definitions.specs.Program.{Kept, LineOutcome, refusedLine, loadLine, logicalLine, callLine}
 use Rattle.definitions.proofs.InversePlan.{refused-not-ok}
@@ -78,7 +78,7 @@ any-scratch n before s t (ok bytes) = refl
 any-scratch n before s t (refused number) = refl
 
 same-call : (kind : Kind) (n : ℕ) (before s t : List ℕ) → length s ≡ length t → made (make kind n before s) ≡ made (make kind n before t)
-unfolding make extract exchange
+unfolding makeBy extractBy exchange
 same-call extractCall n before s t e = rw e (any-scratch n before s t (newAfterExtract n (length t) (heldPlan n before)))
 same-call exchangeCall n before s t e = rw e (any-scratch n before s t (newAfterExchange n (length t) (heldPlan n before)))
 
@@ -90,7 +90,7 @@ finish-fits (refused number) n before s e = absurd (refused-not-ok _ _ (ap (λ (
 
 call-fits : (kind : Kind) (n : ℕ) (before s : List ℕ) {after t : List ℕ} (a : CallAnswer) → OutcomeIs (make kind n before s) n after t a
     → planLength (lineAnswer a) ≤ length after
-unfolding make extract exchange
+unfolding makeBy extractBy exchange
 call-fits extractCall n before s (Length m) is = finish-fits (newAfterExtract n (length s) (heldPlan n before)) n before s is
 call-fits exchangeCall n before s (Length m) is = finish-fits (newAfterExchange n (length s) (heldPlan n before)) n before s is
 call-fits kind n before s (CallRefused why) is = omega arith

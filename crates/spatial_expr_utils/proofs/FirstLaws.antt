@@ -13,7 +13,7 @@ use Rattle.definitions.specs.Leaves.{leaves}
 use Rattle.definitions.specs.Decode.{indexBelow}
 use Rattle.definitions.specs.Match.{matchLeaf}
 use Rattle.definitions.specs.Extract as definition
-use Rattle.definitions.specs.Extract.{firstMatch, firstOf, matchesOf}
+use Rattle.definitions.specs.Extract.{firstMatch, firstOf, matchesBy}
 use Rattle.expression.specs.Nodes.{leftOf, rightOf}
 use Rattle.expression.specs.Nodes.{headBytes, OfTreeIn}
 use Rattle.expression.specs.Leaves.{Both, NodeIs}
@@ -221,7 +221,7 @@ module _ {wanted : Wanted} {s : List ℕ} {rec at before up : ℕ} where
 pub taken-is : {s : List ℕ} {rec at : ℕ} {wanted : Wanted} {p : Pick} {records : List Record} {t : Expr}
     → FirstIs wanted s rec at 0 at p records t
     → definition.pick (matches records t) ≡ firstMatch (wants wanted) (matches records t) → TakenIs s rec at p records t
-unfolding matchesOf
+unfolding matchesBy
 taken-is {s} {rec} {at} {wanted} {p} {records} {t} f e =
     let same : p .position ≡ f .i = f .counted ∙ zero-add (f .i) in
     record {

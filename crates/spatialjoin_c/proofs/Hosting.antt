@@ -8,7 +8,7 @@ use Rattle.definitions.specs.Hosts.{hosted}
 use Rattle.definitions.specs.Machine.{Kind}
 use Rattle.definitions.specs.Sessions.{make}
 use Rattle.definitions.specs.Good.{AllBytes}
-use Rattle.definitions.proofs.Lengths.{lengths-are-short}
+use Rattle.definitions.proofs.Proved.{lengths-short}
 use Rattle.join_filter.specs.Outcomes.{answerOf, LoadIs, OutcomeIs}
 use Rattle.join_filter.specs.declared.answers.Answer.{Answer}
 use Rattle.join_filter.specs.declared.answers.Answer.the-variants.{Length, Refused}
@@ -19,7 +19,7 @@ module _ (frame before after : List ℕ) (r : Answer) (is : LoadIs frame before 
   pub load-short : AllBytes frame → Short r
   load-short = short r is where
     short : (r : Answer) → LoadIs frame before after r → AllBytes frame → Short r
-    short (Length m) is bytes = lengths-are-short .0 frame 0 before m bytes (ap (λ (o : LoadOutcome). o .answer) (is 0))
+    short (Length m) is bytes = lengths-short .0 frame 0 before m bytes (ap (λ (o : LoadOutcome). o .answer) (is 0))
     short (Refused why) is bytes = tt
 
   pub load-hosted : (z : ℤ) → z ≡ hosted (answerOf r) → LoadHosted frame before after z
@@ -30,7 +30,7 @@ module _ (kind : Kind) (n : ℕ) (before scratch after kept : List ℕ) (r : Ans
   pub call-short : AllBytes before → Short r
   call-short = short r is where
     short : (r : Answer) → OutcomeIs (make kind n before scratch) n after kept r → AllBytes before → Short r
-    short (Length m) is bytes = lengths-are-short .1 kind n before scratch m bytes (ap (λ (o : Outcome). o .answer) is)
+    short (Length m) is bytes = lengths-short .1 kind n before scratch m bytes (ap (λ (o : Outcome). o .answer) is)
     short (Refused why) is bytes = tt
 
   pub call-hosted : (z : ℤ) → z ≡ hosted (answerOf r) → CallHosted (make kind n before scratch) after kept z

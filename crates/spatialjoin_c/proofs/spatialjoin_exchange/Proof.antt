@@ -1,7 +1,7 @@
 -- `spatialjoin_exchange`: the exchange's answer as one number.
 use borrow.Author.Needs.{needs}
 use Rattle.definitions.specs.Machine.{exchangeCall}
-use Rattle.definitions.specs.Sessions.{make}
+use Rattle.definitions.specs.Sessions.{makeBy}
 use Rattle.reading.proofs.Standing.{all-bytes}
 use Rattle.host_answers.proofs.Numbers.{given-back}
 use Rattle.spatialjoin_c.proofs.Hosting.{call-short, call-hosted}
@@ -9,7 +9,7 @@ use Rattle.spatialjoin_c.proofs.spatialjoin_exchange.Statement.{stateme
 use Rattle.spatialjoin_c.proofs.spatialjoin_exchange.Tie as tie
 
 answer-number-requires : tie.Need-answer-number-requires
-unfolding make
+unfolding makeBy
 answer-number-requires c κs =
     let called = c .before .before .before .before in
     let known = called .before .before .before .before in
@@ -17,7 +17,7 @@ answer-number-requires c κs =
     (all-bytes (known .before .args .plan .now) (known .slice-known .given))
 
 returns : tie.Need-returns
-unfolding make
+unfolding makeBy
 returns c =
     let call = c .before .before .before .before .before .exchange in
     call-hosted exchangeCall _ _ _ _ _ (call .result) (call .ensures) _ (given-back _ _ (c .answer-number .ok) (c .answer-number .ensures))

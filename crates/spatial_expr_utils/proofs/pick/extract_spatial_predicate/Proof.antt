@@ -1,6 +1,6 @@
 -- `extract_spatial_predicate`: the pick is the first KNN match; without one it is the first match that is not KNN.
 use mathlib.Core.Path.{_∙_}
-use Rattle.definitions.specs.Extract.{matchesOf}
+use Rattle.definitions.specs.Extract.{matchesBy}
 use Rattle.spatial_expr_utils.proofs.PickLaws.{pick-knn, pick-other}
 use Rattle.spatial_expr_utils.proofs.FirstLaws.{taken-is}
 use borrow.Author.Needs.{needs}
@@ -8,13 +8,13 @@ use Rattle.spatial_expr_utils.proofs.pick.extract_spatial_predicate.Sta
 use Rattle.spatial_expr_utils.proofs.pick.extract_spatial_predicate.Tie as tie
 
 returns : tie.Need-returns
-unfolding matchesOf
+unfolding matchesBy
 returns c = λ records t over.
     let first = rw (c .before .pick .given .1) at (c .before .before .before .extract-knn-predicate-prioritized .ensures records t over) in
     taken-is first (pick-knn _ _ (first .first))
 
 returns-2 : tie.Need-returns-2
-unfolding matchesOf
+unfolding matchesBy
 returns-2 c =
     let at-first-match = c .before .before .before in
     let at-enum-told = at-first-match .before in
@@ -25,7 +25,7 @@ returns-2 c =
     taken-is (rw (c .before .pick2 .given .1) at (at-first-match .first-match .ensures records t over)) (pick-other _ (none-first .first))
 
 returns-3 : tie.Need-returns-3
-unfolding matchesOf
+unfolding matchesBy
 returns-3 c =
     let at-first-match = c .before .before in
     let at-enum-told = at-first-match .before in
