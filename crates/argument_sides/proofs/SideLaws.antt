@@ -2,6 +2,7 @@
 use mathlib.Core.Path.{_≡_, refl, sym, ap, _∙_}
 use mathlib.Core.Bool.{Bool, true, false, _&&_}
 use mathlib.Core.List.{List, [], _∷_, _++_}
+use mathlib.Core.Logic.{_⊎_, ⊎-elim}
 use lib.Dec.{eqb}
 use Rattle.definitions.specs.Basics.{if_then_else_, all}
 use Rattle.definitions.specs.Expression.{Side, left, right, noSide}
@@ -100,9 +101,13 @@ pub order-none : (a b : ArgumentSide) → (isSide left a && isSide right b) ≡ 
 unfolding orderOf
 order-none a b n m = rw (n, m)
 
-pub not-first : (a b : Bool) → a ≡ false → (a && b) ≡ false
+not-first : (a b : Bool) → a ≡ false → (a && b) ≡ false
 not-first a b e = rw e
 
-pub not-second : (a b : Bool) → b ≡ false → (a && b) ≡ false
+not-second : (a b : Bool) → b ≡ false → (a && b) ≡ false
 not-second true b e = e
 not-second false b e = refl
+
+-- Two tests in a row, of which the first fails or the second does.
+pub not-both : {First Second : Type 0} (a b : Bool) → (Second → b ≡ false) → (First → a ≡ false) → Second ⊎ First → (a && b) ≡ false
+not-both a b second first = ⊎-elim {C = (a && b) ≡ false} (λ w. not-second a b (second w)) (λ w. not-first a b (first w))

@@ -12,3 +12,4 @@ pub mod WordLaws
 pub mod Parts
 pub mod There
 pub mod Signed
+pub mod Cycles

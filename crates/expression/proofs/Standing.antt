@@ -39,7 +39,7 @@ head-first (call name args) = refl
 head-first (other g cs) = refl
 head-first (field b g) = refl
 
-head-some : (t : Expr) → 0 < length (headBytes t)
+pub head-some : (t : Expr) → 0 < length (headBytes t)
 unfolding headBytes
 head-some (column i g) = omega arith
 head-some (literal y v) = omega arith

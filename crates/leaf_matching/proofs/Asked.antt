@@ -136,22 +136,12 @@ not-asked own kind e z q is = ⊎-elim (λ f. ap (λ (n : ℕ). eqb n kind) f �
 knn-kind : Kind isKnn (asks 3)
 unfolding isKnn asks requestKind
 knn-kind =
-    record {
-      ofRelation = λ type t a b l r. refl;
-      ofDistance = λ form side a b bound l r d. refl;
-      ofKnn = λ k spheroid ties probe a b l r.
-          refl;
-    }
+    record { ofRelation = λ _ _ _ _ _ _. refl; ofDistance = λ _ _ _ _ _ _ _ _. refl; ofKnn = λ _ _ _ _ _ _ _ _. refl }
 
 relation-kind : Kind isRelation (asks 1)
 unfolding isRelation asks requestKind
 relation-kind =
-    record {
-      ofRelation = λ type t a b l r. refl;
-      ofDistance = λ form side a b bound l r d. refl;
-      ofKnn = λ k spheroid ties probe a b l r.
-          refl;
-    }
+    record { ofRelation = λ _ _ _ _ _ _. refl; ofDistance = λ _ _ _ _ _ _ _ _. refl; ofKnn = λ _ _ _ _ _ _ _ _. refl }
 
 module _ (records : List Record) (name : List ℕ) (ts : Exprs) where
   -- A function of another name is no KNN.

@@ -42,12 +42,7 @@ use Rattle.leaf_matching.proofs.Asked.{Kind, request-lacks}
 distance-kind : Kind isDistance parsed.isDistance
 unfolding isDistance parsed.isDistance
 distance-kind =
-    record {
-      ofRelation = λ type t a b l r. refl;
-      ofDistance = λ form side a b bound l r d. refl;
-      ofKnn = λ k spheroid ties probe a b l r.
-          refl;
-    }
+    record { ofRelation = λ _ _ _ _ _ _. refl; ofDistance = λ _ _ _ _ _ _ _ _. refl; ofKnn = λ _ _ _ _ _ _ _ _. refl }
 
 pub no-distance : (records : List Record) (t : Expr) → parsed.isDistance (request t) ≡ false → Lacks isDistance (matchLeaf records t)
 unfolding matchLeaf

@@ -13,19 +13,6 @@ use borrow.Author.Needs.{needs}
 use Rattle.argument_sides.proofs.literal_arguments.extract_literal_bool.Statement.{statement}
 use Rattle.argument_sides.proofs.literal_arguments.extract_literal_bool.Tie as tie
 
-shared-slice-read-if1 : tie.Need-shared-slice-read-if1
-shared-slice-read-if1 c = node-some (c .before .before .pre .2)
-
-returns : tie.Need-returns
-returns c = λ d t h. no-literal h (c .if1 .taken) .1
-
-long-at-requires : tie.Need-long-at-requires
-long-at-requires c κs = omega (arith, literal-is (c .before .before .before .pre .2) (c .if1 .left) .fits)
-
-shared-slice-read-match : tie.Need-shared-slice-read-match
-shared-slice-read-match c =
-    omega (arith, literal-is (c .before .before .before .before .before .pre .2) (c .before .before .if1 .left) .fits)
-
 returns-2 : tie.Need-returns-2
 returns-2 c =
     let at-long-at = c .before .before in
@@ -38,18 +25,15 @@ returns-2 c =
     (ap (λ (n : ℕ). some (flag (eqb n 1))) (at-long-at .long-at .ensures) ∙ flag-is bytes (flag-small h kind (c .match .keys1)) ∙ ap
     (λ (y : ℕ). numberBool y bytes) (sym (c .match .keys1)))
 
-returns-3 : tie.Need-returns-3
-returns-3 c = λ d t h. literal-flag h (c .before .before .before .if1 .left) _ (no-flag _ _ (c .match .rest .1))
-
 pub extract-literal-bool-spec : {M : Type 1} → statement M
 extract-literal-bool-spec =
     tie.close
     (tie.spec
-    shared-slice-read-if1
-    returns
-    (λ c. search needs)
-    long-at-requires
-    (λ c. search needs)
-    shared-slice-read-match
+    (λ c. node-some (c .before .before .pre .2))
+    (λ c d t h. no-literal h (c .if1 .taken) .1)
+    (search needs)
+    (λ c κs. omega (arith, literal-is (c .before .before .before .pre .2) (c .if1 .left) .fits))
+    (search needs)
+    (λ c. omega (arith, literal-is (c .before .before .before .before .before .pre .2) (c .before .before .if1 .left) .fits))
     returns-2
-    returns-3)
+    (λ c d t h. literal-flag h (c .before .before .before .if1 .left) _ (no-flag _ _ (c .match .rest .1))))

@@ -11,18 +11,6 @@ use borrow.Author.Needs.{needs}
 use Rattle.argument_sides.proofs.literal_arguments.extract_literal_u32.Statement.{statement}
 use Rattle.argument_sides.proofs.literal_arguments.extract_literal_u32.Tie as tie
 
-shared-slice-read-if1 : tie.Need-shared-slice-read-if1
-shared-slice-read-if1 c = node-some (c .before .before .pre .2)
-
-returns : tie.Need-returns
-returns c = λ d t h. no-literal h (c .if1 .taken) .0
-
-long-at-requires : tie.Need-long-at-requires
-long-at-requires c κs = omega (arith, literal-is (c .before .before .before .pre .2) (c .if1 .left) .fits)
-
-shared-slice-read-if2 : tie.Need-shared-slice-read-if2
-shared-slice-read-if2 c = omega (arith, literal-is (c .before .before .before .before .before .pre .2) (c .before .before .if1 .left) .fits)
-
 returns-2 : tie.Need-returns-2
 returns-2 c =
     let at-if3 = c .before .before in
@@ -42,26 +30,20 @@ returns-3 c =
     (c .u32-of-u64 .ensures ∙ ap (λ n. u32 (pos n)) (at-long-at .long-at .ensures)
     ∙ number-unsigned _ _ (at-if3 .if3 .left) (c .before .if4 .taken))
 
-returns-4 : tie.Need-returns-4
-returns-4 c = λ d t h. literal-number h (c .before .before .before .if1 .left) _ (number-below _ _ (c .if2 .taken))
-
-returns-5 : tie.Need-returns-5
-returns-5 c = λ d t h. literal-number h (c .before .before .before .before .before .if1 .left) _ (number-above _ _ (c .if4 .left))
-
 pub extract-literal-u32-spec : {M : Type 1} → statement M
 extract-literal-u32-spec =
     tie.close
     (tie.spec
-    shared-slice-read-if1
-    returns
-    (λ c. search needs)
-    long-at-requires
-    (λ c. search needs)
-    shared-slice-read-if2
-    (λ c κs. search needs)
-    (λ c κs. search needs)
-    (λ c κs. search needs)
+    (λ c. node-some (c .before .before .pre .2))
+    (λ c d t h. no-literal h (c .if1 .taken) .0)
+    (search needs)
+    (λ c κs. omega (arith, literal-is (c .before .before .before .pre .2) (c .if1 .left) .fits))
+    (search needs)
+    (λ c. omega (arith, literal-is (c .before .before .before .before .before .pre .2) (c .before .before .if1 .left) .fits))
+    (search needs)
+    (search needs)
+    (search needs)
     returns-2
     returns-3
-    returns-4
-    returns-5)
+    (λ c d t h. literal-number h (c .before .before .before .if1 .left) _ (number-below _ _ (c .if2 .taken)))
+    (λ c d t h. literal-number h (c .before .before .before .before .before .if1 .left) _ (number-above _ _ (c .if4 .left))))

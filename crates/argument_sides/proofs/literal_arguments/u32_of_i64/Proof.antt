@@ -8,17 +8,11 @@ use Rattle.argument_sides.proofs.LiteralLaws.{negative-is, small-is, la
 use Rattle.argument_sides.proofs.literal_arguments.u32_of_i64.Statement.{statement}
 use Rattle.argument_sides.proofs.literal_arguments.u32_of_i64.Tie as tie
 
-returns : tie.Need-returns
-returns c = negative-is _ (c .if1 .taken) ∙ ap u32 (toZ-ofZ (c .before .fits .value))
-
-cast-t4 : tie.Need-cast-t4
-cast-t4 c = small-is (toZ w64 (ofZ w64 (c .before .before .args .value))) (c .before .if1 .left) (c .if2 .taken) .0
-
-returns-2 : tie.Need-returns-2
-returns-2 c = small-is _ (c .before .if1 .left) (c .if2 .taken) .1 ∙ ap u32 (toZ-ofZ (c .before .before .fits .value))
-
-returns-3 : tie.Need-returns-3
-returns-3 c = large-is _ (c .before .if1 .left) (c .if2 .left) ∙ ap u32 (toZ-ofZ (c .before .before .fits .value))
-
 pub u32-of-i64-spec : {M : Type 1} → statement M
-u32-of-i64-spec = tie.close (tie.spec returns cast-t4 returns-2 returns-3)
+u32-of-i64-spec =
+    tie.close
+    (tie.spec
+    (λ c. negative-is _ (c .if1 .taken) ∙ ap u32 (toZ-ofZ (c .before .fits .value)))
+    (λ c. small-is (toZ w64 (ofZ w64 (c .before .before .args .value))) (c .before .if1 .left) (c .if2 .taken) .0)
+    (λ c. small-is _ (c .before .if1 .left) (c .if2 .taken) .1 ∙ ap u32 (toZ-ofZ (c .before .before .fits .value)))
+    (λ c. large-is _ (c .before .if1 .left) (c .if2 .left) ∙ ap u32 (toZ-ofZ (c .before .before .fits .value))))

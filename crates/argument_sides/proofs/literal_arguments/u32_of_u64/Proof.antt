@@ -5,13 +5,11 @@ use borrow.Author.Needs.{needs}
 use Rattle.argument_sides.proofs.literal_arguments.u32_of_u64.Statement.{statement}
 use Rattle.argument_sides.proofs.literal_arguments.u32_of_u64.Tie as tie
 
-returns : tie.Need-returns
-unfolding u32
-returns c = rw (le-leb (c .before .args .value) 4294967295 (c .if1 .taken))
-
-returns-2 : tie.Need-returns-2
-unfolding u32
-returns-2 c = rw (lt-leb (c .before .args .value) 4294967295 (c .if1 .left))
-
 pub u32-of-u64-spec : {M : Type 1} → statement M
-u32-of-u64-spec = tie.close (tie.spec (λ c. search needs) returns returns-2)
+unfolding u32
+u32-of-u64-spec =
+    tie.close
+    (tie.spec
+    (search needs)
+    (λ c. rw (le-leb (c .before .args .value) 4294967295 (c .if1 .taken)))
+    (λ c. rw (lt-leb (c .before .args .value) 4294967295 (c .if1 .left))))

@@ -8,10 +8,6 @@ use borrow.Author.Needs.{needs}
 use Rattle.argument_sides.proofs.sides.is_side.Statement.{statement}
 use Rattle.argument_sides.proofs.sides.is_side.Tie as tie
 
-returns : tie.Need-returns
-unfolding isSide
-returns c = sym (ap (λ (x : Sides). isSide (joinSide (c .before .before .args .side)) (argumentSide x)) (c .enum-told .given .1))
-
 returns-2 : tie.Need-returns-2
 unfolding isSide
 returns-2 c =
@@ -19,18 +15,15 @@ returns-2 c =
     let start = at-of .before .before in
     c .same-side .ensures ∙ sym (ap (λ (x : Sides). isSide (joinSide (start .args .side)) (argumentSide x)) (at-of .of .given .1))
 
-returns-3 : tie.Need-returns-3
-unfolding isSide
-returns-3 c = sym (ap (λ (x : Sides). isSide (joinSide (c .before .before .args .side)) (argumentSide x)) (c .enum-told2 .given .1))
-
 pub is-side-spec : {M : Type 1} → statement M
+unfolding isSide
 is-side-spec =
     tie.close
     (tie.spec
-    (λ c. search needs)
-    (λ c. search needs)
-    (λ c κs. search needs)
-    (λ c. search needs)
-    returns
+    (search needs)
+    (search needs)
+    (search needs)
+    (search needs)
+    (λ c. sym (ap (λ (x : Sides). isSide (joinSide (c .before .before .args .side)) (argumentSide x)) (c .enum-told .given .1)))
     returns-2
-    returns-3)
+    (λ c. sym (ap (λ (x : Sides). isSide (joinSide (c .before .before .args .side)) (argumentSide x)) (c .enum-told2 .given .1))))

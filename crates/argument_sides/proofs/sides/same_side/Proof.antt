@@ -6,8 +6,10 @@ use borrow.Author.Needs.{needs}
 use Rattle.argument_sides.proofs.sides.same_side.Statement.{statement}
 use Rattle.argument_sides.proofs.sides.same_side.Tie as tie
 
-returns : tie.Need-returns
-returns c = ap₂ eqb (c .before .side-number .ensures) (c .side-number2 .ensures) ∙ same-number _ _
-
 pub same-side-spec : {M : Type 1} → statement M
-same-side-spec = tie.close (tie.spec (λ c κs. search needs) (λ c κs. search needs) returns)
+same-side-spec =
+    tie.close
+    (tie.spec
+    (search needs)
+    (search needs)
+    (λ c. ap₂ eqb (c .before .side-number .ensures) (c .side-number2 .ensures) ∙ same-number _ _))

@@ -5,9 +5,6 @@ use borrow.Author.Needs.{needs}
 use Rattle.argument_sides.proofs.sides.see_side.Statement.{statement}
 use Rattle.argument_sides.proofs.sides.see_side.Tie as tie
 
-returns : tie.Need-returns
-returns c = see-first _ (c .enum-told .given .1)
-
 returns-2 : tie.Need-returns-2
 returns-2 c =
     let told = c .before .before .before .seen .given in
@@ -20,18 +17,15 @@ returns-3 c =
     see-other (told .0 .0) (c .before .before .before .before .before .args .side) (told .1)
     (sym (c .if1 .left) ∙ c .before .same-side .ensures)
 
-returns-4 : tie.Need-returns-4
-returns-4 c = see-none (c .before .before .args .side) (c .enum-told2 .given .1)
-
 pub see-side-spec : {M : Type 1} → statement M
 see-side-spec =
     tie.close
     (tie.spec
-    (λ c. search needs)
-    (λ c. search needs)
-    (λ c κs. search needs)
-    (λ c. search needs)
-    returns
+    (search needs)
+    (search needs)
+    (search needs)
+    (search needs)
+    (λ c. see-first _ (c .enum-told .given .1))
     returns-2
     returns-3
-    returns-4)
+    (λ c. see-none (c .before .before .args .side) (c .enum-told2 .given .1)))

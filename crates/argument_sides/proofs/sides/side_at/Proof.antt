@@ -10,5 +10,5 @@ side-at-spec =
     (tie.spec
     (λ c. c .before .before .pre)
     (λ c. record { fits = omega (arith, c .shared-slice-known2 .given (c .before .before .args .at) .fits) })
-    (λ c κs. search needs)
+    (search needs)
     (λ c. c .side-numbered .ensures))

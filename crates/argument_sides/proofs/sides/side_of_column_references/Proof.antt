@@ -4,8 +4,6 @@ use borrow.Author.Needs.{needs}
 use Rattle.argument_sides.proofs.sides.side_of_column_references.Statement.{statement}
 use Rattle.argument_sides.proofs.sides.side_of_column_references.Tie as tie
 
-returns : tie.Need-returns
-returns c = λ records t over. argument-is _ (c .collect-column-references .ensures records t over)
-
 pub side-of-column-references-spec : {M : Type 1} → statement M
-side-of-column-references-spec = tie.close (tie.spec (λ c κs. search needs) returns)
+side-of-column-references-spec =
+    tie.close (tie.spec (λ c κs. search needs) (λ c records t over. argument-is _ (c .collect-column-references .ensures records t over)))

@@ -6,15 +6,6 @@ use borrow.Author.Needs.{needs}
 use Rattle.expression.proofs.fields.short_at.Statement.{statement}
 use Rattle.expression.proofs.fields.short_at.Tie as tie
 
-cast-result : tie.Need-cast-result
-cast-result c = fits-8-64 (c .shared-slice-known .given _)
-
-mul-result : tie.Need-mul-result
-mul-result c = omega (arith, c .shared-slice-known .given (c .before .args .at))
-
-cast-result-2 : tie.Need-cast-result-2
-cast-result-2 c = fits-8-64 (c .shared-slice-known2 .given _)
-
 add-result-2 : tie.Need-add-result-2
 add-result-2 c =
     let a = c .before .before .args in
@@ -24,10 +15,11 @@ pub short-at-spec : {M : Type 1} → statement M
 short-at-spec =
     tie.close
     (tie.spec
-    (λ c. search needs)
-    cast-result
-    mul-result
-    (λ c. search needs) (λ c. search needs)
-    cast-result-2
+    (search needs)
+    (λ c. fits-8-64 (c .shared-slice-known .given _))
+    (λ c. omega (arith, c .shared-slice-known .given (c .before .args .at)))
+    (search needs)
+    (search needs)
+    (λ c. fits-8-64 (c .shared-slice-known2 .given _))
     add-result-2
-    (λ c. search needs))
+    (search needs))

@@ -7,12 +7,6 @@ use Rattle.expression.proofs.LeafLaws.{operator-within, node-and, node-
 use Rattle.expression.proofs.leaves.node_at.Statement.{statement}
 use Rattle.expression.proofs.leaves.node_at.Tie as tie
 
-shared-slice-read-match : tie.Need-shared-slice-read-match
-shared-slice-read-match c = node-some (c .before .before .before .pre .2)
-
-shared-slice-read-match2 : tie.Need-shared-slice-read-match2
-shared-slice-read-match2 c = operator-within (c .before .before .before .before .before .pre .2) (c .before .match .keys1)
-
 sub-t17 : tie.Need-sub-t17
 sub-t17 c =
     let tree = c .before .before .before .before .pre in
@@ -29,11 +23,6 @@ returns-2 c = λ d t h.
     let head = c .before .before .before .before .head-at in
     node-binary (head .result) h (head .ensures d t h) (c .before .before .match .keys1) (c .match2 .rest .1)
 
-returns-3 : tie.Need-returns-3
-returns-3 c = λ d t h.
-    let head = c .before .before .head-at in
-    node-call (head .result) h (head .ensures d t h) (c .match .keys2)
-
 returns-4 : tie.Need-returns-4
 returns-4 c = λ d t h. (
   plain-node t (λ e. c .match .rest .0 .1 (sym (kind-is h) ∙ e)) (λ e. c .match .rest .1 (sym (kind-is h) ∙ e)),
@@ -45,12 +34,12 @@ node-at-spec =
     tie.close
     (tie.spec
     (λ c κs. search needs)
-    shared-slice-read-match
-    (λ c. search needs)
-    shared-slice-read-match2
-    (λ c. search needs)
+    (λ c. node-some (c .before .before .before .pre .2))
+    (search needs)
+    (λ c. operator-within (c .before .before .before .before .before .pre .2) (c .before .match .keys1))
+    (search needs)
     sub-t17
     returns
     returns-2
-    returns-3
+    (λ c d t h. node-call (c .before .before .head-at .result) h (c .before .before .head-at .ensures d t h) (c .match .keys2))
     returns-4)

@@ -8,10 +8,6 @@ use Rattle.definitions.specs.Literals.{isInt32, literalInRange}
 use Rattle.expression.proofs.literals.literal_in_range.Statement.{statement}
 use Rattle.expression.proofs.literals.literal_in_range.Tie as tie
 
-returns : tie.Need-returns
-unfolding literalInRange
-returns c = rw (c .match .keys1)
-
 returns-2 : tie.Need-returns-2
 unfolding literalInRange
 returns-2 c = rw (c .before .before .match .keys2)
@@ -19,16 +15,14 @@ returns-2 c = rw (c .before .before .match .keys2)
     ∙ ap isInt32 (toZ-ofZ {w = w64} {z = c .before .signed .result} (record { sfits = c .before .signed .ok })
     ∙ c .before .signed .ensures))
 
-returns-3 : tie.Need-returns-3
-unfolding literalInRange
-returns-3 c = rw (c .match .keys3)
-
-returns-4 : tie.Need-returns-4
-unfolding literalInRange
-returns-4 c =
-    let no = c .match .rest in
-    rw (ne-eqb _ _ (no .0 .0 .1), ne-eqb _ _ (no .0 .1), ne-eqb _ _ (no .1))
-
 pub literal-in-range-spec : {M : Type 1} → statement M
+unfolding literalInRange
 literal-in-range-spec =
-    tie.close (tie.spec (λ c κs. search needs) (λ c κs. search needs) returns returns-2 returns-3 returns-4)
+    tie.close
+    (tie.spec
+    (search needs)
+    (search needs)
+    (λ c. rw (c .match .keys1))
+    returns-2
+    (λ c. rw (c .match .keys3))
+    (λ c. rw (ne-eqb _ _ (c .match .rest .0 .0 .1), ne-eqb _ _ (c .match .rest .0 .1), ne-eqb _ _ (c .match .rest .1))))

@@ -5,15 +5,13 @@ use Rattle.expression.proofs.Signed.{lower, upper, upper-fits}
 use Rattle.expression.proofs.literals.signed.Statement.{statement}
 use Rattle.expression.proofs.literals.signed.Tie as tie
 
-sub-result-2 : tie.Need-sub-result-2
-sub-result-2 c = rw (upper (c .before .args .bytes) (c .if1 .left)) (upper-fits _ (c .if1 .left))
-
-returns : tie.Need-returns
-returns c = lower _ (c .if1 .taken)
-
-returns-2 : tie.Need-returns-2
-returns-2 c = rw (upper (c .before .args .bytes) (c .if1 .left)) (toZ-ofZ (upper-fits _ (c .if1 .left)))
-
 pub signed-spec : {M : Type 1} → statement M
 signed-spec =
-    tie.close (tie.spec (λ c. search needs) (λ c. search needs) (λ c. search needs) sub-result-2 returns returns-2)
+    tie.close
+    (tie.spec
+    (search needs)
+    (search needs)
+    (search needs)
+    (λ c. rw (upper (c .before .args .bytes) (c .if1 .left)) (upper-fits _ (c .if1 .left)))
+    (λ c. lower _ (c .if1 .taken))
+    (λ c. rw (upper (c .before .args .bytes) (c .if1 .left)) (toZ-ofZ (upper-fits _ (c .if1 .left)))))

@@ -6,15 +6,14 @@ use Rattle.expression.proofs.NameLaws.{capital, below-capitals, above-c
 use Rattle.expression.proofs.names.letter_in.Statement.{statement}
 use Rattle.expression.proofs.names.letter_in.Tie as tie
 
-returns-2 : tie.Need-returns-2
-returns-2 c = rw (c .before .before .enum-told2 .given .1) (sym (capital _ (c .before .if1 .left) (omega arith)))
-
-returns-3 : tie.Need-returns-3
-returns-3 c = rw (c .before .enum-told2 .given .1) (sym (below-capitals _ (c .if1 .taken)))
-
-returns-4 : tie.Need-returns-4
-returns-4 c = rw (c .before .before .enum-told2 .given .1) (sym (above-capitals _ (omega arith)))
-
 pub letter-in-spec : {M : Type 1} → statement M
 letter-in-spec =
-    tie.close (tie.spec (λ c. search needs) (λ c. search needs) (λ c. search needs) (λ c. search needs) returns-2 returns-3 returns-4)
+    tie.close
+    (tie.spec
+    (search needs)
+    (search needs)
+    (search needs)
+    (λ c. search needs)
+    (λ c. rw (c .before .before .enum-told2 .given .1) (sym (capital _ (c .before .if1 .left) (omega arith))))
+    (λ c. rw (c .before .enum-told2 .given .1) (sym (below-capitals _ (c .if1 .taken))))
+    (λ c. rw (c .before .before .enum-told2 .given .1) (sym (above-capitals _ (omega arith)))))

@@ -44,7 +44,7 @@ name-index-spec =
     (λ c. word-there _ _ _ _ _ (c .before .loop .inv) .low)
     (λ c. word-there _ _ _ _ _ (c .before .loop .inv) .low)
     (λ c. word-there _ _ _ _ _ (c .before .loop .inv) .high)
-    (λ c κs. search needs)
+    (search needs)
     returns
     (λ c. omega (arith, end-there _ _ _ _ _ (c .before .before .before .before .loop .inv)))
     returns-2

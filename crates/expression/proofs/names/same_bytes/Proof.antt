@@ -57,11 +57,15 @@ same-bytes-spec =
     (tie.spec
     Inv-loop
     μ-loop
-    (λ c. search needs)
+    (search needs)
     returns
     (λ c. (omega arith, refl))
-    (λ c. omega arith) (λ c. omega arith) (λ c κs. search needs) (λ c. omega arith)
+    (λ c. omega arith)
+    (λ c. omega arith)
+    (search needs)
+    (λ c. omega arith)
     returns-2
-    (λ c. omega arith) (λ c. omega arith)
+    (λ c. omega arith)
+    (λ c. omega arith)
     loop-again
     returns-3)

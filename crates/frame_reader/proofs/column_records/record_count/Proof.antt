@@ -8,10 +8,6 @@ use borrow.Author.Needs.{needs}
 use Rattle.frame_reader.proofs.column_records.record_count.Statement.{statement}
 use Rattle.frame_reader.proofs.column_records.record_count.Tie as tie
 
-returns : tie.Need-returns
-unfolding recordCount
-returns c n = halts _ ((rw (c .before .why .given .1) at (c .before .before .before .number .ensures)) n)
-
 returns-2 : tie.Need-returns-2
 unfolding recordCount
 returns-2 c =
@@ -27,6 +23,13 @@ returns-3 c n =
     after _ (many .1 n) ∙ fails 4 _ n _ (lt-leb (p .value .given .0 .0) 256 (omega arith))
 
 pub record-count-spec : {M : Type 1} → statement M
+unfolding recordCount
 record-count-spec =
     tie.close
-    (tie.spec (λ c κs. search needs) (λ c. search needs) (λ c. search needs) returns returns-2 returns-3)
+    (tie.spec
+    (search needs)
+    (search needs)
+    (search needs)
+    (λ c n. halts _ ((rw (c .before .why .given .1) at (c .before .before .before .number .ensures)) n))
+    returns-2
+    returns-3)

@@ -41,9 +41,9 @@ records-spec =
     μ-loop
     loop-holds
     one-record-requires
-    (λ c. search needs)
+    (search needs)
     returns
-    (λ c. search needs)
+    (search needs)
     (λ c. omega arith)
     (λ c. omega arith)
     loop-again

@@ -6,10 +6,6 @@ use Rattle.definitions.proofs.ReaderLaws.{after, halts}
 use Rattle.frame_reader.proofs.column_records.side_up_to.Statement.{statement}
 use Rattle.frame_reader.proofs.column_records.side_up_to.Tie as tie
 
-returns : tie.Need-returns
-unfolding sideUpTo
-returns c n = halts _ ((rw (c .before .why .given .1) at (c .before .before .before .byte-up-to .ensures)) n)
-
 returns-2 : tie.Need-returns-2
 unfolding sideUpTo
 returns-2 c =
@@ -17,5 +13,13 @@ returns-2 c =
     (number .0, λ n. after _ (number .1 n) ∙ rw (c .side-numbered .ensures))
 
 pub side-up-to-spec : {M : Type 1} → statement M
+unfolding sideUpTo
 side-up-to-spec =
-    tie.close (tie.spec (λ c κs. search needs) (λ c. search needs) (λ c. search needs) (λ c κs. search needs) returns returns-2)
+    tie.close
+    (tie.spec
+    (search needs)
+    (search needs)
+    (search needs)
+    (search needs)
+    (λ c n. halts _ ((rw (c .before .why .given .1) at (c .before .before .before .byte-up-to .ensures)) n))
+    returns-2)

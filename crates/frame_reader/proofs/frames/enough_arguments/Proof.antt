@@ -4,12 +4,12 @@ use mathlib.Core.Path.{sym}
 use Rattle.frame_reader.proofs.frames.enough_arguments.Statement.{statement}
 use Rattle.frame_reader.proofs.frames.enough_arguments.Tie as tie
 
-returns : tie.Need-returns
-returns c = λ d t stands. sym ((rw (c .enum-told .given .1) at (c .before .before .check-arity .ensures)) d t stands .0)
-
-returns-2 : tie.Need-returns-2
-returns-2 c = λ d t stands. sym ((rw (c .enum-told2 .given .1) at (c .before .before .check-arity .ensures)) d t stands)
-
 pub enough-arguments-spec : {M : Type 1} → statement M
 enough-arguments-spec =
-    tie.close (tie.spec (λ c κs. search needs) (λ c. search needs) (λ c. search needs) returns returns-2)
+    tie.close
+    (tie.spec
+    (λ c κs. search needs)
+    (search needs)
+    (search needs)
+    (λ c d t stands. sym ((rw (c .enum-told .given .1) at (c .before .before .check-arity .ensures)) d t stands .0))
+    (λ c d t stands. sym ((rw (c .enum-told2 .given .1) at (c .before .before .check-arity .ensures)) d t stands)))

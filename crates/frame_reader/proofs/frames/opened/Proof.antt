@@ -8,10 +8,6 @@ use Rattle.frame_reader.specs.Frames.{opening}
 use Rattle.frame_reader.proofs.frames.opened.Statement.{statement}
 use Rattle.frame_reader.proofs.frames.opened.Tie as tie
 
-returns : tie.Need-returns
-unfolding opening
-returns c n = halts _ ((rw (c .before .why .given .1) at (c .before .before .before .first-byte .ensures)) n)
-
 returns-2 : tie.Need-returns-2
 unfolding opening
 returns-2 c =
@@ -27,5 +23,13 @@ returns-3 c n =
     after _ (first .1 n) ∙ rw (ne-eqb _ _ (c .if1 .left))
 
 pub opened-spec : {M : Type 1} → statement M
+unfolding opening
 opened-spec =
-    tie.close (tie.spec (λ c κs. search needs) (λ c. search needs) (λ c. search needs) returns returns-2 returns-3)
+    tie.close
+    (tie.spec
+    (search needs)
+    (search needs)
+    (search needs)
+    (λ c n. halts _ ((rw (c .before .why .given .1) at (c .before .before .before .first-byte .ensures)) n))
+    returns-2
+    returns-3)

@@ -14,9 +14,12 @@ returns c =
       c .end-children .ensures d args (st .row),
     )
 
-returns-2 : tie.Need-returns-2
-unfolding leafArity
-returns-2 c = λ d name args st. sym (c .before .enough-arguments .ensures d name args st) ∙ c .if1 .left
-
 pub call-arity-spec : {M : Type 1} → statement M
-call-arity-spec = tie.close (tie.spec (λ c κs. search needs) (λ c κs. search needs) returns returns-2)
+unfolding leafArity
+call-arity-spec =
+    tie.close
+    (tie.spec
+    (λ c κs. search needs)
+    (λ c κs. search needs)
+    returns
+    (λ c d name args st. sym (c .before .enough-arguments .ensures d name args st) ∙ c .if1 .left))

@@ -10,9 +10,6 @@ use Rattle.leaf_arity.proofs.ArityLaws.{not-asked, asked}
 use Rattle.leaf_arity.proofs.arity.comparison_arity.Statement.{statement}
 use Rattle.leaf_arity.proofs.arity.comparison_arity.Tie as tie
 
-end-node-requires : tie.Need-end-node-requires
-end-node-requires c κs = first-of-pair (c .before .pre)
-
 enough-to-measure-requires : tie.Need-enough-to-measure-requires
 enough-to-measure-requires c κs =
     let found = c .before .before .before in
@@ -28,9 +25,6 @@ returns c = λ d l r row.
     sides-found row (found .before .end-node .result) (found .before .end-node .ensures) _ (arm .measured .given .1)
     (found .comparison .ensures) in
     asked _ l r sides ∙ sym (c .before .enough-to-measure .ensures d (sides .m) (sides .standsMeasured)) ∙ not-true _ (c .if1 .taken)
-
-end-node-requires-2 : tie.Need-end-node-requires-2
-end-node-requires-2 c κs = second-of-pair (c .before .before .before .before .pre) _ (c .before .before .end-node .ensures)
 
 returns-2 : tie.Need-returns-2
 returns-2 c = λ d l r row.
@@ -48,10 +42,11 @@ pub comparison-arity-spec : {M : Type 1} → statement M
 comparison-arity-spec =
     tie.close
     (tie.spec
-    end-node-requires
-    (λ c κs. search needs) (λ c. search needs)
+    (λ c κs. first-of-pair (c .before .pre))
+    (search needs)
+    (search needs)
     enough-to-measure-requires
     returns
-    (λ c. search needs)
-    end-node-requires-2
+    (search needs)
+    (λ c κs. second-of-pair (c .before .before .before .before .pre) _ (c .before .before .end-node .ensures))
     returns-2)

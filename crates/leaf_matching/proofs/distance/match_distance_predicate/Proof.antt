@@ -8,17 +8,11 @@ use Rattle.leaf_matching.proofs.distance.match_distance_predicate.State
 }
 use Rattle.leaf_matching.proofs.distance.match_distance_predicate.Tie as tie
 
-parse-distance-predicate-requires : tie.Need-parse-distance-predicate-requires
-parse-distance-predicate-requires c κs = framed-tree (c .before .pre)
-
 returns : tie.Need-returns
 returns c =
     let at-parse-distance-predicate = c .before .before in
     λ records t over. no-distance records t (rw (c .enum-told .given .1) at
     (at-parse-distance-predicate .parse-distance-predicate .ensures _ t (over .tree)))
-
-end-node-requires : tie.Need-end-node-requires
-end-node-requires c κs = framed-tree (c .before .before .before .before .before .pre)
 
 -- The parsed arguments stand in the frame.
 framed : (c : tie.After-end-node)
@@ -30,15 +24,6 @@ framed c =
     let at-parsed = c .before .before in
     arguments-framed (parses (at-parsed .before .before .parse-distance-predicate .ensures) (at-parsed .parsed .given .1))
     (c .before .before .before .before .before .before .pre)
-
-side-of-column-references-requires : tie.Need-side-of-column-references-requires
-side-of-column-references-requires c κs = framed c .2
-
-side-of-column-references-requires-2 : tie.Need-side-of-column-references-requires-2
-side-of-column-references-requires-2 c κs = framed (c .before) .0
-
-side-of-column-references-requires-3 : tie.Need-side-of-column-references-requires-3
-side-of-column-references-requires-3 c κs = framed (c .before .before) .1
 
 walked : (c : tie.After-side-of-column-references3)
     → let start = c .before .before .before .before .before .before .before .before .before .args in
@@ -64,50 +49,35 @@ returns-2 c =
     λ records t over. distance-undefined (walked (c .before .before .before)) over _ (c .before .before .side-of-distance .ensures)
     (c .enum-told2 .given .1)
 
-returns-3 : tie.Need-returns-3
-returns-3 c =
-    let at-resolve-column-reference-sides = c .before .before in
-    let at-distance-side = at-resolve-column-reference-sides .before .before in
-    λ records t over. distance-neither (walked (at-distance-side .before .before .before)) over _
-    (at-distance-side .before .before .side-of-distance .ensures) _ (at-distance-side .distance-side .given .1) _
-    (at-resolve-column-reference-sides .resolve-column-reference-sides .ensures) (c .enum-told5 .given .1)
-
-returns-4 : tie.Need-returns-4
-returns-4 c =
-    let at-resolve-column-reference-sides = c .before .before in
-    let at-distance-side = at-resolve-column-reference-sides .before .before in
-    λ records t over. distance-left (walked (at-distance-side .before .before .before)) over _
-    (at-distance-side .before .before .side-of-distance .ensures) _ (at-distance-side .distance-side .given .1) _
-    (at-resolve-column-reference-sides .resolve-column-reference-sides .ensures) (c .enum-told3 .given .1)
-
-returns-5 : tie.Need-returns-5
-returns-5 c =
-    let at-resolve-column-reference-sides = c .before .before in
-    let at-distance-side = at-resolve-column-reference-sides .before .before in
-    λ records t over. distance-right (walked (at-distance-side .before .before .before)) over _
-    (at-distance-side .before .before .side-of-distance .ensures) _ (at-distance-side .distance-side .given .1) _
-    (at-resolve-column-reference-sides .resolve-column-reference-sides .ensures) (c .enum-told4 .given .1)
-
 pub match-distance-predicate-spec : {M : Type 1} → statement M
 match-distance-predicate-spec =
     tie.close
     (tie.spec
-    parse-distance-predicate-requires
-    (λ c. search needs)
-    (λ c. search needs)
+    (λ c κs. framed-tree (c .before .pre))
+    (search needs)
+    (search needs)
     returns
-    end-node-requires
-    side-of-column-references-requires
-    side-of-column-references-requires-2
-    side-of-column-references-requires-3
-    (λ c κs. search needs)
-    (λ c. search needs)
-    (λ c. search needs)
+    (λ c κs. framed-tree (c .before .before .before .before .before .pre))
+    (λ c κs. framed c .2)
+    (λ c κs. framed (c .before) .0)
+    (λ c κs. framed (c .before .before) .1)
+    (search needs)
+    (search needs)
+    (search needs)
     returns-2
-    (λ c κs. search needs)
-    (λ c. search needs)
-    (λ c. search needs)
-    (λ c. search needs)
-    returns-3
-    returns-4
-    returns-5)
+    (search needs)
+    (search needs)
+    (search needs)
+    (search needs)
+    (λ c records t over.
+    let sided = c .before .before .before .before in
+    distance-neither (walked (sided .before .before .before)) over _ (sided .before .before .side-of-distance .ensures) _
+    (sided .distance-side .given .1) _ (c .before .before .resolve-column-reference-sides .ensures) (c .enum-told5 .given .1))
+    (λ c records t over.
+    let sided = c .before .before .before .before in
+    distance-left (walked (sided .before .before .before)) over _ (sided .before .before .side-of-distance .ensures) _
+    (sided .distance-side .given .1) _ (c .before .before .resolve-column-reference-sides .ensures) (c .enum-told3 .given .1))
+    (λ c records t over.
+    let sided = c .before .before .before .before in
+    distance-right (walked (sided .before .before .before)) over _ (sided .before .before .side-of-distance .ensures) _
+    (sided .distance-side .given .1) _ (c .before .before .resolve-column-reference-sides .ensures) (c .enum-told4 .given .1)))

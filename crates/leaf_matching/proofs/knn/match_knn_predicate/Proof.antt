@@ -26,9 +26,6 @@ returns-2 c =
     ⊎-elim (λ w. few-lacks records name ts same (omega (arith, w .taken)))
     (λ w. many-lacks records name ts same (omega (arith, ltb-true 5 (start .args .called .count) (w .1 .taken)))) (c .if2 .came)
 
-resolve-geometries-requires : tie.Need-resolve-geometries-requires
-resolve-geometries-requires c κs = pair-framed (c .before .before .before .before .before .before .pre) (c .before .if2 .left)
-
 end-children-requires : tie.Need-end-children-requires
 end-children-requires c κs =
     let at-if2 = c .before .before in
@@ -63,9 +60,6 @@ walked c =
       ends = c .before .end-children .ensures;
     }
 
-returns-3 : tie.Need-returns-3
-returns-3 c = λ records name ts over. knn-unread (walked (c .before .before)) over (c .enum-told .given .1)
-
 returns-4 : tie.Need-returns-4
 returns-4 c =
     let at-k = c .before .before .before in
@@ -88,19 +82,19 @@ pub match-knn-predicate-spec : {M : Type 1} → statement M
 match-knn-predicate-spec =
     tie.close
     (tie.spec
-    (λ c. search needs)
-    (λ c κs. search needs)
+    (search needs)
+    (search needs)
     returns
     returns-2
-    resolve-geometries-requires
+    (λ c κs. pair-framed (c .before .before .before .before .before .before .pre) (c .before .if2 .left))
     end-children-requires
     knn-options-requires
-    (λ c. search needs)
-    (λ c. search needs)
-    returns-3
-    (λ c. search needs)
-    (λ c. search needs)
-    (λ c. search needs)
+    (search needs)
+    (search needs)
+    (λ c records name ts over. knn-unread (walked (c .before .before)) over (c .enum-told .given .1))
+    (search needs)
+    (search needs)
+    (search needs)
     returns-4
     returns-5
     returns-6)

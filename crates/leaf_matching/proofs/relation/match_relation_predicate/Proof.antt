@@ -27,9 +27,6 @@ returns-2 c =
     (ap relationNamed (sym (over .stands .spelling)) ∙ sym (at-from-name .from-name .ensures)
     ∙ ap namedRelation (at-named .named .given .1)) (omega (arith, over .stands .row .counted))
 
-resolve-geometries-requires : tie.Need-resolve-geometries-requires
-resolve-geometries-requires c κs = pair-framed (c .before .before .before .before .before .before .pre) (c .if1 .left)
-
 end-children-requires : tie.Need-end-children-requires
 end-children-requires c κs =
     let start = c .before .before .before .before .before .before .before in
@@ -50,12 +47,6 @@ walked c =
       ends = c .end-children .ensures;
     }
 
-returns-3 : tie.Need-returns-3
-returns-3 c = λ records name ts over. relation-neither (walked (c .before .before)) over (c .enum-told4 .given .1)
-
-returns-4 : tie.Need-returns-4
-returns-4 c = λ records name ts over. relation-left (walked (c .before .before)) over (c .enum-told2 .given .1)
-
 returns-5 : tie.Need-returns-5
 returns-5 c =
     λ records name ts over. relation-right (walked (c .before .before .before)) over _ (c .invert .ensures)
@@ -65,17 +56,17 @@ pub match-relation-predicate-spec : {M : Type 1} → statement M
 match-relation-predicate-spec =
     tie.close
     (tie.spec
-    (λ c κs. search needs)
-    (λ c. search needs)
-    (λ c. search needs)
+    (search needs)
+    (search needs)
+    (search needs)
     returns
     returns-2
-    resolve-geometries-requires
+    (λ c κs. pair-framed (c .before .before .before .before .before .before .pre) (c .if1 .left))
     end-children-requires
-    (λ c. search needs)
-    (λ c. search needs)
-    (λ c κs. search needs)
-    (λ c. search needs)
-    returns-3
-    returns-4
+    (search needs)
+    (search needs)
+    (search needs)
+    (search needs)
+    (λ c records name ts over. relation-neither (walked (c .before .before)) over (c .enum-told4 .given .1))
+    (λ c records name ts over. relation-left (walked (c .before .before)) over (c .enum-told2 .given .1))
     returns-5)

@@ -11,9 +11,6 @@ use Rattle.logical_filter.proofs.QueryWalk.{sideBy, no-side, no-argumen
 use Rattle.logical_filter.proofs.knn_query_side.find_knn_query_side.Statement.{statement}
 use Rattle.logical_filter.proofs.knn_query_side.find_knn_query_side.Tie as tie
 
-returns : tie.Need-returns
-returns c = λ d t h. no-side (leaves t) ((rw (c .enum-told .given .1) at (c .before .before .find-st-knn-call .ensures d t h)) .0)
-
 returns-2 : tie.Need-returns-2
 returns-2 c = λ d t h.
     let arm = c .before .before in
@@ -36,27 +33,17 @@ side-is c d t h =
     argument-side (leaves t) (rw (arm .first .given .1) at (arm .before .before .find-st-knn-call .ensures d t h)) (c .before .if1 .left)
     (c .column-refs .result) (c .column-refs .ensures)
 
-returns-3 : tie.Need-returns-3
-returns-3 c = λ d t h. rw (c .before .if2 .taken, c .if3 .taken) at (side-is (c .before .before) d t h)
-
-returns-4 : tie.Need-returns-4
-returns-4 c = λ d t h. rw (c .before .if2 .taken, c .if3 .left) at (side-is (c .before .before) d t h)
-
-returns-5 : tie.Need-returns-5
-returns-5 c = λ d t h. rw (c .before .if2 .left, c .if4 .taken) at (side-is (c .before .before) d t h)
-
-returns-6 : tie.Need-returns-6
-returns-6 c = λ d t h. rw (c .before .if2 .left, c .if4 .left) at (side-is (c .before .before) d t h)
-
 pub find-knn-query-side-spec : {M : Type 1} → statement M
 find-knn-query-side-spec =
     tie.close
     (tie.spec
-    (λ c κs. search needs) (λ c. search needs) (λ c. search needs)
-    returns
+    (λ c κs. search needs)
+    (search needs)
+    (search needs)
+    (λ c d t h. no-side (leaves t) ((rw (c .enum-told .given .1) at (c .before .before .find-st-knn-call .ensures d t h)) .0))
     returns-2
     column-refs-requires
-    returns-3
-    returns-4
-    returns-5
-    returns-6)
+    (λ c d t h. rw (c .before .if2 .taken, c .if3 .taken) at (side-is (c .before .before) d t h))
+    (λ c d t h. rw (c .before .if2 .taken, c .if3 .left) at (side-is (c .before .before) d t h))
+    (λ c d t h. rw (c .before .if2 .left, c .if4 .taken) at (side-is (c .before .before) d t h))
+    (λ c d t h. rw (c .before .if2 .left, c .if4 .left) at (side-is (c .before .before) d t h)))

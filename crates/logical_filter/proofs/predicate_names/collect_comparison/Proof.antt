@@ -17,12 +17,6 @@ use Rattle.logical_filter.proofs.NameWalk.{unnamed, named-dwithin, comp
 use Rattle.logical_filter.proofs.predicate_names.collect_comparison.Statement.{statement}
 use Rattle.logical_filter.proofs.predicate_names.collect_comparison.Tie as tie
 
-end-node-requires : tie.Need-end-node-requires
-end-node-requires c κs = first-of-pair (c .before .pre)
-
-end-node-requires-2 : tie.Need-end-node-requires-2
-end-node-requires-2 c κs = second-of-pair (c .before .before .pre) _ (c .end-node .ensures)
-
 returns : tie.Need-returns
 returns c = λ d l r row.
     let found = c .before .before in
@@ -64,18 +58,16 @@ returns-2 : tie.Need-returns-2
 returns-2 c =
     λ d l r row. record { names = named-dwithin (name-is (c .before) d l r row ∙ rw (c .if1 .taken)); next = ends-at (c .before) d l r row }
 
-returns-3 : tie.Need-returns-3
-returns-3 c =
-    λ d l r row. record { names = unnamed (name-is (c .before) d l r row ∙ rw (c .if1 .left)); next = ends-at (c .before) d l r row }
-
 pub collect-comparison-spec : {M : Type 1} → statement M
 collect-comparison-spec =
     tie.close
     (tie.spec
-    end-node-requires
-    end-node-requires-2
-    (λ c κs. search needs) (λ c. search needs) (λ c. search needs)
+    (λ c κs. first-of-pair (c .before .pre))
+    (λ c κs. second-of-pair (c .before .before .pre) _ (c .end-node .ensures))
+    (search needs)
+    (search needs)
+    (search needs)
     returns
     is-distance-expr-requires
     returns-2
-    returns-3)
+    (λ c d l r row. record { names = unnamed (name-is (c .before) d l r row ∙ rw (c .if1 .left)); next = ends-at (c .before) d l r row }))

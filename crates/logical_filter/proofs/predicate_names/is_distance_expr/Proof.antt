@@ -10,9 +10,6 @@ use Rattle.logical_filter.proofs.NameWalk.{no-distance, small-name}
 use Rattle.logical_filter.proofs.predicate_names.is_distance_expr.Statement.{statement}
 use Rattle.logical_filter.proofs.predicate_names.is_distance_expr.Tie as tie
 
-returns : tie.Need-returns
-returns c = λ d t h. no-distance t (no-call h (c .before .node-at .result) (c .match .keys2) (c .before .node-at .ensures d t h))
-
 same-name-ignore-case-requires : tie.Need-same-name-ignore-case-requires
 same-name-ignore-case-requires c κs =
     let arm = c .before .before in
@@ -29,8 +26,9 @@ pub is-distance-expr-spec : {M : Type 1} → statement M
 is-distance-expr-spec =
     tie.close
     (tie.spec
-    (λ c κs. search needs) (λ c. search needs)
-    returns
-    (λ c. search needs)
+    (λ c κs. search needs)
+    (search needs)
+    (λ c d t h. no-distance t (no-call h (c .before .node-at .result) (c .match .keys2) (c .before .node-at .ensures d t h)))
+    (search needs)
     same-name-ignore-case-requires
     returns-2)

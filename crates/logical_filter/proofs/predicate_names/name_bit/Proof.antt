@@ -17,10 +17,6 @@ returns c =
     kept (found .result) (c .if1 .taken) ∙ ap (λ (i : ℕ). 2 ^ i) (found .ensures)
     ∙ bit _ spatialNames spatial-apart (omega (arith, found .ensures))
 
-returns-2 : tie.Need-returns-2
-unfolding words ascii spatialNames
-returns-2 c = sym (no-bit _ spatialNames (omega (arith, c .before .name-index .ensures)))
-
 -- The names' ends are where they are said to be.
 name-index-requires : tie.Need-name-index-requires
 unfolding endsFrom
@@ -29,4 +25,13 @@ name-index-requires c κs =
     (start .pre .0, start .pre .1, refl)
 
 pub name-bit-spec : {M : Type 1} → statement M
-name-bit-spec = tie.close (tie.spec (λ c. search needs) name-index-requires (λ c. search needs) (λ c. search needs) returns returns-2)
+unfolding words ascii spatialNames
+name-bit-spec =
+    tie.close
+    (tie.spec
+    (search needs)
+    name-index-requires
+    (search needs)
+    (search needs)
+    returns
+    (λ c. sym (no-bit _ spatialNames (omega (arith, c .before .name-index .ensures)))))

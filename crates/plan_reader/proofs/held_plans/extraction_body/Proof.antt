@@ -1,34 +1,25 @@
 -- A predicate and then its remainder.
+use Rattle.plan_reader.specs.declared.held_predicates.Predicated.the-variants.{Read}
+use Rattle.plan_reader.specs.Predicates.{PredicateIs}
 use borrow.Author.Needs.{needs}
 use mathlib.Core.Path.{_∙_}
-use Rattle.definitions.specs.Decode.{extractionBody}
+use Rattle.definitions.specs.Decode.{predicateOfKind, extractionBody}
 use Rattle.definitions.proofs.ReaderLaws.{after, halts}
 use Rattle.plan_reader.proofs.held_plans.extraction_body.Statement.{statement}
 use Rattle.plan_reader.proofs.held_plans.extraction_body.Tie as tie
 
-remainder-at-requires : tie.Need-remainder-at-requires
-remainder-at-requires c κs = (rw (c .before .predicate .given .1) at (c .before .before .before .predicate-of-kind .ensures)) .0
-
-returns : tie.Need-returns
-unfolding extractionBody
-returns c = halts _ (rw (c .before .why .given .1) at (c .before .before .before .predicate-of-kind .ensures))
-
-returns-2 : tie.Need-returns-2
-unfolding extractionBody
-returns-2 c =
-    let at-why2 = c .before in
-    let at-predicate = at-why2 .before .before .before .before in
-    let predicate = rw (at-predicate .predicate .given .1) at (at-predicate .before .before .predicate-of-kind .ensures) in
-    let stop = rw (at-why2 .why2 .given .1) at (at-why2 .before .before .remainder-at .ensures) in
-    after _ (predicate .3) ∙ halts _ stop
+-- The predicate was read.
+found : (p : tie.After-predicate)
+    → let a = p .before .before .before .before .args in
+    let read = p .predicate .given .0 in
+    PredicateIs (a .s .now) (a .at) (Read (read .0) (read .1 .0) (read .1 .1 .0)) (predicateOfKind (a .first))
+found p = rw (p .predicate .given .1) at (p .before .before .predicate-of-kind .ensures)
 
 returns-3 : tie.Need-returns-3
 unfolding extractionBody
 returns-3 c =
-    let at-remainder = c .before in
-    let at-predicate = at-remainder .before .before .before .before in
-    let predicate = rw (at-predicate .predicate .given .1) at (at-predicate .before .before .predicate-of-kind .ensures) in
-    let rest = rw (at-remainder .remainder .given .1) at (at-remainder .before .before .remainder-at .ensures) in (
+    let predicate = found (c .before .before .before .before .before) in
+    let rest = rw (c .before .remainder .given .1) at (c .before .before .before .remainder-at .ensures) in (
       rest .0,
       record { predicate = predicate .1; remainder = rest .1 },
       record { predicate = predicate .2; remainder = rest .2 },
@@ -37,15 +28,17 @@ returns-3 c =
     )
 
 pub extraction-body-spec : {M : Type 1} → statement M
+unfolding extractionBody
 extraction-body-spec =
     tie.close
     (tie.spec
-    (λ c κs. search needs)
-    (λ c. search needs)
-    (λ c. search needs)
-    remainder-at-requires
-    (λ c. search needs)
-    (λ c. search needs)
-    returns
-    returns-2
+    (search needs)
+    (search needs)
+    (search needs)
+    (λ c κs. found (c .before) .0)
+    (search needs)
+    (search needs)
+    (λ c. halts _ (rw (c .before .why .given .1) at (c .before .before .before .predicate-of-kind .ensures)))
+    (λ c. after _ (found (c .before .before .before .before .before) .3)
+    ∙ halts _ (rw (c .before .why2 .given .1) at (c .before .before .before .remainder-at .ensures)))
     returns-3)

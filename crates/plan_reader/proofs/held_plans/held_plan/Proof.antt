@@ -8,9 +8,6 @@ use Rattle.plan_reader.proofs.Extractions.{nothing-held, frame-held, ex
 use Rattle.plan_reader.proofs.held_plans.held_plan.Statement.{statement}
 use Rattle.plan_reader.proofs.held_plans.held_plan.Tie as tie
 
-returns : tie.Need-returns
-returns c = nothing-held _ (c .if1 .taken)
-
 returns-2 : tie.Need-returns-2
 returns-2 c =
     let s = c .before .before .before .before .before .args .s .now in
@@ -30,12 +27,12 @@ pub held-plan-spec : {M : Type 1} → statement M
 held-plan-spec =
     tie.close
     (tie.spec
-    returns
-    (λ c. search needs)
-    (λ c κs. search needs)
+    (λ c. nothing-held _ (c .if1 .taken))
+    (search needs)
+    (search needs)
     returns-2
-    (λ c κs. search needs)
-    (λ c. search needs)
-    (λ c. search needs)
+    (search needs)
+    (search needs)
+    (search needs)
     returns-3
     returns-4)

@@ -1,6 +1,6 @@
 -- Nothing, or a frame.
 use borrow.Author.Needs.{needs}
-use mathlib.Core.Path.{_≡_, refl, _∙_}
+use mathlib.Core.Path.{refl, _∙_}
 use mathlib.Core.Option.{none}
 use borrow.Author.Tests.{ne-eqb}
 use Rattle.definitions.specs.Decode.{remainderOfKind, remainder}
@@ -8,13 +8,6 @@ use Rattle.definitions.proofs.ReaderLaws.{after, halts}
 use Rattle.plan_reader.proofs.Extractions.{follows}
 use Rattle.plan_reader.proofs.held_plans.remainder_at.Statement.{statement}
 use Rattle.plan_reader.proofs.held_plans.remainder_at.Tie as tie
-
-some-remainder-requires : tie.Need-some-remainder-requires
-some-remainder-requires c κs = (rw (c .before .before .kind .given .1) at (c .before .before .before .before .byte .ensures)) .0
-
-returns : tie.Need-returns
-unfolding remainder
-returns c = halts _ ((rw (c .before .why .given .1) at (c .before .before .before .byte .ensures)) _)
 
 returns-2 : tie.Need-returns-2
 unfolding remainder remainderOfKind
@@ -38,14 +31,15 @@ returns-4 c =
     after _ (kind .1 _) ∙ rw (ne-eqb _ _ (c .match2 .rest .0 .1), ne-eqb _ _ (c .match2 .rest .1))
 
 pub remainder-at-spec : {M : Type 1} → statement M
+unfolding remainder
 remainder-at-spec =
     tie.close
     (tie.spec
-    (λ c κs. search needs)
-    (λ c. search needs)
-    (λ c. search needs)
-    some-remainder-requires
-    returns
+    (search needs)
+    (search needs)
+    (search needs)
+    (λ c κs. (rw (c .before .before .kind .given .1) at (c .before .before .before .before .byte .ensures)) .0)
+    (λ c. halts _ ((rw (c .before .why .given .1) at (c .before .before .before .byte .ensures)) _))
     returns-2
     returns-3
     returns-4)

@@ -1,44 +1,35 @@
 -- A frame's body, and then its arity.
+use Rattle.frame_reader.specs.declared.frames.Body.the-variants.{Read}
+use Rattle.frame_reader.specs.Frames.{BodyIs}
 use borrow.Author.Needs.{needs}
 use mathlib.Core.Path.{refl, sym, _∙_}
 use mathlib.Core.Option.{some}
-use Rattle.definitions.specs.Decode.{someRemainder}
+use Rattle.definitions.specs.Decode.{frameBody, someRemainder}
 use Rattle.definitions.proofs.ReaderLaws.{after, halts, passes, fails}
 use Rattle.frame_reader.proofs.Standing.{expr-stands, frame-tree}
 use Rattle.plan_reader.proofs.held_plans.some_remainder.Statement.{statement}
 use Rattle.plan_reader.proofs.held_plans.some_remainder.Tie as tie
 
-enough-arguments-requires : tie.Need-enough-arguments-requires
-enough-arguments-requires c κs = frame-tree ((rw (c .before .frame .given .1) at (c .before .before .before .frame-body .ensures)) .3)
-
-returns : tie.Need-returns
-unfolding someRemainder
-returns c = halts _ (rw (c .before .why .given .1) at (c .before .before .before .frame-body .ensures))
-
-returns-2 : tie.Need-returns-2
-unfolding someRemainder
-returns-2 c =
-    let at-frame = c .before .before .before in
-    let body = rw (at-frame .frame .given .1) at (at-frame .before .before .frame-body .ensures) in
-    let enough = sym (c .before .enough-arguments .ensures _ _ (expr-stands (body .3 .expr))) ∙ c .if1 .taken in
-    (body .0, some (body .1), (body .1, refl, body .3), _, after _ (body .2) ∙ passes 8 _ _ _ enough)
-
-returns-3 : tie.Need-returns-3
-unfolding someRemainder
-returns-3 c =
-    let at-frame = c .before .before .before in
-    let body = rw (at-frame .frame .given .1) at (at-frame .before .before .frame-body .ensures) in
-    let short = sym (c .before .enough-arguments .ensures _ _ (expr-stands (body .3 .expr))) ∙ c .if1 .left in
-    after _ (body .2) ∙ fails 8 _ _ _ short
+-- The body was read.
+body : (p : tie.After-frame)
+    → let a = p .before .before .before .before .args in
+    let read = p .frame .given .0 in BodyIs (a .s .now) (a .at) (a .nodes) (Read (read .0) (read .1 .0) (read .1 .1 .0)) frameBody
+body p = rw (p .frame .given .1) at (p .before .before .frame-body .ensures)
 
 pub some-remainder-spec : {M : Type 1} → statement M
+unfolding someRemainder
 some-remainder-spec =
     tie.close
     (tie.spec
-    (λ c κs. search needs)
-    (λ c. search needs)
-    (λ c. search needs)
-    enough-arguments-requires
-    returns
-    returns-2
-    returns-3)
+    (search needs)
+    (search needs)
+    (search needs)
+    (λ c κs. frame-tree (body (c .before) .3))
+    (λ c. halts _ (rw (c .before .why .given .1) at (c .before .before .before .frame-body .ensures)))
+    (λ c.
+    let f = body (c .before .before .before) in
+    let enough = sym (c .before .enough-arguments .ensures _ _ (expr-stands (f .3 .expr))) ∙ c .if1 .taken in
+    (f .0, some (f .1), (f .1, refl, f .3), _, after _ (f .2) ∙ passes 8 _ _ _ enough))
+    λ c.
+    let f = body (c .before .before .before) in
+    after _ (f .2) ∙ fails 8 _ _ _ (sym (c .before .enough-arguments .ensures _ _ (expr-stands (f .3 .expr))) ∙ c .if1 .left))

@@ -1,4 +1,6 @@
 -- Two arguments, and then the distance from where the second ended.
+use Rattle.plan_reader.specs.declared.held_predicates.Pair.the-variants.{Read}
+use Rattle.plan_reader.specs.Predicates.{PairIs}
 use borrow.Author.Needs.{needs}
 use mathlib.Core.Path.{refl, _∙_}
 use Rattle.definitions.specs.Decode.{argument}
@@ -7,28 +9,17 @@ use Rattle.frame_reader.proofs.Standing.{expr-spans}
 use Rattle.plan_reader.proofs.held_predicates.distance_arguments.Statement.{statement}
 use Rattle.plan_reader.proofs.held_predicates.distance_arguments.Tie as tie
 
-argument-requires : tie.Need-argument-requires
-argument-requires c κs = (rw (c .before .right .given .1) at (c .before .before .before .both .ensures)) .0
-
-returns : tie.Need-returns
-returns c = (rw (c .before .why .given .1) at (c .before .before .before .both .ensures)) _
-
-returns-2 : tie.Need-returns-2
-unfolding argument
-returns-2 c =
-    let at-why2 = c .before in
-    let at-right = at-why2 .before .before .before .before in
-    let both = rw (at-right .right .given .1) at (at-right .before .before .both .ensures) in
-    let stop = rw (at-why2 .why2 .given .1) at (at-why2 .before .before .argument .ensures) in
-    both .5 _ ∙ halts _ stop
+-- Left and right were read.
+pair : (p : tie.After-right)
+    → let a = p .before .before .before .before .args in
+    let read = p .right .given .0 in PairIs (a .s .now) (a .left) (Read (read .0) (read .1 .0) (read .1 .1 .0))
+pair p = rw (p .right .given .1) at (p .before .before .both .ensures)
 
 returns-3 : tie.Need-returns-3
 unfolding argument
 returns-3 c =
-    let at-end = c .before in
-    let at-right = at-end .before .before .before .before in
-    let both = rw (at-right .right .given .1) at (at-right .before .before .both .ensures) in
-    let bound = rw (at-end .end .given .1) at (at-end .before .before .argument .ensures) in (
+    let both = pair (c .before .before .before .before .before) in
+    let bound = rw (c .before .end .given .1) at (c .before .before .before .argument .ensures) in (
       bound .2 .bytes .within,
       _,
       record { l = both .1; r = both .2; bound = bound .0; left = both .3; right = both .4; limit = expr-spans (bound .2); is = refl },
@@ -36,15 +27,17 @@ returns-3 c =
     )
 
 pub distance-arguments-spec : {M : Type 1} → statement M
+unfolding argument
 distance-arguments-spec =
     tie.close
     (tie.spec
-    (λ c κs. search needs)
-    (λ c. search needs)
-    (λ c. search needs)
-    argument-requires
-    (λ c. search needs)
-    (λ c. search needs)
-    returns
-    returns-2
+    (search needs)
+    (search needs)
+    (search needs)
+    (λ c κs. pair (c .before) .0)
+    (search needs)
+    (search needs)
+    (λ c. (rw (c .before .why .given .1) at (c .before .before .before .both .ensures)) _)
+    (λ c. pair (c .before .before .before .before .before) .5 _
+    ∙ halts _ (rw (c .before .why2 .given .1) at (c .before .before .before .argument .ensures)))
     returns-3)

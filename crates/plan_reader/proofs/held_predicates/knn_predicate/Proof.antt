@@ -1,4 +1,9 @@
 -- KNN is k, its flags and then two arguments.
+use Rattle.plan_reader.specs.declared.held_predicates.Flagged.the-variants as flags
+use Rattle.plan_reader.specs.Predicates.{FlagsIs}
+use Rattle.definitions.specs.Readers.{number}
+use Rattle.reading.specs.declared.field_readers.Field.the-variants.{Value}
+use Rattle.reading.specs.Fields.{FieldIs}
 use borrow.Author.Needs.{needs}
 use native.Mathlib.Omega.{arith}
 use mathlib.Core.Path.{refl, _∙_}
@@ -9,78 +14,56 @@ use Rattle.plan_reader.proofs.Predicated.{four-bytes}
 use Rattle.plan_reader.proofs.held_predicates.knn_predicate.Statement.{statement}
 use Rattle.plan_reader.proofs.held_predicates.knn_predicate.Tie as tie
 
-knn-flags-requires : tie.Need-knn-flags-requires
-knn-flags-requires c κs = (rw (c .before .k .given .1) at (c .before .before .before .number .ensures)) .0
+-- The number k was read, and the flags.
+many : (p : tie.After-k)
+    → let a = p .before .before .before .before .args in
+    let read = p .k .given .0 in FieldIs (a .s .now) (a .at) (Value (read .0) (read .1 .0)) (number 4)
+many p = rw (p .k .given .1) at (p .before .before .number .ensures)
 
-both-requires : tie.Need-both-requires
-both-requires c κs = (rw (c .before .flags .given .1) at (c .before .before .before .knn-flags .ensures)) .0
-
-cast-t21 : tie.Need-cast-t21
-cast-t21 c =
-    let at-k = c .before .before .before .before .before .before .before .before .before in
-    let k = rw (at-k .k .given .1) at (at-k .before .before .number .ensures) in
-    let start = at-k .before .before .before in
-    let a = start .before .args in
-    let small =
-    four-bytes (a .s .now) (a .at) (at-k .k .given .0 .1 .0) (at-k .k .given .0 .0)
-    (all-bytes (a .s .now) (start .shared-slice-known .given)) (k .1) in
-    omega (arith, small)
-
-returns : tie.Need-returns
-unfolding knnPredicate
-returns c = halts _ ((rw (c .before .why .given .1) at (c .before .before .before .number .ensures)) 0)
-
-returns-2 : tie.Need-returns-2
-unfolding knnPredicate
-returns-2 c =
-    let at-why2 = c .before in
-    let at-k = at-why2 .before .before .before .before in
-    let k = rw (at-k .k .given .1) at (at-k .before .before .number .ensures) in
-    let stop = rw (at-why2 .why2 .given .1) at (at-why2 .before .before .knn-flags .ensures) in
-    after _ (k .1 0) ∙ stop _ 0
-
-returns-3 : tie.Need-returns-3
-unfolding knnPredicate
-returns-3 c =
-    let at-why3 = c .before in
-    let at-flags = at-why3 .before .before .before .before in
-    let at-k = at-flags .before .before .before .before in
-    let k = rw (at-k .k .given .1) at (at-k .before .before .number .ensures) in
-    let flags = rw (at-flags .flags .given .1) at (at-flags .before .before .knn-flags .ensures) in
-    let stop = rw (at-why3 .why3 .given .1) at (at-why3 .before .before .both .ensures) in
-    after _ (k .1 0) ∙ flags .1 _ 0 ∙ stop _
+flagged : (p : tie.After-flags)
+    → let q = p .before .before .before .before in
+    let read = p .flags .given .0 in
+    FlagsIs (q .before .before .before .before .args .s .now) (q .k .given .0 .1 .0) (flags.Read (read .0) (read .1 .0))
+flagged p = rw (p .flags .given .1) at (p .before .before .knn-flags .ensures)
 
 returns-4 : tie.Need-returns-4
 unfolding knnPredicate
 returns-4 c =
-    let at-right = c .before in
-    let at-flags = at-right .before .before .before .before in
-    let at-k = at-flags .before .before .before .before in
-    let k = rw (at-k .k .given .1) at (at-k .before .before .number .ensures) in
-    let flags = rw (at-flags .flags .given .1) at (at-flags .before .before .knn-flags .ensures) in
-    let both = rw (at-right .right .given .1) at (at-right .before .before .both .ensures) in (
+    let k = many (c .before .before .before .before .before .before .before .before .before) in
+    let both = rw (c .before .right .given .1) at (c .before .before .before .both .ensures) in (
       both .0,
       _,
       record { l = both .1; r = both .2; left = both .3; right = both .4; is = refl },
-      after _ (k .1 0) ∙ flags .1 _ 0
-          ∙ both .5 _,
+      after _ (k .1 0) ∙ flagged (c .before .before .before .before .before) .1 _ 0 ∙ both .5 _,
     )
 
 pub knn-predicate-spec : {M : Type 1} → statement M
+unfolding knnPredicate
 knn-predicate-spec =
     tie.close
     (tie.spec
-    (λ c κs. search needs)
-    (λ c. search needs)
-    (λ c. search needs)
-    knn-flags-requires
-    (λ c. search needs)
-    (λ c. search needs)
-    both-requires
-    (λ c. search needs)
-    (λ c. search needs)
-    cast-t21
-    returns
-    returns-2
-    returns-3
+    (search needs)
+    (search needs)
+    (search needs)
+    (λ c κs. many (c .before) .0)
+    (search needs)
+    (search needs)
+    (λ c κs. flagged (c .before) .0)
+    (search needs)
+    (search needs)
+    (λ c.
+    let at-k = c .before .before .before .before .before .before .before .before .before in
+    let start = at-k .before .before .before in
+    let a = start .before .args in
+    let read = at-k .k .given .0 in
+    omega (
+      arith,
+      four-bytes (a .s .now) (a .at) (read .1 .0) (read .0) (all-bytes (a .s .now) (start .shared-slice-known .given)) (many at-k .1),
+    ))
+    (λ c. halts _ ((rw (c .before .why .given .1) at (c .before .before .before .number .ensures)) 0))
+    (λ c. after _ (many (c .before .before .before .before .before) .1 0)
+    ∙ (rw (c .before .why2 .given .1) at (c .before .before .before .knn-flags .ensures)) _ 0)
+    (λ c. after _ (many (c .before .before .before .before .before .before .before .before .before) .1 0)
+    ∙ flagged (c .before .before .before .before .before) .1 _ 0
+    ∙ (rw (c .before .why3 .given .1) at (c .before .before .before .both .ensures)) _)
     returns-4)

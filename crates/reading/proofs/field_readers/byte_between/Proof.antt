@@ -12,10 +12,6 @@ unfolding byteBetween
 returns c n = let f = rw (c .before .before .value .given .1) at (c .before .before .before .before .byte .ensures) in
     after _ (f .1 n) ∙ fails 4 _ n _ (below _ _ _ (c .if1 .taken))
 
-returns-2 : tie.Need-returns-2
-unfolding byteBetween
-returns-2 c n = halts _ ((rw (c .before .why .given .1) at (c .before .before .before .byte .ensures)) n)
-
 returns-3 : tie.Need-returns-3
 unfolding byteBetween
 returns-3 c = let f = rw (c .before .before .before .value .given .1) at (c .before .before .before .before .before .byte .ensures) in
@@ -27,6 +23,14 @@ returns-4 c n = let f = rw (c .before .before .before .value .given .1) at (c .b
     after _ (f .1 n) ∙ fails 4 _ n _ (above _ _ _ (c .before .if1 .left) (c .if2 .left))
 
 pub byte-between-spec : {M : Type 1} → statement M
+unfolding byteBetween
 byte-between-spec =
     tie.close
-    (tie.spec (λ c κs. search needs) (λ c. search needs) (λ c. search needs) returns returns-2 returns-3 returns-4)
+    (tie.spec
+    (search needs)
+    (search needs)
+    (search needs)
+    returns
+    (λ c n. halts _ ((rw (c .before .why .given .1) at (c .before .before .before .byte .ensures)) n))
+    returns-3
+    returns-4)

@@ -7,10 +7,6 @@ use borrow.Author.Needs.{needs}
 use Rattle.reading.proofs.field_readers.byte_up_to.Statement.{statement}
 use Rattle.reading.proofs.field_readers.byte_up_to.Tie as tie
 
-returns : tie.Need-returns
-unfolding byteUpTo
-returns c n = halts _ ((rw (c .before .why .given .1) at (c .before .before .before .byte .ensures)) n)
-
 returns-2 : tie.Need-returns-2
 unfolding byteUpTo
 returns-2 c = let f = rw (c .before .before .value .given .1) at (c .before .before .before .before .byte .ensures) in
@@ -22,5 +18,13 @@ returns-3 c n = let f = rw (c .before .before .value .given .1) at (c .before .b
     after _ (f .1 n) ∙ fails 4 _ n _ (lt-leb _ _ (c .if1 .left))
 
 pub byte-up-to-spec : {M : Type 1} → statement M
+unfolding byteUpTo
 byte-up-to-spec =
-    tie.close (tie.spec (λ c κs. search needs) (λ c. search needs) (λ c. search needs) returns returns-2 returns-3)
+    tie.close
+    (tie.spec
+    (search needs)
+    (search needs)
+    (search needs)
+    (λ c n. halts _ ((rw (c .before .why .given .1) at (c .before .before .before .byte .ensures)) n))
+    returns-2
+    returns-3)

@@ -37,13 +37,13 @@ number-spec =
     (tie.spec
     Inv-loop
     μ-loop
-    (λ c. search needs)
+    (search needs)
     returns
     loop-holds
     mul-value
     (λ c. omega arith)
     (λ c. omega arith)
-    (λ c κs. search needs)
+    (search needs)
     add-value
     (λ c. omega arith)
     (λ c. omega arith)

@@ -6,14 +6,6 @@ use borrow.Author.Needs.{needs}
 use Rattle.reading.proofs.head_readers.allowed_kind.Statement.{statement}
 use Rattle.reading.proofs.head_readers.allowed_kind.Tie as tie
 
-returns : tie.Need-returns
-unfolding allowedKind
-returns c = rw (c .before .enum-told .given .1, le-leb (c .before .before .before .args .kind) 4 (omega arith))
-
-returns-2 : tie.Need-returns-2
-unfolding allowedKind
-returns-2 c = rw (c .before .enum-told .given .1, lt-leb _ _ (c .if1 .left))
-
 returns-3 : tie.Need-returns-3
 unfolding allowedKind
 returns-3 c =
@@ -23,14 +15,15 @@ returns-3 c =
       le-leb (c .before .before .before .before .args .kind) 5 (omega arith),
     )
 
-returns-4 : tie.Need-returns-4
-unfolding allowedKind
-returns-4 c = rw (c .before .enum-told2 .given .1, lt-leb _ _ (c .if2 .taken))
-
-returns-5 : tie.Need-returns-5
-unfolding allowedKind
-returns-5 c = rw (c .before .before .enum-told2 .given .1, le-leb _ _ (c .before .if2 .left), lt-leb _ _ (c .if3 .left))
-
 pub allowed-kind-spec : {M : Type 1} → statement M
+unfolding allowedKind
 allowed-kind-spec =
-    tie.close (tie.spec (λ c. search needs) (λ c. search needs) returns returns-2 returns-3 returns-4 returns-5)
+    tie.close
+    (tie.spec
+    (search needs)
+    (search needs)
+    (λ c. rw (c .before .enum-told .given .1, le-leb (c .before .before .before .args .kind) 4 (omega arith)))
+    (λ c. rw (c .before .enum-told .given .1, lt-leb _ _ (c .if1 .left)))
+    returns-3
+    (λ c. rw (c .before .enum-told2 .given .1, lt-leb _ _ (c .if2 .taken)))
+    (λ c. rw (c .before .before .enum-told2 .given .1, le-leb _ _ (c .before .if2 .left), lt-leb _ _ (c .if3 .left))))

@@ -10,10 +10,6 @@ use Rattle.reading.proofs.Children.{two}
 use Rattle.reading.proofs.head_readers.binary_head.Statement.{statement}
 use Rattle.reading.proofs.head_readers.binary_head.Tie as tie
 
-returns : tie.Need-returns
-unfolding byteUpTo binaryNode
-returns c child n = halts _ (halts _ ((rw (c .before .why .given .1) at (c .before .before .before .byte .ensures)) n))
-
 returns-2 : tie.Need-returns-2
 unfolding byteUpTo
 returns-2 c =
@@ -31,5 +27,13 @@ returns-3 c child n =
     halts _ (after _ (operator .1 n) ∙ fails 4 _ n _ high)
 
 pub binary-head-spec : {M : Type 1} → statement M
+unfolding byteUpTo binaryNode
 binary-head-spec =
-    tie.close (tie.spec (λ c κs. search needs) (λ c. search needs) (λ c. search needs) returns returns-2 returns-3)
+    tie.close
+    (tie.spec
+    (search needs)
+    (search needs)
+    (search needs)
+    (λ c child n. halts _ (halts _ ((rw (c .before .why .given .1) at (c .before .before .before .byte .ensures)) n)))
+    returns-2
+    returns-3)

@@ -10,11 +10,6 @@ use Rattle.reading.proofs.Reading.{stops-in-two}
 use Rattle.reading.proofs.head_readers.column_head.Statement.{statement}
 use Rattle.reading.proofs.head_readers.column_head.Tie as tie
 
-returns : tie.Need-returns
-unfolding columnNode
-returns c child n =
-    stops-in-two (number 2 n _) (number 2) _ ((rw (c .before .why .given .1) at (c .before .before .before .two-fields .ensures)) n)
-
 returns-2 : tie.Need-returns-2
 unfolding repeatExprs columnNode
 returns-2 c =
@@ -34,5 +29,14 @@ returns-3 c child n =
     after _ (two .2 n) ∙ after _ (two .3 n) ∙ fails 6 _ n _ (le-ltb _ _ (c .if1 .left))
 
 pub column-head-spec : {M : Type 1} → statement M
+unfolding columnNode
 column-head-spec =
-    tie.close (tie.spec (λ c κs. search needs) (λ c. search needs) (λ c. search needs) returns returns-2 returns-3)
+    tie.close
+    (tie.spec
+    (search needs)
+    (search needs)
+    (search needs)
+    (λ c child n. stops-in-two (number 2 n _) (number 2) _
+    ((rw (c .before .why .given .1) at (c .before .before .before .two-fields .ensures)) n))
+    returns-2
+    returns-3)

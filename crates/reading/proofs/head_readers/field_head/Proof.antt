@@ -9,11 +9,6 @@ use Rattle.reading.proofs.Reading.{stops-in-two}
 use Rattle.reading.proofs.head_readers.field_head.Statement.{statement}
 use Rattle.reading.proofs.head_readers.field_head.Tie as tie
 
-returns : tie.Need-returns
-unfolding fieldNode
-returns c child n =
-    stops-in-two (byteUpTo 3 n _) (number 2) _ ((rw (c .before .why .given .1) at (c .before .before .before .two-fields .ensures)) n)
-
 returns-2 : tie.Need-returns-2
 unfolding repeatExprs fieldNode
 returns-2 c =
@@ -22,5 +17,13 @@ returns-2 c =
     (two .0, (λ es. field (p .end .given .0 .0) (p .end .given .0 .1 .0)), λ child n. after _ (two .2 n) ∙ after _ (two .3 n))
 
 pub field-head-spec : {M : Type 1} → statement M
+unfolding fieldNode
 field-head-spec =
-    tie.close (tie.spec (λ c κs. search needs) (λ c. search needs) (λ c. search needs) returns returns-2)
+    tie.close
+    (tie.spec
+    (search needs)
+    (search needs)
+    (search needs)
+    (λ c child n. stops-in-two (byteUpTo 3 n _) (number 2) _
+    ((rw (c .before .why .given .1) at (c .before .before .before .two-fields .ensures)) n))
+    returns-2)

@@ -6,38 +6,23 @@ use borrow.Author.Needs.{needs}
 use Rattle.reading.proofs.head_readers.head_of_kind.Statement.{statement}
 use Rattle.reading.proofs.head_readers.head_of_kind.Tie as tie
 
-returns : tie.Need-returns
-unfolding nodeOfKind
-returns c = rw (c .before .match .keys1) (c .literal-head .ensures)
-
-returns-2 : tie.Need-returns-2
-unfolding nodeOfKind
-returns-2 c = rw (c .before .match .keys2) (c .binary-head .ensures)
-
-returns-3 : tie.Need-returns-3
-unfolding nodeOfKind
-returns-3 c = rw (c .before .match .keys3) (c .call-head .ensures)
-
-returns-4 : tie.Need-returns-4
-unfolding nodeOfKind
-returns-4 c = rw (c .before .match .keys4) (c .other-head .ensures)
-
 returns-5 : tie.Need-returns-5
 returns-5 c = let a = c .before .before .before .args in
     let no = c .before .match .rest in
     simp (column-kind (columnsOf (a .columns)) (a .kind) (no .0 .0 .0 .1) (no .0 .0 .1) (no .0 .1) (no .1)) (c .any-column-head .ensures)
 
 pub head-of-kind-spec : {M : Type 1} → statement M
+unfolding nodeOfKind
 head-of-kind-spec =
     tie.close
     (tie.spec
-    (λ c κs. search needs)
-    (λ c κs. search needs)
-    (λ c κs. search needs)
-    (λ c κs. search needs)
-    (λ c κs. search needs)
-    returns
-    returns-2
-    returns-3
-    returns-4
+    (search needs)
+    (search needs)
+    (search needs)
+    (search needs)
+    (search needs)
+    (λ c. rw (c .before .match .keys1) (c .literal-head .ensures))
+    (λ c. rw (c .before .match .keys2) (c .binary-head .ensures))
+    (λ c. rw (c .before .match .keys3) (c .call-head .ensures))
+    (λ c. rw (c .before .match .keys4) (c .other-head .ensures))
     returns-5)

@@ -9,11 +9,6 @@ use Rattle.reading.proofs.Reading.{stops-in-two}
 use Rattle.reading.proofs.head_readers.literal_head.Statement.{statement}
 use Rattle.reading.proofs.head_readers.literal_head.Tie as tie
 
-returns : tie.Need-returns
-unfolding literalNode
-returns c child n =
-    stops-in-two (byteUpTo 6 n _) (number 8) _ ((rw (c .before .why .given .1) at (c .before .before .before .two-fields .ensures)) n)
-
 returns-2 : tie.Need-returns-2
 unfolding repeatExprs literalNode
 returns-2 c =
@@ -35,13 +30,15 @@ returns-3 c child n =
     after _ (two .2 n) ∙ after _ (two .3 n) ∙ fails 4 _ n _ out
 
 pub literal-head-spec : {M : Type 1} → statement M
+unfolding literalNode
 literal-head-spec =
     tie.close
     (tie.spec
-    (λ c κs. search needs)
-    (λ c. search needs)
-    (λ c. search needs)
-    (λ c κs. search needs)
-    returns
+    (search needs)
+    (search needs)
+    (search needs)
+    (search needs)
+    (λ c child n. stops-in-two (byteUpTo 6 n _) (number 8) _
+    ((rw (c .before .why .given .1) at (c .before .before .before .two-fields .ensures)) n))
     returns-2
     returns-3)

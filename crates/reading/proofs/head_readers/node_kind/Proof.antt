@@ -6,10 +6,6 @@ use borrow.Author.Needs.{needs}
 use Rattle.reading.proofs.head_readers.node_kind.Statement.{statement}
 use Rattle.reading.proofs.head_readers.node_kind.Tie as tie
 
-returns : tie.Need-returns
-unfolding nodeKind
-returns c n = halts _ ((rw (c .before .why .given .1) at (c .before .before .before .byte .ensures)) n)
-
 returns-2 : tie.Need-returns-2
 unfolding nodeKind
 returns-2 c = let f = rw (c .before .before .before .value .given .1) at (c .before .before .before .before .before .byte .ensures) in
@@ -21,13 +17,14 @@ returns-3 c n = let f = rw (c .before .before .before .value .given .1) at (c .b
     after _ (f .1 n) ∙ fails 4 _ n _ (sym (c .before .allowed-kind .ensures) ∙ c .if1 .left)
 
 pub node-kind-spec : {M : Type 1} → statement M
+unfolding nodeKind
 node-kind-spec =
     tie.close
     (tie.spec
-    (λ c κs. search needs)
-    (λ c. search needs)
-    (λ c. search needs)
-    (λ c κs. search needs)
-    returns
+    (search needs)
+    (search needs)
+    (search needs)
+    (search needs)
+    (λ c n. halts _ ((rw (c .before .why .given .1) at (c .before .before .before .byte .ensures)) n))
     returns-2
     returns-3)

@@ -9,11 +9,6 @@ use Rattle.reading.proofs.Reading.{stops-in-two}
 use Rattle.reading.proofs.head_readers.other_head.Statement.{statement}
 use Rattle.reading.proofs.head_readers.other_head.Tie as tie
 
-returns : tie.Need-returns
-unfolding otherNode
-returns c child n =
-    stops-in-two (number 2 n _) (byteUpTo 16) _ ((rw (c .before .why .given .1) at (c .before .before .before .two-fields .ensures)) n)
-
 returns-2 : tie.Need-returns-2
 unfolding otherNode
 returns-2 c =
@@ -22,5 +17,13 @@ returns-2 c =
     (two .0, other _, λ child n. after _ (two .2 n) ∙ after _ (two .3 n))
 
 pub other-head-spec : {M : Type 1} → statement M
+unfolding otherNode
 other-head-spec =
-    tie.close (tie.spec (λ c κs. search needs) (λ c. search needs) (λ c. search needs) returns returns-2)
+    tie.close
+    (tie.spec
+    (search needs)
+    (search needs)
+    (search needs)
+    (λ c child n. stops-in-two (number 2 n _) (byteUpTo 16) _
+    ((rw (c .before .why .given .1) at (c .before .before .before .two-fields .ensures)) n))
+    returns-2)

@@ -1,4 +1,5 @@
 -- A node is its kind, its head and a row of children; a row is a node and the rest of the row. Nodes left to count fall with each node.
+use Rattle.expression.proofs.Cycles.{below}
 use Rattle.reading.specs.Nodes.{columnsOf, WalkedIs}
 use Rattle.reading.specs.declared.walk.Walked.{Walked}
 use Rattle.reading.specs.declared.walk.Walked.the-variants.{To}
@@ -7,10 +8,10 @@ use borrow.Author.Needs.{needs}
 use native.Mathlib.Omega.{arith}
 use mathlib.Core.Path.{_∙_}
 use Rattle.reading.proofs.Walks.{kind-stops, too-deep, too-many, inside, node-walks, counted-node, none-walked, InRow, row-begins, row-goes-on, row-stops, row-ends}
-use Prim.Native.Nat.{ℕ, _+_, _-_, _*_, _≤_, _<_}
+use Prim.Native.Nat.{ℕ, _+_, _-_, _*_, _≤_}
 use lib.ListN.{length}
 use borrow.Fn.Kinds.{In}
-use borrow.Fn.PlainCycle.{Measures, is, falls, and}
+use borrow.Fn.PlainCycle.{Measures, is, and}
 use Rattle.reading.proofs.walk.node.Reads as node
 use Rattle.reading.proofs.walk.node.Kinds as node-kinds
 use Rattle.reading.proofs.walk.+node+nodes.Lts-node as node-lts
@@ -32,36 +33,15 @@ abbrev μ-nodes : Measures 1 nodes-kinds.ps ℕ
 abbrev node-at : ℕ → In 1 node-kinds.ps
 node-at t = and 1 node-kinds.ps (is 1 node-kinds.ps μ-node t) node.Pre
 
-abbrev node-below : ℕ → In 1 node-kinds.ps
-node-below t = and 1 node-kinds.ps (falls 1 node-kinds.ps _<_ μ-node t) node.Pre
-
-abbrev nodes-at : ℕ → In 1 nodes-kinds.ps
-nodes-at t = and 1 nodes-kinds.ps (is 1 nodes-kinds.ps μ-nodes t) nodes.Pre
-
-abbrev nodes-below : ℕ → In 1 nodes-kinds.ps
-nodes-below t = and 1 nodes-kinds.ps (falls 1 nodes-kinds.ps _<_ μ-nodes t) nodes.Pre
-
 abbrev node-claims : ℕ → node-lts.Claims
-node-claims t =
-    (node-kind-reads.Asked, node-kind-reads.Learnt, head-of-kind-reads.Asked, head-of-kind-reads.Learnt, nodes-below t, nodes.Post)
-
-abbrev nodes-claims : ℕ → nodes-lts.Claims
-nodes-claims t = (node-below t, node.Post)
-
-node-returns : (t : ℕ) → node-lts.Need-returns (node-claims t) (node-at t) node.Post
-node-returns t c =
-    let kind = rw (c .before .before .kind .given .1) at (c .before .before .before .before .node-kind .ensures) in
-    (too-deep _ _ _ _ _ (kind .1 _) _ (c .if1 .taken), tt)
-
-node-returns-2 : (t : ℕ) → node-lts.Need-returns-2 (node-claims t) (node-at t) node.Post
-node-returns-2 t c =
-    let kind = rw (c .before .before .before .kind .given .1) at (c .before .before .before .before .before .node-kind .ensures) in
-    let a = c .before .before .before .before .before .before .before .args in
-    (too-many _ (a .count) _ _ _ (kind .1 _) _ (omega arith), tt)
-
-node-head-of-kind-requires : (t : ℕ) → node-lts.Need-head-of-kind-requires (node-claims t) (node-at t) node.Post
-node-head-of-kind-requires t c κs =
-    (rw (c .before .before .before .kind .given .1) at (c .before .before .before .before .before .node-kind .ensures)) .0
+node-claims t = (
+  node-kind-reads.Asked,
+  node-kind-reads.Learnt,
+  head-of-kind-reads.Asked,
+  head-of-kind-reads.Learnt,
+  below 1 nodes-kinds.ps μ-nodes nodes.Pre t,
+  nodes.Post,
+)
 
 -- The walk of the children is the walk of the node.
 node-row : (t : ℕ) (c : node-lts.After-known-told4 (node-claims t) (node-at t) node.Post)
@@ -89,40 +69,6 @@ node-first : (t : ℕ) (c : node-lts.After-known-told4 (node-claims t) (node-at 
     (c .before .before .before .before .before .before .before .before .before .before .before .args .s .now)
 node-first t c = (rw (c .before .first .given .1) at (c .before .before .before .head-of-kind .ensures)) .0
 
-node-returns-3 : (t : ℕ) → node-lts.Need-returns-3 (node-claims t) (node-at t) node.Post
-node-returns-3 t c =
-    let at-why2 = c .before in
-    let at-kind = at-why2 .before .before .before .before .before .before in
-    let kind = rw (at-kind .kind .given .1) at (at-kind .before .before .node-kind .ensures) in
-    let stop = rw (at-why2 .why2 .given .1) at (at-why2 .before .before .head-of-kind .ensures) in (
-      inside _ _ _ _ _ (kind .1 _) _ (c .before .before .before .before .before .if1 .left) (c .before .before .before .before .if2 .left)
-          ∙ stop _ _,
-      tt,
-    )
-
-node-returns-4 : (t : ℕ) → node-lts.Need-returns-4 (node-claims t) (node-at t) node.Post
-node-returns-4 t c =
-    let a = c .before .before .before .before .before .before .before .before .before .before .before .before .args in
-    let first = c .before .before .first .given .0 .0 in
-    let child = decode.node (columnsOf (a .columns)) (a .levels - 1) in (
-      node-row t (c .before) (To first (a .count + 1))
-          (none-walked (a .s .now) first (a .count + 1) child _ (c .if3 .taken) (node-first t (c .before))),
-      (omega arith, omega arith),
-    )
-
-node-nodes-requires : (t : ℕ) → node-lts.Need-nodes-requires (node-claims t) (node-at t) node.Post
-node-nodes-requires t c κs = (
-  omega (arith, c .before .before .before .before .before .before .before .before .before .before .before .before .pre .0),
-  (node-first t (c .before), omega arith),
-)
-
-node-returns-5 : (t : ℕ) → node-lts.Need-returns-5 (node-claims t) (node-at t) node.Post
-node-returns-5 t c =
-    (node-row t (c .before .before) (c .nodes .result) (c .nodes .ensures .0), counted-node _ (c .nodes .result) (c .nodes .ensures .1))
-
-node-returns-6 : (t : ℕ) → node-lts.Need-returns-6 (node-claims t) (node-at t) node.Post
-node-returns-6 t c = (kind-stops _ _ _ _ _ ((rw (c .before .why .given .1) at (c .before .before .before .node-kind .ensures)) _), tt)
-
 abbrev nodes-Inv-loop : nodes-lts.InvT-loop
 nodes-Inv-loop s at levels count columns many next₀ total₀ left₀ next total left =
     InRow s at count many (decode.node (columnsOf columns) levels) next total left
@@ -130,59 +76,65 @@ nodes-Inv-loop s at levels count columns many next₀ total₀ left₀ next tota
 abbrev nodes-μ-loop : nodes-lts.MeasureT-loop
 nodes-μ-loop s at levels count columns many next₀ total₀ left₀ next total left = left
 
-nodes-loop-holds : (t : ℕ) → nodes-lts.Need-loop-holds (nodes-claims t) (nodes-at t) nodes.Post nodes-Inv-loop nodes-μ-loop
-nodes-loop-holds t c = row-begins _ _ _ _ _ (c .before .pre .1 .0) (c .before .pre .1 .1)
-
-nodes-node-requires : (t : ℕ) → nodes-lts.Need-node-requires (nodes-claims t) (nodes-at t) nodes.Post nodes-Inv-loop nodes-μ-loop
-nodes-node-requires t c κs = (omega (arith, c .before .loop .inv .low, c .before .before .before .pre .0), c .before .loop .inv .place)
-
-nodes-returns : (t : ℕ) → nodes-lts.Need-returns (nodes-claims t) (nodes-at t) nodes.Post nodes-Inv-loop nodes-μ-loop
-nodes-returns t c =
-    let stop = rw (c .before .why .given .1) at (c .before .before .before .node .ensures) in
-    let turn = c .before .before .before .before in
-    (row-stops _ _ _ _ _ _ _ _ (turn .before .loop .inv) (turn .loop-test .taken) (c .before .why .given .0 .0) (stop .0), tt)
-
-nodes-loop-again : (t : ℕ) → nodes-lts.Need-loop-again (nodes-claims t) (nodes-at t) nodes.Post nodes-Inv-loop nodes-μ-loop
-nodes-loop-again t c =
-    let one = rw (c .before .after .given .1) at (c .before .before .before .node .ensures) in
-    let turn = c .before .before .before .before in
-    row-goes-on _ _ _ _ _ _ _ _ (turn .before .loop .inv) (turn .loop-test .taken) _ _ (one .0) (one .1)
-
-nodes-returns-2 : (t : ℕ) → nodes-lts.Need-returns-2 (nodes-claims t) (nodes-at t) nodes.Post nodes-Inv-loop nodes-μ-loop
-nodes-returns-2 t c =
-    let inv = c .before .loop .inv in
-    (row-ends _ _ _ _ _ _ _ _ inv (c .loop-test .left), (omega (arith, inv .low), inv .high))
-
 pub +node+nodes-spec : {M : Type 1} → statement M
 +node+nodes-spec = close μ-node μ-nodes (λ t. node-lts.spec (node-claims t) (node-at t) node.Post
     (λ c κs. search needs)
     (λ c. search needs)
     (λ c. search needs)
-    (node-returns t)
-    (node-returns-2 t)
-    (node-head-of-kind-requires t)
+    (λ c.
+    let kind = rw (c .before .before .kind .given .1) at (c .before .before .before .before .node-kind .ensures) in
+    (too-deep _ _ _ _ _ (kind .1 _) _ (c .if1 .taken), tt))
+    (λ c.
+    let kind = rw (c .before .before .before .kind .given .1) at (c .before .before .before .before .before .node-kind .ensures) in
+    let a = c .before .before .before .before .before .before .before .args in
+    (too-many _ (a .count) _ _ _ (kind .1 _) _ (omega arith), tt))
+    (λ c κs. (rw (c .before .before .before .kind .given .1) at (c .before .before .before .before .before .node-kind .ensures)) .0)
     (λ c. search needs)
-    (node-returns-3 t)
+    (λ c.
+    let at-why2 = c .before in
+    let at-kind = at-why2 .before .before .before .before .before .before in
+    let kind = rw (at-kind .kind .given .1) at (at-kind .before .before .node-kind .ensures) in
+    let stop = rw (at-why2 .why2 .given .1) at (at-why2 .before .before .head-of-kind .ensures) in (
+      inside _ _ _ _ _ (kind .1 _) _ (c .before .before .before .before .before .if1 .left) (c .before .before .before .before .if2 .left)
+          ∙ stop _ _,
+      tt,
+    ))
     (λ c. search needs)
     (λ c. omega arith)
-    (node-returns-4 t)
+    (λ c.
+    let a = c .before .before .before .before .before .before .before .before .before .before .before .before .args in
+    let first = c .before .before .first .given .0 .0 in
+    let child = decode.node (columnsOf (a .columns)) (a .levels - 1) in (
+      node-row t (c .before) (To first (a .count + 1))
+          (none-walked (a .s .now) first (a .count + 1) child _ (c .if3 .taken) (node-first t (c .before))),
+      (omega arith, omega arith),
+    ))
     (λ c. omega arith)
     (λ c. omega arith)
-    (node-nodes-requires t)
-    (node-returns-5 t)
-    (node-returns-6 t))
-    λ t. nodes-lts.spec
-    (nodes-claims t)
-    (nodes-at t)
-    nodes.Post
+    (λ c κs. (
+      omega (arith, c .before .before .before .before .before .before .before .before .before .before .before .before .pre .0),
+      (node-first t (c .before), omega arith),
+    ))
+    (λ c.
+    (node-row t (c .before .before) (c .nodes .result) (c .nodes .ensures .0), counted-node _ (c .nodes .result) (c .nodes .ensures .1)))
+    (λ c. (kind-stops _ _ _ _ _ ((rw (c .before .why .given .1) at (c .before .before .before .node-kind .ensures)) _), tt)))
+    λ t. nodes-lts.spec (below 1 node-kinds.ps μ-node node.Pre t, node.Post) _ nodes.Post
     nodes-Inv-loop
     nodes-μ-loop
-    (nodes-loop-holds t)
-    (nodes-node-requires t)
+    (λ c. row-begins _ _ _ _ _ (c .before .pre .1 .0) (c .before .pre .1 .1))
+    (λ c κs. (omega (arith, c .before .loop .inv .low, c .before .before .before .pre .0), c .before .loop .inv .place))
     (λ c. search needs)
-    (nodes-returns t)
+    (λ c.
+    let stop = rw (c .before .why .given .1) at (c .before .before .before .node .ensures) in
+    let turn = c .before .before .before .before in
+    (row-stops _ _ _ _ _ _ _ _ (turn .before .loop .inv) (turn .loop-test .taken) (c .before .why .given .0 .0) (stop .0), tt))
     (λ c. search needs)
     (λ c. omega arith)
     (λ c. omega arith)
-    (nodes-loop-again t)
-    (nodes-returns-2 t)
+    (λ c.
+    let one = rw (c .before .after .given .1) at (c .before .before .before .node .ensures) in
+    let turn = c .before .before .before .before in
+    row-goes-on _ _ _ _ _ _ _ _ (turn .before .loop .inv) (turn .loop-test .taken) _ _ (one .0) (one .1))
+    (λ c.
+    let inv = c .before .loop .inv in
+    (row-ends _ _ _ _ _ _ _ _ inv (c .loop-test .left), (omega (arith, inv .low), inv .high)))

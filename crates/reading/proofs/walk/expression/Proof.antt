@@ -12,4 +12,4 @@ returns c =
     (c .node .ensures .0) (c .node .ensures .1)
 
 pub expression-spec : {M : Type 1} → statement M
-expression-spec = tie.close (tie.spec (λ c κs. search needs) returns)
+expression-spec = tie.close (tie.spec (search needs) returns)

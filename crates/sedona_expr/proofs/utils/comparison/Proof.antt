@@ -22,11 +22,11 @@ returns-2 c = λ d s l r x y. record {
   standsBound = x;
 }
 
-returns-3 : tie.Need-returns-3
-returns-3 c = λ d s l r x y. reads-neither l r (c .before .args .operator) (λ h. omega arith)
-
-returns-4 : tie.Need-returns-4
-returns-4 c = λ d s l r x y. reads-neither l r (c .before .before .before .args .operator) (λ h. c .if3 .left)
-
 pub comparison-spec : {M : Type 1} → statement M
-comparison-spec = tie.close (tie.spec returns returns-2 returns-3 returns-4)
+comparison-spec =
+    tie.close
+    (tie.spec
+    returns
+    returns-2
+    (λ c d s l r x y. reads-neither l r (c .before .args .operator) (λ h. omega arith))
+    (λ c d s l r x y. reads-neither l r (c .before .before .before .args .operator) (λ h. c .if3 .left)))

@@ -7,9 +7,6 @@ use Rattle.sedona_expr.proofs.Comparing.{no-arguments, distance-found, 
 use Rattle.sedona_expr.proofs.utils.distance_arguments.Statement.{statement}
 use Rattle.sedona_expr.proofs.utils.distance_arguments.Tie as tie
 
-returns : tie.Need-returns
-returns c = λ d t h. no-arguments t (no-call h (c .before .node-at .result) (c .match .keys2) (c .before .node-at .ensures d t h))
-
 same-name-requires : tie.Need-same-name-requires
 same-name-requires c κs =
     let arm = c .before .before in
@@ -33,9 +30,10 @@ pub distance-arguments-spec : {M : Type 1} → statement M
 distance-arguments-spec =
     tie.close
     (tie.spec
-    (λ c κs. search needs) (λ c. search needs)
-    returns
-    (λ c. search needs)
+    (λ c κs. search needs)
+    (search needs)
+    (λ c d t h. no-arguments t (no-call h (c .before .node-at .result) (c .match .keys2) (c .before .node-at .ensures d t h)))
+    (search needs)
     same-name-requires
     returns-2
     returns-3)

@@ -13,9 +13,6 @@ use Rattle.sedona_expr.proofs.Distances.{not-compared, not-measured, to
 use Rattle.sedona_expr.proofs.utils.parse_comparison.Statement.{statement}
 use Rattle.sedona_expr.proofs.utils.parse_comparison.Tie as tie
 
-end-node-requires : tie.Need-end-node-requires
-end-node-requires c κs = first-of-pair (c .before .pre)
-
 returns : tie.Need-returns
 returns c = λ d l r row.
     let ended = c .before .before .before in
@@ -73,11 +70,14 @@ pub parse-comparison-spec : {M : Type 1} → statement M
 parse-comparison-spec =
     tie.close
     (tie.spec
-    end-node-requires
-    (λ c κs. search needs) (λ c. search needs) (λ c. search needs)
+    (λ c κs. first-of-pair (c .before .pre))
+    (search needs)
+    (search needs)
+    (search needs)
     returns
     distance-arguments-requires
-    (λ c. search needs) (λ c. search needs)
+    (search needs)
+    (search needs)
     returns-2
     returns-3
     end-node-requires-2

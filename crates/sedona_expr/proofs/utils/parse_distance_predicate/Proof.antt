@@ -27,22 +27,18 @@ returns-2 c = λ d t h.
     let call = rw (arm .call .given .1) at (arm .before .before .node-at .ensures d t h) in
     rw (call-asks call) (c .parse-dwithin .ensures d (call .name) (call .arguments) (call .stands))
 
-returns-3 : tie.Need-returns-3
-returns-3 c = λ d t h. and-asks (rw (c .enum-told .given .1) at (c .before .before .node-at .ensures d t h))
-
-returns-4 : tie.Need-returns-4
-returns-4 c = λ d t h. plain-asks ((rw (c .enum-told2 .given .1) at (c .before .before .node-at .ensures d t h)) .0)
-
 pub parse-distance-predicate-spec : {M : Type 1} → statement M
 parse-distance-predicate-spec =
     tie.close
     (tie.spec
-    (λ c κs. search needs) (λ c. search needs)
+    (λ c κs. search needs)
+    (search needs)
     parse-comparison-requires
-    (λ c. search needs)
+    (search needs)
     parse-dwithin-requires
-    (λ c. search needs) (λ c. search needs)
+    (search needs)
+    (search needs)
     returns
     returns-2
-    returns-3
-    returns-4)
+    (λ c d t h. and-asks (rw (c .enum-told .given .1) at (c .before .before .node-at .ensures d t h)))
+    (λ c d t h. plain-asks ((rw (c .enum-told2 .given .1) at (c .before .before .node-at .ensures d t h)) .0)))

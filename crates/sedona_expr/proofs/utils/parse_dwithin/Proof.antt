@@ -9,20 +9,11 @@ use Rattle.sedona_expr.proofs.Distances.{not-dwithin, dwithin-too-few, 
 use Rattle.sedona_expr.proofs.utils.parse_dwithin.Statement.{statement}
 use Rattle.sedona_expr.proofs.utils.parse_dwithin.Tie as tie
 
-returns : tie.Need-returns
-unfolding ascii
-returns c = λ d name args st. not-dwithin st (c .before .same-name .ensures) (not-true _ (c .if1 .taken))
-
 returns-2 : tie.Need-returns-2
 unfolding ascii
 returns-2 c =
     λ d name args st. dwithin-too-few st (c .before .before .before .same-name .ensures) (not-false _ (c .before .before .if1 .left))
     (c .if2 .taken)
-
-end-node-requires : tie.Need-end-node-requires
-end-node-requires c κs =
-    let call = c .before .before .before .before .before .before .pre in
-    first-there (arguments-there call) (omega arith)
 
 end-node-requires-2 : tie.Need-end-node-requires-2
 end-node-requires-2 c κs =
@@ -37,12 +28,14 @@ returns-3 c = λ d name args st.
     (c .before .end-node .result) (c .end-node2 .result) (c .before .end-node .ensures) (c .end-node2 .ensures)
 
 pub parse-dwithin-spec : {M : Type 1} → statement M
+unfolding ascii
 parse-dwithin-spec =
     tie.close
     (tie.spec
-    (λ c. search needs) (λ c κs. search needs)
-    returns
+    (search needs)
+    (search needs)
+    (λ c d name args st. not-dwithin st (c .before .same-name .ensures) (not-true _ (c .if1 .taken)))
     returns-2
-    end-node-requires
+    (λ c κs. first-there (arguments-there (c .before .before .before .before .before .before .pre)) (omega arith))
     end-node-requires-2
     returns-3)

@@ -6,38 +6,6 @@ use Rattle.definitions.specs.Decode.{relationNumbered}
 use Rattle.sedona_query_planner.proofs.spatial_predicate.relation_numbered.Statement.{statement}
 use Rattle.sedona_query_planner.proofs.spatial_predicate.relation_numbered.Tie as tie
 
-returns : tie.Need-returns
-unfolding relationNumbered relations
-returns c = rw (c .match .keys1)
-
-returns-2 : tie.Need-returns-2
-unfolding relationNumbered relations
-returns-2 c = rw (c .match .keys2)
-
-returns-3 : tie.Need-returns-3
-unfolding relationNumbered relations
-returns-3 c = rw (c .match .keys3)
-
-returns-4 : tie.Need-returns-4
-unfolding relationNumbered relations
-returns-4 c = rw (c .match .keys4)
-
-returns-5 : tie.Need-returns-5
-unfolding relationNumbered relations
-returns-5 c = rw (c .match .keys5)
-
-returns-6 : tie.Need-returns-6
-unfolding relationNumbered relations
-returns-6 c = rw (c .match .keys6)
-
-returns-7 : tie.Need-returns-7
-unfolding relationNumbered relations
-returns-7 c = rw (c .match .keys7)
-
-returns-8 : tie.Need-returns-8
-unfolding relationNumbered relations
-returns-8 c = rw (c .match .keys8)
-
 -- A number that is none of 0 to 7.
 past : (n : ℕ) → (n ≡ 0 → ⊥) → (n ≡ 1 → ⊥) → (n ≡ 2 → ⊥) → (n ≡ 3 → ⊥) → (n ≡ 4 → ⊥) → (n ≡ 5 → ⊥) → (n ≡ 6 → ⊥) → (n ≡ 7 → ⊥)
     → relationNumbered n ≡ equals
@@ -60,5 +28,16 @@ returns-9 c =
     sym (past _ (low .0 .0 .0 .1) (low .0 .0 .1) (low .0 .1) (low .1) (no .0 .0 .0 .1) (no .0 .0 .1) (no .0 .1) (no .1))
 
 pub relation-numbered-spec : {M : Type 1} → statement M
+unfolding relationNumbered relations
 relation-numbered-spec =
-    tie.close (tie.spec returns returns-2 returns-3 returns-4 returns-5 returns-6 returns-7 returns-8 returns-9)
+    tie.close
+    (tie.spec
+    (λ c. rw (c .match .keys1))
+    (λ c. rw (c .match .keys2))
+    (λ c. rw (c .match .keys3))
+    (λ c. rw (c .match .keys4))
+    (λ c. rw (c .match .keys5))
+    (λ c. rw (c .match .keys6))
+    (λ c. rw (c .match .keys7))
+    (λ c. rw (c .match .keys8))
+    returns-9)

@@ -15,37 +15,29 @@ returns c = λ records t over.
 
 returns-2 : tie.Need-returns-2
 unfolding matchesBy
-returns-2 c =
-    let at-first-match = c .before .before .before in
-    let at-enum-told = at-first-match .before in
-    let at-extract-knn-predicate-prioritized = at-enum-told .before .before in
-    λ records t over.
-    let none-first = rw (at-enum-told .enum-told .given .1) at
-    (at-extract-knn-predicate-prioritized .extract-knn-predicate-prioritized .ensures records t over) in
-    taken-is (rw (c .before .pick2 .given .1) at (at-first-match .first-match .ensures records t over)) (pick-other _ (none-first .first))
+returns-2 c = λ records t over.
+    let told = c .before .before .before .before in
+    let none = rw (told .enum-told .given .1) at (told .before .before .extract-knn-predicate-prioritized .ensures records t over) in
+    taken-is (rw (c .before .pick2 .given .1) at (c .before .before .before .first-match .ensures records t over)) (pick-other _
+    (none .first))
 
 returns-3 : tie.Need-returns-3
 unfolding matchesBy
-returns-3 c =
-    let at-first-match = c .before .before in
-    let at-enum-told = at-first-match .before in
-    let at-extract-knn-predicate-prioritized = at-enum-told .before .before in
-    λ records t over.
-    let none-first = rw (at-enum-told .enum-told .given .1) at
-    (at-extract-knn-predicate-prioritized .extract-knn-predicate-prioritized .ensures records t over) in
-    let none-other = rw (c .enum-told2 .given .1) at (at-first-match .first-match .ensures records t over) in
-    pick-other _ (none-first .first) ∙ none-other .first
+returns-3 c = λ records t over.
+    let told = c .before .before .before in
+    let none = rw (told .enum-told .given .1) at (told .before .before .extract-knn-predicate-prioritized .ensures records t over) in
+    pick-other _ (none .first) ∙ (rw (c .enum-told2 .given .1) at (c .before .before .first-match .ensures records t over)) .first
 
 pub extract-spatial-predicate-spec : {M : Type 1} → statement M
 extract-spatial-predicate-spec =
     tie.close
     (tie.spec
     (λ c κs. search needs)
-    (λ c. search needs)
+    (search needs)
     returns
-    (λ c. search needs)
+    (search needs)
     (λ c κs. search needs)
-    (λ c. search needs)
-    (λ c. search needs)
+    (search needs)
+    (search needs)
     returns-2
     returns-3)

@@ -46,12 +46,12 @@ leaf-match-spec =
     tie.close
     (tie.spec
     (λ c κs. (c .before .pre .0, c .before .pre .1 .0))
-    (λ c. search needs)
+    (search needs)
     returns
-    (λ c. search needs)
+    (search needs)
     add-t14
     returns-2
-    (λ c. search needs)
+    (search needs)
     (λ c κs. framed-tree (c .before .before .before .before .pre .0))
     add-t16
     returns-3)

@@ -35,9 +35,6 @@ returns-2 c =
     λ records t over. relation-matched over _ _
     (rw (c .before .predicate .given .1) at (as-relation (c .before .before .before) records t over))
 
-returns-3 : tie.Need-returns-3
-returns-3 c = λ records t over. rw (c .before .end .given .1) at (as-relation (c .before .before .before) records t over)
-
 returns-4 : tie.Need-returns-4
 returns-4 c =
     λ records t over. distance-matching over (c .match-distance-predicate2 .result)
@@ -48,14 +45,14 @@ pub match-other-spec : {M : Type 1} → statement M
 match-other-spec =
     tie.close
     (tie.spec
-    (λ c. search needs)
+    (search needs)
     (λ c κs. search needs)
     returns
     match-relation-predicate-requires
-    (λ c. search needs)
-    (λ c. search needs)
-    (λ c. search needs)
+    (search needs)
+    (search needs)
+    (search needs)
     (λ c κs. search needs)
     returns-2
-    returns-3
+    (λ c records t over. rw (c .before .end .given .1) at (as-relation (c .before .before .before) records t over))
     returns-4)

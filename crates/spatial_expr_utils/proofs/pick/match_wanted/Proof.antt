@@ -17,9 +17,6 @@ match-knn-predicate-requires c κs =
     let start = c .before .before .before .before .before .before in
     call-framed (start .pre .1) (c .before .node .given .1) (start .pre .0)
 
-returns-2 : tie.Need-returns-2
-returns-2 c = λ records t over. rw (c .before .enum-told .given .1) (c .match-other .ensures records t over)
-
 returns-3 : tie.Need-returns-3
 returns-3 c =
     let at-node = c .before .before in
@@ -32,11 +29,11 @@ pub match-wanted-spec : {M : Type 1} → statement M
 match-wanted-spec =
     tie.close
     (tie.spec
-    (λ c. search needs)
+    (search needs)
     (λ c κs. search needs)
-    (λ c. search needs)
-    (λ c. search needs)
+    (search needs)
+    (search needs)
     returns
     match-knn-predicate-requires
-    returns-2
+    (λ c records t over. rw (c .before .enum-told .given .1) (c .match-other .ensures records t over))
     returns-3)

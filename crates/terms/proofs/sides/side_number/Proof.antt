@@ -7,11 +7,4 @@ use Rattle.terms.proofs.sides.side_number.Tie as tie
 pub side-number-spec : {M : Type 1} → statement M
 unfolding sideNumber
 side-number-spec =
-    tie.close
-    (tie.spec
-    (λ c. search needs)
-    (λ c. search needs)
-    (λ c. search needs)
-    (λ c. rw (c .enum-told .given .1))
-    (λ c. rw (c .enum-told2 .given .1))
-    (λ c. rw (c .enum-told3 .given .1)))
+    tie.close (tie.spec (search needs) (search needs) (search needs) (λ c. search needs) (λ c. search needs) (λ c. search needs))

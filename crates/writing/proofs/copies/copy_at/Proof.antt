@@ -4,9 +4,6 @@ use Rattle.writing.proofs.SpanLaws.{span-fits, span-put}
 use Rattle.writing.proofs.copies.copy_at.Statement.{statement}
 use Rattle.writing.proofs.copies.copy_at.Tie as tie
 
-copy-bytes-requires : tie.Need-copy-bytes-requires
-copy-bytes-requires c κs = span-fits (c .before .before .before .pre)
-
 returns : tie.Need-returns
 returns c =
     let call = c .before .before .copy-bytes in
@@ -16,11 +13,11 @@ pub copy-at-spec : {M : Type 1} → statement M
 copy-at-spec =
     tie.close
     (tie.spec
-    (λ c. search needs)
-    (λ c. search needs)
-    (λ c. search needs)
-    (λ c. search needs)
-    copy-bytes-requires
-    (λ c. search needs)
-    (λ c. search needs)
+    (search needs)
+    (search needs)
+    (search needs)
+    (search needs)
+    (λ c κs. span-fits (c .before .before .before .pre))
+    (search needs)
+    (search needs)
     returns)

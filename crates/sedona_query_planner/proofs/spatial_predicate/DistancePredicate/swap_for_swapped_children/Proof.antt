@@ -3,24 +3,16 @@ use borrow.Author.Needs.{needs}
 use mathlib.Core.Path.{sym, ap, _∙_}
 use Rattle.definitions.specs.Expression.{Side, distance}
 use Rattle.definitions.specs.Exchange.{exchangePredicate}
-use Rattle.sedona_query_planner.proofs.spatial_predicate.DistancePredicate.swap_for_swapped_children.Statement.{
-  statement,
-}
+use Rattle.sedona_query_planner.proofs.spatial_predicate.DistancePredicate.swap_for_swapped_children.Statement.{statement}
 use Rattle.sedona_query_planner.proofs.spatial_predicate.DistancePredicate.swap_for_swapped_children.Tie as tie
 
-returns : tie.Need-returns
-unfolding exchangePredicate
-returns c = λ s P h. record {
-  l = h .r;
-  r = h .l;
-  bound = h .bound;
-  left = h .right;
-  right = h .left;
-  limit = h .limit;
-  is =
-      ap exchangePredicate (h .is)
-      ∙ ap (λ (side : Side). distance (c .before .args .self .form) side (h .r) (h .l) (h .bound)) (sym (c .negate .ensures));
-}
-
 pub swap-for-swapped-children-spec : {M : Type 1} → statement M
-swap-for-swapped-children-spec = tie.close (tie.spec (λ c κs. search needs) returns)
+unfolding exchangePredicate
+swap-for-swapped-children-spec =
+    tie.close
+    (tie.spec
+    (search needs)
+    λ c s P h.
+    let is = ap exchangePredicate (h .is)
+    ∙ ap (λ (side : Side). distance (c .before .args .self .form) side (h .r) (h .l) (h .bound)) (sym (c .negate .ensures)) in
+    record { l = h .r; r = h .l; bound = h .bound; left = h .right; right = h .left; limit = h .limit; is = is })

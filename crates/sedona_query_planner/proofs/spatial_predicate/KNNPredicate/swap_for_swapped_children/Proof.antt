@@ -24,4 +24,4 @@ returns c = λ s P h.
     }
 
 pub swap-for-swapped-children-spec : {M : Type 1} → statement M
-swap-for-swapped-children-spec = tie.close (tie.spec (λ c κs. search needs) returns)
+swap-for-swapped-children-spec = tie.close (tie.spec (search needs) returns)

@@ -66,7 +66,7 @@ from-name-spec =
     (λ c. c .before .pre .0)
     too-short
     too-long
-    (λ c. search needs)
+    (search needs)
     name-index-requires
     (λ c. one (c .before) (c .match .keys1))
     (λ c. one (c .before) (c .match .keys2))
