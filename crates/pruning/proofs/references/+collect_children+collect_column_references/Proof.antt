@@ -1,5 +1,4 @@
 -- `collect_column_references` and `collect_children`: a column is marked, of any other node the children are walked, one after the other.
-use Rattle.expression.proofs.Cycles.{below}
 use Prim.Native.Nat.{ℕ, _+_, _-_, _*_}
 use native.Mathlib.Omega.{arith}
 use lib.ListN.{length, length-set}
@@ -12,8 +11,8 @@ use Rattle.pruning.proofs.references.+collect_children+collect_column_r
 use Rattle.pruning.proofs.references.collect_column_references.Reads as node
 use Rattle.pruning.proofs.references.collect_column_references.Kinds as node-kinds
 use Rattle.pruning.proofs.references.+collect_children+collect_column_references.Lts-collect_column_references as node-lts
-use Rattle.expression.proofs.fields.short_at.Reads as short-at-reads
-use Rattle.expression.proofs.heads.head_at.Reads as head-at-reads
+use Rattle.expression.proofs.fields.short_at.Reads as short-at
+use Rattle.expression.proofs.heads.head_at.Reads as head-at
 use Rattle.pruning.proofs.references.+collect_children+collect_column_references.{statement}
 use Rattle.pruning.proofs.references.+collect_children+collect_column_references.Tie.{close}
 
@@ -31,10 +30,8 @@ abbrev μ-loop : row-lts.MeasureT-loop
 μ-loop used₀ src at n next₀ left₀ used next left = left
 
 pub +collect-children+collect-column-references-spec : {M : Type 1} → statement M
-+collect-children+collect-column-references-spec = close μ-row μ-node (λ t. row-lts.spec (
-  below 2 node-kinds.ps μ-node node.Pre t,
-  node.Post,
-) _ row.Post
++collect-children+collect-column-references-spec = close μ-row μ-node (λ t. row-lts.spec
+    (_, node.Post) _ row.Post
     Inv-loop
     μ-loop
     (λ c. collecting-begins (c .before .before .args .used .now) (c .before .before .pre .1))
@@ -56,14 +53,8 @@ pub +collect-children+collect-column-references-spec : {M : Type 1} → statemen
     (λ c.
     let loop = c .before .loop in
     collecting-ends (c .before .before .before .before .args .used .now) (loop .used) (loop .inv) (c .loop-test .left)))
-    λ t. node-lts.spec (
-      short-at-reads.Asked,
-      short-at-reads.Learnt,
-      head-at-reads.Asked,
-      head-at-reads.Learnt,
-      below 2 row-kinds.ps μ-row row.Pre t,
-      row.Post,
-    ) _ node.Post
+    λ t. node-lts.spec
+    (_, short-at.Learnt, _, head-at.Learnt, _, row.Post) _ node.Post
     (λ c. node-some (c .before .before .before .pre .1 .1))
     (λ c.
     let start = c .before .before .before .before in omega (arith, column-flag (start .args .used .now) (start .pre .1) (c .if1 .taken) .0))
