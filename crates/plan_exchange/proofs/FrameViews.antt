@@ -26,6 +26,12 @@ pub nothing-bytes : (R : Option tree.Frame) → R ≡ none → remainderExchange
 unfolding remainderBytes
 nothing-bytes R e = rw e
 
+-- An exchanged extraction is the swapped predicate and then its remainder.
+abbrev pub ExtractionView : List ℕ → (end : ℕ) → Extraction → (swapped : SpatialPredicate) → Type 0
+ExtractionView s end x swapped = (X : tree.Extraction) → ExtractionAt s x end X
+    → Headed [] (Both (PredicateAt unchanged s swapped) (RemainderAt s (x .remainder) end)) (joined predicateBytes remainderExchanged)
+    (extractionExchanged X)
+
 module _ {s : List ℕ} (end : ℕ) where
   pub frame-view : (f : Frame) (F : tree.Frame) → FrameAt s f end F
       → Headed (frameHead (f .columns)) (Both (RecordsAt s (f .records) (f .columns)) (Between s (f .root) end))
@@ -44,9 +50,7 @@ module _ {s : List ℕ} (end : ℕ) where
 
   pub extraction-view : (x : Extraction) (swapped : SpatialPredicate)
       → Exchanges (λ s. PredicateAt unchanged s (x .predicate)) (λ s. PredicateAt unchanged s swapped)
-      → (X : tree.Extraction) → ExtractionAt s x end X
-      → Headed [] (Both (PredicateAt unchanged s swapped) (RemainderAt s (x .remainder) end)) (joined predicateBytes remainderExchanged)
-      (extractionExchanged X)
+      → ExtractionView s end x swapped
   unfolding extractionBytes exchangeExtraction predicateBytes
   extraction-view x swapped swaps X h = record {
     it = (exchangePredicate (X .predicate), X .remainder);

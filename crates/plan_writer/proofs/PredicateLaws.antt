@@ -3,11 +3,11 @@ use Prim.Native.Nat.{ℕ, _≤_}
 use native.Mathlib.Omega.{arith}
 use mathlib.Core.Path.{_≡_, refl, sym, ap, _∙_}
 use mathlib.Core.List.{List, [], _∷_, append-assoc}
-use lib.ListN.{length, set, length-set}
+use lib.ListN.{length}
 use lib.Seq.{sets}
 use Rattle.definitions.specs.Basics.{bigEndian}
 use Rattle.definitions.specs.Expression.{Predicate}
-use Rattle.definitions.specs.Encode.{sideNumber, relationNumber, exprBytes, predicateKind, predicateFields}
+use Rattle.definitions.specs.Encode.{sideNumber, relationNumber, predicateKind, predicateFields}
 use Rattle.definitions.specs.Exchange.{negate}
 use Rattle.terms.specs.Sides.{joinSide}
 use Rattle.terms.specs.declared.sides.JoinSide.{JoinSide}
@@ -127,9 +127,13 @@ first-byte change s (Distance p) P h = ap predicateKind (h .is)
 first-byte change s (Relation p) P h = ap predicateKind (h .is)
 first-byte change s (KNearestNeighbors p) P h = ap predicateKind (h .is)
 
-pub predicate-view : (change : Change) (s : List ℕ) (p : SpatialPredicate) (number : ℕ) → number ≡ kindOf p → (P : Predicate)
-    → PredicateAt change s p P
-    → Headed (number ∷ []) (PredicateAt change s p) predicateFields (predicateBytes P)
+-- A predicate is its first byte and then its fields.
+abbrev pub PredicateView : Change → List ℕ → SpatialPredicate → (number : ℕ) → Type 0
+PredicateView change s p number =
+    (P : Predicate) → PredicateAt change s p P → Headed (number ∷ []) (PredicateAt change s p) predicateFields (predicateBytes P)
+
+pub predicate-view : (change : Change) (s : List ℕ) (p : SpatialPredicate) (number : ℕ) → number ≡ kindOf p
+    → PredicateView change s p number
 unfolding predicateBytes
 predicate-view change s p number e P h =
     record { it = P; stands = h; is = ap (λ (n : ℕ). n ∷ predicateFields P) (first-byte change s p P h ∙ sym e) }

@@ -16,6 +16,7 @@ use Rattle.definitions.specs.Extract.{without, andLeft, andRight}
 use Rattle.definitions.specs.Good.{InRange}
 use Rattle.definitions.proofs.Taken.{Taken, RestIs, rest-in-range}
 use Rattle.expression.specs.Nodes.{leftOf, rightOf}
+use Rattle.expression.proofs.Standing.{tree-length, head-some}
 use Rattle.pruning.specs.Around.{inside, around, EndsInside, Ends}
 use Rattle.expression.specs.Cuts.{CutAt, here, inLeft, inRight}
 use Rattle.expression.specs.declared.cuts.Cut.{Cut}
@@ -23,14 +24,7 @@ use Rattle.pruning.proofs.AroundLaws.{leaves-some, no-and, at-leaf, not
 
 -- An expression has bytes, an And those of its sides and two more.
 size-some : (t : Expr) → 0 < length (exprBytes t)
-unfolding exprBytes
-size-some (column i g) = omega arith
-size-some (literal y v) = omega arith
-size-some (and l r) = omega arith
-size-some (binary o l r) = omega arith
-size-some (call name ts) = omega arith
-size-some (other g ts) = omega arith
-size-some (field b g) = omega arith
+size-some t = omega (arith, tree-length t, head-some t)
 
 size-and : (l r : Expr) → length (exprBytes (and l r)) ≡ 2 + length (exprBytes l) + length (exprBytes r)
 unfolding exprBytes
@@ -105,6 +99,19 @@ record Spans (cut : Cut) (up : ℕ) (t : Expr) (at : ℕ) : Type 0 where
   some : cut .leaf < cut .end
   end : cut .end ≤ at + length (exprBytes t)
 
+-- What lies so in a side lies so in the And.
+above : {cut : Cut} {up at place : ℕ} {t side : Expr} → up < at → at < place → place + length (exprBytes side) ≤ at + length (exprBytes t)
+    → Spans cut at side place → Spans cut up t at
+above lt further within s =
+    record {
+      low = omega (arith, s .low);
+      gap = λ a b. omega (arith, s .low);
+      parent = s .parent;
+      leaf = omega (arith, s .leaf);
+      some = s .some;
+      end = omega (arith, s .end);
+    }
+
 spans : {cut : Cut} {up : ℕ} {t : Expr} {at position : ℕ} → up < at → CutAt cut up t at position → Spans cut up t at
 spans lt (here {t = t} lone leaf end parent) =
     record {
@@ -117,27 +124,9 @@ spans lt (here {t = t} lone leaf end parent) =
       end = omega arith;
     }
 spans {at = at} lt (inLeft {l = l} {r = r} c) =
-    let s = spans {at = leftOf at} (omega arith) c in
-    record {
-      low = omega (arith, s .low);
-      gap = λ a b. omega (arith, s .low);
-      parent = s .parent;
-      leaf = omega
-          (arith, s .leaf);
-      some = s .some;
-      end = omega (arith, s .end, size-and l r);
-    }
+    above lt (omega arith) (omega (arith, size-and l r)) (spans {at = leftOf at} (omega arith) c)
 spans {at = at} lt (inRight {l = l} {r = r} c) =
-    let s = spans {at = rightOf at l} (omega arith) c in
-    record {
-      low = omega (arith, s .low);
-      gap = λ a b. omega (arith, s .low);
-      parent = s .parent;
-      leaf = omega
-          (arith, s .leaf);
-      some = s .some;
-      end = omega (arith, s .end, size-and l r);
-    }
+    above lt (omega arith) (omega (arith, size-and l r)) (spans {at = rightOf at l} (omega arith) c)
 
 -- ---- what a walk over the And nodes makes of it
 

@@ -1,5 +1,4 @@
 -- A column's side is seen; of any other node the children are walked, one after the other. The measure is twice the bytes left.
-use Rattle.expression.proofs.Cycles.{below}
 use Prim.Native.Nat.{ℕ, _+_, _-_, _*_}
 use native.Mathlib.Omega.{arith}
 use lib.ListN.{length}
@@ -13,10 +12,10 @@ use Rattle.argument_sides.proofs.sides.+collect_children+collect_column
 use Rattle.argument_sides.proofs.sides.collect_column_references.Reads as node
 use Rattle.argument_sides.proofs.sides.collect_column_references.Kinds as node-kinds
 use Rattle.argument_sides.proofs.sides.+collect_children+collect_column_references.Lts-collect_column_references as node-lts
-use Rattle.expression.proofs.heads.head_at.Reads as head-at-reads
-use Rattle.argument_sides.proofs.sides.see_side.Reads as see-side-reads
-use Rattle.expression.proofs.fields.short_at.Reads as short-at-reads
-use Rattle.argument_sides.proofs.sides.side_at.Reads as side-at-reads
+use Rattle.expression.proofs.heads.head_at.Reads as head-at
+use Rattle.argument_sides.proofs.sides.see_side.Reads as see-side
+use Rattle.expression.proofs.fields.short_at.Reads as short-at
+use Rattle.argument_sides.proofs.sides.side_at.Reads as side-at
 use Rattle.argument_sides.proofs.sides.+collect_children+collect_column_references.{statement}
 use Rattle.argument_sides.proofs.sides.+collect_children+collect_column_references.Tie.{close}
 
@@ -34,10 +33,8 @@ abbrev μ-loop : row-lts.MeasureT-loop
 μ-loop s rec at n next₀ left₀ seen next left sides = left
 
 pub +collect-children+collect-column-references-spec : {M : Type 1} → statement M
-+collect-children+collect-column-references-spec = close μ-row μ-node (λ t. row-lts.spec (
-  below 1 node-kinds.ps μ-node node.Pre t,
-  node.Post,
-) _ row.Post
++collect-children+collect-column-references-spec = close μ-row μ-node (λ t. row-lts.spec
+    (_, node.Post) _ row.Post
     Inv-loop
     μ-loop
     (λ c. seeing-begins (c .before .pre .1))
@@ -50,18 +47,8 @@ pub +collect-children+collect-column-references-spec : {M : Type 1} → statemen
     let call = c .collect-column-references in
     seeing-goes-on (c .before .before .loop .inv) (c .before .loop-test .taken) (call .result) (call .ensures))
     (λ c. seeing-ends (c .before .loop .inv) (c .loop-test .left)))
-    λ t. node-lts.spec (
-      short-at-reads.Asked,
-      short-at-reads.Learnt,
-      side-at-reads.Asked,
-      side-at-reads.Learnt,
-      see-side-reads.Asked,
-      see-side-reads.Learnt,
-      head-at-reads.Asked,
-      head-at-reads.Learnt,
-      below 1 row-kinds.ps μ-row row.Pre t,
-      row.Post,
-    ) _ node.Post
+    λ t. node-lts.spec
+    (_, short-at.Learnt, _, side-at.Learnt, _, see-side.Learnt, _, head-at.Learnt, _, row.Post) _ node.Post
     (λ c. node-some (c .before .before .pre .1 .2 .tree))
     (λ c. omega (arith, column-fits (c .before .before .before .pre .1) (c .if1 .taken)))
     (λ c κs. omega (arith, column-fits (c .before .before .before .pre .1) (c .if1 .taken)))

@@ -1,6 +1,5 @@
 -- `check_arity`: of an And the left child is checked by a call, and the loop goes on with the right one, from where the left one ended;
 -- the measure is the bytes left.
-use Rattle.expression.proofs.Cycles.{below}
 use Prim.Native.Nat.{ℕ, _-_}
 use lib.ListN.{length}
 use borrow.Author.Needs.{needs}
@@ -12,10 +11,10 @@ use borrow.Fn.PlainCycle.{Measures}
 use Rattle.leaf_arity.proofs.arity.check_arity.Reads as reads
 use Rattle.leaf_arity.proofs.arity.check_arity.Kinds as kinds
 use Rattle.leaf_arity.proofs.arity.+check_arity.Lts-check_arity as lts
-use Rattle.expression.proofs.ends.end_children.Reads as end-children-reads
-use Rattle.expression.proofs.leaves.node_at.Reads as node-at-reads
-use Rattle.leaf_arity.proofs.arity.call_arity.Reads as call-arity-reads
-use Rattle.leaf_arity.proofs.arity.comparison_arity.Reads as comparison-arity-reads
+use Rattle.expression.proofs.ends.end_children.Reads as end-children
+use Rattle.expression.proofs.leaves.node_at.Reads as node-at
+use Rattle.leaf_arity.proofs.arity.call_arity.Reads as call-arity
+use Rattle.leaf_arity.proofs.arity.comparison_arity.Reads as comparison-arity
 use Rattle.leaf_arity.proofs.arity.+check_arity.{statement}
 use Rattle.leaf_arity.proofs.arity.+check_arity.Tie.{close}
 
@@ -29,18 +28,8 @@ abbrev μ-loop : lts.MeasureT-loop
 μ-loop s at next₀ next = length s - next
 
 pub +check-arity-spec : {M : Type 1} → statement M
-+check-arity-spec = close μ λ t. lts.spec (
-  node-at-reads.Asked,
-  node-at-reads.Learnt,
-  below 1 kinds.ps μ reads.Pre t,
-  reads.Post,
-  comparison-arity-reads.Asked,
-  comparison-arity-reads.Learnt,
-  call-arity-reads.Asked,
-  call-arity-reads.Learnt,
-  end-children-reads.Asked,
-  end-children-reads.Learnt,
-) _ reads.Post
++check-arity-spec = close μ λ t. lts.spec
+    (_, node-at.Learnt, _, reads.Post, _, comparison-arity.Learnt, _, call-arity.Learnt, _, end-children.Learnt) _ reads.Post
     Inv-loop
     μ-loop
     (λ c. right-begins (c .before .pre .1))

@@ -1,6 +1,5 @@
 -- `column_refs` and `column_refs_all`: a column has its bits, any other node those below it; the measure is twice the bytes left, and one
 -- more for a row.
-use Rattle.expression.proofs.Cycles.{below}
 use Prim.Native.Nat.{ℕ, _+_, _-_, _*_}
 use native.Mathlib.Omega.{arith}
 use lib.ListN.{length}
@@ -15,7 +14,7 @@ use Rattle.logical_filter.proofs.knn_query_side.+column_refs+column_ref
 use Rattle.logical_filter.proofs.knn_query_side.column_refs_all.Reads as column-refs-all
 use Rattle.logical_filter.proofs.knn_query_side.column_refs_all.Kinds as column-refs-all-kinds
 use Rattle.logical_filter.proofs.knn_query_side.+column_refs+column_refs_all.Lts-column_refs_all as column-refs-all-lts
-use Rattle.expression.proofs.heads.head_at.Reads as head-at-reads
+use Rattle.expression.proofs.heads.head_at.Reads as head-at
 use Rattle.logical_filter.proofs.knn_query_side.+column_refs+column_refs_all.{
   statement,
 }
@@ -37,12 +36,8 @@ abbrev μ-loop : column-refs-all-lts.MeasureT-loop
 
 pub +column-refs+column-refs-all-spec : {M : Type 1} → statement M
 +column-refs+column-refs-all-spec =
-    close μ-column-refs μ-column-refs-all (λ t. column-refs-lts.spec (
-      head-at-reads.Asked,
-      head-at-reads.Learnt,
-      below 1 column-refs-all-kinds.ps μ-column-refs-all column-refs-all.Pre t,
-      column-refs-all.Post,
-    ) _ column-refs.Post
+    close μ-column-refs μ-column-refs-all (λ t. column-refs-lts.spec
+    (_, head-at.Learnt, _, column-refs-all.Post) _ column-refs.Post
     (λ c. node-some (c .before .before .pre .1 .2))
     (λ c. search needs)
     (λ c. bits-within (c .before .before .before .before .pre .1 .2) (c .before .if1 .taken))
@@ -60,7 +55,8 @@ pub +column-refs+column-refs-all-spec : {M : Type 1} → statement M
     let head = c .before .head-at in
     node-columns h (c .before .before .if1 .left) (head .result) (head .ensures d t h) (c .column-refs-all .result)
     (c .column-refs-all .ensures)))
-    λ t. column-refs-all-lts.spec (below 1 column-refs-kinds.ps μ-column-refs column-refs.Pre t, column-refs.Post) _ column-refs-all.Post
+    λ t. column-refs-all-lts.spec
+    (_, column-refs.Post) _ column-refs-all.Post
     Inv-loop
     μ-loop
     (λ c. joining-begins (c .before .pre .1))

@@ -1,5 +1,4 @@
 -- `find_st_knn_call`: the right child of an And is searched where the left one has no such call; the measure is the bytes left.
-use Rattle.expression.proofs.Cycles.{below}
 use Prim.Native.Nat.{ℕ, _-_}
 use lib.ListN.{length}
 use borrow.Author.Needs.{needs}
@@ -12,9 +11,9 @@ use borrow.Fn.PlainCycle.{Measures}
 use Rattle.logical_filter.proofs.knn_query_side.find_st_knn_call.Reads as reads
 use Rattle.logical_filter.proofs.knn_query_side.find_st_knn_call.Kinds as kinds
 use Rattle.logical_filter.proofs.knn_query_side.+find_st_knn_call.Lts-find_st_knn_call as lts
-use Rattle.expression.proofs.ends.end_children.Reads as end-children-reads
-use Rattle.expression.proofs.leaves.node_at.Reads as node-at-reads
-use Rattle.expression.proofs.names.same_name_ignore_case.Reads as same-name-ignore-case-reads
+use Rattle.expression.proofs.ends.end_children.Reads as end-children
+use Rattle.expression.proofs.leaves.node_at.Reads as node-at
+use Rattle.expression.proofs.names.same_name_ignore_case.Reads as same-name-ignore-case
 use Rattle.logical_filter.proofs.knn_query_side.+find_st_knn_call.{
   statement,
 }
@@ -27,16 +26,8 @@ abbrev μ : Measures 1 kinds.ps ℕ
 
 pub +find-st-knn-call-spec : {M : Type 1} → statement M
 unfolding ascii
-+find-st-knn-call-spec = close μ λ t. lts.spec (
-  node-at-reads.Asked,
-  node-at-reads.Learnt,
-  below 1 kinds.ps μ reads.Pre t,
-  reads.Post,
-  end-children-reads.Asked,
-  end-children-reads.Learnt,
-  same-name-ignore-case-reads.Asked,
-  same-name-ignore-case-reads.Learnt,
-) _ reads.Post
++find-st-knn-call-spec = close μ λ t. lts.spec
+    (_, node-at.Learnt, _, reads.Post, _, end-children.Learnt, _, same-name-ignore-case.Learnt) _ reads.Post
     (λ c κs. c .before .pre .1)
     (λ c. search needs)
     (λ c κs.

@@ -1,5 +1,4 @@
 -- `collect`: the names of both children of an And are put together; the measure is the bytes left.
-use Rattle.expression.proofs.Cycles.{below}
 use Prim.Native.Nat.{ℕ, _-_}
 use lib.ListN.{length}
 use borrow.Author.Needs.{needs}
@@ -10,10 +9,10 @@ use borrow.Fn.PlainCycle.{Measures}
 use Rattle.logical_filter.proofs.predicate_names.collect.Reads as reads
 use Rattle.logical_filter.proofs.predicate_names.collect.Kinds as kinds
 use Rattle.logical_filter.proofs.predicate_names.+collect.Lts-collect as lts
-use Rattle.expression.proofs.ends.end_children.Reads as end-children-reads
-use Rattle.expression.proofs.leaves.node_at.Reads as node-at-reads
-use Rattle.logical_filter.proofs.predicate_names.collect_comparison.Reads as collect-comparison-reads
-use Rattle.logical_filter.proofs.predicate_names.name_bit.Reads as name-bit-reads
+use Rattle.expression.proofs.ends.end_children.Reads as end-children
+use Rattle.expression.proofs.leaves.node_at.Reads as node-at
+use Rattle.logical_filter.proofs.predicate_names.collect_comparison.Reads as collect-comparison
+use Rattle.logical_filter.proofs.predicate_names.name_bit.Reads as name-bit
 use Rattle.logical_filter.proofs.predicate_names.+collect.{statement}
 use Rattle.logical_filter.proofs.predicate_names.+collect.Tie.{close}
 
@@ -21,18 +20,8 @@ abbrev μ : Measures 1 kinds.ps ℕ
 μ κs a = length (a .0 .now) - a .1 .0
 
 pub +collect-spec : {M : Type 1} → statement M
-+collect-spec = close μ λ t. lts.spec (
-  node-at-reads.Asked,
-  node-at-reads.Learnt,
-  below 1 kinds.ps μ reads.Pre t,
-  reads.Post,
-  collect-comparison-reads.Asked,
-  collect-comparison-reads.Learnt,
-  name-bit-reads.Asked,
-  name-bit-reads.Learnt,
-  end-children-reads.Asked,
-  end-children-reads.Learnt,
-) _ reads.Post
++collect-spec = close μ λ t. lts.spec
+    (_, node-at.Learnt, _, reads.Post, _, collect-comparison.Learnt, _, name-bit.Learnt, _, end-children.Learnt) _ reads.Post
     (λ c κs. c .before .pre .1)
     (λ c. search needs)
     (λ c κs.

@@ -41,5 +41,4 @@ returns c =
     (both-put (omega (arith, room .room)) (records .ensures) (c .before .before .copy-at .ensures))
 
 pub put-frame-exchanged-spec : {M : Type 1} → statement M
-put-frame-exchanged-spec =
-    tie.close (tie.spec put-frame-head-requires put-records-at-requires copy-at-requires (λ c. search needs) returns)
+put-frame-exchanged-spec = tie.close (tie.spec put-frame-head-requires put-records-at-requires copy-at-requires (search needs) returns)

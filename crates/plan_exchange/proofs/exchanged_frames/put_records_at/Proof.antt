@@ -5,9 +5,6 @@ use Rattle.writing.proofs.Sequence.{part-room, part-put, ends-within}
 use Rattle.plan_exchange.proofs.exchanged_frames.put_records_at.Statement.{statement}
 use Rattle.plan_exchange.proofs.exchanged_frames.put_records_at.Tie as tie
 
-put-records-exchanged-requires : tie.Need-put-records-exchanged-requires
-put-records-exchanged-requires c κs = part-room (c .before .before .before .pre)
-
 add-result : tie.Need-add-result
 add-result c =
     let start = c .before .before .before .before .before .before in
@@ -24,10 +21,10 @@ pub put-records-at-spec : {M : Type 1} → statement M
 put-records-at-spec =
     tie.close
     (tie.spec
-    (λ c. search needs)
-    (λ c. search needs)
-    (λ c. search needs)
-    put-records-exchanged-requires
+    (search needs)
+    (search needs)
+    (search needs)
+    (λ c κs. part-room (c .before .before .before .pre))
     add-result
-    (λ c. search needs)
+    (search needs)
     returns)

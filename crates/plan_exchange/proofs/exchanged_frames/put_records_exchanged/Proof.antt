@@ -56,7 +56,7 @@ put-records-exchanged-spec =
     loop-holds
     (λ c. omega arith)
     (λ c. omega arith)
-    (λ c κs. search needs)
+    (search needs)
     (λ c. omega arith)
     (λ c. omega arith)
     (λ c. omega arith)

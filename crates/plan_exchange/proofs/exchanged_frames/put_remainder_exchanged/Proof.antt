@@ -5,19 +5,11 @@ use Rattle.plan_exchange.proofs.FrameViews.{nothing-bytes, remainder-vi
 use Rattle.plan_exchange.proofs.exchanged_frames.put_remainder_exchanged.Statement.{statement}
 use Rattle.plan_exchange.proofs.exchanged_frames.put_remainder_exchanged.Tie as tie
 
-slice-write-out : tie.Need-slice-write-out
-slice-write-out c = known-room nothing-bytes (rw (c .enum-told .given .1) at (c .before .before .before .before .pre))
-
 put-frame-exchanged-requires : tie.Need-put-frame-exchanged-requires
 put-frame-exchanged-requires c κs =
     let start = c .before .before .before .before .before .before in
     let rest = c .before .before .rest .given in
     stored-room (remainder-view (start .args .end) (rest .0 .0)) (rw (rest .1) at (start .pre))
-
-returns : tie.Need-returns
-returns c =
-    let e = c .enum-told .given .1 in
-    rw e (known-put nothing-bytes (rw e at (c .before .before .before .before .pre)))
 
 returns-2 : tie.Need-returns-2
 returns-2 c =
@@ -30,11 +22,11 @@ pub put-remainder-exchanged-spec : {M : Type 1} → statement M
 put-remainder-exchanged-spec =
     tie.close
     (tie.spec
-    (λ c. search needs)
-    slice-write-out
-    (λ c. search needs)
+    (search needs)
+    (λ c. known-room nothing-bytes (rw (c .enum-told .given .1) at (c .before .before .before .before .pre)))
+    (search needs)
     put-frame-exchanged-requires
-    (λ c. search needs)
-    returns
-    (λ c. search needs)
+    (search needs)
+    (λ c. rw (c .enum-told .given .1) (known-put nothing-bytes (rw (c .enum-told .given .1) at (c .before .before .before .before .pre))))
+    (search needs)
     returns-2)

@@ -5,11 +5,10 @@ use Rattle.plan_exchange.proofs.HeldLaws.{held-room, held-put, extracti
 use Rattle.plan_exchange.proofs.exchanged_plans.exchange_extraction.Statement.{statement}
 use Rattle.plan_exchange.proofs.exchanged_plans.exchange_extraction.Tie as tie
 
-put-extraction-exchanged-requires : tie.Need-put-extraction-exchanged-requires
-put-extraction-exchanged-requires c κs = held-room extracted extraction-plan (c .before .before .before .pre)
-
-returns : tie.Need-returns
-returns c = held-put extracted extraction-plan (c .before .before .put-extraction-exchanged .ensures)
-
 pub exchange-extraction-spec : {M : Type 1} → statement M
-exchange-extraction-spec = tie.close (tie.spec put-extraction-exchanged-requires (λ c. search needs) returns)
+exchange-extraction-spec =
+    tie.close
+    (tie.spec
+    (λ c κs. held-room extracted extraction-plan (c .before .before .before .pre))
+    (search needs)
+    (λ c. held-put extracted extraction-plan (c .before .before .put-extraction-exchanged .ensures)))

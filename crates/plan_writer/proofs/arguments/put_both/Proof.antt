@@ -25,4 +25,4 @@ returns c =
     both-put (omega (arith, start .pre .room)) (one .ensures) (two .ensures)
 
 pub put-both-spec : {M : Type 1} → statement M
-put-both-spec = tie.close (tie.spec first-requires second-requires (λ c. search needs) returns)
+put-both-spec = tie.close (tie.spec first-requires second-requires (search needs) returns)

@@ -56,14 +56,14 @@ pub reproject-column-references-for-side-spec : {M : Type 1} → statement M
 reproject-column-references-for-side-spec =
     tie.close
     (tie.spec
-    (λ c κs. search needs)
+    (search needs)
     copy-at-requires
-    (λ c. search needs)
+    (search needs)
     returns
     (λ c. omega (arith, c .before .before .before .before .before .pre .room))
     (λ c. omega (arith, c .before .before .before .before .before .pre .room))
-    (λ c. search needs)
+    (search needs)
     reproject-column-references-requires
     add-result
-    (λ c. search needs)
+    (search needs)
     returns-2)

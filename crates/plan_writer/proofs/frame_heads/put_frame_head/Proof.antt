@@ -8,15 +8,12 @@ use Rattle.plan_writer.specs.Predicates.{frameHead}
 use Rattle.plan_writer.proofs.frame_heads.put_frame_head.Statement.{statement}
 use Rattle.plan_writer.proofs.frame_heads.put_frame_head.Tie as tie
 
-returns : tie.Need-returns
-unfolding frameHead
-returns c = byte-then 1 (omega arith) (c .before .before .put-number .ensures)
-
 pub put-frame-head-spec : {M : Type 1} → statement M
+unfolding frameHead
 put-frame-head-spec =
     tie.close
     (tie.spec
-    (λ c. search needs)
+    (search needs)
     (λ c κs. simp length-set (omega arith))
     (λ c. c .before .before .put-number .kept .0 ∙ simp length-set)
-    returns)
+    (λ c. byte-then 1 (omega arith) (c .before .before .put-number .ensures)))

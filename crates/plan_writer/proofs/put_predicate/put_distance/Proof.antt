@@ -54,7 +54,7 @@ pub put-distance-spec : {M : Type 1} → statement M
 put-distance-spec =
     tie.close
     (tie.spec
-    (λ c κs. search needs)
+    (search needs)
     slice-write-out
     slice-write-out-2
     put-both-requires

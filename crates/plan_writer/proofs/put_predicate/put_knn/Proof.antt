@@ -1,5 +1,4 @@
 -- Its head, then query and object.
-use native.Mathlib.Omega.{arith}
 use borrow.Author.Needs.{needs}
 use Rattle.writing.proofs.Sequence.{rest-room, headed-put}
 use Rattle.plan_writer.proofs.PredicateLaws.{Numbers, knn-view, knn-fits}
@@ -46,12 +45,12 @@ pub put-knn-spec : {M : Type 1} → statement M
 put-knn-spec =
     tie.close
     (tie.spec
-    (λ c κs. search needs)
-    (λ c κs. search needs)
-    (λ c κs. search needs)
-    (λ c κs. search needs)
-    (λ c. search needs)
+    (search needs)
+    (search needs)
+    (search needs)
+    (search needs)
+    (search needs)
     put-knn-head-requires
     put-both-requires
-    (λ c. search needs)
+    (search needs)
     returns)

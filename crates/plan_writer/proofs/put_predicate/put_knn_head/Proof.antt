@@ -1,13 +1,9 @@
 -- `put_knn_head`: k in four bytes, then three bytes.
 use native.Mathlib.Omega.{arith}
-use borrow.Author.Needs.{needs}
 use lib.ListN.{length-set}
 use Rattle.plan_writer.proofs.PredicateLaws.{knn-head}
 use Rattle.plan_writer.proofs.put_predicate.put_knn_head.Statement.{statement}
 use Rattle.plan_writer.proofs.put_predicate.put_knn_head.Tie as tie
-
-same-length : tie.Need-same-length
-same-length c = simp length-set (c .before .before .put-number .kept .0)
 
 returns : tie.Need-returns
 returns c =
@@ -24,5 +20,5 @@ put-knn-head-spec =
     (λ c. omega (arith, c .before .before .put-number .kept .0))
     (λ c. simp length-set (omega (arith, c .before .before .put-number .kept .0)))
     (λ c. simp length-set (omega (arith, c .before .before .put-number .kept .0)))
-    same-length
+    (λ c. simp length-set (c .before .before .put-number .kept .0))
     returns)

@@ -7,34 +7,27 @@ use lib.ListN.{length, set, length-set}
 use Rattle.writing.proofs.Written.{together-length}
 use Rattle.writing.proofs.Sequence.{part-room, part-put, ends-within, head-room, stored-room, stored-put}
 use Rattle.plan_writer.specs.Arguments.{changeOf}
-use Rattle.plan_writer.proofs.PredicateLaws.{predicate-view}
+use Rattle.plan_writer.proofs.PredicateLaws.{PredicateView, predicate-view}
 use Rattle.plan_writer.proofs.put_predicate.put_predicate.Statement.{statement}
 use Rattle.plan_writer.proofs.put_predicate.put_predicate.Tie as tie
 
+view : (c : tie.After-predicate-kind)
+    → let a = c .before .before .before .before .args in
+    PredicateView (changeOf (a .indexes) (a .to .now)) (a .src .now) (a .p) (c .predicate-kind .result)
+view c =
+    let a = c .before .before .before .before .args in
+    predicate-view (changeOf (a .indexes) (a .to .now)) (a .src .now) (a .p) _ (c .predicate-kind .ensures)
+
 -- There is room for the first byte.
 one-byte : (c : tie.After-predicate-kind) → 1 ≤ length (c .before .before .before .before .args .out .now)
-one-byte c =
-    let start = c .before .before .before .before in
-    let a = start .args in
-    head-room (predicate-view (changeOf (a .indexes) (a .to .now)) (a .src .now) (a .p) (c .predicate-kind .result)
-    (c .predicate-kind .ensures)) (start .pre)
-
-put-fields-requires : tie.Need-put-fields-requires
-put-fields-requires c κs =
-    let kind = c .before .predicate-kind in
-    let start = c .before .before .before .before .before in
-    let a = start .args in
-    part-room (stored-room (predicate-view (changeOf (a .indexes) (a .to .now)) (a .src .now) (a .p) (kind .result) (kind .ensures))
-    (start .pre))
+one-byte c = head-room (view c) (c .before .before .before .before .pre)
 
 add-result : tie.Need-add-result
 add-result c =
     let fields = c .before .before .put-fields in
-    let kind = c .before .before .before .before .predicate-kind in
-    let start = c .before .before .before .before .before .before .before .before in
-    let a = start .args in
-    let room =
-    stored-room (predicate-view (changeOf (a .indexes) (a .to .now)) (a .src .now) (a .p) (kind .result) (kind .ensures)) (start .pre) in
+    let kind = c .before .before .before .before in
+    let start = kind .before .before .before .before in
+    let room = stored-room (view kind) (start .pre) in
     omega (arith, start .good, simp length-set at (ends-within room (part-put _ (fields .last .0) 1 (fields .ensures))))
 
 same-length : tie.Need-same-length
@@ -45,25 +38,19 @@ same-length c =
     together-length 1 (set out 0 (at-kind .predicate-kind .result)) (fields .last .0) (simp length-set (one-byte at-kind))
     (fields .kept .0) ∙ simp length-set
 
-returns : tie.Need-returns
-returns c =
-    let fields = c .before .before .put-fields in
-    let kind = c .before .before .before .before .predicate-kind in
-    let start = c .before .before .before .before .before .before .before .before in
-    let a = start .args in
-    stored-put (predicate-view (changeOf (a .indexes) (a .to .now)) (a .src .now) (a .p) (kind .result) (kind .ensures)) (start .pre)
-    (part-put _ (fields .last .0) 1 (fields .ensures))
-
 pub put-predicate-spec : {M : Type 1} → statement M
 put-predicate-spec =
     tie.close
     (tie.spec
-    (λ c κs. search needs)
+    (search needs)
     (λ c. omega (arith, one-byte c))
     (λ c. simp length-set (one-byte c))
     (λ c. simp length-set (omega (arith, one-byte c)))
-    (λ c. search needs)
-    put-fields-requires
+    (search needs)
+    (λ c κs. part-room (stored-room (view (c .before)) (c .before .before .before .before .before .pre)))
     add-result
     same-length
-    returns)
+    λ c.
+    let fields = c .before .before .put-fields in
+    let kind = c .before .before .before .before in
+    stored-put (view kind) (kind .before .before .before .before .pre) (part-put _ (fields .last .0) 1 (fields .ensures)))

@@ -33,7 +33,7 @@ pub put-relation-spec : {M : Type 1} → statement M
 put-relation-spec =
     tie.close
     (tie.spec
-    (λ c κs. search needs)
+    (search needs)
     slice-write-out
     put-both-requires
     (λ c. c .before .before .put-both .kept .0 ∙ simp length-set)

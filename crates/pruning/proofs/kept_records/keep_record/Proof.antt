@@ -45,13 +45,13 @@ keep-record-spec =
     (tie.spec
     asked
     (λ c. omega (arith, room c))
-    (λ c. search needs)
+    (search needs)
     (λ c. omega (arith, room c))
-    (λ c. search needs)
+    (search needs)
     (λ c. omega (arith, within (c .before)))
     (λ c. omega (arith, within (c .before)))
     copied
     (λ c. omega (arith, room (c .before .before .before .before)))
-    (λ c. search needs)
+    (search needs)
     returns
     returns-2)

@@ -9,9 +9,6 @@ use Rattle.pruning.proofs.RecordLaws.{part-fit, columns-put}
 use Rattle.pruning.proofs.kept_records.put_records.Statement.{statement}
 use Rattle.pruning.proofs.kept_records.put_records.Tie as tie
 
-kept-records : tie.Need-keep-records-requires
-kept-records c κs = let start = c .before .before .before .before .before .before in (part-fit (start .pre .0), start .pre .1)
-
 -- The buffer keeps its length once the lent part is back.
 long : (c : tie.After-keep-records)
     → let out = c .before .before .before .before .before .before .before .args .out .now in length
@@ -40,8 +37,8 @@ put-records-spec =
     (tie.spec
     (λ c. omega (arith, c .before .before .before .before .pre .0 .room))
     (λ c. omega (arith, c .before .before .before .before .pre .0 .room))
-    (λ c. search needs)
-    kept-records
+    (search needs)
+    (λ c κs. let start = c .before .before .before .before .before .before in (part-fit (start .pre .0), start .pre .1))
     (λ c κs. let call = c .before .before .before .before .before in omega (arith, long call, few call))
     (λ c. let call = c .before .before .before .before .before .before .before .before in omega (arith, few call))
     (λ c. let call = c .before .before .before .before .before .before .before .before in omega (arith, few call))

@@ -5,9 +5,6 @@ use Rattle.pruning.proofs.RecordLaws.{sides-differ, sides-same}
 use Rattle.pruning.proofs.kept_records.same_column.Statement.{statement}
 use Rattle.pruning.proofs.kept_records.same_column.Tie as tie
 
-returns : tie.Need-returns
-returns c = λ x y h k. sides-differ h k (c .if1 .taken)
-
 returns-2 : tie.Need-returns-2
 returns-2 c = λ x y h k.
     let one = c .before .short-at in
@@ -18,11 +15,11 @@ pub same-column-spec : {M : Type 1} → statement M
 same-column-spec =
     tie.close
     (tie.spec
-    (λ c. search needs)
-    (λ c. search needs)
-    returns
-    (λ c. search needs)
+    (search needs)
+    (search needs)
+    (λ c x y h k. sides-differ h k (c .if1 .taken))
+    (search needs)
     (λ c κs. omega arith)
-    (λ c. search needs)
+    (search needs)
     (λ c κs. omega arith)
     returns-2)

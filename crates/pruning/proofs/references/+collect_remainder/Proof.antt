@@ -1,11 +1,12 @@
 -- `collect_remainder`: nothing is marked at the leaf, an And is its two sides, any other node is a whole AND-leaf.
-use Prim.Native.Nat.{ℕ, _<_, _-_}
+use Rattle.expression.proofs.Cycles.{below}
+use Prim.Native.Nat.{ℕ, _-_}
 use native.Mathlib.Omega.{arith}
 use mathlib.Core.Path.{_∙_}
 use lib.ListN.{length}
 use borrow.Author.Needs.{needs}
 use borrow.Fn.Kinds.{In}
-use borrow.Fn.PlainCycle.{Measures, is, falls, and}
+use borrow.Fn.PlainCycle.{Measures, is, and}
 use Rattle.definitions.specs.Decode.{indexBelow}
 use Rattle.expression.proofs.Standing.{first-stands, node-some}
 use Rattle.pruning.proofs.AroundLaws.{lone-leaf, left-at, left-ends}
@@ -25,35 +26,18 @@ abbrev μ-node : Measures 2 node-kinds.ps ℕ
 abbrev node-at : ℕ → In 2 node-kinds.ps
 node-at t = and 2 node-kinds.ps (is 2 node-kinds.ps μ-node t) node.Pre
 
-abbrev node-below : ℕ → In 2 node-kinds.ps
-node-below t = and 2 node-kinds.ps (falls 2 node-kinds.ps _<_ μ-node t) node.Pre
-
 abbrev claims : ℕ → node-lts.Claims
-claims t = (node-at-reads.Asked, node-at-reads.Learnt, columns-reads.Asked, columns-reads.Learnt, node-below t, node.Post)
-
-at-the-leaf : (t : ℕ) → node-lts.Need-returns (claims t) (node-at t) node.Post
-at-the-leaf t c = λ t stands ends.
-    let start = c .before .before .before .before in
-    rest-leaf (start .args .cut) (start .args .used .now) t (c .if1 .taken) ends
-
-found : (t : ℕ) → node-lts.Need-node-at-requires (claims t) (node-at t) node.Post
-found t c κs =
-    let start = c .before .before .before .before in
-    let p = start .pre .1 in
-    (indexBelow (length (start .args .used .now)), p .0, p .1)
+claims t = (
+  node-at-reads.Asked,
+  node-at-reads.Learnt,
+  columns-reads.Asked,
+  columns-reads.Learnt,
+  below 2 node-kinds.ps μ-node node.Pre t,
+  node.Post,
+)
 
 whole : (t : ℕ) → node-lts.Need-collect-column-references-requires (claims t) (node-at t) node.Post
 whole t c κs = let p = c .before .before .before .before .before .before .before .pre .1 in (p .0, p .1)
-
-whole-returns : (t : ℕ) → node-lts.Need-returns-2 (claims t) (node-at t) node.Post
-whole-returns t c = λ t stands ends.
-    let arm = c .before .before .before .before in
-    let start = arm .before .before .before .before .before .before in
-    let node = arm .before .node-at in
-    let call = c .before .before .collect-column-references in
-    rest-lone (start .args .cut) (start .args .used .now) (call .last .0) t (arm .before .before .if1 .left)
-    (lone-leaf stands (node .result) (arm .match .keys2) (node .ensures (indexBelow (length (start .args .used .now))) t stands))
-    (call .result) (call .ensures t stands)
 
 left : (t : ℕ) → node-lts.Need-collect-remainder-requires (claims t) (node-at t) node.Post
 left t c κs =
@@ -66,8 +50,28 @@ left t c κs =
       (both .l, first-stands (both .row), left-ends both (start .args .cut) (p .2)),
     )
 
-right : (t : ℕ) → node-lts.Need-collect-remainder-requires-2 (claims t) (node-at t) node.Post
-right t c κs =
+pub +collect-remainder-spec : {M : Type 1} → statement M
++collect-remainder-spec = close μ-node λ t. node-lts.spec (claims t) _ node.Post
+    (λ c t stands ends.
+    let start = c .before .before .before .before in
+    rest-leaf (start .args .cut) (start .args .used .now) t (c .if1 .taken) ends)
+    (λ c κs.
+    let start = c .before .before .before .before in
+    let p = start .pre .1 in
+    (indexBelow (length (start .args .used .now)), p .0, p .1))
+    (λ c. search needs)
+    (whole t)
+    (λ c. c .before .before .collect-column-references .kept .0)
+    (λ c t stands ends.
+    let arm = c .before .before .before .before in
+    let start = arm .before .before .before .before .before .before in
+    let node = arm .before .node-at in
+    let call = c .before .before .collect-column-references in
+    rest-lone (start .args .cut) (start .args .used .now) (call .last .0) t (arm .before .before .if1 .left)
+    (lone-leaf stands (node .result) (arm .match .keys2) (node .ensures (indexBelow (length (start .args .used .now))) t stands))
+    (call .result) (call .ensures t stands))
+    (left t)
+    (λ c κs.
     let arm = c .before .before .before .before .before .before in
     let start = arm .before .before .before .before .before .before .before in
     let p = start .pre .1 in
@@ -78,13 +82,9 @@ right t c κs =
     let l = call .ensures (both .l) (first-stands (both .row)) (left-ends both cut (p .2)) in (
       omega (arith, start .pre .0, node-some (p .1), left-at both, l .ends),
       right-flagged cut used (call .last .0) (call .kept .0) (call .result) (call .ensures) both (p .2),
-    )
-
-long : (t : ℕ) → node-lts.Need-same-length-2 (claims t) (node-at t) node.Post
-long t c = c .before .before .collect-remainder2 .kept .0 ∙ c .before .before .before .before .before .before .collect-remainder .kept .0
-
-and-returns : (t : ℕ) → node-lts.Need-returns-3 (claims t) (node-at t) node.Post
-and-returns t c = λ t stands ends.
+    ))
+    (λ c. c .before .before .collect-remainder2 .kept .0 ∙ c .before .before .before .before .before .before .collect-remainder .kept .0)
+    (λ c t stands ends.
     let arm = c .before .before .before .before .before .before .before .before .before in
     let start = arm .before .before .before .before .before .before .before in
     let used = start .args .used .now in
@@ -93,18 +93,4 @@ and-returns t c = λ t stands ends.
     let both = rw (arm .left .given .1) at (arm .before .before .node-at .ensures (indexBelow (length used)) t stands) in
     rest-and (start .args .cut) used (one .last .0) (one .kept .0) (one .result) (one .ensures) both ends (two .last .0)
     (arm .before .before .before .if1 .left) (two .result)
-    (two .ensures)
-
-pub +collect-remainder-spec : {M : Type 1} → statement M
-+collect-remainder-spec = close μ-node λ t. node-lts.spec (claims t) (node-at t)
-    node.Post
-    (at-the-leaf t)
-    (found t)
-    (λ c. search needs)
-    (whole t)
-    (λ c. c .before .before .collect-column-references .kept .0)
-    (whole-returns t)
-    (left t)
-    (right t)
-    (long t)
-    (and-returns t)
+    (two .ensures))

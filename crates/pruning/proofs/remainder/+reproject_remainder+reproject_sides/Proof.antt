@@ -1,12 +1,13 @@
 -- `reproject_remainder` and `reproject_sides`: nothing is written at the leaf, an And is its head and its two sides, its parent has no
 -- head, any other node is copied.
-use Prim.Native.Nat.{ℕ, _<_, _≤_, _+_, _-_, _*_}
+use Rattle.expression.proofs.Cycles.{below}
+use Prim.Native.Nat.{ℕ, _≤_, _+_, _-_, _*_}
 use native.Mathlib.Omega.{arith}
 use mathlib.Core.Path.{_∙_}
 use lib.ListN.{length, set, length-set}
 use borrow.Author.Needs.{needs}
 use borrow.Fn.Kinds.{In}
-use borrow.Fn.PlainCycle.{Measures, is, falls, and}
+use borrow.Fn.PlainCycle.{Measures, is, and}
 use Rattle.definitions.specs.Expression.{Expr, and as expr-and}
 use Rattle.definitions.specs.Decode.{indexBelow}
 use Rattle.expression.specs.Nodes.{Stands}
@@ -36,53 +37,27 @@ abbrev μ-sides : Measures 3 sides-kinds.ps ℕ
 abbrev node-at : ℕ → In 3 node-kinds.ps
 node-at t = and 3 node-kinds.ps (is 3 node-kinds.ps μ-node t) node.Pre
 
-abbrev node-below : ℕ → In 3 node-kinds.ps
-node-below t = and 3 node-kinds.ps (falls 3 node-kinds.ps _<_ μ-node t) node.Pre
-
 abbrev sides-at : ℕ → In 3 sides-kinds.ps
 sides-at t = and 3 sides-kinds.ps (is 3 sides-kinds.ps μ-sides t) sides.Pre
 
-abbrev sides-below : ℕ → In 3 sides-kinds.ps
-sides-below t = and 3 sides-kinds.ps (falls 3 sides-kinds.ps _<_ μ-sides t) sides.Pre
-
 abbrev node-claims : ℕ → node-lts.Claims
-node-claims t = (node-at-reads.Asked, node-at-reads.Learnt, copy-reads.Asked, copy-reads.Learnt, sides-below t, sides.Post)
+node-claims t = (
+  node-at-reads.Asked,
+  node-at-reads.Learnt,
+  copy-reads.Asked,
+  copy-reads.Learnt,
+  below 3 sides-kinds.ps μ-sides sides.Pre t,
+  sides.Post,
+)
 
 abbrev sides-claims : ℕ → sides-lts.Claims
-sides-claims t = (node-below t, node.Post)
-
--- ---- the node
-
-at-the-leaf : (t : ℕ) → node-lts.Need-returns (node-claims t) (node-at t) node.Post
-at-the-leaf t c = λ t stands ends.
-    let start = c .before .before .before .before .before in
-    copy-leaf (start .args .to .now) (start .args .cut) (start .args .out .now) t (c .if1 .taken) ends
+sides-claims t = (below 3 node-kinds.ps μ-node node.Pre t, node.Post)
 
 found : (t : ℕ) → node-lts.Need-node-at-requires (node-claims t) (node-at t) node.Post
 found t c κs =
     let start = c .before .before .before .before .before in
     let p = start .pre .1 in
     (indexBelow (length (start .args .to .now)), p .tree, p .stands)
-
-whole : (t : ℕ) → node-lts.Need-reproject-column-references-requires (node-claims t) (node-at t) node.Post
-whole t c κs =
-    let arm = c .before in
-    let start = arm .before .before .before .before .before .before .before in
-    let node = arm .before .node-at in
-    let p = start .pre .1 in
-    let to = start .args .to .now in
-    lone-fits to (start .args .cut) p (arm .before .before .if1 .left)
-    (lone-leaf (p .stands) (node .result) (arm .match .keys2) (node .ensures (indexBelow (length to)) (p .tree) (p .stands)))
-
-whole-returns : (t : ℕ) → node-lts.Need-returns-2 (node-claims t) (node-at t) node.Post
-whole-returns t c = λ t stands ends.
-    let arm = c .before .before .before .before in
-    let start = arm .before .before .before .before .before .before .before in
-    let node = arm .before .node-at in
-    let to = start .args .to .now in
-    copy-lone to (start .args .cut) (arm .before .before .if1 .left)
-    (lone-leaf stands (node .result) (arm .match .keys2) (node .ensures (indexBelow (length to)) t stands))
-    (c .before .before .reproject-column-references .ensures t stands)
 
 -- The And that was found.
 found-and : (t : ℕ) (c : node-lts.After-left (node-claims t) (node-at t) node.Post) (u : Expr)
@@ -94,26 +69,6 @@ found-and t c u stands =
     let start = c .before .before .before .before .before .before .before .before in
     rw (c .left .given .1) at (c .before .before .node-at .ensures (indexBelow (length (start .args .to .now))) u stands)
 
-parent-sides : (t : ℕ) → node-lts.Need-reproject-sides-requires (node-claims t) (node-at t) node.Post
-parent-sides t c κs =
-    let arm = c .before .before .before .before in
-    let start = arm .before .before .before .before .before .before .before .before in
-    let p = start .pre .1 in
-    let to = start .args .to .now in
-    let both = found-and t arm (p .tree) (p .stands) in (
-      omega (arith, start .pre .0, node-some (p .stands), left-at both),
-      parent-fits to (start .args .cut) both (p .ends) (arm .before .before .before .if1 .left) (c .before .if2 .taken) (p .room),
-    )
-
-parent-returns : (t : ℕ) → node-lts.Need-returns-3 (node-claims t) (node-at t) node.Post
-parent-returns t c = λ u stands ends.
-    let arm = c .before .before .before .before .before .before .before in
-    let start = arm .before .before .before .before .before .before .before .before in
-    let to = start .args .to .now in
-    let both = found-and t arm u stands in
-    copy-parent to (start .args .cut) both ends (arm .before .before .before .if1 .left) (c .before .before .before .before .if2 .taken)
-    (c .before .before .reproject-sides .ensures)
-
 room : (t : ℕ) (c : node-lts.Else2 (node-claims t) (node-at t) node.Post)
     → 2 ≤ length (c .before .before .before .before .before .before .before .before .before .before .before .args .out .now)
 room t c =
@@ -123,18 +78,6 @@ room t c =
     let to = start .args .to .now in
     let both = found-and t arm (p .tree) (p .stands) in
     and-room to (start .args .cut) both (p .ends) (arm .before .before .before .if1 .left) (c .if2 .left) (start .args .out .now) (p .room)
-
-and-sides : (t : ℕ) → node-lts.Need-reproject-sides-requires-2 (node-claims t) (node-at t) node.Post
-and-sides t c κs =
-    let arm = c .before .before .before .before in
-    let start = arm .before .before .before .before .before .before .before .before in
-    let p = start .pre .1 in
-    let to = start .args .to .now in
-    let both = found-and t arm (p .tree) (p .stands) in (
-      omega (arith, start .pre .0, node-some (p .stands), left-at both),
-      and-fits to (start .args .cut) both (p .ends) (arm .before .before .before .if1 .left) (c .before .if2 .left) (start .args .out .now)
-          (p .room),
-    )
 
 and-returns : (t : ℕ) → node-lts.Need-returns-4 (node-claims t) (node-at t) node.Post
 and-returns t c = λ u stands ends.
@@ -147,25 +90,6 @@ and-returns t c = λ u stands ends.
     copy-and to (start .args .cut) both ends (arm .before .before .before .if1 .left) (other .if2 .left) (start .args .out .now)
     (call .last .0) (room t other) (call .ensures)
 
-and-sum : (t : ℕ) → node-lts.Need-add-t17 (node-claims t) (node-at t) node.Post
-and-sum t c =
-    let start =
-    c .before .before .before .before .before .before .before .before .before .before .before .before .before .before .before .before in
-    let p = start .pre .1 in
-    omega (arith, start .good, p .room, and-returns t c (p .tree) (p .stands) (p .ends) .wrote)
-
-and-long : (t : ℕ) → node-lts.Need-same-length-3 (node-claims t) (node-at t) node.Post
-and-long t c =
-    let other = c .before .before .before .before .before in
-    let out = other .before .before .before .before .before .before .before .before .before .before .before .args .out .now in
-    let call = c .before .before .before .reproject-sides2 in
-    together-length 2 (set (set out 0 2) 1 0) (call .last .0) (simp length-set (room t other)) (call .kept .0) ∙ simp length-set
-
--- ---- both sides
-
-left-side : (t : ℕ) → sides-lts.Need-reproject-remainder-requires (sides-claims t) (sides-at t) sides.Post
-left-side t c κs = let start = c .before .before .before .before in (omega (arith, start .pre .0), left-fits (start .pre .1))
-
 part : (t : ℕ) → sides-lts.Need-part-reproject-remainder-start (sides-claims t) (sides-at t) sides.Post
 part t c =
     let call = c .before .before .reproject-remainder in
@@ -175,63 +99,99 @@ part t c =
       left-wrote (call .last .0) (call .result) (call .ensures) (c .before .before .before .before .before .before .before .pre .1),
     )
 
-right-side : (t : ℕ) → sides-lts.Need-reproject-remainder-requires-2 (sides-claims t) (sides-at t) sides.Post
-right-side t c κs =
-    let start = c .before .before .before .before .before .before .before .before in
-    let call = c .before .before .before .reproject-remainder in
-    let p = start .pre .1 in (
-      omega (arith, start .pre .0, node-some (first-stands (p .stand .row)), left-later (call .last .0) (call .result) (call .ensures) p),
-      right-fits (call .last .0) (call .result) (call .ensures) p (call .kept .0),
-    )
-
 sides-return : (t : ℕ) → sides-lts.Need-returns (sides-claims t) (sides-at t) sides.Post
 sides-return t c =
     let one = c .before .before .before .before .before .before .before .reproject-remainder in
     let two = c .before .before .before .reproject-remainder2 in
     copy-sides (one .last .0) (one .result) (one .ensures) (two .last .0) (two .result) (two .ensures)
 
-sides-sum : (t : ℕ) → sides-lts.Need-add-t13 (sides-claims t) (sides-at t) sides.Post
-sides-sum t c =
-    let start = c .before .before .before .before .before .before .before .before .before .before .before .before in
-    let p = start .pre .1 in
-    omega (arith, start .good, p .room, sides-return t c (p .l) (p .r) (p .stand) .wrote)
-
-sides-long : (t : ℕ) → sides-lts.Need-same-length (sides-claims t) (sides-at t) sides.Post
-sides-long t c =
-    let start = c .before .before .before .before .before .before .before .before .before .before .before .before in
-    let one = c .before .before .before .before .before .before .before .reproject-remainder in
-    let two = c .before .before .before .reproject-remainder2 in
-    let fits = left-wrote (one .last .0) (one .result) (one .ensures) (start .pre .1) in
-    together-length (one .result .wrote) (one .last .0) (two .last .0) (omega (arith, one .kept .0)) (two .kept .0) ∙ one .kept .0
-
 pub +reproject-remainder+reproject-sides-spec : {M : Type 1} → statement M
-+reproject-remainder+reproject-sides-spec = close μ-node μ-sides (λ t. node-lts.spec (node-claims t) (node-at t)
-    node.Post
-    (at-the-leaf t)
++reproject-remainder+reproject-sides-spec = close μ-node μ-sides (λ t. node-lts.spec (node-claims t) _ node.Post
+    (λ c t stands ends.
+    let start = c .before .before .before .before .before in
+    copy-leaf (start .args .to .now) (start .args .cut) (start .args .out .now) t (c .if1 .taken) ends)
     (found t)
     (λ c. search needs)
-    (whole t)
+    (λ c κs.
+    let arm = c .before in
+    let start = arm .before .before .before .before .before .before .before in
+    let node = arm .before .node-at in
+    let p = start .pre .1 in
+    let to = start .args .to .now in
+    lone-fits to (start .args .cut) p (arm .before .before .if1 .left)
+    (lone-leaf (p .stands) (node .result) (arm .match .keys2) (node .ensures (indexBelow (length to)) (p .tree) (p .stands))))
     (λ c. c .before .before .reproject-column-references .kept .0)
-    (whole-returns t)
-    (parent-sides t)
+    (λ c t stands ends.
+    let arm = c .before .before .before .before in
+    let start = arm .before .before .before .before .before .before .before in
+    let node = arm .before .node-at in
+    let to = start .args .to .now in
+    copy-lone to (start .args .cut) (arm .before .before .if1 .left)
+    (lone-leaf stands (node .result) (arm .match .keys2) (node .ensures (indexBelow (length to)) t stands))
+    (c .before .before .reproject-column-references .ensures t stands))
+    (λ c κs.
+    let arm = c .before .before .before .before in
+    let start = arm .before .before .before .before .before .before .before .before in
+    let p = start .pre .1 in
+    let to = start .args .to .now in
+    let both = found-and t arm (p .tree) (p .stands) in (
+      omega (arith, start .pre .0, node-some (p .stands), left-at both),
+      parent-fits to (start .args .cut) both (p .ends) (arm .before .before .before .if1 .left) (c .before .if2 .taken) (p .room),
+    ))
     (λ c. c .before .before .reproject-sides .kept .0)
-    (parent-returns t)
+    (λ c u stands ends.
+    let arm = c .before .before .before .before .before .before .before in
+    let start = arm .before .before .before .before .before .before .before .before in
+    let to = start .args .to .now in
+    let both = found-and t arm u stands in
+    copy-parent to (start .args .cut) both ends (arm .before .before .before .if1 .left) (c .before .before .before .before .if2 .taken)
+    (c .before .before .reproject-sides .ensures))
     (λ c. omega (arith, room t c))
     (λ c. simp length-set (omega (arith, room t c)))
     (λ c. simp length-set (omega (arith, room t c)))
     (λ c. simp length-set (omega (arith, room t c)))
     (λ c. search needs)
-    (and-sides t)
-    (and-sum t)
-    (and-long t)
+    (λ c κs.
+    let arm = c .before .before .before .before in
+    let start = arm .before .before .before .before .before .before .before .before in
+    let p = start .pre .1 in
+    let to = start .args .to .now in
+    let both = found-and t arm (p .tree) (p .stands) in (
+      omega (arith, start .pre .0, node-some (p .stands), left-at both),
+      and-fits to (start .args .cut) both (p .ends) (arm .before .before .before .if1 .left) (c .before .if2 .left) (start .args .out .now)
+          (p .room),
+    ))
+    (λ c.
+    let start =
+    c .before .before .before .before .before .before .before .before .before .before .before .before .before .before .before .before in
+    let p = start .pre .1 in
+    omega (arith, start .good, p .room, and-returns t c (p .tree) (p .stands) (p .ends) .wrote))
+    (λ c.
+    let other = c .before .before .before .before .before in
+    let out = other .before .before .before .before .before .before .before .before .before .before .before .args .out .now in
+    let call = c .before .before .before .reproject-sides2 in
+    together-length 2 (set (set out 0 2) 1 0) (call .last .0) (simp length-set (room t other)) (call .kept .0) ∙ simp length-set)
     (and-returns t))
-    λ t. sides-lts.spec (sides-claims t) (sides-at t)
-    sides.Post
-    (left-side t)
+    λ t. sides-lts.spec (sides-claims t) _ sides.Post
+    (λ c κs. (omega (arith, c .before .before .before .before .pre .0), left-fits (c .before .before .before .before .pre .1)))
     (part t)
     (part t)
     (λ c. search needs)
-    (right-side t)
-    (sides-sum t)
-    (sides-long t)
+    (λ c κs.
+    let start = c .before .before .before .before .before .before .before .before in
+    let call = c .before .before .before .reproject-remainder in
+    let p = start .pre .1 in (
+      omega (arith, start .pre .0, node-some (first-stands (p .stand .row)), left-later (call .last .0) (call .result) (call .ensures) p),
+      right-fits (call .last .0) (call .result) (call .ensures) p (call .kept .0),
+    ))
+    (λ c.
+    let start = c .before .before .before .before .before .before .before .before .before .before .before .before in
+    let p = start .pre .1 in
+    omega (arith, start .good, p .room, sides-return t c (p .l) (p .r) (p .stand) .wrote))
+    (λ c.
+    let start = c .before .before .before .before .before .before .before .before .before .before .before .before in
+    let one = c .before .before .before .before .before .before .before .reproject-remainder in
+    let two = c .before .before .before .reproject-remainder2 in
+    let fits = left-wrote (one .last .0) (one .result) (one .ensures) (start .pre .1) in
+    together-length (one .result .wrote) (one .last .0) (two .last .0) (omega (arith, one .kept .0)) (two .kept .0) ∙ one .kept .0)
     (sides-return t)

@@ -20,8 +20,8 @@ put-remainder-spec =
     tie.close
     (tie.spec
     room
-    (λ c. search needs)
+    (search needs)
     returns
     (λ c κs. (c .before .before .before .before .before .pre, c .before .if1 .left))
-    (λ c. search needs)
+    (search needs)
     (λ c. c .before .before .replace-join-filter-expr .ensures))

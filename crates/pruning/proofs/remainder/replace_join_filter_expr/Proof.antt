@@ -67,16 +67,16 @@ pub replace-join-filter-expr-spec : {M : Type 1} → statement M
 replace-join-filter-expr-spec =
     tie.close
     (tie.spec
-    (λ c. search needs)
+    (search needs)
     collected
-    (λ c. search needs)
-    (λ c. search needs)
+    (search needs)
+    (search needs)
     records
     room
     room
-    (λ c. search needs)
-    (λ c. search needs)
+    (search needs)
+    (search needs)
     expression
     add-result
-    (λ c. search needs)
+    (search needs)
     returns)

@@ -1,7 +1,6 @@
 -- `first_match`: in an And, what the left side finds comes first, and the loop goes on with the right side, where the walk of the left
 -- ended.
 -- A call goes to a place further on, so the measure is the bytes left.
-use Rattle.expression.proofs.Cycles.{below}
 use lib.ListN.{length}
 use Rattle.argument_sides.proofs.Framing.{framed-tree}
 use Rattle.spatial_expr_utils.proofs.Nodes.{single-leaf}
@@ -12,8 +11,8 @@ use borrow.Fn.PlainCycle.{Measures}
 use Rattle.spatial_expr_utils.proofs.pick.first_match.Reads as first-match
 use Rattle.spatial_expr_utils.proofs.pick.first_match.Kinds as first-match-kinds
 use Rattle.spatial_expr_utils.proofs.pick.+first_match.Lts-first_match as first-match-lts
-use Rattle.expression.proofs.leaves.node_at.Reads as node-at-reads
-use Rattle.spatial_expr_utils.proofs.pick.leaf_match.Reads as leaf-match-reads
+use Rattle.expression.proofs.leaves.node_at.Reads as node-at
+use Rattle.spatial_expr_utils.proofs.pick.leaf_match.Reads as leaf-match
 use Rattle.spatial_expr_utils.proofs.pick.+first_match.{statement}
 use Rattle.spatial_expr_utils.proofs.pick.+first_match.Tie.{close}
 
@@ -27,14 +26,8 @@ abbrev μ-loop : first-match-lts.MeasureT-loop
 μ-loop s rec at wanted position parent next₀ count₀ up₀ next count up = length s - next
 
 pub +first-match-spec : {M : Type 1} → statement M
-+first-match-spec = close μ-first-match λ t. first-match-lts.spec (
-  node-at-reads.Asked,
-  node-at-reads.Learnt,
-  leaf-match-reads.Asked,
-  leaf-match-reads.Learnt,
-  below 1 first-match-kinds.ps μ-first-match first-match.Pre t,
-  first-match.Post,
-) _ first-match.Post
++first-match-spec = close μ-first-match λ t. first-match-lts.spec
+    (_, node-at.Learnt, _, leaf-match.Learnt, _, first-match.Post) _ first-match.Post
     Inv-loop
     μ-loop
     (λ c. along-begins (c .before .pre .1 .0) (c .before .pre .1 .1))
