@@ -1,24 +1,23 @@
 -- What an exchange is, once the held plan and the scratch's length are known.
 use Prim.Native.Nat.{ℕ, _≤_, _<_}
 use native.Mathlib.Omega.{arith}
-use mathlib.Core.Path.{_≡_, refl, ap, _∙_}
+use mathlib.Core.Path.{_≡_, refl, sym, ap, _∙_}
 use mathlib.Core.Bool.{Bool, true, false}
 use mathlib.Core.List.{List, _++_}
 use lib.ListN.{length, take, drop}
 use lib.Dec.{leb}
 use borrow.Author.Tests.{le-leb, lt-leb}
 use Rattle.definitions.specs.Basics.{if_then_else_, Result, ok, refused}
-use Rattle.definitions.specs.Expression.{Frame, Extraction, Plan, empty, held, extracted}
+use Rattle.definitions.specs.Expression.{Plan, empty, held, extracted}
 use Rattle.definitions.specs.Encode.{planBytes}
 use Rattle.definitions.specs.Plans.{planOf}
 use Rattle.definitions.specs.Exchange.{exchangePlan}
 use Rattle.definitions.specs.Calls.{finish, newAfterExchange, exchange}
 use Rattle.definitions.specs.Good.{AllBytes}
-use Rattle.frame_reader.specs.Frames.{FrameAt}
-use Rattle.plan_reader.specs.Plans.{ExtractionAt}
-use Rattle.frame_reader.specs.declared.frames.Frame as places
-use Rattle.plan_reader.specs.declared.held_plans.Extraction.{Extraction as Places}
-use Rattle.plan_exchange.specs.Exchanged.{HeldPlan, PlanIs}
+use Rattle.plan_reader.specs.declared.held_plans.Held.{Held}
+use Rattle.plan_reader.specs.declared.held_plans.Held.the-variants as there
+use Rattle.plan_exchange.specs.Exchanged.{PlanAt, HeldPlan, PlanIs}
+use Rattle.call_exchange.specs.Holding.{HoldsPlan}
 use Rattle.join_filter.proofs.Refusing.{exchange-call, refuses, outcome}
 use Rattle.join_filter.proofs.Keeping.{plan-length, held-is, plan-size, kept, kept-over}
 
@@ -55,23 +54,26 @@ module _ (n : ℕ) (before scratch : List ℕ) (fits : n ≤ length before) (p :
       by-test true (le-leb n (length scratch) h)
       ∙ rw (← (x .size), ← (x .buffer), kept-over n before fits scratch scratchAfter copied) refl
 
--- ---- what the writers require
+-- ---- what the writer requires
 
-module _ (n : ℕ) (before scratch after : List ℕ) (fits : n ≤ length before) (bytes : AllBytes before)
+-- What stands there is a frame or an extraction.
+exchangeable : (s : List ℕ) (h : Held) (end : ℕ) (p : Plan) → PlanAt s h end p → Exchangeable p
+exchangeable s there.Empty end p stands = absurd stands
+exchangeable s (there.Frame f) end p stands = rw (stands .1) tt
+exchangeable s (there.Extraction x) end p stands = rw (stands .1) tt
+exchangeable s there.Bad end p stands = absurd stands
+
+pub is-exchangeable : {n : ℕ} {before : List ℕ} {h : Held} → (holds : HoldsPlan n before h) → Exchangeable (holds .it)
+is-exchangeable {n} {before} {h} holds = exchangeable (take n before) h (length (take n before)) (holds .it) (holds .stands)
+
+module _ {n : ℕ} {before : List ℕ} {h : Held} (holds : HoldsPlan n before h) (scratch after : List ℕ)
     (copied : after ≡ take n (drop 0 before) ++ drop n scratch) where
-  pub frame-kept : {f : places.Frame} {F : Frame} → FrameAt (take n before) f (length (take n before)) F → FrameAt (take n after) f n F
-  frame-kept stands = rw (kept n before fits scratch after copied) (rw (plan-length n before fits) at stands)
+  pub copy-length : n ≡ length (take n after)
+  copy-length = sym (ap length (kept n before (holds .fits) scratch after copied) ∙ plan-length n before (holds .fits))
 
-  pub frame-held : {f : places.Frame} {F : Frame} → FrameAt (take n before) f (length (take n before)) F
-      → planOf (take n before) ≡ ok (held F)
-      → HeldPlan (FrameAt (take n after) f n) held before
-  frame-held {f} {F} stands is = record { it = F; stands = frame-kept stands; room = omega (arith, plan-size n before fits bytes is .0) }
+  pub still-there : PlanAt (take n after) h n (holds .it)
+  still-there = rw (kept n before (holds .fits) scratch after copied) (rw (plan-length n before (holds .fits)) at (holds .stands))
 
-  pub extraction-kept : {x : Places} {X : Extraction} → ExtractionAt (take n before) x (length (take n before)) X
-      → ExtractionAt (take n after) x n X
-  extraction-kept stands = rw (kept n before fits scratch after copied) (rw (plan-length n before fits) at stands)
-
-  pub extraction-held : {x : Places} {X : Extraction} → ExtractionAt (take n before) x (length (take n before)) X
-      → planOf (take n before) ≡ ok (extracted X) → HeldPlan (ExtractionAt (take n after) x n) extracted before
-  extraction-held {x} {X} stands is =
-      record { it = X; stands = extraction-kept stands; room = omega (arith, plan-size n before fits bytes is .0) }
+  pub held-there : AllBytes before → HeldPlan (PlanAt (take n after) h n) before
+  held-there bytes =
+      record { it = holds .it; stands = still-there; room = omega (arith, plan-size n before (holds .fits) bytes (holds .is) .0) }

@@ -15,19 +15,28 @@ use Rattle.plan_exchange.specs.Exchanged.{frameExchanged, extractionExch
 as-long : (p : Plan) (x : List ℕ) → planBytes (exchangePlan p) ≡ x → length x ≡ length (planBytes p)
 as-long p x is = rw (← is) (plan-as-long p)
 
-module _ {A : Type 0} {At : A → Type 0} (plan : A → Plan) {bytes : A → List ℕ}
-    (is : (a : A) → planBytes (exchangePlan (plan a)) ≡ bytes a) where
-  pub held-room : {buffer : List ℕ} → HeldPlan At plan buffer → Room At bytes 0 buffer
+-- What stands there is a plan of one sort.
+module _ {There : Plan → Type 0} {A : Type 0} (plan : A → Plan) {At : A → Type 0} {bytes : A → List ℕ}
+    (is : (a : A) → planBytes (exchangePlan (plan a)) ≡ bytes a)
+    (sort : (p : Plan) → There p → (a : A) × (p ≡ plan a) × At a) where
+  pub held-room : {buffer : List ℕ} → HeldPlan There buffer → Room At bytes 0 buffer
   held-room p =
-      record { it = p .it; stands = p .stands; room = omega (arith, p .room, as-long (plan (p .it)) (bytes (p .it)) (is (p .it))) }
+      let of = sort (p .it) (p .stands) in
+      record {
+        it = of .0;
+        stands = of .2;
+        room = omega (arith, rw (of .1) at (p .room), as-long (plan (of .0)) (bytes (of .0)) (is (of .0)));
+      }
 
-  pub held-put : {before after : List ℕ} {r : ℕ} → Puts At bytes before after r → ExchangedPlan At plan before after r
+  pub held-put : {before after : List ℕ} {r : ℕ} → Puts At bytes before after r → ExchangedPlan There before after r
   unfolding writtenOver
-  held-put p a h = record {
-    size = rw (is a) (p .size a h);
-    kept = p .size a h ∙ as-long (plan a) (bytes a) (is a);
-    buffer = rw (is a) (p .wrote a h);
-  }
+  held-put put p stands =
+      let of = sort p stands in
+      rw (of .1) (record {
+        size = rw (is (of .0)) (put .size (of .0) (of .2));
+        kept = put .size (of .0) (of .2) ∙ as-long (plan (of .0)) (bytes (of .0)) (is (of .0));
+        buffer = rw (is (of .0)) (put .wrote (of .0) (of .2));
+      })
 
 pub frame-plan : (F : Frame) → planBytes (exchangePlan (held F)) ≡ frameExchanged F
 unfolding planBytes exchangePlan

@@ -4,10 +4,14 @@ use mathlib.Core.Path.{_≡_}
 use mathlib.Core.List.{List, map}
 use mathlib.Core.Option.{Option, Option·map}
 use lib.ListN.{length}
-use Rattle.definitions.specs.Expression.{Record, Frame, Extraction, Plan}
+use Rattle.definitions.specs.Expression.{Record, Frame, Extraction, Plan, held, extracted}
 use Rattle.definitions.specs.Encode.{recordsBytes, frameBytes, remainderBytes, extractionBytes, planBytes}
 use Rattle.definitions.specs.Exchange.{exchangeRecord, exchangeFrame, exchangeExtraction, exchangePlan}
 use Rattle.definitions.specs.Calls.{writtenOver}
+use Rattle.frame_reader.specs.Frames.{FrameAt}
+use Rattle.plan_reader.specs.Plans.{ExtractionAt}
+use Rattle.plan_reader.specs.declared.held_plans.Held.{Held}
+use Rattle.plan_reader.specs.declared.held_plans.Held.the-variants as there
 
 -- The bytes of what is exchanged.
 abbrev pub recordsExchanged : List Record → List ℕ
@@ -22,11 +26,18 @@ remainderExchanged R = remainderBytes (Option·map exchangeFrame R)
 abbrev pub extractionExchanged : Extraction → List ℕ
 extractionExchanged X = extractionBytes (exchangeExtraction X)
 
--- A plan of this sort stands at its places, and the buffer is at least as long.
-pub record HeldPlan {A : Type 0} (At : A → Type 0) (plan : A → Plan) (buffer : List ℕ) : Type 0 where
-  pub it : A
+-- The plan p, a frame or an extraction, stands in s up to `end`.
+abbrev pub PlanAt : List ℕ → Held → (end : ℕ) → Plan → Type 0
+PlanAt s there.Empty end p = ⊥
+PlanAt s (there.Frame f) end p = (F : Frame) × (p ≡ held F) × FrameAt s f end F
+PlanAt s (there.Extraction x) end p = (X : Extraction) × (p ≡ extracted X) × ExtractionAt s x end X
+PlanAt s there.Bad end p = ⊥
+
+-- A plan stands there, and the buffer is at least as long.
+pub record HeldPlan (At : Plan → Type 0) (buffer : List ℕ) : Type 0 where
+  pub it : Plan
   pub stands : At it
-  pub room : length (planBytes (plan it)) ≤ length buffer
+  pub room : length (planBytes it) ≤ length buffer
 
 -- The exchange of a plan was written over the buffer's start; the answer is its length, which is that of the old plan.
 pub record PlanIs (p : Plan) (before after : List ℕ) (answer : ℕ) : Type 0 where
@@ -35,5 +46,5 @@ pub record PlanIs (p : Plan) (before after : List ℕ) (answer : ℕ) : Type 0 w
   pub buffer : after ≡ writtenOver (planBytes (exchangePlan p)) before
 
 -- That of each that stands there was.
-abbrev pub ExchangedPlan : {A : Type 0} → (A → Type 0) → (A → Plan) → (before after : List ℕ) → ℕ → Type 0
-ExchangedPlan {A = A} At plan before after answer = (a : A) → At a → PlanIs (plan a) before after answer
+abbrev pub ExchangedPlan : (Plan → Type 0) → (before after : List ℕ) → ℕ → Type 0
+ExchangedPlan At before after answer = (p : Plan) → At p → PlanIs p before after answer

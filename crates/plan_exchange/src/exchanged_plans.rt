@@ -1,15 +1,13 @@
 // A held plan exchanged: written over the plan's start from a copy of the old plan, which ends at `end`.
 use crate::exchanged_frames::put_frame_exchanged;
 use crate::exchanged_frames::put_remainder_exchanged;
-use frame_reader::frames::Frame;
 use plan_reader::held_plans::Extraction;
+use plan_reader::held_plans::Held;
 use plan_writer::arguments::ColumnIndexes;
 use plan_writer::put_predicate::put_predicate;
-ghost use Rattle.definitions.specs.Expression.{held, extracted};
-ghost use Rattle.frame_reader.specs.Frames.{FrameAt};
 ghost use Rattle.writing.specs.Writing.{Room, Puts};
 ghost use Rattle.plan_reader.specs.Plans.{ExtractionAt};
-ghost use Rattle.plan_exchange.specs.Exchanged.{extractionExchanged, HeldPlan, ExchangedPlan};
+ghost use Rattle.plan_exchange.specs.Exchanged.{extractionExchanged, PlanAt, HeldPlan, ExchangedPlan};
 
 // The extraction exchanged, its remainder where the predicate ended.
 fn put_extraction_exchanged(out: &mut [u8], src: &[u8], x: Extraction, end: usize) -> usize
@@ -24,18 +22,15 @@ fn put_extraction_exchanged(out: &mut [u8], src: &[u8], x: Extraction, end: usiz
     w + put_remainder_exchanged(&mut out[w..], src, rest, end)
 }
 
-// A held frame: answers its length.
-pub fn exchange_frame(plan: &mut [u8], src: &[u8], f: Frame, end: usize) -> usize
-    requires { ⌜ HeldPlan (FrameAt (now src) f end) held (now plan) ⌝ }
-    ensures { λ r. ⌜ ExchangedPlan (FrameAt (now (src .entry)) f end) held (now (plan .entry)) (now (plan .exit)) r ⌝ }
+// A held frame or extraction: answers its length. No other plan is exchanged.
+pub fn exchange_plan(plan: &mut [u8], src: &[u8], held: Held, end: usize) -> usize
+    requires { ⌜ HeldPlan (PlanAt (now src) held end) (now plan) ⌝ }
+    ensures { λ r. ⌜ ExchangedPlan (PlanAt (now (src .entry)) held end) (now (plan .entry)) (now (plan .exit)) r ⌝ }
 {
-    put_frame_exchanged(plan, src, f, end)
-}
-
-// A held extraction: answers its length.
-pub fn exchange_extraction(plan: &mut [u8], src: &[u8], x: Extraction, end: usize) -> usize
-    requires { ⌜ HeldPlan (ExtractionAt (now src) x end) extracted (now plan) ⌝ }
-    ensures { λ r. ⌜ ExchangedPlan (ExtractionAt (now (src .entry)) x end) extracted (now (plan .entry)) (now (plan .exit)) r ⌝ }
-{
-    put_extraction_exchanged(plan, src, x, end)
+    match held {
+        Held::Frame(f) => put_frame_exchanged(plan, src, f, end),
+        Held::Extraction(x) => put_extraction_exchanged(plan, src, x, end),
+        Held::Empty => 0,
+        Held::Bad => 0,
+    }
 }
