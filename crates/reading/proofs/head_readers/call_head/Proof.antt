@@ -1,8 +1,4 @@
 -- Name length, name and argument count, each from where the last ended, and then so many arguments.
-use Rattle.definitions.specs.Readers.{repeat, byteBetween}
-use Rattle.reading.specs.declared.field_readers.Skipped.the-variants.{To}
-use Rattle.reading.specs.declared.field_readers.Field.the-variants.{Value}
-use Rattle.reading.specs.Fields.{FieldIs, SkippedIs}
 use mathlib.Core.Path.{_∙_}
 use Rattle.definitions.specs.Expression.{call}
 use Rattle.definitions.specs.Decode.{callNode}
@@ -11,45 +7,61 @@ use borrow.Author.Needs.{needs}
 use Rattle.reading.proofs.head_readers.call_head.Statement.{statement}
 use Rattle.reading.proofs.head_readers.call_head.Tie as tie
 
--- The name's length was read, and the name.
-size : (p : tie.After-size)
-    → let a = p .before .before .before .before .args in
-    let read = p .size .given .0 in FieldIs (a .s .now) (a .at) (Value (read .0) (read .1 .0)) (byteBetween 1 32)
-size p = rw (p .size .given .1) at (p .before .before .byte-between .ensures)
+name-bytes-requires : tie.Need-name-bytes-requires
+name-bytes-requires c κs = (rw (c .before .size .given .1) at (c .before .before .before .byte-between .ensures)) .0
 
-name : (p : tie.After-arguments)
-    → let q = p .before .before .before .before in
-    let read = q .size .given .0 in
-    SkippedIs (q .before .before .before .before .args .s .now) (read .1 .0) (To (p .arguments .given .0 .0))
-    (repeat (read .0) (byteBetween 33 126))
-name p = rw (p .arguments .given .1) at (p .before .before .name-bytes .ensures)
+byte-up-to-requires : tie.Need-byte-up-to-requires
+byte-up-to-requires c κs = (rw (c .before .arguments .given .1) at (c .before .before .before .name-bytes .ensures)) .0
+
+returns : tie.Need-returns
+unfolding callNode
+returns c child n = halts _ ((rw (c .before .why .given .1) at (c .before .before .before .byte-between .ensures)) n)
+
+returns-2 : tie.Need-returns-2
+unfolding callNode
+returns-2 c child n =
+    let at-why2 = c .before in
+    let at-size = at-why2 .before .before .before .before in
+    let size = rw (at-size .size .given .1) at (at-size .before .before .byte-between .ensures) in
+    let stop = rw (at-why2 .why2 .given .1) at (at-why2 .before .before .name-bytes .ensures) in
+    after _ (size .1 n) ∙ halts _ (stop n)
+
+returns-3 : tie.Need-returns-3
+unfolding callNode
+returns-3 c child n =
+    let at-why3 = c .before in
+    let at-arguments = at-why3 .before .before .before .before in
+    let at-size = at-arguments .before .before .before .before in
+    let size = rw (at-size .size .given .1) at (at-size .before .before .byte-between .ensures) in
+    let name = rw (at-arguments .arguments .given .1) at (at-arguments .before .before .name-bytes .ensures) in
+    let stop = rw (at-why3 .why3 .given .1) at (at-why3 .before .before .byte-up-to .ensures) in
+    after _ (size .1 n) ∙ after _ (name .2 n) ∙ halts _ (stop n)
 
 returns-4 : tie.Need-returns-4
 unfolding callNode
 returns-4 c =
-    let named = name (c .before .before .before .before .before) in
-    let sized = size (c .before .before .before .before .before .before .before .before .before) in
-    let many = rw (c .before .many .given .1) at (c .before .before .before .byte-up-to .ensures) in
-    (many .0, call (named .1), λ child n. after _ (sized .1 n) ∙ after _ (named .2 n) ∙ after _ (many .1 n))
+    let at-many = c .before in
+    let at-arguments = at-many .before .before .before .before in
+    let at-size = at-arguments .before .before .before .before in
+    let size = rw (at-size .size .given .1) at (at-size .before .before .byte-between .ensures) in
+    let name = rw (at-arguments .arguments .given .1) at (at-arguments .before .before .name-bytes .ensures) in
+    let many = rw (at-many .many .given .1) at (at-many .before .before .byte-up-to .ensures) in
+    (many .0, call (name .1), λ child n. after _ (size .1 n) ∙ after _ (name .2 n) ∙ after _ (many .1 n))
 
 pub call-head-spec : {M : Type 1} → statement M
-unfolding callNode
 call-head-spec =
     tie.close
     (tie.spec
-    (search needs)
-    (search needs)
-    (search needs)
-    (λ c κs. size (c .before) .0)
-    (search needs)
-    (search needs)
-    (λ c κs. name (c .before) .0)
-    (search needs)
-    (search needs)
-    (λ c child n. halts _ ((rw (c .before .why .given .1) at (c .before .before .before .byte-between .ensures)) n))
-    (λ c child n. after _ (size (c .before .before .before .before .before) .1 n)
-    ∙ halts _ ((rw (c .before .why2 .given .1) at (c .before .before .before .name-bytes .ensures)) n))
-    (λ c child n. after _ (size (c .before .before .before .before .before .before .before .before .before) .1 n)
-    ∙ after _ (name (c .before .before .before .before .before) .2 n)
-    ∙ halts _ ((rw (c .before .why3 .given .1) at (c .before .before .before .byte-up-to .ensures)) n))
+    (λ c κs. search needs)
+    (λ c. search needs)
+    (λ c. search needs)
+    name-bytes-requires
+    (λ c. search needs)
+    (λ c. search needs)
+    byte-up-to-requires
+    (λ c. search needs)
+    (λ c. search needs)
+    returns
+    returns-2
+    returns-3
     returns-4)
