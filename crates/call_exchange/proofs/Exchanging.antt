@@ -14,6 +14,7 @@ use Rattle.definitions.specs.Plans.{planOf}
 use Rattle.definitions.specs.Exchange.{exchangePlan}
 use Rattle.definitions.specs.Calls.{finish, newAfterExchange, exchange}
 use Rattle.definitions.specs.Good.{AllBytes}
+use Rattle.plan_reader.specs.Plans.{HeldIs}
 use Rattle.plan_reader.specs.declared.held_plans.Held.{Held}
 use Rattle.plan_reader.specs.declared.held_plans.Held.the-variants as there
 use Rattle.plan_exchange.specs.Exchanged.{PlanAt, HeldPlan, PlanIs}
@@ -55,6 +56,23 @@ module _ (n : ℕ) (before scratch : List ℕ) (fits : n ≤ length before) (p :
       ∙ rw (← (x .size), ← (x .buffer), kept-over n before fits scratch scratchAfter copied) refl
 
 -- ---- what the writer requires
+
+-- Whether what was read can be exchanged.
+abbrev pub Taken : Held → Type 0
+Taken there.Empty = ⊥
+Taken (there.Frame f) = Unit {0}
+Taken (there.Extraction x) = Unit {0}
+Taken there.Bad = ⊥
+
+-- A frame or an extraction that was read is held.
+pub holds-of : (n : ℕ) (before : List ℕ) (h : Held) → n ≤ length before → HeldIs (take n before) h (planOf (take n before)) → Taken h
+    → HoldsPlan n before h
+holds-of n before there.Empty fits good t = absurd t
+holds-of n before (there.Frame f) fits good t =
+    record { it = held (good .0); fits = fits; stands = (good .0, refl, good .1); is = good .2 }
+holds-of n before (there.Extraction x) fits good t =
+    record { it = extracted (good .0); fits = fits; stands = (good .0, refl, good .1); is = good .2 }
+holds-of n before there.Bad fits good t = absurd t
 
 -- What stands there is a frame or an extraction.
 exchangeable : (s : List ℕ) (h : Held) (end : ℕ) (p : Plan) → PlanAt s h end p → Exchangeable p

@@ -1,9 +1,9 @@
 -- Each refusal is the definition's; a held frame or extraction is exchanged.
 use borrow.Author.Needs.{needs}
-use mathlib.Core.Path.{sym, refl}
-use Rattle.definitions.specs.Expression.{held, extracted}
+use mathlib.Core.Path.{sym}
 use Rattle.join_filter.proofs.Keeping.{plan-length}
 use Rattle.join_filter.proofs.Refusing.{exchange-call, no-room-for-n, no-plan, empty-plan}
+use Rattle.call_exchange.proofs.Exchanging.{holds-of}
 use Rattle.call_exchange.proofs.exchange.Statement.{statement}
 use Rattle.call_exchange.proofs.exchange.Tie as tie
 
@@ -13,30 +13,6 @@ returns c = let a = c .before .before .before .args in no-room-for-n exchange-ca
 slice-aggregate-held-plan : tie.Need-slice-aggregate-held-plan
 slice-aggregate-held-plan c =
     let a = c .before .before .before .before .args in sym (plan-length (a .n) (a .plan .now) (c .before .if1 .left))
-
-exchange-held-requires : tie.Need-exchange-held-requires
-exchange-held-requires c κs =
-    let told = c .before .before in
-    let read = told .before .before in
-    let good = rw (told .enum-told3 .given .1) at (read .held-plan .ensures) in
-    record {
-      it = held (good .0);
-      fits = read .before .before .if1 .left;
-      stands = rw (told .enum-told3 .given .1) (good .0, refl, good .1);
-      is = good .2;
-    }
-
-exchange-held-requires-2 : tie.Need-exchange-held-requires-2
-exchange-held-requires-2 c κs =
-    let told = c .before .before in
-    let read = told .before .before in
-    let good = rw (told .enum-told4 .given .1) at (read .held-plan .ensures) in
-    record {
-      it = extracted (good .0);
-      fits = read .before .before .if1 .left;
-      stands = rw (told .enum-told4 .given .1) (good .0, refl, good .1);
-      is = good .2;
-    }
 
 returns-2 : tie.Need-returns-2
 returns-2 c =
@@ -63,9 +39,15 @@ exchange-spec =
     (search needs)
     (search needs)
     (search needs)
-    exchange-held-requires
+    (λ c κs.
+    let told = c .before .before in
+    let read = told .before .before in
+    holds-of _ _ _ (read .before .before .if1 .left) (read .held-plan .ensures) (rw (told .enum-told3 .given .1) tt))
     (search needs)
-    exchange-held-requires-2
+    (λ c κs.
+    let told = c .before .before in
+    let read = told .before .before in
+    holds-of _ _ _ (read .before .before .if1 .left) (read .held-plan .ensures) (rw (told .enum-told4 .given .1) tt))
     (search needs)
     returns-2
     (search needs)
