@@ -14,11 +14,11 @@ use Rattle.spatial_expr_utils.specs.declared.pick.Pick.{Pick}
 use Rattle.writing.specs.Written.{Wrote}
 use Rattle.writing.specs.Writing.{Room, Puts}
 use Rattle.writing.proofs.Written.{behind, together, behind-length, then-wrote}
-use Rattle.plan_writer.specs.Tables.{Entries, Recorded, Table, childOf, ChildTable}
-use Rattle.plan_writer.specs.Arguments.{changeOf}
+use Rattle.argument_writer.specs.Tables.{Entries, Recorded, Table, childOf, ChildTable}
+use Rattle.argument_writer.specs.Arguments.{changeOf}
 use Rattle.plan_writer.specs.Predicates.{predicateBytes}
-use Rattle.plan_writer.specs.declared.arguments.ColumnIndexes.the-variants.{FromTable}
-use Rattle.plan_writer.proofs.ChildLaws.{by-children}
+use Rattle.argument_writer.specs.declared.arguments.ColumnIndexes.the-variants.{FromTable}
+use Rattle.argument_writer.proofs.ChildLaws.{by-children}
 use Rattle.pruning.specs.Remainders as remainders
 use Rattle.call_extract.specs.Extractions.{Taking, takes, ExtractionFits, ExtractionPut}
 

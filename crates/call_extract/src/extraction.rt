@@ -1,7 +1,7 @@
 // Writes the extraction that takes a pick: its predicate, then its remainder where the predicate ended.
+use argument_writer::arguments::ColumnIndexes;
+use argument_writer::column_tables::child_indexes;
 use frame_reader::frames::Frame;
-use plan_writer::arguments::ColumnIndexes;
-use plan_writer::column_tables::child_indexes;
 use plan_writer::put_predicate::put_predicate;
 use pruning::remainder::put_remainder;
 use spatial_expr_utils::pick::Pick;

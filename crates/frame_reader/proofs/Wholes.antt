@@ -13,12 +13,12 @@ use Rattle.definitions.specs.Readers.{Read, read, stopped, Reader, continue, _>
 use Rattle.definitions.specs.Decode.{indexBelow, oneRecord}
 use Rattle.definitions.specs.Good.{AllBytes}
 use Rattle.definitions.proofs.ReaderLaws.{after, halts, passes, fails}
-use Rattle.reading.specs.declared.field_readers.Field.{Field}
-use Rattle.reading.specs.declared.field_readers.Field.the-variants.{Value, Refused}
-use Rattle.reading.specs.Fields.{FieldIs, ReadsAt}
+use Rattle.field_reader.specs.declared.field_readers.Field.{Field}
+use Rattle.field_reader.specs.declared.field_readers.Field.the-variants.{Value, Refused}
+use Rattle.field_reader.specs.Fields.{FieldIs, ReadsAt}
 use Rattle.reading.specs.Places.{ExprAt}
 use Rattle.frame_reader.specs.Frames.{FrameAt, firstOf, opening}
-use Rattle.reading.proofs.Reading.{within, below, above}
+use Rattle.field_reader.proofs.Reading.{within, below, above}
 use Rattle.frame_reader.proofs.Recorded.{recorded}
 use Rattle.reading.proofs.Standing.{bytes-from, between}
 

@@ -6,7 +6,7 @@ use Rattle.definitions.specs.Readers.{Reader}
 use Rattle.definitions.specs.Expression as tree
 use Rattle.terms.specs.Refusals.{numberOf}
 use Rattle.terms.specs.Sides.{joinSide}
-use Rattle.reading.specs.Fields.{StopsAt, ReadsAt}
+use Rattle.field_reader.specs.Fields.{StopsAt, ReadsAt}
 use Rattle.frame_reader.specs.declared.column_records.Sided.{Sided}
 use Rattle.frame_reader.specs.declared.column_records.Sided.the-variants as sided
 

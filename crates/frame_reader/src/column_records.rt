@@ -1,11 +1,11 @@
 // The records of columns.
-use reading::field_readers::Field;
-use reading::field_readers::Skipped;
-use reading::field_readers::Sort;
-use reading::field_readers::Two;
-use reading::field_readers::byte_up_to;
-use reading::field_readers::number;
-use reading::field_readers::two_fields;
+use field_reader::field_readers::Field;
+use field_reader::field_readers::Skipped;
+use field_reader::field_readers::Sort;
+use field_reader::field_readers::Two;
+use field_reader::field_readers::byte_up_to;
+use field_reader::field_readers::number;
+use field_reader::field_readers::two_fields;
 use terms::refusals::Refusal;
 use terms::sides::JoinSide;
 use terms::sides::side_numbered;
@@ -13,7 +13,7 @@ ghost use Prim.Native.Nat.{_≤_};
 ghost use lib.ListN.{length};
 ghost use Rattle.definitions.specs.Readers as readers;
 ghost use Rattle.definitions.specs.Decode as decode;
-ghost use Rattle.reading.specs.Fields.{FieldIs, SkippedIs};
+ghost use Rattle.field_reader.specs.Fields.{FieldIs, SkippedIs};
 ghost use Rattle.frame_reader.specs.Records.{SideIs};
 
 // A side and the place after it.

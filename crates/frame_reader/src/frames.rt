@@ -1,11 +1,11 @@
 // Whole frames, physical and logical, the arity of AND-leaves included.
 use crate::column_records::record_count;
 use crate::column_records::records;
+use field_reader::field_readers::Field;
+use field_reader::field_readers::Skipped;
+use field_reader::field_readers::byte;
 use leaf_arity::arity::Arity;
 use leaf_arity::arity::check_arity;
-use reading::field_readers::Field;
-use reading::field_readers::Skipped;
-use reading::field_readers::byte;
 use reading::head_readers::Columns;
 use reading::walk::Walked;
 use reading::walk::expression;
@@ -17,7 +17,7 @@ ghost use Rattle.definitions.specs.Decode as decode;
 ghost use Rattle.definitions.specs.Leaves.{arity};
 ghost use Rattle.definitions.specs.Plans as plans;
 ghost use Rattle.expression.specs.Nodes.{Tree, OfTree};
-ghost use Rattle.reading.specs.Fields.{FieldIs, SkippedIs};
+ghost use Rattle.field_reader.specs.Fields.{FieldIs, SkippedIs};
 ghost use Rattle.frame_reader.specs.Frames.{BodyIs, PhysicalIs, LogicalIs, firstOf, opening};
 
 // A physical frame: how many records it has, where they start, and where its expression does.

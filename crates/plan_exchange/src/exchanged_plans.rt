@@ -1,9 +1,9 @@
 // A held plan exchanged: written over the plan's start from a copy of the old plan, which ends at `end`.
 use crate::exchanged_frames::put_frame_exchanged;
 use crate::exchanged_frames::put_remainder_exchanged;
+use argument_writer::arguments::ColumnIndexes;
 use plan_reader::held_plans::Extraction;
 use plan_reader::held_plans::Held;
-use plan_writer::arguments::ColumnIndexes;
 use plan_writer::put_predicate::put_predicate;
 ghost use Rattle.writing.specs.Writing.{Room, Puts};
 ghost use Rattle.plan_reader.specs.Plans.{ExtractionAt};

@@ -1,6 +1,6 @@
 // Held plans: nothing, a physical frame, or an extraction.
-use crate::held_predicates::Predicated;
-use crate::held_predicates::predicate_of_kind;
+use field_reader::field_readers::Field;
+use field_reader::field_readers::byte;
 use frame_reader::frames::Body;
 use frame_reader::frames::Frame;
 use frame_reader::frames::Physical;
@@ -8,8 +8,8 @@ use frame_reader::frames::enough_arguments;
 use frame_reader::frames::first_byte;
 use frame_reader::frames::frame_body;
 use frame_reader::frames::physical_frame;
-use reading::field_readers::Field;
-use reading::field_readers::byte;
+use predicate_reader::held_predicates::Predicated;
+use predicate_reader::held_predicates::predicate_of_kind;
 use sedona_query_planner::spatial_predicate::SpatialPredicate;
 use terms::refusals::Refusal;
 ghost use Prim.Native.Nat.{_≤_};

@@ -1,3 +1,2 @@
 // Reading held plans: what the bytes are, and where the parts stand.
 pub mod held_plans;
-pub mod held_predicates;

@@ -17,10 +17,10 @@ use Rattle.definitions.specs.Good.{InRange}
 use Rattle.definitions.proofs.Taken.{Taken, RestIs, rest-in-range}
 use Rattle.expression.specs.Nodes.{leftOf, rightOf}
 use Rattle.expression.proofs.Standing.{tree-length, head-some}
-use Rattle.pruning.specs.Around.{inside, around, EndsInside, Ends}
+use Rattle.column_references.specs.Around.{inside, around, EndsInside, Ends}
 use Rattle.expression.specs.Cuts.{CutAt, here, inLeft, inRight}
 use Rattle.expression.specs.declared.cuts.Cut.{Cut}
-use Rattle.pruning.proofs.AroundLaws.{leaves-some, no-and, at-leaf, not-leaf, lone-around}
+use Rattle.column_references.proofs.AroundLaws.{leaves-some, no-and, at-leaf, not-leaf, lone-around}
 
 -- An expression has bytes, an And those of its sides and two more.
 size-some : (t : Expr) → 0 < length (exprBytes t)

@@ -10,8 +10,8 @@ use lib.Dec.{ltb, eqb}
 use borrow.Author.Tests.{ltb-true, eqb-true, eqb-false}
 use Rattle.definitions.specs.Basics.{any}
 use Rattle.definitions.specs.Good.{All}
-use Rattle.pruning.specs.References.{marked}
-use Rattle.pruning.specs.Records.{Flags}
+use Rattle.column_references.specs.References.{marked}
+use Rattle.kept_records.specs.Records.{Flags}
 
 -- A flag that is set stays so.
 set-keeps : (flags : List ℕ) (c i : ℕ) → i < length flags → getD flags i 0 ≡ 1 → (b : Bool) → eqb c i ≡ b → getD (set flags c 1) i 0 ≡ 1

@@ -13,17 +13,17 @@ use Rattle.definitions.specs.Match.{columnsOf, mapColumns}
 use Rattle.definitions.specs.Extract.{referenced, newIndex, prune}
 use Rattle.definitions.proofs.Columns.{columns-below}
 use Rattle.writing.specs.Written.{Wrote, WroteAt}
-use Rattle.plan_writer.specs.Copies.{copyOf}
+use Rattle.argument_writer.specs.Copies.{copyOf}
 use Rattle.expression.specs.Cuts.{CutAt}
-use Rattle.pruning.specs.References.{marked, FlaggedAround, RestCollected}
-use Rattle.pruning.specs.Records.{stays, Flags, MarkedBy, keptAll, AllFit, columnsPart, RecordsPut}
+use Rattle.column_references.specs.References.{marked, FlaggedAround, RestCollected}
+use Rattle.kept_records.specs.Records.{stays, Flags, MarkedBy, keptAll, AllFit, columnsPart, RecordsPut}
 use Rattle.pruning.specs.Remainders.{andHead, copyAround, RestFits, RestCopied, FrameAt, remainderOf}
 use Rattle.expression.specs.declared.cuts.Cut.{Cut}
-use Rattle.plan_writer.specs.declared.arguments.Copied.{Copied}
+use Rattle.argument_writer.specs.declared.arguments.Copied.{Copied}
 use Rattle.writing.proofs.Written.{behind, together, behind-length, part-wrote, to-start, chain, store}
-use Rattle.plan_writer.proofs.Ranges.{wider-stands}
-use Rattle.plan_writer.proofs.TableLaws.{table-copies}
-use Rattle.pruning.proofs.AroundLaws.{at-leaf, not-leaf}
+use Rattle.argument_writer.proofs.Ranges.{wider-stands}
+use Rattle.argument_writer.proofs.TableLaws.{table-copies}
+use Rattle.column_references.proofs.AroundLaws.{at-leaf, not-leaf}
 use Rattle.pruning.proofs.CutLaws.{Joins, Remains, nothing-left}
 use Rattle.pruning.proofs.FlagLaws.{no-flag, marked-flags}
 

@@ -12,13 +12,13 @@ use Rattle.expression.specs.Nodes.{Stands}
 use Rattle.expression.specs.Leaves.{Both}
 use Rattle.expression.proofs.Standing.{first-stands, rest-stands, after-node}
 use Rattle.writing.specs.Written.{Wrote}
-use Rattle.plan_writer.specs.Copies.{copyOf, CopyFits, CopyIs}
-use Rattle.pruning.specs.Around.{inside, Ends}
+use Rattle.argument_writer.specs.Copies.{copyOf, CopyFits, CopyIs}
+use Rattle.column_references.specs.Around.{inside, Ends}
 use Rattle.pruning.specs.Remainders.{andHead, copyAround, RestFits, RestCopied, sidesAround, SidesStand, SidesFit, SidesCopied}
 use Rattle.expression.specs.declared.cuts.Cut.{Cut}
-use Rattle.plan_writer.specs.declared.arguments.Copied.{Copied}
+use Rattle.argument_writer.specs.declared.arguments.Copied.{Copied}
 use Rattle.writing.proofs.Written.{behind, together, behind-length, then-wrote, to-start, two-stores}
-use Rattle.pruning.proofs.AroundLaws.{at-leaf, not-leaf, lone-around, left-ends, right-ends, and-size, and-around}
+use Rattle.column_references.proofs.AroundLaws.{at-leaf, not-leaf, lone-around, left-ends, right-ends, and-size, and-around}
 
 -- ---- the leaf, and other AND-leaves
 

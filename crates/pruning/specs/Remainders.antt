@@ -10,12 +10,12 @@ use Rattle.definitions.specs.Decode.{indexBelow}
 use Rattle.definitions.specs.Extract.{without, prune}
 use Rattle.expression.specs.Nodes.{Stands, Row}
 use Rattle.writing.specs.Written.{Wrote}
-use Rattle.plan_writer.specs.Tables.{Entries}
-use Rattle.plan_writer.specs.Copies.{copyOf, CopyIs}
-use Rattle.pruning.specs.Around.{unless, around, Ends}
+use Rattle.argument_writer.specs.Tables.{Entries}
+use Rattle.argument_writer.specs.Copies.{copyOf, CopyIs}
+use Rattle.column_references.specs.Around.{unless, around, Ends}
 use Rattle.expression.specs.Cuts.{CutAt}
 use Rattle.expression.specs.declared.cuts.Cut.{Cut}
-use Rattle.plan_writer.specs.declared.arguments.Copied.{Copied}
+use Rattle.argument_writer.specs.declared.arguments.Copied.{Copied}
 
 -- The head of an And at a place; the leaf's parent has none.
 abbrev pub andHead : Cut → (place : ℕ) → List ℕ

@@ -3,13 +3,13 @@
 // rust/sedona-query-planner/src/spatial_expr_utils.rs.
 ghost use mathlib.Core.Path.{_≡_};
 ghost use Rattle.pruning.specs.Remainders.{RestFits, RestCopied, SidesFit, SidesCopied, RemainderFits, RemainderPut};
-use super::kept_records::put_records;
-use super::references::collect_remainder;
+use argument_writer::arguments::Copied;
+use argument_writer::arguments::reproject_column_references;
+use column_references::references::collect_remainder;
 use expression::cuts::Cut;
 use expression::leaves::Node;
 use expression::leaves::node_at;
-use plan_writer::arguments::Copied;
-use plan_writer::arguments::reproject_column_references;
+use kept_records::kept_records::put_records;
 
 // Writes the expression at a place without the leaf and its parent's head, its columns renumbered.
 fn reproject_remainder(out: &mut [u8], src: &[u8], at: usize, to: &[u16], cut: Cut) -> Copied

@@ -1,8 +1,4 @@
 -- Laws that several proofs use.
-pub mod Reading
-pub mod Numbers
-pub mod Repeats
-pub mod NameBytes
 pub mod Children
 pub mod Walks
 pub mod Standing

@@ -1,20 +1,20 @@
 // A node's head: its kind, and the fields before its children.
-use crate::field_readers::Field;
-use crate::field_readers::Skipped;
-use crate::field_readers::Sort;
-use crate::field_readers::Two;
-use crate::field_readers::byte;
-use crate::field_readers::byte_between;
-use crate::field_readers::byte_up_to;
-use crate::field_readers::name_bytes;
-use crate::field_readers::two_fields;
 use expression::literals::literal_in_range;
+use field_reader::field_readers::Field;
+use field_reader::field_readers::Skipped;
+use field_reader::field_readers::Sort;
+use field_reader::field_readers::Two;
+use field_reader::field_readers::byte;
+use field_reader::field_readers::byte_between;
+use field_reader::field_readers::byte_up_to;
+use field_reader::field_readers::name_bytes;
+use field_reader::field_readers::two_fields;
 use terms::refusals::Refusal;
 ghost use mathlib.Core.Path.{_≡_};
 ghost use Prim.Native.Nat.{_≤_};
 ghost use lib.ListN.{length};
 ghost use Rattle.definitions.specs.Decode as decode;
-ghost use Rattle.reading.specs.Fields.{FieldIs};
+ghost use Rattle.field_reader.specs.Fields.{FieldIs};
 ghost use Rattle.reading.specs.Nodes.{HeadIs, columnsOf};
 
 // Which columns an expression may have: those of a physical frame, below their count, or those of a logical one.

@@ -1,5 +1,4 @@
 // Reading the nodes of byte frames. Each answer is a place or a count, or why the bytes are refused; each contract says which
 // reader of the definitions the answer is of.
-pub mod field_readers;
 pub mod head_readers;
 pub mod walk;

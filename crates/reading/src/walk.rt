@@ -1,9 +1,9 @@
 // The walk over a node and the walk over its children, which call each other. Nodes left to count fall.
-use crate::field_readers::Field;
 use crate::head_readers::Columns;
 use crate::head_readers::Head;
 use crate::head_readers::head_of_kind;
 use crate::head_readers::node_kind;
+use field_reader::field_readers::Field;
 use terms::refusals::Refusal;
 ghost use Prim.Native.Nat.{_≤_};
 ghost use lib.ListN.{length};

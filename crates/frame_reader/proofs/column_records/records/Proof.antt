@@ -4,7 +4,7 @@ use native.Mathlib.Omega.{arith}
 use Prim.Native.Nat.{_≤_}
 use lib.ListN.{length}
 use Rattle.definitions.specs.Decode.{oneRecord}
-use Rattle.reading.proofs.Repeats.{Left, all-left, one-fewer, one-stops, none-left}
+use Rattle.field_reader.proofs.Repeats.{Left, all-left, one-fewer, one-stops, none-left}
 use Rattle.frame_reader.proofs.column_records.records.Statement.{statement}
 use Rattle.frame_reader.proofs.column_records.records.Tie as tie
 

@@ -1,8 +1,8 @@
 -- A frame is its column count, so many records and an expression, each from where the last ended.
 use Rattle.definitions.specs.Readers.{repeat}
-use Rattle.reading.specs.declared.field_readers.Skipped.the-variants.{To}
-use Rattle.reading.specs.declared.field_readers.Field.the-variants.{Value}
-use Rattle.reading.specs.Fields.{FieldIs, SkippedIs}
+use Rattle.field_reader.specs.declared.field_readers.Skipped.the-variants.{To}
+use Rattle.field_reader.specs.declared.field_readers.Field.the-variants.{Value}
+use Rattle.field_reader.specs.Fields.{FieldIs, SkippedIs}
 use borrow.Author.Needs.{needs}
 use mathlib.Core.Path.{_∙_}
 use Rattle.definitions.specs.Decode.{oneRecord, recordCount, frameBody}

@@ -1,7 +1,7 @@
 -- A frame of the sort 2 whose body is an expression with fields of the schemas; nothing is left to test.
 use Rattle.frame_reader.specs.Frames.{opening}
-use Rattle.reading.specs.declared.field_readers.Skipped.the-variants.{To}
-use Rattle.reading.specs.Fields.{SkippedIs}
+use Rattle.field_reader.specs.declared.field_readers.Skipped.the-variants.{To}
+use Rattle.field_reader.specs.Fields.{SkippedIs}
 use borrow.Author.Needs.{needs}
 use mathlib.Core.Path.{ap}
 use Rattle.definitions.specs.Readers.{give, resultOf}

@@ -1,8 +1,8 @@
 -- A frame of the sort 1: its body is the frame's, then comes the end, and its arity is tested last.
 use Rattle.frame_reader.specs.declared.frames.Body.the-variants.{Read}
 use Rattle.frame_reader.specs.Frames.{opening, BodyIs}
-use Rattle.reading.specs.declared.field_readers.Skipped.the-variants.{To}
-use Rattle.reading.specs.Fields.{SkippedIs}
+use Rattle.field_reader.specs.declared.field_readers.Skipped.the-variants.{To}
+use Rattle.field_reader.specs.Fields.{SkippedIs}
 use borrow.Author.Needs.{needs}
 use mathlib.Core.Path.{sym, ap, _∙_}
 use Rattle.definitions.specs.Expression.{Frame}

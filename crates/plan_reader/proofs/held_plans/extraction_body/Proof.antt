@@ -1,6 +1,6 @@
 -- A predicate and then its remainder.
-use Rattle.plan_reader.specs.declared.held_predicates.Predicated.the-variants.{Read}
-use Rattle.plan_reader.specs.Predicates.{PredicateIs}
+use Rattle.predicate_reader.specs.declared.held_predicates.Predicated.the-variants.{Read}
+use Rattle.predicate_reader.specs.Predicates.{PredicateIs}
 use borrow.Author.Needs.{needs}
 use mathlib.Core.Path.{_∙_}
 use Rattle.definitions.specs.Decode.{predicateOfKind, extractionBody}

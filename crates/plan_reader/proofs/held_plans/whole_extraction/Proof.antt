@@ -1,7 +1,7 @@
 -- An extraction after its first byte, up to the end; every refusal makes the plan bad.
 use Rattle.frame_reader.specs.Frames.{firstOf}
-use Rattle.reading.specs.declared.field_readers.Field.the-variants.{Value}
-use Rattle.reading.specs.Fields.{FieldIs}
+use Rattle.field_reader.specs.declared.field_readers.Field.the-variants.{Value}
+use Rattle.field_reader.specs.Fields.{FieldIs}
 use borrow.Author.Needs.{needs}
 use Rattle.plan_reader.proofs.Extractions.{unopened, body-stops, ends, goes-on}
 use Rattle.plan_reader.proofs.held_plans.whole_extraction.Statement.{statement}

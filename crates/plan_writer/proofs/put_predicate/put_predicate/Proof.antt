@@ -6,7 +6,7 @@ use mathlib.Core.Path.{_∙_}
 use lib.ListN.{length, set, length-set}
 use Rattle.writing.proofs.Written.{together-length}
 use Rattle.writing.proofs.Sequence.{part-room, part-put, ends-within, head-room, stored-room, stored-put}
-use Rattle.plan_writer.specs.Arguments.{changeOf}
+use Rattle.argument_writer.specs.Arguments.{changeOf}
 use Rattle.plan_writer.proofs.PredicateLaws.{PredicateView, predicate-view}
 use Rattle.plan_writer.proofs.put_predicate.put_predicate.Statement.{statement}
 use Rattle.plan_writer.proofs.put_predicate.put_predicate.Tie as tie

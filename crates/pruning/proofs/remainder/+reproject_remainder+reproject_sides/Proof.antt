@@ -14,7 +14,7 @@ use Rattle.expression.specs.Nodes.{Stands}
 use Rattle.expression.specs.Leaves.{Both}
 use Rattle.expression.proofs.Standing.{first-stands, node-some}
 use Rattle.writing.proofs.Written.{together-length}
-use Rattle.pruning.proofs.AroundLaws.{lone-leaf, left-at}
+use Rattle.column_references.proofs.AroundLaws.{lone-leaf, left-at}
 use Rattle.pruning.proofs.RemainderWalk.{copy-leaf, lone-fits, copy-lone, parent-fits, copy-parent, and-room, and-fits, copy-and, left-fits, left-wrote, left-later, right-fits, copy-sides}
 use Rattle.pruning.proofs.remainder.reproject_remainder.Reads as node
 use Rattle.pruning.proofs.remainder.reproject_remainder.Kinds as node-kinds
@@ -23,7 +23,7 @@ use Rattle.pruning.proofs.remainder.reproject_sides.Reads as sides
 use Rattle.pruning.proofs.remainder.reproject_sides.Kinds as sides-kinds
 use Rattle.pruning.proofs.remainder.+reproject_remainder+reproject_sides.Lts-reproject_sides as sides-lts
 use Rattle.expression.proofs.leaves.node_at.Reads as node-at-reads
-use Rattle.plan_writer.proofs.arguments.reproject_column_references.Reads as copy-reads
+use Rattle.argument_writer.proofs.arguments.reproject_column_references.Reads as copy-reads
 use Rattle.pruning.proofs.remainder.+reproject_remainder+reproject_sides.{statement}
 use Rattle.pruning.proofs.remainder.+reproject_remainder+reproject_sides.Tie.{close}
 

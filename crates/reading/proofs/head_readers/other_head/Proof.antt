@@ -5,7 +5,7 @@ use Rattle.definitions.specs.Expression.{other}
 use Rattle.definitions.specs.Readers.{byteUpTo, number}
 use Rattle.definitions.specs.Decode.{otherNode}
 use Rattle.definitions.proofs.ReaderLaws.{after}
-use Rattle.reading.proofs.Reading.{stops-in-two}
+use Rattle.field_reader.proofs.Reading.{stops-in-two}
 use Rattle.reading.proofs.head_readers.other_head.Statement.{statement}
 use Rattle.reading.proofs.head_readers.other_head.Tie as tie
 

@@ -1,0 +1,4 @@
+-- What the contracts cite.
+pub mod Arguments
+pub mod Copies
+pub mod Tables

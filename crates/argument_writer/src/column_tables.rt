@@ -1,0 +1,20 @@
+// The table that gives each column its index in its child.
+ghost use Prim.Native.Nat.{_≤_};
+ghost use mathlib.Core.Path.{_≡_};
+ghost use lib.ListN.{length, drop};
+ghost use Rattle.argument_writer.specs.Tables.{Recorded, ChildTable};
+use expression::fields::short_at;
+
+// Each column's index in its child; the table is as it was past the last column.
+pub fn child_indexes(to: &mut [u16], src: &[u8], rec: usize, count: usize)
+    requires { ⌜ Recorded (now src) rec count ⌝ }
+    requires { ⌜ count ≤ length (now to) ⌝ }
+    ensures { λ _. ⌜ ChildTable (now (src .entry)) rec count (now (to .exit)) ⌝ }
+    ensures { λ _. ⌜ drop count (now (to .exit)) ≡ drop count (now (to .entry)) ⌝ }
+{
+    let mut j = 0;
+    while j < count {
+        to[j] = short_at(src, rec + 5 * j + 1) as u16;
+        j += 1;
+    }
+}

@@ -1,0 +1,3 @@
+// The arguments of predicates: the one cycle that copies expressions, and tables of child indexes. Public for the crates above.
+pub mod arguments;
+pub mod column_tables;

@@ -1,0 +1,2 @@
+// Which columns a remainder names. Public for the crate `pruning`.
+pub mod references;
