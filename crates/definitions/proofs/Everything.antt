@@ -19,6 +19,7 @@ use Rattle.definitions.specs.Sessions as Sessions
 use Rattle.definitions.specs.Meaning as Meaning
 use Rattle.definitions.specs.Logical as Logical
 use Rattle.definitions.specs.Program as Program
+use Rattle.definitions.specs.Printed as Printed
 
 unfoldable pub basics : ℕ
 unfolding Basics.ascii Basics.sameName Basics.bigEndian Basics.any Basics.all Basics.keep
@@ -113,7 +114,11 @@ unfolding Program.digitValue Program.pairBytes Program.digitBytes Program.orRefu
     Program.writtenLine Program.intoFirst Program.linesOf Program.outputFrom Program.freshPlan Program.output
 program = 0
 
+unfoldable pub printing : ℕ
+unfolding Printed.figures Printed.decimalWidth Printed.decimal Printed.digits16 Printed.printed Printed.textOf Printed.finishPrint Printed.print
+printing = 0
+
 unfoldable pub everything : ℕ
 unfolding basics expression literals encode leaves readers decode plans references match extract exchange calls machine sessions meaning
-    logical program
+    logical program printing
 everything = 0

@@ -36,4 +36,9 @@ pub mod KnnLeaves
 pub mod FairExample
 pub mod FairCounting
 pub mod Refusals
+pub mod ConsoleLines
+pub mod Figures
+pub mod PrintsApart
+pub mod TextLength
+pub mod PrintCall
 pub mod Proved

@@ -15,6 +15,8 @@ use Rattle.definitions.specs.AnyMatcher.{Extracts, OneCall, Lists, AnyMa
 use Rattle.definitions.specs.TenRows.{TenRows}
 use Rattle.definitions.specs.RefusalTable.{RefusalTable}
 use Rattle.definitions.specs.NameTables.{NameTables}
+use Rattle.definitions.specs.PrintClaims.{PrintsApart, PrintsNeverAlike, TextShort, TextPrintable, NoLeadingZero, PrintAccepted, PrintGiven, PrintRefused}
+use Rattle.definitions.specs.PrintRows.{PrintRows}
 use Rattle.definitions.proofs.Exchange.{plan-twice}
 use Rattle.definitions.proofs.ExtractExchange.{exchanged-by}
 use Rattle.definitions.proofs.RoundTripPlan.{expr-reads, plan-reads}
@@ -26,7 +28,7 @@ use Rattle.definitions.proofs.Lists.{plan-good}
 use Rattle.definitions.proofs.ListTheorem.{load-accepts, load-held, list-agrees}
 use Rattle.definitions.proofs.Lengths.{load-is-short, make-short}
 use Rattle.definitions.proofs.Changes.{load-keeps, make-keeps, load-wrote, make-wrote}
-use Rattle.definitions.proofs.RefusalNumbers.{load-refusals, extract-refusals, exchange-refusals, logical-refusals}
+use Rattle.definitions.proofs.RefusalNumbers.{load-refusals, extract-refusals, exchange-refusals, logical-refusals, print-refusals}
 use Rattle.definitions.proofs.Answers.{told, plan-told, in-place, plans-same, exchange-among, extract-among}
 use Rattle.definitions.proofs.MatchLaws.{match-laws}
 use Rattle.definitions.proofs.Pick.{takes-by, none-by}
@@ -38,6 +40,10 @@ use Rattle.definitions.proofs.FairCounting.{fair-counting}
 use Rattle.definitions.proofs.Names.{each-once, names-ones, tables-hold}
 use Rattle.definitions.proofs.Table.{ten-rows-hold}
 use Rattle.definitions.proofs.Refusals.{refusals-hold}
+use Rattle.definitions.proofs.PrintsApart.{told-apart}
+use Rattle.definitions.proofs.TextLength.{text-short}
+use Rattle.definitions.proofs.PrintCall.{prints-once, text-printable-by, no-leading, print-accepts, print-gives, print-refuses}
+use Rattle.definitions.proofs.ConsoleLines.{print-rows-hold}
 
 -- ---- with every lawful matcher
 
@@ -126,7 +132,7 @@ pub accepted-writes : AcceptedWrites
 accepted-writes = (load-wrote, by-leaf .1 .writes)
 
 pub refusals-of-calls : RefusalsOfCalls
-refusals-of-calls = (load-refusals, by-leaf .1 .refusals, exchange-refusals, logical-refusals)
+refusals-of-calls = (load-refusals, by-leaf .1 .refusals, exchange-refusals, logical-refusals, print-refusals)
 
 pub load-accepted : LoadAccepted
 load-accepted = load-accepts
@@ -208,3 +214,32 @@ ten-rows = ten-rows-hold
 
 pub refusals : RefusalTable
 refusals = refusals-hold
+
+-- ---- request 1
+
+pub prints-apart : PrintsApart
+prints-apart b b′ e e′ s s′ = told-apart e e′ b b′ s s′
+
+pub prints-never-alike : PrintsNeverAlike
+prints-never-alike = prints-once
+
+pub text-is-short : TextShort
+text-is-short = text-short
+
+pub text-printable : TextPrintable
+text-printable = text-printable-by
+
+pub no-leading-zero : NoLeadingZero
+no-leading-zero = no-leading
+
+pub print-accepted : PrintAccepted
+print-accepted = print-accepts
+
+pub print-given : PrintGiven
+print-given = print-gives
+
+pub print-refused : PrintRefused
+print-refused = print-refuses
+
+pub print-rows : PrintRows
+print-rows = print-rows-hold

@@ -16,7 +16,8 @@ use Rattle.definitions.specs.Decode.{Columns, indexBelow, fields, allowe
 use Rattle.definitions.specs.Plans.{physicalFrame, logicalFrame, frameOf, logicalOf}
 use Rattle.definitions.specs.Calls.{newAfterLoad, finishLoad, load, finish, heldPlan, newAfterExchange, exchange, matchedBytes, newAfterExtractBy, extractBy}
 use Rattle.definitions.specs.Logical.{logicalAnswer, logical}
-use Rattle.definitions.specs.Claims.{loadRefusals, extractRefusals, exchangeRefusals, logicalRefusals, RefusedBy}
+use Rattle.definitions.specs.Printed.{printed, textOf, finishPrint, print}
+use Rattle.definitions.specs.Claims.{loadRefusals, extractRefusals, exchangeRefusals, logicalRefusals, printRefusals, RefusedBy}
 use Rattle.definitions.proofs.Tools.{by-test}
 
 -- ---- readers
@@ -226,22 +227,32 @@ module _ (P : ℕ → Type 0) where
   finish-only n buffer scratch (ok bytes) h = tt
   finish-only n buffer scratch (refused number) h = h
 
-  if-only : (b : Bool) (x : Result (List ℕ)) → Refuses x → P 9 → Refuses (if b then x else refused 9)
-  if-only true x h p9 = h
-  if-only false x h p9 = p9
+  if-only : (number : ℕ) (b : Bool) (x : Result (List ℕ)) → Refuses x → P number → Refuses (if b then x else refused number)
+  if-only number true x h p = h
+  if-only number false x h p = p
 
   load-only : (frame : List ℕ) (room : ℕ) (r : Result Frame) → Refuses r → P 9 → Refuses (newAfterLoad frame room r)
   unfolding newAfterLoad
-  load-only frame room (ok F) h p9 = if-only (leb (length frame) room) (ok frame) tt p9
+  load-only frame room (ok F) h p9 = if-only 9 (leb (length frame) room) (ok frame) tt p9
   load-only frame room (refused number) h p9 = h
+
+  printed-only : (buffer : List ℕ) (x : Result (List ℕ)) → Refuses x → Refuses (finishPrint buffer x .answer)
+  unfolding finishPrint
+  printed-only buffer (ok text) h = tt
+  printed-only buffer (refused number) h = h
+
+  text-only : (room : ℕ) (r : Result Frame) → Refuses r → P 15 → Refuses (textOf room r)
+  unfolding textOf
+  text-only room (ok F) h p15 = if-only 15 (leb (length (printed (F .expr))) room) (ok _) tt p15
+  text-only room (refused number) h p15 = h
 
   module _ (p9 : P 9) (p10 : P 10) (p11 : P 11) (n room : ℕ) where
     exchange-only : (r : Result Plan) → Refuses (newAfterExchange n room r)
     unfolding newAfterExchange
     exchange-only (refused number) = p10
     exchange-only (ok empty) = p11
-    exchange-only (ok (held F)) = if-only (leb n room) (ok _) tt p9
-    exchange-only (ok (extracted X)) = if-only (leb n room) (ok _) tt p9
+    exchange-only (ok (held F)) = if-only 9 (leb n room) (ok _) tt p9
+    exchange-only (ok (extracted X)) = if-only 9 (leb n room) (ok _) tt p9
 
     module _ (p12 : P 12) (p13 : P 13) where
       taken-only : (x : Option Extraction) → Refuses (matchedBytes x)
@@ -255,7 +266,7 @@ module _ (P : ℕ → Type 0) where
       extract-only match (ok empty) = p11
       extract-only match (ok (extracted X)) = p12
       extract-only match (ok (held F)) =
-          if-only (leb n room) (matchedBytes (extractionBy match F)) (taken-only (extractionBy match F)) p9
+          if-only 9 (leb n room) (matchedBytes (extractionBy match F)) (taken-only (extractionBy match F)) p9
 
 -- The numbers of a list.
 abbrev In : List ℕ → ℕ → Type 0
@@ -295,3 +306,10 @@ logical-refusals frame =
     let read = logical-only (In logicalRefusals) refl refl refl refl refl refl 0 frame in
     refused-by logicalRefusals (logical frame)
     (map-only (In logicalRefusals) logicalAnswer (logicalOf frame) (result-only (In logicalRefusals) (logicalFrame 0 frame) read))
+
+pub print-refusals : (frame buffer : List ℕ) → RefusedBy printRefusals (print frame buffer .answer)
+unfolding print frameOf printRefusals any
+print-refusals frame buffer =
+    let read = physical-only (In printRefusals) refl refl refl refl refl refl refl refl 0 frame in
+    let given = text-only (In printRefusals) (length buffer) (frameOf frame) (result-only (In printRefusals) (physicalFrame 0 frame) read) refl in
+    refused-by printRefusals (print frame buffer .answer) (printed-only (In printRefusals) buffer (textOf (length buffer) (frameOf frame)) given)

@@ -24,6 +24,7 @@ use Rattle.definitions.specs.Good.{AllBytes, nodes, Readable, GoodPlan, 
 use Rattle.definitions.specs.Sessions.{Made, extractWith, exchangeWith, make, ListOutcome, machineAfter, accepted, Session, after, lengthAfter, planLeft, planAfter, extractedIn, oddIn, answerAfter}
 use Rattle.definitions.specs.Meaning.{Valuation, Meaning, Fair, andValue, frameValue, extractionValue, planValue, exchangedValues}
 use Rattle.definitions.specs.Logical.{spatialNames, mask, distinct, logical}
+use Rattle.definitions.specs.Printed.{print}
 
 -- ---- exchange
 
@@ -107,7 +108,7 @@ AcceptedWrites =
     × ((kind : Kind) (n : ℕ) (buffer scratch : List ℕ) → AllBytes buffer → accepted (make kind n buffer scratch .answer) ≡ true
     → CallWrote n buffer scratch (make kind n buffer scratch))
 
--- The refusals of each call, in 01's order.
+-- The refusals of each call, in the order of 01 and 02.
 unfoldable pub loadRefusals : List ℕ
 loadRefusals = 1 ∷ 2 ∷ 3 ∷ 4 ∷ 5 ∷ 6 ∷ 7 ∷ 8 ∷ 9 ∷ []
 
@@ -119,6 +120,10 @@ exchangeRefusals = 10 ∷ 11 ∷ 9 ∷ []
 
 unfoldable pub logicalRefusals : List ℕ
 logicalRefusals = 1 ∷ 2 ∷ 3 ∷ 4 ∷ 5 ∷ 7 ∷ []
+
+-- Request 1.
+unfoldable pub printRefusals : List ℕ
+printRefusals = 1 ∷ 2 ∷ 3 ∷ 4 ∷ 5 ∷ 6 ∷ 7 ∷ 8 ∷ 15 ∷ []
 
 -- A value, or a refusal with one of these numbers.
 abbrev pub RefusedBy : {A : Type 0} → (numbers : List ℕ) → Result A → Type 0
@@ -132,6 +137,7 @@ RefusalsOfCalls =
     × ((n : ℕ) (buffer scratch : List ℕ) → RefusedBy extractRefusals (extract n buffer scratch .answer))
     × ((n : ℕ) (buffer scratch : List ℕ) → RefusedBy exchangeRefusals (exchange n buffer scratch .answer))
     × ((frame : List ℕ) → RefusedBy logicalRefusals (logical frame))
+    × ((frame buffer : List ℕ) → RefusedBy printRefusals (print frame buffer .answer))
 
 -- ---- demand 3: lists of calls
 

@@ -34,9 +34,12 @@ pub mod Meaning
 pub mod Matchers
 pub mod Logical
 pub mod Program
+pub mod Printed
 pub mod Hosts
 pub mod Claims
 pub mod AnyMatcher
 pub mod TenRows
 pub mod RefusalTable
 pub mod NameTables
+pub mod PrintClaims
+pub mod PrintRows
