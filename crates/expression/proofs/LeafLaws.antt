@@ -28,7 +28,7 @@ unfolding part
 held-part {s} {x} {at} h end e = ap (take (end - at)) (h .bytes) ∙ take-at x (h .rest) (end - at) (omega arith)
 
 -- A call's name stands after the two bytes for kind and length, and before the count.
-name-stands : {s : List ℕ} {at : ℕ} (name : List ℕ) (args : Exprs) → Holds s at (headBytes (call name args)) → Holds s (at + 2) name
+pub name-stands : {s : List ℕ} {at : ℕ} (name : List ℕ) (args : Exprs) → Holds s at (headBytes (call name args)) → Holds s (at + 2) name
 unfolding headBytes
 name-stands {s} {at} name args h =
     let after : Holds s (at + 2) (name ++ (count args ∷ [])) = next (next h (at + 1) refl) (at + 2) (omega arith) in

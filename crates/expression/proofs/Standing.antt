@@ -16,7 +16,7 @@ use Rattle.expression.proofs.Placed.{fits, byte-at, front, back}
 
 -- ---- a node is its head and its children
 
-head-children : (t : Expr) → exprBytes t ≡ headBytes t ++ exprsBytes (childrenOf t)
+pub head-children : (t : Expr) → exprBytes t ≡ headBytes t ++ exprsBytes (childrenOf t)
 unfolding exprBytes headBytes childrenOf
 head-children (column i g) = sym (append-nil _)
 head-children (literal y v) = sym (append-nil _)

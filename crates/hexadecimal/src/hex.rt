@@ -80,8 +80,8 @@ fn digit(value: u8) -> u8
     if value < 10 { value + 48 } else { value + 87 }
 }
 
-// The digits of bytes go to `out` from a place on; gives where they end.
-pub(crate) fn encode(out: &mut [u8], at: usize, bytes: &[u8]) -> usize
+// The digits of bytes go to `out` from a place on; gives where they end. Public for the crate that prints literals.
+pub fn encode(out: &mut [u8], at: usize, bytes: &[u8]) -> usize
     requires { ⌜ at + 2 * length (now bytes) ≤ length (now out) ⌝ }
     ensures { λ r. ⌜ WroteAt at (program.digits (now (bytes .entry))) (now (out .entry)) (now (out .exit)) r ⌝ }
 {

@@ -3,7 +3,7 @@ use Prim.Native.Nat.{_≤_}
 use Rattle.join_filter.specs.declared.answers.Answer.{Answer}
 use Rattle.join_filter.specs.declared.answers.Answer.the-variants.{Length, Refused}
 
--- A length is at most 16,384.
+-- A length is at most 26,620: a plan's at most 16,384, a text's so many.
 abbrev pub Short : Answer → Type 0
-Short (Length n) = n ≤ 16384
+Short (Length n) = n ≤ 26620
 Short (Refused why) = Unit {0}

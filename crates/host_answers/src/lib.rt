@@ -11,7 +11,7 @@ ghost use Rattle.join_filter.specs.Outcomes.{answerOf};
 ghost use Rattle.host_answers.specs.Short.{Short};
 
 fn length_number(n: usize) -> i64
-    requires { ⌜ n ≤ 16384 ⌝ }
+    requires { ⌜ n ≤ 26620 ⌝ }
     ensures { λ r. ⌜ r ≡ pos n ⌝ }
 {
     n as i64
@@ -24,7 +24,7 @@ pub fn minus_refusal(why: Refusal) -> i64
     0 - number as i64
 }
 
-// The length of a plan is at most 16,384.
+// The length of a plan is at most 16,384, that of a text at most 26,620.
 pub fn answer_number(answer: Answer) -> i64
     requires { ⌜ Short answer ⌝ }
     ensures { λ r. ⌜ r ≡ hosted (answerOf answer) ⌝ }

@@ -1,7 +1,7 @@
-// What load, extract and exchange answer.
+// What load, extract, exchange and print answer.
 use terms::refusals::Refusal;
 
-// The new plan's length, or why the call is refused.
+// The length of the new plan or of the text, or why the call is refused.
 pub enum Answer {
     Length(usize),
     Refused(Refusal),

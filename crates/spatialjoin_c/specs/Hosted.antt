@@ -5,6 +5,7 @@ use mathlib.Core.List.{List}
 use lib.IntN.{ℤ}
 use Rattle.definitions.specs.Calls.{load, Outcome}
 use Rattle.definitions.specs.Hosts.{hosted}
+use Rattle.definitions.specs.Printed.{print}
 
 -- The load is the definition's, whatever n the host had.
 abbrev pub LoadHosted : (frame before after : List ℕ) → ℤ → Type 0
@@ -13,3 +14,7 @@ LoadHosted frame before after r = (n : ℕ) → (r ≡ hosted (load frame n befo
 -- The call is the definition's: answer and both buffers. n is the host's to keep: the length that was answered, else as it was.
 abbrev pub CallHosted : Outcome → (after scratch : List ℕ) → ℤ → Type 0
 CallHosted o after scratch r = (r ≡ hosted (o .answer)) × (after ≡ o .buffer) × (scratch ≡ o .scratch)
+
+-- The print is the definition's: answer and text buffer.
+abbrev pub PrintHosted : (frame before after : List ℕ) → ℤ → Type 0
+PrintHosted frame before after r = (r ≡ hosted (print frame before .answer)) × (after ≡ print frame before .buffer)

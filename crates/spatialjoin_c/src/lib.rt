@@ -4,6 +4,7 @@ use call_extract::extract;
 use call_load::load;
 use call_logical::Names;
 use call_logical::logical;
+use call_print::print;
 use host_answers::answer_number;
 use host_answers::minus_refusal;
 use logical_filter::knn_query_side::query_side_number;
@@ -11,7 +12,7 @@ ghost use mathlib.Core.Path.{_≡_};
 ghost use Rattle.definitions.specs.Calls as definitions;
 ghost use Rattle.definitions.specs.Hosts.{hostedNames};
 ghost use Rattle.definitions.specs.Logical as logicals;
-ghost use Rattle.spatialjoin_c.specs.Hosted.{LoadHosted, CallHosted};
+ghost use Rattle.spatialjoin_c.specs.Hosted.{LoadHosted, CallHosted, PrintHosted};
 
 // Loads a frame as the new plan; reads nothing of the old one.
 #[no_mangle]
@@ -54,4 +55,13 @@ pub extern "C" fn spatialjoin_logical(frame: &[u8]) -> i64
             (mask * 65536 + names * 256 + side) as i64
         }
     }
+}
+
+// Writes the expression of a frame as text.
+#[no_mangle]
+pub extern "C" fn spatialjoin_print(frame: &[u8], text: &mut [u8]) -> i64
+    ensures { λ r. ⌜ PrintHosted (now (frame .entry)) (now (text .entry)) (now (text .exit)) r ⌝ }
+{
+    let printed = print(text, frame);
+    answer_number(printed)
 }

@@ -2,7 +2,7 @@
 ghost use mathlib.Core.Path.{_≡_};
 ghost use Rattle.terms.specs.Refusals.{numberOf};
 
-// Why a call is refused, in the order of document 01's numbers, 1 to 14.
+// Why a call is refused, in the order of the numbers: 1 to 14 of document 01, then those of 02's requests.
 pub enum Refusal {
     EmptyOrTooLong,
     WrongFirstByte,
@@ -18,9 +18,10 @@ pub enum Refusal {
     AlreadyExtracted,
     NoLeafMatches,
     NotHexadecimal,
+    TextBufferTooShort,
 }
 
-// Document 01's number of a refusal.
+// The number of a refusal.
 pub fn refusal_number(why: Refusal) -> u8
     ensures { λ r. ⌜ r ≡ numberOf why ⌝ }
 {
@@ -39,5 +40,6 @@ pub fn refusal_number(why: Refusal) -> u8
         Refusal::AlreadyExtracted => 12,
         Refusal::NoLeafMatches => 13,
         Refusal::NotHexadecimal => 14,
+        Refusal::TextBufferTooShort => 15,
     }
 }

@@ -1,0 +1,4 @@
+-- Laws that several proofs use.
+pub mod Sequences
+pub mod DecimalLaws
+pub mod NameLaws

@@ -1,0 +1,4 @@
+-- Laws that several proofs use.
+pub mod NodeFields
+pub mod MarkLaws
+pub mod SizeLaws

@@ -1,0 +1,21 @@
+-- `spatialjoin_print`: the answer as one number.
+use borrow.Author.Needs.{needs}
+use Rattle.reading.proofs.Standing.{all-bytes}
+use Rattle.host_answers.proofs.Numbers.{given-back}
+use Rattle.spatialjoin_c.proofs.Hosting.{text-short, print-hosted}
+use Rattle.spatialjoin_c.proofs.spatialjoin_print.Statement.{statement}
+use Rattle.spatialjoin_c.proofs.spatialjoin_print.Tie as tie
+
+answer-number-requires : tie.Need-answer-number-requires
+answer-number-requires c κs =
+    let call = c .before .before .print in
+    let known = c .before .before .before .before .before in
+    text-short _ _ _ (call .result) (call .ensures) (all-bytes (known .before .args .frame .now) (known .shared-slice-known .given))
+
+returns : tie.Need-returns
+returns c =
+    let call = c .before .before .before .print in
+    print-hosted _ _ _ (call .result) (call .ensures) _ (given-back _ _ (c .answer-number .ok) (c .answer-number .ensures))
+
+pub spatialjoin-print-spec : {M : Type 1} → statement M
+spatialjoin-print-spec = tie.close (tie.spec (λ c κs. search needs) answer-number-requires (λ c. search needs) returns)
