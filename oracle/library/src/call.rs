@@ -16,16 +16,19 @@ pub enum Kind {
     Extract,
     Exchange,
     Logical,
+    Print,
 }
 
 pub struct Call {
     pub kind: Kind,
-    /// Of a load and of a logical call.
+    /// Of a load, of a logical call and of a print.
     pub frame: Vec<u8>,
     pub n: usize,
     pub plan: Vec<u8>,
     /// Of an extract and of an exchange.
     pub scratch: Vec<u8>,
+    /// Of a print.
+    pub text: Vec<u8>,
 }
 
 /// An answer, and the buffers after it.
@@ -34,6 +37,7 @@ pub struct Outcome {
     pub answer: i64,
     pub plan: Vec<u8>,
     pub scratch: Vec<u8>,
+    pub text: Vec<u8>,
 }
 
 /// The library's outcome, and whether it left alone what wasn't its to write.
@@ -46,6 +50,7 @@ pub struct Given {
 impl Call {
     pub fn expected(&self) -> Outcome {
         let (mut n, mut plan, mut scratch) = (self.n, self.plan.clone(), self.scratch.clone());
+        let mut text = self.text.clone();
         let length = |result: Result<usize, Refusal>| result.map(|length| length as i64);
         let answer = match self.kind {
             Kind::Load => length(calls::load(&self.frame, &mut n, &mut plan)),
@@ -54,11 +59,13 @@ impl Call {
             Kind::Logical => {
                 calls::logical(&self.frame).map(|bytes| i64::from(u32::from_be_bytes(bytes)))
             }
+            Kind::Print => length(calls::print(&self.frame, &mut text)),
         };
         Outcome {
             answer: answer.unwrap_or_else(|refusal| -i64::from(refusal.number())),
             plan,
             scratch,
+            text,
         }
     }
 
@@ -66,21 +73,24 @@ impl Call {
         let frame = Lent::new(rng, &self.frame);
         let mut plan = Lent::new(rng, &self.plan);
         let mut scratch = Lent::new(rng, &self.scratch);
+        let mut text = Lent::new(rng, &self.text);
         let n = self.n;
         let answer = match self.kind {
             Kind::Load => numbers::load(frame.bytes(), plan.bytes_mut()),
             Kind::Extract => numbers::extract(plan.bytes_mut(), n, scratch.bytes_mut()),
             Kind::Exchange => numbers::exchange(plan.bytes_mut(), n, scratch.bytes_mut()),
             Kind::Logical => numbers::logical(frame.bytes()),
+            Kind::Print => numbers::print(frame.bytes(), text.bytes_mut()),
         };
         Given {
             outcome: Outcome {
                 answer,
                 plan: plan.bytes().to_vec(),
                 scratch: scratch.bytes().to_vec(),
+                text: text.bytes().to_vec(),
             },
             frame_holds: frame.bytes() == self.frame,
-            guards_hold: [frame, plan, scratch].iter().all(Lent::guards_hold),
+            guards_hold: [frame, plan, scratch, text].iter().all(Lent::guards_hold),
         }
     }
 }
@@ -95,10 +105,11 @@ impl Given {
         let buffers = [
             ("plan", &self.outcome.plan, &expected.plan),
             ("scratch", &self.outcome.scratch, &expected.scratch),
+            ("text", &self.outcome.text, &expected.text),
         ];
         for (name, given, expected) in buffers {
             if given != expected {
-                faults.push(format!("the {name}, {}", text(given)));
+                faults.push(format!("the {name}, {}", shown(given)));
             }
         }
         if !self.frame_holds {
@@ -111,7 +122,7 @@ impl Given {
     }
 }
 
-fn text(bytes: &[u8]) -> String {
+fn shown(bytes: &[u8]) -> String {
     let digits = String::from_utf8_lossy(&hex(bytes)).into_owned();
     format!("{} bytes: {digits}", bytes.len())
 }
@@ -119,16 +130,18 @@ fn text(bytes: &[u8]) -> String {
 impl fmt::Display for Call {
     fn fmt(&self, f: &mut fmt::Formatter<'_>) -> fmt::Result {
         writeln!(f, "{:?}, n = {}", self.kind, self.n)?;
-        writeln!(f, "  frame    {}", text(&self.frame))?;
-        writeln!(f, "  plan     {}", text(&self.plan))?;
-        write!(f, "  scratch  {}", text(&self.scratch))
+        writeln!(f, "  frame    {}", shown(&self.frame))?;
+        writeln!(f, "  plan     {}", shown(&self.plan))?;
+        writeln!(f, "  scratch  {}", shown(&self.scratch))?;
+        write!(f, "  text     {}", shown(&self.text))
     }
 }
 
 impl fmt::Display for Outcome {
     fn fmt(&self, f: &mut fmt::Formatter<'_>) -> fmt::Result {
         writeln!(f, "  answer   {}", self.answer)?;
-        writeln!(f, "  plan     {}", text(&self.plan))?;
-        write!(f, "  scratch  {}", text(&self.scratch))
+        writeln!(f, "  plan     {}", shown(&self.plan))?;
+        writeln!(f, "  scratch  {}", shown(&self.scratch))?;
+        write!(f, "  text     {}", shown(&self.text))
     }
 }

@@ -34,6 +34,7 @@ impl Held {
             n: self.n,
             plan: self.plan.clone(),
             scratch: Vec::new(),
+            text: Vec::new(),
         }
     }
 
@@ -55,6 +56,7 @@ impl Held {
             n: self.n,
             plan: self.plan.clone(),
             scratch: any_bytes(rng, length),
+            text: Vec::new(),
         }
     }
 
@@ -117,6 +119,6 @@ impl Held {
     }
 }
 
-fn any_bytes(rng: &mut Rng, length: usize) -> Vec<u8> {
+pub fn any_bytes(rng: &mut Rng, length: usize) -> Vec<u8> {
     (0..length).map(|_| rng.draw() as u8).collect()
 }

@@ -1,9 +1,10 @@
-//! Holds the library's four calls to the reading's, buffers and all, on cases from a seed.
+//! Holds the library's calls to the reading's, buffers and all, on cases from a seed.
 
 mod call;
 mod counts;
 mod held;
 mod lent;
+mod texts;
 
 use std::env;
 use std::process::ExitCode;
@@ -14,7 +15,7 @@ use driver::rng::Rng;
 use reading::frame::{LOGICAL, MAX_BYTES, PHYSICAL};
 use reading::program::parse;
 
-use call::{Call, Kind};
+use call::{Call, Kind, Outcome};
 use counts::Counts;
 use held::Held;
 
@@ -62,21 +63,42 @@ fn options(words: &[String]) -> Option<(u64, u64)> {
     Some((frames, seed))
 }
 
-/// All calls of a case, on one plan.
+/// All calls of a case, on one plan; then prints of its frames, which no plan plays a part in.
 fn run(rng: &mut Rng, case: &Case, counts: &mut Counts) -> Result<(), String> {
     let asked: Vec<Asked> = case.lines.iter().map(|line| asked(rng, line)).collect();
     let mut held = Held::new(rng, longest(&asked));
-    for asked in asked {
+    for asked in &asked {
         let call = match asked {
-            Asked::OfFrame(frame) => held.with_frame(frame_call(rng, &frame), frame),
+            Asked::OfFrame(frame) => held.with_frame(frame_call(rng, frame), frame.clone()),
             Asked::OfPlan(kind) => {
                 held.disturb(rng);
-                held.with_scratch(kind, rng)
+                held.with_scratch(*kind, rng)
             }
         };
-        compare(rng, &call, &mut held, counts)?;
+        let outcome = compare(rng, &call, counts)?;
+        held.after(call.kind, outcome);
+    }
+    for asked in &asked {
+        if let Asked::OfFrame(frame) = asked {
+            for call in texts::prints(rng, frame) {
+                let compared = compare(rng, &call, counts);
+                compared.map_err(|found| smaller(rng, &call.frame).unwrap_or(found))?;
+            }
+        }
     }
     Ok(())
+}
+
+/// The difference on a print of a filter that is part of this one, the smallest found.
+fn smaller(rng: &mut Rng, frame: &[u8]) -> Option<String> {
+    for part in texts::smaller(frame) {
+        for call in texts::prints_of(rng, &part) {
+            if let Err(found) = compare(rng, &call, &mut Counts::default()) {
+                return Some(smaller(rng, &part).unwrap_or(found));
+            }
+        }
+    }
+    None
 }
 
 /// A line that is no hexadecimal is a frame as it stands.
@@ -112,7 +134,8 @@ fn frame_call(rng: &mut Rng, frame: &[u8]) -> Kind {
     }
 }
 
-fn compare(rng: &mut Rng, call: &Call, held: &mut Held, counts: &mut Counts) -> Result<(), String> {
+/// What the call leaves, if the library and the reading agree on it.
+fn compare(rng: &mut Rng, call: &Call, counts: &mut Counts) -> Result<Outcome, String> {
     let expected = call.expected();
     let faults = call.given(rng).faults(&expected);
     if !faults.is_empty() {
@@ -122,6 +145,5 @@ fn compare(rng: &mut Rng, call: &Call, held: &mut Held, counts: &mut Counts) -> 
         ));
     }
     counts.count(call.kind, expected.answer);
-    held.after(call.kind, expected);
-    Ok(())
+    Ok(expected)
 }

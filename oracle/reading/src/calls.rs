@@ -1,9 +1,9 @@
-//! The four calls, on lent buffers. An accepted call gives the new plan's length, which `n` then
-//! holds too; a refused one leaves `n` and both buffers as they were.
+//! The calls, on lent buffers. Of those that change the plan an accepted one gives the new plan's
+//! length, which `n` then holds too; a refused call leaves `n` and all buffers as they were.
 
 use crate::frame::Plan;
 use crate::refusal::Refusal;
-use crate::{decode, encode, logical as logical_half, physical};
+use crate::{decode, encode, logical as logical_half, physical, print as console};
 
 /// Nothing of the old plan is read: `n` is only set.
 pub fn load(frame: &[u8], n: &mut usize, buffer: &mut [u8]) -> Result<usize, Refusal> {
@@ -36,6 +36,14 @@ pub fn exchange(n: &mut usize, buffer: &mut [u8], scratch: &mut [u8]) -> Result<
 /// Mask, count and query side of a logical frame.
 pub fn logical(frame: &[u8]) -> Result<[u8; 4], Refusal> {
     decode::logical(frame).map(|expr| logical_half::answer(&expr))
+}
+
+/// Request 1 of document 02: the filter's text at the buffer's start, and its length.
+pub fn print(frame: &[u8], buffer: &mut [u8]) -> Result<usize, Refusal> {
+    let text = console::text(&decode::physical(frame)?.expr);
+    let start = buffer.get_mut(..text.len()).ok_or(Refusal::TextRoom)?;
+    start.copy_from_slice(&text);
+    Ok(text.len())
 }
 
 /// Refusals 10 and 11.

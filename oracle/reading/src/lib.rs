@@ -1,4 +1,5 @@
-//! A reading of document 01 in plain Rust, written from the document and not from the sources.
+//! A reading of document 01, and of the requests of document 02, in plain Rust, written from the
+//! documents and not from the sources.
 //! It stands beside the port and the original as a third opinion.
 
 pub mod calls;
@@ -7,5 +8,6 @@ pub mod encode;
 pub mod frame;
 pub mod logical;
 pub mod physical;
+pub mod print;
 pub mod program;
 pub mod refusal;

@@ -1,4 +1,4 @@
-/// The numbered refusals of document 01.
+/// The numbered refusals of document 01, and those that document 02 adds.
 #[derive(Clone, Copy, Debug, PartialEq, Eq)]
 pub enum Refusal {
     /// Frame empty or over 16,384 bytes.
@@ -29,6 +29,8 @@ pub enum Refusal {
     NoMatch = 13,
     /// A line that is no hexadecimal frame.
     BadLine = 14,
+    /// Text buffer shorter than the text.
+    TextRoom = 15,
 }
 
 impl Refusal {
