@@ -1,12 +1,15 @@
-//! Before anything is timed: ours, the original and the reading give the same bytes.
+//! Before anything is timed: ours, the original and the reading give the same bytes; of print, which
+//! the original has not, plain Rust in its place.
 
 use reading::calls;
 use reading::frame::MAX_BYTES;
+use spatialjoin::MOST_TEXT;
 
 use crate::operations::{
     Logical, Physical, exchange_extraction_bytes, exchange_frame_bytes, extract_from_bytes,
 };
-use crate::ours::{self, Ours};
+use crate::ours::{self, Console, Ours};
+use crate::plain;
 
 fn same(what: &str, ours: &[u8], original: &[u8], reading: &[u8]) -> Result<(), String> {
     if ours != reading {
@@ -55,6 +58,24 @@ pub fn physical(physical: &Physical) -> Result<(), String> {
         exchange_extraction_bytes(extraction, functions, &mut out);
         let expected = read(frame, &["extract", "exchange"]);
         same(name, ours.plan(), &out, &expected)?;
+    }
+    Ok(())
+}
+
+pub fn print(physical: &Physical) -> Result<(), String> {
+    for frame in &physical.group.frames {
+        let name = physical.group.name;
+        let mut text = vec![0; MOST_TEXT];
+        let length = calls::print(frame, &mut text).expect("the frames are good");
+        let mut plain = vec![0; MOST_TEXT];
+        if plain::print(frame, &mut plain) != Ok(length) || plain != text {
+            return Err(format!("{name}: plain Rust differs from the reading"));
+        }
+        let mut console = Console::new();
+        console.print(frame);
+        if console.text() != &text[..length] {
+            return Err(format!("{name}: ours differs from the reading"));
+        }
     }
     Ok(())
 }

@@ -4,7 +4,7 @@ use reading::encode;
 use reading::frame::{Expr, Frame, MAX_NODES, MAX_RECORDS, Record, Side, literal, operator};
 
 use crate::parts::{
-    binary, call, comb, conjuncts_of_bytes, conjuncts_of_nodes, number, tree, with_match,
+    binary, call, comb, conjuncts_of_bytes, conjuncts_of_nodes, number, tree, tree_of, with_match,
 };
 
 pub struct Group {
@@ -48,6 +48,11 @@ pub fn physical() -> Vec<Group> {
     groups.push(single("worst for the Rust", worst_for_rust()));
     groups.push(single("worst for ours", worst_for_ours()));
     groups
+}
+
+/// For print alone.
+pub fn texts() -> Vec<Group> {
+    vec![single("longest text", longest_text())]
 }
 
 pub fn logical() -> Vec<Group> {
@@ -136,6 +141,17 @@ fn worst_for_ours() -> Vec<u8> {
     conjuncts.extend(vec![call("st_withim", Vec::new()); 438]);
     conjuncts.push(matching());
     physical_frame(records(MAX_RECORDS), tree(conjuncts))
+}
+
+/// The nodes with the most text for their bytes, five characters for two: tags of five digits below
+/// operators of two.
+fn longest_text() -> Vec<u8> {
+    let other = Expr::Other {
+        tag: u16::MAX,
+        children: Vec::new(),
+    };
+    let wide = tree_of(operator::LAST, vec![other; MAX_NODES / 2 - 2]);
+    physical_frame(records(2), binary(operator::AND, wide, matching()))
 }
 
 fn logical_column(number: usize) -> Expr {

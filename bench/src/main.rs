@@ -8,15 +8,17 @@ mod operations;
 mod original;
 mod ours;
 mod parts;
+mod plain;
 mod table;
 
 use std::env;
 use std::process::ExitCode;
 
-use measure::{Task, measure};
+use frames::Group;
+use measure::{Row, Task, measure};
 use operations::{Logical, Physical};
-use ours::Ours;
-use table::Table;
+use ours::{Console, Ours};
+use table::{Column, ORIGINAL, Table, YARDSTICK};
 
 const USAGE: &str = "bench [--rounds N | --repeat GROUP]";
 
@@ -56,34 +58,34 @@ fn asked(words: &[String]) -> Option<Asked> {
     }
 }
 
-/// Ours loads and extracts the frames of a group over and over, for a program that counts
+/// Ours loads, extracts and prints the frames of a group over and over, for a program that counts
 /// instructions.
 fn repeat(group: &str) -> Result<(), String> {
     let groups = frames::physical();
     let Some(group) = groups.iter().find(|known| known.name == group) else {
         return Err(format!("no group {group}"));
     };
-    let mut ours = Ours::new();
+    let (mut ours, mut console) = (Ours::new(), Console::new());
     for frame in group.frames.iter().cycle().take(800) {
         ours.load(frame);
         ours.extract();
+        console.print(frame);
     }
     Ok(())
 }
 
 fn run(rounds: usize) -> Result<(), String> {
-    let physical: Vec<Physical> = frames::physical().into_iter().map(Physical::new).collect();
+    let made =
+        |groups: Vec<Group>| -> Vec<Physical> { groups.into_iter().map(Physical::new).collect() };
+    let (physical, texts) = (made(frames::physical()), made(frames::texts()));
     let logical: Vec<Logical> = frames::logical().into_iter().map(Logical::new).collect();
-    physical.iter().try_for_each(check::physical)?;
+    let printed = || physical.iter().chain(&texts);
+    printed().try_for_each(check::physical)?;
+    printed().try_for_each(check::print)?;
     logical.iter().try_for_each(check::logical)?;
 
     println!("Nanoseconds a frame: median, ± half the distance between the quartiles.\n");
-    let timed = |title, tasks: Vec<Task<'_>>| {
-        let rows = measure(tasks, rounds);
-        let table = Table { title, rows };
-        table.print();
-        table
-    };
+    let timed = |title, tasks| shown(title, ORIGINAL, measure(tasks, rounds));
     let each = |task: fn(&Physical) -> Task<'_>| physical.iter().map(task).collect();
     let tables = [
         timed("Load", each(Physical::load)),
@@ -95,9 +97,25 @@ fn run(rounds: usize) -> Result<(), String> {
             each(Physical::exchange_extraction),
         ),
         timed("Logical", logical.iter().map(Logical::logical).collect()),
+        shown(
+            "Print (the original has no such call)",
+            YARDSTICK,
+            measure(printed().map(Physical::print).collect(), rounds),
+        ),
     ];
     table::print_growth(&tables);
-    let [load, load_and_extract, ..] = &tables;
-    table::print_goals(load, load_and_extract);
+    let [load, load_and_extract, .., print] = &tables;
+    table::print_goals(load, load_and_extract, print);
     Ok(())
+}
+
+/// Prints a table as soon as it is measured.
+fn shown(title: &'static str, columns: &'static [Column], rows: Vec<Row>) -> Table {
+    let table = Table {
+        title,
+        columns,
+        rows,
+    };
+    table.print();
+    table
 }

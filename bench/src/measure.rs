@@ -15,6 +15,10 @@ pub enum Contender {
     RustFromBytes,
     RustCall,
     RustAnswer,
+    /// Of print, which the original has not.
+    PlainRust,
+    /// Ours, beside our print.
+    Load,
     Copy,
 }
 

@@ -8,11 +8,13 @@ use driver::host::{LogicalJoin, logical_join};
 use driver::original::{Extracted, exchange_filter, names_and_side};
 use reading::decode;
 use reading::frame::MAX_BYTES;
+use spatialjoin::MOST_TEXT;
 
 use crate::frames::Group;
 use crate::measure::{Contender, Task, Work, Works};
 use crate::original::{self, Functions};
-use crate::ours::{self, Ours};
+use crate::ours::{self, Console, Ours};
+use crate::plain;
 
 /// Does the work on one frame after the other, from the first again after the last.
 fn in_turn<'a>(count: usize, mut one: impl FnMut(usize) + 'a) -> Work<'a> {
@@ -114,6 +116,30 @@ impl Physical {
             (Contender::Copy, copy(frames)),
         ];
         task(&self.group, &self.group.frames, works)
+    }
+
+    /// From the same bytes: our print, plain Rust's and, to compare, our load.
+    pub fn print(&self) -> Task<'_> {
+        let frames = &self.group.frames;
+        let mut console = Console::new();
+        let ours = self.each(move |i| {
+            console.print(black_box(&frames[i]));
+            black_box(&mut console);
+        });
+        let mut text = vec![0; MOST_TEXT];
+        let plain = self.each(move |i| {
+            let _ = black_box(plain::print(black_box(&frames[i]), &mut text));
+            black_box(&mut text);
+        });
+        let mut loading = Ours::new();
+        let load = self.each(move |i| loading.load(black_box(&frames[i])));
+        let works = vec![
+            (Contender::Ours, ours),
+            (Contender::PlainRust, plain),
+            (Contender::Load, load),
+            (Contender::Copy, copy(frames)),
+        ];
+        task(&self.group, frames, works)
     }
 
     pub fn load_and_extract(&self) -> Task<'_> {

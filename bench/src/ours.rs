@@ -1,7 +1,7 @@
 //! The library on buffers of a host.
 
 use reading::frame::MAX_BYTES;
-use spatialjoin::numbers;
+use spatialjoin::{MOST_TEXT, numbers};
 
 /// Both buffers as long as the longest frame; they are never cleared.
 pub struct Ours {
@@ -48,6 +48,30 @@ impl Ours {
 
     pub fn plan(&self) -> &[u8] {
         &self.plan[..self.n]
+    }
+}
+
+/// A text buffer that is long enough for every frame; it is never cleared.
+pub struct Console {
+    text: Vec<u8>,
+    length: usize,
+}
+
+impl Console {
+    pub fn new() -> Self {
+        Console {
+            text: vec![0; MOST_TEXT],
+            length: 0,
+        }
+    }
+
+    /// A refused call shows in the text, which is checked before anything is timed.
+    pub fn print(&mut self, frame: &[u8]) {
+        self.length = usize::try_from(numbers::print(frame, &mut self.text)).unwrap_or(0);
+    }
+
+    pub fn text(&self) -> &[u8] {
+        &self.text[..self.length]
     }
 }
 

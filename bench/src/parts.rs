@@ -30,12 +30,17 @@ pub fn number(value: u64) -> Expr {
 }
 
 /// The And of the conjuncts as a low tree.
-pub fn tree(mut conjuncts: Vec<Expr>) -> Expr {
-    match conjuncts.len() {
-        1 => conjuncts.remove(0),
+pub fn tree(conjuncts: Vec<Expr>) -> Expr {
+    tree_of(operator::AND, conjuncts)
+}
+
+/// The expressions joined by an operator, as a low tree.
+pub fn tree_of(op: u8, mut exprs: Vec<Expr>) -> Expr {
+    match exprs.len() {
+        1 => exprs.remove(0),
         count => {
-            let right = tree(conjuncts.split_off(count.div_ceil(2)));
-            binary(operator::AND, tree(conjuncts), right)
+            let right = tree_of(op, exprs.split_off(count.div_ceil(2)));
+            binary(op, tree_of(op, exprs), right)
         }
     }
 }

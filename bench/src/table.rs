@@ -5,6 +5,7 @@ use crate::measure::{Contender, Row};
 
 pub struct Table {
     pub title: &'static str,
+    pub columns: &'static [Column],
     pub rows: Vec<Row>,
 }
 
@@ -54,26 +55,68 @@ impl Row {
         let readings = self.readings.get(&contender)?;
         Some(median(readings) / self.bytes)
     }
-
-    fn print(&self) {
-        let cells = [
-            self.name.to_owned(),
-            number(self.bytes),
-            shown(self.ratio(&[Contender::RustFromBytes])),
-            shown(self.ratio(&[Contender::RustCall, Contender::RustAnswer])),
-            shown(self.ratio(&[Contender::RustCall])),
-            self.time(Contender::Ours),
-            shown(self.per_byte(Contender::Ours)),
-            self.time(Contender::RustFromBytes),
-            shown(self.per_byte(Contender::RustFromBytes)),
-            self.time(Contender::RustCall),
-            self.time(Contender::RustAnswer),
-            self.time(Contender::Copy),
-            shown(self.ratio(&[Contender::Copy]).map(f64::recip)),
-        ];
-        println!("| {} |", cells.join(" | "));
-    }
 }
+
+/// A column's head, and what a row has in it.
+pub type Column = (&'static str, fn(&Row) -> String);
+
+const FRAMES: Column = ("frames", |row| row.name.to_owned());
+const BYTES: Column = ("bytes", |row| number(row.bytes));
+const OURS: Column = ("ours", |row| row.time(Contender::Ours));
+const OURS_A_BYTE: Column = ("ours, a byte", |row| shown(row.per_byte(Contender::Ours)));
+const COPY: Column = ("copy", |row| row.time(Contender::Copy));
+const OURS_TO_COPY: Column = ("ours / copy", |row| {
+    shown(row.ratio(&[Contender::Copy]).map(f64::recip))
+});
+
+/// Beside the original.
+pub const ORIGINAL: &[Column] = &[
+    FRAMES,
+    BYTES,
+    ("Rust from bytes / ours", |row| {
+        shown(row.ratio(&[Contender::RustFromBytes]))
+    }),
+    ("Rust call and answer / ours", |row| {
+        shown(row.ratio(&[Contender::RustCall, Contender::RustAnswer]))
+    }),
+    ("Rust call / ours", |row| {
+        shown(row.ratio(&[Contender::RustCall]))
+    }),
+    OURS,
+    OURS_A_BYTE,
+    ("Rust from bytes", |row| row.time(Contender::RustFromBytes)),
+    ("Rust from bytes, a byte", |row| {
+        shown(row.per_byte(Contender::RustFromBytes))
+    }),
+    ("Rust call", |row| row.time(Contender::RustCall)),
+    ("Rust answer", |row| row.time(Contender::RustAnswer)),
+    COPY,
+    OURS_TO_COPY,
+];
+
+/// Beside plain Rust and our load, where the original has no such call.
+pub const YARDSTICK: &[Column] = &[
+    FRAMES,
+    BYTES,
+    ("plain Rust / ours", |row| {
+        shown(row.ratio(&[Contender::PlainRust]))
+    }),
+    ("ours / our load", |row| {
+        shown(row.ratio(&[Contender::Load]).map(f64::recip))
+    }),
+    OURS,
+    OURS_A_BYTE,
+    ("plain Rust", |row| row.time(Contender::PlainRust)),
+    ("plain Rust, a byte", |row| {
+        shown(row.per_byte(Contender::PlainRust))
+    }),
+    ("our load", |row| row.time(Contender::Load)),
+    ("our load, a byte", |row| {
+        shown(row.per_byte(Contender::Load))
+    }),
+    COPY,
+    OURS_TO_COPY,
+];
 
 const NONE: &str = "–";
 
@@ -98,13 +141,13 @@ fn number(value: f64) -> String {
 impl Table {
     pub fn print(&self) {
         println!("## {}\n", self.title);
-        println!(
-            "| frames | bytes | Rust from bytes / ours | Rust call and answer / ours \
-             | Rust call / ours | ours | ours, a byte | Rust from bytes | Rust from bytes, a byte \
-             | Rust call | Rust answer | copy | ours / copy |"
-        );
-        println!("|---{}|", "|--:".repeat(12));
-        self.rows.iter().for_each(Row::print);
+        let heads: Vec<&str> = self.columns.iter().map(|(head, _)| *head).collect();
+        println!("| {} |", heads.join(" | "));
+        println!("|---{}|", "|--:".repeat(heads.len() - 1));
+        for row in &self.rows {
+            let cells: Vec<String> = self.columns.iter().map(|(_, cell)| cell(row)).collect();
+            println!("| {} |", cells.join(" | "));
+        }
         println!();
     }
 
@@ -159,12 +202,12 @@ pub fn print_growth(tables: &[Table]) {
 }
 
 /// The goals beside what was measured. Nothing is tested: the times are this machine's.
-pub fn print_goals(load: &Table, load_and_extract: &Table) {
+pub fn print_goals(load: &Table, load_and_extract: &Table, print: &Table) {
     println!("## Goals\n");
     println!("| goal | measured | reached |");
     println!("|---|---|---|");
     print_speeds(load_and_extract);
-    for table in [load, load_and_extract] {
+    for table in [load, load_and_extract, print] {
         let growth = table.growth(Contender::Ours).unwrap_or(f64::NAN);
         let title = table.title;
         let goal = format!("{title}: a byte of 16,384 costs at most 1.3 times one of 1,024");
