@@ -3,7 +3,8 @@
  *
  * PLANS. The host lends a buffer and keeps n: the plan stands in the buffer's first n bytes, and at the start, when there is none, n is
  * 0. After an accepted call n is the answer, after a refused one what it was. A refused call changes no byte of any buffer.
- * SPATIALJOIN_MOST_BYTES are enough for every frame, plan and scratch. docs/FRAMES.md of the repository has their bytes.
+ * SPATIALJOIN_MOST_BYTES are enough for every frame, plan and scratch, SPATIALJOIN_MOST_TEXT for every text. docs/FRAMES.md of the
+ * repository has their bytes.
  *
  * ANSWERS. An answer of at least 0 is a length (of spatialjoin_logical: see there). A negative one is a refusal: one of
  * enum spatialjoin_refusal.
@@ -24,13 +25,16 @@
 #include <stddef.h>
 #include <stdint.h>
 
-#define SPATIALJOIN_VERSION "0.1.0"
+#define SPATIALJOIN_VERSION "0.2.0"
 #define SPATIALJOIN_VERSION_MAJOR 0
-#define SPATIALJOIN_VERSION_MINOR 1
+#define SPATIALJOIN_VERSION_MINOR 2
 #define SPATIALJOIN_VERSION_PATCH 0
 
 /* The most bytes of a frame or plan. */
 #define SPATIALJOIN_MOST_BYTES 16384
+
+/* The most bytes of a text that spatialjoin_print writes: no good frame has a longer one (theorem text-is-short). */
+#define SPATIALJOIN_MOST_TEXT 26620
 
 /* The most bytes of stack that a call needs. */
 #define SPATIALJOIN_STACK_BYTES 131072
@@ -61,7 +65,8 @@ enum spatialjoin_refusal {
     SPATIALJOIN_NO_GOOD_PLAN = -10,      /* n is over the buffer's length, or its first n bytes are no good plan */
     SPATIALJOIN_PLAN_EMPTY = -11,        /* n is 0 */
     SPATIALJOIN_ALREADY_EXTRACTED = -12, /* the plan is an extraction already */
-    SPATIALJOIN_NO_MATCH = -13           /* no conjunct matches: the join stays filtered */
+    SPATIALJOIN_NO_MATCH = -13,          /* no conjunct matches: the join stays filtered */
+    SPATIALJOIN_TEXT_TOO_SHORT = -15     /* the text buffer is shorter than the text; -14 is no call's, but of the program's lines */
 };
 
 /* The first byte of a plan. */
@@ -122,6 +127,12 @@ int64_t spatialjoin_exchange(uint8_t *SPATIALJOIN_RESTRICT plan, size_t plan_len
  * or -1, -2, the first of -3 to -5 from left to right, -7 in this order. The mask has a bit for each name that occurs (enum
  * spatialjoin_name), `names` is how many they are, and side is one of enum spatialjoin_side. */
 int64_t spatialjoin_logical(const uint8_t *frame, size_t frame_len);
+
+/* Writes a physical frame's filter as text at the text buffer's start: the text's length, or -1, -2, the first of -3 to -6 from left
+ * to right, -7, -8, -15 in this order. The bytes after the text stay as they were, and no 0 ends it. Its characters are from 32 to
+ * 126. No plan plays a part. */
+int64_t spatialjoin_print(const uint8_t *SPATIALJOIN_RESTRICT frame, size_t frame_len,
+                          uint8_t *SPATIALJOIN_RESTRICT text, size_t text_len);
 
 #ifdef __cplusplus
 }

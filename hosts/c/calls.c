@@ -1,5 +1,5 @@
-/* Tests of the library as a C host sees it: every refusal by its constant, the names of the mask, NULL with length 0. Ends with 1
- * where a call answers otherwise. `../check` builds and runs it. */
+/* Tests of the library as a C host sees it: every refusal by its constant, the names of the mask, texts, NULL with length 0. Ends
+ * with 1 where a call answers otherwise. `../check` builds and runs it. */
 #include <stdio.h>
 #include <string.h>
 
@@ -13,6 +13,7 @@
 
 static uint8_t plan[SPATIALJOIN_MOST_BYTES];
 static uint8_t scratch[SPATIALJOIN_MOST_BYTES];
+static uint8_t text[SPATIALJOIN_MOST_TEXT];
 static uint8_t frame[SPATIALJOIN_MOST_BYTES + 1];
 static int tried, failed;
 
@@ -28,6 +29,7 @@ static void expect(const char *what, int64_t answer, int64_t expected)
 /* The bytes of a text, its last 0 not among them. */
 #define LOAD(text) spatialjoin_load((const uint8_t *)(text), sizeof(text) - 1, plan, sizeof plan)
 #define LOGICAL(text) spatialjoin_logical((const uint8_t *)(text), sizeof(text) - 1)
+#define PRINT(bytes, room) spatialjoin_print((const uint8_t *)(bytes), sizeof(bytes) - 1, text, room)
 
 /* A frame of this many levels: functions of one argument, the last of none. */
 static size_t levels(size_t count)
@@ -120,6 +122,44 @@ static void names_of_frames(void)
     expect("logical, first byte", LOGICAL("\x01\x04\x00\x00\x00"), SPATIALJOIN_FIRST_BYTE);
 }
 
+/* A frame's text, with a byte after it that is kept; one byte short it is refused and nothing is written. */
+static void expect_text(const char *expected, const char *bytes, size_t length)
+{
+    size_t count = strlen(expected);
+    memset(text, '.', sizeof text);
+    expect(expected, spatialjoin_print((const uint8_t *)bytes, length, text, count - 1), SPATIALJOIN_TEXT_TOO_SHORT);
+    expect("nothing written", text[0] == '.' && memcmp(text, text + 1, count) == 0, 1);
+    expect(expected, spatialjoin_print((const uint8_t *)bytes, length, text, count), (int64_t)count);
+    expect(expected, memcmp(text, expected, count) == 0 && text[count] == '.', 1);
+    expect(expected, spatialjoin_print((const uint8_t *)bytes, length, text, sizeof text), (int64_t)count);
+    expect(expected, memcmp(text, expected, count) == 0 && text[count] == '.', 1);
+}
+
+#define EXPECT_TEXT(expected, bytes) expect_text(expected, bytes, sizeof(bytes) - 1)
+
+static void texts_of_frames(void)
+{
+    EXPECT_TEXT("f9:st_within[c0:0,c1:0]", GOOD);
+    EXPECT_TEXT("c0:65535", RECORDS "\x00\x00\x00\xff\xff");
+    EXPECT_TEXT("#2:ffffffffffffffea", "\x01\x00\x00" "\x01\x02\xff\xff\xff\xff\xff\xff\xff\xea");
+    EXPECT_TEXT("(c0:0 o63 x10[])", RECORDS "\x02\x3f" LEFT "\x04\x00\x0a\x00");
+    EXPECT_TEXT("f4:],[:[x0[c1:0]]", RECORDS "\x03\x04" "],[:" "\x01" "\x04\x00\x00\x01" RIGHT);
+}
+
+static void refusals_of_texts(void)
+{
+    expect("print nothing", PRINT("", 0), SPATIALJOIN_FRAME_LENGTH);
+    expect("print too many bytes", spatialjoin_print(frame, sizeof frame, text, 0), SPATIALJOIN_FRAME_LENGTH);
+    expect("print a logical frame", PRINT("\x02\x04\x00\x00\x00", 0), SPATIALJOIN_FIRST_BYTE);
+    expect("print, cut", PRINT("\x01\x00\x00\x04", 0), SPATIALJOIN_FRAME_ENDS);
+    expect("print, kind 5", PRINT("\x01\x00\x00\x05", 0), SPATIALJOIN_OUT_OF_RANGE);
+    expect("print 65 levels", spatialjoin_print(frame, levels(65), text, 0), SPATIALJOIN_TOO_LARGE);
+    expect("print, no column 0", PRINT("\x01\x00\x00" LEFT, 0), SPATIALJOIN_NO_SUCH_COLUMN);
+    expect("print, a byte more", PRINT(GOOD "\x00", 0), SPATIALJOIN_BYTES_AFTER);
+    expect("print st_within()", PRINT(RECORDS "\x03\x09" "st_within" "\x00", 0), SPATIALJOIN_TOO_FEW_ARGUMENTS);
+    expect("print, no room", PRINT(GOOD, 0), SPATIALJOIN_TEXT_TOO_SHORT);
+}
+
 static void null_buffers(void)
 {
     size_t n;
@@ -127,6 +167,9 @@ static void null_buffers(void)
     expect("load NULL to NULL", spatialjoin_load(NULL, 0, NULL, 0), SPATIALJOIN_FRAME_LENGTH);
     expect("load to NULL", spatialjoin_load((const uint8_t *)GOOD, sizeof(GOOD) - 1, NULL, 0), SPATIALJOIN_TOO_SHORT);
     expect("logical NULL", spatialjoin_logical(NULL, 0), SPATIALJOIN_FRAME_LENGTH);
+    expect("print NULL", spatialjoin_print(NULL, 0, text, sizeof text), SPATIALJOIN_FRAME_LENGTH);
+    expect("print NULL to NULL", spatialjoin_print(NULL, 0, NULL, 0), SPATIALJOIN_FRAME_LENGTH);
+    expect("print to NULL", spatialjoin_print((const uint8_t *)GOOD, sizeof(GOOD) - 1, NULL, 0), SPATIALJOIN_TEXT_TOO_SHORT);
     expect("extract from NULL", spatialjoin_extract(NULL, 0, 0, NULL, 0), SPATIALJOIN_PLAN_EMPTY);
     expect("extract from NULL, n = 1", spatialjoin_extract(NULL, 0, 1, NULL, 0), SPATIALJOIN_NO_GOOD_PLAN);
     expect("exchange in NULL", spatialjoin_exchange(NULL, 0, 0, NULL, 0), SPATIALJOIN_PLAN_EMPTY);
@@ -141,6 +184,8 @@ int main(void)
     refusals_of_frames();
     refusals_of_plans();
     names_of_frames();
+    texts_of_frames();
+    refusals_of_texts();
     null_buffers();
     printf("%d answers, %d wrong\n", tried, failed);
     return failed > 0;

@@ -1,4 +1,5 @@
-/* A C host: the worked run, its answers printed as the program spatialjoin prints them. `../check` builds and runs it. */
+/* A C host: the worked run's filter as text, then the run, its answers printed as the program spatialjoin prints them. `../check`
+ * builds and runs it. */
 #include <inttypes.h>
 #include <stdio.h>
 
@@ -17,16 +18,25 @@ static const uint8_t frame[] = {
     0x00, 0x00, 0x01, 0x00, 0x08,                                        /*   column 1, name tag 8 */
 };
 
-/* The host lends both buffers and keeps n, the length of the plan. */
+/* The host lends the buffers and keeps n, the length of the plan. */
+static uint8_t text[SPATIALJOIN_MOST_TEXT];
 static uint8_t plan[SPATIALJOIN_MOST_BYTES];
 static uint8_t scratch[SPATIALJOIN_MOST_BYTES];
 static size_t n = 0;
 
-/* Keeps an accepted call's length as n and prints the plan; a refused call's number is printed alone. */
-static void take(int64_t answer)
+/* Prints a refused call's number. */
+static int refused(int64_t answer)
 {
     if (answer < 0) {
         printf("%02" PRIx64 "\n", (uint64_t)-answer);
+    }
+    return answer < 0;
+}
+
+/* Keeps an accepted call's length as n and prints the plan. */
+static void take(int64_t answer)
+{
+    if (refused(answer)) {
         return;
     }
     n = (size_t)answer;
@@ -37,8 +47,17 @@ static void take(int64_t answer)
     printf("\n");
 }
 
+/* The text ends where the answer says: no 0 stands after it. */
+static void show(int64_t answer)
+{
+    if (!refused(answer)) {
+        printf("%.*s\n", (int)answer, (const char *)text);
+    }
+}
+
 int main(void)
 {
+    show(spatialjoin_print(frame, sizeof frame, text, sizeof text));
     take(spatialjoin_load(frame, sizeof frame, plan, sizeof plan));
     take(spatialjoin_extract(plan, sizeof plan, n, scratch, sizeof scratch));
     take(spatialjoin_exchange(plan, sizeof plan, n, scratch, sizeof scratch));

@@ -12,8 +12,8 @@
 #define PATTERN 0xa5
 #define STACK_SIZE (4 * SPATIALJOIN_STACK_BYTES)
 
-enum call { LOAD, EXTRACT, EXCHANGE, LOGICAL, CALLS };
-static const char *const call_names[CALLS] = {"load", "extract", "exchange", "logical"};
+enum call { LOAD, EXTRACT, EXCHANGE, LOGICAL, PRINT, CALLS };
+static const char *const call_names[CALLS] = {"load", "extract", "exchange", "logical", "print"};
 
 /* How a node holds the deeper one below it. */
 enum shape { AND_LEFT, AND_RIGHT, OR_LEFT, OR_RIGHT, FUNCTION_ONE, FUNCTION_LAST, OTHER_ONE, OTHER_LAST, SHAPES };
@@ -29,6 +29,7 @@ static int logical_frame;
 
 static uint8_t plan[SPATIALJOIN_MOST_BYTES];
 static uint8_t scratch[SPATIALJOIN_MOST_BYTES];
+static uint8_t text[SPATIALJOIN_MOST_TEXT];
 static size_t n;
 
 static uint8_t stack[STACK_SIZE];
@@ -177,6 +178,7 @@ static void make_call(void)
     case EXTRACT: answer = spatialjoin_extract(plan, sizeof plan, n, scratch, sizeof scratch); break;
     case EXCHANGE: answer = spatialjoin_exchange(plan, sizeof plan, n, scratch, sizeof scratch); break;
     case LOGICAL: answer = spatialjoin_logical(frame, frame_len); break;
+    case PRINT: answer = spatialjoin_print(frame, frame_len, text, sizeof text); break;
     case CALLS: break;
     }
 }
@@ -201,7 +203,7 @@ static void measure(enum call call)
     }
     if (answer >= 0) {
         accepted[call]++;
-        n = call == LOGICAL ? n : (size_t)answer;
+        n = call == LOGICAL || call == PRINT ? n : (size_t)answer;
     }
 }
 
@@ -210,6 +212,7 @@ static void measure_frame(void)
     if (logical_frame) {
         measure(LOGICAL);
     } else {
+        measure(PRINT);
         measure(LOAD);
         measure(EXCHANGE);
         measure(EXTRACT);

@@ -1,6 +1,7 @@
-//! A Rust host: the worked run, its answers printed as the program spatialjoin prints them.
+//! A Rust host: the worked run's filter as text, then the run, its answers printed as the program
+//! spatialjoin prints them.
 
-use spatialjoin::{MOST_BYTES, Refusal};
+use spatialjoin::{MOST_BYTES, MOST_TEXT, Refusal};
 
 /// `st_within(column 0, column 1) AND column 1`; column 0 is column 3 of the right child, column 1
 /// column 0 of the left. `hosts/c/host.c` has it byte by byte.
@@ -46,7 +47,16 @@ fn hex(bytes: &[u8]) -> String {
     bytes.iter().map(|byte| format!("{byte:02x}")).collect()
 }
 
+fn show(frame: &[u8]) {
+    let mut text = vec![0; MOST_TEXT];
+    match spatialjoin::print(frame, &mut text) {
+        Ok(length) => println!("{}", String::from_utf8_lossy(&text[..length])),
+        Err(refusal) => println!("{refusal}"),
+    }
+}
+
 fn main() {
+    show(FRAME);
     let mut host = Host {
         plan: vec![0; MOST_BYTES],
         scratch: vec![0; MOST_BYTES],

@@ -4,8 +4,8 @@
 //! The host lends a buffer and keeps `n`: the plan stands in the buffer's first `n` bytes, and at
 //! the start, when there is none, `n` is 0. After an accepted call `n` is the length that the call
 //! gave, after a refused one what it was. A refused call changes no byte of any buffer.
-//! [`MOST_BYTES`] are enough for every frame, plan and scratch. `docs/FRAMES.md` of the repository
-//! has their bytes.
+//! [`MOST_BYTES`] are enough for every frame, plan and scratch, [`MOST_TEXT`] for every text.
+//! `docs/FRAMES.md` of the repository has their bytes.
 //!
 //! The calls have no state and allocate nothing, so any number of threads may make them. A call
 //! needs at most [`STACK_BYTES`] of stack, which is measured and not proved.
@@ -17,6 +17,9 @@ pub use refusal::Refusal;
 
 /// The most bytes of a frame or plan.
 pub const MOST_BYTES: usize = 16_384;
+
+/// The most bytes of a text that [`print`] writes.
+pub const MOST_TEXT: usize = 26_620;
 
 /// The most bytes of stack that a call needs.
 pub const STACK_BYTES: usize = 131_072;
@@ -106,6 +109,16 @@ pub fn logical(frame: &[u8]) -> Result<Names, Refusal> {
             _ => None,
         },
     })
+}
+
+/// Writes a physical frame's filter as text at the buffer's start and gives the text's length. The
+/// bytes after it stay as they were. Its characters are from 32 to 126.
+///
+/// # Errors
+///
+/// Refusals 1 to 8 and 15.
+pub fn print(frame: &[u8], text: &mut [u8]) -> Result<usize, Refusal> {
+    length(numbers::print(frame, text))
 }
 
 fn length(answer: i64) -> Result<usize, Refusal> {

@@ -24,6 +24,12 @@ mod c {
             scratch_len: usize,
         ) -> i64;
         pub fn spatialjoin_logical(frame: *const u8, frame_len: usize) -> i64;
+        pub fn spatialjoin_print(
+            frame: *const u8,
+            frame_len: usize,
+            text: *mut u8,
+            text_len: usize,
+        ) -> i64;
     }
 }
 
@@ -46,4 +52,8 @@ pub fn exchange(plan: &mut [u8], n: usize, scratch: &mut [u8]) -> i64 {
 
 pub fn logical(frame: &[u8]) -> i64 {
     unsafe { c::spatialjoin_logical(frame.as_ptr(), frame.len()) }
+}
+
+pub fn print(frame: &[u8], text: &mut [u8]) -> i64 {
+    unsafe { c::spatialjoin_print(frame.as_ptr(), frame.len(), text.as_mut_ptr(), text.len()) }
 }

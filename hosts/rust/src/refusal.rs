@@ -5,66 +5,87 @@ use std::fmt;
 #[derive(Clone, Copy, Debug, PartialEq, Eq, Hash)]
 pub enum Refusal {
     /// 1: the frame is empty or over 16,384 bytes.
-    FrameLength,
+    FrameLength = 1,
     /// 2: wrong first byte.
-    FirstByte,
+    FirstByte = 2,
     /// 3: the frame ends inside a field.
-    FrameEnds,
+    FrameEnds = 3,
     /// 4: a field is out of its range.
-    OutOfRange,
+    OutOfRange = 4,
     /// 5: over 1,024 nodes, or over 64 levels.
-    TooLarge,
+    TooLarge = 5,
     /// 6: a column's index is not below the column count.
-    NoSuchColumn,
+    NoSuchColumn = 6,
     /// 7: bytes after the frame's end.
-    BytesAfter,
+    BytesAfter = 7,
     /// 8: a conjunct lacks arguments.
-    TooFewArguments,
+    TooFewArguments = 8,
     /// 9: the plan buffer (load) or the scratch is too short.
-    TooShort,
+    TooShort = 9,
     /// 10: `n` is over the buffer's length, or its first `n` bytes are no good plan.
-    NoGoodPlan,
+    NoGoodPlan = 10,
     /// 11: `n` is 0.
-    PlanEmpty,
+    PlanEmpty = 11,
     /// 12: the plan is an extraction already.
-    AlreadyExtracted,
+    AlreadyExtracted = 12,
     /// 13: no conjunct matches; the join stays filtered.
-    NoMatch,
+    NoMatch = 13,
+    /// 15: the text buffer is shorter than the text. (14 is no call's, but of the program's lines.)
+    TextTooShort = 15,
 }
 
-/// The refusals with their texts, number 1 first.
-const ALL: [(Refusal, &str); 13] = [
-    (Refusal::FrameLength, "frame empty or over 16,384 bytes"),
-    (Refusal::FirstByte, "wrong first byte"),
-    (Refusal::FrameEnds, "frame ends inside a field"),
-    (Refusal::OutOfRange, "field out of its range"),
-    (Refusal::TooLarge, "over 1,024 nodes, or over 64 levels"),
-    (Refusal::NoSuchColumn, "no such column"),
-    (Refusal::BytesAfter, "bytes after the end"),
-    (Refusal::TooFewArguments, "a conjunct lacks arguments"),
-    (Refusal::TooShort, "plan buffer or scratch too short"),
-    (Refusal::NoGoodPlan, "no good plan in the first n bytes"),
-    (Refusal::PlanEmpty, "plan empty"),
-    (Refusal::AlreadyExtracted, "plan already extracted"),
-    (Refusal::NoMatch, "no conjunct matches"),
-];
-
 impl Refusal {
-    /// 1 to 13.
+    /// All of them, by number.
+    pub const ALL: [Refusal; 14] = [
+        Refusal::FrameLength,
+        Refusal::FirstByte,
+        Refusal::FrameEnds,
+        Refusal::OutOfRange,
+        Refusal::TooLarge,
+        Refusal::NoSuchColumn,
+        Refusal::BytesAfter,
+        Refusal::TooFewArguments,
+        Refusal::TooShort,
+        Refusal::NoGoodPlan,
+        Refusal::PlanEmpty,
+        Refusal::AlreadyExtracted,
+        Refusal::NoMatch,
+        Refusal::TextTooShort,
+    ];
+
+    /// 1 to 13, or 15.
     pub fn number(self) -> u8 {
-        self as u8 + 1
+        self as u8
     }
 
     pub(crate) fn from_number(number: u64) -> Option<Self> {
-        let position = usize::try_from(number).ok()?.checked_sub(1)?;
-        ALL.get(position).map(|(refusal, _)| *refusal)
+        let known = |refusal: &Refusal| u64::from(refusal.number()) == number;
+        Self::ALL.into_iter().find(known)
+    }
+
+    fn text(self) -> &'static str {
+        match self {
+            Refusal::FrameLength => "frame empty or over 16,384 bytes",
+            Refusal::FirstByte => "wrong first byte",
+            Refusal::FrameEnds => "frame ends inside a field",
+            Refusal::OutOfRange => "field out of its range",
+            Refusal::TooLarge => "over 1,024 nodes, or over 64 levels",
+            Refusal::NoSuchColumn => "no such column",
+            Refusal::BytesAfter => "bytes after the end",
+            Refusal::TooFewArguments => "a conjunct lacks arguments",
+            Refusal::TooShort => "plan buffer or scratch too short",
+            Refusal::NoGoodPlan => "no good plan in the first n bytes",
+            Refusal::PlanEmpty => "plan empty",
+            Refusal::AlreadyExtracted => "plan already extracted",
+            Refusal::NoMatch => "no conjunct matches",
+            Refusal::TextTooShort => "text buffer shorter than the text",
+        }
     }
 }
 
 impl fmt::Display for Refusal {
     fn fmt(&self, f: &mut fmt::Formatter<'_>) -> fmt::Result {
-        let (_, text) = ALL[*self as usize];
-        write!(f, "refusal {}: {text}", self.number())
+        write!(f, "refusal {}: {}", self.number(), self.text())
     }
 }
 

@@ -1,7 +1,7 @@
-//! The worked run, every refusal of every call, the names of the mask and the query side.
+//! The worked run, every refusal of every call, the names of the mask and the query side, texts.
 
-use spatialjoin::{MOST_BYTES, NAMES, Names, Refusal, STACK_BYTES, Side};
-use spatialjoin::{exchange, extract, load, logical};
+use spatialjoin::{MOST_BYTES, MOST_TEXT, NAMES, Names, Refusal, STACK_BYTES, Side};
+use spatialjoin::{exchange, extract, load, logical, print};
 
 /// Columns 0 (of the left child) and 1 (of the right).
 const RECORDS: &[u8] = b"\x01\0\x02\0\0\0\0\0\x01\0\0\0\0";
@@ -153,6 +153,65 @@ fn refusals_of_a_logical_call() {
     assert_eq!(logical(&longer), Err(Refusal::BytesAfter));
 }
 
+/// The text of a frame in a buffer that is just long enough and in a longer one.
+fn text_of(frame: &[u8]) -> String {
+    let mut text = vec![7; MOST_TEXT];
+    let length = print(frame, &mut text).expect("a good frame");
+    assert_eq!(text[length..], vec![7; MOST_TEXT - length]);
+    let mut exact = vec![0; length];
+    assert_eq!(print(frame, &mut exact), Ok(length));
+    assert_eq!(exact, text[..length]);
+    String::from_utf8(exact).expect("its characters are from 32 to 126")
+}
+
+/// What a print with no room answers.
+fn print_alone(frame: &[u8]) -> Result<usize, Refusal> {
+    print(frame, &mut [])
+}
+
+#[test]
+fn texts() {
+    let run = include_str!("../../../examples/worked-run.txt");
+    let worked = include_str!("../../../examples/worked-run-text.txt");
+    let frame = bytes(run.lines().next().expect("a frame"));
+    assert_eq!(text_of(&frame), worked.trim_end());
+    let literal = frame_of(b"\x01\x06\x01\x23\x45\x67\x89\xab\xcd\xef");
+    assert_eq!(text_of(&literal), "#6:0123456789abcdef");
+    let marks = [RECORDS, &call("],[:", 2), LEFT, b"\x04\xff\xff\0"].concat();
+    assert_eq!(text_of(&marks), "f4:],[:[c0:0,x65535[]]");
+    let binary = [RECORDS, b"\x02\x3f", LEFT, RIGHT].concat();
+    assert_eq!(text_of(&binary), "(c0:0 o63 c1:0)");
+}
+
+#[test]
+fn texts_of_the_price_list() {
+    let list = include_str!("../../../docs/PRICE-LIST.md");
+    let lines = include_str!("../../../examples/price-lines.txt").lines();
+    for frame in lines.filter(|line| line.starts_with("01")) {
+        let text = text_of(&bytes(frame));
+        assert!(list.contains(&format!(" | `{text}` |\n")), "{text}");
+    }
+}
+
+#[test]
+fn refusals_of_a_print() {
+    let good = good();
+    assert_eq!(print_alone(b""), Err(Refusal::FrameLength));
+    assert_eq!(print_alone(b"\x02"), Err(Refusal::FirstByte));
+    assert_eq!(print_alone(&good[..9]), Err(Refusal::FrameEnds));
+    assert_eq!(print_alone(&frame_of(b"\x05")), Err(Refusal::OutOfRange));
+    let deep = frame_of(&levels(65));
+    assert_eq!(print_alone(&deep), Err(Refusal::TooLarge));
+    assert_eq!(print_alone(&frame_of(LEFT)), Err(Refusal::NoSuchColumn));
+    let longer = [&good[..], b"\0"].concat();
+    assert_eq!(print_alone(&longer), Err(Refusal::BytesAfter));
+    let fewer = frame_of(&call("st_within", 0));
+    assert_eq!(print_alone(&fewer), Err(Refusal::TooFewArguments));
+    let mut short = vec![7; text_of(&good).len() - 1];
+    assert_eq!(print(&good, &mut short), Err(Refusal::TextTooShort));
+    assert_eq!(short, vec![7; short.len()]);
+}
+
 #[test]
 fn names_have_their_bits() {
     for (bit, name) in NAMES.iter().enumerate() {
@@ -180,26 +239,12 @@ fn query_sides() {
 
 #[test]
 fn every_refusal_has_its_number_and_text() {
-    let texts: Vec<String> = (1..=13)
-        .map(|number| format!("refusal {number}: "))
-        .collect();
-    let refusals = [
-        Refusal::FrameLength,
-        Refusal::FirstByte,
-        Refusal::FrameEnds,
-        Refusal::OutOfRange,
-        Refusal::TooLarge,
-        Refusal::NoSuchColumn,
-        Refusal::BytesAfter,
-        Refusal::TooFewArguments,
-        Refusal::TooShort,
-        Refusal::NoGoodPlan,
-        Refusal::PlanEmpty,
-        Refusal::AlreadyExtracted,
-        Refusal::NoMatch,
-    ];
-    for (refusal, text) in refusals.iter().zip(&texts) {
-        assert!(refusal.to_string().starts_with(text));
+    let numbers = (1..=13).chain([15]);
+    for (refusal, number) in Refusal::ALL.into_iter().zip(numbers) {
+        assert_eq!(refusal.number(), number);
+        let text = refusal.to_string();
+        assert!(text.len() > format!("refusal {number}: ").len());
+        assert!(text.starts_with(&format!("refusal {number}: ")));
     }
 }
 
@@ -211,6 +256,7 @@ fn the_header_has_the_same_limits_and_version() {
         assert!(header.lines().any(|known| known == line), "{line}");
     };
     defines("MOST_BYTES", MOST_BYTES.to_string());
+    defines("MOST_TEXT", MOST_TEXT.to_string());
     defines("STACK_BYTES", STACK_BYTES.to_string());
     defines("VERSION", format!("{:?}", env!("CARGO_PKG_VERSION")));
     defines("VERSION_MAJOR", env!("CARGO_PKG_VERSION_MAJOR").to_owned());
