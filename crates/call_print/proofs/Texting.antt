@@ -26,7 +26,8 @@ use Rattle.printing.specs.Texts.{TextAt, TextThere, OfText, NodePrinted}
 use Rattle.printing.specs.declared.texts.Printed.{Printed}
 
 module _ (frame before : List ℕ) where
-  pub print-refuses : (number : ℕ) → frameOf frame ≡ refused number → print frame before ≡ record { answer = refused number; buffer = before }
+  pub print-refuses : (number : ℕ) → frameOf frame ≡ refused number
+      → print frame before ≡ record { answer = refused number; buffer = before }
   unfolding print textOf finishPrint
   print-refuses number e = ap (λ (r : Result Frame). finishPrint before (textOf (length before) r)) e
 
@@ -37,7 +38,9 @@ module _ (frame before : List ℕ) where
     text-at = record {
       bound = length (F .records);
       row = record {
-        bytes = at .expr .bytes .bytes ∙ ap (λ (l : List ℕ). exprBytes (F .expr) ++ l) (drop-of-length-le frame {i = length frame} (omega arith));
+        bytes =
+            at .expr .bytes .bytes
+            ∙ ap (λ (l : List ℕ). exprBytes (F .expr) ++ l) (drop-of-length-le frame {i = length frame} (omega arith));
         inRange = (at .expr .readable .inRange, tt);
         within = omega (arith, at .expr .bytes .ends, at .expr .bytes .within);
       };

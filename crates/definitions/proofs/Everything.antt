@@ -115,7 +115,8 @@ unfolding Program.digitValue Program.pairBytes Program.digitBytes Program.orRefu
 program = 0
 
 unfoldable pub printing : ℕ
-unfolding Printed.figures Printed.decimalWidth Printed.decimal Printed.digits16 Printed.printed Printed.textOf Printed.finishPrint Printed.print
+unfolding Printed.figures Printed.decimalWidth Printed.decimal Printed.digits16 Printed.printed
+    Printed.textOf Printed.finishPrint Printed.print
 printing = 0
 
 unfoldable pub everything : ℕ

@@ -40,7 +40,9 @@ plain-both s t h k = record { chars = all-append (λ c. (32 ≤ c) × (c ≤ 126
 
 digit-plain : (d : ℕ) → d < 16 → (32 ≤ digit d) × (digit d ≤ 126)
 unfolding digit
-digit-plain d h = by-test (λ (c : ℕ). (32 ≤ c) × (c ≤ 126)) (ltb d 10) (d + 48) (d + 87) (λ _. (omega arith, omega arith)) (λ _. (omega arith, omega arith))
+digit-plain d h =
+    by-test (λ (c : ℕ). (32 ≤ c) × (c ≤ 126)) (ltb d 10) (d + 48) (d + 87) (λ _. (omega arith, omega arith))
+    (λ _. (omega arith, omega arith))
 
 figures-plain : (w v : ℕ) → Plain (figures w v)
 unfolding figures
@@ -98,9 +100,11 @@ mutual
   text-plain b (binary o l r) = λ h. pair-plain o (printed l) (printed r) (text-plain b l (h .2)) (text-plain b r (h .3))
   text-plain b (call name es) = λ h.
       mark 102 _ refl (plain-both (decimal (length name)) _ (decimal-plain (length name))
-      (mark 58 _ refl (plain-both name _ (name-plain name (h .2)) (mark 91 _ refl (plain-both (printedAll es) _ (all-plain b es (h .4)) (mark 93 [] refl none))))))
+      (mark 58 _ refl (plain-both name _ (name-plain name (h .2))
+      (mark 91 _ refl (plain-both (printedAll es) _ (all-plain b es (h .4)) (mark 93 [] refl none))))))
   text-plain b (other tag es) = λ h.
-      mark 120 _ refl (plain-both (decimal tag) _ (decimal-plain tag) (mark 91 _ refl (plain-both (printedAll es) _ (all-plain b es (h .2)) (mark 93 [] refl none))))
+      mark 120 _ refl (plain-both (decimal tag) _ (decimal-plain tag)
+      (mark 91 _ refl (plain-both (printedAll es) _ (all-plain b es (h .2)) (mark 93 [] refl none))))
   text-plain b (field x t) = λ h. none
 
   all-plain : (b : ℕ) (es : Exprs) → InRangeAll (indexBelow b) es → Plain (printedAll es)
@@ -178,7 +182,8 @@ print-gives frame buffer a =
     let t : Took frame buffer (frameOf frame) = took frame buffer (frameOf frame) a in
     (t .0, prints frame buffer (t .0) (t .1) (t .2) (t .3))
 
-refused-keeps : (buffer : List ℕ) (r : Result (List ℕ)) → accepted (finishPrint buffer r .answer) ≡ false → finishPrint buffer r .buffer ≡ buffer
+refused-keeps : (buffer : List ℕ) (r : Result (List ℕ)) → accepted (finishPrint buffer r .answer) ≡ false
+    → finishPrint buffer r .buffer ≡ buffer
 unfolding accepted finishPrint
 refused-keeps buffer (ok text) a = absurd (false≢true (sym a))
 refused-keeps buffer (refused number) a = refl

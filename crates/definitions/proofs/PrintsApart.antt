@@ -35,12 +35,14 @@ ApartMore es = (es′ : Exprs) (b b′ : ℕ) (s s′ : List ℕ) → InRangeAll
 
 -- ---- each kind, told from itself
 
-column-apart : (i t i′ t′ b b′ : ℕ) (s s′ : List ℕ) → InRange (indexBelow b) (column i t) → InRange (indexBelow b′) (column i′ t′) → NoDigit s → NoDigit s′
+column-apart : (i t i′ t′ b b′ : ℕ) (s s′ : List ℕ) → InRange (indexBelow b) (column i t) → InRange (indexBelow b′) (column i′ t′)
+    → NoDigit s → NoDigit s′
     → (decimal i ++ (58 ∷ decimal t)) ++ s ≡ (decimal i′ ++ (58 ∷ decimal t′)) ++ s′ → (column i t ≡ column i′ t′) × (s ≡ s′)
 unfolding isDigit
 column-apart i t i′ t′ b b′ s s′ r r′ h h′ e =
     let x : (i ≡ i′) × (58 ∷ (decimal t ++ s) ≡ 58 ∷ (decimal t′ ++ s′)) =
-    decimals-same i i′ (58 ∷ (decimal t ++ s)) (58 ∷ (decimal t′ ++ s′)) (omega (arith, r .1)) (omega (arith, r′ .1)) refl refl (simp append-assoc at e) in
+    decimals-same i i′ (58 ∷ (decimal t ++ s)) (58 ∷ (decimal t′ ++ s′)) (omega (arith, r .1)) (omega (arith, r′ .1)) refl refl
+    (simp append-assoc at e) in
     let y : (t ≡ t′) × (s ≡ s′) = decimals-same t t′ s s′ (omega (arith, r .2)) (omega (arith, r′ .2)) h h′ (rest-same (x .1)) in
     (ap₂ column (x .0) (y .0), y .1)
 
@@ -49,7 +51,8 @@ literal-apart : (t v t′ v′ b b′ : ℕ) (s s′ : List ℕ) → InRange (in
 unfolding isDigit
 literal-apart t v t′ v′ b b′ s s′ r r′ e =
     let x : (t ≡ t′) × (58 ∷ (digits16 v ++ s) ≡ 58 ∷ (digits16 v′ ++ s′)) =
-    decimals-same t t′ (58 ∷ (digits16 v ++ s)) (58 ∷ (digits16 v′ ++ s′)) (omega (arith, r .0)) (omega (arith, r′ .0)) refl refl (simp append-assoc at e) in
+    decimals-same t t′ (58 ∷ (digits16 v ++ s)) (58 ∷ (digits16 v′ ++ s′)) (omega (arith, r .0)) (omega (arith, r′ .0)) refl refl
+    (simp append-assoc at e) in
     let y : (v ≡ v′) × (s ≡ s′) = literals-same v v′ s s′ (r .1) (r′ .1) (rest-same (x .1)) in
     (ap₂ literal (x .0) (y .0), y .1)
 
@@ -63,9 +66,11 @@ unfolding isDigit
 pair-apart o o′ b b′ l r l′ r′ s s′ k k′ al ar hl hr hl′ hr′ e =
     let u : List ℕ = decimal o ++ (32 ∷ (printed r ++ (41 ∷ s))) in
     let u′ : List ℕ = decimal o′ ++ (32 ∷ (printed r′ ++ (41 ∷ s′))) in
-    let x : (l ≡ l′) × (32 ∷ 111 ∷ u ≡ 32 ∷ 111 ∷ u′) = al l′ b b′ (32 ∷ 111 ∷ u) (32 ∷ 111 ∷ u′) hl hl′ refl refl (simp append-assoc at e) in
+    let x : (l ≡ l′) × (32 ∷ 111 ∷ u ≡ 32 ∷ 111 ∷ u′) = al l′ b b′ (32 ∷ 111 ∷ u) (32 ∷ 111 ∷ u′) hl hl′ refl refl
+    (simp append-assoc at e) in
     let y : (o ≡ o′) × (32 ∷ (printed r ++ (41 ∷ s)) ≡ 32 ∷ (printed r′ ++ (41 ∷ s′))) =
-    decimals-same o o′ (32 ∷ (printed r ++ (41 ∷ s))) (32 ∷ (printed r′ ++ (41 ∷ s′))) (omega arith) (omega arith) refl refl (rest-same (rest-same (x .1))) in
+    decimals-same o o′ (32 ∷ (printed r ++ (41 ∷ s))) (32 ∷ (printed r′ ++ (41 ∷ s′))) (omega arith) (omega arith) refl refl
+    (rest-same (rest-same (x .1))) in
     let z : (r ≡ r′) × (41 ∷ s ≡ 41 ∷ s′) = ar r′ b b′ (41 ∷ s) (41 ∷ s′) hr hr′ refl refl (rest-same (y .1)) in
     (y .0, x .0, z .0, rest-same (z .1))
 
@@ -79,8 +84,10 @@ call-apart name name′ es es′ b b′ s s′ a r r′ e =
     let u : List ℕ = name ++ (91 ∷ (printedAll es ++ (93 ∷ s))) in
     let u′ : List ℕ = name′ ++ (91 ∷ (printedAll es′ ++ (93 ∷ s′))) in
     let x : (length name ≡ length name′) × (58 ∷ u ≡ 58 ∷ u′) =
-    decimals-same (length name) (length name′) (58 ∷ u) (58 ∷ u′) (omega (arith, r .1)) (omega (arith, r′ .1)) refl refl (simp append-assoc at e) in
-    let y : (name ≡ name′) × (91 ∷ (printedAll es ++ (93 ∷ s)) ≡ 91 ∷ (printedAll es′ ++ (93 ∷ s′))) = parts-same name name′ _ _ (x .0) (rest-same (x .1)) in
+    decimals-same (length name) (length name′) (58 ∷ u) (58 ∷ u′) (omega (arith, r .1)) (omega (arith, r′ .1)) refl refl
+    (simp append-assoc at e) in
+    let y : (name ≡ name′) × (91 ∷ (printedAll es ++ (93 ∷ s)) ≡ 91 ∷ (printedAll es′ ++ (93 ∷ s′))) = parts-same name name′ _ _ (x .0)
+    (rest-same (x .1)) in
     let z : (es ≡ es′) × (s ≡ s′) = a es′ b b′ s s′ (r .4) (r′ .4) (rest-same (y .1)) in
     (ap₂ call (y .0) (z .0), z .1)
 
@@ -91,7 +98,8 @@ other-apart : (tag tag′ : ℕ) (es es′ : Exprs) (b b′ : ℕ) (s s′ : Lis
 unfolding isDigit
 other-apart tag tag′ es es′ b b′ s s′ a r r′ e =
     let x : (tag ≡ tag′) × (91 ∷ (printedAll es ++ (93 ∷ s)) ≡ 91 ∷ (printedAll es′ ++ (93 ∷ s′))) =
-    decimals-same tag tag′ (91 ∷ (printedAll es ++ (93 ∷ s))) (91 ∷ (printedAll es′ ++ (93 ∷ s′))) (omega (arith, r .0)) (omega (arith, r′ .0)) refl refl (simp append-assoc at e) in
+    decimals-same tag tag′ (91 ∷ (printedAll es ++ (93 ∷ s))) (91 ∷ (printedAll es′ ++ (93 ∷ s′))) (omega (arith, r .0))
+    (omega (arith, r′ .0)) refl refl (simp append-assoc at e) in
     let z : (es ≡ es′) × (s ≡ s′) = a es′ b b′ s s′ (r .2) (r′ .2) (rest-same (x .1)) in
     (ap₂ other (x .0) (z .0), z .1)
 
@@ -131,7 +139,8 @@ both-apart : (x y : Expr) (xs ys : Exprs) → Apart x → ApartMore xs → (b b�
     → (printed x ++ printedMore xs) ++ (93 ∷ s) ≡ (printed y ++ printedMore ys) ++ (93 ∷ s′) → (cons x xs ≡ cons y ys) × (s ≡ s′)
 both-apart x y xs ys ax axs b b′ s s′ r r′ e =
     let p : (x ≡ y) × (printedMore xs ++ (93 ∷ s) ≡ printedMore ys ++ (93 ∷ s′)) =
-    ax y b b′ (printedMore xs ++ (93 ∷ s)) (printedMore ys ++ (93 ∷ s′)) (r .0) (r′ .0) (more-no-digit xs s) (more-no-digit ys s′) (simp append-assoc at e) in
+    ax y b b′ (printedMore xs ++ (93 ∷ s)) (printedMore ys ++ (93 ∷ s′)) (r .0) (r′ .0) (more-no-digit xs s) (more-no-digit ys s′)
+    (simp append-assoc at e) in
     let q : (xs ≡ ys) × (s ≡ s′) = axs ys b b′ s s′ (r .1) (r′ .1) (p .1) in
     (ap₂ cons (p .0) (q .0), q .1)
 
@@ -172,10 +181,12 @@ unfolding printed ascii
 and-told x y ax ay (column i′ t′) b b′ s s′ r r′ h h′ e = differ e refl
 and-told x y ax ay (literal t′ v′) b b′ s s′ r r′ h h′ e = differ e refl
 and-told x y ax ay (and x′ y′) b b′ s s′ r r′ h h′ e =
-    let p : _ × (x ≡ x′) × (y ≡ y′) × (s ≡ s′) = pair-apart 0 0 b b′ x y x′ y′ s s′ (lit< tt) (lit< tt) ax ay (r .0) (r .1) (r′ .0) (r′ .1) (rest-same e) in
+    let p : _ × (x ≡ x′) × (y ≡ y′) × (s ≡ s′) = pair-apart 0 0 b b′ x y x′ y′ s s′ (lit< tt) (lit< tt) ax ay (r .0) (r .1) (r′ .0)
+    (r′ .1) (rest-same e) in
     (ap₂ and (p .1) (p .2), p .3)
 and-told x y ax ay (binary o′ x′ y′) b b′ s s′ r r′ h h′ e =
-    let p : (0 ≡ o′) × (x ≡ x′) × (y ≡ y′) × (s ≡ s′) = pair-apart 0 o′ b b′ x y x′ y′ s s′ (lit< tt) (omega (arith, r′ .1)) ax ay (r .0) (r .1) (r′ .2) (r′ .3) (rest-same e) in
+    let p : (0 ≡ o′) × (x ≡ x′) × (y ≡ y′) × (s ≡ s′) = pair-apart 0 o′ b b′ x y x′ y′ s s′ (lit< tt) (omega (arith, r′ .1)) ax ay (r .0)
+    (r .1) (r′ .2) (r′ .3) (rest-same e) in
     absurd (omega (arith, p .0, r′ .0))
 and-told x y ax ay (call name′ es′) b b′ s s′ r r′ h h′ e = differ e refl
 and-told x y ax ay (other tag′ es′) b b′ s s′ r r′ h h′ e = differ e refl
@@ -186,10 +197,12 @@ unfolding printed ascii
 binary-told o x y ax ay (column i′ t′) b b′ s s′ r r′ h h′ e = differ e refl
 binary-told o x y ax ay (literal t′ v′) b b′ s s′ r r′ h h′ e = differ e refl
 binary-told o x y ax ay (and x′ y′) b b′ s s′ r r′ h h′ e =
-    let p : (o ≡ 0) × (x ≡ x′) × (y ≡ y′) × (s ≡ s′) = pair-apart o 0 b b′ x y x′ y′ s s′ (omega (arith, r .1)) (lit< tt) ax ay (r .2) (r .3) (r′ .0) (r′ .1) (rest-same e) in
+    let p : (o ≡ 0) × (x ≡ x′) × (y ≡ y′) × (s ≡ s′) = pair-apart o 0 b b′ x y x′ y′ s s′ (omega (arith, r .1)) (lit< tt) ax ay (r .2)
+    (r .3) (r′ .0) (r′ .1) (rest-same e) in
     absurd (omega (arith, p .0, r .0))
 binary-told o x y ax ay (binary o′ x′ y′) b b′ s s′ r r′ h h′ e =
-    let p : (o ≡ o′) × (x ≡ x′) × (y ≡ y′) × (s ≡ s′) = pair-apart o o′ b b′ x y x′ y′ s s′ (omega (arith, r .1)) (omega (arith, r′ .1)) ax ay (r .2) (r .3) (r′ .2) (r′ .3) (rest-same e) in
+    let p : (o ≡ o′) × (x ≡ x′) × (y ≡ y′) × (s ≡ s′) = pair-apart o o′ b b′ x y x′ y′ s s′ (omega (arith, r .1))
+    (omega (arith, r′ .1)) ax ay (r .2) (r .3) (r′ .2) (r′ .3) (rest-same e) in
     (cc, p .3)
 binary-told o x y ax ay (call name′ es′) b b′ s s′ r r′ h h′ e = differ e refl
 binary-told o x y ax ay (other tag′ es′) b b′ s s′ r r′ h h′ e = differ e refl

@@ -311,5 +311,7 @@ pub print-refusals : (frame buffer : List ℕ) → RefusedBy printRefusals (prin
 unfolding print frameOf printRefusals any
 print-refusals frame buffer =
     let read = physical-only (In printRefusals) refl refl refl refl refl refl refl refl 0 frame in
-    let given = text-only (In printRefusals) (length buffer) (frameOf frame) (result-only (In printRefusals) (physicalFrame 0 frame) read) refl in
-    refused-by printRefusals (print frame buffer .answer) (printed-only (In printRefusals) buffer (textOf (length buffer) (frameOf frame)) given)
+    let given = text-only (In printRefusals) (length buffer) (frameOf frame)
+    (result-only (In printRefusals) (physicalFrame 0 frame) read) refl in
+    refused-by printRefusals (print frame buffer .answer)
+    (printed-only (In printRefusals) buffer (textOf (length buffer) (frameOf frame)) given)

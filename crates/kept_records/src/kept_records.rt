@@ -69,7 +69,8 @@ fn keep_records(
 ) -> usize
     requires { ⌜ AllFit (now src) rec count (now used) 0 (now out) ⌝ }
     requires { ⌜ (count ≤ length (now used)) × (count ≤ length (now to)) ⌝ }
-    ensures { λ r. ⌜ RecordsKept (now (src .entry)) rec count (now (used .entry)) (now (out .entry)) (now (out .exit)) (now (to .exit)) r ⌝ }
+    ensures { λ r. ⌜ RecordsKept (now (src .entry)) rec count (now (used .entry)) (now (out .entry)) (now (out .exit))
+        (now (to .exit)) r ⌝ }
 {
     let mut kept: usize = 0;
     let mut j = 0;

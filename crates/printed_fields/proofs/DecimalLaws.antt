@@ -60,4 +60,5 @@ module _ (first n last : ℕ) {w : ℕ} {before : List ℕ} (fits : Fits w (mark
 
     pub marked-put : WroteAt w (marked first n last) before (set middle v last) (v + 1)
     marked-put =
-        after-written first (decimal n ++ (last ∷ [])) fits (both-written (decimal n) (last ∷ []) rest-fits put (mark-written last last-fits))
+        after-written first (decimal n ++ (last ∷ [])) fits
+        (both-written (decimal n) (last ∷ []) rest-fits put (mark-written last last-fits))

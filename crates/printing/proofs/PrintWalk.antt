@@ -150,7 +150,8 @@ module _ {s : List ℕ} {parent at n w : ℕ} {before : List ℕ} where
           others : {bound : ℕ} {t : Expr} {us : Exprs} → Row (indexBelow bound) s read (n - position) (cons t us)
               → Row (indexBelow bound) s (r .read) (n - (position + 1)) us
           others {bound} {t} row =
-              rest-stands row (r .read) (n - (position + 1)) (one t (record { bound = bound; stands = first-stands row }) .read) (omega arith)
+              rest-stands row (r .read) (n - (position + 1)) (one t (record { bound = bound; stands = first-stands row }) .read)
+              (omega arith)
 
           others-fit : RowFits s parent (r .read) (n - (position + 1)) (position + 1) (r .wrote) after
           others-fit = first-child (RowFits s parent (r .read) (n - (position + 1)) (position + 1) (r .wrote) after)
@@ -184,7 +185,13 @@ module _ {s : List ℕ} {parent at n w : ℕ} {before : List ℕ} where
           printing-goes-on = record {
             there = others-fit;
             below = omega arith;
-            low = omega (arith, inv .low, after-node (child-room .stands .stands) (r .read) (one (child-room .it) (child-room .stands) .read));
+            low =
+                omega (
+                  arith,
+                  inv .low,
+                  after-node (child-room .stands .stands) (r .read)
+                      (one (child-room .it) (child-room .stands) .read),
+                );
             same = kept ∙ long ∙ inv .same;
             rest = λ last q is. inv .rest last q (others-printed last q is);
           }

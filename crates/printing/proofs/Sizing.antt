@@ -66,7 +66,8 @@ module _ {s : List ℕ} {at bound : ℕ} where
       record {
         bytes = ap (λ (k : ℕ). drop k s) e ∙ sym (drop-drop (length h) at s) ∙ ap (drop (length h)) whole ∙ drop-append-seam h rest
             ∙ sym (then-bytes (childrenOf t) ts);
-        inRange = then-in-range (indexBelow bound) (childrenOf t) ts (children-in-range (indexBelow bound) t (row .inRange .0)) (row .inRange .1);
+        inRange =
+            then-in-range (indexBelow bound) (childrenOf t) ts (children-in-range (indexBelow bound) t (row .inRange .0)) (row .inRange .1);
         within = omega (arith, long);
       }
 
@@ -94,7 +95,8 @@ pub record Left (s : List ℕ) (next size : ℕ) : Type 0 where
 -- What is right for what is left is right for the whole.
 pub record Sizing (s : List ℕ) (at next size : ℕ) : Type 0 where
   pub there : Left s next size
-  pub rest : (r : ℕ) → ((bound : ℕ) (ts : Exprs) → RowToEnd s next bound ts → r ≡ size + sizes ts) → OfText s at (λ t. r ≡ length (printed t))
+  pub rest : (r : ℕ) → ((bound : ℕ) (ts : Exprs) → RowToEnd s next bound ts → r ≡ size + sizes ts)
+      → OfText s at (λ t. r ≡ length (printed t))
 
 pub sizing-begins : {s : List ℕ} {at : ℕ} → TextThere s at → Sizing s at at 0
 unfolding sizes

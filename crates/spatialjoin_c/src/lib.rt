@@ -1,4 +1,5 @@
-// What C and Rust hosts call; include/spatialjoin.h declares it. Each answer is a number of 64 bits; the buffers are as the definitions' calls leave them.
+// What C and Rust hosts call; include/spatialjoin.h declares it. Each answer is a number of 64 bits; the buffers are as the
+// definitions' calls leave them.
 use call_exchange::exchange;
 use call_extract::extract;
 use call_load::load;

@@ -24,7 +24,8 @@ print-node-requires c κs =
     let told = c .before .before .before in
     let good = rw (told .before .f .given .1) at (told .before .before .before .physical-frame .ensures) in
     let a = told .before .before .before .before .before .before .args in
-    text-room (a .frame .now) (a .text .now) (good .0) (good .2) _ (good .1) _ (c .before .before .text-size .ensures) (c .before .if1 .left)
+    text-room (a .frame .now) (a .text .now) (good .0) (good .2) _ (good .1) _ (c .before .before .text-size .ensures)
+    (c .before .if1 .left)
 
 returns-2 : tie.Need-returns-2
 returns-2 c =
@@ -38,7 +39,8 @@ returns-3 c =
     let good = rw (told .before .f .given .1) at (told .before .before .before .physical-frame .ensures) in
     let a = told .before .before .before .before .before .before .args in
     let put = c .before .before .print-node in
-    print-writes (a .frame .now) (a .text .now) (good .0) (good .2) _ (good .1) _ (c .before .before .before .before .before .text-size .ensures)
+    print-writes (a .frame .now) (a .text .now) (good .0) (good .2) _ (good .1) _
+    (c .before .before .before .before .before .text-size .ensures)
     (c .before .before .before .before .if1 .left) (put .last .0) (put .result) (put .ensures)
 
 pub print-spec : {M : Type 1} → statement M

@@ -33,7 +33,8 @@ loop-again c =
       omega arith,
       simp length-set (loop .inv .1),
       rw (c .short-at .ensures)
-          (table-more (λ k. shortAt (start .args .src .now) (start .args .rec + 5 * k + 1)) (loop .to) (loop .j) (omega arith) (loop .inv .2)),
+          (table-more (λ k. shortAt (start .args .src .now) (start .args .rec + 5 * k + 1)) (loop .to) (loop .j) (omega arith)
+          (loop .inv .2)),
       drop-set-lt (start .args .count) (loop .to) (loop .j) _ (c .before .loop-test .taken) ∙ loop .inv .3,
     )
 

@@ -29,6 +29,12 @@ put-marked-spec =
     (λ c. omega (arith, c .before .before .pre .room))
     put-decimal-requires
     slice-write-out-2
-    (λ c. omega (arith, slice-write-out-2 c, c .before .before .before .before .before .good, simp length-set at (c .before .before .put-decimal .kept .0)))
+    (λ c. omega (
+      arith,
+      slice-write-out-2 c,
+      c .before .before .before .before .before .good,
+      simp length-set at
+          (c .before .before .put-decimal .kept .0),
+    ))
     (λ c. simp length-set (c .before .before .put-decimal .kept .0 ∙ simp length-set))
     returns)

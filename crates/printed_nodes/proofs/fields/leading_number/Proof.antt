@@ -10,7 +10,8 @@ use Rattle.printed_nodes.proofs.fields.leading_number.Statement.{statem
 use Rattle.printed_nodes.proofs.fields.leading_number.Tie as tie
 
 -- In the last arm the kind is neither 1, 2 nor 3.
-outside : (c : tie.Joined1) → let a = c .before .before .before .args in 0 < getD (a .src .now) (a .at) 0 → getD (a .src .now) (a .at) 0 < 4 → ⊥
+outside : (c : tie.Joined1) → let a =
+    c .before .before .before .args in 0 < getD (a .src .now) (a .at) 0 → getD (a .src .now) (a .at) 0 < 4 → ⊥
 outside c some few = ⊎-elim (λ w. omega arith) (λ w. omega arith) (c .if1 .came)
 
 pub leading-number-spec : {M : Type 1} → statement M

@@ -77,7 +77,8 @@ returns-4 c =
 put-marked-requires : tie.Need-put-marked-requires
 put-marked-requires c κs =
     let call = c .before .before .before .leading-number in
-    known-fits (λ t h. other-opens (call .result) (call .ensures) t h (omega arith)) (c .before .before .before .before .before .before .pre)
+    known-fits (λ t h. other-opens (call .result) (call .ensures) t h (omega arith))
+    (c .before .before .before .before .before .before .pre)
 
 returns-5 : tie.Need-returns-5
 returns-5 c =

@@ -98,14 +98,34 @@ own-size-spec =
     (λ c κs. search needs)
     (λ c κs. search needs)
     (λ c. kind-within (c .before .before .before .before .before .pre .1))
-    (λ c. omega (arith, c .before .before .before .decimal-width .ensures, width-small (c .before .before .before .before .leading-number .result)))
+    (λ c. omega (
+      arith,
+      c .before .before .before .decimal-width .ensures,
+      width-small
+          (c .before .before .before .before .leading-number .result),
+    ))
     (λ c. search needs)
     short-at-requires
     (λ c κs. search needs)
     add-result-2
-    (λ c. omega (arith, c .before .before .before .decimal-width .ensures, width-small (c .before .before .before .before .leading-number .result)))
-    (λ c. omega (arith, c .before .before .before .decimal-width .ensures, width-small (c .before .before .before .before .leading-number .result)))
-    (λ c. omega (arith, c .before .before .before .decimal-width .ensures, width-small (c .before .before .before .before .leading-number .result)))
+    (λ c. omega (
+      arith,
+      c .before .before .before .decimal-width .ensures,
+      width-small
+          (c .before .before .before .before .leading-number .result),
+    ))
+    (λ c. omega (
+      arith,
+      c .before .before .before .decimal-width .ensures,
+      width-small
+          (c .before .before .before .before .leading-number .result),
+    ))
+    (λ c. omega (
+      arith,
+      c .before .before .before .decimal-width .ensures,
+      width-small
+          (c .before .before .before .before .leading-number .result),
+    ))
     (λ c. omega (arith, name-sum c))
     name-sum
     (λ c. omega (arith, tag-sum c))

@@ -17,7 +17,8 @@ loop-again : tie.Need-loop-again Inv-loop μ-loop
 loop-again c =
     let start = c .before .before in
     let loop = c .before .loop in
-    one-written 256 (λ b. b) (start .args .value) (start .args .out .now) (start .args .w) (start .args .width) (start .pre) (loop .out) (loop .i)
+    one-written 256 (λ b. b) (start .args .value) (start .args .out .now) (start .args .w) (start .args .width) (start .pre) (loop .out)
+    (loop .i)
     (loop .rest) (c .loop-test .taken)
     (loop .inv)
 
