@@ -34,7 +34,7 @@ unfolding finishLoad accepted
 loaded-keeps n buffer (ok bytes) a = absurd (false≢true (sym a))
 loaded-keeps n buffer (refused number) a = (refl, refl)
 
-finish-keeps : (n : ℕ) (buffer scratch : List ℕ) (x : Result (List ℕ)) → accepted (finish n buffer scratch x .answer) ≡ false
+pub finish-keeps : (n : ℕ) (buffer scratch : List ℕ) (x : Result (List ℕ)) → accepted (finish n buffer scratch x .answer) ≡ false
     → (finish n buffer scratch x .n ≡ n) × (finish n buffer scratch x .buffer ≡ buffer) × (finish n buffer scratch x .scratch ≡ scratch)
 unfolding finish accepted
 finish-keeps n buffer scratch (ok bytes) a = absurd (false≢true (sym a))
@@ -55,14 +55,14 @@ make-keeps match exchangeCall n buffer scratch a = finish-keeps n buffer scratch
 
 -- ---- bytes written over others
 
-over-same : (bytes buffer : List ℕ) → length bytes ≤ length buffer → SameFrom (length bytes) buffer (writtenOver bytes buffer)
+pub over-same : (bytes buffer : List ℕ) → length bytes ≤ length buffer → SameFrom (length bytes) buffer (writtenOver bytes buffer)
 unfolding writtenOver
 over-same bytes buffer fits = record {
   asMany = simp (length-append, length-drop) (omega arith);
   rest = drop-append-seam bytes (drop (length bytes) buffer);
 }
 
-over-first : (bytes buffer : List ℕ) → take (length bytes) (writtenOver bytes buffer) ≡ bytes
+pub over-first : (bytes buffer : List ℕ) → take (length bytes) (writtenOver bytes buffer) ≡ bytes
 unfolding writtenOver
 over-first bytes buffer = take-append-seam bytes (drop (length bytes) buffer)
 
@@ -96,11 +96,11 @@ load-wrote frame n buffer a = read-wrote frame n buffer (frameOf frame) a
 
 module _ (n : ℕ) (buffer scratch : List ℕ) where
   -- What is to be written, if anything is, fits the plan buffer, and the old plan the scratch.
-  abbrev Fit : Result (List ℕ) → Type 0
+  abbrev pub Fit : Result (List ℕ) → Type 0
   Fit (ok bytes) = (length bytes ≤ length buffer) × (n ≤ length scratch) × (n ≤ length buffer)
   Fit (refused number) = Unit {0}
 
-  finish-wrote : (x : Result (List ℕ)) → Fit x → accepted (finish n buffer scratch x .answer) ≡ true
+  pub finish-wrote : (x : Result (List ℕ)) → Fit x → accepted (finish n buffer scratch x .answer) ≡ true
       → CallWrote n buffer scratch (finish n buffer scratch x)
   unfolding finish accepted
   finish-wrote (ok bytes) fit a =

@@ -152,11 +152,12 @@ map-leaves f (call name es) = refl
 map-leaves f (other tag es) = refl
 map-leaves f (field b t) = refl
 
-mapComparison : (ℕ → ℕ) → Comparison → Comparison
+unfoldable pub mapComparison : (ℕ → ℕ) → Comparison → Comparison
 mapComparison f noComparison = noComparison
 mapComparison f (compares m b) = compares (mapColumns f m) (mapColumns f b)
 
-comparison-mapped : (f : ℕ → ℕ) (o : ℕ) (l r : Expr) → comparison o (mapColumns f l) (mapColumns f r) ≡ mapComparison f (comparison o l r)
+pub comparison-mapped : (f : ℕ → ℕ) (o : ℕ) (l r : Expr)
+    → comparison o (mapColumns f l) (mapColumns f r) ≡ mapComparison f (comparison o l r)
 unfolding comparison mapComparison
 comparison-mapped f o l r = cases (eqb o 1 || eqb o 2) (eqb o 3 || eqb o 4)
   where

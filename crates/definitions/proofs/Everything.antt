@@ -20,6 +20,8 @@ use Rattle.definitions.specs.Meaning as Meaning
 use Rattle.definitions.specs.Logical as Logical
 use Rattle.definitions.specs.Program as Program
 use Rattle.definitions.specs.Printed as Printed
+use Rattle.definitions.specs.Good as Good
+use Rattle.definitions.specs.Merge as Merge
 
 unfoldable pub basics : ℕ
 unfolding Basics.ascii Basics.sameName Basics.bigEndian Basics.any Basics.all Basics.keep
@@ -119,7 +121,11 @@ unfolding Printed.figures Printed.decimalWidth Printed.decimal Printed.digits16 
     Printed.textOf Printed.finishPrint Printed.print
 printing = 0
 
+unfoldable pub merging : ℕ
+unfolding Good.nodes Good.depth Merge.raised Merge.mergeFrames Merge.overLimits Merge.mergedBytes Merge.newAfterMerge Merge.merge
+merging = 0
+
 unfoldable pub everything : ℕ
 unfolding basics expression literals encode leaves readers decode plans references match extract exchange calls machine sessions meaning
-    logical program printing
+    logical program printing merging
 everything = 0

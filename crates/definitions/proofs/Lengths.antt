@@ -65,7 +65,7 @@ bytes-up-to (suc n) [] h = tt
 bytes-up-to (suc n) (b ∷ s) h = (h .0, bytes-up-to n s (h .1))
 
 -- What is held, if anything is, is a good plan.
-abbrev Good : Result Plan → Type 0
+abbrev pub Good : Result Plan → Type 0
 Good (ok p) = GoodPlan p
 Good (refused number) = Unit {0}
 
@@ -73,7 +73,7 @@ plan-good : (s : List ℕ) (r : Result Plan) → AllBytes s → planOf s ≡ r �
 plan-good s (ok p) bytes e = plan-back s p bytes e .1
 plan-good s (refused number) bytes e = tt
 
-held-good : (n : ℕ) (buffer : List ℕ) → AllBytes buffer → Good (heldPlan n buffer)
+pub held-good : (n : ℕ) (buffer : List ℕ) → AllBytes buffer → Good (heldPlan n buffer)
 unfolding heldPlan
 held-good n buffer bytes = held-if (leb n (length buffer)) where
   held-if : (b : Bool) → Good (if b then planOf (take n buffer) else refused 10)

@@ -41,4 +41,9 @@ pub mod Figures
 pub mod PrintsApart
 pub mod TextLength
 pub mod PrintCall
+pub mod MergeLines
+pub mod Moved
+pub mod Merged
+pub mod MergeCall
+pub mod Histories
 pub mod Proved

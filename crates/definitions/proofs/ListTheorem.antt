@@ -9,13 +9,13 @@ use lib.Seq.{take-append-seam, length-take-le}
 use lib.Dec.{leb}
 use borrow.Author.Tests.{leb-true}
 use Rattle.definitions.specs.Basics.{if_then_else_, Result, ok, refused}
-use Rattle.definitions.specs.Expression.{Record, Frame}
+use Rattle.definitions.specs.Expression.{Record, Frame, held}
 use Rattle.definitions.specs.Encode.{planBytes, frameBytes}
 use Rattle.definitions.specs.Plans.{frameOf}
 use Rattle.definitions.specs.Extract.{Matcher}
 use Rattle.definitions.specs.Calls.{LoadOutcome, writtenOver, newAfterLoad, finishLoad, load}
 use Rattle.definitions.specs.Machine.{machinePlan, machineLength, fresh}
-use Rattle.definitions.specs.Good.{AllBytes}
+use Rattle.definitions.specs.Good.{AllBytes, GoodPlan}
 use Rattle.definitions.specs.Sessions.{Made, machineAfterBy, accepted, SessionBy, after}
 use Rattle.definitions.specs.Meaning.{Meaning}
 use Rattle.definitions.specs.Matchers.{Lawful}
@@ -49,23 +49,21 @@ module _ (frame : List ℕ) (n : ℕ) (buffer : List ℕ) where
 
 -- ---- a load
 
--- What it leaves is a session of the frame, whatever the matcher.
-frame-held : (match : Matcher) (frame : List ℕ) (n : ℕ) (buffer : List ℕ) (F : Frame) → AllBytes frame → frameOf frame ≡ ok F
-    → length frame ≤ length buffer
-    → (s : SessionBy match F) × (s .n ≡ finishLoad n buffer (ok frame) .n) × (s .buffer ≡ finishLoad n buffer (ok frame) .buffer)
-unfolding finishLoad writtenOver
-frame-held match frame n buffer F bytes is fits =
-    let back = frame-back frame F bytes is in (
-      record {
-        n = length frame;
-        buffer = frame ++ drop (length frame) buffer;
-        good = back .1;
-        fits = simp length-append (omega arith);
-        holds = take-append-seam frame (drop (length frame) buffer) ∙ back .0;
-      },
-      refl,
-      refl,
-    )
+-- A good frame that is written over a plan buffer with room for it is held, whatever the matcher.
+pub written-held : (match : Matcher) (F : Frame) (bytes buffer : List ℕ) → bytes ≡ frameBytes F → GoodPlan (held F)
+    → length bytes ≤ length buffer → (s : SessionBy match F) × (s .n ≡ length bytes) × (s .buffer ≡ writtenOver bytes buffer)
+unfolding writtenOver
+written-held match F bytes buffer same good fits = (
+  record {
+    n = length bytes;
+    buffer = bytes ++ drop (length bytes) buffer;
+    good = good;
+    fits = simp length-append (omega arith);
+    holds = take-append-seam bytes (drop (length bytes) buffer) ∙ same;
+  },
+  refl,
+  refl,
+)
 
 pub load-held : (match : Matcher) (frame : List ℕ) (n : ℕ) (buffer : List ℕ) → AllBytes frame
     → accepted (load frame n buffer .answer) ≡ true
@@ -74,7 +72,8 @@ pub load-held : (match : Matcher) (frame : List ℕ) (n : ℕ) (buffer : List �
 unfolding load finishLoad
 load-held match frame n buffer bytes a =
     let t : Taken frame n buffer (frameOf frame) = taken-by frame n buffer a in
-    let h = frame-held match frame n buffer (t .0) bytes (t .1) (t .2) in
+    let back = frame-back frame (t .0) bytes (t .1) in
+    let h = written-held match (t .0) frame buffer (back .0) (back .1) (t .2) in
     let same : finishLoad n buffer (ok frame) ≡ load frame n buffer = sym (t .3) in (
       t .0,
       t .1,

@@ -88,7 +88,7 @@ module _ {match : Matcher} {Asks : Meaning → List Record → Type 0} (laws : L
   plan-extracted F X true e = ap exchangePlan (or-none (held F) (extractionBy match F) X e)
   plan-extracted F X false e = or-none (held F) (extractionBy match F) X e
 
-  plan-held : (F : Frame) (o : Bool) → machinePlan match F (bits false o) ≡ (if o then held (exchangeFrame F) else held F)
+  pub plan-held : (F : Frame) (o : Bool) → machinePlan match F (bits false o) ≡ (if o then held (exchangeFrame F) else held F)
   unfolding machinePlan exchangePlan
   plan-held F true = refl
   plan-held F false = refl

@@ -56,7 +56,7 @@ common-is g (i ∷ is) s e =
     let p : (all (sameSide (g i)) (map g is) ≡ true) × (g i ≡ s) = all-side (all (sameSide (g i)) (map g is)) (g i) s e in
     (p .1, subst (λ (t : Side). All (λ j. g j ≡ t) is) (p .1) (all-same g (g i) is (p .0)))
 
-side-is : (rs : List Record) (e : Expr) (s : Side) → sideOf rs e ≡ allOn s → All (λ i. recordAt rs i .side ≡ s) (columnsOf e)
+pub side-is : (rs : List Record) (e : Expr) (s : Side) → sideOf rs e ≡ allOn s → All (λ i. recordAt rs i .side ≡ s) (columnsOf e)
 unfolding sideOf
 side-is rs e s h = common-is (λ i. recordAt rs i .side) (columnsOf e) s h
 
@@ -65,7 +65,7 @@ mixed-or-all true s e = let z : _≡_ {A = ℕ} 0 1 = cc in absurd (omega arith)
 mixed-or-all false s e = let z : _≡_ {A = ℕ} 0 1 = cc in absurd (omega arith)
 
 -- An argument without columns has any property of all its columns.
-no-columns : (P : ℕ → Type 0) (g : ℕ → Side) (is : List ℕ) → commonSide (map g is) ≡ noColumns → All P is
+pub no-columns : (P : ℕ → Type 0) (g : ℕ → Side) (is : List ℕ) → commonSide (map g is) ≡ noColumns → All P is
 unfolding commonSide
 no-columns P g [] e = tt
 no-columns P g (i ∷ is) e = absurd (mixed-or-all (all (sameSide (g i)) (map g is)) (g i) e)
@@ -85,7 +85,7 @@ argument-value M v rs e s h =
 
 -- ---- frames without mark columns
 
-no-mark-at : (rs : List Record) (i : ℕ) → NoMarks rs → i < length rs → recordAt rs i .side ≡ noSide → ⊥
+pub no-mark-at : (rs : List Record) (i : ℕ) → NoMarks rs → i < length rs → recordAt rs i .side ≡ noSide → ⊥
 unfolding recordAt
 no-mark-at [] i m h e = not-suc-le-zero h
 no-mark-at (r ∷ rs) zero m h e = m .0 e

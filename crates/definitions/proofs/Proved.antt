@@ -1,12 +1,13 @@
 -- Each claim of specs/Claims.antt and of the tables beside it, proved.
 use mathlib.Core.Path.{_≡_, ap, _∙_, subst}
-use mathlib.Core.List.{List}
+use mathlib.Core.List.{List, [], _∷_, _++_}
 use Rattle.definitions.specs.Basics.{ok}
 use Rattle.definitions.specs.Expression.{Record, Frame}
 use Rattle.definitions.specs.Plans.{planOf}
 use Rattle.definitions.specs.Match.{matchLeaf}
 use Rattle.definitions.specs.Extract.{Matcher}
 use Rattle.definitions.specs.Machine.{Bits, machinePlan}
+use Rattle.definitions.specs.Good.{NoMarks}
 use Rattle.definitions.specs.Sessions.{Made, SessionBy, planAfter, oddIn}
 use Rattle.definitions.specs.Meaning.{Valuation, Meaning, frameValue}
 use Rattle.definitions.specs.Matchers.{Lawful, Symmetric, LeafAsks}
@@ -17,6 +18,9 @@ use Rattle.definitions.specs.RefusalTable.{RefusalTable}
 use Rattle.definitions.specs.NameTables.{NameTables}
 use Rattle.definitions.specs.PrintClaims.{PrintsApart, PrintsNeverAlike, TextShort, TextPrintable, NoLeadingZero, PrintAccepted, PrintGiven, PrintRefused}
 use Rattle.definitions.specs.PrintRows.{PrintRows}
+use Rattle.definitions.specs.Merge.{mergeFrames}
+use Rattle.definitions.specs.MergeClaims.{MergedGood, MergedValue, MergedLeaves, MergeAccepted, MergeWrites, MergeKeeps, MergeHolds, ListAfterMerge, ValueAfterMerge, HistoryOfCalls, AnyMatcherMerges}
+use Rattle.definitions.specs.MergeRows.{MergeRows}
 use Rattle.definitions.proofs.Exchange.{plan-twice}
 use Rattle.definitions.proofs.ExtractExchange.{exchanged-by}
 use Rattle.definitions.proofs.RoundTripPlan.{expr-reads, plan-reads}
@@ -28,7 +32,7 @@ use Rattle.definitions.proofs.Lists.{plan-good}
 use Rattle.definitions.proofs.ListTheorem.{load-accepts, load-held, list-agrees}
 use Rattle.definitions.proofs.Lengths.{load-is-short, make-short}
 use Rattle.definitions.proofs.Changes.{load-keeps, make-keeps, load-wrote, make-wrote}
-use Rattle.definitions.proofs.RefusalNumbers.{load-refusals, extract-refusals, exchange-refusals, logical-refusals, print-refusals}
+use Rattle.definitions.proofs.RefusalNumbers.{load-refusals, extract-refusals, exchange-refusals, logical-refusals, print-refusals, merge-refusals}
 use Rattle.definitions.proofs.Answers.{told, plan-told, in-place, plans-same, exchange-among, extract-among}
 use Rattle.definitions.proofs.MatchLaws.{match-laws}
 use Rattle.definitions.proofs.Pick.{takes-by, none-by}
@@ -44,6 +48,10 @@ use Rattle.definitions.proofs.PrintsApart.{told-apart}
 use Rattle.definitions.proofs.TextLength.{text-short}
 use Rattle.definitions.proofs.PrintCall.{prints-once, text-printable-by, no-leading, print-accepts, print-gives, print-refuses}
 use Rattle.definitions.proofs.ConsoleLines.{print-rows-hold}
+use Rattle.definitions.proofs.Merged.{merged-good, merged-value, merged-leaves-are}
+use Rattle.definitions.proofs.MergeCall.{merge-accepts, merge-wrote, merge-keeps-all, merge-held, list-after}
+use Rattle.definitions.proofs.Histories.{history-of}
+use Rattle.definitions.proofs.MergeLines.{merge-rows-hold}
 
 -- ---- with every lawful matcher
 
@@ -132,7 +140,7 @@ pub accepted-writes : AcceptedWrites
 accepted-writes = (load-wrote, by-leaf .1 .writes)
 
 pub refusals-of-calls : RefusalsOfCalls
-refusals-of-calls = (load-refusals, by-leaf .1 .refusals, exchange-refusals, logical-refusals, print-refusals)
+refusals-of-calls = (load-refusals, by-leaf .1 .refusals, exchange-refusals, logical-refusals, print-refusals, merge-refusals)
 
 pub load-accepted : LoadAccepted
 load-accepted = load-accepts
@@ -243,3 +251,48 @@ print-refused = print-refuses
 
 pub print-rows : PrintRows
 print-rows = print-rows-hold
+
+-- ---- request 2
+
+pub merged-is-good : MergedGood
+merged-is-good = merged-good
+
+pub merged-has-value : MergedValue
+merged-has-value = merged-value
+
+pub merged-leaves : MergedLeaves
+merged-leaves = merged-leaves-are
+
+pub merge-accepted : MergeAccepted
+merge-accepted = merge-accepts
+
+pub merge-writes : MergeWrites
+merge-writes = merge-wrote
+
+pub merge-keeps : MergeKeeps
+merge-keeps = merge-keeps-all
+
+pub merge-holds : MergeHolds
+merge-holds = merge-held
+
+pub any-matcher-merges : AnyMatcherMerges
+any-matcher-merges match Asks laws = (list-after laws, history-of laws)
+
+pub list-after-merge : ListAfterMerge
+list-after-merge = any-matcher-merges matchLeaf LeafAsks match-laws .0
+
+pub history-of-calls : HistoryOfCalls
+history-of-calls = any-matcher-merges matchLeaf LeafAsks match-laws .1
+
+no-marks : (rs rs′ : List Record) → NoMarks rs → NoMarks rs′ → NoMarks (rs ++ rs′)
+no-marks [] rs′ h k = k
+no-marks (r ∷ rs) rs′ h k = (h .0, no-marks rs rs′ (h .1) k)
+
+pub value-after-merge : ValueAfterMerge
+unfolding mergeFrames
+value-after-merge M fair v old new s g h k calls =
+    let l = list-has-value M fair v (mergeFrames old new) s (no-marks (old .records) (new .records) h k) calls in
+    (l .0, l .1, l .2 ∙ merged-value M (valuesWhen (oddIn s calls) v) old new g)
+
+pub merge-rows : MergeRows
+merge-rows = merge-rows-hold

@@ -8,6 +8,7 @@ use lib.ListN.{length}
 use lib.Dec.{leb, ltb, eqb}
 use Rattle.definitions.specs.Basics.{if_then_else_, Result, ok, refused, mapResult, any}
 use Rattle.definitions.specs.Expression.{Frame, Extraction, Plan, empty, held, extracted}
+use Rattle.definitions.specs.Encode.{frameBytes}
 use Rattle.definitions.specs.Literals.{literalInRange}
 use Rattle.definitions.specs.Leaves.{arity}
 use Rattle.definitions.specs.Extract.{Matcher, extractionBy}
@@ -17,7 +18,8 @@ use Rattle.definitions.specs.Plans.{physicalFrame, logicalFrame, frameOf
 use Rattle.definitions.specs.Calls.{newAfterLoad, finishLoad, load, finish, heldPlan, newAfterExchange, exchange, matchedBytes, newAfterExtractBy, extractBy}
 use Rattle.definitions.specs.Logical.{logicalAnswer, logical}
 use Rattle.definitions.specs.Printed.{printed, textOf, finishPrint, print}
-use Rattle.definitions.specs.Claims.{loadRefusals, extractRefusals, exchangeRefusals, logicalRefusals, printRefusals, RefusedBy}
+use Rattle.definitions.specs.Merge.{mergeFrames, overLimits, mergedBytes, newAfterMerge, merge}
+use Rattle.definitions.specs.Claims.{loadRefusals, extractRefusals, exchangeRefusals, logicalRefusals, printRefusals, mergeRefusals, RefusedBy}
 use Rattle.definitions.proofs.Tools.{by-test}
 
 -- ---- readers
@@ -268,6 +270,21 @@ module _ (P : ℕ → Type 0) where
       extract-only match (ok (held F)) =
           if-only 9 (leb n room) (matchedBytes (extractionBy match F)) (taken-only (extractionBy match F)) p9
 
+    module _ (p12 : P 12) (p16 : P 16) (scratch : ℕ) where
+      merged-only : (M : Frame) → Refuses (mergedBytes n scratch room M)
+      unfolding mergedBytes
+      merged-only M =
+          by-test Refuses (overLimits M) (refused 16) _ (λ _. p16)
+          (λ _. if-only 9 (leb n scratch && leb (length (frameBytes M)) room) (ok (frameBytes M)) tt p9)
+
+      merge-only : (new : Result Frame) → Refuses new → (old : Result Plan) → Refuses (newAfterMerge n scratch room new old)
+      unfolding newAfterMerge
+      merge-only (refused number) h old = h
+      merge-only (ok new) h (refused number) = p10
+      merge-only (ok new) h (ok empty) = p11
+      merge-only (ok new) h (ok (extracted X)) = p12
+      merge-only (ok new) h (ok (held old)) = merged-only (mergeFrames old new)
+
 -- The numbers of a list.
 abbrev In : List ℕ → ℕ → Type 0
 In numbers number = any (eqb number) numbers ≡ true
@@ -315,3 +332,14 @@ print-refusals frame buffer =
     (result-only (In printRefusals) (physicalFrame 0 frame) read) refl in
     refused-by printRefusals (print frame buffer .answer)
     (printed-only (In printRefusals) buffer (textOf (length buffer) (frameOf frame)) given)
+
+pub merge-refusals : (frame : List ℕ) (n : ℕ) (buffer scratch : List ℕ) → RefusedBy mergeRefusals (merge frame n buffer scratch .answer)
+unfolding merge frameOf mergeRefusals any
+merge-refusals frame n buffer scratch =
+    let read = physical-only (In mergeRefusals) refl refl refl refl refl refl refl refl 0 frame in
+    let given =
+    merge-only (In mergeRefusals) refl refl refl n (length buffer) refl refl (length scratch) (frameOf frame)
+    (result-only (In mergeRefusals) (physicalFrame 0 frame) read) (heldPlan n buffer) in
+    refused-by mergeRefusals (merge frame n buffer scratch .answer)
+    (finish-only (In mergeRefusals) n buffer scratch
+    (newAfterMerge n (length scratch) (length buffer) (frameOf frame) (heldPlan n buffer)) given)

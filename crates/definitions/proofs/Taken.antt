@@ -212,7 +212,7 @@ all-append [] ys = refl
 all-append (x ∷ xs) ys =
     ap (λ (b : Bool). leafArity x && b) (all-append xs ys) ∙ sym (and-assoc (leafArity x) (all leafArity xs) (all leafArity ys))
 
-arity-and : (l r : Expr) → arity (and l r) ≡ (arity l && arity r)
+pub arity-and : (l r : Expr) → arity (and l r) ≡ (arity l && arity r)
 unfolding arity leaves
 arity-and l r = all-append (leaves l) (leaves r)
 

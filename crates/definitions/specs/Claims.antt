@@ -25,6 +25,7 @@ use Rattle.definitions.specs.Sessions.{Made, extractWith, exchangeWith, 
 use Rattle.definitions.specs.Meaning.{Valuation, Meaning, Fair, andValue, frameValue, extractionValue, planValue, exchangedValues}
 use Rattle.definitions.specs.Logical.{spatialNames, mask, distinct, logical}
 use Rattle.definitions.specs.Printed.{print}
+use Rattle.definitions.specs.Merge.{merge}
 
 -- ---- exchange
 
@@ -108,7 +109,7 @@ AcceptedWrites =
     × ((kind : Kind) (n : ℕ) (buffer scratch : List ℕ) → AllBytes buffer → accepted (make kind n buffer scratch .answer) ≡ true
     → CallWrote n buffer scratch (make kind n buffer scratch))
 
--- The refusals of each call, in the order of 01 and 02.
+-- The refusals of each call, in the order of 01 and 02; print is request 1's, merge request 2's.
 unfoldable pub loadRefusals : List ℕ
 loadRefusals = 1 ∷ 2 ∷ 3 ∷ 4 ∷ 5 ∷ 6 ∷ 7 ∷ 8 ∷ 9 ∷ []
 
@@ -121,9 +122,11 @@ exchangeRefusals = 10 ∷ 11 ∷ 9 ∷ []
 unfoldable pub logicalRefusals : List ℕ
 logicalRefusals = 1 ∷ 2 ∷ 3 ∷ 4 ∷ 5 ∷ 7 ∷ []
 
--- Request 1.
 unfoldable pub printRefusals : List ℕ
 printRefusals = 1 ∷ 2 ∷ 3 ∷ 4 ∷ 5 ∷ 6 ∷ 7 ∷ 8 ∷ 15 ∷ []
+
+unfoldable pub mergeRefusals : List ℕ
+mergeRefusals = 1 ∷ 2 ∷ 3 ∷ 4 ∷ 5 ∷ 6 ∷ 7 ∷ 8 ∷ 10 ∷ 11 ∷ 12 ∷ 16 ∷ 9 ∷ []
 
 -- A value, or a refusal with one of these numbers.
 abbrev pub RefusedBy : {A : Type 0} → (numbers : List ℕ) → Result A → Type 0
@@ -138,6 +141,7 @@ RefusalsOfCalls =
     × ((n : ℕ) (buffer scratch : List ℕ) → RefusedBy exchangeRefusals (exchange n buffer scratch .answer))
     × ((frame : List ℕ) → RefusedBy logicalRefusals (logical frame))
     × ((frame buffer : List ℕ) → RefusedBy printRefusals (print frame buffer .answer))
+    × ((frame : List ℕ) (n : ℕ) (buffer scratch : List ℕ) → RefusedBy mergeRefusals (merge frame n buffer scratch .answer))
 
 -- ---- demand 3: lists of calls
 

@@ -35,6 +35,8 @@ pub mod Matchers
 pub mod Logical
 pub mod Program
 pub mod Printed
+pub mod Merge
+pub mod History
 pub mod Hosts
 pub mod Claims
 pub mod AnyMatcher
@@ -43,3 +45,5 @@ pub mod RefusalTable
 pub mod NameTables
 pub mod PrintClaims
 pub mod PrintRows
+pub mod MergeClaims
+pub mod MergeRows

@@ -1,0 +1,55 @@
+-- Request 2 of document 02: a second filter on the same join, joined to the held one by And; the call merge.
+use Prim.Native.Nat.{ℕ, _+_}
+use mathlib.Core.Bool.{Bool, _&&_, _||_}
+use mathlib.Core.List.{List, _++_}
+use lib.ListN.{length}
+use lib.Dec.{leb, ltb}
+use Rattle.definitions.specs.Limits.{mostBytes, mostNodes, mostLevels, mostRecords}
+use Rattle.definitions.specs.Basics.{if_then_else_, Result, ok, refused}
+use Rattle.definitions.specs.Expression.{Expr, and, Frame, Plan, empty, held, extracted}
+use Rattle.definitions.specs.Encode.{frameBytes}
+use Rattle.definitions.specs.Plans.{frameOf}
+use Rattle.definitions.specs.References.{mapColumns}
+use Rattle.definitions.specs.Calls.{Outcome, finish, heldPlan}
+use Rattle.definitions.specs.Good.{nodes, depth}
+
+-- ---- the merged frame
+
+-- The expression with its columns renumbered by a count.
+unfoldable pub raised : (by : ℕ) → Expr → Expr
+raised by e = mapColumns (λ index. by + index) e
+
+-- The held filter And the new one: the held records followed by the new ones, equals kept, the new columns renumbered by the held count.
+unfoldable pub mergeFrames : (old new : Frame) → Frame
+mergeFrames old new = record {
+  records = old .records ++ new .records;
+  expr = and (old .expr) (raised (length (old .records)) (new .expr));
+}
+
+-- Whether a frame is over a limit of 01: on bytes, nodes, depth or records. (No other limit is met by merging two good frames.)
+unfoldable pub overLimits : Frame → Bool
+overLimits F =
+    ltb mostBytes (length (frameBytes F)) ||
+    (ltb mostNodes (nodes (F .expr)) || (ltb mostLevels (depth (F .expr)) || ltb mostRecords (length (F .records))))
+
+-- ---- the call merge: 1 to 8, 10, 11, 12, 16, 9
+
+-- The bytes of a merged frame: 16 where it is over a limit, 9 where the scratch is shorter than n or the plan buffer than the frame.
+unfoldable pub mergedBytes : (n scratch room : ℕ) → Frame → Result (List ℕ)
+mergedBytes n scratch room M =
+    if overLimits M then refused 16 else
+    if leb n scratch && leb (length (frameBytes M)) room then ok (frameBytes M) else
+    refused 9
+
+-- The new plan of a merge: 1 to 8 of the new frame, then 10, 11, 12 of the held plan, then what the merged frame gives.
+unfoldable pub newAfterMerge : (n scratch room : ℕ) → (new : Result Frame) → (old : Result Plan) → Result (List ℕ)
+newAfterMerge n scratch room (refused number) old = refused number
+newAfterMerge n scratch room (ok new) (refused number) = refused 10
+newAfterMerge n scratch room (ok new) (ok empty) = refused 11
+newAfterMerge n scratch room (ok new) (ok (extracted X)) = refused 12
+newAfterMerge n scratch room (ok new) (ok (held old)) = mergedBytes n scratch room (mergeFrames old new)
+
+-- The call merge; it has scratch like extract.
+unfoldable pub merge : (frame : List ℕ) → (n : ℕ) → (buffer scratch : List ℕ) → Outcome
+merge frame n buffer scratch =
+    finish n buffer scratch (newAfterMerge n (length scratch) (length buffer) (frameOf frame) (heldPlan n buffer))

@@ -1,0 +1,92 @@
+-- Request 2 of document 02 by computation: merged frames, the refusals of merge in their order, both sides of each limit.
+use Prim.Native.Nat.{ℕ, zero, suc}
+use mathlib.Core.Path.{_≡_}
+use mathlib.Core.Bool.{true, false}
+use mathlib.Core.List.{List, [], _∷_, _++_}
+use mathlib.Core.Option.{none, some}
+use lib.ListN.{length, take, replicate}
+use Rattle.definitions.specs.Basics.{Result, ok, refused, ascii}
+use Rattle.definitions.specs.Expression.{left, noSide, Expr, column, and, call, other, Exprs, nil, cons, Frame, distance}
+use Rattle.definitions.specs.Encode.{frameBytes}
+use Rattle.definitions.specs.Extract.{matchesOf}
+use Rattle.definitions.specs.Calls.{Outcome, extract}
+use Rattle.definitions.specs.Claims.{markedFrame}
+use Rattle.definitions.specs.Merge.{mergeFrames, overLimits, merge}
+use Rattle.definitions.specs.RefusalTable.{ands, tree, over, matching}
+
+-- A frame over so many equal records.
+abbrev pub frameOver : (records : ℕ) → Expr → Frame
+frameOver records e = record { records = replicate records (record { side = left; child = 0; tag = 0 }); expr = e }
+
+-- A frame of 7 bytes.
+abbrev pub small : Frame
+small = frameOver 0 (other 12 nil)
+
+-- n calls, each with a name of 32 bytes.
+abbrev pub named : ℕ → Exprs
+named zero = nil
+named (suc n) = cons (call (replicate 32 97) nil) (named n)
+
+-- n nodes with 16 such calls each, and then others.
+abbrev pub groups : (others : Exprs) → ℕ → Exprs
+groups others zero = others
+groups others (suc n) = cons (other 0 (named 16)) (groups others n)
+
+-- A frame of 7,903 bytes.
+abbrev pub large : Frame
+large = frameOver 0 (other 0 (groups nil 14))
+
+-- One of 8,470 bytes and a name of this length.
+abbrev pub larger : (name : ℕ) → Frame
+larger name = frameOver 0 (other 0 (groups (cons (call (replicate name 97) nil) nil) 15))
+
+-- A merge into a plan buffer of `room` bytes that starts with a frame, with so many bytes of scratch.
+abbrev pub into : Frame → (new : List ℕ) → (room scratch : ℕ) → Outcome
+into old new room scratch = merge new (length (frameBytes old)) (take room (frameBytes old ++ replicate room 9)) (replicate scratch 7)
+
+-- Its answer.
+abbrev pub answerInto : (old new : Frame) → (room scratch : ℕ) → Result ℕ
+answerInto old new room scratch = into old (frameBytes new) room scratch .answer
+
+-- A merge into the extraction of `matching`, without scratch.
+abbrev pub intoExtraction : Outcome
+intoExtraction =
+    let o : Outcome = extract (length matching) matching (replicate 64 0) in
+    merge (frameBytes small) (o .n) (o .buffer) []
+
+pub record MergeRows : Type 0 where
+  -- the held filter on the left, three equal records kept, column 1 of the new filter raised by one held record
+  pub merged : mergeFrames (frameOver 1 (column 0 7)) (frameOver 2 (column 1 8)) ≡ frameOver 3 (and (column 0 7) (column 2 8))
+  -- the old plan in the scratch, the bytes after both kept
+  pub written :
+      into small (frameBytes small) 16 9
+      ≡ record {
+        answer = ok 13;
+        n = 13;
+        buffer = frameBytes (frameOver 0 (and (other 12 nil) (other 12 nil))) ++ (9 ∷ 9 ∷ 9 ∷ []);
+        scratch = frameBytes small ++ (7 ∷ 7 ∷ []);
+      }
+  -- 1 to 8 of the new frame before 10; 11 with nothing held, 12 with an extraction, before 9
+  pub bad-first : merge (2 ∷ []) 5 [] [] .answer ≡ refused 2
+  pub bad-arity : merge (frameBytes (frameOver 0 (call (ascii "st_within") nil))) 5 [] [] .answer ≡ refused 8
+  pub bad-plan : merge (frameBytes small) 5 [] [] .answer ≡ refused 10
+  pub no-plan : merge (frameBytes small) 0 [] [] .answer ≡ refused 11
+  pub held-extraction : intoExtraction .answer ≡ refused 12
+  -- 9 for a scratch or a plan buffer that is a byte short; both just long enough
+  pub short-scratch : answerInto small small 13 6 ≡ refused 9
+  pub short-buffer : answerInto small small 12 7 ≡ refused 9
+  pub just-enough : answerInto small small 13 7 ≡ ok 13
+  -- 256 records and 257, 1,024 nodes and 1,025, depth 64 and 65; 16 before 9
+  pub records-within : answerInto (frameOver 200 (other 0 nil)) (frameOver 56 (other 0 nil)) 1300 1300 ≡ ok 1293
+  pub records-over : answerInto (frameOver 200 (other 0 nil)) (frameOver 57 (other 0 nil)) 1300 0 ≡ refused 16
+  pub nodes-within : answerInto (frameOver 0 (over (tree 8))) (frameOver 0 (tree 8)) 4000 4000 ≡ ok 3077
+  pub nodes-over : answerInto (frameOver 0 (tree 9)) (frameOver 0 (other 0 nil)) 4000 0 ≡ refused 16
+  pub depth-within : answerInto small (frameOver 0 (ands 62)) 1000 1000 ≡ ok 763
+  pub depth-over : answerInto small (frameOver 0 (ands 63)) 1000 0 ≡ refused 16
+  -- 16,384 bytes and 16,385
+  pub bytes-within : (length (frameBytes (mergeFrames large (larger 12))) ≡ 16384) × (overLimits (mergeFrames large (larger 12)) ≡ false)
+  pub bytes-over : (length (frameBytes (mergeFrames large (larger 13))) ≡ 16385) × (overLimits (mergeFrames large (larger 13)) ≡ true)
+  -- why mark columns are left out of `MergedLeaves`: a distance of side none is copied with the filter's own column number, here raised
+  pub marked : matchesOf markedFrame ≡ some (distance 0 noSide (column 5 0) (column 0 0) (column 2 0)) ∷ []
+  pub marked-merged : matchesOf (mergeFrames (frameOver 1 (other 0 nil)) markedFrame)
+      ≡ none ∷ some (distance 0 noSide (column 5 0) (column 0 0) (column 3 0)) ∷ []
