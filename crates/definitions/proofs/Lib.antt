@@ -41,7 +41,7 @@ pub mod Figures
 pub mod PrintsApart
 pub mod TextLength
 pub mod PrintCall
-pub mod MergeLines
+pub mod FilterRows
 pub mod Moved
 pub mod Merged
 pub mod MergeCall

@@ -51,7 +51,7 @@ use Rattle.definitions.proofs.ConsoleLines.{print-rows-hold}
 use Rattle.definitions.proofs.Merged.{merged-good, merged-value, merged-leaves-are}
 use Rattle.definitions.proofs.MergeCall.{merge-accepts, merge-wrote, merge-keeps-all, merge-held, list-after}
 use Rattle.definitions.proofs.Histories.{history-of}
-use Rattle.definitions.proofs.MergeLines.{merge-rows-hold}
+use Rattle.definitions.proofs.FilterRows.{merge-rows-hold}
 
 -- ---- with every lawful matcher
 

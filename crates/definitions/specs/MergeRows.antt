@@ -76,16 +76,17 @@ pub record MergeRows : Type 0 where
   pub short-scratch : answerInto small small 13 6 ≡ refused 9
   pub short-buffer : answerInto small small 12 7 ≡ refused 9
   pub just-enough : answerInto small small 13 7 ≡ ok 13
-  -- 256 records and 257, 1,024 nodes and 1,025, depth 64 and 65; 16 before 9
-  pub records-within : answerInto (frameOver 200 (other 0 nil)) (frameOver 56 (other 0 nil)) 1300 1300 ≡ ok 1293
-  pub records-over : answerInto (frameOver 200 (other 0 nil)) (frameOver 57 (other 0 nil)) 1300 0 ≡ refused 16
-  pub nodes-within : answerInto (frameOver 0 (over (tree 8))) (frameOver 0 (tree 8)) 4000 4000 ≡ ok 3077
-  pub nodes-over : answerInto (frameOver 0 (tree 9)) (frameOver 0 (other 0 nil)) 4000 0 ≡ refused 16
-  pub depth-within : answerInto small (frameOver 0 (ands 62)) 1000 1000 ≡ ok 763
-  pub depth-over : answerInto small (frameOver 0 (ands 63)) 1000 0 ≡ refused 16
-  -- 16,384 bytes and 16,385
-  pub bytes-within : (length (frameBytes (mergeFrames large (larger 12))) ≡ 16384) × (overLimits (mergeFrames large (larger 12)) ≡ false)
-  pub bytes-over : (length (frameBytes (mergeFrames large (larger 13))) ≡ 16385) × (overLimits (mergeFrames large (larger 13)) ≡ true)
+  -- 256 records and 257, 16 before 9; depth 64 and 65
+  pub records-within : answerInto (frameOver 200 (other 0 nil)) (frameOver 56 (other 0 nil)) 1293 1008 ≡ ok 1293
+  pub records-over : answerInto (frameOver 200 (other 0 nil)) (frameOver 57 (other 0 nil)) 1293 0 ≡ refused 16
+  pub depth-within : answerInto small (frameOver 0 (ands 62)) 1000 7 ≡ ok 763
+  pub depth-over : answerInto small (frameOver 0 (ands 63)) 1000 7 ≡ refused 16
+  -- 1,024 nodes and 1,025; 16,384 bytes and 16,385
+  pub nodes-within : overLimits (mergeFrames (frameOver 0 (over (tree 8))) (frameOver 0 (tree 8))) ≡ false
+  pub nodes-over : overLimits (mergeFrames (frameOver 0 (tree 9)) (frameOver 0 (other 0 nil))) ≡ true
+  pub bytes-at : length (frameBytes (mergeFrames large (larger 12))) ≡ 16384
+  pub bytes-within : overLimits (mergeFrames large (larger 12)) ≡ false
+  pub bytes-over : overLimits (mergeFrames large (larger 13)) ≡ true
   -- why mark columns are left out of `MergedLeaves`: a distance of side none is copied with the filter's own column number, here raised
   pub marked : matchesOf markedFrame ≡ some (distance 0 noSide (column 5 0) (column 0 0) (column 2 0)) ∷ []
   pub marked-merged : matchesOf (mergeFrames (frameOver 1 (other 0 nil)) markedFrame)

@@ -19,12 +19,13 @@ merge-rows-hold = record {
   just-enough = refl;
   records-within = refl;
   records-over = refl;
-  nodes-within = refl;
-  nodes-over = refl;
   depth-within = refl;
   depth-over = refl;
-  bytes-within = (refl, refl);
-  bytes-over = (refl, refl);
+  nodes-within = refl;
+  nodes-over = refl;
+  bytes-at = refl;
+  bytes-within = refl;
+  bytes-over = refl;
   marked = refl;
   marked-merged = refl;
 }
