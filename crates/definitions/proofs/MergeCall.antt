@@ -25,7 +25,6 @@ use Rattle.definitions.specs.History.{heldNow}
 use Rattle.definitions.specs.MergeClaims.{MergeAccepted, MergeWrites, MergeKeeps, LeavesSession, MergeHolds, mergeAfter, ListAfterMergeBy}
 use Rattle.definitions.proofs.Tools.{and-both}
 use Rattle.definitions.proofs.InverseFrame.{refused-not-ok, same-ok, frame-back}
-use Rattle.definitions.proofs.RoundTripPlan.{frame-reads}
 use Rattle.definitions.proofs.Lengths.{Good, held-good}
 use Rattle.definitions.proofs.Changes.{over-first, finish-keeps, finish-wrote}
 use Rattle.definitions.proofs.Lists.{Reached, Holds, bits, plan-extracted, held-plan, plan-good}
@@ -45,9 +44,9 @@ limits-decide n buffer scratch bytes false false = refl
 
 pub merge-accepts : MergeAccepted
 unfolding merge newAfterMerge mergedBytes
-merge-accepts old new n buffer scratch k e =
+merge-accepts frame n buffer scratch old new given found =
     ap₂ (λ (r : Result Frame) (p : Result Plan).
-    accepted (finish n buffer scratch (newAfterMerge n (length scratch) (length buffer) r p) .answer)) (frame-reads new k) e
+    accepted (finish n buffer scratch (newAfterMerge n (length scratch) (length buffer) r p) .answer)) given found
     ∙ limits-decide n buffer scratch (frameBytes (mergeFrames old new)) (overLimits (mergeFrames old new))
     (leb n (length scratch) && leb (length (frameBytes (mergeFrames old new))) (length buffer))
 

@@ -26,7 +26,7 @@ mergeFrames old new = record {
   expr = and (old .expr) (raised (length (old .records)) (new .expr));
 }
 
--- Whether a frame is over a limit of 01: on bytes, nodes, depth or records. (No other limit is met by merging two good frames.)
+-- Whether a frame is over a limit of 01: on bytes, nodes, depth or records. (Two good frames, merged, are over no other.)
 unfoldable pub overLimits : Frame → Bool
 overLimits F =
     ltb mostBytes (length (frameBytes F)) ||

@@ -46,11 +46,12 @@ MergedLeaves =
 
 -- ---- the call
 
--- A good frame is merged into a held one exactly when together they are over no limit, and scratch and plan buffer have room.
+-- A good frame is merged into a held one exactly when together they are over no limit, and scratch and plan buffer have room;
+-- `MergeWrites` says that nothing else is ever merged.
 abbrev pub MergeAccepted : Type 0
 MergeAccepted =
-    (old new : Frame) (n : ℕ) (buffer scratch : List ℕ) → GoodPlan (held new) → heldPlan n buffer ≡ ok (held old)
-    → accepted (merge (frameBytes new) n buffer scratch .answer)
+    (frame : List ℕ) (n : ℕ) (buffer scratch : List ℕ) (old new : Frame) → frameOf frame ≡ ok new → heldPlan n buffer ≡ ok (held old)
+    → accepted (merge frame n buffer scratch .answer)
     ≡ (not (overLimits (mergeFrames old new))
     && (leb n (length scratch) && leb (length (frameBytes (mergeFrames old new))) (length buffer)))
 
@@ -77,7 +78,7 @@ MergeKeeps =
 
 -- ---- lists of calls after it
 
--- A call left a session of this frame: all that is claimed of sessions holds from there.
+-- A call left a session of this frame: all that is claimed of sessions holds from there. (Ours.)
 abbrev pub LeavesSession : Matcher → Frame → Outcome → Type 0
 LeavesSession match F o = (s : SessionBy match F) × (s .n ≡ o .n) × (s .buffer ≡ o .buffer)
 
