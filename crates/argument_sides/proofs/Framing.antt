@@ -19,7 +19,7 @@ use Rattle.expression.proofs.Placed.{fits, front, back, next}
 use Rattle.expression.proofs.OfKind.{a-column}
 use Rattle.expression.proofs.HeadLaws.{head-column}
 use Rattle.expression.proofs.Standing.{children-stand, first-stands, rest-stands, some-children, head-stands, head-fits, kind-is}
-use Rattle.definitions.proofs.ExchangeGood.{record-length}
+use Rattle.theorems.proofs.ExchangeGood.{record-length}
 use Rattle.expression.proofs.Records.{short-is, short-length, entry-at}
 
 -- ---- what is known of a node

@@ -21,8 +21,8 @@ use Rattle.definitions.specs.Literals.{signed, literalInRange, u32, numberU32, 
 use Rattle.definitions.specs.Readers.{number, numberAfter}
 use Rattle.definitions.specs.Decode.{Columns}
 use Rattle.definitions.specs.Match.{literalU32, literalBool}
-use Rattle.definitions.proofs.ReaderLaws.{same-read}
-use Rattle.definitions.proofs.RoundTrip.{number-reads}
+use Rattle.theorems.proofs.ReaderLaws.{same-read}
+use Rattle.theorems.proofs.RoundTrip.{number-reads}
 use Rattle.expression.specs.Places.{Holds, shortAt}
 use Rattle.expression.specs.Nodes.{headBytes, kindOf, Stands}
 use Rattle.expression.proofs.Placed.{byte-at, next}

@@ -9,7 +9,7 @@ use Rattle.definitions.specs.Expression.{Side, Expr, Exprs, Record}
 use Rattle.definitions.specs.Encode.{exprBytes, exprsBytes, recordBytes}
 use Rattle.definitions.specs.Decode.{sideNumbered, indexBelow}
 use Rattle.definitions.specs.Match.{columnsOf, columnsOfAll, recordAt, sideOf, orderOf}
-use Rattle.definitions.proofs.RoundTripPlan.{side-again}
+use Rattle.theorems.proofs.RoundTripPlan.{side-again}
 use Rattle.expression.proofs.OfKind.{no-own-columns}
 use Rattle.expression.specs.Places.{shortAt}
 use Rattle.expression.specs.Nodes.{childrenOf, OfTree}

@@ -9,7 +9,7 @@ use Rattle.definitions.specs.Expression.{Expr, column, literal, and, binary, ca
 use Rattle.definitions.specs.Encode.{exprBytes, exprsBytes}
 use Rattle.definitions.specs.Decode.{indexBelow}
 use Rattle.definitions.specs.Match.{mapColumns, mapColumnsAll}
-use Rattle.definitions.proofs.Columns.{map-count}
+use Rattle.theorems.proofs.Columns.{map-count}
 use Rattle.expression.specs.Places.{Holds, shortAt}
 use Rattle.expression.specs.Nodes.{headBytes, childrenOf, kindOf, Stands, Row, Tree, OfTree}
 use Rattle.expression.specs.Heads.{HeadIs}

@@ -13,7 +13,7 @@ use Rattle.definitions.specs.Encode.{exprBytes, recordBytes}
 use Rattle.definitions.specs.Decode.{indexBelow}
 use Rattle.definitions.specs.Match.{recordAt, mapColumns, onChild}
 use Rattle.definitions.specs.Good.{InRange}
-use Rattle.definitions.proofs.ExchangeGood.{records-length}
+use Rattle.theorems.proofs.ExchangeGood.{records-length}
 use Rattle.expression.specs.Places.{shortAt}
 use Rattle.expression.proofs.Placed.{fits, front, next}
 use Rattle.argument_writer.specs.Copies.{copyOf}

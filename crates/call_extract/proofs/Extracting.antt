@@ -15,7 +15,7 @@ use Rattle.definitions.specs.Plans.{planOf}
 use Rattle.definitions.specs.Extract.{Pick, pick, takePick, matchesOf, extractionBy, extraction}
 use Rattle.definitions.specs.Calls.{Outcome, writtenOver, finish, heldPlan, matchedBytes, newAfterExtractBy, extract}
 use Rattle.definitions.specs.Good.{AllBytes, ReadableFrame}
-use Rattle.definitions.proofs.ExtractGood.{GoodExtraction, extraction-good}
+use Rattle.theorems.proofs.ExtractGood.{GoodExtraction, extraction-good}
 use Rattle.frame_reader.specs.declared.frames.Frame as places
 use Rattle.argument_sides.specs.Frames.{Over}
 use Rattle.spatial_expr_utils.specs.Picks.{TakenIs}

@@ -14,8 +14,8 @@ use Rattle.definitions.specs.Plans.{frameOf}
 use Rattle.definitions.specs.Calls.{writtenOver}
 use Rattle.definitions.specs.Printed.{printed, textOf, finishPrint, print}
 use Rattle.definitions.specs.Good.{AllBytes}
-use Rattle.definitions.proofs.InverseFrame.{frame-back}
-use Rattle.definitions.proofs.TextLength.{text-short}
+use Rattle.theorems.proofs.InverseFrame.{frame-back}
+use Rattle.theorems.proofs.TextLength.{text-short}
 use Rattle.frame_reader.specs.Frames.{FrameAt}
 use Rattle.frame_reader.specs.declared.frames.Frame as places
 use Rattle.frame_reader.proofs.Standing.{expr-stands}

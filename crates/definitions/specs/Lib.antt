@@ -41,6 +41,7 @@ pub mod Hosts
 pub mod Claims
 pub mod AnyMatcher
 pub mod TenRows
+pub mod FurtherRows
 pub mod RefusalTable
 pub mod NameTables
 pub mod PrintClaims

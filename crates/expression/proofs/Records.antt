@@ -9,7 +9,7 @@ use Rattle.definitions.specs.Basics.{bigEndian}
 use Rattle.definitions.specs.Expression.{Record}
 use Rattle.definitions.specs.Encode.{recordBytes, recordsBytes}
 use Rattle.definitions.specs.Match.{recordAt}
-use Rattle.definitions.proofs.ExchangeGood.{record-length}
+use Rattle.theorems.proofs.ExchangeGood.{record-length}
 use Rattle.expression.specs.Places.{Holds, shortAt}
 use Rattle.expression.proofs.Placed.{byte-at, front, back}
 

@@ -10,8 +10,8 @@ use lib.Dec.{leb}
 use lib.Seq.{take-suc, getD-drop, drop-drop, take-length}
 use Rattle.definitions.specs.Basics.{all}
 use Rattle.definitions.specs.Readers.{read, stopped, byteBetween, repeat}
-use Rattle.definitions.proofs.ReaderLaws.{after, halts}
-use Rattle.definitions.proofs.Taken.{and-both}
+use Rattle.theorems.proofs.ReaderLaws.{after, halts}
+use Rattle.theorems.proofs.Taken.{and-both}
 use Rattle.terms.specs.declared.refusals.Refusal.the-variants.{EndsInsideField, OutOfRange}
 use Rattle.field_reader.specs.declared.field_readers.Skipped.the-variants.{To, Refused}
 use Rattle.field_reader.specs.Fields.{SkippedIs, nameLike}

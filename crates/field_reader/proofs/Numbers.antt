@@ -8,7 +8,7 @@ use mathlib.Core.List.{List, [], _∷_}
 use lib.ListN.{length, drop, getD, length-drop}
 use lib.Dec.{lit<}
 use Rattle.definitions.specs.Readers.{read, stopped, numberAfter, number}
-use Rattle.definitions.proofs.ReaderLaws.{after}
+use Rattle.theorems.proofs.ReaderLaws.{after}
 use Rattle.field_reader.proofs.Reading.{there}
 
 too-short : (high width n : ℕ) (l : List ℕ) → length l < width → numberAfter high width n l ≡ stopped 3

@@ -9,7 +9,7 @@ use lib.Seq.{drop-cons}
 use lib.Dec.{leb}
 use borrow.Author.Tests.{le-leb, lt-leb}
 use Rattle.definitions.specs.Readers.{Read, read, stopped, Reader, continue, _>>=_, byte}
-use Rattle.definitions.proofs.ReaderLaws.{halts}
+use Rattle.theorems.proofs.ReaderLaws.{halts}
 
 -- A test of two bounds.
 module _ (least b most : ℕ) where

@@ -10,8 +10,8 @@ use Rattle.field_reader.specs.declared.field_readers.Skipped.{Skipped}
 use Rattle.field_reader.specs.declared.field_readers.Skipped.the-variants.{To, Refused}
 use Rattle.terms.specs.Refusals.{numberOf}
 use Rattle.field_reader.specs.Fields.{SkippedIs}
-use Rattle.definitions.proofs.ReaderLaws.{after}
-use Rattle.definitions.proofs.ReaderLaws.{halts}
+use Rattle.theorems.proofs.ReaderLaws.{after}
+use Rattle.theorems.proofs.ReaderLaws.{halts}
 
 abbrev pub Left : {A : Type 0} → List ℕ → (at times : ℕ) → Reader A → (next left : ℕ) → Type 0
 Left s at times one next left = (r : Skipped) → SkippedIs s next r (repeat left one) → SkippedIs s at r (repeat times one)

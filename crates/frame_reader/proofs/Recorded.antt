@@ -9,9 +9,9 @@ use Rattle.definitions.specs.Encode.{sideNumber, recordBytes, recordsBytes}
 use Rattle.definitions.specs.Readers.{read, byteUpTo, number, repeat}
 use Rattle.definitions.specs.Decode.{sideNumbered, sideUpTo, oneRecord}
 use Rattle.definitions.specs.Good.{AllBytes}
-use Rattle.definitions.proofs.ReaderLaws.{step, given}
-use Rattle.definitions.proofs.Inverse.{byte-up-to-back, number-back, after-bytes, join}
-use Rattle.definitions.proofs.InversePlan.{side-number}
+use Rattle.theorems.proofs.ReaderLaws.{step, given}
+use Rattle.theorems.proofs.Inverse.{byte-up-to-back, number-back, after-bytes, join}
+use Rattle.theorems.proofs.InversePlan.{side-number}
 
 one-recorded : (n m : ℕ) (s t : List ℕ) (r : Record) → AllBytes s → oneRecord n s ≡ read r m t → s ≡ recordBytes r ++ t
 unfolding oneRecord sideUpTo recordBytes

@@ -12,7 +12,7 @@ use Rattle.definitions.specs.Encode.{recordsBytes}
 use Rattle.definitions.specs.Readers.{Read, read, stopped, Reader, continue, _>>=_, _>>_, give, require, byte, repeat, requireLength, noneLeft, atEnd, resultOf}
 use Rattle.definitions.specs.Decode.{indexBelow, oneRecord}
 use Rattle.definitions.specs.Good.{AllBytes}
-use Rattle.definitions.proofs.ReaderLaws.{after, halts, passes, fails}
+use Rattle.theorems.proofs.ReaderLaws.{after, halts, passes, fails}
 use Rattle.field_reader.specs.declared.field_readers.Field.{Field}
 use Rattle.field_reader.specs.declared.field_readers.Field.the-variants.{Value, Refused}
 use Rattle.field_reader.specs.Fields.{FieldIs, ReadsAt}

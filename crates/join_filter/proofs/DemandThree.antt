@@ -16,8 +16,8 @@ use Rattle.definitions.specs.Good.{AllBytes}
 use Rattle.definitions.specs.Sessions.{Made, make, ListOutcome, callsRunBy, callsRun, machineAfter, accepted, extractAccepted, exchangesOdd, Session, after, planLeft, extractedIn, oddIn}
 use Rattle.definitions.specs.Meaning.{frameValue}
 use Rattle.definitions.specs.Claims.{Agree, someLeafMatches, Took, extractedPlan, priceLine, valuesWhen, HasValue}
-use Rattle.definitions.proofs.InversePlan.{same-ok}
-use Rattle.definitions.proofs.Proved.{load-holds, list-of-calls, same-plan, exchange-accepted, extract-accepted, extract-takes, price-line-stays, list-has-value}
+use Rattle.theorems.proofs.InversePlan.{same-ok}
+use Rattle.theorems.proofs.Proved.{load-holds, list-of-calls, same-plan, exchange-accepted, extract-accepted, extract-takes, price-line-stays, list-has-value}
 use Rattle.join_filter.specs.Outcomes.{answerOf, LoadIs}
 use Rattle.join_filter.specs.Lists.{Ran, noCall, called, CodeRun, outcome, plan, extracted, odd, DemandThree, CodeMeetsDemandThree}
 use Rattle.join_filter.specs.declared.answers.Answer.{Answer}

@@ -12,8 +12,8 @@ use Rattle.definitions.specs.Encode.{planBytes}
 use Rattle.definitions.specs.Plans.{planOf}
 use Rattle.definitions.specs.Calls.{writtenOver, heldPlan}
 use Rattle.definitions.specs.Good.{AllBytes, GoodPlan}
-use Rattle.definitions.proofs.InversePlan.{plan-back}
-use Rattle.definitions.proofs.Lengths.{bytes-up-to}
+use Rattle.theorems.proofs.InversePlan.{plan-back}
+use Rattle.theorems.proofs.Lengths.{bytes-up-to}
 
 module _ (n : ℕ) (before : List ℕ) (fits : n ≤ length before) where
   pub plan-length : length (take n before) ≡ n

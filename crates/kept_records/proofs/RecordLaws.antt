@@ -15,14 +15,14 @@ use Rattle.definitions.specs.Encode.{sideNumber, recordBytes, recordsBytes}
 use Rattle.definitions.specs.Match.{recordAt, sameSide}
 use Rattle.definitions.specs.Extract.{sameColumn, newIndex}
 use Rattle.definitions.specs.Good.{All}
-use Rattle.definitions.proofs.ExchangeGood.{records-length}
+use Rattle.theorems.proofs.ExchangeGood.{records-length}
 use Rattle.expression.specs.Places.{shortAt}
 use Rattle.expression.proofs.Placed as placed
 use Rattle.writing.specs.Written.{WroteAt}
 use Rattle.plan_writer.specs.Predicates.{frameHead}
 use Rattle.argument_writer.specs.Tables.{Entry, OfRecords, Table}
 use Rattle.kept_records.specs.Records.{stays, MarkedBy, OfMarked, Referenced, OneFits, OneKept, keptAll, RecordsKept, RecordsPut, AllFit, AllKept}
-use Rattle.definitions.proofs.ExchangeGood.{record-length}
+use Rattle.theorems.proofs.ExchangeGood.{record-length}
 use Rattle.writing.proofs.Written.{behind, together, chain, copied-wrote, part-wrote, nothing-wrote, behind-length, to-start, store, under}
 use Rattle.writing.proofs.NumberLaws.{number-length}
 use Rattle.argument_writer.proofs.TableLaws.{entry-of, entry-child, table-none, table-more, table-whole}

@@ -11,7 +11,7 @@ use Rattle.definitions.specs.Expression.{Relation, Expr, Exprs, nil, cons, call
 use Rattle.definitions.specs.Leaves.{relationNamed, Comparison, compares, noComparison, distanceArguments}
 use Rattle.definitions.specs.Match.{Request, askRelation, askDistance, askKnn, askNothing, relationRequest, dwithinRequest, knnLiterals, knnRequest, callRequest, distanceRequest, comparisonRequest, request, Order, leftRight, rightLeft, noOrder, ArgumentSide, noColumns, allOn, mixed, matchRelation, storeDistance, matchDistance, matchKnn, matchRequest, matchLeaf}
 use Rattle.definitions.specs.Extract.{isKnn}
-use Rattle.definitions.proofs.Requests.{by-test}
+use Rattle.theorems.proofs.Requests.{by-test}
 use Rattle.leaf_matching.specs.Matches.{isRelation, Lacks}
 
 -- ---- requests and kinds

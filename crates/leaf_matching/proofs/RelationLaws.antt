@@ -12,7 +12,7 @@ use Rattle.definitions.specs.Expression as definition
 use Rattle.definitions.specs.Encode.{exprsBytes}
 use Rattle.definitions.specs.Leaves.{typeNamed, relationNamed}
 use Rattle.definitions.specs.Match.{relationRequest, callRequest, request, askNothing, invert, onChild, boundOn, matchRelation, matchRequest, matchLeaf}
-use Rattle.definitions.proofs.Requests.{same-name}
+use Rattle.theorems.proofs.Requests.{same-name}
 use Rattle.expression.specs.Places.{part}
 use Rattle.expression.specs.Nodes.{OfTrees}
 use Rattle.expression.specs.declared.leaves.Called.{Called}

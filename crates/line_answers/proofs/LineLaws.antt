@@ -11,7 +11,7 @@ use Rattle.definitions.specs.Basics.{if_then_else_, ok, refused}
 use Rattle.definitions.specs.Calls.{writtenOver}
 use Rattle.definitions.specs.Machine.{extractCall, exchangeCall}
 use Rattle.definitions.specs.Program.{Kept, refusedLine, loadLine, logicalLine, callLine, lineOf, digitBytes, orRefused, lineBytes, readLine, lineOutcome}
-use Rattle.definitions.proofs.InversePlan.{refused-not-ok}
+use Rattle.theorems.proofs.InversePlan.{refused-not-ok}
 use Rattle.terms.specs.Refusals.{numberOf}
 use Rattle.terms.specs.declared.refusals.Refusal.{Refusal}
 use Rattle.line_answers.specs.declared.Answer.the-variants.{Refused}

@@ -15,7 +15,7 @@ use Rattle.definitions.specs.Machine.{Kind, extractCall, exchangeCall}
 use Rattle.definitions.specs.Sessions.{makeBy, make}
 use Rattle.definitions.specs.Logical.{LogicalAnswer, leafName, distinct, spatialNames, logicalAnswer, logical, logicalBytes}
 use Rattle.definitions.specs.Program.{Kept, LineOutcome, refusedLine, loadLine, logicalLine, callLine}
-use Rattle.definitions.proofs.InversePlan.{refused-not-ok}
+use Rattle.theorems.proofs.InversePlan.{refused-not-ok}
 use Rattle.terms.specs.Refusals.{numberOf}
 use Rattle.terms.specs.declared.refusals.Refusal.{Refusal}
 use Rattle.join_filter.specs.Outcomes.{answerOf, nAfter, LoadIs, OutcomeIs}

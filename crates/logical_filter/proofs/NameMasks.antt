@@ -12,7 +12,7 @@ use lib.Pow.{pow-lt}
 use borrow.Author.Tests.{eqb-true, eqb-false, eq-eqb, ne-eqb}
 use Rattle.definitions.specs.Basics.{if_then_else_, ascii, sameName, any}
 use Rattle.definitions.specs.Logical.{mask, spatialNames}
-use Rattle.definitions.proofs.Requests.{same-name}
+use Rattle.theorems.proofs.Requests.{same-name}
 use Rattle.expression.specs.Names.{position}
 
 -- ---- two lists of names

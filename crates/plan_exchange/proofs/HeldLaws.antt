@@ -8,7 +8,7 @@ use Rattle.definitions.specs.Expression.{Frame, Extraction, Plan, held, extract
 use Rattle.definitions.specs.Encode.{planBytes}
 use Rattle.definitions.specs.Exchange.{exchangePlan}
 use Rattle.definitions.specs.Calls.{writtenOver}
-use Rattle.definitions.proofs.ExchangeGood.{plan-as-long}
+use Rattle.theorems.proofs.ExchangeGood.{plan-as-long}
 use Rattle.writing.specs.Writing.{Room, Puts}
 use Rattle.plan_exchange.specs.Exchanged.{frameExchanged, extractionExchanged, HeldPlan, ExchangedPlan}
 

@@ -12,7 +12,7 @@ use Rattle.definitions.specs.Expression.{Side, left, right, noSide, Record}
 use Rattle.definitions.specs.Encode.{sideNumber, recordBytes, recordsBytes}
 use Rattle.definitions.specs.Decode.{sideNumbered}
 use Rattle.definitions.specs.Exchange.{negate, exchangeRecord}
-use Rattle.definitions.proofs.ExchangeGood.{records-length}
+use Rattle.theorems.proofs.ExchangeGood.{records-length}
 use Rattle.expression.proofs.Placed.{fits}
 use Rattle.writing.specs.Writing.{Room, Puts}
 use Rattle.plan_exchange.specs.Held.{RecordsAt}

@@ -11,7 +11,7 @@ use Rattle.definitions.specs.Expression.{Frame, Extraction, empty, held, extrac
 use Rattle.definitions.specs.Readers.{Read, read, stopped, Reader, continue, _>>_, give, byte, requireLength, atEnd, resultOf}
 use Rattle.definitions.specs.Decode.{extractionBody}
 use Rattle.definitions.specs.Plans.{wholeExtraction, frameOf, extractionOf, planOfKind, planOf}
-use Rattle.definitions.proofs.ReaderLaws.{after, halts, passes, fails}
+use Rattle.theorems.proofs.ReaderLaws.{after, halts, passes, fails}
 use Rattle.frame_reader.specs.Frames.{firstOf}
 use Rattle.plan_reader.specs.Plans.{RemainderIs}
 use Rattle.plan_reader.specs.declared.held_plans.Remained.{Remained}

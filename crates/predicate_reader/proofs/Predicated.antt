@@ -8,7 +8,7 @@ use lib.Dec.{eqb}
 use Rattle.definitions.specs.Expression as tree
 use Rattle.definitions.specs.Readers.{Reader, byteUpTo, number}
 use Rattle.definitions.specs.Good.{AllBytes}
-use Rattle.definitions.proofs.Inverse.{byte-up-to-back, number-back}
+use Rattle.theorems.proofs.Inverse.{byte-up-to-back, number-back}
 use Rattle.sedona_query_planner.specs.Predicates.{flag, tiesNumbered}
 use Rattle.field_reader.specs.Fields.{ReadsAt}
 use Rattle.reading.proofs.Standing.{bytes-from}

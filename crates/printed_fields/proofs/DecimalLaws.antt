@@ -6,7 +6,7 @@ use mathlib.Core.List.{List, [], _∷_, _++_}
 use lib.ListN.{length, set}
 use borrow.Author.Tests.{lt-ltb, le-ltb}
 use Rattle.definitions.specs.Printed.{figures, decimalWidth, decimal}
-use Rattle.definitions.proofs.Figures.{decimal-length}
+use Rattle.theorems.proofs.Figures.{decimal-length}
 use Rattle.writing.specs.Written.{WroteAt}
 use Rattle.printed_fields.specs.Marks.{Fits, marked}
 use Rattle.printed_fields.proofs.Sequences.{first-fits, second-fits, both-written, mark-fits, mark-written, after-fits, after-written}

@@ -9,7 +9,7 @@ use Rattle.definitions.specs.Expression.{Expr, column, literal, and, binary, ca
 use Rattle.definitions.specs.Decode.{indexBelow}
 use Rattle.definitions.specs.Good.{InRange}
 use Rattle.definitions.specs.Printed.{decimalWidth}
-use Rattle.definitions.proofs.Figures.{width-cases}
+use Rattle.theorems.proofs.Figures.{width-cases}
 use Rattle.expression.specs.Places.{shortAt}
 use Rattle.expression.specs.Nodes.{childrenOf, kindOf}
 use Rattle.expression.proofs.Standing.{kind-is}

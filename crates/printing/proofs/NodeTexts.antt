@@ -7,7 +7,7 @@ use lib.ListN.{length, length-append}
 use Rattle.definitions.specs.Basics.{ascii}
 use Rattle.definitions.specs.Expression.{Expr, column, literal, and, binary, call, other, field, Exprs, nil, cons, count}
 use Rattle.definitions.specs.Printed.{decimal, printed, printedAll, printedMore}
-use Rattle.definitions.proofs.Figures.{decimal-length, digits16-length}
+use Rattle.theorems.proofs.Figures.{decimal-length, digits16-length}
 use Rattle.expression.specs.Nodes.{childrenOf}
 use Rattle.printed_fields.specs.Marks.{openingOf, separatorOf, beforeOf, closingOf, ownSize}
 use Rattle.printing.specs.Texts.{textsFrom}

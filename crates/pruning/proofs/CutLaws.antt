@@ -14,7 +14,7 @@ use Rattle.definitions.specs.Leaves.{leaves}
 use Rattle.definitions.specs.Decode.{Columns}
 use Rattle.definitions.specs.Extract.{without, andLeft, andRight}
 use Rattle.definitions.specs.Good.{InRange}
-use Rattle.definitions.proofs.Taken.{Taken, RestIs, rest-in-range}
+use Rattle.theorems.proofs.Taken.{Taken, RestIs, rest-in-range}
 use Rattle.expression.specs.Nodes.{leftOf, rightOf}
 use Rattle.expression.proofs.Standing.{tree-length, head-some}
 use Rattle.column_references.specs.Around.{inside, around, EndsInside, Ends}

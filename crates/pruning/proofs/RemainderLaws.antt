@@ -11,7 +11,7 @@ use Rattle.definitions.specs.Encode.{exprBytes, recordsBytes, frameBytes, remai
 use Rattle.definitions.specs.Decode.{indexBelow}
 use Rattle.definitions.specs.Match.{columnsOf, mapColumns}
 use Rattle.definitions.specs.Extract.{referenced, newIndex, prune}
-use Rattle.definitions.proofs.Columns.{columns-below}
+use Rattle.theorems.proofs.Columns.{columns-below}
 use Rattle.writing.specs.Written.{Wrote, WroteAt}
 use Rattle.argument_writer.specs.Copies.{copyOf}
 use Rattle.expression.specs.Cuts.{CutAt}

@@ -9,7 +9,7 @@ use Rattle.definitions.specs.Readers.{Read, read, stopped, Reader, continue, _>
 use Rattle.definitions.specs.Decode.{repeatExprs, Columns, nodeOfKind, anyColumn, binaryExpr, binaryNode}
 use Rattle.reading.specs.declared.head_readers.Head.the-variants.{Children}
 use Rattle.reading.specs.Nodes.{HeadIs}
-use Rattle.definitions.proofs.ReaderLaws.{after}
+use Rattle.theorems.proofs.ReaderLaws.{after}
 
 -- Two children, one after the other, are a list of two.
 ofTwo : (Expr → Expr → Expr) → Exprs → Expr

@@ -8,7 +8,7 @@ use mir.Syntax.{w8}
 use mir.Val.{Fits}
 use Rattle.definitions.specs.Decode.{Columns, node, expression}
 use Rattle.definitions.specs.Good.{AllBytes}
-use Rattle.definitions.proofs.Inverse.{NodeBack, node-back}
+use Rattle.theorems.proofs.Inverse.{NodeBack, node-back}
 use Rattle.reading.specs.declared.walk.Walked.{Walked}
 use Rattle.reading.specs.declared.walk.Walked.the-variants.{To, Refused}
 use Rattle.reading.specs.Nodes.{WalkedIs, Counted}

@@ -16,8 +16,8 @@ use Rattle.reading.specs.declared.walk.Walked.{Walked}
 use Rattle.reading.specs.declared.walk.Walked.the-variants.{To, Refused}
 use Rattle.terms.specs.Refusals.{numberOf}
 use Rattle.reading.specs.Nodes.{WalkedIs, Counted}
-use Rattle.definitions.proofs.ReaderLaws.{after}
-use Rattle.definitions.proofs.ReaderLaws.{halts}
+use Rattle.theorems.proofs.ReaderLaws.{after}
+use Rattle.theorems.proofs.ReaderLaws.{halts}
 
 counts : {B : Type 0} (n : ℕ) (s : List ℕ) (next : Bool → Reader B) → n < 1024 → continue (countNode n s) next ≡ next true (suc n) s
 counts n s next h = ap (λ (t : Bool). continue (if t then read true (suc n) s else stopped 5) next) (lt-ltb n 1024 h)

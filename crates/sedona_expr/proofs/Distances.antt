@@ -12,7 +12,7 @@ use Rattle.definitions.specs.Encode.{exprBytes}
 use Rattle.definitions.specs.Leaves.{Comparison, noComparison, comparison, distanceArguments, relationNamed}
 use Rattle.definitions.specs.Match.{relationRequest, dwithinRequest, knnLiterals, knnRequest, callRequest, distanceRequest, comparisonRequest, request}
 use Rattle.definitions.specs.Decode.{Columns}
-use Rattle.definitions.proofs.Requests.{same-name}
+use Rattle.theorems.proofs.Requests.{same-name}
 use Rattle.expression.specs.Places.{part}
 use Rattle.expression.specs.Nodes.{Row, OfTree}
 use Rattle.expression.specs.Leaves.{Both, CallStands, CallIs, PlainNode, plainColumn, plainLiteral, plainOther, plainField}

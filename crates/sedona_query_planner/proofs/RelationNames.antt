@@ -12,7 +12,7 @@ use borrow.Author.Tests.{lt-leb, eqb-true, eqb-false}
 use Rattle.definitions.specs.Basics.{if_then_else_, ascii, sameName, any, all}
 use Rattle.definitions.specs.Expression.{Relation, Named, relations}
 use Rattle.definitions.specs.Leaves.{typeNamed, relationNamed}
-use Rattle.definitions.proofs.Taken.{and-both}
+use Rattle.theorems.proofs.Taken.{and-both}
 use Rattle.expression.proofs.NameLaws.{and-false, unlike}
 use Rattle.expression.specs.Names.{position}
 

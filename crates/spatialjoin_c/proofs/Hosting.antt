@@ -11,8 +11,8 @@ use Rattle.definitions.specs.Machine.{Kind}
 use Rattle.definitions.specs.Sessions.{make, accepted}
 use Rattle.definitions.specs.Printed.{printed, PrintOutcome}
 use Rattle.definitions.specs.Good.{AllBytes}
-use Rattle.definitions.proofs.InverseFrame.{same-ok, frame-back}
-use Rattle.definitions.proofs.Proved.{lengths-short, text-is-short, print-given}
+use Rattle.theorems.proofs.InverseFrame.{same-ok, frame-back}
+use Rattle.theorems.proofs.Proved.{lengths-short, text-is-short, print-given}
 use Rattle.join_filter.specs.Outcomes.{answerOf, LoadIs, OutcomeIs, PrintIs}
 use Rattle.join_filter.specs.declared.answers.Answer.{Answer}
 use Rattle.join_filter.specs.declared.answers.Answer.the-variants.{Length, Refused}

@@ -1,5 +1,5 @@
 -- A byte, tested against its least and then its greatest value.
-use Rattle.definitions.proofs.ReaderLaws.{after, halts, passes, fails}
+use Rattle.theorems.proofs.ReaderLaws.{after, halts, passes, fails}
 use Rattle.field_reader.proofs.Reading.{within, below, above}
 use mathlib.Core.Path.{_∙_}
 use Rattle.definitions.specs.Readers.{byteBetween}

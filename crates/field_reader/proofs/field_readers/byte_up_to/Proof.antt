@@ -2,7 +2,7 @@
 use mathlib.Core.Path.{_∙_}
 use borrow.Author.Tests.{le-leb, lt-leb}
 use Rattle.definitions.specs.Readers.{byteUpTo}
-use Rattle.definitions.proofs.ReaderLaws.{after, halts, passes, fails}
+use Rattle.theorems.proofs.ReaderLaws.{after, halts, passes, fails}
 use borrow.Author.Needs.{needs}
 use Rattle.field_reader.proofs.field_readers.byte_up_to.Statement.{statement}
 use Rattle.field_reader.proofs.field_readers.byte_up_to.Tie as tie

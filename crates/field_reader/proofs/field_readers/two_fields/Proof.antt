@@ -3,7 +3,7 @@ use Rattle.field_reader.specs.declared.field_readers.Field.the-variants.
 use Rattle.field_reader.specs.Fields.{FieldIs, readerOf}
 use borrow.Author.Needs.{needs}
 use mathlib.Core.Path.{_∙_}
-use Rattle.definitions.proofs.ReaderLaws.{after, halts}
+use Rattle.theorems.proofs.ReaderLaws.{after, halts}
 use Rattle.field_reader.proofs.field_readers.two_fields.Statement.{statement}
 use Rattle.field_reader.proofs.field_readers.two_fields.Tie as tie
 

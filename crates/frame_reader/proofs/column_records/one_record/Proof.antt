@@ -6,7 +6,7 @@ use borrow.Author.Needs.{needs}
 use mathlib.Core.Path.{_∙_}
 use Rattle.definitions.specs.Readers.{number}
 use Rattle.definitions.specs.Decode.{sideUpTo, oneRecord}
-use Rattle.definitions.proofs.ReaderLaws.{after, halts}
+use Rattle.theorems.proofs.ReaderLaws.{after, halts}
 use Rattle.field_reader.proofs.Reading.{stops-in-two}
 use Rattle.frame_reader.proofs.column_records.one_record.Statement.{statement}
 use Rattle.frame_reader.proofs.column_records.one_record.Tie as tie

@@ -3,7 +3,7 @@ use native.Mathlib.Omega.{arith}
 use mathlib.Core.Path.{_∙_}
 use borrow.Author.Tests.{le-leb, lt-leb}
 use Rattle.definitions.specs.Decode.{recordCount}
-use Rattle.definitions.proofs.ReaderLaws.{after, halts, passes, fails}
+use Rattle.theorems.proofs.ReaderLaws.{after, halts, passes, fails}
 use borrow.Author.Needs.{needs}
 use Rattle.frame_reader.proofs.column_records.record_count.Statement.{statement}
 use Rattle.frame_reader.proofs.column_records.record_count.Tie as tie

@@ -2,7 +2,7 @@
 use borrow.Author.Needs.{needs}
 use mathlib.Core.Path.{_∙_}
 use Rattle.definitions.specs.Decode.{sideUpTo}
-use Rattle.definitions.proofs.ReaderLaws.{after, halts}
+use Rattle.theorems.proofs.ReaderLaws.{after, halts}
 use Rattle.frame_reader.proofs.column_records.side_up_to.Statement.{statement}
 use Rattle.frame_reader.proofs.column_records.side_up_to.Tie as tie
 

@@ -6,7 +6,7 @@ use Rattle.field_reader.specs.Fields.{FieldIs, SkippedIs}
 use borrow.Author.Needs.{needs}
 use mathlib.Core.Path.{_∙_}
 use Rattle.definitions.specs.Decode.{oneRecord, recordCount, frameBody}
-use Rattle.definitions.proofs.ReaderLaws.{after, halts}
+use Rattle.theorems.proofs.ReaderLaws.{after, halts}
 use Rattle.reading.proofs.Standing.{all-bytes}
 use Rattle.frame_reader.proofs.Wholes.{frame-stands}
 use Rattle.frame_reader.proofs.frames.frame_body.Statement.{statement}

@@ -3,7 +3,7 @@ use borrow.Author.Needs.{needs}
 use mathlib.Core.Path.{_∙_}
 use mathlib.Core.Bool.{true}
 use borrow.Author.Tests.{eq-eqb, ne-eqb}
-use Rattle.definitions.proofs.ReaderLaws.{after, halts}
+use Rattle.theorems.proofs.ReaderLaws.{after, halts}
 use Rattle.frame_reader.specs.Frames.{opening}
 use Rattle.frame_reader.proofs.frames.opened.Statement.{statement}
 use Rattle.frame_reader.proofs.frames.opened.Tie as tie

@@ -10,7 +10,7 @@ use Rattle.definitions.specs.Leaves.{arity}
 use Rattle.definitions.specs.Readers.{Reader, _>>_, give, require, resultOf}
 use Rattle.definitions.specs.Decode.{frameBody}
 use Rattle.definitions.specs.Plans.{physicalFrame, frameOf}
-use Rattle.definitions.proofs.ReaderLaws.{passes, fails}
+use Rattle.theorems.proofs.ReaderLaws.{passes, fails}
 use Rattle.frame_reader.proofs.Standing.{expr-stands, frame-tree}
 use Rattle.frame_reader.proofs.Wholes.{unopened, body-stops, ends, goes-on}
 use Rattle.frame_reader.proofs.frames.physical_frame.Statement.{statement}

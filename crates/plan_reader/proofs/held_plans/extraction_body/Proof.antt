@@ -4,7 +4,7 @@ use Rattle.predicate_reader.specs.Predicates.{PredicateIs}
 use borrow.Author.Needs.{needs}
 use mathlib.Core.Path.{_∙_}
 use Rattle.definitions.specs.Decode.{predicateOfKind, extractionBody}
-use Rattle.definitions.proofs.ReaderLaws.{after, halts}
+use Rattle.theorems.proofs.ReaderLaws.{after, halts}
 use Rattle.plan_reader.proofs.held_plans.extraction_body.Statement.{statement}
 use Rattle.plan_reader.proofs.held_plans.extraction_body.Tie as tie
 

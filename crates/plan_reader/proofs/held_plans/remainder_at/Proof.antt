@@ -4,7 +4,7 @@ use mathlib.Core.Path.{refl, _∙_}
 use mathlib.Core.Option.{none}
 use borrow.Author.Tests.{ne-eqb}
 use Rattle.definitions.specs.Decode.{remainderOfKind, remainder}
-use Rattle.definitions.proofs.ReaderLaws.{after, halts}
+use Rattle.theorems.proofs.ReaderLaws.{after, halts}
 use Rattle.plan_reader.proofs.Extractions.{follows}
 use Rattle.plan_reader.proofs.held_plans.remainder_at.Statement.{statement}
 use Rattle.plan_reader.proofs.held_plans.remainder_at.Tie as tie

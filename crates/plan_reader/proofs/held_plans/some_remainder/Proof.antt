@@ -5,7 +5,7 @@ use borrow.Author.Needs.{needs}
 use mathlib.Core.Path.{refl, sym, _∙_}
 use mathlib.Core.Option.{some}
 use Rattle.definitions.specs.Decode.{frameBody, someRemainder}
-use Rattle.definitions.proofs.ReaderLaws.{after, halts, passes, fails}
+use Rattle.theorems.proofs.ReaderLaws.{after, halts, passes, fails}
 use Rattle.frame_reader.proofs.Standing.{expr-stands, frame-tree}
 use Rattle.plan_reader.proofs.held_plans.some_remainder.Statement.{statement}
 use Rattle.plan_reader.proofs.held_plans.some_remainder.Tie as tie

@@ -6,7 +6,7 @@ use borrow.Author.Needs.{needs}
 use native.Mathlib.Omega.{arith}
 use mathlib.Core.Path.{_∙_}
 use Rattle.definitions.specs.Decode.{distancePredicate}
-use Rattle.definitions.proofs.ReaderLaws.{after, halts}
+use Rattle.theorems.proofs.ReaderLaws.{after, halts}
 use Rattle.predicate_reader.proofs.Predicated.{precedes, up-to}
 use Rattle.predicate_reader.proofs.held_predicates.distance_predicate.Statement.{statement}
 use Rattle.predicate_reader.proofs.held_predicates.distance_predicate.Tie as tie

@@ -1,7 +1,7 @@
 -- Three fields in a row, whatever comes after them.
 use borrow.Author.Needs.{needs}
 use mathlib.Core.Path.{_∙_}
-use Rattle.definitions.proofs.ReaderLaws.{after, halts}
+use Rattle.theorems.proofs.ReaderLaws.{after, halts}
 use Rattle.predicate_reader.proofs.Predicated.{up-to, flag-stored, ties-stored}
 use Rattle.predicate_reader.proofs.held_predicates.knn_flags.Statement.{statement}
 use Rattle.predicate_reader.proofs.held_predicates.knn_flags.Tie as tie

@@ -8,7 +8,7 @@ use borrow.Author.Needs.{needs}
 use native.Mathlib.Omega.{arith}
 use mathlib.Core.Path.{refl, _∙_}
 use Rattle.definitions.specs.Decode.{knnPredicate}
-use Rattle.definitions.proofs.ReaderLaws.{after, halts}
+use Rattle.theorems.proofs.ReaderLaws.{after, halts}
 use Rattle.reading.proofs.Standing.{all-bytes}
 use Rattle.predicate_reader.proofs.Predicated.{four-bytes}
 use Rattle.predicate_reader.proofs.held_predicates.knn_predicate.Statement.{statement}

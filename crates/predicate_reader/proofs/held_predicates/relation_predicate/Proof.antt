@@ -3,7 +3,7 @@ use borrow.Author.Needs.{needs}
 use mathlib.Core.Path.{sym, ap, _∙_}
 use Rattle.definitions.specs.Expression as tree
 use Rattle.definitions.specs.Decode.{relationPredicate}
-use Rattle.definitions.proofs.ReaderLaws.{after, halts}
+use Rattle.theorems.proofs.ReaderLaws.{after, halts}
 use Rattle.predicate_reader.proofs.held_predicates.relation_predicate.Statement.{statement}
 use Rattle.predicate_reader.proofs.held_predicates.relation_predicate.Tie as tie
 

@@ -5,7 +5,7 @@ use mathlib.Core.Path.{_∙_}
 use borrow.Author.Tests.{le-leb, lt-leb}
 use Rattle.definitions.specs.Readers.{byteUpTo}
 use Rattle.definitions.specs.Decode.{binaryNode}
-use Rattle.definitions.proofs.ReaderLaws.{after, halts, passes, fails}
+use Rattle.theorems.proofs.ReaderLaws.{after, halts, passes, fails}
 use Rattle.reading.proofs.Children.{two}
 use Rattle.reading.proofs.head_readers.binary_head.Statement.{statement}
 use Rattle.reading.proofs.head_readers.binary_head.Tie as tie

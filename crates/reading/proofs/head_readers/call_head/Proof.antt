@@ -2,7 +2,7 @@
 use mathlib.Core.Path.{_∙_}
 use Rattle.definitions.specs.Expression.{call}
 use Rattle.definitions.specs.Decode.{callNode}
-use Rattle.definitions.proofs.ReaderLaws.{after, halts}
+use Rattle.theorems.proofs.ReaderLaws.{after, halts}
 use borrow.Author.Needs.{needs}
 use Rattle.reading.proofs.head_readers.call_head.Statement.{statement}
 use Rattle.reading.proofs.head_readers.call_head.Tie as tie

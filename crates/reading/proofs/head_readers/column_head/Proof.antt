@@ -5,7 +5,7 @@ use borrow.Author.Tests.{lt-ltb, le-ltb}
 use Rattle.definitions.specs.Expression.{column}
 use Rattle.definitions.specs.Readers.{number}
 use Rattle.definitions.specs.Decode.{repeatExprs, columnNode}
-use Rattle.definitions.proofs.ReaderLaws.{after, passes, fails}
+use Rattle.theorems.proofs.ReaderLaws.{after, passes, fails}
 use Rattle.field_reader.proofs.Reading.{stops-in-two}
 use Rattle.reading.proofs.head_readers.column_head.Statement.{statement}
 use Rattle.reading.proofs.head_readers.column_head.Tie as tie

@@ -4,7 +4,7 @@ use mathlib.Core.Path.{_∙_}
 use Rattle.definitions.specs.Expression.{field}
 use Rattle.definitions.specs.Readers.{byteUpTo, number}
 use Rattle.definitions.specs.Decode.{repeatExprs, fieldNode}
-use Rattle.definitions.proofs.ReaderLaws.{after}
+use Rattle.theorems.proofs.ReaderLaws.{after}
 use Rattle.field_reader.proofs.Reading.{stops-in-two}
 use Rattle.reading.proofs.head_readers.field_head.Statement.{statement}
 use Rattle.reading.proofs.head_readers.field_head.Tie as tie

@@ -4,7 +4,7 @@ use mathlib.Core.Path.{sym, _∙_}
 use Rattle.definitions.specs.Expression.{literal}
 use Rattle.definitions.specs.Readers.{byteUpTo, number}
 use Rattle.definitions.specs.Decode.{repeatExprs, literalNode}
-use Rattle.definitions.proofs.ReaderLaws.{after, passes, fails}
+use Rattle.theorems.proofs.ReaderLaws.{after, passes, fails}
 use Rattle.field_reader.proofs.Reading.{stops-in-two}
 use Rattle.reading.proofs.head_readers.literal_head.Statement.{statement}
 use Rattle.reading.proofs.head_readers.literal_head.Tie as tie

@@ -1,7 +1,7 @@
 -- A byte, tested against the kinds that the mode allows.
 use mathlib.Core.Path.{sym, _∙_}
 use Rattle.definitions.specs.Decode.{nodeKind}
-use Rattle.definitions.proofs.ReaderLaws.{after, halts, passes, fails}
+use Rattle.theorems.proofs.ReaderLaws.{after, halts, passes, fails}
 use borrow.Author.Needs.{needs}
 use Rattle.reading.proofs.head_readers.node_kind.Statement.{statement}
 use Rattle.reading.proofs.head_readers.node_kind.Tie as tie

@@ -2,7 +2,7 @@
 use native.Mathlib.Omega.{arith}
 use Prim.Native.Nat.{_%_}
 use Rattle.definitions.specs.Program.{digit}
-use Rattle.definitions.proofs.Figures.{digit-small}
+use Rattle.theorems.proofs.Figures.{digit-small}
 use Rattle.writing.proofs.NumberLaws.{Written, none-written, one-written, all-written, figures-are}
 use Rattle.writing.proofs.numbers.put_figures.Statement.{statement}
 use Rattle.writing.proofs.numbers.put_figures.Tie as tie

@@ -1,0 +1,17 @@
+-- Our rows beside 01's ten hold by computation.
+use mathlib.Core.Path.{refl}
+use Rattle.definitions.specs.FurtherRows.{FurtherRows}
+use Rattle.definitions.proofs.Everything.{everything}
+
+pub further-rows-hold : FurtherRows
+unfolding everything
+further-rows-hold = record {
+  first-taken = refl;
+  second-stays = refl;
+  knn-exchanged = refl;
+  exchange-kept = refl;
+  own-matcher = refl;
+  and-false = refl;
+  and-true = refl;
+  and-unknown = refl;
+}

@@ -1,0 +1,208 @@
+-- Points on a line are a fair meaning, by computation but for symmetry and for a KNN leaf's k, a literal whose value is its number.
+use Prim.Native.Nat.{ℕ, _+_, _-_}
+use native.Mathlib.Omega.{arith}
+use mathlib.Core.Path.{_≡_, refl, sym, ap, _∙_, subst}
+use mathlib.Core.Bool.{Bool, true, false, _||_}
+use mathlib.Core.List.{List, [], _∷_}
+use mathlib.Core.Option.{Option, none, some}
+use lib.Dec.{leb, ltb, eqb}
+use lib.IntN.{ℤ, pos}
+use borrow.Author.Tests.{eqb-true, eqb-false, eq-eqb, ne-eqb}
+use Rattle.definitions.specs.Basics.{if_then_else_, ascii, sameName}
+use Rattle.definitions.specs.Expression.{Side, Relation, intersects, contains, within, covers, coveredBy, touches, crosses, overlaps, equals, Expr, column, literal, and, binary, call, other, field, Exprs, nil, cons, Record, knn, invert}
+use Rattle.definitions.specs.Literals.{signed, u32, numberU32}
+use Rattle.definitions.specs.Leaves.{relationNamed}
+use Rattle.definitions.specs.Match.{literalU32, literalBool, knnLiterals, knnRequest, matchLeaf}
+use Rattle.definitions.specs.Meaning.{Valuation, Meaning, value, frameColumns, Fair}
+use Rattle.definitions.specs.Claims.{FairMeaning, markedFrame, MarksDiffer}
+use Rattle.definitions.proofs.Everything.{everything}
+use Rattle.theorems.proofs.Tools.{by-test}
+use Rattle.theorems.proofs.KnnLeaves.{Asked, Matched, leaf-matched}
+
+-- ---- points on a line
+
+-- A test as a truth value.
+abbrev truth : Bool → ℕ
+truth true = 1
+truth false = 0
+
+-- How far two points are from each other.
+abbrev apart : ℕ → ℕ → ℕ
+apart a b = (a - b) + (b - a)
+
+-- Whether two points are at most so far apart.
+abbrev near : (a b bound : ℕ) → ℕ
+near a b bound = truth (leb (apart a b) bound)
+
+-- A point contains and covers those up to it; every other relation holds of equal points.
+related : Relation → ℕ → ℕ → ℕ
+related contains a b = truth (leb b a)
+related covers a b = truth (leb b a)
+related within a b = truth (leb a b)
+related coveredBy a b = truth (leb a b)
+related intersects a b = truth (eqb a b)
+related touches a b = truth (eqb a b)
+related crosses a b = truth (eqb a b)
+related overlaps a b = truth (eqb a b)
+related equals a b = truth (eqb a b)
+
+-- Lt, LtEq, Gt, GtEq of numbers; any other operator is unknown.
+compared : (operator : ℕ) → ℕ → ℕ → ℕ
+compared operator a b =
+    if eqb operator 1 then truth (ltb a b) else
+    if eqb operator 2 then truth (leb a b) else
+    if eqb operator 3 then truth (ltb b a) else
+    if eqb operator 4 then truth (leb b a) else
+    2
+
+-- A function of the first two arguments; unknown without them.
+ofTwo : (ℕ → ℕ → ℕ) → (arguments : List ℕ) → ℕ
+ofTwo f [] = 2
+ofTwo f (a ∷ []) = 2
+ofTwo f (a ∷ b ∷ more) = f a b
+
+-- A function of the first two arguments and the third, which is this number where it is missing.
+ofThree : (ℕ → ℕ → ℕ → ℕ) → (missing : ℕ) → (arguments : List ℕ) → ℕ
+ofThree f missing [] = 2
+ofThree f missing (a ∷ []) = 2
+ofThree f missing (a ∷ b ∷ []) = f a b missing
+ofThree f missing (a ∷ b ∷ c ∷ more) = f a b c
+
+-- A function by its relation, else by its name; any other is unknown.
+called : Option Relation → (name : List ℕ) → (arguments : List ℕ) → ℕ
+called (some type) name arguments = ofTwo (related type) arguments
+called none name arguments =
+    if sameName name (ascii "st_distance") then ofTwo apart arguments else
+    if sameName name (ascii "st_dwithin") then ofThree near 0 arguments else
+    if sameName name (ascii "st_knn") then ofThree near 1 arguments else
+    2
+
+pub points : Meaning
+points = record {
+  literalValue = λ type bytes. bytes;
+  binaryValue = compared;
+  callValue = λ name arguments. called (relationNamed name) name arguments;
+  otherValue = λ tag children. 2;
+  fieldValue = λ bits tag. 2;
+  relationValue = related;
+  distanceValue = apart;
+  dwithinValue = near;
+  knnValue = λ query object k spheroid ties. near query object k;
+}
+
+-- ---- symmetry
+
+equal-symmetric : (a b : ℕ) (t : Bool) → eqb a b ≡ t → truth (eqb b a) ≡ truth t
+equal-symmetric a b true e = ap truth (eq-eqb b a (sym (eqb-true a b e)))
+equal-symmetric a b false e = ap truth (ne-eqb b a (λ q. eqb-false a b e (sym q)))
+
+related-inverse : (type : Relation) (a b : ℕ) → related (invert type) b a ≡ related type a b
+unfolding related invert
+related-inverse contains a b = refl
+related-inverse covers a b = refl
+related-inverse within a b = refl
+related-inverse coveredBy a b = refl
+related-inverse intersects a b = equal-symmetric a b (eqb a b) refl
+related-inverse touches a b = equal-symmetric a b (eqb a b) refl
+related-inverse crosses a b = equal-symmetric a b (eqb a b) refl
+related-inverse overlaps a b = equal-symmetric a b (eqb a b) refl
+related-inverse equals a b = equal-symmetric a b (eqb a b) refl
+
+apart-symmetric : (a b : ℕ) → apart a b ≡ apart b a
+apart-symmetric a b = omega arith
+
+-- ---- a KNN leaf
+
+-- What is read off a literal is its value.
+abbrev Has : ℕ → Option ℕ → Type 0
+Has v none = Unit {0}
+Has v (some k) = v ≡ k
+
+u32-has : (n : ℕ) → Has n (u32 (pos n))
+unfolding u32
+u32-has n = by-test (Has n) (leb n 4294967295) (some n) none (λ _. refl) (λ _. tt)
+
+signed-has : (bytes : ℕ) → Has bytes (u32 (signed bytes))
+unfolding signed
+signed-has bytes =
+    by-test (λ (z : ℤ). Has bytes (u32 z)) (ltb bytes 9223372036854775808) (pos bytes) _ (λ _. u32-has bytes) (λ _. unfold u32 in tt)
+
+literal-has : (columns : ℕ → ℕ) (e : Expr) → Has (value points columns e) (literalU32 e)
+unfolding literalU32 numberU32 value points
+literal-has columns (literal type bytes) =
+    by-test (Has bytes) (eqb type 2 || eqb type 3) _ _ (λ _. signed-has bytes)
+    (λ _. by-test (Has bytes) (eqb type 4 || eqb type 5) _ _ (λ _. u32-has bytes) (λ _. tt))
+literal-has columns (column index tag) = tt
+literal-has columns (and l r) = tt
+literal-has columns (binary operator l r) = tt
+literal-has columns (call name arguments) = tt
+literal-has columns (other tag children) = tt
+literal-has columns (field bits tag) = tt
+
+-- With k read off a literal of this value, KNN of two points is asked for.
+literals-asked : (x y z v : ℕ) (k spheroid ties : Option ℕ) (a b : Expr) → Has v k → x ≡ near y z v
+    → Asked (λ k spheroid ties. x ≡ near y z k) (knnLiterals k spheroid ties a b)
+unfolding knnLiterals
+literals-asked x y z v none spheroid ties a b h e = tt
+literals-asked x y z v (some k) none ties a b h e = tt
+literals-asked x y z v (some k) (some spheroid) none a b h e = tt
+literals-asked x y z v (some k) (some spheroid) (some ties) a b h e = e ∙ ap (near y z) h
+
+module _ (columns : ℕ → ℕ) (a b : Expr) where
+  -- A call of these two and further arguments has the value of KNN with this k.
+  abbrev IsNear : (name : List ℕ) → (more : Exprs) → (k spheroid ties : ℕ) → Type 0
+  IsNear name more k spheroid ties =
+      value points columns (call name (cons a (cons b more))) ≡ near (value points columns a) (value points columns b) k
+
+  k-asked : (k : Expr) (more : Exprs) (spheroid ties : Option ℕ)
+      → Asked (IsNear (ascii "st_knn") (cons k more)) (knnLiterals (literalU32 k) spheroid ties a b)
+  unfolding points called ofThree everything
+  k-asked k more spheroid ties = literals-asked _ _ _ (value points columns k) (literalU32 k) spheroid ties a b (literal-has columns k) refl
+
+  knn-asked : (more : Exprs) → Asked (IsNear (ascii "st_knn") more) (knnRequest (cons a (cons b more)))
+  unfolding points called ofThree everything
+  knn-asked nil = refl
+  knn-asked (cons k nil) = k-asked k nil (some 0) (some 2)
+  knn-asked (cons k (cons s nil)) = k-asked k (cons s nil) (literalBool s) (some 2)
+  knn-asked (cons k (cons s (cons t nil))) = k-asked k (cons s (cons t nil)) (literalBool s) (literalBool t)
+  knn-asked (cons k (cons s (cons t (cons u more)))) = tt
+
+points-knn : (v : Valuation) (rs : List Record) (name : List ℕ) (a b : Expr) (more : Exprs)
+    → (k spheroid ties : ℕ) (probe : Side) (l r : Expr)
+    → matchLeaf rs (call name (cons a (cons b more))) ≡ some (knn k spheroid probe ties l r)
+    → value points (frameColumns v rs) (call name (cons a (cons b more)))
+    ≡ near (value points (frameColumns v rs) a) (value points (frameColumns v rs) b) k
+points-knn v rs name a b more k spheroid ties probe l r e =
+    let f : ℕ → ℕ = frameColumns v rs in
+    subst (Matched (IsNear f a b name more)) e (leaf-matched (IsNear f a b name more) rs name a b more (λ n.
+    subst (λ (x : List ℕ). Asked (IsNear f a b x more) (knnRequest (cons a (cons b more)))) (sym n) (knn-asked f a b more)))
+
+-- ---- the meaning is fair
+
+points-fair : Fair points
+unfolding points called ofTwo ofThree everything
+points-fair = record {
+  relationCall = λ name type e a b more. ap (λ (r : Option Relation). called r name (a ∷ b ∷ more)) e;
+  relationInverse = related-inverse;
+  distanceCall = λ a b more. refl;
+  distanceSymmetric = apart-symmetric;
+  dwithinCall = λ a b bound more. refl;
+  dwithinSymmetric = λ a b bound. ap (λ (d : ℕ). truth (leb d bound)) (apart-symmetric a b);
+  knnLeaf = λ v rs name a b more within. points-knn v rs name a b more;
+}
+
+pub fair-points : FairMeaning
+unfolding points related
+fair-points = (points, points-fair, refl, refl, refl, refl, refl, refl)
+
+-- ---- mark columns
+
+-- Each column's value is its child index.
+byChild : Valuation
+byChild side child = child
+
+-- The frame reads the mark column's child index 9: two points 5 apart are near, and it is true. Its extraction reads the copied column
+-- number 2, and is false.
+pub marks-apart : MarksDiffer
+unfolding everything points called ofThree markedFrame byChild
+marks-apart = (points, points-fair, byChild, refl, refl)

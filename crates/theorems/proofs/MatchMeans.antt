@@ -1,0 +1,206 @@
+-- The sides that let a leaf match say which columns its arguments read: so its match has the value of what it asks for.
+use Prim.Native.Nat.{ℕ, zero, suc, _<_}
+use native.Mathlib.Nat.{not-suc-le-zero, le-of-suc-le-suc}
+use native.Mathlib.Omega.{arith}
+use mathlib.Core.Path.{_≡_, refl, sym, ap, ap₂, _∙_, subst}
+use mathlib.Core.Bool.{Bool, true, false, false≢true}
+use mathlib.Core.List.{List, [], _∷_, map}
+use lib.ListN.{length}
+use lib.Dec.{ltb}
+use borrow.Author.Tests.{ltb-true}
+use Rattle.definitions.specs.Basics.{if_then_else_, all}
+use Rattle.definitions.specs.Expression.{Side, left, right, noSide, Relation, Expr, Record}
+use Rattle.definitions.specs.Decode.{indexBelow}
+use Rattle.definitions.specs.References.{columnsOf, recordAt, sameSide}
+use Rattle.definitions.specs.Match.{ArgumentSide, noColumns, allOn, mixed, commonSide, sideOf, isSide, Order, leftRight, rightLeft, noOrder, orderOf, onChild, boundOn, Request, askRelation, askDistance, askKnn, askNothing, request, matchRelation, storeDistance, matchDistance, matchKnn, matchRequest, matchLeaf}
+use Rattle.definitions.specs.Exchange.{negate}
+use Rattle.definitions.specs.Good.{All, InRange, NoMarks}
+use Rattle.definitions.specs.Meaning.{Valuation, Meaning, value, frameColumns, predicateValue, Fair}
+use Rattle.theorems.proofs.Columns.{all-both, columns-below}
+use Rattle.theorems.proofs.Tools.{and-both}
+use Rattle.theorems.proofs.Requests.{Within, request-within}
+use Rattle.definitions.specs.Matchers.{Valued}
+use Rattle.theorems.proofs.Values.{map-value, same-value, form-symmetric}
+use Rattle.theorems.proofs.MatchAsks.{MeansSame, request-means}
+
+-- ---- sides
+
+same-side : (s t : Side) → sameSide s t ≡ true → t ≡ s
+unfolding sameSide
+same-side left left e = refl
+same-side left right e = absurd (false≢true e)
+same-side left noSide e = absurd (false≢true e)
+same-side right left e = absurd (false≢true e)
+same-side right right e = refl
+same-side right noSide e = absurd (false≢true e)
+same-side noSide left e = absurd (false≢true e)
+same-side noSide right e = absurd (false≢true e)
+same-side noSide noSide e = refl
+
+all-same : (g : ℕ → Side) (s : Side) (is : List ℕ) → all (sameSide s) (map g is) ≡ true → All (λ i. g i ≡ s) is
+unfolding all
+all-same g s [] e = tt
+all-same g s (i ∷ is) e =
+    let both : (sameSide s (g i) ≡ true) × (all (sameSide s) (map g is) ≡ true) =
+    and-both (sameSide s (g i)) (all (sameSide s) (map g is)) e in
+    (same-side s (g i) (both .0), all-same g s is (both .1))
+
+all-side : (b : Bool) (s t : Side) → (if b then allOn s else mixed) ≡ allOn t → (b ≡ true) × (s ≡ t)
+all-side true s t e = (refl, cc)
+all-side false s t e = let z : _≡_ {A = ℕ} 0 1 = cc in absurd (omega arith)
+
+common-is : (g : ℕ → Side) (is : List ℕ) (s : Side) → commonSide (map g is) ≡ allOn s → All (λ i. g i ≡ s) is
+unfolding commonSide
+common-is g [] s e = tt
+common-is g (i ∷ is) s e =
+    let p : (all (sameSide (g i)) (map g is) ≡ true) × (g i ≡ s) = all-side (all (sameSide (g i)) (map g is)) (g i) s e in
+    (p .1, subst (λ (t : Side). All (λ j. g j ≡ t) is) (p .1) (all-same g (g i) is (p .0)))
+
+pub side-is : (rs : List Record) (e : Expr) (s : Side) → sideOf rs e ≡ allOn s → All (λ i. recordAt rs i .side ≡ s) (columnsOf e)
+unfolding sideOf
+side-is rs e s h = common-is (λ i. recordAt rs i .side) (columnsOf e) s h
+
+mixed-or-all : (b : Bool) (s : Side) → (if b then allOn s else mixed) ≡ noColumns → ⊥
+mixed-or-all true s e = let z : _≡_ {A = ℕ} 0 1 = cc in absurd (omega arith)
+mixed-or-all false s e = let z : _≡_ {A = ℕ} 0 1 = cc in absurd (omega arith)
+
+-- An argument without columns has any property of all its columns.
+pub no-columns : (P : ℕ → Type 0) (g : ℕ → Side) (is : List ℕ) → commonSide (map g is) ≡ noColumns → All P is
+unfolding commonSide
+no-columns P g [] e = tt
+no-columns P g (i ∷ is) e = absurd (mixed-or-all (all (sameSide (g i)) (map g is)) (g i) e)
+
+map-all : (P Q : ℕ → Type 0) → ((i : ℕ) → P i → Q i) → (is : List ℕ) → All P is → All Q is
+map-all P Q f [] h = tt
+map-all P Q f (i ∷ is) h = (f i (h .0), map-all P Q f is (h .1))
+
+-- An argument of one side has the same value over that side's columns.
+argument-value : (M : Meaning) (v : Valuation) (rs : List Record) (e : Expr) (s : Side) → sideOf rs e ≡ allOn s
+    → value M (frameColumns v rs) e ≡ value M (v s) (onChild rs e)
+unfolding onChild frameColumns
+argument-value M v rs e s h =
+    map-value M (frameColumns v rs) (v s) (λ i. recordAt rs i .child) e
+    (map-all (λ i. recordAt rs i .side ≡ s) (λ i. frameColumns v rs i ≡ v s (recordAt rs i .child))
+    (λ i p. ap (λ (t : Side). v t (recordAt rs i .child)) p) (columnsOf e) (side-is rs e s h))
+
+-- ---- frames without mark columns
+
+pub no-mark-at : (rs : List Record) (i : ℕ) → NoMarks rs → i < length rs → recordAt rs i .side ≡ noSide → ⊥
+unfolding recordAt
+no-mark-at [] i m h e = not-suc-le-zero h
+no-mark-at (r ∷ rs) zero m h e = m .0 e
+no-mark-at (r ∷ rs) (suc i) m h e = no-mark-at rs i (m .1) (le-of-suc-le-suc h) e
+
+-- The bound of a distance on one side; without mark columns that is left or right.
+bound-value : (M : Meaning) (v : Valuation) (rs : List Record) (e : Expr) (s : Side) → NoMarks rs → InRange (indexBelow (length rs)) e
+    → sideOf rs e ≡ allOn s
+    → value M (frameColumns v rs) e ≡ value M (v s) (boundOn rs s e)
+unfolding boundOn
+bound-value M v rs e left m r h = argument-value M v rs e left h
+bound-value M v rs e right m r h = argument-value M v rs e right h
+bound-value M v rs e noSide m r h =
+    same-value M (frameColumns v rs) (v noSide) e
+    (all-both (λ i. ltb i (length rs) ≡ true) (λ i. recordAt rs i .side ≡ noSide) (λ i. frameColumns v rs i ≡ v noSide i)
+    (λ i b p. absurd (no-mark-at rs i m (ltb-true i (length rs) b) p)) (columnsOf e) (columns-below (length rs) e r)
+    (side-is rs e noSide h))
+
+-- One without columns has the same value whatever columns are worth.
+copied-value : (M : Meaning) (v : Valuation) (rs : List Record) (e : Expr) → sideOf rs e ≡ noColumns
+    → value M (frameColumns v rs) e ≡ value M (v noSide) e
+unfolding sideOf
+copied-value M v rs e h = same-value M (frameColumns v rs) (v noSide) e (no-columns _ (λ i. recordAt rs i .side) (columnsOf e) h)
+
+-- ---- a match has its leaf's value
+
+-- What an order says of the sides.
+abbrev OrderIs : ArgumentSide → ArgumentSide → Order → Type 0
+OrderIs a b leftRight = (a ≡ allOn left) × (b ≡ allOn right)
+OrderIs a b rightLeft = (a ≡ allOn right) × (b ≡ allOn left)
+OrderIs a b noOrder = Unit {0}
+
+order-is : (a b : ArgumentSide) → OrderIs a b (orderOf a b)
+unfolding orderOf isSide sameSide
+order-is noColumns b = tt
+order-is mixed b = tt
+order-is (allOn left) noColumns = tt
+order-is (allOn left) (allOn left) = tt
+order-is (allOn left) (allOn right) = (refl, refl)
+order-is (allOn left) (allOn noSide) = tt
+order-is (allOn left) mixed = tt
+order-is (allOn right) noColumns = tt
+order-is (allOn right) (allOn left) = (refl, refl)
+order-is (allOn right) (allOn right) = tt
+order-is (allOn right) (allOn noSide) = tt
+order-is (allOn right) mixed = tt
+order-is (allOn noSide) b = tt
+
+module _ (M : Meaning) (fair : Fair M) (v : Valuation) (rs : List Record) (x : ℕ) where
+  relation-match : (t : Relation) (a b : Expr) → MeansSame M v rs x (askRelation t a b)
+      → (o : Order) → OrderIs (sideOf rs a) (sideOf rs b) o → Valued M v x (matchRelation t (onChild rs a) (onChild rs b) o)
+  unfolding matchRelation predicateValue
+  relation-match t a b h leftRight s =
+      h ∙ ap₂ (M .relationValue t) (argument-value M v rs a left (s .0)) (argument-value M v rs b right (s .1))
+  relation-match t a b h rightLeft s =
+      h ∙ ap₂ (M .relationValue t) (argument-value M v rs a right (s .0)) (argument-value M v rs b left (s .1))
+      ∙ sym (fair .relationInverse t _ _)
+  relation-match t a b h noOrder s = tt
+
+  stored-match : (form : ℕ) (a b d : Expr) → MeansSame M v rs x (askDistance form a b d)
+      → (side : Side) (bound : Expr) → value M (frameColumns v rs) d ≡ value M (v side) bound
+      → (o : Order) → OrderIs (sideOf rs a) (sideOf rs b) o
+      → Valued M v x (storeDistance form side (onChild rs a) (onChild rs b) bound o)
+  unfolding storeDistance predicateValue
+  stored-match form a b d h side bound e leftRight s =
+      rw (← (argument-value M v rs a left (s .0)), ← (argument-value M v rs b right (s .1)), ← e) h
+  stored-match form a b d h side bound e rightLeft s =
+      rw (← (argument-value M v rs a right (s .0)), ← (argument-value M v rs b left (s .1)), ← e) (h ∙ form-symmetric M fair form _ _ _)
+  stored-match form a b d h side bound e noOrder s = tt
+
+  distance-match : (form : ℕ) (a b d : Expr) → NoMarks rs → InRange (indexBelow (length rs)) d → MeansSame M v rs x (askDistance form a b d)
+      → (z : ArgumentSide) → sideOf rs d ≡ z → (o : Order) → OrderIs (sideOf rs a) (sideOf rs b) o
+      → Valued M v x (matchDistance rs form (onChild rs a) (onChild rs b) d z o)
+  unfolding matchDistance
+  distance-match form a b d m r h noColumns e o s = stored-match form a b d h noSide d (copied-value M v rs d e) o s
+  distance-match form a b d m r h (allOn z) e o s = stored-match form a b d h z (boundOn rs z d) (bound-value M v rs d z m r e) o s
+  distance-match form a b d m r h mixed e o s = tt
+
+  knn-match : (k sp t : ℕ) (a b : Expr) → MeansSame M v rs x (askKnn k sp t a b) → (o : Order) → orderOf (sideOf rs a) (sideOf rs b) ≡ o
+      → OrderIs (sideOf rs a) (sideOf rs b) o → Valued M v x (matchKnn k sp t (onChild rs a) (onChild rs b) o)
+  unfolding matchRequest matchKnn predicateValue negate
+  knn-match k sp t a b h leftRight e s =
+      h left (onChild rs a) (onChild rs b) (ap (matchKnn k sp t (onChild rs a) (onChild rs b)) e)
+      ∙ ap₂ (λ (p q : ℕ). M .knnValue p q k sp t) (argument-value M v rs a left (s .0)) (argument-value M v rs b right (s .1))
+  knn-match k sp t a b h rightLeft e s =
+      h right (onChild rs a) (onChild rs b) (ap (matchKnn k sp t (onChild rs a) (onChild rs b)) e)
+      ∙ ap₂ (λ (p q : ℕ). M .knnValue p q k sp t) (argument-value M v rs a right (s .0)) (argument-value M v rs b left (s .1))
+  knn-match k sp t a b h noOrder e s = tt
+
+-- The bound of a distance is in range where the leaf is.
+abbrev BoundInRange : ℕ → Request → Type 0
+BoundInRange n (askRelation t a b) = Unit {0}
+BoundInRange n (askDistance form a b d) = InRange (indexBelow n) d
+BoundInRange n (askKnn k s t a b) = Unit {0}
+BoundInRange n askNothing = Unit {0}
+
+within-bound : (n room size levels : ℕ) (q : Request) → Within (indexBelow n) room size levels q → BoundInRange n q
+within-bound n room size levels (askRelation t a b) h = tt
+within-bound n room size levels (askDistance form a b d) h = h .3
+within-bound n room size levels (askKnn k s t a b) h = tt
+within-bound n room size levels askNothing h = tt
+
+request-match : (M : Meaning) → Fair M → (v : Valuation) (rs : List Record) (x : ℕ) (q : Request) → NoMarks rs → BoundInRange (length rs) q
+    → MeansSame M v rs x q → Valued M v x (matchRequest rs q)
+unfolding matchRequest
+request-match M fair v rs x (askRelation t a b) m r h = relation-match M fair v rs x t a b h _ (order-is (sideOf rs a) (sideOf rs b))
+request-match M fair v rs x (askDistance form a b d) m r h =
+    distance-match M fair v rs x form a b d m r h (sideOf rs d) refl _ (order-is (sideOf rs a) (sideOf rs b))
+request-match M fair v rs x (askKnn k s t a b) m r h = knn-match M fair v rs x k s t a b h _ refl (order-is (sideOf rs a) (sideOf rs b))
+request-match M fair v rs x askNothing m r h = tt
+
+pub leaf-match : (M : Meaning) → Fair M → (v : Valuation) (rs : List Record) (e : Expr) → NoMarks rs → InRange (indexBelow (length rs)) e
+    → Valued M v (value M (frameColumns v rs) e) (matchLeaf rs e)
+unfolding matchLeaf
+leaf-match M fair v rs e m r =
+    request-match M fair v rs (value M (frameColumns v rs) e) (request e) m
+    (within-bound (length rs) _ _ _ (request e) (request-within (indexBelow (length rs)) e r))
+    (request-means M fair v rs e r)
