@@ -6,12 +6,11 @@ use mathlib.Core.Bool.{Bool, true, false}
 use mathlib.Core.List.{List, [], _∷_, _++_}
 use lib.ListN.{length, drop, length-drop, drop-of-length-le}
 use lib.Dec.{eqb}
-use Rattle.definitions.specs.Basics.{if_then_else_, ok, refused}
 use Rattle.definitions.specs.Expression.{Expr, Record}
 use Rattle.definitions.specs.Encode.{recordsBytes}
-use Rattle.definitions.specs.Readers.{Read, read, stopped, Reader, continue, _>>=_, _>>_, give, require, byte, repeat, requireLength, noneLeft, atEnd, resultOf}
+use Rattle.definitions.specs.Readers.{Read, read, stopped, Reader, continue, _>>=_, _>>_, require, byte, repeat, requireLength, noneLeft, atEnd}
 use Rattle.definitions.specs.Decode.{indexBelow, oneRecord}
-use Rattle.definitions.specs.Good.{AllBytes}
+use Rattle.definitions.specs.Good.{AllBytes, nodes, depth}
 use Rattle.theorems.proofs.ReaderLaws.{after, halts, passes, fails}
 use Rattle.field_reader.specs.declared.field_readers.Field.{Field}
 use Rattle.field_reader.specs.declared.field_readers.Field.the-variants.{Value, Refused}
@@ -23,14 +22,21 @@ use Rattle.frame_reader.proofs.Recorded.{recorded}
 use Rattle.reading.proofs.Standing.{bytes-from, between}
 
 -- Records and an expression that were read one after the other are a frame there.
-pub frame-stands : (s : List ℕ) (first root next columns : ℕ) (rs : List Record) (x : Expr) → AllBytes s → first ≤ length s
+pub frame-stands : (s : List ℕ) (first root next columns many levels : ℕ) (rs : List Record) (x : Expr) → AllBytes s → first ≤ length s
     → root ≤ length s
-    → ReadsAt s first root rs (repeat columns oneRecord) → ExprAt (indexBelow columns) s root next x
-    → FrameAt s (record { columns = columns; records = first; root = root }) next (record { records = rs; expr = x })
-frame-stands s first root next columns rs x bytes low high reads stands =
+    → ReadsAt s first root rs (repeat columns oneRecord) → ExprAt (indexBelow columns) s root next x → many ≡ nodes x → levels ≡ depth x
+    → FrameAt s (record { columns = columns; records = first; root = root; nodes = many; depth = levels }) next
+    (record { records = rs; expr = x })
+frame-stands s first root next columns many levels rs x bytes low high reads stands sized deep =
     let back : (drop first s ≡ recordsBytes rs ++ drop root s) × (length rs ≡ columns) =
     recorded columns 0 0 (drop first s) (drop root s) rs (bytes-from first s bytes) (reads 0) in
-    record { counted = sym (back .1); records = between s (recordsBytes rs) first root low high (back .0); expr = rw (back .1) stands }
+    record {
+      counted = sym (back .1);
+      records = between s (recordsBytes rs) first root low high (back .0);
+      expr = rw (back .1) stands;
+      sized = sized;
+      deep = deep;
+    }
 
 -- ---- the length
 

@@ -10,6 +10,7 @@ use Rattle.definitions.specs.Expression as tree
 use Rattle.definitions.specs.Encode.{recordsBytes}
 use Rattle.definitions.specs.Readers.{read, stopped, Reader, _>>=_, _>>_, require, byte, requireLength}
 use Rattle.definitions.specs.Decode.{indexBelow, fields}
+use Rattle.definitions.specs.Good.{nodes, depth}
 use Rattle.terms.specs.Refusals.{numberOf}
 use Rattle.reading.specs.Places.{ExprAt}
 use Rattle.expression.specs.Places.{Between}
@@ -33,11 +34,13 @@ opening sort = do
   first ← firstOf
   require 2 (eqb first sort)
 
--- The frame F stands in s up to `end`: so many records from their place on, then its expression.
+-- The frame F stands in s up to `end`: so many records from their place on, then its expression, of so many nodes and levels.
 pub record FrameAt (s : List ℕ) (f : Frame) (end : ℕ) (F : tree.Frame) : Type 0 where
   pub counted : f .columns ≡ length (F .records)
   pub records : Between s (f .records) (f .root) (recordsBytes (F .records))
   pub expr : ExprAt (indexBelow (length (F .records))) s (f .root) end (F .expr)
+  pub sized : f .nodes ≡ nodes (F .expr)
+  pub deep : f .depth ≡ depth (F .expr)
 
 -- A frame after its first byte was read, `before` nodes counted up to its place.
 abbrev pub BodyIs : List ℕ → (at before : ℕ) → Body → Reader tree.Frame → Type 0

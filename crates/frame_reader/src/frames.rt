@@ -20,11 +20,13 @@ ghost use Rattle.expression.specs.Nodes.{Tree, OfTree};
 ghost use Rattle.field_reader.specs.Fields.{FieldIs, SkippedIs};
 ghost use Rattle.frame_reader.specs.Frames.{BodyIs, PhysicalIs, LogicalIs, firstOf, opening};
 
-// A physical frame: how many records it has, where they start, and where its expression does.
+// A physical frame: how many records it has, where they start, where its expression does, and how many nodes and levels that has.
 pub struct Frame {
     pub columns: u64,
     pub records: usize,
     pub root: usize,
+    pub nodes: usize,
+    pub depth: usize,
 }
 
 // A physical frame after its first byte, the place after it, and how many nodes there were up to it.
@@ -56,11 +58,13 @@ pub fn frame_body(s: &[u8], at: usize, nodes: usize) -> Body
             Skipped::Refused(why) => Body::Refused(why),
             Skipped::To(root) => match expression(s, root, nodes, Columns::Below(columns)) {
                 Walked::Refused(why) => Body::Refused(why),
-                Walked::To { next, count } => Body::Read(
+                Walked::To { next, count, depth } => Body::Read(
                     Frame {
                         columns,
                         records: first,
                         root,
+                        nodes: count - nodes,
+                        depth,
                     },
                     next,
                     count,
@@ -141,7 +145,11 @@ pub fn logical_frame(s: &[u8]) -> Logical
         Skipped::Refused(why) => Logical::Refused(why),
         Skipped::To(root) => match expression(s, root, 0, Columns::Fields) {
             Walked::Refused(why) => Logical::Refused(why),
-            Walked::To { next, count: _ } => {
+            Walked::To {
+                next,
+                count: _,
+                depth: _,
+            } => {
                 if next == s.len() {
                     Logical::Good(root)
                 } else {

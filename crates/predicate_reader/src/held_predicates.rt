@@ -66,9 +66,14 @@ fn both(s: &[u8], at: usize) -> Pair
         Walked::To {
             next: right,
             count: middle,
+            depth: _,
         } => match argument(s, right, middle) {
             Walked::Refused(why) => Pair::Refused(why),
-            Walked::To { next, count } => Pair::Read(right, next, count),
+            Walked::To {
+                next,
+                count,
+                depth: _,
+            } => Pair::Read(right, next, count),
         },
     }
 }
@@ -106,7 +111,11 @@ fn distance_arguments(s: &[u8], left: usize, form: u8, side: JoinSide) -> Predic
         Pair::Refused(why) => Predicated::Refused(why),
         Pair::Read(right, distance, two) => match argument(s, distance, two) {
             Walked::Refused(why) => Predicated::Refused(why),
-            Walked::To { next: end, count } => Predicated::Read(
+            Walked::To {
+                next: end,
+                count,
+                depth: _,
+            } => Predicated::Read(
                 SpatialPredicate::Distance(DistancePredicate {
                     left,
                     left_end: right,

@@ -1,15 +1,23 @@
--- What a node's fields leave to read: no child, two, or as many as they say.
-use Prim.Native.Nat.{ℕ, _≤_}
+-- What a node's fields leave to read: no child, two, or as many as they say; the node is one level above them.
+use Prim.Native.Nat.{ℕ, zero, suc, _≤_}
+use native.Mathlib.Omega.{arith}
 use mathlib.Core.Path.{_≡_, refl, _∙_}
 use mathlib.Core.List.{List}
 use lib.ListN.{length, drop}
 use borrow.Author.Tests.{ne-eqb}
-use Rattle.definitions.specs.Expression.{Expr, column, Exprs, nil, cons}
+use Rattle.definitions.specs.Expression.{Expr, column, Exprs, nil, cons, count}
 use Rattle.definitions.specs.Readers.{Read, read, stopped, Reader, continue, _>>=_, give, byteUpTo}
 use Rattle.definitions.specs.Decode.{repeatExprs, Columns, nodeOfKind, anyColumn, binaryExpr, binaryNode}
+use Rattle.definitions.specs.Good.{depth}
 use Rattle.reading.specs.declared.head_readers.Head.the-variants.{Children}
-use Rattle.reading.specs.Nodes.{HeadIs}
+use Rattle.reading.specs.Nodes.{HeadIs, depthAbove}
 use Rattle.theorems.proofs.ReaderLaws.{after}
+
+-- A node with no child is the only level.
+pub alone : (e : Expr) → depth e ≡ 1 → (es : Exprs) → count es ≡ 0 → depth e ≡ depthAbove es
+unfolding depth count
+alone e one nil none = one
+alone e one (cons x es) none = absurd (omega arith)
 
 -- Two children, one after the other, are a list of two.
 ofTwo : (Expr → Expr → Expr) → Exprs → Expr
@@ -32,11 +40,23 @@ unfolding repeatExprs
 first f child (read l n s) = second f child l (child n s)
 first f child (stopped number) = refl
 
+above-two : (operator : ℕ) (es : Exprs) → count es ≡ 2 → depth (ofTwo (binaryExpr operator) es) ≡ depthAbove es
+unfolding binaryExpr ofTwo depth count
+above-two operator nil both = absurd (omega arith)
+above-two operator (cons l nil) both = absurd (omega arith)
+above-two zero (cons l (cons r nil)) both = omega arith
+above-two (suc operator) (cons l (cons r nil)) both = omega arith
+above-two operator (cons l (cons r (cons x es))) both = absurd (omega arith)
+
 pub two : (s : List ℕ) (at end operator : ℕ) → end ≤ length s
     → ((n : ℕ) → byteUpTo 63 n (drop at s) ≡ read operator n (drop end s)) → HeadIs s at (Children end 2) binaryNode
 unfolding repeatExprs binaryNode
-two s at end operator w h =
-    (w, ofTwo (binaryExpr operator), λ child n. after _ (h n) ∙ first (binaryExpr operator) child (child n (drop end s)))
+two s at end operator w h = (
+  w,
+  ofTwo (binaryExpr operator),
+  (λ child n. after _ (h n) ∙ first (binaryExpr operator) child (child n (drop end s))),
+  above-two operator,
+)
 
 -- A kind that is none of 1 to 4 is a column's.
 pub column-kind : (columns : Columns) (kind : ℕ) → (kind ≡ 1 → ⊥) → (kind ≡ 2 → ⊥) → (kind ≡ 3 → ⊥) → (kind ≡ 4 → ⊥)

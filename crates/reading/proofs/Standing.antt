@@ -7,7 +7,7 @@ use lib.ListN.{length, drop, getD, length-drop, length-append}
 use mir.Syntax.{w8}
 use mir.Val.{Fits}
 use Rattle.definitions.specs.Decode.{Columns, node, expression}
-use Rattle.definitions.specs.Good.{AllBytes}
+use Rattle.definitions.specs.Good.{AllBytes, depth}
 use Rattle.theorems.proofs.Inverse.{NodeBack, node-back}
 use Rattle.reading.specs.declared.walk.Walked.{Walked}
 use Rattle.reading.specs.declared.walk.Walked.the-variants.{To, Refused}
@@ -31,9 +31,9 @@ between s x at end low high e =
 
 -- The walk of a root is the reading of an expression, which stands there.
 pub expression-stands : (c : Columns) (s : List ℕ) (at before : ℕ) (r : Walked) → AllBytes s → at ≤ length s
-    → WalkedIs s at before r (node c 64) → Counted before 1 r → ExpressionIs s at before r c
+    → WalkedIs s at before r (node c 64) depth → Counted before 0 r → ExpressionIs s at before r c
 unfolding expression
-expression-stands c s at before (To next count) bytes within (place, e, reads) counted =
+expression-stands c s at before (To next count levels) bytes within (place, e, reads, deep) counted =
     let back : NodeBack c 64 before count (drop at s) (drop next s) e =
     node-back c 64 before count (drop at s) (drop next s) e (bytes-from at s bytes) (omega arith) reads in (
       e,
@@ -42,5 +42,7 @@ expression-stands c s at before (To next count) bytes within (place, e, reads) c
         bytes = between s _ at next within place (back .bytes);
         readable = record { inRange = back .inRange; shallow = back .shallow };
       },
+      back .counted,
+      deep,
     )
 expression-stands c s at before (Refused why) bytes within stops counted = stops

@@ -1,5 +1,5 @@
 -- Where an expression stands that was read.
-use Prim.Native.Nat.{ℕ}
+use Prim.Native.Nat.{ℕ, _+_}
 use mathlib.Core.Path.{_≡_}
 use mathlib.Core.List.{List}
 use lib.ListN.{drop}
@@ -7,6 +7,7 @@ use Rattle.definitions.specs.Expression.{Expr}
 use Rattle.definitions.specs.Encode.{exprBytes}
 use Rattle.definitions.specs.Readers.{read, stopped}
 use Rattle.definitions.specs.Decode.{Columns, expression}
+use Rattle.definitions.specs.Good as good
 use Rattle.definitions.specs.Good.{Readable}
 use Rattle.terms.specs.Refusals.{numberOf}
 use Rattle.expression.specs.Places.{Between}
@@ -18,8 +19,9 @@ pub record ExprAt (c : Columns) (s : List ℕ) (at end : ℕ) (e : Expr) : Type 
   pub bytes : Between s at end (exprBytes e)
   pub readable : Readable c e
 
--- An expression was read, `before` nodes counted up to its place.
+-- An expression was read, `before` nodes counted up to its place and its own after them.
 abbrev pub ExpressionIs : List ℕ → (at before : ℕ) → Walked → Columns → Type 0
-ExpressionIs s at before (To next count) c =
-    (e : Expr) × (expression c before (drop at s) ≡ read e count (drop next s)) × ExprAt c s at next e
+ExpressionIs s at before (To next count depth) c =
+    (e : Expr) × (expression c before (drop at s) ≡ read e count (drop next s)) × ExprAt c s at next e × (count ≡ before + good.nodes e)
+    × (depth ≡ good.depth e)
 ExpressionIs s at before (Refused why) c = expression c before (drop at s) ≡ stopped (numberOf why)

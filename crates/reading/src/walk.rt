@@ -5,23 +5,37 @@ use crate::head_readers::head_of_kind;
 use crate::head_readers::node_kind;
 use field_reader::field_readers::Field;
 use terms::refusals::Refusal;
-ghost use Prim.Native.Nat.{_≤_};
+ghost use mathlib.Core.Path.{_≡_};
+ghost use Prim.Native.Nat.{_≤_, max};
 ghost use lib.ListN.{length};
 ghost use Rattle.definitions.specs.Decode as decode;
-ghost use Rattle.reading.specs.Nodes.{WalkedIs, Counted, columnsOf};
+ghost use Rattle.definitions.specs.Decode.{repeatExprs};
+ghost use Rattle.definitions.specs.Good.{depth};
+ghost use Rattle.reading.specs.Nodes.{WalkedIs, Counted, columnsOf, depthAbove};
 ghost use Rattle.reading.specs.Places.{ExpressionIs};
 
-// The place after nodes, and how many nodes there were up to it.
+// The place after nodes, how many nodes there were up to it, and the depth of what was read.
 pub enum Walked {
-    To { next: usize, count: usize },
+    To {
+        next: usize,
+        count: usize,
+        depth: usize,
+    },
     Refused(Refusal),
+}
+
+// The larger of two depths.
+fn deeper(a: usize, b: usize) -> usize
+    ensures { λ r. ⌜ r ≡ max a b ⌝ }
+{
+    if a < b { b } else { a }
 }
 
 // A node and all below it, with this many levels left.
 fn node(s: &[u8], at: usize, levels: usize, count: usize, columns: Columns) -> Walked
     requires { ⌜ at ≤ length (now s) ⌝ }
-    ensures read { λ r. ⌜ WalkedIs (now (s .entry)) at count r (decode.node (columnsOf columns) levels) ⌝ }
-    ensures counted { λ r. ⌜ Counted count 1 r ⌝ }
+    ensures read { λ r. ⌜ WalkedIs (now (s .entry)) at count r (decode.node (columnsOf columns) levels) depth ⌝ }
+    ensures counted { λ r. ⌜ Counted count 0 r ⌝ }
 {
     match node_kind(s, at, columns) {
         Field::Refused(why) => Walked::Refused(why),
@@ -41,6 +55,7 @@ fn node(s: &[u8], at: usize, levels: usize, count: usize, columns: Columns) -> W
                         return Walked::To {
                             next: first,
                             count: count + 1,
+                            depth: 1,
                         };
                     }
                     return nodes(s, first, levels - 1, count + 1, columns, many);
@@ -50,14 +65,15 @@ fn node(s: &[u8], at: usize, levels: usize, count: usize, columns: Columns) -> W
     }
 }
 
-// So many nodes, one after the other, each with this many levels left.
+// So many nodes, one after the other, each with this many levels left; the depth is that of the node above them.
 fn nodes(s: &[u8], at: usize, levels: usize, count: usize, columns: Columns, many: u64) -> Walked
     requires { ⌜ (at ≤ length (now s)) × (count ≤ 1024) ⌝ }
-    ensures read { λ r. ⌜ WalkedIs (now (s .entry)) at count r (decode.repeatExprs many (decode.node (columnsOf columns) levels)) ⌝ }
-    ensures counted { λ r. ⌜ Counted count 0 r ⌝ }
+    ensures read { λ r. ⌜ WalkedIs (now (s .entry)) at count r (repeatExprs many (decode.node (columnsOf columns) levels)) depthAbove ⌝ }
+    ensures counted { λ r. ⌜ Counted count 1 r ⌝ }
 {
     let mut next = at;
     let mut total = count;
+    let mut deepest = 0;
     let mut left = many;
     while 0 < left {
         match node(s, next, levels, total, columns) {
@@ -67,14 +83,20 @@ fn nodes(s: &[u8], at: usize, levels: usize, count: usize, columns: Columns, man
             Walked::To {
                 next: after,
                 count: counted,
+                depth,
             } => {
                 next = after;
                 total = counted;
+                deepest = deeper(deepest, depth);
                 left -= 1;
             }
         }
     }
-    Walked::To { next, count: total }
+    Walked::To {
+        next,
+        count: total,
+        depth: deepest + 1,
+    }
 }
 
 // An expression of depth at most 64.

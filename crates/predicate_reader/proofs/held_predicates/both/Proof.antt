@@ -12,7 +12,7 @@ use Rattle.predicate_reader.proofs.held_predicates.both.Tie as tie
 -- The left one was read.
 first : (p : tie.After-right)
     → let a = p .before .before .before .before .args in
-    let read = p .right .given .0 in ExpressionIs (a .s .now) (a .at) 0 (To (read .0) (read .1 .0)) (indexBelow 65536)
+    let read = p .right .given .0 in ExpressionIs (a .s .now) (a .at) 0 (To (read .0) (read .1 .0) (read .1 .1 .0)) (indexBelow 65536)
 first p = rw (p .right .given .1) at (p .before .before .argument .ensures)
 
 returns-3 : tie.Need-returns-3

@@ -1,7 +1,8 @@
 -- Name length, name and argument count, each from where the last ended, and then so many arguments.
-use mathlib.Core.Path.{_∙_}
+use mathlib.Core.Path.{refl, _∙_}
 use Rattle.definitions.specs.Expression.{call}
 use Rattle.definitions.specs.Decode.{callNode}
+use Rattle.definitions.specs.Good.{depth}
 use Rattle.theorems.proofs.ReaderLaws.{after, halts}
 use borrow.Author.Needs.{needs}
 use Rattle.reading.proofs.head_readers.call_head.Statement.{statement}
@@ -38,7 +39,7 @@ returns-3 c child n =
     after _ (size .1 n) ∙ after _ (name .2 n) ∙ halts _ (stop n)
 
 returns-4 : tie.Need-returns-4
-unfolding callNode
+unfolding callNode depth
 returns-4 c =
     let at-many = c .before in
     let at-arguments = at-many .before .before .before .before in
@@ -46,7 +47,7 @@ returns-4 c =
     let size = rw (at-size .size .given .1) at (at-size .before .before .byte-between .ensures) in
     let name = rw (at-arguments .arguments .given .1) at (at-arguments .before .before .name-bytes .ensures) in
     let many = rw (at-many .many .given .1) at (at-many .before .before .byte-up-to .ensures) in
-    (many .0, call (name .1), λ child n. after _ (size .1 n) ∙ after _ (name .2 n) ∙ after _ (many .1 n))
+    (many .0, call (name .1), (λ child n. after _ (size .1 n) ∙ after _ (name .2 n) ∙ after _ (many .1 n)), λ es as-many. refl)
 
 pub call-head-spec : {M : Type 1} → statement M
 call-head-spec =

@@ -1,24 +1,27 @@
 -- The bound is tested last, after index and tag.
 use borrow.Author.Needs.{needs}
-use mathlib.Core.Path.{_∙_}
+use mathlib.Core.Path.{refl, _∙_}
 use borrow.Author.Tests.{lt-ltb, le-ltb}
 use Rattle.definitions.specs.Expression.{column}
 use Rattle.definitions.specs.Readers.{number}
 use Rattle.definitions.specs.Decode.{repeatExprs, columnNode}
+use Rattle.definitions.specs.Good.{depth}
 use Rattle.theorems.proofs.ReaderLaws.{after, passes, fails}
 use Rattle.field_reader.proofs.Reading.{stops-in-two}
+use Rattle.reading.proofs.Children.{alone}
 use Rattle.reading.proofs.head_readers.column_head.Statement.{statement}
 use Rattle.reading.proofs.head_readers.column_head.Tie as tie
 
 returns-2 : tie.Need-returns-2
-unfolding repeatExprs columnNode
+unfolding repeatExprs columnNode depth
 returns-2 c =
     let p = c .before .before in
-    let two = rw (p .index .given .1) at (p .before .before .two-fields .ensures) in (
+    let two = rw (p .index .given .1) at (p .before .before .two-fields .ensures) in
+    let e = column (p .index .given .0 .0) (p .index .given .0 .1 .0) in (
       two .0,
-      (λ es. column (p .index .given .0 .0) (p .index .given .0 .1 .0)),
-      λ child n. after _ (two .2 n) ∙ after _ (two .3 n)
-          ∙ passes 6 _ n _ (lt-ltb _ _ (c .if1 .taken)),
+      (λ es. e),
+      (λ child n. after _ (two .2 n) ∙ after _ (two .3 n) ∙ passes 6 _ n _ (lt-ltb _ _ (c .if1 .taken))),
+      alone e refl,
     )
 
 returns-3 : tie.Need-returns-3

@@ -1,20 +1,23 @@
 -- Bits and tag are all of it.
 use borrow.Author.Needs.{needs}
-use mathlib.Core.Path.{_∙_}
+use mathlib.Core.Path.{refl, _∙_}
 use Rattle.definitions.specs.Expression.{field}
 use Rattle.definitions.specs.Readers.{byteUpTo, number}
 use Rattle.definitions.specs.Decode.{repeatExprs, fieldNode}
+use Rattle.definitions.specs.Good.{depth}
 use Rattle.theorems.proofs.ReaderLaws.{after}
 use Rattle.field_reader.proofs.Reading.{stops-in-two}
+use Rattle.reading.proofs.Children.{alone}
 use Rattle.reading.proofs.head_readers.field_head.Statement.{statement}
 use Rattle.reading.proofs.head_readers.field_head.Tie as tie
 
 returns-2 : tie.Need-returns-2
-unfolding repeatExprs fieldNode
+unfolding repeatExprs fieldNode depth
 returns-2 c =
     let p = c .before in
     let two = rw (p .end .given .1) at (p .before .before .two-fields .ensures) in
-    (two .0, (λ es. field (p .end .given .0 .0) (p .end .given .0 .1 .0)), λ child n. after _ (two .2 n) ∙ after _ (two .3 n))
+    let e = field (p .end .given .0 .0) (p .end .given .0 .1 .0) in
+    (two .0, (λ es. e), (λ child n. after _ (two .2 n) ∙ after _ (two .3 n)), alone e refl)
 
 pub field-head-spec : {M : Type 1} → statement M
 unfolding fieldNode

@@ -1,24 +1,27 @@
 -- The range is tested once type and eight bytes are read.
 use borrow.Author.Needs.{needs}
-use mathlib.Core.Path.{sym, _∙_}
+use mathlib.Core.Path.{refl, sym, _∙_}
 use Rattle.definitions.specs.Expression.{literal}
 use Rattle.definitions.specs.Readers.{byteUpTo, number}
 use Rattle.definitions.specs.Decode.{repeatExprs, literalNode}
+use Rattle.definitions.specs.Good.{depth}
 use Rattle.theorems.proofs.ReaderLaws.{after, passes, fails}
 use Rattle.field_reader.proofs.Reading.{stops-in-two}
+use Rattle.reading.proofs.Children.{alone}
 use Rattle.reading.proofs.head_readers.literal_head.Statement.{statement}
 use Rattle.reading.proofs.head_readers.literal_head.Tie as tie
 
 returns-2 : tie.Need-returns-2
-unfolding repeatExprs literalNode
+unfolding repeatExprs literalNode depth
 returns-2 c =
     let p = c .before .before .before in
     let two = rw (p .kind .given .1) at (p .before .before .two-fields .ensures) in
+    let e = literal (p .kind .given .0 .0) (p .kind .given .0 .1 .0) in
     let fine = sym (c .before .literal-in-range .ensures) ∙ c .if1 .taken in (
       two .0,
-      (λ es. literal (p .kind .given .0 .0) (p .kind .given .0 .1 .0)),
-      λ child n. after _ (two .2 n) ∙ after _ (two .3 n)
-          ∙ passes 4 _ n _ fine,
+      (λ es. e),
+      (λ child n. after _ (two .2 n) ∙ after _ (two .3 n) ∙ passes 4 _ n _ fine),
+      alone e refl,
     )
 
 returns-3 : tie.Need-returns-3

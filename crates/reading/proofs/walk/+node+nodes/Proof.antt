@@ -1,13 +1,14 @@
 -- A node is its kind, its head and a row of children; a row is a node and the rest of the row. Nodes left to count fall with each node.
 use Rattle.expression.proofs.Cycles.{below}
-use Rattle.reading.specs.Nodes.{columnsOf, WalkedIs}
+use Rattle.reading.specs.Nodes.{columnsOf, depthAbove, WalkedIs}
 use Rattle.reading.specs.declared.walk.Walked.{Walked}
 use Rattle.reading.specs.declared.walk.Walked.the-variants.{To}
 use Rattle.definitions.specs.Decode as decode
+use Rattle.definitions.specs.Good.{depth}
 use borrow.Author.Needs.{needs}
 use native.Mathlib.Omega.{arith}
 use mathlib.Core.Path.{_∙_}
-use Rattle.reading.proofs.Walks.{kind-stops, too-deep, too-many, inside, node-walks, counted-node, none-walked, InRow, row-begins, row-goes-on, row-stops, row-ends}
+use Rattle.reading.proofs.Walks.{kind-stops, too-deep, too-many, inside, node-walks, counted-node, InRow, row-begins, row-goes-on, row-stops, row-ends}
 use Prim.Native.Nat.{ℕ, _+_, _-_, _*_, _≤_}
 use lib.ListN.{length}
 use borrow.Fn.Kinds.{In}
@@ -20,6 +21,7 @@ use Rattle.reading.proofs.walk.nodes.Kinds as nodes-kinds
 use Rattle.reading.proofs.walk.+node+nodes.Lts-nodes as nodes-lts
 use Rattle.reading.proofs.head_readers.head_of_kind.Reads as head-of-kind-reads
 use Rattle.reading.proofs.head_readers.node_kind.Reads as node-kind-reads
+use Rattle.reading.proofs.walk.deeper.Reads as deeper-reads
 use Rattle.reading.proofs.walk.+node+nodes.{statement}
 use Rattle.reading.proofs.walk.+node+nodes.Tie.{close}
 
@@ -48,8 +50,8 @@ node-row : (t : ℕ) (c : node-lts.After-known-told4 (node-claims t) (node-at t)
     → (let a = c .before .before .before .before .before .before .before .before .before .before .before .args in
     let children = c .before .first .given .0 in
     (r : Walked) → WalkedIs (a .s .now) (children .0) (a .count + 1) r
-    (decode.repeatExprs (children .1 .0) (decode.node (columnsOf (a .columns)) (a .levels - 1)))
-    → WalkedIs (a .s .now) (a .at) (a .count) r (decode.node (columnsOf (a .columns)) (a .levels)))
+    (decode.repeatExprs (children .1 .0) (decode.node (columnsOf (a .columns)) (a .levels - 1))) depthAbove
+    → WalkedIs (a .s .now) (a .at) (a .count) r (decode.node (columnsOf (a .columns)) (a .levels)) depth)
 node-row t c r =
     let at-first = c .before in
     let at-kind = at-first .before .before .before .before .before .before in
@@ -60,8 +62,7 @@ node-row t c r =
     let e =
     inside _ _ _ _ _ (kind .1 (a .count)) (a .levels) (at-first .before .before .before .before .if1 .left)
     (at-first .before .before .before .if2 .left) ∙ head .2 child (a .count + 1) in
-    node-walks (a .s .now) (a .at) _ (a .count) (decode.node (columnsOf (a .columns)) (a .levels)) (decode.repeatExprs _ child)
-    (head .1) e r
+    node-walks (a .s .now) (a .at) _ (a .count) _ (decode.node (columnsOf (a .columns)) (a .levels)) child (head .1) e (head .3) r
 
 -- It starts inside the bytes.
 node-first : (t : ℕ) (c : node-lts.After-known-told4 (node-claims t) (node-at t) node.Post)
@@ -70,11 +71,11 @@ node-first : (t : ℕ) (c : node-lts.After-known-told4 (node-claims t) (node-at 
 node-first t c = (rw (c .before .first .given .1) at (c .before .before .before .head-of-kind .ensures)) .0
 
 abbrev nodes-Inv-loop : nodes-lts.InvT-loop
-nodes-Inv-loop s at levels count columns many next₀ total₀ left₀ next total left =
-    InRow s at count many (decode.node (columnsOf columns) levels) next total left
+nodes-Inv-loop s at levels count columns many next₀ total₀ deepest₀ left₀ next total deepest left =
+    InRow s at count many (decode.node (columnsOf columns) levels) next total deepest left
 
 abbrev nodes-μ-loop : nodes-lts.MeasureT-loop
-nodes-μ-loop s at levels count columns many next₀ total₀ left₀ next total left = left
+nodes-μ-loop s at levels count columns many next₀ total₀ deepest₀ left₀ next total deepest left = left
 
 pub +node+nodes-spec : {M : Type 1} → statement M
 +node+nodes-spec = close μ-node μ-nodes (λ t. node-lts.spec (node-claims t) (node-at t) node.Post
@@ -105,8 +106,9 @@ pub +node+nodes-spec : {M : Type 1} → statement M
     let a = c .before .before .before .before .before .before .before .before .before .before .before .before .args in
     let first = c .before .before .first .given .0 .0 in
     let child = decode.node (columnsOf (a .columns)) (a .levels - 1) in (
-      node-row t (c .before) (To first (a .count + 1))
-          (none-walked (a .s .now) first (a .count + 1) child _ (c .if3 .taken) (node-first t (c .before))),
+      node-row t (c .before) (To first (a .count + 1) 1)
+          (row-ends _ _ _ _ child _ _ _ _ (row-begins (a .s .now) first (a .count + 1) _ child (node-first t (c .before)) (omega arith))
+          (omega arith)),
       (omega arith, omega arith),
     ))
     (λ c. omega arith)
@@ -118,7 +120,7 @@ pub +node+nodes-spec : {M : Type 1} → statement M
     (λ c.
     (node-row t (c .before .before) (c .nodes .result) (c .nodes .ensures .0), counted-node _ (c .nodes .result) (c .nodes .ensures .1)))
     (λ c. (kind-stops _ _ _ _ _ ((rw (c .before .why .given .1) at (c .before .before .before .node-kind .ensures)) _), tt)))
-    λ t. nodes-lts.spec (below 1 node-kinds.ps μ-node node.Pre t, node.Post) _ nodes.Post
+    λ t. nodes-lts.spec (below 1 node-kinds.ps μ-node node.Pre t, node.Post, deeper-reads.Asked, deeper-reads.Learnt) _ nodes.Post
     nodes-Inv-loop
     nodes-μ-loop
     (λ c. row-begins _ _ _ _ _ (c .before .pre .1 .0) (c .before .pre .1 .1))
@@ -127,14 +129,17 @@ pub +node+nodes-spec : {M : Type 1} → statement M
     (λ c.
     let stop = rw (c .before .why .given .1) at (c .before .before .before .node .ensures) in
     let turn = c .before .before .before .before in
-    (row-stops _ _ _ _ _ _ _ _ (turn .before .loop .inv) (turn .loop-test .taken) (c .before .why .given .0 .0) (stop .0), tt))
+    (row-stops _ _ _ _ _ _ _ _ _ (turn .before .loop .inv) (turn .loop-test .taken) (c .before .why .given .0 .0) (stop .0), tt))
     (λ c. search needs)
+    (λ c κs. search needs)
     (λ c. omega arith)
     (λ c. omega arith)
     (λ c.
-    let one = rw (c .before .after .given .1) at (c .before .before .before .node .ensures) in
-    let turn = c .before .before .before .before in
-    row-goes-on _ _ _ _ _ _ _ _ (turn .before .loop .inv) (turn .loop-test .taken) _ _ (one .0) (one .1))
+    let at-after = c .before .before in
+    let one = rw (at-after .after .given .1) at (at-after .before .before .node .ensures) in
+    let turn = at-after .before .before .before in
+    row-goes-on _ _ _ _ _ _ _ _ _ (turn .before .loop .inv) (turn .loop-test .taken) _ _ _ (one .0) (one .1) _ (c .deeper .ensures))
+    (λ c. omega (arith, c .before .loop .inv .low, c .before .loop .inv .high))
     (λ c.
     let inv = c .before .loop .inv in
-    (row-ends _ _ _ _ _ _ _ _ inv (c .loop-test .left), (omega (arith, inv .low), inv .high)))
+    (row-ends _ _ _ _ _ _ _ _ _ inv (c .loop-test .left), (omega (arith, inv .low), inv .high)))
