@@ -4,8 +4,8 @@ use native.Mathlib.Omega.{arith}
 use native.Mathlib.Nat.{not-suc-le-zero}
 use mathlib.Core.Path.{_≡_, refl, ap, _∙_, subst}
 use mathlib.Core.List.{List}
-use lib.ListN.{length, getD, set}
-use lib.Seq.{getD-set-same, getD-set-other}
+use lib.ListN.{length, drop, getD, set, length-set}
+use lib.Seq.{getD-set-same, getD-set-other, drop-set-lt}
 use borrow.Author.Count.{below-more}
 use Rattle.definitions.specs.Basics.{bigEndian}
 use Rattle.definitions.specs.Expression.{Expr, Record}
@@ -34,6 +34,28 @@ table-more new to i room h = record {
   entry = below-more (λ k. getD (set to i (new i)) k 0 ≡ new k) i
       (λ k b. getD-set-other to i k (new i) 0 (λ e. omega (arith, e)) ∙ h .entry k b) (getD-set-same to i (new i) 0 room);
 }
+
+-- ---- the loops that fill a table
+
+-- What a turn keeps: the entries before j are filled, and the table is as it was past the last column.
+abbrev pub Filling : (new : ℕ → ℕ) (count : ℕ) (before : List ℕ) (j : ℕ) (to : List ℕ) → Type 0
+Filling new count before j to = (j ≤ count) × (length to ≡ length before) × Table new j to × (drop count to ≡ drop count before)
+
+module _ (new : ℕ → ℕ) (count : ℕ) (before : List ℕ) where
+  pub filling-begins : Filling new count before 0 before
+  filling-begins = (omega arith, refl, table-none, refl)
+
+  module _ (j : ℕ) (to : List ℕ) (so : Filling new count before j to) where
+    pub filling-goes-on : j < count → count ≤ length before → Filling new count before (j + 1) (set to j (new j))
+    filling-goes-on below room = (
+      omega arith,
+      simp length-set (so .1),
+      table-more new to j (omega (arith, so .1)) (so .2),
+      drop-set-lt count to j (new j) below ∙ so .3,
+    )
+
+    pub filling-ends : count ≤ j → Table new count to
+    filling-ends all = table-whole (omega (arith, so .0)) (so .2)
 
 -- ---- child indexes
 

@@ -1,5 +1,5 @@
 -- Tables of column indexes, and the records that they are made from.
-use Prim.Native.Nat.{ℕ, _<_}
+use Prim.Native.Nat.{ℕ, _+_, _<_}
 use mathlib.Core.Path.{_≡_}
 use mathlib.Core.List.{List}
 use lib.ListN.{length, getD}
@@ -37,3 +37,7 @@ childOf records index = recordAt records index .child
 
 abbrev pub ChildTable : (s : List ℕ) (rec count : ℕ) (to : List ℕ) → Type 0
 ChildTable s rec count to = OfRecords s rec count (λ records. Table (childOf records) count to)
+
+-- The index of each column raised by a count.
+abbrev pub RaisedTable : (by count : ℕ) (to : List ℕ) → Type 0
+RaisedTable by count to = Table (λ index. by + index) count to

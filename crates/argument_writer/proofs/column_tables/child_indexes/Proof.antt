@@ -1,18 +1,22 @@
 -- `child_indexes`: the entries before j are the numbers that stand in the records before j.
 use Prim.Native.Nat.{_≤_, _-_, _+_, _*_}
 use native.Mathlib.Omega.{arith}
-use mathlib.Core.Path.{_≡_, refl, _∙_}
-use lib.ListN.{length, drop, length-set}
-use lib.Seq.{drop-set-lt}
+use lib.ListN.{length}
 use Rattle.expression.specs.Places.{shortAt}
-use Rattle.argument_writer.specs.Tables.{Table}
-use Rattle.argument_writer.proofs.TableLaws.{table-none, table-more, table-whole, records-within, child-fits, child-table}
+use Rattle.argument_writer.proofs.TableLaws.{
+  Filling,
+  filling-begins,
+  filling-goes-on,
+  filling-ends,
+  records-within,
+  child-fits,
+  child-table,
+}
 use Rattle.argument_writer.proofs.column_tables.child_indexes.Statement.{statement}
 use Rattle.argument_writer.proofs.column_tables.child_indexes.Tie as tie
 
 abbrev Inv-loop : tie.InvT-loop
-Inv-loop to₀ src rec count j₀ to j = (j ≤ count) × (length to ≡ length to₀) × Table (λ k. shortAt src (rec + 5 * k + 1)) j to
-    × (drop count to ≡ drop count to₀)
+Inv-loop to₀ src rec count j₀ to j = Filling (λ k. shortAt src (rec + 5 * k + 1)) count to₀ j to
 
 abbrev μ-loop : tie.MeasureT-loop
 μ-loop to₀ src rec count j₀ to j = count - j
@@ -29,20 +33,19 @@ cast-to c =
 loop-again : tie.Need-loop-again Inv-loop μ-loop
 loop-again c =
     let start = c .before .before .before .before .before in
-    let loop = c .before .before .loop in (
-      omega arith,
-      simp length-set (loop .inv .1),
-      rw (c .short-at .ensures)
-          (table-more (λ k. shortAt (start .args .src .now) (start .args .rec + 5 * k + 1)) (loop .to) (loop .j) (omega arith)
-          (loop .inv .2)),
-      drop-set-lt (start .args .count) (loop .to) (loop .j) _ (c .before .loop-test .taken) ∙ loop .inv .3,
-    )
+    let a = start .args in
+    let loop = c .before .before .loop in
+    rw (c .short-at .ensures)
+    (filling-goes-on (λ k. shortAt (a .src .now) (a .rec + 5 * k + 1)) (a .count) (a .to .now) (loop .j) (loop .to) (loop .inv)
+    (c .before .loop-test .taken) (start .pre .1))
 
 returns : tie.Need-returns Inv-loop μ-loop
-returns c = (
-  child-table (c .before .before .before .before .args .count) (table-whole (omega arith) (c .before .loop .inv .2)),
-  c .before .loop .inv .3,
-)
+returns c =
+    let a = c .before .before .before .before .args in
+    let loop = c .before .loop in (
+      child-table (a .count) (filling-ends _ (a .count) (a .to .now) (loop .j) (loop .to) (loop .inv) (omega arith)),
+      loop .inv .3,
+    )
 
 pub child-indexes-spec : {M : Type 1} → statement M
 child-indexes-spec =
@@ -50,7 +53,7 @@ child-indexes-spec =
     (tie.spec
     Inv-loop
     μ-loop
-    (λ c. (omega arith, refl, table-none, refl))
+    (λ c. filling-begins _ _ _)
     (λ c. omega (arith, within c))
     (λ c. omega (arith, within c))
     (λ c. omega (arith, within c))
