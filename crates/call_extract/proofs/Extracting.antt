@@ -9,7 +9,7 @@ use lib.ListN.{length, take, drop}
 use lib.Dec.{leb}
 use borrow.Author.Tests.{le-leb, lt-leb}
 use Rattle.definitions.specs.Basics.{if_then_else_, Result, ok, refused}
-use Rattle.definitions.specs.Expression.{Frame, Extraction, Plan, empty, extracted}
+use Rattle.definitions.specs.Expression.{Frame, Extraction}
 use Rattle.definitions.specs.Encode.{planBytes, extractionBytes}
 use Rattle.definitions.specs.Plans.{planOf}
 use Rattle.definitions.specs.Extract.{Pick, pick, takePick, matchesOf, extractionBy, extraction}
@@ -17,18 +17,14 @@ use Rattle.definitions.specs.Calls.{Outcome, writtenOver, finish, heldPlan, mat
 use Rattle.definitions.specs.Good.{AllBytes, ReadableFrame}
 use Rattle.theorems.proofs.ExtractGood.{GoodExtraction, extraction-good}
 use Rattle.frame_reader.specs.declared.frames.Frame as places
+use Rattle.plan_reader.specs.Plans.{HoldsFrame}
 use Rattle.argument_sides.specs.Frames.{Over}
 use Rattle.spatial_expr_utils.specs.Picks.{TakenIs}
 use Rattle.spatial_expr_utils.specs.declared.pick.Pick as picks
-use Rattle.call_extract.specs.Extractions.{Taking, takes, ExtractionFits, ExtractionPut, HoldsFrame}
+use Rattle.call_extract.specs.Extractions.{Taking, takes, ExtractionFits, ExtractionPut}
 use Rattle.frame_reader.proofs.Standing.{between-holds, expr-stands}
 use Rattle.join_filter.proofs.Refusing.{extract-call, refuses, outcome}
 use Rattle.join_filter.proofs.Keeping.{held-is, plan-size, kept, kept-over}
-
-pub extracted-before : (n : ℕ) (before scratch : List ℕ) → n ≤ length before → (X : Extraction) → planOf (take n before) ≡ ok (extracted X)
-    → extract n before scratch ≡ refuses n before scratch 12
-unfolding newAfterExtractBy finish
-extracted-before n before scratch fits X e = outcome extract-call n before scratch (held-is n before fits e) refl
 
 -- ---- a held frame
 

@@ -3,15 +3,12 @@ use Prim.Native.Nat.{ℕ, _≤_}
 use mathlib.Core.Path.{_≡_}
 use mathlib.Core.List.{List}
 use mathlib.Core.Option.{Option·map}
-use lib.ListN.{length, take}
-use Rattle.definitions.specs.Basics.{ok}
+use lib.ListN.{length}
 use Rattle.definitions.specs.Expression as tree
 use Rattle.definitions.specs.Encode.{extractionBytes}
 use Rattle.definitions.specs.Decode.{indexBelow}
-use Rattle.definitions.specs.Plans.{planOf}
 use Rattle.definitions.specs.Extract.{without, prune}
 use Rattle.expression.specs.Nodes.{Stands}
-use Rattle.frame_reader.specs.Frames.{FrameAt}
 use Rattle.frame_reader.specs.declared.frames.Frame.{Frame}
 use Rattle.sedona_query_planner.specs.Predicates.{onChildren, PredicateAt}
 use Rattle.expression.specs.Cuts.{CutAt}
@@ -42,10 +39,3 @@ abbrev pub ExtractionPut : (s : List ℕ) (f : Frame) (p : Pick) (before after :
 ExtractionPut s f p before after answer =
     (F : tree.Frame) (q : tree.Predicate) → Taking s f p F q
     → (answer ≡ length (extractionBytes (takes F p q))) × Wrote (extractionBytes (takes F p q)) before after
-
--- The plan's first n bytes are a good frame, which stands there.
-pub record HoldsFrame (n : ℕ) (plan : List ℕ) (f : Frame) : Type 0 where
-  pub frame : tree.Frame
-  pub fits : n ≤ length plan
-  pub stands : FrameAt (take n plan) f (length (take n plan)) frame
-  pub is : planOf (take n plan) ≡ ok (tree.held frame)

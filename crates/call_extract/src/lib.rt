@@ -14,7 +14,7 @@ use terms::refusals::Refusal;
 use writing::copies::copy_bytes;
 ghost use Rattle.definitions.specs.Calls as definitions;
 ghost use Rattle.join_filter.specs.Outcomes.{OutcomeIs};
-ghost use Rattle.call_extract.specs.Extractions.{HoldsFrame};
+ghost use Rattle.plan_reader.specs.Plans.{HoldsFrame};
 
 // A held frame: copies it to the scratch, then writes its extraction over the plan's start.
 fn extract_frame(plan: &mut [u8], n: usize, scratch: &mut [u8], f: Frame) -> Answer

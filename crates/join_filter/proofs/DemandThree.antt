@@ -5,65 +5,114 @@ use mathlib.Core.Bool.{Bool, true, _&&_, not}
 use mathlib.Core.List.{List, [], _∷_, map}
 use mathlib.Core.Option.{some}
 use lib.ListN.{length, take}
+use lib.Seq.{length-take-le}
 use lib.Dec.{leb}
 use Rattle.definitions.specs.Basics.{ok}
-use Rattle.definitions.specs.Expression.{Frame, Extraction}
-use Rattle.definitions.specs.Encode.{planBytes}
+use Rattle.definitions.specs.Expression.{Frame, Extraction, held}
+use Rattle.definitions.specs.Encode.{frameBytes, planBytes}
 use Rattle.definitions.specs.Plans.{frameOf}
-use Rattle.definitions.specs.Calls.{LoadOutcome, load, Outcome}
+use Rattle.definitions.specs.Extract.{Matcher}
+use Rattle.definitions.specs.Match.{matchLeaf}
+use Rattle.definitions.specs.Calls.{LoadOutcome, load, Outcome, heldPlan}
 use Rattle.definitions.specs.Machine.{extractCall, exchangeCall}
 use Rattle.definitions.specs.Good.{AllBytes}
-use Rattle.definitions.specs.Sessions.{Made, make, ListOutcome, callsRunBy, callsRun, machineAfter, accepted, extractAccepted, exchangesOdd, Session, after, planLeft, extractedIn, oddIn}
+use Rattle.definitions.specs.Sessions.{Made, makeBy, make, ListOutcome, callsRunBy, callsRun, machineAfter, accepted, extractAccepted, exchangesOdd, Session, after, planLeft, extractedIn, oddIn}
 use Rattle.definitions.specs.Meaning.{frameValue}
 use Rattle.definitions.specs.Claims.{Agree, someLeafMatches, Took, extractedPlan, priceLine, valuesWhen, HasValue}
-use Rattle.theorems.proofs.InversePlan.{same-ok}
-use Rattle.theorems.proofs.Proved.{load-holds, list-of-calls, same-plan, exchange-accepted, extract-accepted, extract-takes, price-line-stays, list-has-value}
-use Rattle.join_filter.specs.Outcomes.{answerOf, LoadIs}
-use Rattle.join_filter.specs.Lists.{Ran, noCall, called, CodeRun, outcome, plan, extracted, odd, DemandThree, CodeMeetsDemandThree}
+use Rattle.definitions.specs.Merge.{mergeFrames, merge}
+use Rattle.definitions.specs.History.{Call, loading, making, merging, oneCallBy, historyBy}
+use Rattle.theorems.proofs.InverseFrame.{same-ok}
+use Rattle.theorems.proofs.Proved.{load-holds, list-of-calls, same-plan, exchange-accepted, extract-accepted, extract-takes, price-line-stays, list-has-value, merge-holds, history-of-calls}
+use Rattle.join_filter.specs.Outcomes.{answerOf, nAfter, LoadIs, OutcomeIs}
+use Rattle.join_filter.specs.Lists.{CallIs, Ran, noCall, called, Starts, byLoad, byMerge, CodeRun, outcome, plan, extracted, odd, DemandThree, CodeMeetsDemandThree}
 use Rattle.join_filter.specs.declared.answers.Answer.{Answer}
 use Rattle.join_filter.specs.declared.answers.Answer.the-variants.{Length}
 
-ran-is : {n last : ℕ} {buffer left : List ℕ} {calls : List Made} {answers : List Answer} → Ran n buffer calls answers last left
-    → callsRun n buffer calls ≡ record { answers = map answerOf answers; n = last; buffer = left }
-unfolding callsRunBy
-ran-is noCall = refl
-ran-is (called {r = r} e more) =
-    rw e (ap (λ (c : ListOutcome). record { answers = answerOf r ∷ c .answers; n = c .n; buffer = c .buffer }) (ran-is more))
+-- ---- a list of calls is the definitions' list
 
--- What a load that met its contract leaves is a session of the frame.
-abbrev Loaded : (frame : List ℕ) (k : ℕ) (after : List ℕ) → Frame → Type 0
-Loaded frame k after F = (s : Session F) × (s .n ≡ k) × (s .buffer ≡ after)
+one-is : (n : ℕ) (buffer : List ℕ) (c : Call) (after : List ℕ) (r : Answer) → CallIs n buffer c after r
+    → oneCallBy matchLeaf n buffer c ≡ record { answer = answerOf r; n = nAfter n r; buffer = after }
+unfolding oneCallBy
+one-is n buffer (loading frame) after r is = is n
+one-is n buffer (making c) after r is =
+    ap (λ (o : Outcome). record { answer = o .answer; n = o .n; buffer = o .buffer }) (is .1)
+one-is n buffer (merging frame scratch) after r is =
+    ap (λ (o : Outcome). record { answer = o .answer; n = o .n; buffer = o .buffer }) (is .1)
 
-load-is : (frame before after : List ℕ) (k : ℕ) → AllBytes frame → LoadIs frame before after (Length k)
-    → (F : Frame) × (frameOf frame ≡ ok F) × (k ≡ length frame) × Loaded frame k after F
+history-is : {n last : ℕ} {buffer left : List ℕ} {calls : List Call} {answers : List Answer} → Ran n buffer calls answers last left
+    → historyBy matchLeaf n buffer calls ≡ record { answers = map answerOf answers; n = last; buffer = left }
+unfolding historyBy
+history-is noCall = refl
+history-is (called {n} {buffer = buffer} {after} {c = c} {r = r} e more) =
+    rw (one-is n buffer c after r e)
+    (ap (λ (o : ListOutcome). record { answers = answerOf r ∷ o .answers; n = o .n; buffer = o .buffer }) (history-is more))
+
+-- Of extracts and exchanges alone it is a session's.
+made-is : (match : Matcher) (n : ℕ) (buffer : List ℕ) (calls : List Made)
+    → callsRunBy match n buffer calls ≡ historyBy match n buffer (map making calls)
+unfolding callsRunBy historyBy oneCallBy
+made-is match n buffer [] = refl
+made-is match n buffer (c ∷ calls) =
+    ap (λ (o : ListOutcome).
+    record { answers = makeBy match (c .kind) n buffer (c .scratch) .answer ∷ o .answers; n = o .n; buffer = o .buffer })
+    (made-is match _ _ calls)
+
+-- ---- where it starts
+
+-- The frame F is held by a session of these bytes.
+abbrev Holds : (size : ℕ) (left : List ℕ) → Frame → Type 0
+Holds size left F = (s : Session F) × (s .n ≡ size) × (s .buffer ≡ left)
+
+load-is : (frame before left : List ℕ) (k : ℕ) → AllBytes frame → LoadIs frame before left (Length k)
+    → (F : Frame) × (frameOf frame ≡ ok F) × Holds k left F
 unfolding accepted
-load-is frame before after k bytes is =
+load-is frame before left k bytes is =
     let taken : accepted (load frame 0 before .answer) ≡ true = ap (λ (o : LoadOutcome). accepted (o .answer)) (is 0) in
-    let (F, good, size, s, n, buffer) = load-holds frame 0 before bytes taken in (
-      F,
-      good,
-      same-ok k (length frame) (sym (ap (λ (o : LoadOutcome). o .answer) (is 0)) ∙ size),
-      (s, n ∙ ap (λ (o : LoadOutcome). o .n) (is 0), buffer ∙ ap (λ (o : LoadOutcome). o .buffer) (is 0)),
-    )
+    let (F, good, size, s, n, buffer) = load-holds frame 0 before bytes taken in
+    (F, good, (s, n ∙ ap (λ (o : LoadOutcome). o .n) (is 0), buffer ∙ ap (λ (o : LoadOutcome). o .buffer) (is 0)))
 
-module _ (frame : List ℕ) (F : Frame) (bytes : AllBytes frame) (good : frameOf frame ≡ ok F) where
-  -- The load of every run is one of F.
-  loaded-of : {calls : List Made} (r : CodeRun frame calls) → (r .size ≡ length frame) × Loaded frame (r .size) (r .after) F
-  loaded-of r =
-      let (G, is, size, l) = load-is frame (r .before) (r .after) (r .size) bytes (r .loads) in
-      (size, subst (Loaded frame (r .size) (r .after)) (same-ok G F (sym is ∙ good)) l)
+merge-is : (frame : List ℕ) (n : ℕ) (before scratch left kept : List ℕ) (k : ℕ) → AllBytes frame → AllBytes before
+    → OutcomeIs (merge frame n before scratch) n left kept (Length k)
+    → (old : Frame) × (new : Frame) × (heldPlan n before ≡ ok (held old)) × (frameOf frame ≡ ok new) × Holds k left (mergeFrames old new)
+unfolding accepted
+merge-is frame n before scratch left kept k bytes plan-bytes is =
+    let taken : accepted (merge frame n before scratch .answer) ≡ true = ap (λ (o : Outcome). accepted (o .answer)) is in
+    let (old, new, found, given, s) = merge-holds matchLeaf frame n before scratch bytes plan-bytes taken in
+    (old, new, found, given, (s .0, s .1 ∙ ap (λ (o : Outcome). o .n) is, s .2 ∙ ap (λ (o : Outcome). o .buffer) is))
+
+same-frame : (p q : Frame) → held p ≡ held q → p ≡ q
+same-frame p q e = cc
+
+module _ (F : Frame) where
+  -- What starts a run leaves a session of F.
+  started : (size : ℕ) (left : List ℕ) → Starts F size left → Holds size left F
+  started size left (byLoad frame before bytes good is) =
+      let (G, is-good, h) = load-is frame before left size bytes is in
+      subst (Holds size left) (same-ok G F (sym is-good ∙ good)) h
+  started size left (byMerge frame n before scratch kept old new bytes plan-bytes given found joined is) =
+      let (old′, new′, found′, given′, h) = merge-is frame n before scratch left kept size bytes plan-bytes is in
+      let one : old′ ≡ old = same-frame old′ old (same-ok _ _ (sym found′ ∙ found)) in
+      let two : new′ ≡ new = same-ok new′ new (sym given′ ∙ given) in
+      subst (Holds size left) (ap₂ mergeFrames one two ∙ joined) h
+
+  size-is : (size : ℕ) (left : List ℕ) → Starts F size left → size ≡ length (frameBytes F)
+  size-is size left start =
+      let (s, n, buffer) = started size left start in
+      sym n ∙ sym (length-take-le (s .n) (s .buffer) (s .fits)) ∙ ap length (s .holds)
 
   -- So what a run answers and leaves is what a session's list does.
-  session-of : {calls : List Made} (r : CodeRun frame calls) → (s : Session F) × (after s calls ≡ outcome r)
+  session-of : {calls : List Made} (r : CodeRun F calls) → (s : Session F) × (after s calls ≡ outcome r)
   session-of {calls} r =
-      let (s, n, buffer) = loaded-of r .1 in
-      (s, ap₂ (λ (k : ℕ) (b : List ℕ). callsRun k b calls) n buffer ∙ ran-is (r .ran))
+      let (s, n, buffer) = started (r .size) (r .after) (r .starts) in (
+        s,
+        ap₂ (λ (k : ℕ) (b : List ℕ). callsRun k b calls) n buffer ∙ made-is matchLeaf (r .size) (r .after) calls ∙ history-is (r .ran),
+      )
 
   -- What is told of a session's list by its outcome is told of the run.
-  told : {calls : List Made} (P : ListOutcome → Type 0) → ((s : Session F) → P (after s calls)) → (r : CodeRun frame calls) → P (outcome r)
+  told : {calls : List Made} (P : ListOutcome → Type 0) → ((s : Session F) → P (after s calls)) → (r : CodeRun F calls) → P (outcome r)
   told P h r = let (s, is) = session-of r in subst P is (h s)
 
-  plans-alike : (calls calls′ : List Made) (r : CodeRun frame calls) (r′ : CodeRun frame calls′)
+  plans-alike : (calls calls′ : List Made) (r : CodeRun F calls) (r′ : CodeRun F calls′)
       → extracted r ≡ extracted r′ → odd r ≡ odd r′ → plan r ≡ plan r′
   plans-alike calls calls′ r r′ e o =
       let (s, is) = session-of r in
@@ -76,9 +125,9 @@ module _ (frame : List ℕ) (F : Frame) (bytes : AllBytes frame) (good : frameOf
       ∙ sym (ap (λ (x : ListOutcome). exchangesOdd calls′ (x .answers)) is′))
       ∙ ap planLeft is′
 
-  demand-three : DemandThree frame F
+  demand-three : DemandThree F
   demand-three = record {
-    size = λ calls r. loaded-of r .0;
+    size = λ calls r. size-is (r .size) (r .after) (r .starts);
     machine = λ calls. told (λ (x : ListOutcome). Agree F x (machineAfter F calls)) (λ s. list-of-calls F s calls);
     samePlan = plans-alike;
     truth = λ M fair v marks calls.
@@ -106,5 +155,19 @@ module _ (frame : List ℕ) (F : Frame) (bytes : AllBytes frame) (good : frameOf
   }
 
 pub code-meets-demand-three : CodeMeetsDemandThree
-code-meets-demand-three frame before after k bytes is =
-    let (F, good, size, l) = load-is frame before after k bytes is in (F, good, demand-three frame F bytes good)
+code-meets-demand-three = record {
+  afterLoad = λ frame before after k bytes is.
+      let (F, good, h) = load-is frame before after k bytes is in (F, good, byLoad frame before bytes good is, demand-three F);
+  afterMerge = λ frame n before scratch after kept k bytes plan-bytes is.
+      let (old, new, found, given, h) = merge-is frame n before scratch after kept k bytes plan-bytes is in (
+        old,
+        new,
+        found,
+        given,
+        byMerge frame n before scratch kept old new bytes plan-bytes given found refl is,
+        demand-three (mergeFrames old new),
+      );
+  history = λ buffer left calls answers n bytes ran.
+      let h = history-of-calls buffer calls bytes in
+      rw (history-is ran) at h;
+}

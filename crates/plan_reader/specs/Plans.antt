@@ -3,13 +3,15 @@ use Prim.Native.Nat.{ℕ, _≤_}
 use mathlib.Core.Path.{_≡_}
 use mathlib.Core.List.{List}
 use mathlib.Core.Option.{Option, none, some}
-use lib.ListN.{length, drop}
+use lib.ListN.{length, take, drop}
 use Rattle.definitions.specs.Basics.{Result, ok, refused}
 use Rattle.definitions.specs.Expression as tree
 use Rattle.definitions.specs.Readers.{read, stopped, Reader}
+use Rattle.definitions.specs.Plans.{planOf}
 use Rattle.terms.specs.Refusals.{numberOf}
 use Rattle.frame_reader.specs.Frames.{FrameAt}
 use Rattle.sedona_query_planner.specs.Predicates.{unchanged, PredicateAt}
+use Rattle.frame_reader.specs.declared.frames.Frame.{Frame}
 use Rattle.plan_reader.specs.declared.held_plans.Remainder.{Remainder}
 use Rattle.plan_reader.specs.declared.held_plans.Remainder.the-variants as remainder
 use Rattle.plan_reader.specs.declared.held_plans.Extraction.{Extraction}
@@ -49,3 +51,10 @@ HeldIs s held.Empty result = result ≡ ok tree.empty
 HeldIs s (held.Frame f) result = (F : tree.Frame) × FrameAt s f (length s) F × (result ≡ ok (tree.held F))
 HeldIs s (held.Extraction x) result = (X : tree.Extraction) × ExtractionAt s x (length s) X × (result ≡ ok (tree.extracted X))
 HeldIs s held.Bad result = (number : ℕ) × (result ≡ refused number)
+
+-- The plan's first n bytes are a good frame, which stands there.
+pub record HoldsFrame (n : ℕ) (plan : List ℕ) (f : Frame) : Type 0 where
+  pub frame : tree.Frame
+  pub fits : n ≤ length plan
+  pub stands : FrameAt (take n plan) f (length (take n plan)) frame
+  pub is : planOf (take n plan) ≡ ok (tree.held frame)

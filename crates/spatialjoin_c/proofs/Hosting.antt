@@ -10,9 +10,10 @@ use Rattle.definitions.specs.Hosts.{hosted}
 use Rattle.definitions.specs.Machine.{Kind}
 use Rattle.definitions.specs.Sessions.{make, accepted}
 use Rattle.definitions.specs.Printed.{printed, PrintOutcome}
+use Rattle.definitions.specs.Merge.{merge}
 use Rattle.definitions.specs.Good.{AllBytes}
 use Rattle.theorems.proofs.InverseFrame.{same-ok, frame-back}
-use Rattle.theorems.proofs.Proved.{lengths-short, text-is-short, print-given}
+use Rattle.theorems.proofs.Proved.{lengths-short, text-is-short, print-given, merge-writes}
 use Rattle.join_filter.specs.Outcomes.{answerOf, LoadIs, OutcomeIs, PrintIs}
 use Rattle.join_filter.specs.declared.answers.Answer.{Answer}
 use Rattle.join_filter.specs.declared.answers.Answer.the-variants.{Length, Refused}
@@ -29,16 +30,23 @@ module _ (frame before after : List ℕ) (r : Answer) (is : LoadIs frame before 
   pub load-hosted : (z : ℤ) → z ≡ hosted (answerOf r) → LoadHosted frame before after z
   load-hosted z e n = rw (e, ap (λ (o : LoadOutcome). o .answer) (is n), ap (λ (o : LoadOutcome). o .buffer) (is n)) (refl, refl)
 
-module _ (kind : Kind) (n : ℕ) (before scratch after kept : List ℕ) (r : Answer)
-    (is : OutcomeIs (make kind n before scratch) n after kept r) where
-  pub call-short : AllBytes before → Short r
-  call-short = short r is where
-    short : (r : Answer) → OutcomeIs (make kind n before scratch) n after kept r → AllBytes before → Short r
-    short (Length m) is bytes = omega (arith, lengths-short .1 kind n before scratch m bytes (ap (λ (o : Outcome). o .answer) is))
-    short (Refused why) is bytes = tt
+pub call-short : (kind : Kind) (n : ℕ) (before scratch after kept : List ℕ) (r : Answer)
+    → OutcomeIs (make kind n before scratch) n after kept r → AllBytes before → Short r
+call-short kind n before scratch after kept (Length m) is bytes =
+    omega (arith, lengths-short .1 kind n before scratch m bytes (ap (λ (o : Outcome). o .answer) is))
+call-short kind n before scratch after kept (Refused why) is bytes = tt
 
-  pub call-hosted : (z : ℤ) → z ≡ hosted (answerOf r) → CallHosted (make kind n before scratch) after kept z
-  call-hosted z e = rw (e, is) (refl, refl, refl)
+pub merge-short : (frame : List ℕ) (n : ℕ) (before scratch after kept : List ℕ) (r : Answer)
+    → OutcomeIs (merge frame n before scratch) n after kept r → Short r
+unfolding accepted
+merge-short frame n before scratch after kept (Length m) is =
+    let (old, new, found, given, wrote) = merge-writes frame n before scratch (ap (λ (o : Outcome). accepted (o .answer)) is) in
+    omega (arith, wrote .short, ap (λ (o : Outcome). o .n) is)
+merge-short frame n before scratch after kept (Refused why) is = tt
+
+pub call-hosted : (o : Outcome) (n : ℕ) (after kept : List ℕ) (r : Answer) → OutcomeIs o n after kept r
+    → (z : ℤ) → z ≡ hosted (answerOf r) → CallHosted o after kept z
+call-hosted o n after kept r is z e = rw (e, is) (refl, refl, refl)
 
 module _ (frame before after : List ℕ) (r : Answer) (is : PrintIs frame before after r) where
   pub text-short : AllBytes frame → Short r

@@ -5,6 +5,7 @@ use call_extract::extract;
 use call_load::load;
 use call_logical::Names;
 use call_logical::logical;
+use call_merge::merge;
 use call_print::print;
 use host_answers::answer_number;
 use host_answers::minus_refusal;
@@ -13,6 +14,7 @@ ghost use mathlib.Core.Path.{_≡_};
 ghost use Rattle.definitions.specs.Calls as definitions;
 ghost use Rattle.definitions.specs.Hosts.{hostedNames};
 ghost use Rattle.definitions.specs.Logical as logicals;
+ghost use Rattle.definitions.specs.Merge as merges;
 ghost use Rattle.spatialjoin_c.specs.Hosted.{LoadHosted, CallHosted, PrintHosted};
 
 // Loads a frame as the new plan; reads nothing of the old one.
@@ -65,4 +67,18 @@ pub extern "C" fn spatialjoin_print(frame: &[u8], text: &mut [u8]) -> i64
 {
     let printed = print(text, frame);
     answer_number(printed)
+}
+
+// Joins a frame's filter to that of the plan in the first n bytes.
+#[no_mangle]
+pub extern "C" fn spatialjoin_merge(
+    frame: &[u8],
+    plan: &mut [u8],
+    n: usize,
+    scratch: &mut [u8],
+) -> i64
+    ensures { λ r. ⌜ CallHosted (merges.merge (now (frame .entry)) n (now (plan .entry)) (now (scratch .entry))) (now (plan .exit))
+        (now (scratch .exit)) r ⌝ }
+{
+    answer_number(merge(plan, n, scratch, frame))
 }

@@ -19,6 +19,7 @@ pub enum Refusal {
     NoLeafMatches,
     NotHexadecimal,
     TextBufferTooShort,
+    MergedTooLarge,
 }
 
 // The number of a refusal.
@@ -41,5 +42,6 @@ pub fn refusal_number(why: Refusal) -> u8
         Refusal::NoLeafMatches => 13,
         Refusal::NotHexadecimal => 14,
         Refusal::TextBufferTooShort => 15,
+        Refusal::MergedTooLarge => 16,
     }
 }

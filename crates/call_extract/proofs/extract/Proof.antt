@@ -1,11 +1,11 @@
 -- Each refusal is the definition's; a held frame is extracted.
 use borrow.Author.Needs.{needs}
-use mathlib.Core.Path.{sym}
+use mathlib.Core.Path.{refl, sym}
+use Rattle.definitions.specs.Calls.{newAfterExtractBy}
 use Rattle.call_extract.proofs.extract.Statement.{statement}
 use Rattle.call_extract.proofs.extract.Tie as tie
 use Rattle.join_filter.proofs.Keeping.{plan-length}
-use Rattle.join_filter.proofs.Refusing.{extract-call, no-room-for-n, no-plan, empty-plan}
-use Rattle.call_extract.proofs.Extracting.{extracted-before}
+use Rattle.join_filter.proofs.Refusing.{extract-call, no-room-for-n, no-plan, empty-plan, extracted-before}
 
 returns : tie.Need-returns
 returns c = let a = c .before .before .before .args in no-room-for-n extract-call (a .n) (a .plan .now) (a .scratch .now) (c .if1 .taken)
@@ -35,11 +35,12 @@ returns-3 c =
     empty-plan extract-call (a .n) (a .plan .now) (a .scratch .now) (fits .if1 .left) none
 
 returns-4 : tie.Need-returns-4
+unfolding newAfterExtractBy
 returns-4 c =
     let good = rw (c .enum-told3 .given .1) at (c .before .before .held-plan .ensures) in
     let fits = c .before .before .before .before in
     let a = fits .before .before .before .args in
-    extracted-before (a .n) (a .plan .now) (a .scratch .now) (fits .if1 .left) (good .0) (good .2)
+    extracted-before extract-call (a .n) (a .plan .now) (a .scratch .now) (fits .if1 .left) (λ X. refl) (good .0) (good .2)
 
 pub extract-spec : {M : Type 1} → statement M
 extract-spec =

@@ -17,10 +17,9 @@ answer-number-requires c κs =
     (all-bytes (known .before .args .plan .now) (known .slice-known .given))
 
 returns : tie.Need-returns
-unfolding makeBy
 returns c =
     let call = c .before .before .before .before .before .exchange in
-    call-hosted exchangeCall _ _ _ _ _ (call .result) (call .ensures) _ (given-back _ _ (c .answer-number .ok) (c .answer-number .ensures))
+    call-hosted _ _ _ _ (call .result) (call .ensures) _ (given-back _ _ (c .answer-number .ok) (c .answer-number .ensures))
 
 pub spatialjoin-exchange-spec : {M : Type 1} → statement M
 spatialjoin-exchange-spec =

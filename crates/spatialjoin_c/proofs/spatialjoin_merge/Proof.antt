@@ -1,0 +1,19 @@
+-- `spatialjoin_merge`: the merge's answer as one number.
+use borrow.Author.Needs.{needs}
+use Rattle.host_answers.proofs.Numbers.{given-back}
+use Rattle.spatialjoin_c.proofs.Hosting.{merge-short, call-hosted}
+use Rattle.spatialjoin_c.proofs.spatialjoin_merge.Statement.{statement}
+use Rattle.spatialjoin_c.proofs.spatialjoin_merge.Tie as tie
+
+answer-number-requires : tie.Need-answer-number-requires
+answer-number-requires c κs =
+    let call = c .before .before .before .before .merge in merge-short _ _ _ _ _ _ (call .result) (call .ensures)
+
+returns : tie.Need-returns
+returns c =
+    let call = c .before .before .before .before .before .merge in
+    call-hosted _ _ _ _ (call .result) (call .ensures) _ (given-back _ _ (c .answer-number .ok) (c .answer-number .ensures))
+
+pub spatialjoin-merge-spec : {M : Type 1} → statement M
+spatialjoin-merge-spec =
+    tie.close (tie.spec (λ c κs. search needs) answer-number-requires (λ c. search needs) (λ c. search needs) returns)
