@@ -31,14 +31,15 @@ fn merge_held(
         (now (scratch .exit)) r ⌝ }
 {
     let m = frame.len();
-    if over_limits(n, m, old, new) {
+    let over = over_limits(n, m, old, new);
+    if over {
         return Answer::Refused(Refusal::MergedTooLarge);
     }
     if scratch.len() < n {
-        return Answer::Refused(Refusal::BufferTooShort);
+        return Answer::Refused(Refusal::BufferTooShort); // for the old plan
     }
     if plan.len() < n + m - 1 {
-        return Answer::Refused(Refusal::BufferTooShort);
+        return Answer::Refused(Refusal::BufferTooShort); // for the merged frame
     }
     copy_bytes(scratch, plan, 0, n);
     Answer::Length(put_merged(plan, &scratch[..n], old, frame, new))

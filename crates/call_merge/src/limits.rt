@@ -8,7 +8,7 @@ pub(crate) fn over_limits(n: usize, m: usize, old: Frame, new: Frame) -> bool
     requires { ⌜ Counts n m old new ⌝ }
     ensures { λ r. ⌜ r ≡ overTogether n m old new ⌝ }
 {
-    if 16384 + 1 < n + m {
+    if 16385 < n + m {
         return true;
     }
     if 1024 < old.nodes + new.nodes + 1 {

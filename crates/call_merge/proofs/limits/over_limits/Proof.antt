@@ -37,7 +37,6 @@ over-limits-spec =
     tie.close
     (tie.spec
     (λ c. omega (arith, c .pre .bytes))
-    (λ c. omega (arith, c .pre .bytes))
     returns
     (λ c. omega (arith, c .before .before .before .pre .nodes))
     (λ c. omega (arith, c .before .before .before .pre .nodes))
