@@ -1,12 +1,15 @@
 /* The library with one fault, chosen by WRONG. Its own functions are renamed to right_.. before (library-mutants). */
 #include <stddef.h>
 #include <stdint.h>
+#include <string.h>
 
 int64_t right_load(const uint8_t *frame, size_t frame_len, uint8_t *plan, size_t plan_len);
 int64_t right_extract(uint8_t *plan, size_t plan_len, size_t n, uint8_t *scratch, size_t scratch_len);
 int64_t right_exchange(uint8_t *plan, size_t plan_len, size_t n, uint8_t *scratch, size_t scratch_len);
 int64_t right_logical(const uint8_t *frame, size_t frame_len);
 int64_t right_print(const uint8_t *frame, size_t frame_len, uint8_t *text, size_t text_len);
+int64_t right_merge(const uint8_t *frame, size_t frame_len, uint8_t *plan, size_t plan_len, size_t n, uint8_t *scratch,
+                    size_t scratch_len);
 
 int64_t spatialjoin_load(const uint8_t *frame, size_t frame_len, uint8_t *plan, size_t plan_len)
 {
@@ -103,4 +106,90 @@ int64_t spatialjoin_print(const uint8_t *frame, size_t frame_len, uint8_t *text,
         answer = -15;
     }
     return answer;
+}
+
+/* Buffers as they were before a merge, as far as an accepted one can write to them. */
+static uint8_t plan_before[16384], scratch_before[16384];
+
+static size_t least(size_t a, size_t b)
+{
+    return a < b ? a : b;
+}
+
+/* The sides of the And that a merge made change places: the held expression stands in the scratch after its records. */
+static void exchange_sides(uint8_t *plan, size_t length, const uint8_t *scratch, size_t n)
+{
+    size_t held = n - 3 - 5 * (256 * (size_t)scratch[1] + scratch[2]);
+    size_t start = 5 + 5 * (256 * (size_t)plan[1] + plan[2]);
+    memmove(plan + start, plan + start + held, length - start - held);
+    memcpy(plan + length - held, scratch + n - held, held);
+}
+
+/* What is wrong with an accepted merge's bytes. */
+static void spoil_merge(const uint8_t *frame, size_t frame_len, uint8_t *plan, size_t length, size_t n, uint8_t *scratch)
+{
+    if (WRONG == 17) {
+        memcpy(scratch, scratch_before, n);
+    }
+    if (WRONG == 19) {
+        /* The merged filter ends as the frame does, but for a column's index. */
+        memcpy(plan + length - 5, frame + frame_len - 5, 5);
+    }
+    if (WRONG == 20) {
+        exchange_sides(plan, length, scratch, n);
+    }
+    if (WRONG == 23) {
+        ((uint8_t *)(uintptr_t)frame)[0] ^= 1;
+    }
+}
+
+/* A wrong byte beside what a merge may write, or after a refusal. */
+static void spoil_around(uint8_t *plan, size_t plan_len, size_t n, uint8_t *scratch, size_t scratch_len, int64_t answer)
+{
+    if (WRONG == 15 && answer > 0 && (size_t)answer < plan_len) {
+        plan[answer] ^= 1;
+    }
+    if (WRONG == 16 && answer > 0) {
+        plan[plan_len] ^= 1;
+    }
+    if (WRONG == 18 && answer > 0 && n < scratch_len) {
+        scratch[n] ^= 1;
+    }
+    if (WRONG == 22 && answer == -16 && scratch_len > 0) {
+        scratch[0] ^= 1;
+    }
+}
+
+/* What is wrong with a merge's answer. */
+static int64_t spoil_answer(uint8_t *plan, size_t plan_len, size_t n, uint8_t *scratch, size_t scratch_len, int64_t answer)
+{
+    if (WRONG == 21 && answer == -16 && scratch_len < n) {
+        return -9;
+    }
+    if (WRONG == 24 && answer > 0 && plan[1] == 1) {
+        memcpy(plan, plan_before, (size_t)answer);
+        memcpy(scratch, scratch_before, n);
+        return -16;
+    }
+    if (WRONG == 25 && answer == -8 && n > plan_len) {
+        return -10;
+    }
+    if (WRONG == 26 && answer == -12 && scratch_len < n) {
+        return -9;
+    }
+    return answer;
+}
+
+int64_t spatialjoin_merge(const uint8_t *frame, size_t frame_len, uint8_t *plan, size_t plan_len, size_t n, uint8_t *scratch,
+                          size_t scratch_len)
+{
+    int64_t answer;
+    memcpy(plan_before, plan, least(plan_len, sizeof plan_before));
+    memcpy(scratch_before, scratch, least(scratch_len, sizeof scratch_before));
+    answer = right_merge(frame, frame_len, plan, plan_len, n, scratch, scratch_len);
+    if (answer > 0) {
+        spoil_merge(frame, frame_len, plan, (size_t)answer, n, scratch);
+    }
+    spoil_around(plan, plan_len, n, scratch, scratch_len, answer);
+    return spoil_answer(plan, plan_len, n, scratch, scratch_len, answer);
 }

@@ -17,15 +17,16 @@ pub enum Kind {
     Exchange,
     Logical,
     Print,
+    Merge,
 }
 
 pub struct Call {
     pub kind: Kind,
-    /// Of a load, of a logical call and of a print.
+    /// Of a load, of a logical call, of a print and of a merge.
     pub frame: Vec<u8>,
     pub n: usize,
     pub plan: Vec<u8>,
-    /// Of an extract and of an exchange.
+    /// Of an extract, of an exchange and of a merge.
     pub scratch: Vec<u8>,
     /// Of a print.
     pub text: Vec<u8>,
@@ -60,6 +61,7 @@ impl Call {
                 calls::logical(&self.frame).map(|bytes| i64::from(u32::from_be_bytes(bytes)))
             }
             Kind::Print => length(calls::print(&self.frame, &mut text)),
+            Kind::Merge => length(calls::merge(&self.frame, &mut n, &mut plan, &mut scratch)),
         };
         Outcome {
             answer: answer.unwrap_or_else(|refusal| -i64::from(refusal.number())),
@@ -81,6 +83,7 @@ impl Call {
             Kind::Exchange => numbers::exchange(plan.bytes_mut(), n, scratch.bytes_mut()),
             Kind::Logical => numbers::logical(frame.bytes()),
             Kind::Print => numbers::print(frame.bytes(), text.bytes_mut()),
+            Kind::Merge => numbers::merge(frame.bytes(), plan.bytes_mut(), n, scratch.bytes_mut()),
         };
         Given {
             outcome: Outcome {

@@ -27,6 +27,18 @@ impl Held {
         Held { n: 0, plan }
     }
 
+    /// What an accepted call left.
+    pub fn left_by(outcome: Outcome) -> Option<Self> {
+        let n = usize::try_from(outcome.answer).ok()?;
+        let plan = outcome.plan;
+        Some(Held { n, plan })
+    }
+
+    /// So many bytes more in the buffer.
+    pub fn lengthen(&mut self, rng: &mut Rng, by: usize) {
+        self.plan.extend(any_bytes(rng, by));
+    }
+
     pub fn with_frame(&self, kind: Kind, frame: Vec<u8>) -> Call {
         Call {
             kind,
@@ -58,6 +70,11 @@ impl Held {
             scratch: any_bytes(rng, length),
             text: Vec::new(),
         }
+    }
+
+    pub fn with_both(&self, kind: Kind, frame: Vec<u8>, rng: &mut Rng) -> Call {
+        let call = self.with_scratch(kind, rng);
+        Call { frame, ..call }
     }
 
     /// Takes over what a call left: its answer is the new length, if it is one.

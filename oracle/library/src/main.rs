@@ -4,11 +4,13 @@ mod call;
 mod counts;
 mod held;
 mod lent;
+mod merges;
 mod texts;
 
 use std::env;
 use std::process::ExitCode;
 
+use driver::make::pairs::{self, Pair};
 use driver::make::{self, Case};
 use driver::progress::Progress;
 use driver::rng::Rng;
@@ -63,7 +65,7 @@ fn options(words: &[String]) -> Option<(u64, u64)> {
     Some((frames, seed))
 }
 
-/// All calls of a case, on one plan; then prints of its frames, which no plan plays a part in.
+/// All calls of a case, on one plan; then prints and merges of its frames, and merges of a pair.
 fn run(rng: &mut Rng, case: &Case, counts: &mut Counts) -> Result<(), String> {
     let asked: Vec<Asked> = case.lines.iter().map(|line| asked(rng, line)).collect();
     let mut held = Held::new(rng, longest(&asked));
@@ -84,9 +86,12 @@ fn run(rng: &mut Rng, case: &Case, counts: &mut Counts) -> Result<(), String> {
                 let compared = compare(rng, &call, counts);
                 compared.map_err(|found| smaller(rng, &call.frame).unwrap_or(found))?;
             }
+            let (held, new) = (pairs::frame(rng), frame.clone());
+            merges::run(rng, &Pair { held, new }, counts)?;
         }
     }
-    Ok(())
+    let pair = pairs::pair(rng);
+    merges::run(rng, &pair, counts)
 }
 
 /// The difference on a print of a filter that is part of this one, the smallest found.

@@ -2,6 +2,7 @@
 //! length, which `n` then holds too; a refused call leaves `n` and all buffers as they were.
 
 use crate::frame::Plan;
+use crate::merge::{merged, within_limits};
 use crate::refusal::Refusal;
 use crate::{decode, encode, logical as logical_half, physical, print as console};
 
@@ -46,6 +47,27 @@ pub fn print(frame: &[u8], buffer: &mut [u8]) -> Result<usize, Refusal> {
     Ok(text.len())
 }
 
+/// Request 2 of document 02: the held filter And this one. 9 is for either buffer.
+pub fn merge(
+    frame: &[u8],
+    n: &mut usize,
+    buffer: &mut [u8],
+    scratch: &mut [u8],
+) -> Result<usize, Refusal> {
+    let new = decode::physical(frame)?;
+    let Plan::Frame(held) = held(*n, buffer)? else {
+        return Err(Refusal::Extracted);
+    };
+    let merged = merged(&held, &new);
+    if !within_limits(&merged) {
+        return Err(Refusal::MergedLimit);
+    }
+    if scratch.len() < *n || buffer.len() < encode::physical(&merged).len() {
+        return Err(Refusal::NoRoom);
+    }
+    Ok(replace(&Plan::Frame(merged), n, buffer, scratch))
+}
+
 /// Refusals 10 and 11.
 fn held(n: usize, buffer: &[u8]) -> Result<Plan, Refusal> {
     match buffer.get(..n) {
@@ -55,7 +77,8 @@ fn held(n: usize, buffer: &[u8]) -> Result<Plan, Refusal> {
     }
 }
 
-/// The old plan goes to the scratch, the new one to the buffer; it is never the longer one.
+/// The old plan goes to the scratch, the new one to the buffer. Only a merged one is longer, and for
+/// that the buffer was measured.
 fn replace(plan: &Plan, n: &mut usize, buffer: &mut [u8], scratch: &mut [u8]) -> usize {
     scratch[..*n].copy_from_slice(&buffer[..*n]);
     let bytes = encode::plan(plan);

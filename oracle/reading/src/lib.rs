@@ -7,6 +7,7 @@ pub mod decode;
 pub mod encode;
 pub mod frame;
 pub mod logical;
+pub mod merge;
 pub mod physical;
 pub mod print;
 pub mod program;

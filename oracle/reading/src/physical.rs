@@ -70,7 +70,7 @@ fn collect_columns(expr: &Expr, found: &mut impl FnMut(u16)) {
 }
 
 /// The same expression, each column's index replaced.
-fn renumber(expr: &Expr, new_index: &impl Fn(u16) -> u16) -> Expr {
+pub(crate) fn renumber(expr: &Expr, new_index: &impl Fn(u16) -> u16) -> Expr {
     let all = |exprs: &[Expr]| exprs.iter().map(|e| renumber(e, new_index)).collect();
     match expr {
         Expr::Column { index, tag } => Expr::Column {

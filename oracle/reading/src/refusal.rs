@@ -31,6 +31,8 @@ pub enum Refusal {
     BadLine = 14,
     /// Text buffer shorter than the text.
     TextRoom = 15,
+    /// Merged frame over a limit.
+    MergedLimit = 16,
 }
 
 impl Refusal {

@@ -7,6 +7,7 @@ mod limits;
 mod literals;
 mod logical;
 mod names;
+pub mod pairs;
 mod physical;
 
 use reading::decode;
