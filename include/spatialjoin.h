@@ -25,9 +25,9 @@
 #include <stddef.h>
 #include <stdint.h>
 
-#define SPATIALJOIN_VERSION "0.2.0"
+#define SPATIALJOIN_VERSION "0.3.0"
 #define SPATIALJOIN_VERSION_MAJOR 0
-#define SPATIALJOIN_VERSION_MINOR 2
+#define SPATIALJOIN_VERSION_MINOR 3
 #define SPATIALJOIN_VERSION_PATCH 0
 
 /* The most bytes of a frame or plan. */
@@ -61,17 +61,18 @@ enum spatialjoin_refusal {
     SPATIALJOIN_NO_SUCH_COLUMN = -6,     /* a column's index is not below the column count */
     SPATIALJOIN_BYTES_AFTER = -7,        /* bytes after the frame's end */
     SPATIALJOIN_TOO_FEW_ARGUMENTS = -8,  /* a conjunct lacks arguments: see docs/FRAMES.md */
-    SPATIALJOIN_TOO_SHORT = -9,          /* the plan buffer (load) or the scratch is too short */
+    SPATIALJOIN_TOO_SHORT = -9,          /* the plan buffer (load, merge) or the scratch is too short */
     SPATIALJOIN_NO_GOOD_PLAN = -10,      /* n is over the buffer's length, or its first n bytes are no good plan */
     SPATIALJOIN_PLAN_EMPTY = -11,        /* n is 0 */
     SPATIALJOIN_ALREADY_EXTRACTED = -12, /* the plan is an extraction already */
     SPATIALJOIN_NO_MATCH = -13,          /* no conjunct matches: the join stays filtered */
-    SPATIALJOIN_TEXT_TOO_SHORT = -15     /* the text buffer is shorter than the text; -14 is no call's, but of the program's lines */
+    SPATIALJOIN_TEXT_TOO_SHORT = -15,    /* the text buffer is shorter than the text; -14 is no call's, but of the program's lines */
+    SPATIALJOIN_MERGED_TOO_LARGE = -16   /* merged, over SPATIALJOIN_MOST_BYTES, 1,024 nodes, 64 levels or 256 records */
 };
 
 /* The first byte of a plan. */
 enum spatialjoin_plan {
-    SPATIALJOIN_FRAME = 0x01,    /* a frame as it was loaded, exchanged or not */
+    SPATIALJOIN_FRAME = 0x01,    /* a frame as it was loaded or merged, exchanged or not */
     SPATIALJOIN_RELATION = 0x11, /* an extraction: a spatial relation */
     SPATIALJOIN_DISTANCE = 0x12, /* a distance */
     SPATIALJOIN_KNN = 0x13       /* nearest neighbours */
@@ -133,6 +134,15 @@ int64_t spatialjoin_logical(const uint8_t *frame, size_t frame_len);
  * 126. No plan plays a part. */
 int64_t spatialjoin_print(const uint8_t *SPATIALJOIN_RESTRICT frame, size_t frame_len,
                           uint8_t *SPATIALJOIN_RESTRICT text, size_t text_len);
+
+/* Joins a physical frame's filter, a row policy for one, to the held filter by And, the held one on the left: the new plan's length,
+ * n + frame_len - 1, or of the frame -1, -2, the first of -3 to -6 from left to right, -7, -8, then of the held plan -10, -11, -12,
+ * then -16, -9 in this order. The held plan must be a frame, exchanged or not. Its records come first, then the frame's, equal ones
+ * too; the columns of the frame's filter are renumbered to stay with theirs. -9 is for either buffer. The old plan is copied to the
+ * scratch's first n bytes. */
+int64_t spatialjoin_merge(const uint8_t *SPATIALJOIN_RESTRICT frame, size_t frame_len,
+                          uint8_t *SPATIALJOIN_RESTRICT plan, size_t plan_len, size_t n,
+                          uint8_t *SPATIALJOIN_RESTRICT scratch, size_t scratch_len);
 
 #ifdef __cplusplus
 }

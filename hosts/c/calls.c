@@ -1,5 +1,5 @@
-/* Tests of the library as a C host sees it: every refusal by its constant, the names of the mask, texts, NULL with length 0. Ends
- * with 1 where a call answers otherwise. `../check` builds and runs it. */
+/* Tests of the library as a C host sees it: every refusal by its constant, the names of the mask, texts, merged filters, NULL with
+ * length 0. Ends with 1 where a call answers otherwise. `../check` builds and runs it. */
 #include <stdio.h>
 #include <string.h>
 
@@ -10,6 +10,7 @@
 #define RIGHT "\x00\x00\x01\x00\x00"
 #define GOOD RECORDS "\x03\x09" "st_within" "\x02" LEFT RIGHT
 #define UNMATCHED RECORDS LEFT
+#define ALONE "\x01\x00\x00" "\x04\x00\x00\x00" /* no record, a node without fields */
 
 static uint8_t plan[SPATIALJOIN_MOST_BYTES];
 static uint8_t scratch[SPATIALJOIN_MOST_BYTES];
@@ -29,6 +30,7 @@ static void expect(const char *what, int64_t answer, int64_t expected)
 /* The bytes of a text, its last 0 not among them. */
 #define LOAD(text) spatialjoin_load((const uint8_t *)(text), sizeof(text) - 1, plan, sizeof plan)
 #define LOGICAL(text) spatialjoin_logical((const uint8_t *)(text), sizeof(text) - 1)
+#define MERGE(bytes, room, n, kept) spatialjoin_merge((const uint8_t *)(bytes), sizeof(bytes) - 1, plan, room, n, scratch, kept)
 #define PRINT(bytes, room) spatialjoin_print((const uint8_t *)(bytes), sizeof(bytes) - 1, text, room)
 
 /* A frame of this many levels: functions of one argument, the last of none. */
@@ -160,6 +162,49 @@ static void refusals_of_texts(void)
     expect("print, no room", PRINT(GOOD, 0), SPATIALJOIN_TEXT_TOO_SHORT);
 }
 
+/* The held filter and the new one, joined by And; the new one's columns are 2 and 3 now. */
+static void merged_filters(void)
+{
+    static const char merged[] = "\x01\x00\x04" "\x00\x00\x00\x00\x00" "\x01\x00\x00\x00\x00" "\x00\x00\x00\x00\x00"
+        "\x01\x00\x00\x00\x00" "\x02\x00" "\x03\x09" "st_within" "\x02" LEFT RIGHT "\x00\x00\x02\x00\x00";
+    size_t n = (size_t)LOAD(GOOD), length = sizeof merged - 1;
+    memset(plan + n, 7, sizeof plan - n);
+    memset(scratch, 7, sizeof scratch);
+    expect("merge", MERGE(UNMATCHED, length, n, n), (int64_t)length);
+    expect("the merged filter", memcmp(plan, merged, length) == 0, 1);
+    expect("the old plan", memcmp(scratch, GOOD, n) == 0, 1);
+    expect("the bytes after both", plan[length] == 7 && scratch[n] == 7, 1);
+    expect("merge again", MERGE(ALONE, sizeof plan, length, length), (int64_t)length + 6);
+    expect("extract what was merged", spatialjoin_extract(plan, sizeof plan, length + 6, scratch, sizeof scratch) > 0, 1);
+    expect("a relation", plan[0], SPATIALJOIN_RELATION);
+}
+
+/* A state with the faults of those after it; refused, a merge writes nothing. */
+static void refusals_of_merges(void)
+{
+    size_t n = (size_t)LOAD(GOOD);
+    memset(plan + n, 7, sizeof plan - n);
+    memset(scratch, 7, sizeof scratch);
+    expect("merge nothing", MERGE("", 0, n, 0), SPATIALJOIN_FRAME_LENGTH);
+    expect("merge a logical frame", MERGE("\x02\x04\x00\x00\x00", 0, n, 0), SPATIALJOIN_FIRST_BYTE);
+    expect("merge, cut", MERGE("\x01\x00\x00\x04", 0, n, 0), SPATIALJOIN_FRAME_ENDS);
+    expect("merge, kind 5", MERGE("\x01\x00\x00\x05", 0, n, 0), SPATIALJOIN_OUT_OF_RANGE);
+    expect("merge 65 levels", spatialjoin_merge(frame, levels(65), plan, 0, n, scratch, 0), SPATIALJOIN_TOO_LARGE);
+    expect("merge, no column 0", MERGE("\x01\x00\x00" LEFT, 0, n, 0), SPATIALJOIN_NO_SUCH_COLUMN);
+    expect("merge, a byte more", MERGE(GOOD "\x00", 0, n, 0), SPATIALJOIN_BYTES_AFTER);
+    expect("merge st_within()", MERGE(RECORDS "\x03\x09" "st_within" "\x00", 0, n, 0), SPATIALJOIN_TOO_FEW_ARGUMENTS);
+    expect("merge, n past the end", spatialjoin_merge(frame, levels(64), plan, n - 1, n, scratch, 0), SPATIALJOIN_NO_GOOD_PLAN);
+    expect("merge, n = 0", spatialjoin_merge(frame, levels(64), plan, n, 0, scratch, 0), SPATIALJOIN_PLAN_EMPTY);
+    expect("merge 64 levels", spatialjoin_merge(frame, levels(64), plan, n, n, scratch, 0), SPATIALJOIN_MERGED_TOO_LARGE);
+    expect("merge, scratch too short", MERGE(ALONE, sizeof plan, n, n - 1), SPATIALJOIN_TOO_SHORT);
+    expect("merge, plan too short", MERGE(ALONE, n + 5, n, n), SPATIALJOIN_TOO_SHORT);
+    expect("the held plan", memcmp(plan, GOOD, n) == 0 && plan[n] == 7 && scratch[0] == 7, 1);
+    expect("merge 63 levels", spatialjoin_merge(frame, levels(63), plan, sizeof plan, n, scratch, n), (int64_t)n + 254);
+    n = (size_t)LOAD(GOOD);
+    n = (size_t)spatialjoin_extract(plan, sizeof plan, n, scratch, n);
+    expect("merge, extracted", spatialjoin_merge(frame, levels(64), plan, n, n, scratch, 0), SPATIALJOIN_ALREADY_EXTRACTED);
+}
+
 static void null_buffers(void)
 {
     size_t n;
@@ -174,7 +219,13 @@ static void null_buffers(void)
     expect("extract from NULL, n = 1", spatialjoin_extract(NULL, 0, 1, NULL, 0), SPATIALJOIN_NO_GOOD_PLAN);
     expect("exchange in NULL", spatialjoin_exchange(NULL, 0, 0, NULL, 0), SPATIALJOIN_PLAN_EMPTY);
     expect("exchange in NULL, n = 1", spatialjoin_exchange(NULL, 0, 1, NULL, 0), SPATIALJOIN_NO_GOOD_PLAN);
+    expect("merge NULL", spatialjoin_merge(NULL, 0, NULL, 0, 0, NULL, 0), SPATIALJOIN_FRAME_LENGTH);
+    expect("merge to NULL", spatialjoin_merge((const uint8_t *)GOOD, sizeof(GOOD) - 1, NULL, 0, 0, NULL, 0), SPATIALJOIN_PLAN_EMPTY);
+    expect("merge to NULL, n = 1", spatialjoin_merge((const uint8_t *)GOOD, sizeof(GOOD) - 1, NULL, 0, 1, NULL, 0),
+           SPATIALJOIN_NO_GOOD_PLAN);
     n = (size_t)LOAD(GOOD);
+    expect("merge with NULL", spatialjoin_merge((const uint8_t *)GOOD, sizeof(GOOD) - 1, plan, sizeof plan, n, NULL, 0),
+           SPATIALJOIN_TOO_SHORT);
     expect("extract with NULL", spatialjoin_extract(plan, sizeof plan, n, NULL, 0), SPATIALJOIN_TOO_SHORT);
     expect("exchange with NULL", spatialjoin_exchange(plan, sizeof plan, n, NULL, 0), SPATIALJOIN_TOO_SHORT);
 }
@@ -186,6 +237,8 @@ int main(void)
     names_of_frames();
     texts_of_frames();
     refusals_of_texts();
+    merged_filters();
+    refusals_of_merges();
     null_buffers();
     printf("%d answers, %d wrong\n", tried, failed);
     return failed > 0;

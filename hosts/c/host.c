@@ -1,5 +1,5 @@
-/* A C host: the worked run's filter as text, then the run, its answers printed as the program spatialjoin prints them. `../check`
- * builds and runs it. */
+/* A C host: the worked run's filter as text, then the run, its answers printed as the program spatialjoin prints them; then the
+ * filter with a row policy. `../check` builds and runs it. */
 #include <inttypes.h>
 #include <stdio.h>
 
@@ -16,6 +16,15 @@ static const uint8_t frame[] = {
     0x00, 0x00, 0x00, 0x00, 0x07,                                        /*     column 0, name tag 7 */
     0x00, 0x00, 0x01, 0x00, 0x08,                                        /*     column 1, name tag 8 */
     0x00, 0x00, 0x01, 0x00, 0x08,                                        /*   column 1, name tag 8 */
+};
+
+/* region(column 0), a row policy over the same children; column 0 is column 1 of the left child. */
+static const uint8_t policy[] = {
+    0x01,                                                                /* a physical frame */
+    0x00, 0x01,                                                          /* one record: */
+    0x00, 0x00, 0x01, 0x00, 0x09,                                        /*   left, child index 1, field tag 9 */
+    0x03, 0x06, 'r', 'e', 'g', 'i', 'o', 'n', 0x01,                      /* region of one argument: */
+    0x00, 0x00, 0x00, 0x00, 0x09,                                        /*   column 0, name tag 9 */
 };
 
 /* The host lends the buffers and keeps n, the length of the plan. */
@@ -61,6 +70,11 @@ int main(void)
     take(spatialjoin_load(frame, sizeof frame, plan, sizeof plan));
     take(spatialjoin_extract(plan, sizeof plan, n, scratch, sizeof scratch));
     take(spatialjoin_exchange(plan, sizeof plan, n, scratch, sizeof scratch));
+    take(spatialjoin_extract(plan, sizeof plan, n, scratch, sizeof scratch));
+
+    take(spatialjoin_load(frame, sizeof frame, plan, sizeof plan));
+    take(spatialjoin_merge(policy, sizeof policy, plan, sizeof plan, n, scratch, sizeof scratch));
+    show(spatialjoin_print(plan, n, text, sizeof text));
     take(spatialjoin_extract(plan, sizeof plan, n, scratch, sizeof scratch));
     return 0;
 }

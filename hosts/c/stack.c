@@ -12,8 +12,8 @@
 #define PATTERN 0xa5
 #define STACK_SIZE (4 * SPATIALJOIN_STACK_BYTES)
 
-enum call { LOAD, EXTRACT, EXCHANGE, LOGICAL, PRINT, CALLS };
-static const char *const call_names[CALLS] = {"load", "extract", "exchange", "logical", "print"};
+enum call { LOAD, EXTRACT, EXCHANGE, LOGICAL, PRINT, MERGE, CALLS };
+static const char *const call_names[CALLS] = {"load", "extract", "exchange", "logical", "print", "merge"};
 
 /* How a node holds the deeper one below it. */
 enum shape { AND_LEFT, AND_RIGHT, OR_LEFT, OR_RIGHT, FUNCTION_ONE, FUNCTION_LAST, OTHER_ONE, OTHER_LAST, SHAPES };
@@ -149,8 +149,8 @@ static void put_leaf(enum leaf leaf, int deep, enum shape shape, int levels)
     }
 }
 
-/* A frame of 64 levels: so many Ands, then the conjunct. */
-static void make_frame(enum shape ands, int levels, enum leaf leaf, int deep, enum shape shape)
+/* A frame of so many levels: some of them Ands, then the conjunct. */
+static void make_frame(int depth, enum shape ands, int levels, enum leaf leaf, int deep, enum shape shape)
 {
     static const uint8_t records[] = {1, 0, 2, 0, 0, 0, 0, 0, 1, 0, 0, 0, 0};
     int i;
@@ -164,7 +164,7 @@ static void make_frame(enum shape ands, int levels, enum leaf leaf, int deep, en
     for (i = 0; i < levels; i++) {
         put_before(ands);
     }
-    put_leaf(leaf, deep, shape, DEPTH - levels);
+    put_leaf(leaf, deep, shape, depth - levels);
     for (i = 0; i < levels; i++) {
         put_after(ands);
     }
@@ -179,6 +179,7 @@ static void make_call(void)
     case EXCHANGE: answer = spatialjoin_exchange(plan, sizeof plan, n, scratch, sizeof scratch); break;
     case LOGICAL: answer = spatialjoin_logical(frame, frame_len); break;
     case PRINT: answer = spatialjoin_print(frame, frame_len, text, sizeof text); break;
+    case MERGE: answer = spatialjoin_merge(frame, frame_len, plan, sizeof plan, n, scratch, sizeof scratch); break;
     case CALLS: break;
     }
 }
@@ -220,6 +221,23 @@ static void measure_frame(void)
     }
 }
 
+/* The And of a merge is a level itself, so both filters have one less. With sixteen children to a node there is no room for two that
+ * deep; so each is also merged with a filter of one node, on either side. */
+static void measure_merges(void)
+{
+    static const uint8_t small[] = {1, 0, 0, 4, 0, 0, 0};
+    n = (size_t)spatialjoin_load(small, sizeof small, plan, sizeof plan);
+    measure(MERGE);
+    measure(EXTRACT);
+    measure(LOAD);
+    measure(MERGE);
+    measure(EXTRACT);
+    measure(LOAD);
+    memcpy(frame, small, sizeof small);
+    frame_len = sizeof small;
+    measure(MERGE);
+}
+
 /* Every conjunct, each argument of it deep in every shape, below so many Ands. */
 static void measure_leaves(enum shape ands, int levels)
 {
@@ -227,8 +245,12 @@ static void measure_leaves(enum shape ands, int levels)
     for (leaf = 0; leaf < LEAVES; leaf++) {
         for (deep = 0; deep < 3; deep++) {
             for (shape = 0; shape < SHAPES; shape++) {
-                make_frame(ands, levels, (enum leaf)leaf, (int)deep, (enum shape)shape);
+                make_frame(DEPTH, ands, levels, (enum leaf)leaf, (int)deep, (enum shape)shape);
                 measure_frame();
+                if (!logical_frame && levels < DEPTH - 2) {
+                    make_frame(DEPTH - 1, ands, levels, (enum leaf)leaf, (int)deep, (enum shape)shape);
+                    measure_merges();
+                }
             }
         }
     }

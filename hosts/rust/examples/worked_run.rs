@@ -1,5 +1,5 @@
 //! A Rust host: the worked run's filter as text, then the run, its answers printed as the program
-//! spatialjoin prints them.
+//! spatialjoin prints them; then the filter with a row policy.
 
 use spatialjoin::{MOST_BYTES, MOST_TEXT, Refusal};
 
@@ -7,6 +7,9 @@ use spatialjoin::{MOST_BYTES, MOST_TEXT, Refusal};
 /// column 0 of the left. `hosts/c/host.c` has it byte by byte.
 const FRAME: &[u8] = b"\x01\0\x02\x01\0\x03\0\x07\0\0\0\0\x08\
     \x02\0\x03\x09st_within\x02\0\0\0\0\x07\0\0\x01\0\x08\0\0\x01\0\x08";
+
+/// `region(column 0)`, a row policy; column 0 is column 1 of the left child.
+const POLICY: &[u8] = b"\x01\0\x01\0\0\x01\0\x09\x03\x06region\x01\0\0\0\0\x09";
 
 /// The host lends both buffers and keeps `n`, the length of the plan.
 struct Host {
@@ -28,6 +31,11 @@ impl Host {
 
     fn exchange(&mut self) {
         let answer = spatialjoin::exchange(&mut self.plan, self.n, &mut self.scratch);
+        self.take(answer);
+    }
+
+    fn merge(&mut self, frame: &[u8]) {
+        let answer = spatialjoin::merge(frame, &mut self.plan, self.n, &mut self.scratch);
         self.take(answer);
     }
 
@@ -65,5 +73,10 @@ fn main() {
     host.load(FRAME);
     host.extract();
     host.exchange();
+    host.extract();
+
+    host.load(FRAME);
+    host.merge(POLICY);
+    show(&host.plan[..host.n]);
     host.extract();
 }

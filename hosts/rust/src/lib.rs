@@ -121,6 +121,23 @@ pub fn print(frame: &[u8], text: &mut [u8]) -> Result<usize, Refusal> {
     length(numbers::print(frame, text))
 }
 
+/// Joins the filter of a physical frame, a row policy for one, to the filter in the plan's first
+/// `n` bytes by And, the held one on the left, and gives the new plan's length. The frame's records
+/// follow the held ones, equal ones too, and its columns are renumbered to stay with them. The old
+/// plan is copied to the scratch's first `n` bytes.
+///
+/// # Errors
+///
+/// Refusals 1 to 12 and 16.
+pub fn merge(
+    frame: &[u8],
+    plan: &mut [u8],
+    n: usize,
+    scratch: &mut [u8],
+) -> Result<usize, Refusal> {
+    length(numbers::merge(frame, plan, n, scratch))
+}
+
 fn length(answer: i64) -> Result<usize, Refusal> {
     accepted(answer).map(|length| length as usize)
 }

@@ -30,6 +30,15 @@ mod c {
             text: *mut u8,
             text_len: usize,
         ) -> i64;
+        pub fn spatialjoin_merge(
+            frame: *const u8,
+            frame_len: usize,
+            plan: *mut u8,
+            plan_len: usize,
+            n: usize,
+            scratch: *mut u8,
+            scratch_len: usize,
+        ) -> i64;
     }
 }
 
@@ -56,4 +65,11 @@ pub fn logical(frame: &[u8]) -> i64 {
 
 pub fn print(frame: &[u8], text: &mut [u8]) -> i64 {
     unsafe { c::spatialjoin_print(frame.as_ptr(), frame.len(), text.as_mut_ptr(), text.len()) }
+}
+
+pub fn merge(frame: &[u8], plan: &mut [u8], n: usize, scratch: &mut [u8]) -> i64 {
+    let (frame, frame_len) = (frame.as_ptr(), frame.len());
+    let (plan, plan_len) = (plan.as_mut_ptr(), plan.len());
+    let (scratch, scratch_len) = (scratch.as_mut_ptr(), scratch.len());
+    unsafe { c::spatialjoin_merge(frame, frame_len, plan, plan_len, n, scratch, scratch_len) }
 }

@@ -20,7 +20,7 @@ pub enum Refusal {
     BytesAfter = 7,
     /// 8: a conjunct lacks arguments.
     TooFewArguments = 8,
-    /// 9: the plan buffer (load) or the scratch is too short.
+    /// 9: the plan buffer (load, merge) or the scratch is too short.
     TooShort = 9,
     /// 10: `n` is over the buffer's length, or its first `n` bytes are no good plan.
     NoGoodPlan = 10,
@@ -32,11 +32,13 @@ pub enum Refusal {
     NoMatch = 13,
     /// 15: the text buffer is shorter than the text. (14 is no call's, but of the program's lines.)
     TextTooShort = 15,
+    /// 16: the merged frame is over a limit.
+    MergedTooLarge = 16,
 }
 
 impl Refusal {
     /// All of them, by number.
-    pub const ALL: [Refusal; 14] = [
+    pub const ALL: [Refusal; 15] = [
         Refusal::FrameLength,
         Refusal::FirstByte,
         Refusal::FrameEnds,
@@ -51,9 +53,10 @@ impl Refusal {
         Refusal::AlreadyExtracted,
         Refusal::NoMatch,
         Refusal::TextTooShort,
+        Refusal::MergedTooLarge,
     ];
 
-    /// 1 to 13, or 15.
+    /// 1 to 13, 15 or 16.
     pub fn number(self) -> u8 {
         self as u8
     }
@@ -79,6 +82,7 @@ impl Refusal {
             Refusal::AlreadyExtracted => "plan already extracted",
             Refusal::NoMatch => "no conjunct matches",
             Refusal::TextTooShort => "text buffer shorter than the text",
+            Refusal::MergedTooLarge => "merged frame over a limit",
         }
     }
 }
