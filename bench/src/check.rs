@@ -1,12 +1,13 @@
-//! Before anything is timed: ours, the original and the reading give the same bytes; of print, which
-//! the original has not, plain Rust in its place.
+//! Before anything is timed: ours, the original and the reading give the same bytes; of print and
+//! merge, which the original has not, plain Rust in its place.
 
 use reading::calls;
 use reading::frame::MAX_BYTES;
+use reading::refusal::Refusal;
 use spatialjoin::MOST_TEXT;
 
 use crate::operations::{
-    Logical, Physical, exchange_extraction_bytes, exchange_frame_bytes, extract_from_bytes,
+    Logical, Merges, Physical, exchange_extraction_bytes, exchange_frame_bytes, extract_from_bytes,
 };
 use crate::ours::{self, Console, Ours};
 use crate::plain;
@@ -78,6 +79,74 @@ pub fn print(physical: &Physical) -> Result<(), String> {
         }
     }
     Ok(())
+}
+
+/// A merge by plain Rust and by the reading, on the same buffers: both leave the same.
+fn merged_alike(frame: &[u8], plan: &[u8], n: usize, scratch: usize) -> bool {
+    let mut plain = (plan.to_vec(), vec![0; scratch]);
+    let mut read = plain.clone();
+    let answer = plain::merge(frame, &mut plain.0, n, &mut plain.1);
+    let expected = calls::merge(frame, &mut { n }, &mut read.0, &mut read.1);
+    answer == expected.map_err(Refusal::number) && plain == read
+}
+
+/// Accepted, and refused by the frame, the plan or the room.
+fn plain_merge(held: &[u8], new: &[u8], extraction: &[u8]) -> bool {
+    let (n, merged) = (held.len(), held.len() + new.len() - 1);
+    let lent = |bytes: &[u8], room: usize| {
+        let mut plan = bytes.to_vec();
+        plan.resize(room, 0);
+        plan
+    };
+    let plan = lent(held, MAX_BYTES);
+    let taken = lent(extraction, MAX_BYTES);
+    let full = lent(&read_merged(held, new), MAX_BYTES);
+    [
+        merged_alike(new, &plan, n, MAX_BYTES),
+        merged_alike(new, &lent(held, merged), n, n),
+        merged_alike(new, &lent(held, merged - 1), n, n),
+        merged_alike(new, &plan, n, n - 1),
+        merged_alike(new, &plan, n - 1, n),
+        merged_alike(new, &plan, 0, n),
+        merged_alike(new, held, n + 1, n),
+        merged_alike(&new[..new.len() - 1], &plan, n, n),
+        merged_alike(&lent(new, new.len() + 1), &plan, n, n),
+        merged_alike(new, &taken, extraction.len(), 0),
+        merged_alike(new, &taken, extraction.len() - 1, 0),
+        merged_alike(new, &full, merged, 0),
+    ]
+    .into_iter()
+    .all(|alike| alike)
+}
+
+/// Ours and plain Rust's, whose refusals are tried too: ours are `oracle/compare-library`'s to try.
+pub fn merge(merges: &Merges) -> Result<(), String> {
+    let name = merges.pairs.name;
+    for (held, new) in merges.pairs.held.iter().zip(&merges.pairs.new) {
+        if !plain_merge(held, new, &read(held, &["extract"])) {
+            return Err(format!("{name}: plain Rust differs from the reading"));
+        }
+        let mut ours = Ours::new();
+        ours.load(held);
+        ours.merge(new);
+        if ours.plan() != read_merged(held, new) {
+            return Err(format!("{name}: ours differs from the reading"));
+        }
+        ours.load(held);
+        ours.merge_and_return(new);
+        if ours.plan() != held {
+            return Err(format!("{name}: the held frame is not in the scratch"));
+        }
+    }
+    Ok(())
+}
+
+fn read_merged(held: &[u8], new: &[u8]) -> Vec<u8> {
+    let (mut n, mut plan, mut scratch) = (0, vec![0; MAX_BYTES], vec![0; MAX_BYTES]);
+    calls::load(held, &mut n, &mut plan).expect("the frames are good");
+    calls::merge(new, &mut n, &mut plan, &mut scratch).expect("the frames are within the limits");
+    plan.truncate(n);
+    plan
 }
 
 pub fn logical(logical: &Logical) -> Result<(), String> {

@@ -24,6 +24,15 @@ const SIZES: [(&str, usize); 5] = [
     (SIXTEEN_KIB, 16_384),
 ];
 
+/// The lengths of merged frames: the shortest pair with a match in both is longer than 64 bytes.
+const MERGED_SIZES: [(&str, usize); 5] = [
+    ("128 bytes", 128),
+    ("256 bytes", 256),
+    (ONE_KIB, 1_024),
+    ("4,096 bytes", 4_096),
+    (SIXTEEN_KIB, 16_384),
+];
+
 /// Frames of one size differ in the order of their conjuncts and the place of the match.
 const VARIANTS: usize = 8;
 
@@ -53,6 +62,45 @@ pub fn physical() -> Vec<Group> {
 /// For print alone.
 pub fn texts() -> Vec<Group> {
     vec![single("longest text", longest_text())]
+}
+
+/// Frames to merge: one that is held and a new one.
+pub struct Pairs {
+    pub name: &'static str,
+    pub held: Vec<Vec<u8>>,
+    pub new: Vec<Vec<u8>>,
+}
+
+fn pairs(name: &'static str, make: impl Fn(usize) -> (Vec<u8>, Vec<u8>)) -> Pairs {
+    let (held, new) = (0..VARIANTS).map(make).unzip();
+    Pairs { name, held, new }
+}
+
+/// Two halves of each size, and a filter and a policy of unlike lengths.
+pub fn merges() -> Vec<Pairs> {
+    const POLICY: usize = 64;
+    let long = |merged: usize, variant| sized(merged + 1 - POLICY, variant);
+    let halves = MERGED_SIZES.map(|(name, size)| {
+        pairs(name, move |variant| {
+            (sized(size / 2, variant), sized(size / 2 + 1, variant))
+        })
+    });
+    let mut groups = Vec::from(halves);
+    groups.push(pairs("short policy, long filter", |variant| {
+        (long(16_384, variant), sized(POLICY, variant))
+    }));
+    groups.push(pairs("long policy, short filter", |variant| {
+        (sized(POLICY, variant), long(16_384, variant))
+    }));
+    groups.push(pairs("256 records", |variant| {
+        let half = || records_and_nodes(MAX_RECORDS / 2, 40, variant);
+        (half(), half())
+    }));
+    groups.push(pairs("1,024 nodes", |variant| {
+        let half = |nodes| records_and_nodes(16, nodes, variant);
+        (half(MAX_NODES / 2 - 1), half(MAX_NODES / 2))
+    }));
+    groups
 }
 
 pub fn logical() -> Vec<Group> {
@@ -114,8 +162,13 @@ fn many_records(variant: usize) -> Vec<u8> {
 
 /// As many nodes as there may be, the match's three among them.
 fn many_nodes(variant: usize) -> Vec<u8> {
-    let others = conjuncts_of_nodes(MAX_NODES - 3, variant, &|number| column(number % 16));
-    physical_frame(records(16), with_match(others, matching(), variant))
+    records_and_nodes(16, MAX_NODES, variant)
+}
+
+/// So many records and nodes, the match's three among these.
+fn records_and_nodes(count: usize, nodes: usize, variant: usize) -> Vec<u8> {
+    let others = conjuncts_of_nodes(nodes - 3, variant, &|number| column(number % count));
+    physical_frame(records(count), with_match(others, matching(), variant))
 }
 
 /// KNN calls that do not match, each of which makes the original build a map of all left columns;

@@ -16,7 +16,7 @@ use std::process::ExitCode;
 
 use frames::Group;
 use measure::{Row, Task, measure};
-use operations::{Logical, Physical};
+use operations::{Logical, Merges, Physical};
 use ours::{Console, Ours};
 use table::{Column, ORIGINAL, Table, YARDSTICK};
 
@@ -58,20 +58,27 @@ fn asked(words: &[String]) -> Option<Asked> {
     }
 }
 
-/// Ours loads, extracts and prints the frames of a group over and over, for a program that counts
-/// instructions.
-fn repeat(group: &str) -> Result<(), String> {
-    let groups = frames::physical();
-    let Some(group) = groups.iter().find(|known| known.name == group) else {
-        return Err(format!("no group {group}"));
-    };
-    let (mut ours, mut console) = (Ours::new(), Console::new());
-    for frame in group.frames.iter().cycle().take(800) {
-        ours.load(frame);
+/// Ours loads, extracts and prints the frames of a group over and over, and merges the pairs of
+/// that name, for a program that counts instructions.
+fn repeat(name: &str) -> Result<(), String> {
+    let groups = frames::physical().into_iter().filter(|g| g.name == name);
+    let pairs = frames::merges().into_iter().filter(|p| p.name == name);
+    let (mut ours, mut console, mut done) = (Ours::new(), Console::new(), 0);
+    for frame in groups.flat_map(|group| group.frames.into_iter().cycle().take(800)) {
+        ours.load(&frame);
         ours.extract();
-        console.print(frame);
+        console.print(&frame);
+        done += 1;
     }
-    Ok(())
+    for (held, new) in pairs.flat_map(|p| p.held.into_iter().zip(p.new).cycle().take(800)) {
+        ours.load(&held);
+        ours.merge(&new);
+        done += 1;
+    }
+    match done {
+        0 => Err(format!("no group {name}")),
+        _ => Ok(()),
+    }
 }
 
 fn run(rounds: usize) -> Result<(), String> {
@@ -82,10 +89,24 @@ fn run(rounds: usize) -> Result<(), String> {
     let printed = || physical.iter().chain(&texts);
     printed().try_for_each(check::physical)?;
     printed().try_for_each(check::print)?;
+    let merges: Vec<Merges> = frames::merges().into_iter().map(Merges::new).collect();
+    merges.iter().try_for_each(check::merge)?;
     logical.iter().try_for_each(check::logical)?;
 
+    print_tables(&physical, &texts, &logical, &merges, rounds);
+    Ok(())
+}
+
+fn print_tables(
+    physical: &[Physical],
+    texts: &[Physical],
+    logical: &[Logical],
+    merges: &[Merges],
+    rounds: usize,
+) {
     println!("Nanoseconds a frame: median, ± half the distance between the quartiles.\n");
     let timed = |title, tasks| shown(title, ORIGINAL, measure(tasks, rounds));
+    let ours_alone = |title, tasks| shown(title, YARDSTICK, measure(tasks, rounds));
     let each = |task: fn(&Physical) -> Task<'_>| physical.iter().map(task).collect();
     let tables = [
         timed("Load", each(Physical::load)),
@@ -97,16 +118,18 @@ fn run(rounds: usize) -> Result<(), String> {
             each(Physical::exchange_extraction),
         ),
         timed("Logical", logical.iter().map(Logical::logical).collect()),
-        shown(
+        ours_alone(
             "Print (the original has no such call)",
-            YARDSTICK,
-            measure(printed().map(Physical::print).collect(), rounds),
+            physical.iter().chain(texts).map(Physical::print).collect(),
+        ),
+        ours_alone(
+            "Merge, a frame held (the original has no such call)",
+            merges.iter().map(Merges::merge).collect(),
         ),
     ];
     table::print_growth(&tables);
-    let [load, load_and_extract, .., print] = &tables;
-    table::print_goals(load, load_and_extract, print);
-    Ok(())
+    let [load, load_and_extract, .., print, merge] = &tables;
+    table::print_goals(load, load_and_extract, [print, merge]);
 }
 
 /// Prints a table as soon as it is measured.

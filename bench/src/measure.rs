@@ -15,9 +15,9 @@ pub enum Contender {
     RustFromBytes,
     RustCall,
     RustAnswer,
-    /// Of print, which the original has not.
+    /// Of print and merge, which the original has not.
     PlainRust,
-    /// Ours, beside our print.
+    /// Ours, beside our print or merge.
     Load,
     Copy,
 }

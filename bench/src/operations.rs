@@ -6,11 +6,12 @@ use datafusion_physical_plan::joins::utils::JoinFilter;
 use driver::answer::put_filter;
 use driver::host::{LogicalJoin, logical_join};
 use driver::original::{Extracted, exchange_filter, names_and_side};
-use reading::decode;
 use reading::frame::MAX_BYTES;
+use reading::merge::merged;
+use reading::{decode, encode};
 use spatialjoin::MOST_TEXT;
 
-use crate::frames::Group;
+use crate::frames::{Group, Pairs};
 use crate::measure::{Contender, Task, Work, Works};
 use crate::original::{self, Functions};
 use crate::ours::{self, Console, Ours};
@@ -40,10 +41,10 @@ fn copy(frames: &[Vec<u8>]) -> Work<'_> {
 }
 
 /// What is done with a group, on its frames or on plans made of them.
-fn task<'a>(group: &Group, bytes: &[Vec<u8>], works: Works<'a>) -> Task<'a> {
+fn task<'a>(name: &'static str, bytes: &[Vec<u8>], works: Works<'a>) -> Task<'a> {
     let total: usize = bytes.iter().map(Vec::len).sum();
     Task {
-        name: group.name,
+        name,
         bytes: total as f64 / bytes.len() as f64,
         works,
     }
@@ -115,7 +116,7 @@ impl Physical {
             (Contender::RustFromBytes, from_bytes),
             (Contender::Copy, copy(frames)),
         ];
-        task(&self.group, &self.group.frames, works)
+        task(self.group.name, &self.group.frames, works)
     }
 
     /// From the same bytes: our print, plain Rust's and, to compare, our load.
@@ -139,7 +140,7 @@ impl Physical {
             (Contender::Load, load),
             (Contender::Copy, copy(frames)),
         ];
-        task(&self.group, frames, works)
+        task(self.group.name, frames, works)
     }
 
     pub fn load_and_extract(&self) -> Task<'_> {
@@ -217,7 +218,7 @@ impl Physical {
         ];
         let mut works: Works<'a> = contenders.into_iter().zip(works).collect();
         works.push((Contender::Copy, copy(bytes)));
-        task(&self.group, bytes, works)
+        task(self.group.name, bytes, works)
     }
 }
 
@@ -236,6 +237,71 @@ pub fn exchange_extraction_bytes(plan: &[u8], functions: &Functions, out: &mut V
     let mut extracted = original::extraction(plan, functions).expect("the plans are good");
     extracted.exchange();
     extracted.put(out);
+}
+
+/// Pairs of frames, and what becomes of them.
+pub struct Merges {
+    pub pairs: Pairs,
+    merged: Vec<Vec<u8>>,
+}
+
+impl Merges {
+    pub fn new(pairs: Pairs) -> Self {
+        let merge = |(held, new): (&Vec<u8>, &Vec<u8>)| {
+            let decode = |frame: &[u8]| decode::physical(frame).expect("the frames are good");
+            encode::physical(&merged(&decode(held), &decode(new)))
+        };
+        Merges {
+            merged: pairs.held.iter().zip(&pairs.new).map(merge).collect(),
+            pairs,
+        }
+    }
+
+    /// Our merge and plain Rust's, a frame held, and, to compare, our load of the merged frame.
+    pub fn merge(&self) -> Task<'_> {
+        let (frames, merged) = (&self.pairs.new, &self.merged);
+        let mut held = self.held();
+        let ours = in_turn(frames.len(), move |i| {
+            held[i].merge_and_return(black_box(&frames[i]));
+            black_box(&mut held);
+        });
+        let mut held = self.plans();
+        let plain = in_turn(frames.len(), move |i| {
+            let (n, plan, scratch) = &mut held[i];
+            let _ = black_box(plain::merge(black_box(&frames[i]), plan, *n, scratch));
+            std::mem::swap(plan, scratch);
+            black_box(&mut held);
+        });
+        let mut loading = Ours::new();
+        let load = in_turn(frames.len(), move |i| loading.load(black_box(&merged[i])));
+        let works = vec![
+            (Contender::Ours, ours),
+            (Contender::PlainRust, plain),
+            (Contender::Load, load),
+            (Contender::Copy, copy(merged)),
+        ];
+        task(self.pairs.name, merged, works)
+    }
+
+    /// Buffers of ours that hold each frame.
+    fn held(&self) -> Vec<Ours> {
+        let held = |frame: &Vec<u8>| {
+            let mut ours = Ours::new();
+            ours.load(frame);
+            ours
+        };
+        self.pairs.held.iter().map(held).collect()
+    }
+
+    /// The same for plain Rust: n, plan and scratch.
+    fn plans(&self) -> Vec<(usize, Vec<u8>, Vec<u8>)> {
+        let held = |frame: &Vec<u8>| {
+            let mut plan = frame.clone();
+            plan.resize(MAX_BYTES, 0);
+            (frame.len(), plan, vec![0; MAX_BYTES])
+        };
+        self.pairs.held.iter().map(held).collect()
+    }
 }
 
 /// A group of logical frames. A host has its children's schemas before any filter comes.
@@ -281,6 +347,6 @@ impl Logical {
             (Contender::RustCall, call),
             (Contender::Copy, copy(frames)),
         ];
-        task(&self.group, &self.group.frames, works)
+        task(self.group.name, &self.group.frames, works)
     }
 }

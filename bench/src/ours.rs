@@ -36,6 +36,17 @@ impl Ours {
         std::mem::swap(&mut self.plan, &mut self.scratch);
     }
 
+    pub fn merge(&mut self, frame: &[u8]) {
+        let answer = numbers::merge(frame, &mut self.plan, self.n, &mut self.scratch);
+        self.keep(answer);
+    }
+
+    /// Likewise.
+    pub fn merge_and_return(&mut self, frame: &[u8]) {
+        numbers::merge(frame, &mut self.plan, self.n, &mut self.scratch);
+        std::mem::swap(&mut self.plan, &mut self.scratch);
+    }
+
     pub fn exchange(&mut self) {
         let answer = numbers::exchange(&mut self.plan, self.n, &mut self.scratch);
         self.keep(answer);

@@ -202,12 +202,12 @@ pub fn print_growth(tables: &[Table]) {
 }
 
 /// The goals beside what was measured. Nothing is tested: the times are this machine's.
-pub fn print_goals(load: &Table, load_and_extract: &Table, print: &Table) {
+pub fn print_goals(load: &Table, load_and_extract: &Table, others: [&Table; 2]) {
     println!("## Goals\n");
     println!("| goal | measured | reached |");
     println!("|---|---|---|");
     print_speeds(load_and_extract);
-    for table in [load, load_and_extract, print] {
+    for table in [load, load_and_extract].into_iter().chain(others) {
         let growth = table.growth(Contender::Ours).unwrap_or(f64::NAN);
         let title = table.title;
         let goal = format!("{title}: a byte of 16,384 costs at most 1.3 times one of 1,024");
