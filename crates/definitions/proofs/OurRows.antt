@@ -11,6 +11,7 @@ further-rows-hold = record {
   knn-exchanged = refl;
   exchange-kept = refl;
   own-matcher = refl;
+  indexes-held = refl;
   and-false = refl;
   and-true = refl;
   and-unknown = refl;

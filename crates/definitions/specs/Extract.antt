@@ -87,6 +87,10 @@ prune records e = record {
   expr = mapColumns (newIndex (referenced records e) records) e;
 }
 
+-- Request 3: whether an index is held, that is, whether a column node of the expression has it.
+unfoldable pub holds : Expr → (index : ℕ) → Bool
+holds e index = any (λ c. eqb c index) (columnsOf e)
+
 -- ---- the extraction
 
 -- The extraction that takes a pick.

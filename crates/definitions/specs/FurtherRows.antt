@@ -1,12 +1,14 @@
--- Rows of ours beside 01's ten: which of two matches is taken, what stays, what a refusal keeps, And.
+-- Rows of ours beside 01's ten: which of two matches is taken, what stays, what a refusal keeps, held indexes, And.
 use Prim.Native.Nat.{ℕ}
 use mathlib.Core.Path.{_≡_}
+use mathlib.Core.Bool.{true, false}
 use mathlib.Core.List.{List, [], _∷_, map}
 use mathlib.Core.Option.{none}
 use lib.ListN.{length, replicate}
 use Rattle.definitions.specs.Basics.{refused, ascii}
-use Rattle.definitions.specs.Expression.{left, right, within, and, call, relation, knn}
+use Rattle.definitions.specs.Expression.{left, right, within, column, and, call, nil, cons, relation, knn}
 use Rattle.definitions.specs.Encode.{frameBytes}
+use Rattle.definitions.specs.Extract.{holds}
 use Rattle.definitions.specs.Calls.{exchange, extractBy}
 use Rattle.definitions.specs.Meaning.{andValue}
 use Rattle.definitions.specs.TenRows.{planOrRefusal, extractAfter, exchangeAfter, extractOf, workedFrame, L, R, onBoth, childL, childR, two, knnOf, int32, alone, withRest}
@@ -29,6 +31,9 @@ pub record FurtherRows : Type 0 where
       ≡ record { answer = refused 9; n = length worked; buffer = worked; scratch = replicate 3 0xee }
   -- extract goes by the matcher that it is given: none matches here
   pub own-matcher : extractBy (λ records e. none) (length worked) worked (replicate 64 0) .answer ≡ refused 13
+  -- indexes 3 and 5 are held, of a column at the top and of one inside a call; the tags 1 and 2 are not, nor is what lies between
+  pub indexes-held : map (holds (and (column 3 1) (call (ascii "f") (cons (column 5 2) nil)))) (1 ∷ 2 ∷ 3 ∷ 4 ∷ 5 ∷ [])
+      ≡ false ∷ false ∷ true ∷ false ∷ true ∷ []
   -- And of false, true and unknown with each
   pub and-false : map (andValue 0) (0 ∷ 1 ∷ 2 ∷ []) ≡ 0 ∷ 0 ∷ 0 ∷ []
   pub and-true : map (andValue 1) (0 ∷ 1 ∷ 2 ∷ []) ≡ 0 ∷ 1 ∷ 2 ∷ []

@@ -48,3 +48,4 @@ pub mod PrintClaims
 pub mod PrintRows
 pub mod MergeClaims
 pub mod MergeRows
+pub mod PruningClaims

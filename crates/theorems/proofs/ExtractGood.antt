@@ -65,12 +65,12 @@ same-side-refl noSide = refl
 same-number : (n : ℕ) → eqb n n ≡ true
 same-number n = eq-eqb n n refl
 
-same-column-refl : (r : Record) → sameColumn r r ≡ true
+pub same-column-refl : (r : Record) → sameColumn r r ≡ true
 unfolding sameColumn
 same-column-refl r = simp (same-side-refl, same-number)
 
 -- Each element of a list is found in it, by a test that every element passes with itself.
-found : (g : ℕ → ℕ → Bool) → ((i : ℕ) → g i i ≡ true) → (xs ys : List ℕ)
+pub found : (g : ℕ → ℕ → Bool) → ((i : ℕ) → g i i ≡ true) → (xs ys : List ℕ)
     → ((i : ℕ) → any (λ j. g j i) xs ≡ true → any (λ j. g j i) ys ≡ true) → All (λ i. any (λ j. g j i) ys ≡ true) xs
 unfolding any
 found g same [] ys up = tt

@@ -40,4 +40,5 @@ pub mod Moved
 pub mod Merged
 pub mod MergeCall
 pub mod Histories
+pub mod Pruned
 pub mod Proved

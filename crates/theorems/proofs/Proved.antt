@@ -22,6 +22,7 @@ use Rattle.definitions.specs.PrintRows.{PrintRows}
 use Rattle.definitions.specs.Merge.{mergeFrames}
 use Rattle.definitions.specs.MergeClaims.{MergedGood, MergedValue, MergedLeaves, MergeAccepted, MergeWrites, MergeKeeps, MergeHolds, ListAfterMerge, ValueAfterMerge, HistoryOfCalls, AnyMatcherMerges}
 use Rattle.definitions.specs.MergeRows.{MergeRows}
+use Rattle.definitions.specs.PruningClaims.{KeptByHeldIndexes}
 use Rattle.theorems.proofs.Exchange.{plan-twice}
 use Rattle.theorems.proofs.ExtractExchange.{exchanged-by}
 use Rattle.theorems.proofs.RoundTripPlan.{expr-reads, plan-reads}
@@ -54,6 +55,7 @@ use Rattle.theorems.proofs.Merged.{merged-good, merged-value, merged-le
 use Rattle.theorems.proofs.MergeCall.{merge-accepts, merge-wrote, merge-keeps-all, merge-held, list-after}
 use Rattle.theorems.proofs.Histories.{history-of}
 use Rattle.definitions.proofs.FilterRows.{merge-rows-hold}
+use Rattle.theorems.proofs.Pruned.{kept-by-held}
 
 -- ---- with every lawful matcher
 
@@ -301,3 +303,6 @@ value-after-merge M fair v old new s g h k calls =
 
 pub merge-rows : MergeRows
 merge-rows = merge-rows-hold
+
+pub kept-by-held-indexes : KeptByHeldIndexes
+kept-by-held-indexes = kept-by-held
