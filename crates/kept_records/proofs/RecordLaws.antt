@@ -3,27 +3,30 @@ use Prim.Native.Nat.{ℕ, _+_, _*_, _≤_, _<_}
 use native.Mathlib.Omega.{arith}
 use native.Mathlib.Numerals.{add-one}
 use mathlib.Core.Path.{_≡_, refl, sym, ap, ap₂, _∙_, subst}
-use mathlib.Core.Bool.{Bool, true, false, _&&_, _||_, false≢true, or-true}
+use mathlib.Core.Bool.{Bool, true, false, _&&_, _||_}
 use mathlib.Core.List.{List, [], _∷_, _++_, append-assoc, append-nil}
-use lib.ListN.{length, getD, take, drop, set, length-append, length-take, length-set, take-append-drop}
+use lib.ListN.{length, getD, take, drop, set, length-append, length-set, take-append-drop}
 use lib.Seq.{take-suc, take-all}
 use lib.Dec.{eqb}
 use borrow.Author.Tests.{eqb-true, eq-eqb, ne-eqb}
-use Rattle.definitions.specs.Basics.{if_then_else_, bigEndian, any, keep}
+use Rattle.definitions.specs.Basics.{if_then_else_, any, keep}
 use Rattle.definitions.specs.Expression.{Side, left, right, noSide, Record}
 use Rattle.definitions.specs.Encode.{sideNumber, recordBytes, recordsBytes}
 use Rattle.definitions.specs.Match.{recordAt, sameSide}
 use Rattle.definitions.specs.Extract.{sameColumn, newIndex}
 use Rattle.definitions.specs.Good.{All}
 use Rattle.theorems.proofs.ExchangeGood.{records-length}
+use Rattle.theorems.proofs.ExtractGood.{same-column-refl}
+use Rattle.theorems.proofs.Pruned.{any-found}
 use Rattle.expression.specs.Places.{shortAt}
 use Rattle.expression.proofs.Placed as placed
 use Rattle.writing.specs.Written.{WroteAt}
 use Rattle.plan_writer.specs.Predicates.{frameHead}
-use Rattle.argument_writer.specs.Tables.{Entry, OfRecords, Table}
+use Rattle.argument_writer.specs.Tables.{Entry, Table}
+use Rattle.kept_records.specs.Keys.{keyAt, AmongIs, KeyRow}
 use Rattle.kept_records.specs.Records.{stays, MarkedBy, OfMarked, Referenced, OneFits, OneKept, keptAll, RecordsKept, RecordsPut, AllFit, AllKept}
 use Rattle.theorems.proofs.ExchangeGood.{record-length}
-use Rattle.writing.proofs.Written.{behind, together, chain, copied-wrote, part-wrote, nothing-wrote, behind-length, to-start, store, under}
+use Rattle.writing.proofs.Written.{behind, together, chain, copied-wrote, part-wrote, nothing-wrote, behind-length, to-start, under}
 use Rattle.writing.proofs.NumberLaws.{number-length}
 use Rattle.argument_writer.proofs.TableLaws.{entry-of, entry-child, table-none, table-more, table-whole}
 
@@ -51,50 +54,57 @@ unfolding sameColumn
 same-by-bytes {s} {a} {b} {x} {y} h k =
     ap₂ _&&_ (same-side (x .side) (y .side) ∙ sym (ap₂ eqb (side-is h) (side-is k))) (sym (ap₂ eqb (entry-child h) (entry-child k)))
 
-module _ {s : List ℕ} {a b : ℕ} {x y : Record} (h : Entry s a x) (k : Entry s b y) where
-  pub sides-differ : (getD s a 0 ≡ getD s b 0 → ⊥) → false ≡ sameColumn x y
-  sides-differ n = sym (same-by-bytes h k ∙ rw (ne-eqb (getD s a 0) (getD s b 0) n))
+and-apart : (a b c d : ℕ) → (a ≡ b → c ≡ d → ⊥) → (eqb a b && eqb c d) ≡ false
+and-apart a b c d n = by-bool (eqb a b) refl where
+  by-bool : (t : Bool) → eqb a b ≡ t → (eqb a b && eqb c d) ≡ false
+  by-bool true e = ap₂ _&&_ e (ne-eqb c d (n (eqb-true a b e)))
+  by-bool false e = ap (λ (t : Bool). t && eqb c d) e
 
-  pub sides-same : getD s a 0 ≡ getD s b 0 → (m n : ℕ) → m ≡ shortAt s (a + 1) → n ≡ shortAt s (b + 1) → eqb m n ≡ sameColumn x y
-  sides-same e m n p q = ap₂ eqb p q ∙ sym (same-by-bytes h k ∙ rw (eq-eqb (getD s a 0) (getD s b 0) e))
+module _ {s : List ℕ} {a b : ℕ} {x y : Record} (h : Entry s a x) (k : Entry s b y) where
+  keys-same : keyAt s a ≡ keyAt s b → sameColumn x y ≡ true
+  keys-same e =
+      let sides : getD s a 0 ≡ getD s b 0 = omega (arith, e, entry-child h, entry-child k, h .short, k .short) in
+      same-by-bytes h k
+      ∙ ap₂ _&&_ (eq-eqb (getD s a 0) (getD s b 0) sides)
+      (eq-eqb (shortAt s (a + 1)) (shortAt s (b + 1)) (omega (arith, e, sides)))
+
+  keys-apart : (keyAt s a ≡ keyAt s b → ⊥) → sameColumn x y ≡ false
+  keys-apart n = same-by-bytes h k ∙ and-apart (getD s a 0) (getD s b 0) (shortAt s (a + 1)) (shortAt s (b + 1)) (λ e f. n (omega (arith, e, f)))
 
 -- ---- one among the marked ones
-
-or-found : (test : ℕ → Bool) (i c : ℕ) {x y : Bool} (b : Bool) → eqb c i ≡ b → (x ≡ true → y ≡ true) → (b || x) ≡ true → test i ≡ true
-    → (test c || y) ≡ true
-or-found test i c {x} {y} true same up e f = ap (λ (b : Bool). b || y) (ap test (eqb-true c i same) ∙ f)
-or-found test i c {x} {y} false same up e f = ap (λ (b : Bool). test c || b) (up e) ∙ or-true (test c)
-
-any-found : (test : ℕ → Bool) (i : ℕ) (cs : List ℕ) → any (λ c. eqb c i) cs ≡ true → test i ≡ true → any test cs ≡ true
-unfolding any
-any-found test i [] e f = absurd (false≢true e)
-any-found test i (c ∷ cs) e f = or-found test i c (eqb c i) refl (λ k. any-found test i cs k f) e f
 
 any-none : (test : ℕ → Bool) (P : ℕ → Type 0) → ((c : ℕ) → P c → test c ≡ false) → (cs : List ℕ) → All P cs → any test cs ≡ false
 unfolding any
 any-none test P f [] h = refl
 any-none test P f (c ∷ cs) h = ap₂ _||_ (f c (h .0)) (any-none test P f cs (h .1))
 
--- The record k is not that of a marked column, or not equal to j.
-abbrev pub Apart : (s : List ℕ) (rec count : ℕ) (flags : List ℕ) (j k : ℕ) → Type 0
-Apart s rec count flags j k =
-    getD flags k 0 ≡ 1 → OfRecords s rec count (λ records. sameColumn (recordAt records k) (recordAt records j) ≡ false)
-
-abbrev pub Passed : (s : List ℕ) (rec count : ℕ) (flags : List ℕ) (j i : ℕ) → Type 0
-Passed s rec count flags j i = (k : ℕ) → k < i → Apart s rec count flags j k
-
 module _ {s : List ℕ} {rec count : ℕ} {flags : List ℕ} {records : List Record} {columns : List ℕ}
-    (m : MarkedBy s rec count flags records columns) (j : ℕ) where
-  pub referenced-here : (i : ℕ) → i < count → getD flags i 0 ≡ 1 → sameColumn (recordAt records i) (recordAt records j) ≡ true
-      → true ≡ stays records columns (recordAt records j)
-  referenced-here i b e same =
-      sym (any-found (λ index. sameColumn (recordAt records index) (recordAt records j)) i columns (m .flagged .only i b e) same)
+    (m : MarkedBy s rec count flags records columns) (j : ℕ) (below : j < count) where
+  test : ℕ → Bool
+  test index = sameColumn (recordAt records index) (recordAt records j)
 
-  pub referenced-none : {i : ℕ} → i ≡ count → Passed s rec count flags j i → false ≡ stays records columns (recordAt records j)
-  referenced-none {i} e passed =
-      sym (any-none (λ index. sameColumn (recordAt records index) (recordAt records j))
-      (λ index. (index < count) × (getD flags index 0 ≡ 1))
-      (λ k h. passed k (omega (arith, h .0)) (h .1) records (m .entries)) columns (m .flagged .held))
+  referenced-here : (i : ℕ) → i < count → getD flags i 0 ≡ 1 → test i ≡ true → true ≡ stays records columns (recordAt records j)
+  unfolding test
+  referenced-here i b e same = sym (any-found test i columns (m .flagged .only i b e) same)
+
+  -- Its own column is marked.
+  pub marked-stays : getD flags j 0 ≡ 1 → true ≡ stays records columns (recordAt records j)
+  unfolding test
+  marked-stays e = referenced-here j below e (same-column-refl (recordAt records j))
+
+  -- Its key is among theirs, or not.
+  pub among-stays : {keys : List ℕ} {n : ℕ} → KeyRow s rec count flags keys n → (answer : Bool)
+      → AmongIs keys n (keyAt s (rec + 5 * j)) answer
+      → answer ≡ stays records columns (recordAt records j)
+  unfolding test
+  among-stays row true found =
+      let one = row .each (found .0) (found .1) in
+      referenced-here (one .index) (one .below) (one .marked)
+      (keys-same (entry-of (m .entries) (one .index) (one .below)) (entry-of (m .entries) j below) (sym (one .same) ∙ found .2))
+  among-stays row false none = sym (any-none test (λ index. (index < count) × (getD flags index 0 ≡ 1))
+      (λ index h. let one = row .all index (h .0) (h .1) in
+      keys-apart (entry-of (m .entries) index (h .0)) (entry-of (m .entries) j below) (λ e. none (one .0) (one .1) (one .2 ∙ e)))
+      columns (m .flagged .held))
 
 -- ---- all that stay, in order
 

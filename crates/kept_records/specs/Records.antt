@@ -12,11 +12,7 @@ use Rattle.definitions.specs.Match.{recordAt}
 use Rattle.definitions.specs.Extract.{sameColumn, newIndex}
 use Rattle.definitions.specs.Good.{All}
 use Rattle.writing.specs.Written.{WroteAt}
-use Rattle.argument_writer.specs.Tables.{Entry, Entries, Table}
-
--- Whether the records at two places are equal in side and child index.
-abbrev pub SameColumn : (s : List ℕ) (a b : ℕ) → Bool → Type 0
-SameColumn s a b answer = (x y : Record) → Entry s a x → Entry s b y → answer ≡ sameColumn x y
+use Rattle.argument_writer.specs.Tables.{Entries, Table}
 
 -- A record stays if it equals, in side and child index, one of these columns.
 abbrev pub stays : List Record → (columns : List ℕ) → Record → Bool
@@ -65,6 +61,12 @@ pub record AllFit (s : List ℕ) (rec count : ℕ) (flags : List ℕ) (extra : �
   pub is : MarkedBy s rec count flags records columns
   pub few : count ≤ 256
   pub room : extra + length (recordsBytes (keptAll records columns)) ≤ length out
+
+-- There is a flag, a new index and a key for each of so many columns.
+pub record RowsFit (count : ℕ) (flags to keys : List ℕ) : Type 0 where
+  pub flagged : count ≤ length flags
+  pub numbered : count ≤ length to
+  pub keyed : count ≤ length keys
 
 -- Their bytes x were written, and each column's new index is in the table.
 pub record AllKept (x before after to : List ℕ) (count : ℕ) (records : List Record) (columns : List ℕ) (r : ℕ) : Type 0 where

@@ -1,39 +1,75 @@
-// The records of the columns that stay, and the columns' new indexes.
+// The records of the columns that stay, and the columns' new indexes. A record whose own column is marked stays at once; any other is
+// looked for by its key, which is in a row with those of all marked records.
+ghost use mathlib.Core.Path.{_≡_};
 ghost use Prim.Native.Nat.{_+_, _≤_, _<_};
 ghost use lib.ListN.{length};
 ghost use Rattle.argument_writer.specs.Tables.{Recorded};
-ghost use Rattle.kept_records.specs.Records.{SameColumn, Referenced, OneFits, OneKept, AllFit, RecordsKept, RecordsPut};
+ghost use Rattle.kept_records.specs.Keys.{keyAt, KeyRow, AmongIs};
+ghost use Rattle.kept_records.specs.Records.{Referenced, OneFits, OneKept, AllFit, RowsFit, RecordsKept, RecordsPut};
 use expression::fields::short_at;
 use plan_writer::frame_heads::put_frame_head;
 use writing::copies::copy_bytes;
 
-// Whether the records at two places are equal in side and child index.
-fn same_column(src: &[u8], a: usize, b: usize) -> bool
-    requires { ⌜ (a + 5 ≤ length (now src)) × (b + 5 ≤ length (now src)) ⌝ }
-    ensures { λ r. ⌜ SameColumn (now (src .entry)) a b r ⌝ }
+// The side and child index of the record at a place, as one number.
+fn column_key(src: &[u8], at: usize) -> u32
+    requires { ⌜ at + 3 ≤ length (now src) ⌝ }
+    ensures { λ r. ⌜ r ≡ keyAt (now (src .entry)) at ⌝ }
 {
-    if src[a] != src[b] {
-        return false;
-    }
-    short_at(src, a + 1) == short_at(src, b + 1)
+    src[at] as u32 * 65536 + short_at(src, at + 1) as u32
 }
 
-// Whether the record j is so equal to that of a marked column.
-fn is_referenced(src: &[u8], rec: usize, count: usize, used: &[u8], j: usize) -> bool
+// Writes the keys of the marked columns' records in a row; answers how many there are.
+fn marked_keys(keys: &mut [u32], src: &[u8], rec: usize, count: usize, used: &[u8]) -> usize
     requires { ⌜ Recorded (now src) rec count ⌝ }
-    requires { ⌜ (count ≤ length (now used)) × (j < count) ⌝ }
-    ensures { λ r. ⌜ Referenced (now (src .entry)) rec count (now (used .entry)) j r ⌝ }
+    requires { ⌜ (count ≤ length (now used)) × (count ≤ length (now keys)) ⌝ }
+    ensures { λ r. ⌜ KeyRow (now (src .entry)) rec count (now (used .entry)) (now (keys .exit)) r ⌝ }
 {
+    let mut n: usize = 0;
     let mut i = 0;
     while i < count {
         if used[i] == 1 {
-            if same_column(src, rec + 5 * i, rec + 5 * j) {
-                return true;
-            }
+            keys[n] = column_key(src, rec + 5 * i);
+            n += 1;
         }
         i += 1;
     }
-    false
+    n
+}
+
+// Whether a key is among the first n. All are looked at, so that the compiler can compare several at once.
+fn among(keys: &[u32], n: usize, key: u32) -> bool
+    requires { ⌜ n ≤ length (now keys) ⌝ }
+    ensures { λ r. ⌜ AmongIs (now (keys .entry)) n key r ⌝ }
+{
+    let mut found = false;
+    let mut k = 0;
+    while k < n {
+        found = found | (keys[k] == key);
+        k += 1;
+    }
+    found
+}
+
+// Whether the record j is equal, in side and child index, to that of a marked column.
+fn is_referenced(
+    src: &[u8],
+    rec: usize,
+    count: usize,
+    used: &[u8],
+    keys: &[u32],
+    n: usize,
+    j: usize,
+) -> bool
+    requires { ⌜ Recorded (now src) rec count ⌝ }
+    requires { ⌜ (count ≤ length (now used)) × (j < count) ⌝ }
+    requires { ⌜ KeyRow (now src) rec count (now used) (now keys) n ⌝ }
+    ensures { λ r. ⌜ Referenced (now (src .entry)) rec count (now (used .entry)) j r ⌝ }
+{
+    if used[j] == 1 {
+        return true;
+    }
+    let key = column_key(src, rec + 5 * j);
+    among(keys, n, key)
 }
 
 // Writes the record j if it stays, after those kept before it; answers how many are kept then.
@@ -44,13 +80,16 @@ fn keep_record(
     rec: usize,
     count: usize,
     used: &[u8],
+    keys: &[u32],
+    n: usize,
     j: usize,
 ) -> usize
     requires { ⌜ OneFits (now src) rec count (now used) j kept (now out) ⌝ }
     requires { ⌜ count ≤ length (now used) ⌝ }
+    requires { ⌜ KeyRow (now src) rec count (now used) (now keys) n ⌝ }
     ensures { λ r. ⌜ OneKept (now (src .entry)) rec count (now (used .entry)) j kept (now (out .entry)) (now (out .exit)) r ⌝ }
 {
-    if is_referenced(src, rec, count, used, j) {
+    if is_referenced(src, rec, count, used, keys, n, j) {
         let w = 5 * kept;
         copy_bytes(&mut out[w..], src, rec + 5 * j, 5);
         return kept + 1;
@@ -59,16 +98,19 @@ fn keep_record(
 }
 
 // Writes the records that stay, and each column's new index; answers how many stay.
-fn keep_records(
+fn keep_each(
     out: &mut [u8],
     to: &mut [u16],
     src: &[u8],
     rec: usize,
     count: usize,
     used: &[u8],
+    keys: &[u32],
+    n: usize,
 ) -> usize
     requires { ⌜ AllFit (now src) rec count (now used) 0 (now out) ⌝ }
     requires { ⌜ (count ≤ length (now used)) × (count ≤ length (now to)) ⌝ }
+    requires { ⌜ KeyRow (now src) rec count (now used) (now keys) n ⌝ }
     ensures { λ r. ⌜ RecordsKept (now (src .entry)) rec count (now (used .entry)) (now (out .entry)) (now (out .exit))
         (now (to .exit)) r ⌝ }
 {
@@ -76,26 +118,46 @@ fn keep_records(
     let mut j = 0;
     while j < count {
         to[j] = kept as u16;
-        kept = keep_record(out, kept, src, rec, count, used, j);
+        kept = keep_record(out, kept, src, rec, count, used, keys, n, j);
         j += 1;
     }
     kept
+}
+
+// The same, once the keys of the marked records are in their row.
+fn keep_records(
+    out: &mut [u8],
+    to: &mut [u16],
+    keys: &mut [u32],
+    src: &[u8],
+    rec: usize,
+    count: usize,
+    used: &[u8],
+) -> usize
+    requires { ⌜ AllFit (now src) rec count (now used) 0 (now out) ⌝ }
+    requires { ⌜ RowsFit count (now used) (now to) (now keys) ⌝ }
+    ensures { λ r. ⌜ RecordsKept (now (src .entry)) rec count (now (used .entry)) (now (out .entry)) (now (out .exit))
+        (now (to .exit)) r ⌝ }
+{
+    let n = marked_keys(keys, src, rec, count, used);
+    keep_each(out, to, src, rec, count, used, keys, n)
 }
 
 // The same with a frame's first byte and their count before them; answers where they end.
 pub fn put_records(
     out: &mut [u8],
     to: &mut [u16],
+    keys: &mut [u32],
     src: &[u8],
     rec: usize,
     count: usize,
     used: &[u8],
 ) -> usize
     requires { ⌜ AllFit (now src) rec count (now used) 3 (now out) ⌝ }
-    requires { ⌜ (count ≤ length (now used)) × (count ≤ length (now to)) ⌝ }
+    requires { ⌜ RowsFit count (now used) (now to) (now keys) ⌝ }
     ensures { λ r. ⌜ RecordsPut (now (src .entry)) rec count (now (used .entry)) (now (out .entry)) (now (out .exit)) (now (to .exit)) r ⌝ }
 {
-    let kept = keep_records(&mut out[3..], to, src, rec, count, used);
+    let kept = keep_records(&mut out[3..], to, keys, src, rec, count, used);
     put_frame_head(out, kept);
     3 + 5 * kept
 }

@@ -251,7 +251,7 @@ module _ (cut : Cut) where
   ends-leaf : (t : Expr) (at : ℕ) → cut .leaf ≡ at → cut .end ≡ at + length (exprBytes t) → Ends cut at t
   ends-leaf t at e f = (λ k. f, ends-inside t at (λ a b. omega arith))
 
-cut-ends : (cut : Cut) {up : ℕ} {t : Expr} {at position : ℕ} → CutAt cut up t at position → Ends cut at t
+pub cut-ends : (cut : Cut) {up : ℕ} {t : Expr} {at position : ℕ} → CutAt cut up t at position → Ends cut at t
 cut-ends cut {at = at} (here {t = t} lone leaf end parent) = ends-leaf cut t at leaf end
 cut-ends cut {at = at} (inLeft {l = l} {r = r} c) =
     let s = spans {at = leftOf at} (omega arith) c in
@@ -285,6 +285,10 @@ remaining {cut} c {e} is = record {
   inRange = λ d h. subst (RestIs (InRange d)) is (rest-in-range d (cut-taken c) h);
   walked = λ j. around-rest j c ∙ ap (left-made j) is;
 }
+
+pub what-is-left : {cut : Cut} {up : ℕ} {t : Expr} {at position : ℕ} → CutAt cut up t at position → {e : Expr} → without position t ≡ some e
+    → Remains cut t at position e
+what-is-left c is = remaining c (sym (rest-without c) ∙ is)
 
 pub something-left : {cut : Cut} {up : ℕ} {t : Expr} {at position : ℕ} → CutAt cut up t at position → (at ≡ cut .leaf → ⊥)
     → (e : Expr) × Remains cut t at position e

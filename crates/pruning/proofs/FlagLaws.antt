@@ -1,4 +1,4 @@
--- Flags that were all 0 mark exactly the columns that were marked.
+-- Flags that were all 0 are those of the columns that were marked.
 use Prim.Native.Nat.{ℕ, zero, suc, _≤_, _<_}
 use native.Mathlib.Omega.{arith}
 use mathlib.Core.Path.{_≡_, refl, sym, ap, _∙_}
@@ -7,51 +7,77 @@ use mathlib.Core.List.{List, [], _∷_}
 use lib.ListN.{length, getD, set, replicate, length-set}
 use lib.Seq.{getD-set-same, getD-set-other}
 use lib.Dec.{ltb, eqb}
-use borrow.Author.Tests.{ltb-true, eqb-true, eqb-false}
-use Rattle.definitions.specs.Basics.{any}
+use borrow.Author.Tests.{ltb-true, eqb-true, eqb-false, eq-eqb}
+use Rattle.definitions.specs.Basics.{if_then_else_, any}
+use Rattle.definitions.specs.Expression.{Expr}
+use Rattle.definitions.specs.Match.{columnsOf}
+use Rattle.definitions.specs.Extract.{holds}
 use Rattle.definitions.specs.Good.{All}
+use Rattle.theorems.proofs.ExtractGood.{found}
 use Rattle.column_references.specs.References.{marked}
 use Rattle.kept_records.specs.Records.{Flags}
+use Rattle.pruning.specs.HeldIndexes.{Unmarked, Marks}
 
--- A flag that is set stays so.
-set-keeps : (flags : List ℕ) (c i : ℕ) → i < length flags → getD flags i 0 ≡ 1 → (b : Bool) → eqb c i ≡ b → getD (set flags c 1) i 0 ≡ 1
-set-keeps flags c i h e true same = ap (λ (c : ℕ). getD (set flags c 1) i 0) (eqb-true c i same) ∙ getD-set-same flags i 1 0 h
-set-keeps flags c i h e false apart = getD-set-other flags c i 1 0 (λ k. eqb-false c i apart (sym k)) ∙ e
+-- ---- what marking makes of a flag
 
-marked-keeps : (columns flags : List ℕ) (i : ℕ) → i < length flags → getD flags i 0 ≡ 1 → getD (marked columns flags) i 0 ≡ 1
+same-choice : (b : Bool) → _≡_ {A = ℕ} (if b then 1 else 1) 1
+same-choice true = refl
+same-choice false = refl
+
+-- One column was marked first.
+marked-first : (c i : ℕ) (flags : List ℕ) (x b : Bool) → eqb c i ≡ b → i < length flags
+    → (if x then 1 else getD (set flags c 1) i 0) ≡ (if b || x then 1 else getD flags i 0)
+marked-first c i flags x true same h =
+    ap (λ (n : ℕ). if x then 1 else n) (ap (λ (k : ℕ). getD (set flags k 1) i 0) (eqb-true c i same) ∙ getD-set-same flags i 1 0 h)
+    ∙ same-choice x
+marked-first c i flags x false apart h =
+    ap (λ (n : ℕ). if x then 1 else n) (getD-set-other flags c i 1 0 (λ k. eqb-false c i apart (sym k)))
+
+marked-at : (columns flags : List ℕ) (i : ℕ) → i < length flags
+    → getD (marked columns flags) i 0 ≡ (if any (λ c. eqb c i) columns then 1 else getD flags i 0)
+unfolding marked any
+marked-at [] flags i h = refl
+marked-at (c ∷ columns) flags i h =
+    marked-at columns (set flags c 1) i (simp length-set h) ∙ marked-first c i flags (any (λ k. eqb k i) columns) (eqb c i) refl h
+
+marked-length : (columns flags : List ℕ) → length (marked columns flags) ≡ length flags
 unfolding marked
-marked-keeps [] flags i h e = e
-marked-keeps (c ∷ columns) flags i h e = marked-keeps columns (set flags c 1) i (simp length-set h) (set-keeps flags c i h e (eqb c i) refl)
+marked-length [] flags = refl
+marked-length (c ∷ columns) flags = marked-length columns (set flags c 1) ∙ simp length-set
 
-marked-held : (count : ℕ) (columns flags : List ℕ) → count ≤ length flags → All (λ i. ltb i count ≡ true) columns
-    → All (λ i. (i < count) × (getD (marked columns flags) i 0 ≡ 1)) columns
-unfolding marked
-marked-held count [] flags room h = tt
-marked-held count (c ∷ columns) flags room h =
-    let below : c < count = ltb-true c count (h .0) in (
-      (below, marked-keeps columns (set flags c 1) c (simp length-set (omega arith)) (getD-set-same flags c 1 0 (omega arith))),
-      marked-held count columns (set flags c 1) (simp length-set room) (h .1),
+pub held-marks : (e : Expr) (flags : List ℕ) → Unmarked flags → Marks e (marked (columnsOf e) flags)
+unfolding holds
+held-marks e flags clear i h =
+    marked-at (columnsOf e) flags i (omega (arith, h, marked-length (columnsOf e) flags))
+    ∙ ap (λ (n : ℕ). if any (λ c. eqb c i) (columnsOf e) then 1 else n) (clear i)
+
+-- ---- flags that are those of an expression mark its columns, and no other
+
+set-held : (b : Bool) → _≡_ {A = ℕ} (if b then 1 else 0) 1 → b ≡ true
+set-held true e = refl
+set-held false e = absurd (omega (arith, e))
+
+each-held : (e : Expr) (flags : List ℕ) (count : ℕ) → Marks e flags → count ≤ length flags → (columns : List ℕ)
+    → All (λ i. ltb i count ≡ true) columns
+    → All (λ i. holds e i ≡ true) columns
+    → All (λ i. (i < count) × (getD flags i 0 ≡ 1)) columns
+each-held e flags count marks room [] below held = tt
+each-held e flags count marks room (c ∷ columns) below held =
+    let less : c < count = ltb-true c count (below .0) in (
+      (less, marks c (omega arith) ∙ ap (λ (b : Bool). if b then 1 else 0) (held .0)),
+      each-held e flags count marks room columns (below .1) (held .1),
     )
 
--- Nothing else is set.
-only-or : (c i : ℕ) {x : Bool} (b : Bool) → eqb c i ≡ b → ((c ≡ i → ⊥) → x ≡ true) → (b || x) ≡ true
-only-or c i true e f = refl
-only-or c i false e f = f (eqb-false c i e)
+pub held-flags : (e : Expr) (flags : List ℕ) (count : ℕ) → Marks e flags → count ≤ length flags → All (λ i. ltb i count ≡ true) (columnsOf e)
+    → Flags (columnsOf e) flags count
+unfolding holds
+held-flags e flags count marks room below = record {
+  held = each-held e flags count marks room (columnsOf e) below
+      (found (λ j i. eqb j i) (λ i. eq-eqb i i refl) (columnsOf e) (columnsOf e) (λ i h. h));
+  only = λ i h k. set-held (holds e i) (sym (marks i (omega arith)) ∙ k);
+}
 
-marked-only : (columns flags : List ℕ) (i : ℕ) → (getD flags i 0 ≡ 1 → ⊥) → getD (marked columns flags) i 0 ≡ 1
-    → any (λ c. eqb c i) columns ≡ true
-unfolding marked any
-marked-only [] flags i clear e = absurd (clear e)
-marked-only (c ∷ columns) flags i clear e = only-or c i (eqb c i) refl
-    (λ apart. marked-only columns (set flags c 1) i (λ k. clear (sym (getD-set-other flags c i 1 0 (λ q. apart (sym q))) ∙ k)) e)
-
-pub marked-flags : {count : ℕ} (columns flags : List ℕ) → count ≤ length flags → ((i : ℕ) → getD flags i 0 ≡ 1 → ⊥)
-    → All (λ i. ltb i count ≡ true) columns
-    → Flags columns (marked columns flags) count
-marked-flags {count} columns flags room clear below =
-    record { held = marked-held count columns flags room below; only = λ i h e. marked-only columns flags i (clear i) e }
-
-pub no-flag : (n i : ℕ) → _≡_ {A = ℕ} (getD (replicate n 0) i 0) 1 → ⊥
-no-flag zero i e = omega arith
-no-flag (suc n) zero e = omega arith
-no-flag (suc n) (suc i) e = no-flag n i e
+pub no-flag : (n : ℕ) → Unmarked (replicate n 0)
+no-flag zero i = refl
+no-flag (suc n) zero = refl
+no-flag (suc n) (suc i) = no-flag n i

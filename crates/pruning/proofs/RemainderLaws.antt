@@ -4,7 +4,7 @@ use native.Mathlib.Omega.{arith}
 use mathlib.Core.Path.{_≡_, refl, sym, ap, _∙_, subst}
 use mathlib.Core.List.{List, [], _∷_, _++_, append-assoc}
 use mathlib.Core.Option.{Option, Option·map}
-use lib.ListN.{length, set, replicate, length-append}
+use lib.ListN.{length, set, replicate, length-append, length-replicate}
 use Rattle.definitions.specs.Basics.{bigEndian}
 use Rattle.definitions.specs.Expression.{Expr, Record}
 use Rattle.definitions.specs.Encode.{exprBytes, recordsBytes, frameBytes, remainderBytes}
@@ -16,7 +16,8 @@ use Rattle.writing.specs.Written.{Wrote, WroteAt}
 use Rattle.argument_writer.specs.Copies.{copyOf}
 use Rattle.expression.specs.Cuts.{CutAt}
 use Rattle.column_references.specs.References.{marked, FlaggedAround, RestCollected}
-use Rattle.kept_records.specs.Records.{stays, Flags, MarkedBy, keptAll, AllFit, columnsPart, RecordsPut}
+use Rattle.kept_records.specs.Records.{stays, MarkedBy, keptAll, AllFit, columnsPart, RecordsPut, RowsFit}
+use Rattle.pruning.specs.HeldIndexes.{Unmarked, Marks, Unheld, HeldMarked}
 use Rattle.pruning.specs.Remainders.{andHead, copyAround, RestFits, RestCopied, FrameAt, remainderOf}
 use Rattle.expression.specs.declared.cuts.Cut.{Cut}
 use Rattle.argument_writer.specs.declared.arguments.Copied.{Copied}
@@ -24,8 +25,8 @@ use Rattle.writing.proofs.Written.{behind, together, behind-length, part-wrote,
 use Rattle.argument_writer.proofs.Ranges.{wider-stands}
 use Rattle.argument_writer.proofs.TableLaws.{table-copies}
 use Rattle.column_references.proofs.AroundLaws.{at-leaf, not-leaf}
-use Rattle.pruning.proofs.CutLaws.{Joins, Remains, nothing-left}
-use Rattle.pruning.proofs.FlagLaws.{no-flag, marked-flags}
+use Rattle.pruning.proofs.CutLaws.{Joins, Remains, cut-ends, what-is-left, nothing-left}
+use Rattle.pruning.proofs.FlagLaws.{held-marks, held-flags, no-flag}
 
 -- ---- the two walks see what is left
 
@@ -42,6 +43,32 @@ copies-join to cut =
           (2 ∷ 0 ∷ []) n;
       joined = λ l r. refl;
     }
+
+-- ---- what is collected
+
+pub unheld-flagged : {s : List ℕ} {at : ℕ} {cut : Cut} {flags : List ℕ} → Unheld s at cut flags → FlaggedAround s at cut flags
+unheld-flagged {cut = cut} p = (p .tree, p .stands, cut-ends cut (p .cutting))
+
+pub held-collected : {s : List ℕ} {at : ℕ} {cut : Cut} (before after : List ℕ) {r : ℕ} → Unmarked before
+    → RestCollected s at cut before after r
+    → HeldMarked s at cut before after
+held-collected {cut = cut} before after clear is t up position stands cutting e rest =
+    let left = what-is-left cutting rest in
+    subst (Marks e)
+    (sym (is t stands (left .ends) .flags ∙ ap (λ (x : List ℕ). marked x before) (left .walked (columns-join cut))))
+    (held-marks e before clear)
+
+-- Rows as they are made, for so many records, and once the flags were set.
+pub clear-rows : (n count : ℕ) → count ≤ n
+    → RowsFit count (replicate n 0) (replicate n 0) (replicate n 0) × Unmarked (replicate n 0)
+clear-rows n count room =
+    let row : List ℕ = replicate n 0 in
+    let fits : count ≤ length row = simp length-replicate room in
+    (record { flagged = fits; numbered = fits; keyed = fits }, no-flag n)
+
+pub rows-still : {count : ℕ} (flags used : List ℕ) {to keys : List ℕ} → RowsFit count flags to keys → length used ≡ length flags
+    → RowsFit count used to keys
+rows-still flags used p same = record { flagged = omega (arith, p .flagged); numbered = p .numbered; keyed = p .keyed }
 
 -- ---- the frame's bytes
 
@@ -70,23 +97,22 @@ module _ {s : List ℕ} {rec count at : ℕ} {cut : Cut} {records : List Record}
   unfolding bigEndian
   size = ap length parts ∙ simp length-append (omega arith)
 
-  pub rest-flagged : FlaggedAround s at cut (replicate 256 0)
-  rest-flagged = (t, wider-stands (f .few) (f .tree), left .ends)
+  pub still-unheld : {up : ℕ} (flags : List ℕ) → CutAt cut up t at position → count ≤ length flags → Unmarked flags → Unheld s at cut flags
+  still-unheld {up} flags cutting room clear =
+      record { tree = t; up = up; position = position; stands = wider-stands room (f .tree); cutting = cutting; clear = clear }
 
-  module _ (used : List ℕ) (r : ℕ) (is : RestCollected s at cut (replicate 256 0) used r) where
+  module _ (flags used : List ℕ) {up : ℕ} (cutting : CutAt cut up t at position) (room : count ≤ length flags)
+      (same : length used ≡ length flags) (is : HeldMarked s at cut flags used) where
     -- The flags mark the columns of what is left.
     rest-marked : MarkedBy s rec count used records (columnsOf e)
     rest-marked = record {
       entries = f .entries;
-      flagged = subst (λ (u : List ℕ). Flags (columnsOf e) u count)
-          (sym (is t (wider-stands (f .few) (f .tree)) (left .ends) .flags
-          ∙ ap (λ (x : List ℕ). marked x (replicate 256 0)) (left .walked (columns-join cut))))
-          (marked-flags (columnsOf e) (replicate 256 0) (f .few) (no-flag 256)
-          (columns-below count e (left .inRange (indexBelow count) (f .tree .inRange))));
+      flagged = held-flags e used count (is t up position (wider-stands room (f .tree)) cutting e (left .without-leaf)) (omega arith)
+          (columns-below count e (left .inRange (indexBelow count) (f .tree .inRange)));
     }
 
     pub records-fit : (out : List ℕ) → length (remainderOf records t position) ≤ length out → AllFit s rec count used 3 out
-    records-fit out room = record { records = records; columns = columnsOf e; is = rest-marked; few = f .few; room = omega (arith, size) }
+    records-fit out fits = record { records = records; columns = columnsOf e; is = rest-marked; few = f .few; room = omega (arith, size) }
 
     module _ {before middle to : List ℕ} {w : ℕ} (put : RecordsPut s rec count used before middle to w) where
       written : WroteAt 0 (columnsPart (keptAll records (columnsOf e))) before middle w
@@ -97,24 +123,24 @@ module _ {s : List ℕ} {rec count at : ℕ} {cut : Cut} {records : List Record}
           ∙ table-copies (put records (columnsOf e) rest-marked .table) e (left .inRange (indexBelow count) (f .tree .inRange))
 
       pub records-end : length (remainderOf records t position) ≤ length before → w + length (exprBytes (mapColumns new e)) ≤ length before
-      records-end room =
+      records-end fits =
           let both = length-append (columnsPart (keptAll records (columnsOf e))) (exprBytes (mapColumns new e)) in
           omega (arith, written .ends, ap length parts, both)
 
-      pub expr-fits : 256 ≤ length to → length middle ≡ length before → length (remainderOf records t position) ≤ length before
+      pub expr-fits : count ≤ length to → length middle ≡ length before → length (remainderOf records t position) ≤ length before
           → RestFits s at to cut (behind w middle)
-      expr-fits long same room = record {
+      expr-fits long as-long fits = record {
         tree = t;
-        stands = wider-stands (omega (arith, f .few)) (f .tree);
+        stands = wider-stands long (f .tree);
         ends = left .ends;
-        room = omega (arith, ap length copied, records-end room, behind-length w middle);
+        room = omega (arith, ap length copied, records-end fits, behind-length w middle);
       }
 
-      pub frame-put : (part : List ℕ) (q : Copied) → 256 ≤ length to → RestCopied s at to cut (behind w middle) part q
+      pub frame-put : (part : List ℕ) (q : Copied) → count ≤ length to → RestCopied s at to cut (behind w middle) part q
           → (w + q .wrote ≡ length (remainderOf records t position))
           × Wrote (remainderOf records t position) before (together w middle part)
-      frame-put part q long is =
-          let expr = is t (wider-stands (omega (arith, f .few)) (f .tree)) (left .ends) in
+      frame-put part q long copy =
+          let expr = copy t (wider-stands long (f .tree)) (left .ends) in
           subst (λ (x : List ℕ). (w + q .wrote ≡ length x) × Wrote x before (together w middle part))
           (ap (λ (y : List ℕ). columnsPart (keptAll records (columnsOf e)) ++ y) copied ∙ sym parts)
           (to-start (chain (omega arith) written (part-wrote (copyAround to cut at t) middle part w (expr .out) (q .wrote) (expr .wrote))))

@@ -1,2 +1,3 @@
 -- What the contracts cite, in the order to read them.
+pub mod HeldIndexes
 pub mod Remainders

@@ -22,6 +22,9 @@ put-remainder-spec =
     room
     (search needs)
     returns
-    (λ c κs. (c .before .before .before .before .before .pre, c .before .if1 .left))
+    (λ c κs. (c .before .before .before .before .before .before .pre, (c .before .before .if1 .left, c .before .if2 .taken)))
     (search needs)
-    (λ c. c .before .before .replace-join-filter-expr .ensures))
+    (λ c. c .before .before .replace-over-few .ensures)
+    (λ c κs. (c .before .before .before .before .before .before .pre, c .before .before .if1 .left))
+    (search needs)
+    (λ c. c .before .before .replace-over-many .ensures))
