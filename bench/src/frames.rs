@@ -16,6 +16,11 @@ pub struct Group {
 pub const ONE_KIB: &str = "1,024 bytes";
 pub const SIXTEEN_KIB: &str = "16,384 bytes";
 
+/// Those of the goals about records.
+pub const MANY_RECORDS: &str = "256 records";
+pub const NONE_STAYS: &str = "256 records, none stays";
+pub const HALF_STAY: &str = "256 records, half stay";
+
 const SIZES: [(&str, usize); 5] = [
     ("64 bytes", 64),
     ("256 bytes", 256),
@@ -52,7 +57,9 @@ fn single(name: &'static str, frame: Vec<u8>) -> Group {
 pub fn physical() -> Vec<Group> {
     let sized = SIZES.map(|(name, size)| group(name, move |variant| sized(size, variant)));
     let mut groups = Vec::from(sized);
-    groups.push(group("256 records", many_records));
+    groups.push(group(MANY_RECORDS, many_records));
+    groups.push(single(NONE_STAYS, no_record_stays()));
+    groups.push(single(HALF_STAY, half_of_records_stay()));
     groups.push(group("1,024 nodes", many_nodes));
     groups.push(single("worst for the Rust", worst_for_rust()));
     groups.push(single("worst for ours", worst_for_ours()));
@@ -158,6 +165,23 @@ fn many_records(variant: usize) -> Vec<u8> {
         records(MAX_RECORDS),
         with_match(others, matching(), variant),
     )
+}
+
+/// As many records as there may be, and a remainder without columns.
+fn no_record_stays() -> Vec<u8> {
+    let constant = call("f", Vec::new());
+    let expr = binary(operator::AND, constant, matching());
+    physical_frame(records(MAX_RECORDS), expr)
+}
+
+/// Different records, half of which the remainder references: each of the others is looked for
+/// among those, and is none of them.
+fn half_of_records_stay() -> Vec<u8> {
+    let half = MAX_RECORDS / 2;
+    let wide = |first: usize| call("f", (first..first + 16).map(column).collect());
+    let mut conjuncts: Vec<Expr> = (half..MAX_RECORDS).step_by(16).map(wide).collect();
+    conjuncts.push(matching());
+    physical_frame(records(MAX_RECORDS), tree(conjuncts))
 }
 
 /// As many nodes as there may be, the match's three among them.

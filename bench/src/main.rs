@@ -128,8 +128,9 @@ fn print_tables(
         ),
     ];
     table::print_growth(&tables);
-    let [load, load_and_extract, .., print, merge] = &tables;
+    let [load, load_and_extract, extract, .., print, merge] = &tables;
     table::print_goals(load, load_and_extract, [print, merge]);
+    table::print_record_goals(load, load_and_extract, extract);
 }
 
 /// Prints a table as soon as it is measured.

@@ -1,6 +1,6 @@
 //! Tables in Markdown.
 
-use crate::frames::{ONE_KIB, SIXTEEN_KIB};
+use crate::frames::{HALF_STAY, MANY_RECORDS, NONE_STAYS, ONE_KIB, SIXTEEN_KIB};
 use crate::measure::{Contender, Row};
 
 pub struct Table {
@@ -155,6 +155,12 @@ impl Table {
         self.rows.iter().find(|row| row.name == name)
     }
 
+    /// Our time on a group of frames.
+    fn ours(&self, name: &str) -> f64 {
+        let readings = self.row(name).and_then(|row| row.readings.get(&Contender::Ours));
+        readings.map_or(f64::NAN, |readings| median(readings))
+    }
+
     /// Cost per byte of the longest frames against that of 1 KiB.
     fn growth(&self, contender: Contender) -> Option<f64> {
         let (short, long) = (self.row(ONE_KIB)?, self.row(SIXTEEN_KIB)?);
@@ -218,6 +224,23 @@ pub fn print_goals(load: &Table, load_and_extract: &Table, others: [&Table; 2]) 
     let measured = format!("at most {} times ({name})", number(copies));
     let goal = "Load: within 8 times a copy of the same bytes";
     print_goal(goal, &measured, copies <= 8.0);
+}
+
+/// Those of request 3, about frames with as many records as there may be.
+pub fn print_record_goals(load: &Table, load_and_extract: &Table, extract: &Table) {
+    let row = load_and_extract.row(MANY_RECORDS);
+    let faster = row.and_then(|row| row.ratio(&[Contender::RustFromBytes]));
+    let faster = faster.unwrap_or(f64::NAN);
+    print_goal(
+        "Load and extract, 256 records: at least 15 times as fast as the Rust from the same bytes",
+        &format!("{} times", number(faster)),
+        faster >= 15.0,
+    );
+    for name in [MANY_RECORDS, NONE_STAYS, HALF_STAY] {
+        let loads = extract.ours(name) / load.ours(name);
+        let goal = format!("Extract, {name}: within 3 times the load of the same frame");
+        print_goal(&goal, &format!("{} times", number(loads)), loads <= 3.0);
+    }
 }
 
 fn print_speeds(load_and_extract: &Table) {
