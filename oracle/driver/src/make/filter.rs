@@ -1,7 +1,7 @@
 //! Parts of physical frames: column tables, arguments, leaves, conjunctions.
 
 use reading::encode;
-use reading::frame::{Expr, Frame, Record, Side, operator};
+use reading::frame::{Expr, Frame, MAX_CHILDREN, Record, Side, operator};
 
 use super::{literals, names};
 use crate::rng::Rng;
@@ -103,6 +103,17 @@ impl<'r> Filter<'r> {
         }
         self.rng.shuffle(&mut children);
         self.node(children)
+    }
+
+    /// A call of up to 16 columns of any side.
+    pub fn row_of_columns(&mut self) -> Expr {
+        let mut args = Vec::new();
+        for _ in 0..self.rng.below(MAX_CHILDREN + 1) {
+            let side = self.side();
+            args.push(self.column(side));
+        }
+        let name = b"f".to_vec();
+        Expr::Function { name, args }
     }
 
     /// An argument without columns.

@@ -21,7 +21,7 @@ pub struct Class {
     lines: fn(&mut Rng) -> Vec<Vec<u8>>,
 }
 
-pub const CLASSES: [Class; 17] = [
+pub const CLASSES: [Class; 18] = [
     class("relation", 12, |rng| loaded(rng, physical::relation)),
     class("distance", 12, |rng| loaded(rng, physical::distance)),
     class("knn", 14, |rng| loaded(rng, physical::knn)),
@@ -51,6 +51,7 @@ pub const CLASSES: [Class; 17] = [
     class("damaged", 10, damaged_lines),
     class("likely bytes", 4, |rng| loaded(rng, damage::likely_bytes)),
     class("call lists", 4, call_list_lines),
+    class("wide tables", 2, |rng| loaded(rng, physical::wide_tables)),
 ];
 
 pub const LIMITS: &str = "limits";

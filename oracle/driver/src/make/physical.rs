@@ -1,6 +1,6 @@
 //! Physical frames, a function for each class.
 
-use reading::frame::{Expr, Side};
+use reading::frame::{Expr, MAX_RECORDS, Side};
 
 use super::filter::Filter;
 use super::names;
@@ -51,6 +51,28 @@ pub fn large(rng: &mut Rng) -> Vec<u8> {
         false => filter.leaf(),
     };
     let leaves = (0..count).map(leaf).collect();
+    let expr = filter.conjunction(leaves);
+    filter.frame(expr)
+}
+
+/// Tables of up to 256 records, all different or many of them equal, below filters that name few or
+/// many of their columns.
+pub fn wide_tables(rng: &mut Rng) -> Vec<u8> {
+    let count = match rng.below(3) {
+        0 => 14 + rng.below(6),
+        1 => MAX_RECORDS - rng.below(6),
+        _ => 2 + rng.below(MAX_RECORDS - 1),
+    };
+    let lefts = 1 + rng.below(count - 1);
+    let rights = 1 + rng.below(count - lefts);
+    let indices = rng.pick(&[2, 30, 300, 65_536]);
+    let counts = [lefts, rights, count - lefts - rights];
+    let mut filter = Filter::with_counts(rng, counts, indices);
+    let mut leaves = vec![filter.relation()];
+    for _ in 0..filter.rng.below(12) {
+        leaves.push(filter.row_of_columns());
+    }
+    filter.rng.shuffle(&mut leaves);
     let expr = filter.conjunction(leaves);
     filter.frame(expr)
 }
