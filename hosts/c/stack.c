@@ -149,17 +149,31 @@ static void put_leaf(enum leaf leaf, int deep, enum shape shape, int levels)
     }
 }
 
+/* Half as many records as there may be, so that two filters can be merged and a call makes its longest rows for records. */
+static void put_records(void)
+{
+    int i;
+    put(1);
+    put(0);
+    put(128);
+    for (i = 0; i < 128; i++) {
+        put(i % 2);
+        put(0);
+        put(i);
+        put(0);
+        put(0);
+    }
+}
+
 /* A frame of so many levels: some of them Ands, then the conjunct. */
 static void make_frame(int depth, enum shape ands, int levels, enum leaf leaf, int deep, enum shape shape)
 {
-    static const uint8_t records[] = {1, 0, 2, 0, 0, 0, 0, 0, 1, 0, 0, 0, 0};
     int i;
     frame_len = 0;
     if (logical_frame) {
         put(2);
     } else {
-        memcpy(frame, records, sizeof records);
-        frame_len = sizeof records;
+        put_records();
     }
     for (i = 0; i < levels; i++) {
         put_before(ands);
