@@ -76,7 +76,8 @@ match = 0
 
 unfoldable pub extract : ℕ
 unfolding Extract.isKnn Extract.later Extract.firstMatch Extract.firstOf Extract.pick Extract.andLeft Extract.andRight Extract.without
-    Extract.sameColumn Extract.referenced Extract.newIndex Extract.prune Extract.holds Extract.takePick Extract.matchesBy Extract.extractionBy
+    Extract.sameColumn Extract.referenced Extract.newIndex Extract.prune Extract.holds Extract.takePick Extract.matchesBy
+    Extract.extractionBy
 extract = 0
 
 unfoldable pub exchange : ℕ

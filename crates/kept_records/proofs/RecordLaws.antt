@@ -69,7 +69,8 @@ module _ {s : List ℕ} {a b : ℕ} {x y : Record} (h : Entry s a x) (k : Entry 
       (eq-eqb (shortAt s (a + 1)) (shortAt s (b + 1)) (omega (arith, e, sides)))
 
   keys-apart : (keyAt s a ≡ keyAt s b → ⊥) → sameColumn x y ≡ false
-  keys-apart n = same-by-bytes h k ∙ and-apart (getD s a 0) (getD s b 0) (shortAt s (a + 1)) (shortAt s (b + 1)) (λ e f. n (omega (arith, e, f)))
+  keys-apart n =
+      same-by-bytes h k ∙ and-apart (getD s a 0) (getD s b 0) (shortAt s (a + 1)) (shortAt s (b + 1)) (λ e f. n (omega (arith, e, f)))
 
 -- ---- one among the marked ones
 

@@ -68,7 +68,8 @@ each-held e flags count marks room (c ∷ columns) below held =
       each-held e flags count marks room columns (below .1) (held .1),
     )
 
-pub held-flags : (e : Expr) (flags : List ℕ) (count : ℕ) → Marks e flags → count ≤ length flags → All (λ i. ltb i count ≡ true) (columnsOf e)
+pub held-flags : (e : Expr) (flags : List ℕ) (count : ℕ) → Marks e flags → count ≤ length flags
+    → All (λ i. ltb i count ≡ true) (columnsOf e)
     → Flags (columnsOf e) flags count
 unfolding holds
 held-flags e flags count marks room below = record {

@@ -32,8 +32,8 @@ records c κs =
     let left = something-left (p .cutting) (start .pre .1 .0) .1 in
     let used = start .args .used .now in
     let rows = start .pre .1 .1 .0 in (
-      records-fit (p .frame) left used (flags .last .0) (p .cutting) (rows .flagged) (flags .kept .0) (flags .ensures) (start .args .out .now)
-          (p .room),
+      records-fit (p .frame) left used (flags .last .0) (p .cutting) (rows .flagged) (flags .kept .0) (flags .ensures)
+          (start .args .out .now) (p .room),
       rows-still used (flags .last .0) rows (flags .kept .0),
     )
 
