@@ -157,7 +157,9 @@ impl Table {
 
     /// Our time on a group of frames.
     fn ours(&self, name: &str) -> f64 {
-        let readings = self.row(name).and_then(|row| row.readings.get(&Contender::Ours));
+        let readings = self
+            .row(name)
+            .and_then(|row| row.readings.get(&Contender::Ours));
         readings.map_or(f64::NAN, |readings| median(readings))
     }
 
