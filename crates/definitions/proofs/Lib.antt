@@ -2,6 +2,7 @@
 pub mod Everything
 pub mod Table
 pub mod OurRows
+pub mod PlacedRows
 pub mod Names
 pub mod Refusals
 pub mod ConsoleLines

@@ -20,12 +20,12 @@ use Rattle.definitions.specs.Good.{AllBytes, GoodPlan}
 use Rattle.definitions.specs.Sessions.{Made, extractWith, exchangeWith, makeBy, machineAfterBy, accepted, SessionBy, after, lengthAfter, planAfter, extractedIn, oddIn, answerAfter}
 use Rattle.definitions.specs.Meaning.{Valuation, Meaning, frameValue, extractionValue}
 use Rattle.definitions.specs.Matchers.{Lawful, Symmetric, LeafAsks}
-use Rattle.definitions.specs.Claims.{CallWrote, extractRefusals, RefusedBy, AgreeBy, someLeafMatchesBy, matchAt, TookAmong, extractedPlan, priceLineBy, OnLine, valuesWhen, HasValue}
+use Rattle.definitions.specs.Claims.{CallWrote, extractRefusals, RefusedBy, AgreeBy, someLeafMatchesBy, matchAt, TookAmong, extractedPlan, NamesLeaf, priceLineBy, OnLine, valuesWhen, HasValue}
 
 -- The extractions with a matcher; `Asks` is what their values ask of a meaning and of the records.
 pub record Extracts (match : Matcher) (Asks : Meaning → List Record → Type 0) : Type 0 where
   -- Each takes the first KNN match, failing that the first match,
-  pub takes : (F : Frame) (X : Extraction) → extractionBy match F ≡ some X → (position : ℕ) × TookAmong (matchesBy match F) F X position
+  pub takes : (F : Frame) (X : Extraction) → extractionBy match F ≡ some X → TookAmong (matchesBy match F) F X
   -- and where there is none no leaf matches.
   pub untaken : (F : Frame) → extractionBy match F ≡ none → (position : ℕ) → matchAt (matchesBy match F) position ≡ none
   -- That of the exchanged frame is the exchanged one.
@@ -76,8 +76,10 @@ pub record Lists (match : Matcher) (Asks : Meaning → List Record → Type 0) :
       ≡ (leb (lengthAfter s before) (length scratch) && (not (extractedIn s before) && someLeafMatchesBy match F))
   -- After an accepted extract the plan is the extraction of the first KNN match, failing that of the first match.
   pub takes : (F : Frame) (s : SessionBy match F) (calls : List Made) → extractedIn s calls ≡ true
-      → (X : Extraction) × (position : ℕ) × TookAmong (matchesBy match F) F X position
-      × (planAfter s calls ≡ planBytes (extractedPlan X (oddIn s calls)))
+      → (X : Extraction) × TookAmong (matchesBy match F) F X × (planAfter s calls ≡ planBytes (extractedPlan X (oddIn s calls)))
+  -- Its bytes 1 and 2 are that leaf's position.
+  pub position : (F : Frame) (s : SessionBy match F) (calls : List Made) → extractedIn s calls ≡ true
+      → NamesLeaf (matchesBy match F) F (planAfter s calls)
   -- At any place of any list the first extract that has room is on the frame's line,
   pub line : (F : Frame) (s : SessionBy match F) (before : List Made) (scratch : List ℕ)
       → extractedIn s before ≡ false → lengthAfter s before ≤ length scratch
@@ -87,12 +89,12 @@ pub record Lists (match : Matcher) (Asks : Meaning → List Record → Type 0) :
       → (line : ℕ) × (priceLineBy match F ≡ some line) × (take 1 (planAfter s calls) ≡ line ∷ [])
   -- and an exchanged frame is on the same.
   pub lineExchanged : (F : Frame) → priceLineBy match (exchangeFrame F) ≡ priceLineBy match F
-  -- Two machines that both extracted hold the extraction of one leaf, exchanged or not, with the same first byte.
+  -- Two machines that both extracted hold the extraction of one leaf, exchanged or not, with the same first byte and the same position after it.
   pub sameLeaf : (F : Frame) (s t : SessionBy match F) (calls calls′ : List Made) → extractedIn s calls ≡ true → extractedIn t calls′ ≡ true
-      → (X : Extraction) × (position : ℕ) × TookAmong (matchesBy match F) F X position
+      → (X : Extraction) × TookAmong (matchesBy match F) F X
       × (planAfter s calls ≡ planBytes (extractedPlan X (oddIn s calls)))
       × (planAfter t calls′ ≡ planBytes (extractedPlan X (oddIn t calls′)))
-      × (take 1 (planAfter s calls) ≡ take 1 (planAfter t calls′))
+      × (take 3 (planAfter s calls) ≡ take 3 (planAfter t calls′))
   -- Where one refuses with 13, so does the other, wherever its scratch is long enough,
   pub sameRefusal : (F : Frame) (s t : SessionBy match F) (before before′ : List Made) (scratch scratch′ : List ℕ)
       → answerAfter s before (extractWith scratch) ≡ refused 13 → lengthAfter t before′ ≤ length scratch′

@@ -1,5 +1,5 @@
 -- What is claimed of the definitions; proofs/Proved.antt proves each claim.
-use Prim.Native.Nat.{ℕ, suc, _+_, _≤_, _<_}
+use Prim.Native.Nat.{ℕ, suc, _+_, _*_, _≤_, _<_}
 use mathlib.Core.Path.{_≡_}
 use mathlib.Core.Bool.{Bool, true, false, _&&_, not}
 use mathlib.Core.List.{List, [], _∷_, _++_, map}
@@ -20,7 +20,7 @@ use Rattle.definitions.specs.Extract.{isKnn, without, prune, Matcher, ma
 use Rattle.definitions.specs.Exchange.{exchangeFrame, exchangeExtraction, exchangePlan}
 use Rattle.definitions.specs.Calls.{LoadOutcome, load, Outcome, extract, exchange}
 use Rattle.definitions.specs.Machine.{Kind, machinePlan, machineLength, Run}
-use Rattle.definitions.specs.Good.{AllBytes, nodes, Readable, GoodPlan, NoMarks}
+use Rattle.definitions.specs.Good.{AllBytes, nodes, Short, Readable, GoodPlan, NoMarks}
 use Rattle.definitions.specs.Sessions.{Made, extractWith, exchangeWith, make, ListOutcome, machineAfter, accepted, Session, after, lengthAfter, planLeft, planAfter, extractedIn, oddIn, answerAfter}
 use Rattle.definitions.specs.Meaning.{Valuation, Meaning, Fair, andValue, frameValue, extractionValue, planValue, exchangedValues}
 use Rattle.definitions.specs.Logical.{spatialNames, mask, distinct, logical}
@@ -52,6 +52,14 @@ PlanReadBack = (p : Plan) → GoodPlan p → planOf (planBytes p) ≡ ok p
 -- Bytes that are a plan are that plan's bytes, and it is good.
 abbrev pub PlanOfBytes : Type 0
 PlanOfBytes = (s : List ℕ) (p : Plan) → AllBytes s → planOf s ≡ ok p → (s ≡ planBytes p) × GoodPlan p
+
+-- An extraction with another position.
+abbrev pub movedTo : (position : ℕ) → Extraction → Extraction
+movedTo position X = record { position = position; predicate = X .predicate; remainder = X .remainder }
+
+-- Request 4: an extraction that is good is good with any position that two bytes hold.
+abbrev pub AnyPosition : Type 0
+AnyPosition = (X : Extraction) (position : ℕ) → Short position → GoodPlan (extracted X) → GoodPlan (extracted (movedTo position X))
 
 -- ---- sizes
 
@@ -221,23 +229,23 @@ isKnnMatch (some p) = isKnn p
 abbrev pub matchAt : (matches : List (Option Predicate)) → (position : ℕ) → Option Predicate
 matchAt matches position = getD matches position none
 
--- With these matches of a frame's leaves the extraction took the leaf at a position: a match; if KNN, no earlier leaf is a KNN match;
--- if not, none is one and no earlier leaf matches.
-pub record TookAmong (matches : List (Option Predicate)) (F : Frame) (X : Extraction) (position : ℕ) : Type 0 where
-  pub match : matchAt matches position ≡ some (X .predicate)
-  pub rest : X .remainder ≡ Option·map (prune (F .records)) (without position (F .expr))
-  pub firstKnn : isKnn (X .predicate) ≡ true → (i : ℕ) → i < position → isKnnMatch (matchAt matches i) ≡ false
+-- With these matches of a frame's leaves the extraction took the leaf at the position that it holds: a match; if KNN, no earlier leaf is a
+-- KNN match; if not, none is one and no earlier leaf matches.
+pub record TookAmong (matches : List (Option Predicate)) (F : Frame) (X : Extraction) : Type 0 where
+  pub match : matchAt matches (X .position) ≡ some (X .predicate)
+  pub rest : X .remainder ≡ Option·map (prune (F .records)) (without (X .position) (F .expr))
+  pub firstKnn : isKnn (X .predicate) ≡ true → (i : ℕ) → i < X .position → isKnnMatch (matchAt matches i) ≡ false
   pub noKnn : isKnn (X .predicate) ≡ false → (i : ℕ) → isKnnMatch (matchAt matches i) ≡ false
-  pub firstMatch : isKnn (X .predicate) ≡ false → (i : ℕ) → i < position → matchAt matches i ≡ none
+  pub firstMatch : isKnn (X .predicate) ≡ false → (i : ℕ) → i < X .position → matchAt matches i ≡ none
 
--- The extraction took the leaf at a position, with the matches of 01.
-abbrev pub Took : Frame → Extraction → (position : ℕ) → Type 0
-Took F X position = TookAmong (matchesOf F) F X position
+-- The extraction took the leaf at its position, with the matches of 01.
+abbrev pub Took : Frame → Extraction → Type 0
+Took F X = TookAmong (matchesOf F) F X
 
 -- Every extraction takes its leaf so, and where there is none no leaf matches.
 abbrev pub PickExactly : Type 0
 PickExactly =
-    ((F : Frame) (X : Extraction) → extraction F ≡ some X → (position : ℕ) × Took F X position)
+    ((F : Frame) (X : Extraction) → extraction F ≡ some X → Took F X)
     × ((F : Frame) → extraction F ≡ none → (position : ℕ) → matchAt (matchesOf F) position ≡ none)
 
 -- What is left of an expression has its AND-leaves but for the one that was taken, in their order.
@@ -254,7 +262,23 @@ extractedPlan X odd = if odd then extracted (exchangeExtraction X) else extracte
 abbrev pub ExtractTakes : Type 0
 ExtractTakes =
     (F : Frame) (s : Session F) (calls : List Made) → extractedIn s calls ≡ true
-    → (X : Extraction) × (position : ℕ) × Took F X position × (planAfter s calls ≡ planBytes (extractedPlan X (oddIn s calls)))
+    → (X : Extraction) × Took F X × (planAfter s calls ≡ planBytes (extractedPlan X (oddIn s calls)))
+
+-- Request 4: the position in bytes 1 and 2 of an extraction's bytes, the high byte first.
+unfoldable pub positionHeld : (plan : List ℕ) → ℕ
+positionHeld plan = getD plan 1 0 * 256 + getD plan 2 0
+
+-- A plan's bytes 1 and 2 are the position of the leaf that `TookAmong` describes: one of the frame's AND-leaves, of which there are at most
+-- 1,024.
+abbrev pub NamesLeaf : (matches : List (Option Predicate)) → Frame → (plan : List ℕ) → Type 0
+NamesLeaf matches F plan =
+    (X : Extraction) × TookAmong matches F X × (positionHeld plan ≡ X .position)
+    × (X .position < length (leaves (F .expr))) × (length (leaves (F .expr)) ≤ mostNodes)
+
+-- After a list in which an extract was accepted they are, exchanged or not.
+abbrev pub PositionInBytes : Type 0
+PositionInBytes =
+    (F : Frame) (s : Session F) (calls : List Made) → extractedIn s calls ≡ true → NamesLeaf (matchesOf F) F (planAfter s calls)
 
 -- ---- the price line
 
@@ -291,14 +315,14 @@ PriceLineExchanged = (F : Frame) → priceLine (exchangeFrame F) ≡ priceLine F
 -- ---- both machines
 
 -- Whatever one machine exchanged and the other did not: where both extracted, both hold the extraction of one and the same
--- AND-leaf, exchanged or not, and with it the same first byte, which sets the rate.
+-- AND-leaf, exchanged or not, and with it the same first byte, which sets the rate, and the same position after it, which names the leaf.
 abbrev pub SameLeaf : Type 0
 SameLeaf =
     (F : Frame) (s t : Session F) (calls calls′ : List Made) → extractedIn s calls ≡ true → extractedIn t calls′ ≡ true
-    → (X : Extraction) × (position : ℕ) × Took F X position
+    → (X : Extraction) × Took F X
     × (planAfter s calls ≡ planBytes (extractedPlan X (oddIn s calls)))
     × (planAfter t calls′ ≡ planBytes (extractedPlan X (oddIn t calls′)))
-    × (take 1 (planAfter s calls) ≡ take 1 (planAfter t calls′))
+    × (take 3 (planAfter s calls) ≡ take 3 (planAfter t calls′))
 
 -- Where one machine refuses a filter with 13, so does the other, wherever its scratch is long enough,
 abbrev pub SameRefusal : Type 0
@@ -313,7 +337,7 @@ NeverMixed =
     (F : Frame) (s t : Session F) (before : List Made) (scratch : List ℕ) (calls : List Made)
     → answerAfter s before (extractWith scratch) ≡ refused 13 → extractedIn t calls ≡ false
 
--- The machines agree: the same leaf and rate, or the same refusal, and never one of each.
+-- The machines agree: the same leaf, named alike, and the same rate, or the same refusal, and never one of each.
 abbrev pub MachinesAgree : Type 0
 MachinesAgree = SameLeaf × SameRefusal × NeverMixed
 

@@ -226,9 +226,10 @@ remainder = do
   kind ← byte
   remainderOfKind kind
 
--- An extraction after its first byte.
+-- An extraction after its first byte; a position of any value is good (request 4).
 unfoldable pub extractionBody : (first : ℕ) → Reader Extraction
 extractionBody first = do
+  position ← number 2
   predicate ← predicateOfKind first
   rest ← remainder
-  give (record { predicate = predicate; remainder = rest })
+  give (record { position = position; predicate = predicate; remainder = rest })

@@ -57,7 +57,7 @@ predicateKind (relation type l r) = 0x11
 predicateKind (distance form side l r bound) = 0x12
 predicateKind (knn k spheroid probe ties l r) = 0x13
 
--- A predicate after its first byte.
+-- A predicate after its first byte and the position that follows it.
 unfoldable pub predicateFields : Predicate → List ℕ
 predicateFields (relation type l r) = relationNumber type ∷ (exprBytes l ++ exprBytes r)
 predicateFields (distance form side l r bound) = form ∷ sideNumber side ∷ (exprBytes l ++ (exprBytes r ++ exprBytes bound))
@@ -68,9 +68,10 @@ unfoldable pub remainderBytes : Option Frame → List ℕ
 remainderBytes none = 0 ∷ []
 remainderBytes (some F) = frameBytes F
 
--- An extraction: its predicate, then its remainder.
+-- An extraction: its first byte, its position in two bytes (request 4), the rest of its predicate, then its remainder.
 unfoldable pub extractionBytes : Extraction → List ℕ
-extractionBytes X = predicateKind (X .predicate) ∷ (predicateFields (X .predicate) ++ remainderBytes (X .remainder))
+extractionBytes X =
+    predicateKind (X .predicate) ∷ (bigEndian 2 (X .position) ++ (predicateFields (X .predicate) ++ remainderBytes (X .remainder)))
 
 -- The bytes of a plan.
 unfoldable pub planBytes : Plan → List ℕ

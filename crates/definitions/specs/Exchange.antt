@@ -23,9 +23,10 @@ exchangePredicate (relation type l r) = relation (invert type) r l
 exchangePredicate (distance form side l r bound) = distance form (negate side) r l bound
 exchangePredicate (knn k spheroid probe ties l r) = knn k spheroid (negate probe) ties l r
 
--- An extraction exchanges its predicate and its remainder.
+-- An extraction exchanges its predicate and its remainder, and keeps its position (request 4).
 unfoldable pub exchangeExtraction : Extraction → Extraction
 exchangeExtraction X = record {
+  position = X .position;
   predicate = exchangePredicate (X .predicate);
   remainder = Option·map exchangeFrame (X .remainder);
 }

@@ -131,8 +131,10 @@ pub data Predicate : Type 0 where
   distance : (form : ℕ) → (side : Side) → (l r bound : Expr) → Predicate
   knn : (k spheroid : ℕ) → (probe : Side) → (ties : ℕ) → (l r : Expr) → Predicate
 
--- A predicate, and what is left of the frame that it was taken from.
+-- A predicate, its leaf's position among the AND-leaves of the frame that it was taken from, from 0 (request 4), and what is left of that
+-- frame.
 pub record Extraction : Type 0 where
+  pub position : ℕ
   pub predicate : Predicate
   pub remainder : Option Frame
 

@@ -93,10 +93,11 @@ holds e index = any (λ c. eqb c index) (columnsOf e)
 
 -- ---- the extraction
 
--- The extraction that takes a pick.
+-- The extraction that takes a pick; it holds the pick's position (request 4).
 unfoldable pub takePick : Frame → Option Pick → Option Extraction
 takePick F none = none
 takePick F (some p) = some (record {
+  position = p .position;
   predicate = p .predicate;
   remainder = Option·map (prune (F .records)) (without (p .position) (F .expr));
 })

@@ -20,9 +20,9 @@ worked = frameBytes workedFrame
 pub record FurtherRows : Type 0 where
   -- the first of two matches; of two KNN matches the first, and the second stays
   pub first-taken : extractOf (onBoth (and (call (ascii "st_within") (two L R)) (call (ascii "st_intersects") (two L R))))
-      ≡ withRest (relation within childL childR) (onBoth (call (ascii "st_intersects") (two L R)))
+      ≡ withRest 0 (relation within childL childR) (onBoth (call (ascii "st_intersects") (two L R)))
   pub second-stays : extractOf (onBoth (and (and (call (ascii "st_intersects") (two L R)) (knnOf (int32 2))) (knnOf (int32 3))))
-      ≡ withRest (knn 2 0 left 2 childL childR) (onBoth (and (call (ascii "st_intersects") (two L R)) (knnOf (int32 3))))
+      ≡ withRest 1 (knn 2 0 left 2 childL childR) (onBoth (and (call (ascii "st_intersects") (two L R)) (knnOf (int32 3))))
   -- exchange negates the probe side of KNN and swaps nothing
   pub knn-exchanged : planOrRefusal (exchangeAfter (extractAfter (frameBytes (onBoth (knnOf (int32 2))))))
       ≡ alone (knn 2 0 right 2 childL childR)

@@ -143,11 +143,11 @@ planNodes empty = 0
 planNodes (held F) = nodes (F .expr)
 planNodes (extracted X) = predicateNodes (X .predicate) + remainderNodes (X .remainder)
 
--- A plan in range.
+-- A plan in range; an extraction's position is any that two bytes hold (request 4).
 abbrev pub ReadablePlan : Plan → Type 0
 ReadablePlan empty = Unit {0}
 ReadablePlan (held F) = ReadableFrame F
-ReadablePlan (extracted X) = ReadablePredicate (X .predicate) × ReadableRemainder (X .remainder)
+ReadablePlan (extracted X) = Short (X .position) × ReadablePredicate (X .predicate) × ReadableRemainder (X .remainder)
 
 -- A good plan: in range, at most 1,024 nodes over the whole, at most 16,384 bytes.
 pub record GoodPlan (p : Plan) : Type 0 where

@@ -42,6 +42,7 @@ pub mod Claims
 pub mod AnyMatcher
 pub mod TenRows
 pub mod FurtherRows
+pub mod PositionRows
 pub mod RefusalTable
 pub mod NameTables
 pub mod PrintClaims

@@ -102,7 +102,7 @@ extractIn room = extractWith (replicate room 0)
 abbrev pub exchangeIn : ℕ → Made
 exchangeIn room = exchangeWith (replicate room 0)
 
--- `st_within` of a left and a right column: 35 bytes, its extraction 13.
+-- `st_within` of a left and a right column: 35 bytes, its extraction 15.
 abbrev pub matching : List ℕ
 matching = frameBytes (record {
   records = record { side = left; child = 0; tag = 0 } ∷ record { side = right; child = 0; tag = 0 } ∷ [];
@@ -135,8 +135,8 @@ pub record RefusalTable : Type 0 where
   -- a scratch that is too short and one that is not, for each call; a second extract, whatever its scratch
   pub calls :
       callsLoaded matching
-      (extractIn 34 ∷ exchangeIn 34 ∷ exchangeIn 35 ∷ extractIn 35 ∷ extractIn 0 ∷ exchangeIn 12 ∷ exchangeIn 13 ∷ [])
-      ≡ refused 9 ∷ refused 9 ∷ ok 35 ∷ ok 13 ∷ refused 12 ∷ refused 9 ∷ ok 13 ∷ []
+      (extractIn 34 ∷ exchangeIn 34 ∷ exchangeIn 35 ∷ extractIn 35 ∷ extractIn 0 ∷ exchangeIn 14 ∷ exchangeIn 15 ∷ [])
+      ≡ refused 9 ∷ refused 9 ∷ ok 35 ∷ ok 15 ∷ refused 12 ∷ refused 9 ∷ ok 15 ∷ []
   pub no-match : callsLoaded (frame (literal 0 0)) (extractIn 12 ∷ extractIn 13 ∷ []) ≡ refused 9 ∷ refused 13 ∷ []
   pub long-line : lineOutcome (replicate 32770 48) freshPlan .answer ≡ refused 14
   pub program : output (lines (ascii "0" ∷ ascii "0A" ∷ [] ∷ ascii "03" ∷ ascii "2100" ∷ ascii "21" ∷ ascii "0205" ∷ []))

@@ -1,4 +1,4 @@
--- 01's worked run and its ten rows.
+-- 01's worked run and its ten rows, the extractions with the position that request 4 adds.
 use Prim.Native.Nat.{ℕ, _≤_}
 use mathlib.Core.Path.{_≡_}
 use mathlib.Core.List.{List, [], _∷_, _++_}
@@ -22,8 +22,8 @@ workedInput =
 abbrev pub workedOutput : List ℕ
 workedOutput =
     ascii "00010002010003000700000000080200030973745f77697468696e02000000000700000100080000010008" ++
-    (10 ∷ (ascii "0011010000000008000003000701000100000000080000000008" ++
-    (10 ∷ (ascii "0011020000030007000000000801000101000000080000000008" ++ (10 ∷ (ascii "0c" ++ (10 ∷ [])))))))
+    (10 ∷ (ascii "00110000010000000008000003000701000100000000080000000008" ++
+    (10 ∷ (ascii "00110000020000030007000000000801000101000000080000000008" ++ (10 ∷ (ascii "0c" ++ (10 ∷ [])))))))
 
 -- ---- rows
 
@@ -95,28 +95,28 @@ int32 value = literal 2 value
 abbrev pub int64 : ℕ → Expr
 int64 value = literal 3 value
 
--- A predicate without remainder, as a plan.
+-- A predicate without remainder, as a plan: that of the only leaf.
 abbrev pub alone : Predicate → Result (List ℕ)
-alone p = ok (extractionBytes (record { predicate = p; remainder = none }))
+alone p = ok (extractionBytes (record { position = 0; predicate = p; remainder = none }))
 
--- A predicate with a remainder, as a plan.
-abbrev pub withRest : Predicate → Frame → Result (List ℕ)
-withRest p F = ok (extractionBytes (record { predicate = p; remainder = some F }))
+-- The predicate of the leaf at a position, with a remainder, as a plan.
+abbrev pub withRest : (position : ℕ) → Predicate → Frame → Result (List ℕ)
+withRest position p F = ok (extractionBytes (record { position = position; predicate = p; remainder = some F }))
 
 -- The worked run and rows 1 to 10; the field names say the row.
 pub record TenRows : Type 0 where
   pub worked-run : output workedInput ≡ workedOutput
-  pub row1 : extractOf workedFrame ≡ withRest (relation contains (column 0 8) (column 3 7)) (workedRest left)
+  pub row1 : extractOf workedFrame ≡ withRest 0 (relation contains (column 0 8) (column 3 7)) (workedRest left)
   pub row2 : planOrRefusal (exchangeAfter (extractAfter (frameBytes workedFrame)))
-      ≡ withRest (relation within (column 3 7) (column 0 8)) (workedRest right)
+      ≡ withRest 0 (relation within (column 3 7) (column 0 8)) (workedRest right)
   pub row3-matches : extractOf (onBoth (knnOf (int64 4294967295))) ≡ alone (knn 4294967295 0 left 2 childL childR)
   pub row3-does-not : extractOf (onBoth (knnOf (int64 4294967296))) ≡ refused 13
   pub row4-does-not : extractOf (onBoth (knnOf (int32 18446744073709551615))) ≡ refused 13
   pub row4-matches : extractOf (onBoth (knnOf (int32 0))) ≡ alone (knn 0 0 left 2 childL childR)
   pub row5 : extractOf (onBoth (and (call (ascii "st_intersects") (two L R)) (call (ascii "st_knn") (two L R))))
-      ≡ withRest (knn 1 0 left 2 childL childR) (onBoth (call (ascii "st_intersects") (two L R)))
+      ≡ withRest 1 (knn 1 0 left 2 childL childR) (onBoth (call (ascii "st_intersects") (two L R)))
   pub row6 : extractOf (onBoth (and (call (ascii "st_knn") (two L L)) (call (ascii "st_intersects") (two L R))))
-      ≡ withRest (relation intersects childL childR) (record {
+      ≡ withRest 1 (relation intersects childL childR) (record {
         records = record { side = left; child = 3; tag = 7 } ∷ [];
         expr = call (ascii "st_knn") (two L L);
       })
@@ -131,7 +131,7 @@ pub record TenRows : Type 0 where
         record { side = right; child = 0; tag = 3 } ∷ [];
     expr = and (call (ascii "st_intersects") (two (column 0 1) (column 2 3))) (column 1 2);
   })
-      ≡ withRest (relation intersects (column 4 1) (column 0 3)) (record {
+      ≡ withRest 0 (relation intersects (column 4 1) (column 0 3)) (record {
         records = record { side = left; child = 4; tag = 1 } ∷ record { side = left; child = 4; tag = 2 } ∷ [];
         expr = column 1 2;
       })

@@ -1,15 +1,16 @@
 -- The exchange of a good plan is good and as long.
-use Prim.Native.Nat.{ℕ, suc, _+_, _*_}
+use Prim.Native.Nat.{ℕ, _+_, _*_}
 use native.Mathlib.Omega.{arith}
 use mathlib.Core.Path.{_≡_, refl, sym, ap, ap₂, _∙_}
 use mathlib.Core.List.{List, [], _∷_, map}
 use mathlib.Core.Option.{Option, none, some, Option·map}
 use lib.ListN.{length, length-append, length-map}
 use Rattle.definitions.specs.Basics.{bigEndian}
-use Rattle.definitions.specs.Expression.{Side, left, right, noSide, Record, Frame, Predicate, relation, distance, knn, Plan, empty, held, extracted}
+use Rattle.definitions.specs.Expression.{Side, left, right, noSide, Record, Frame, Predicate, relation, distance, knn, Extraction, Plan, empty, held, extracted}
 use Rattle.definitions.specs.Encode.{exprBytes, recordBytes, recordsBytes, frameBytes, predicateFields, remainderBytes, extractionBytes, planBytes}
 use Rattle.definitions.specs.Exchange.{negate, exchangeRecord, exchangeFrame, exchangePredicate, exchangeExtraction, exchangePlan}
-use Rattle.definitions.specs.Good.{RecordsInRange, ReadableFrame, OneOfTwo, ReadablePredicate, ReadableRemainder, predicateNodes, remainderNodes, planNodes, ReadablePlan, GoodPlan}
+use Rattle.definitions.specs.Good.{Short, RecordsInRange, ReadableFrame, OneOfTwo, ReadablePredicate, ReadableRemainder, predicateNodes, remainderNodes, planNodes, ReadablePlan, GoodPlan}
+use Rattle.definitions.specs.Claims.{movedTo}
 
 -- ---- lengths
 
@@ -44,14 +45,19 @@ unfolding remainderBytes
 remainder-as-long none = refl
 remainder-as-long (some F) = frame-as-long F
 
+pub extraction-length : (X : Extraction)
+    → length (extractionBytes X) ≡ 3 + length (predicateFields (X .predicate)) + length (remainderBytes (X .remainder))
+unfolding extractionBytes bigEndian
+extraction-length X = simp length-append (omega arith)
+
 pub plan-as-long : (p : Plan) → length (planBytes (exchangePlan p)) ≡ length (planBytes p)
-unfolding planBytes exchangePlan extractionBytes exchangeExtraction
+unfolding planBytes exchangePlan exchangeExtraction
 plan-as-long empty = refl
 plan-as-long (held F) = frame-as-long F
 plan-as-long (extracted X) =
-    ap suc (length-append (predicateFields (exchangePredicate (X .predicate))) (remainderBytes (Option·map exchangeFrame (X .remainder)))
-    ∙ ap₂ _+_ (predicate-as-long (X .predicate)) (remainder-as-long (X .remainder))
-    ∙ sym (length-append (predicateFields (X .predicate)) (remainderBytes (X .remainder))))
+    extraction-length (exchangeExtraction X)
+    ∙ ap₂ (λ (a b : ℕ). 3 + a + b) (predicate-as-long (X .predicate)) (remainder-as-long (X .remainder))
+    ∙ sym (extraction-length X)
 
 -- ---- nodes
 
@@ -108,11 +114,20 @@ plan-readable : (p : Plan) → ReadablePlan p → ReadablePlan (exchangePlan p)
 unfolding exchangePlan exchangeExtraction
 plan-readable empty h = h
 plan-readable (held F) h = frame-readable F h
-plan-readable (extracted X) h = (predicate-readable (X .predicate) (h .0), remainder-readable (X .remainder) (h .1))
+plan-readable (extracted X) h = (h .0, predicate-readable (X .predicate) (h .1), remainder-readable (X .remainder) (h .2))
 
 pub exchange-good : (p : Plan) → GoodPlan p → GoodPlan (exchangePlan p)
 exchange-good p g = record {
   readable = plan-readable p (g .readable);
   fewNodes = rw (plan-nodes p) (g .fewNodes);
   fewBytes = rw (plan-as-long p) (g .fewBytes);
+}
+
+-- A good extraction is good with any position that two bytes hold.
+pub moved-good : (X : Extraction) (position : ℕ) → Short position → GoodPlan (extracted X) → GoodPlan (extracted (movedTo position X))
+unfolding planBytes planNodes
+moved-good X i h g = record {
+  readable = (h, g .readable .1, g .readable .2);
+  fewNodes = g .fewNodes;
+  fewBytes = omega (arith, g .fewBytes, extraction-length X, extraction-length (movedTo i X));
 }

@@ -6,12 +6,12 @@ use mathlib.Core.Path.{_≡_, refl, sym, ap, _∙_, subst}
 use mathlib.Core.Bool.{Bool, true, false, _||_, or-true}
 use mathlib.Core.List.{List, [], _∷_}
 use mathlib.Core.Option.{Option, none, some, Option·map}
-use lib.ListN.{length, take, length-append}
+use lib.ListN.{length, take}
 use lib.Dec.{ltb, eqb}
 use borrow.Author.Tests.{ltb-true, lt-ltb, eq-eqb}
 use Rattle.definitions.specs.Basics.{if_then_else_, any, keep}
 use Rattle.definitions.specs.Expression.{Side, left, right, noSide, Expr, Record, Frame, Extraction, held, extracted}
-use Rattle.definitions.specs.Encode.{exprBytes, frameBytes, predicateFields, remainderBytes, extractionBytes, planBytes}
+use Rattle.definitions.specs.Encode.{exprBytes, frameBytes, remainderBytes, extractionBytes, planBytes}
 use Rattle.definitions.specs.Leaves.{arity}
 use Rattle.definitions.specs.Decode.{indexBelow}
 use Rattle.definitions.specs.References.{recordAt, columnsOf, sameSide}
@@ -22,9 +22,9 @@ use Rattle.theorems.proofs.Taken.{Taken, taken-bytes, taken-nodes, leaf
 use Rattle.definitions.specs.Meaning.{Meaning}
 use Rattle.definitions.specs.Matchers.{Fits, Lawful}
 use Rattle.theorems.proofs.MatchLaws.{match-laws}
-use Rattle.theorems.proofs.Pick.{taking, Picked, picked, leafAt, pick-taken, pick-matches}
+use Rattle.theorems.proofs.Pick.{taking, Picked, picked, leafAt, position-short, pick-taken, pick-matches}
 use Rattle.theorems.proofs.Tools.{by-test}
-use Rattle.theorems.proofs.ExchangeGood.{frame-length}
+use Rattle.theorems.proofs.ExchangeGood.{frame-length, extraction-length}
 
 -- ---- pruning
 
@@ -146,11 +146,6 @@ abbrev pub GoodExtraction : Frame → Option Extraction → Type 0
 GoodExtraction F none = Unit {0}
 GoodExtraction F (some X) = GoodPlan (extracted X) × (length (extractionBytes X) ≤ length (frameBytes F))
 
-extraction-length : (X : Extraction)
-    → length (extractionBytes X) ≡ suc (length (predicateFields (X .predicate)) + length (remainderBytes (X .remainder)))
-unfolding extractionBytes
-extraction-length X = ap suc (length-append (predicateFields (X .predicate)) (remainderBytes (X .remainder)))
-
 module _ {match : Matcher} {Asks : Meaning → List Record → Type 0} (laws : Lawful match Asks) where
   take-good : (F : Frame) → GoodPlan (held F) → (p : Option Pick) → Picked (matchesBy match F) F p → GoodExtraction F (takePick F p)
   unfolding takePick planBytes planNodes
@@ -171,6 +166,7 @@ module _ {match : Matcher} {Asks : Meaning → List Record → Type 0} (laws : L
       omega (arith, extraction-length (taking F p), frame-length F, fits .1, rest-length rs rest, taken-bytes t) in (
         record {
           readable = (
+            position-short match F p h g,
             fits .0,
             rest-readable rs rest (good .few) (good .recordsInRange) (rest-in-range (indexBelow (length rs)) t range)
                 (shallow-rest (depth (F .expr)) rest deep (rest-depth t)) (rest-arity t (good .arity)),

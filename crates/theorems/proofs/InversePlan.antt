@@ -56,7 +56,8 @@ readable : (n m : ℕ) (s t : List ℕ) (e : Expr) → ExprBack n m s t e → Re
 readable n m s t e b = record { inRange = b .inRange; shallow = b .shallow }
 
 record PredicateBack (n m kind : ℕ) (s t : List ℕ) (p : Predicate) : Type 0 where
-  bytes : kind ∷ s ≡ predicateKind p ∷ (predicateFields p ++ t)
+  first : kind ≡ predicateKind p
+  bytes : s ≡ predicateFields p ++ t
   readable : ReadablePredicate p
   counted : m ≡ n + predicateNodes p
   few : m ≤ 1024
@@ -96,8 +97,9 @@ relation-back n m s t p h k eq =
     expr-step n₁ s₁ _ h₁ (omega (arith, a .2)) f₁ (λ x n₂ s₂ l h₂ f₂.
     expr-step n₂ s₂ _ h₂ (l .few) f₂ (λ y n₃ s₃ r h₃ f₃.
     given (λ z m t. PredicateBack n m 0x11 s t z) (relation (relationNumbered type) x y) p n₃ m s₃ t f₃ (record {
-      bytes = ap (λ (z : List ℕ). 0x11 ∷ z) (a .0 ∙ ap₂ (λ (i : ℕ) (z : List ℕ). i ∷ z) (sym (relation-number type (a .1)))
-          (join (exprBytes x) (exprBytes y) s₁ s₂ s₃ (l .bytes) (r .bytes)));
+      first = refl;
+      bytes = a .0 ∙ ap₂ (λ (i : ℕ) (z : List ℕ). i ∷ z) (sym (relation-number type (a .1)))
+          (join (exprBytes x) (exprBytes y) s₁ s₂ s₃ (l .bytes) (r .bytes));
       readable = (readable n₁ n₂ s₁ s₂ x l, readable n₂ n₃ s₂ s₃ y r);
       counted = omega (arith, a .2, l .counted, r .counted);
       few = r .few;
@@ -113,9 +115,10 @@ distance-back n m s t p h k eq =
     expr-step n₃ s₃ _ h₃ (l .few) f₃ (λ y n₄ s₄ r h₄ f₄.
     expr-step n₄ s₄ _ h₄ (r .few) f₄ (λ d n₅ s₅ z h₅ f₅.
     given (λ q m t. PredicateBack n m 0x12 s t q) (distance form side x y d) p n₅ m s₅ t f₅ (record {
-      bytes = ap (λ (q : List ℕ). 0x12 ∷ q) (a .0 ∙ ap (λ (q : List ℕ). form ∷ q) (b .0 ∙ ap (λ (q : List ℕ). sideNumber side ∷ q)
+      first = refl;
+      bytes = a .0 ∙ ap (λ (q : List ℕ). form ∷ q) (b .0 ∙ ap (λ (q : List ℕ). sideNumber side ∷ q)
           (join (exprBytes x) (exprBytes y ++ exprBytes d) s₂ s₃ s₅ (l .bytes)
-          (join (exprBytes y) (exprBytes d) s₃ s₄ s₅ (r .bytes) (z .bytes)))));
+          (join (exprBytes y) (exprBytes d) s₃ s₄ s₅ (r .bytes) (z .bytes))));
       readable = (a .1, readable n₂ n₃ s₂ s₃ x l, readable n₃ n₄ s₃ s₄ y r, readable n₄ n₅ s₄ s₅ d z);
       counted = omega (arith, a .2, b .2, l .counted, r .counted, z .counted);
       few = z .few;
@@ -133,10 +136,10 @@ knn-back n m s t p h k eq =
     expr-step n₄ s₄ _ h₄ (omega (arith, a .2, b .2, d .2, g .2)) f₄ (λ x n₅ s₅ l h₅ f₅.
     expr-step n₅ s₅ _ h₅ (l .few) f₅ (λ y n₆ s₆ r h₆ f₆.
     given (λ q m t. PredicateBack n m 0x13 s t q) (knn c sp probe ties x y) p n₆ m s₆ t f₆ (record {
-      bytes = ap (λ (q : List ℕ). 0x13 ∷ q)
-          (join (bigEndian 4 c) (sp ∷ sideNumber probe ∷ ties ∷ (exprBytes x ++ exprBytes y)) s s₁ s₆ (a .0)
+      first = refl;
+      bytes = join (bigEndian 4 c) (sp ∷ sideNumber probe ∷ ties ∷ (exprBytes x ++ exprBytes y)) s s₁ s₆ (a .0)
           (b .0 ∙ ap (λ (q : List ℕ). sp ∷ q) (d .0 ∙ ap (λ (q : List ℕ). sideNumber probe ∷ q) (g .0 ∙ ap (λ (q : List ℕ). ties ∷ q)
-          (join (exprBytes x) (exprBytes y) s₄ s₅ s₆ (l .bytes) (r .bytes))))));
+          (join (exprBytes x) (exprBytes y) s₄ s₅ s₆ (l .bytes) (r .bytes)))));
       readable = (a .1, b .1, one-of-two probe (d .1), g .1, readable n₄ n₅ s₄ s₅ x l, readable n₅ n₆ s₅ s₆ y r);
       counted = omega (arith, a .2, b .2, d .2, g .2, l .counted, r .counted);
       few = r .few;
@@ -217,17 +220,21 @@ extraction-body-back : (n m first : ℕ) (s t : List ℕ) (X : Extraction) → A
     → ExtractionBack n m first s t X
 unfolding extractionBody extractionBytes planNodes
 extraction-body-back n m first s t X h k eq =
-    step (predicateOfKind first n s) _ eq (λ p n₁ s₁ e₁ f₁.
-    let a : PredicateBack n n₁ first s s₁ p = predicate-back n n₁ first s s₁ p (h .1) k e₁ in
-    step (remainder n₁ s₁) _ f₁ (λ R n₂ s₂ e₂ f₂.
-    let b : RemainderBack n₁ n₂ s₁ s₂ R =
-    remainder-back n₁ n₂ s₁ s₂ R (after-bytes (predicateKind p ∷ predicateFields p) s₁ (first ∷ s) (a .bytes) h) (a .few) e₂ in
-    given (λ x m t. ExtractionBack n m first s t x) (record { predicate = p; remainder = R }) X n₂ m s₂ t f₂ (record {
-      bytes = join (predicateKind p ∷ predicateFields p) (remainderBytes R) (first ∷ s) s₁ s₂ (a .bytes) (b .bytes);
-      readable = (a .readable, b .readable);
-      counted = omega (arith, a .counted, b .counted);
-      few = b .few;
-    })))
+    step (number 2 n s) _ eq (λ i n₁ s₁ e₁ f₁.
+    let a : (s ≡ bigEndian 2 i ++ s₁) × (i < 256 ^ 2) × (n₁ ≡ n) = number-back 2 n n₁ i s s₁ (h .1) e₁ in
+    let h₁ : AllBytes s₁ = after-bytes (bigEndian 2 i) s₁ s (a .0) (h .1) in
+    step (predicateOfKind first n₁ s₁) _ f₁ (λ p n₂ s₂ e₂ f₂.
+    let b : PredicateBack n₁ n₂ first s₁ s₂ p = predicate-back n₁ n₂ first s₁ s₂ p h₁ (omega (arith, a .2)) e₂ in
+    step (remainder n₂ s₂) _ f₂ (λ R n₃ s₃ e₃ f₃.
+    let d : RemainderBack n₂ n₃ s₂ s₃ R =
+    remainder-back n₂ n₃ s₂ s₃ R (after-bytes (predicateFields p) s₂ s₁ (b .bytes) h₁) (b .few) e₃ in
+    given (λ x m t. ExtractionBack n m first s t x) (record { position = i; predicate = p; remainder = R }) X n₃ m s₃ t f₃ (record {
+      bytes = ap₂ (λ (x : ℕ) (y : List ℕ). x ∷ y) (b .first) (join (bigEndian 2 i) (predicateFields p ++ remainderBytes R) s s₁ s₃ (a .0)
+          (join (predicateFields p) (remainderBytes R) s₁ s₂ s₃ (b .bytes) (d .bytes)));
+      readable = (a .1, b .readable, d .readable);
+      counted = omega (arith, a .2, b .counted, d .counted);
+      few = d .few;
+    }))))
 
 -- What is known of a list of bytes that is a good extraction.
 abbrev GoodBytes : List ℕ → Extraction → Type 0

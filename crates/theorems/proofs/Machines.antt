@@ -1,16 +1,19 @@
 -- A plan after an accepted extract is the frame's one extraction, exchanged or not, if it has one: so two machines agree.
-use Prim.Native.Nat.{ℕ, _≤_}
+use Prim.Native.Nat.{ℕ, _≤_, _<_}
 use native.Mathlib.Omega.{arith}
 use mathlib.Core.Path.{_≡_, refl, sym, ap, _∙_, subst}
 use mathlib.Core.Bool.{Bool, true, false, _&&_, _||_, or-true}
 use mathlib.Core.List.{List, [], _∷_, _++_}
 use mathlib.Core.Option.{Option, none, some, Option·map}
 use lib.ListN.{length, take}
-use lib.Dec.{leb}
+use lib.Dec.{leb, lit≤}
+use lib.Seq.{take-take}
 use borrow.Author.Tests.{le-leb}
-use Rattle.definitions.specs.Basics.{if_then_else_, Result, ok, refused}
+use Rattle.definitions.specs.Limits.{twoBytes}
+use Rattle.definitions.specs.Basics.{if_then_else_, Result, ok, refused, bigEndian}
 use Rattle.definitions.specs.Expression.{Record, Frame, Predicate, relation, distance, knn, Extraction}
 use Rattle.definitions.specs.Encode.{predicateKind, extractionBytes, planBytes}
+use Rattle.definitions.specs.Leaves.{leaves}
 use Rattle.definitions.specs.Extract.{Matcher, matchesBy, extractionBy}
 use Rattle.definitions.specs.Exchange.{exchangePredicate, exchangeFrame, exchangeExtraction}
 use Rattle.definitions.specs.Calls.{Outcome}
@@ -18,9 +21,9 @@ use Rattle.definitions.specs.Machine.{extractCall, Bits, machinePlan, machineLe
 use Rattle.definitions.specs.Sessions.{Made, extractWith, makeBy, callsRunBy, machineAfterBy, accepted, isExtract, extractAccepted, SessionBy, lengthAfter, planAfter, extractedIn, oddIn, answerAfter}
 use Rattle.definitions.specs.Meaning.{Meaning}
 use Rattle.definitions.specs.Matchers.{Lawful}
-use Rattle.definitions.specs.Claims.{someLeafMatchesBy, TookAmong, extractedPlan, priceLineBy, OnLine}
+use Rattle.definitions.specs.Claims.{someLeafMatchesBy, TookAmong, extractedPlan, positionHeld, NamesLeaf, priceLineBy, OnLine}
 use Rattle.theorems.proofs.ExtractExchange.{exchanged-by}
-use Rattle.theorems.proofs.Pick.{takes-by, Matched, matched}
+use Rattle.theorems.proofs.Pick.{takes-by, position-of-leaf, few-leaves, Matched, matched}
 use Rattle.theorems.proofs.Lists.{Reached, Holds, bits, plan-extracted}
 use Rattle.theorems.proofs.ListTheorem.{after-all}
 use Rattle.theorems.proofs.Answers.{bits-told, plan-told, machine-answer, extract-among}
@@ -33,10 +36,26 @@ kind-exchanged (relation type l r) = refl
 kind-exchanged (distance form side l r bound) = refl
 kind-exchanged (knn k spheroid probe ties l r) = refl
 
-first-byte : (X : Extraction) (o : Bool) → take 1 (planBytes (extractedPlan X o)) ≡ predicateKind (X .predicate) ∷ []
-unfolding planBytes extractionBytes exchangeExtraction
-first-byte X true = ap {B = List ℕ} (λ b. b ∷ []) (kind-exchanged (X .predicate))
-first-byte X false = refl
+-- The first three bytes of an extraction: the line, and the position of its leaf, exchanged or not.
+abbrev named : Extraction → List ℕ
+named X = predicateKind (X .predicate) ∷ bigEndian 2 (X .position)
+
+first-bytes : (X : Extraction) (o : Bool) → take 3 (planBytes (extractedPlan X o)) ≡ named X
+unfolding planBytes extractionBytes exchangeExtraction bigEndian
+first-bytes X true = ap {B = List ℕ} (λ b. b ∷ bigEndian 2 (X .position)) (kind-exchanged (X .predicate))
+first-bytes X false = refl
+
+-- Bytes 1 and 2 are looked at as far as the third byte.
+held-in-three : (plan : List ℕ) → positionHeld (take 3 plan) ≡ positionHeld plan
+unfolding positionHeld
+held-in-three [] = refl
+held-in-three (a ∷ []) = refl
+held-in-three (a ∷ b ∷ []) = refl
+held-in-three (a ∷ b ∷ c ∷ s) = refl
+
+two-bytes : (X : Extraction) → X .position < twoBytes → positionHeld (named X) ≡ X .position
+unfolding positionHeld bigEndian
+two-bytes X h = omega arith
 
 line-exchanged : (x : Option Extraction)
     → Option·map (λ X. predicateKind (X .predicate)) (Option·map exchangeExtraction x) ≡ Option·map (λ X. predicateKind (X .predicate)) x
@@ -114,13 +133,25 @@ module _ {match : Matcher} {Asks : Meaning → List Record → Type 0} (laws : L
           plan-told laws s calls ∙ ap (λ (b : Bool). planBytes (machinePlan match F (bits b (oddIn s calls)))) e
           ∙ ap planBytes (plan-extracted laws F X (oddIn s calls) x)
 
-      -- and its first byte is the line.
-      line-left : (X : Extraction) → extractionBy match F ≡ some X → take 1 (planAfter s calls) ≡ predicateKind (X .predicate) ∷ []
-      line-left X x = ap (take 1) (plan-left X x) ∙ first-byte X (oddIn s calls)
+      -- and its first bytes are the line and the position.
+      named-left : (X : Extraction) → extractionBy match F ≡ some X → take 3 (planAfter s calls) ≡ named X
+      named-left X x = ap (take 3) (plan-left X x) ∙ first-bytes X (oddIn s calls)
 
-      pub extract-took : (X : Extraction) × (position : ℕ) × TookAmong (matchesBy match F) F X position
+      line-left : (X : Extraction) → extractionBy match F ≡ some X → take 1 (planAfter s calls) ≡ predicateKind (X .predicate) ∷ []
+      line-left X x = sym (take-take 1 3 (planAfter s calls) (lit≤ tt)) ∙ ap (take 1) (named-left X x)
+
+      pub extract-took : (X : Extraction) × TookAmong (matchesBy match F) F X
           × (planAfter s calls ≡ planBytes (extractedPlan X (oddIn s calls)))
-      extract-took = let (X, x) = reached in let (position, is) = takes-by match F X x in (X, position, is, plan-left X x)
+      extract-took = let (X, x) = reached in (X, takes-by match F X x, plan-left X x)
+
+      pub names-leaf : NamesLeaf (matchesBy match F) F (planAfter s calls)
+      names-leaf =
+          let (X, x) = reached in
+          let few : length (leaves (F .expr)) ≤ 1024 = few-leaves F (s .good) in
+          let below : X .position < length (leaves (F .expr)) = position-of-leaf match F X x in
+          let held : positionHeld (planAfter s calls) ≡ X .position =
+          sym (held-in-three (planAfter s calls)) ∙ ap positionHeld (named-left X x) ∙ two-bytes X (omega arith) in
+          (X, takes-by match F X x, held, below, few)
 
       pub line-stays : (line : ℕ) × (priceLineBy match F ≡ some line) × (take 1 (planAfter s calls) ≡ line ∷ [])
       unfolding priceLineBy
@@ -171,19 +202,17 @@ module _ {match : Matcher} {Asks : Meaning → List Record → Type 0} (laws : L
 
   module _ {F : Frame} (s t : SessionBy match F) where
     pub same-leaf : (calls calls′ : List Made) → extractedIn s calls ≡ true → extractedIn t calls′ ≡ true
-        → (X : Extraction) × (position : ℕ) × TookAmong (matchesBy match F) F X position
+        → (X : Extraction) × TookAmong (matchesBy match F) F X
         × (planAfter s calls ≡ planBytes (extractedPlan X (oddIn s calls)))
         × (planAfter t calls′ ≡ planBytes (extractedPlan X (oddIn t calls′)))
-        × (take 1 (planAfter s calls) ≡ take 1 (planAfter t calls′))
+        × (take 3 (planAfter s calls) ≡ take 3 (planAfter t calls′))
     same-leaf calls calls′ e e′ =
-        let (X, x) = reached s calls e in
-        let (position, is) = takes-by match F X x in (
+        let (X, x) = reached s calls e in (
           X,
-          position,
-          is,
+          takes-by match F X x,
           plan-left s calls e X x,
           plan-left t calls′ e′ X x,
-          line-left s calls e X x ∙ sym (line-left t calls′ e′ X x),
+          named-left s calls e X x ∙ sym (named-left t calls′ e′ X x),
         )
 
     pub same-refusal : (before before′ : List Made) (scratch scratch′ : List ℕ)

@@ -1,16 +1,18 @@
 -- The first match under a test is at its position, and no earlier leaf passes the test; the pick is the first of two such.
-use Prim.Native.Nat.{ℕ, zero, suc, _<_}
+use Prim.Native.Nat.{ℕ, zero, suc, _≤_, _<_}
 use native.Mathlib.Nat.{not-suc-le-zero, le-of-suc-le-suc, zero-lt-suc}
 use native.Mathlib.Omega.{arith}
 use mathlib.Core.Path.{_≡_, refl, sym, ap, ap₂, _∙_, subst}
 use mathlib.Core.Bool.{Bool, true, false, _||_, or-true, false≢true}
 use mathlib.Core.List.{List, [], _∷_}
 use mathlib.Core.Option.{Option, none, some, Option·map}
-use lib.ListN.{length, getD, length-map}
+use lib.ListN.{length, getD, length-append, length-map}
+use Rattle.definitions.specs.Limits.{mostNodes}
 use Rattle.definitions.specs.Basics.{any}
-use Rattle.definitions.specs.Expression.{Expr, literal, Frame, Predicate, Extraction}
+use Rattle.definitions.specs.Expression.{Expr, column, literal, and, binary, call, other, field, Frame, Predicate, Extraction, held}
 use Rattle.definitions.specs.Leaves.{leaves}
 use Rattle.definitions.specs.Extract.{Pick, isKnn, later, firstMatch, firstOf, pick, without, prune, takePick, Matcher, matchesBy, extractionBy}
+use Rattle.definitions.specs.Good.{nodes, Short, planNodes, GoodPlan}
 use Rattle.definitions.specs.Claims.{isMatch, someLeafMatchesBy, isKnnMatch, matchAt, TookAmong}
 use Rattle.theorems.proofs.Tools.{by-test, mapped-at}
 use Rattle.theorems.proofs.Taken.{Taken, taken}
@@ -57,7 +59,11 @@ module _ (test : Predicate → Bool) where
 
 -- The extraction that takes a pick.
 abbrev pub taking : Frame → Pick → Extraction
-taking F p = record { predicate = p .predicate; remainder = Option·map (prune (F .records)) (without (p .position) (F .expr)) }
+taking F p = record {
+  position = p .position;
+  predicate = p .predicate;
+  remainder = Option·map (prune (F .records)) (without (p .position) (F .expr));
+}
 
 no-match : (m : Option Predicate) → passes (λ p. true) m ≡ false → m ≡ none
 unfolding passes
@@ -74,7 +80,7 @@ module _ (ms : List (Option Predicate)) (F : Frame) where
   -- What the pick is; if there is none, no leaf matches.
   abbrev pub Picked : Option Pick → Type 0
   Picked none = (i : ℕ) → matchAt ms i ≡ none
-  Picked (some p) = (p .position < length ms) × TookAmong ms F (taking F p) (p .position)
+  Picked (some p) = (p .position < length ms) × TookAmong ms F (taking F p)
 
   first-picked : (p q : Option Pick) → First isKnn ms p → First (λ p. true) ms q → Picked (firstOf p q)
   unfolding firstOf
@@ -104,12 +110,12 @@ module _ (ms : List (Option Predicate)) (F : Frame) where
   unfolding pick
   picked = first-picked (firstMatch isKnn ms) (firstMatch (λ p. true) ms) (first-is isKnn ms) (first-is (λ p. true) ms)
 
-  took-by : (p : Option Pick) → Picked p → (X : Extraction) → takePick F p ≡ some X → (position : ℕ) × TookAmong ms F X position
+  took-by : (p : Option Pick) → Picked p → (X : Extraction) → takePick F p ≡ some X → (X .position < length ms) × TookAmong ms F X
   unfolding takePick
   took-by none h X e = let z : _≡_ {A = ℕ} 0 1 = cc in absurd (omega arith)
   took-by (some p) h X e =
       let same : taking F p ≡ X = cc in
-      (p .position, subst (λ (Y : Extraction). TookAmong ms F Y (p .position)) same (h .1))
+      subst (λ (Y : Extraction). (Y .position < length ms) × TookAmong ms F Y) same h
 
   -- Where nothing was taken, nothing was picked.
   untaken : (p : Option Pick) → Picked p → takePick F p ≡ none → (i : ℕ) → matchAt ms i ≡ none
@@ -119,9 +125,16 @@ module _ (ms : List (Option Predicate)) (F : Frame) where
 
 -- What is taken, and what it means that nothing is.
 module _ (match : Matcher) (F : Frame) where
-  pub takes-by : (X : Extraction) → extractionBy match F ≡ some X → (position : ℕ) × TookAmong (matchesBy match F) F X position
+  pub takes-by : (X : Extraction) → extractionBy match F ≡ some X → TookAmong (matchesBy match F) F X
   unfolding extractionBy
-  takes-by = took-by (matchesBy match F) F (pick (matchesBy match F)) (picked (matchesBy match F) F)
+  takes-by X e = took-by (matchesBy match F) F (pick (matchesBy match F)) (picked (matchesBy match F) F) X e .1
+
+  -- It is one of the AND-leaves.
+  pub position-of-leaf : (X : Extraction) → extractionBy match F ≡ some X → X .position < length (leaves (F .expr))
+  unfolding extractionBy matchesBy
+  position-of-leaf X e =
+      rw (length-map (leaves (F .expr)) (match (F .records)))
+      at (took-by (matchesBy match F) F (pick (matchesBy match F)) (picked (matchesBy match F) F) X e .0)
 
   pub none-by : extractionBy match F ≡ none → (i : ℕ) → matchAt (matchesBy match F) i ≡ none
   unfolding extractionBy
@@ -161,10 +174,29 @@ matched match F = take-matched (matchesBy match F) F (pick (matchesBy match F)) 
 pub leafAt : Frame → ℕ → Expr
 leafAt F i = getD (leaves (F .expr)) i (literal 0 0)
 
+-- Each AND-leaf is a node, so a good frame has at most 1,024 of them.
+leaves-nodes : (e : Expr) → length (leaves e) ≤ nodes e
+unfolding leaves nodes
+leaves-nodes (column i g) = omega arith
+leaves-nodes (literal y v) = omega arith
+leaves-nodes (and l r) = simp length-append (omega (arith, leaves-nodes l, leaves-nodes r))
+leaves-nodes (binary o l r) = omega arith
+leaves-nodes (call name args) = omega arith
+leaves-nodes (other g cs) = omega arith
+leaves-nodes (field b g) = omega arith
+
+pub few-leaves : (F : Frame) → GoodPlan (held F) → length (leaves (F .expr)) ≤ mostNodes
+unfolding planNodes
+few-leaves F g = omega (arith, leaves-nodes (F .expr), g .fewNodes)
+
 module _ (match : Matcher) (F : Frame) (p : Pick) (h : Picked (matchesBy match F) F (some p)) where
   position-below : p .position < length (leaves (F .expr))
   unfolding matchesBy
   position-below = rw (length-map (leaves (F .expr)) (match (F .records))) at (h .0)
+
+  -- Two bytes hold it.
+  pub position-short : GoodPlan (held F) → Short (p .position)
+  position-short g = omega (arith, position-below, few-leaves F g)
 
   -- It is taken out of the expression,
   pub pick-taken : Taken (F .expr) (leafAt F (p .position)) (without (p .position) (F .expr))

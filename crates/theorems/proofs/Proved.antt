@@ -11,10 +11,11 @@ use Rattle.definitions.specs.Good.{NoMarks}
 use Rattle.definitions.specs.Sessions.{Made, SessionBy, planAfter, oddIn}
 use Rattle.definitions.specs.Meaning.{Valuation, Meaning, frameValue}
 use Rattle.definitions.specs.Matchers.{Lawful, Symmetric, LeafAsks}
-use Rattle.definitions.specs.Claims.{ExchangeTwice, ExtractExchanged, ExpressionReadBack, PlanReadBack, PlanOfBytes, ExtractionGood, ExchangeGood, LengthsShort, RefusedKeeps, AcceptedWrites, RefusalsOfCalls, LoadAccepted, LoadHolds, ListOfCalls, AnswersInPlace, SamePlan, ExchangeAccepted, ExtractAccepted, PickExactly, RestOfLeaves, ExtractTakes, PriceLineOfCalls, PriceLineStays, PriceLineExchanged, MachinesAgree, AndAssociative, AndCommutative, ExchangeValue, ExtractionValue, valuesWhen, HasValue, ListValue, FairMeaning, FairByArguments, MarksDiffer, NamesAreOnes, NamesOnce}
+use Rattle.definitions.specs.Claims.{ExchangeTwice, ExtractExchanged, ExpressionReadBack, PlanReadBack, PlanOfBytes, AnyPosition, ExtractionGood, ExchangeGood, LengthsShort, RefusedKeeps, AcceptedWrites, RefusalsOfCalls, LoadAccepted, LoadHolds, ListOfCalls, AnswersInPlace, SamePlan, ExchangeAccepted, ExtractAccepted, PickExactly, RestOfLeaves, ExtractTakes, PositionInBytes, PriceLineOfCalls, PriceLineStays, PriceLineExchanged, MachinesAgree, AndAssociative, AndCommutative, ExchangeValue, ExtractionValue, valuesWhen, HasValue, ListValue, FairMeaning, FairByArguments, MarksDiffer, NamesAreOnes, NamesOnce}
 use Rattle.definitions.specs.AnyMatcher.{Extracts, OneCall, Lists, AnyMatcher}
 use Rattle.definitions.specs.TenRows.{TenRows}
 use Rattle.definitions.specs.FurtherRows.{FurtherRows}
+use Rattle.definitions.specs.PositionRows.{PositionRows}
 use Rattle.definitions.specs.RefusalTable.{RefusalTable}
 use Rattle.definitions.specs.NameTables.{NameTables}
 use Rattle.definitions.specs.PrintClaims.{PrintsApart, PrintsNeverAlike, TextShort, TextPrintable, NoLeadingZero, PrintAccepted, PrintGiven, PrintRefused}
@@ -29,7 +30,7 @@ use Rattle.theorems.proofs.RoundTripPlan.{expr-reads, plan-reads}
 use Rattle.theorems.proofs.InversePlan.{plan-back}
 use Rattle.theorems.proofs.Taken.{rest-of-leaves-are}
 use Rattle.theorems.proofs.ExtractGood.{GoodExtraction, good-by}
-use Rattle.theorems.proofs.ExchangeGood.{exchange-good, plan-as-long}
+use Rattle.theorems.proofs.ExchangeGood.{exchange-good, plan-as-long, moved-good}
 use Rattle.theorems.proofs.Lists.{plan-good}
 use Rattle.theorems.proofs.ListTheorem.{load-accepts, load-held, list-agrees}
 use Rattle.theorems.proofs.Lengths.{load-is-short, make-short}
@@ -38,7 +39,7 @@ use Rattle.theorems.proofs.RefusalNumbers.{load-refusals, extract-refus
 use Rattle.theorems.proofs.Answers.{told, plan-told, in-place, plans-same, exchange-among, extract-among}
 use Rattle.theorems.proofs.MatchLaws.{match-laws}
 use Rattle.theorems.proofs.Pick.{takes-by, none-by}
-use Rattle.theorems.proofs.Machines.{extract-took, line-of-calls, line-stays, price-exchanged, same-leaf, same-refusal, never-mixed}
+use Rattle.theorems.proofs.Machines.{extract-took, names-leaf, line-of-calls, line-stays, price-exchanged, same-leaf, same-refusal, never-mixed}
 use Rattle.theorems.proofs.Truth.{fair-symmetric, plan-exchange-value, SameValue, value-by, machine-value}
 use Rattle.theorems.proofs.Values.{and-value-assoc, and-value-comm}
 use Rattle.theorems.proofs.FairExample.{fair-points, marks-apart}
@@ -46,6 +47,7 @@ use Rattle.theorems.proofs.FairCounting.{fair-counting}
 use Rattle.definitions.proofs.Names.{each-once, names-ones, tables-hold}
 use Rattle.definitions.proofs.Table.{ten-rows-hold}
 use Rattle.definitions.proofs.OurRows.{further-rows-hold}
+use Rattle.definitions.proofs.PlacedRows.{position-rows-hold}
 use Rattle.definitions.proofs.Refusals.{refusals-hold}
 use Rattle.theorems.proofs.PrintsApart.{told-apart}
 use Rattle.theorems.proofs.TextLength.{text-short}
@@ -95,6 +97,7 @@ module _ {match : Matcher} {Asks : Meaning → List Record → Type 0} (laws : L
     exchangeAccepted = λ F. exchange-among laws;
     extractAccepted = λ F. extract-among laws;
     takes = λ F. extract-took laws;
+    position = λ F. names-leaf laws;
     line = λ F. line-of-calls laws;
     lineStays = λ F. line-stays laws;
     lineExchanged = price-exchanged laws;
@@ -127,6 +130,9 @@ plan-read-back = plan-reads
 
 pub plan-of-bytes : PlanOfBytes
 plan-of-bytes = plan-back
+
+pub any-position : AnyPosition
+any-position = moved-good
 
 pub extraction-is-good : ExtractionGood
 extraction-is-good = by-leaf .0 .good
@@ -175,6 +181,9 @@ rest-of-leaves = rest-of-leaves-are
 
 pub extract-takes : ExtractTakes
 extract-takes = by-leaf .2 .takes
+
+pub position-in-bytes : PositionInBytes
+position-in-bytes = by-leaf .2 .position
 
 pub price-line-of-calls : PriceLineOfCalls
 price-line-of-calls = by-leaf .2 .line
@@ -226,6 +235,9 @@ ten-rows = ten-rows-hold
 
 pub further-rows : FurtherRows
 further-rows = further-rows-hold
+
+pub position-rows : PositionRows
+position-rows = position-rows-hold
 
 pub refusals : RefusalTable
 refusals = refusals-hold

@@ -164,17 +164,19 @@ remainder-reads (some F) n h k =
     after _ (ap (frameBody n) (sym (append-nil _)) ∙ body-reads F n [] h k) ∙ passes 8 (give (some F)) (n + nodes (F .expr)) [] (h .arity)
 
 extraction-body : (X : Extraction) → ReadablePlan (extracted X) → planNodes (extracted X) ≤ 1024
-    → extractionBody (predicateKind (X .predicate)) 0 (predicateFields (X .predicate) ++ remainderBytes (X .remainder))
+    → extractionBody (predicateKind (X .predicate)) 0
+    (bigEndian 2 (X .position) ++ (predicateFields (X .predicate) ++ remainderBytes (X .remainder)))
     ≡ read X (0 + predicateNodes (X .predicate) + remainderNodes (X .remainder)) []
 unfolding extractionBody planNodes
 extraction-body X h k =
-    after _ (predicate-reads (X .predicate) 0 (remainderBytes (X .remainder)) (h .0) (omega arith))
-    ∙ after _ (remainder-reads (X .remainder) (0 + predicateNodes (X .predicate)) (h .1) (omega arith))
+    after _ (number-reads 2 (X .position) 0 _ (h .0))
+    ∙ after _ (predicate-reads (X .predicate) 0 (remainderBytes (X .remainder)) (h .1) (omega arith))
+    ∙ after _ (remainder-reads (X .remainder) (0 + predicateNodes (X .predicate)) (h .2) (omega arith))
 
 pub extraction-reads : (X : Extraction) → GoodPlan (extracted X) → extractionOf (extractionBytes X) ≡ ok X
 unfolding extractionOf wholeExtraction extractionBytes planBytes resultOf atEnd noneLeft
 extraction-reads X g =
-    ap resultOf (opens (predicateKind (X .predicate)) (predicateFields (X .predicate) ++ remainderBytes (X .remainder)) _ (g .fewBytes)
+    ap resultOf (opens (predicateKind (X .predicate)) _ _ (g .fewBytes)
     ∙ after _ (extraction-body X (g .readable) (g .fewNodes)))
 
 -- ---- plans
