@@ -1,9 +1,10 @@
 -- From a pick and the frame that it is of to what the writers of predicate and remainder are given.
 use Prim.Native.Nat.{ℕ, _+_, _≤_}
 use native.Mathlib.Omega.{arith}
-use mathlib.Core.Path.{_≡_, refl, subst}
+use mathlib.Core.Path.{_≡_, refl, sym, ap, _∙_, subst}
 use mathlib.Core.List.{List, _++_}
 use lib.ListN.{length, length-append}
+use Rattle.definitions.specs.Basics.{bigEndian}
 use Rattle.definitions.specs.Expression as tree
 use Rattle.definitions.specs.Encode.{remainderBytes, extractionBytes}
 use Rattle.definitions.specs.Decode.{indexBelow}
@@ -14,7 +15,7 @@ use Rattle.spatial_expr_utils.specs.declared.pick.Pick.{Pick}
 use Rattle.writing.specs.Written.{Wrote}
 use Rattle.writing.specs.Writing.{Room, Puts}
 use Rattle.writing.proofs.Written.{behind, together, behind-length, then-wrote}
-use Rattle.argument_writer.specs.Tables.{Entries, Recorded, Table, childOf, ChildTable}
+use Rattle.argument_writer.specs.Tables.{Recorded, ChildTable}
 use Rattle.argument_writer.specs.Arguments.{changeOf}
 use Rattle.plan_writer.specs.Predicates.{predicateBytes}
 use Rattle.argument_writer.specs.declared.arguments.ColumnIndexes.the-variants.{FromTable}
@@ -22,16 +23,16 @@ use Rattle.argument_writer.proofs.ChildLaws.{by-children}
 use Rattle.pruning.specs.Remainders as remainders
 use Rattle.call_extract.specs.Extractions.{Taking, takes, ExtractionFits, ExtractionPut}
 
--- ---- an extraction is its predicate and its remainder
+-- ---- an extraction is its predicate with its position, and its remainder
 
-extraction-parts : (X : tree.Extraction) → predicateBytes (X .predicate) ++ remainderBytes (X .remainder) ≡ extractionBytes X
-unfolding extractionBytes predicateBytes
+extraction-parts : (X : tree.Extraction) → predicateBytes (X .position) (X .predicate) ++ remainderBytes (X .remainder) ≡ extractionBytes X
+unfolding extractionBytes predicateBytes bigEndian
 extraction-parts X = refl
 
 extraction-length : (X : tree.Extraction)
-    → length (extractionBytes X) ≡ length (predicateBytes (X .predicate)) + length (remainderBytes (X .remainder))
-unfolding extractionBytes predicateBytes
-extraction-length X = length-append (predicateBytes (X .predicate)) (remainderBytes (X .remainder))
+    → length (extractionBytes X) ≡ length (predicateBytes (X .position) (X .predicate)) + length (remainderBytes (X .remainder))
+extraction-length X =
+    ap length (sym (extraction-parts X)) ∙ length-append (predicateBytes (X .position) (X .predicate)) (remainderBytes (X .remainder))
 
 -- ---- what is taken
 
@@ -62,7 +63,7 @@ module _ {s : List ℕ} {f : Frame} {p : Pick} {out : List ℕ} (h : ExtractionF
   abbrev taken : tree.Extraction
   taken = takes (h .frame) p (h .predicate)
 
-  pub predicate-fits : Room (PredicateAt (changeOf FromTable to) s (p .predicate)) predicateBytes 0 out
+  pub predicate-fits : Room (PredicateAt (changeOf FromTable to) s (p .predicate)) (predicateBytes (p .position)) 0 out
   predicate-fits = record {
     it = h .predicate;
     stands = taken-predicate (h .taking) to wide table;
@@ -70,8 +71,8 @@ module _ {s : List ℕ} {f : Frame} {p : Pick} {out : List ℕ} (h : ExtractionF
   }
 
   module _ (middle : List ℕ) (w : ℕ) (same : length middle ≡ length out)
-      (put : Puts (PredicateAt (changeOf FromTable to) s (p .predicate)) predicateBytes out middle w) where
-    ended : w ≡ length (predicateBytes (h .predicate))
+      (put : Puts (PredicateAt (changeOf FromTable to) s (p .predicate)) (predicateBytes (p .position)) out middle w) where
+    ended : w ≡ length (predicateBytes (p .position) (h .predicate))
     ended = put .size (h .predicate) (taken-predicate (h .taking) to wide table)
 
     pub predicate-ends : w ≤ length middle
@@ -91,7 +92,7 @@ module _ {s : List ℕ} {f : Frame} {p : Pick} {out : List ℕ} (h : ExtractionF
 -- Both together are the extraction.
 module _ {s : List ℕ} {f : Frame} {p : Pick} (to : List ℕ) (wide : 256 ≤ length to) (table : ChildTable s (f .records) (f .columns) to)
     (before middle part : List ℕ) (w r : ℕ)
-    (put : Puts (PredicateAt (changeOf FromTable to) s (p .predicate)) predicateBytes before middle w)
+    (put : Puts (PredicateAt (changeOf FromTable to) s (p .predicate)) (predicateBytes (p .position)) before middle w)
     (rest : remainders.RemainderPut s (f .records) (f .columns) (f .root) (p .cut) (behind w middle) part r) where
   pub extraction-is : ExtractionPut s f p before (together w middle part) (w + r)
   extraction-is F q t =
@@ -101,7 +102,7 @@ module _ {s : List ℕ} {f : Frame} {p : Pick} (to : List ℕ) (wide : 256 ≤ l
       let two = rest (F .records) (F .expr) (f .root) (p .position) (taken-frame t) (t .cut) in (
         omega (arith, one, two .0, extraction-length X),
         subst (λ (x : List ℕ). Wrote x before (together w middle part)) (extraction-parts X)
-            (then-wrote (predicateBytes q) (remainderBytes (X .remainder)) before middle part w one (put .wrote q predicate) (two .1)),
+            (then-wrote (predicateBytes (p .position) q) (remainderBytes (X .remainder)) before middle part w one (put .wrote q predicate) (two .1)),
       )
 
   pub extraction-ends : ExtractionFits s f p before → w + r ≤ length before

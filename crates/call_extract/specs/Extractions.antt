@@ -26,7 +26,11 @@ pub record Taking (s : List ℕ) (f : Frame) (p : Pick) (F : tree.Frame) (q : tr
 
 -- The extraction that it takes.
 abbrev pub takes : tree.Frame → Pick → tree.Predicate → tree.Extraction
-takes F p q = record { predicate = q; remainder = Option·map (prune (F .records)) (without (p .position) (F .expr)) }
+takes F p q = record {
+  position = p .position;
+  predicate = q;
+  remainder = Option·map (prune (F .records)) (without (p .position) (F .expr));
+}
 
 -- There is one such, and room for it; each such was written.
 pub record ExtractionFits (s : List ℕ) (f : Frame) (p : Pick) (out : List ℕ) : Type 0 where

@@ -1,4 +1,4 @@
-// Writes the extraction that takes a pick: its predicate, then its remainder where the predicate ended.
+// Writes the extraction that takes a pick: its predicate with the pick's position, then its remainder where the predicate ended.
 use argument_writer::arguments::ColumnIndexes;
 use argument_writer::column_tables::child_indexes;
 use frame_reader::frames::Frame;
@@ -14,9 +14,10 @@ pub(crate) fn put_extraction(out: &mut [u8], src: &[u8], f: Frame, pick: Pick) -
 {
     let count = f.columns as usize;
     let predicate = pick.predicate;
+    let position = pick.position;
     let cut = pick.cut;
     let mut to = [0u16; 256];
     child_indexes(&mut to, src, f.records, count);
-    let w = put_predicate(out, src, predicate, ColumnIndexes::FromTable, &to);
+    let w = put_predicate(out, src, predicate, position, ColumnIndexes::FromTable, &to);
     w + put_remainder(&mut out[w..], src, f.records, count, f.root, cut)
 }

@@ -1,7 +1,7 @@
 -- Calls that meet their contracts are the definitions' calls, so a list of them is a session's list, of which all of demand 3 holds.
 use Prim.Native.Nat.{ℕ}
 use mathlib.Core.Path.{_≡_, refl, sym, ap, ap₂, _∙_, subst}
-use mathlib.Core.Bool.{Bool, true, _&&_, not}
+use mathlib.Core.Bool.{true, _&&_, not}
 use mathlib.Core.List.{List, [], _∷_, map}
 use mathlib.Core.Option.{some}
 use lib.ListN.{length, take}
@@ -11,18 +11,18 @@ use Rattle.definitions.specs.Basics.{ok}
 use Rattle.definitions.specs.Expression.{Frame, Extraction, held}
 use Rattle.definitions.specs.Encode.{frameBytes, planBytes}
 use Rattle.definitions.specs.Plans.{frameOf}
-use Rattle.definitions.specs.Extract.{Matcher}
+use Rattle.definitions.specs.Extract.{Matcher, matchesOf}
 use Rattle.definitions.specs.Match.{matchLeaf}
 use Rattle.definitions.specs.Calls.{LoadOutcome, load, Outcome, heldPlan}
 use Rattle.definitions.specs.Machine.{extractCall, exchangeCall}
 use Rattle.definitions.specs.Good.{AllBytes}
-use Rattle.definitions.specs.Sessions.{Made, makeBy, make, ListOutcome, callsRunBy, callsRun, machineAfter, accepted, extractAccepted, exchangesOdd, Session, after, planLeft, extractedIn, oddIn}
+use Rattle.definitions.specs.Sessions.{Made, makeBy, make, ListOutcome, callsRunBy, callsRun, machineAfter, accepted, extractAccepted, exchangesOdd, Session, after, planLeft}
 use Rattle.definitions.specs.Meaning.{frameValue}
-use Rattle.definitions.specs.Claims.{Agree, someLeafMatches, Took, extractedPlan, priceLine, valuesWhen, HasValue}
+use Rattle.definitions.specs.Claims.{Agree, someLeafMatches, Took, extractedPlan, NamesLeaf, priceLine, valuesWhen, HasValue}
 use Rattle.definitions.specs.Merge.{mergeFrames, merge}
 use Rattle.definitions.specs.History.{Call, loading, making, merging, oneCallBy, historyBy}
 use Rattle.theorems.proofs.InverseFrame.{same-ok}
-use Rattle.theorems.proofs.Proved.{load-holds, list-of-calls, same-plan, exchange-accepted, extract-accepted, extract-takes, price-line-stays, list-has-value, merge-holds, history-of-calls}
+use Rattle.theorems.proofs.Proved.{load-holds, list-of-calls, same-plan, exchange-accepted, extract-accepted, extract-takes, position-in-bytes, price-line-stays, list-has-value, merge-holds, history-of-calls}
 use Rattle.join_filter.specs.Outcomes.{answerOf, nAfter, LoadIs, OutcomeIs}
 use Rattle.join_filter.specs.Lists.{CallIs, Ran, noCall, called, Starts, byLoad, byMerge, CodeRun, outcome, plan, extracted, odd, DemandThree, CodeMeetsDemandThree}
 use Rattle.join_filter.specs.declared.answers.Answer.{Answer}
@@ -145,9 +145,11 @@ module _ (F : Frame) where
         (λ s. extract-accepted F s calls scratch) r;
     pick = λ calls. told
         (λ (x : ListOutcome). extractAccepted calls (x .answers) ≡ true
-        → (X : Extraction) × (position : ℕ) × Took F X position
-        × (planLeft x ≡ planBytes (extractedPlan X (exchangesOdd calls (x .answers)))))
+        → (X : Extraction) × Took F X × (planLeft x ≡ planBytes (extractedPlan X (exchangesOdd calls (x .answers)))))
         (λ s. extract-takes F s calls);
+    position = λ calls. told
+        (λ (x : ListOutcome). extractAccepted calls (x .answers) ≡ true → NamesLeaf (matchesOf F) F (planLeft x))
+        (λ s. position-in-bytes F s calls);
     line = λ calls. told
         (λ (x : ListOutcome). extractAccepted calls (x .answers) ≡ true
         → (line : ℕ) × (priceLine F ≡ some line) × (take 1 (planLeft x) ≡ line ∷ []))

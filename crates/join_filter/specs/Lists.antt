@@ -11,12 +11,13 @@ use Rattle.definitions.specs.Expression.{Frame, Extraction, held}
 use Rattle.definitions.specs.Encode.{frameBytes, planBytes}
 use Rattle.definitions.specs.Plans.{frameOf}
 use Rattle.definitions.specs.Match.{matchLeaf}
+use Rattle.definitions.specs.Extract.{matchesOf}
 use Rattle.definitions.specs.Calls.{heldPlan}
 use Rattle.definitions.specs.Machine.{extractCall, exchangeCall}
 use Rattle.definitions.specs.Good.{AllBytes, NoMarks}
 use Rattle.definitions.specs.Sessions.{Made, make, ListOutcome, machineAfter, accepted, extractAccepted, exchangesOdd, planLeft}
 use Rattle.definitions.specs.Meaning.{Valuation, Meaning, Fair, frameValue}
-use Rattle.definitions.specs.Claims.{Agree, someLeafMatches, Took, extractedPlan, priceLine, valuesWhen, HasValue}
+use Rattle.definitions.specs.Claims.{Agree, someLeafMatches, Took, extractedPlan, NamesLeaf, priceLine, valuesWhen, HasValue}
 use Rattle.definitions.specs.Merge.{mergeFrames, merge}
 use Rattle.definitions.specs.History.{Call, loading, making, merging, nothing, statePlan, machineHistory, FramesAreBytes}
 use Rattle.join_filter.specs.Outcomes.{answerOf, nAfter, LoadIs, OutcomeIs}
@@ -94,7 +95,9 @@ pub record DemandThree (F : Frame) : Type 0 where
       → accepted (answerOf a) ≡ (leb (r .n) (length scratch) && (not (extracted r) && someLeafMatches F))
   -- An accepted extract takes the first KNN match, failing that the first match.
   pub pick : (calls : List Made) (r : CodeRun F calls) → extracted r ≡ true
-      → (X : Extraction) × (position : ℕ) × Took F X position × (plan r ≡ planBytes (extractedPlan X (odd r)))
+      → (X : Extraction) × Took F X × (plan r ≡ planBytes (extractedPlan X (odd r)))
+  -- Bytes 1 and 2 of the plan are its leaf's position among the frame's AND-leaves (request 4).
+  pub position : (calls : List Made) (r : CodeRun F calls) → extracted r ≡ true → NamesLeaf (matchesOf F) F (plan r)
   -- Whatever was exchanged, the plan then is on the frame's price line.
   pub line : (calls : List Made) (r : CodeRun F calls) → extracted r ≡ true
       → (line : ℕ) × (priceLine F ≡ some line) × (take 1 (plan r) ≡ line ∷ [])

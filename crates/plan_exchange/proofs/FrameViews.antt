@@ -1,9 +1,10 @@
 -- The bytes of an exchanged frame, remainder and extraction as the parts that are written one after another.
 use Prim.Native.Nat.{ℕ}
-use mathlib.Core.Path.{_≡_, refl}
+use mathlib.Core.Path.{_≡_}
 use mathlib.Core.List.{List, [], _∷_}
 use mathlib.Core.Option.{Option, none}
 use lib.ListN.{length-map}
+use Rattle.definitions.specs.Basics.{bigEndian}
 use Rattle.definitions.specs.Expression as tree
 use Rattle.definitions.specs.Encode.{exprBytes, frameBytes, remainderBytes, extractionBytes}
 use Rattle.definitions.specs.Exchange.{exchangeRecord, exchangeFrame, exchangePredicate, exchangeExtraction}
@@ -26,11 +27,11 @@ pub nothing-bytes : (R : Option tree.Frame) → R ≡ none → remainderExchange
 unfolding remainderBytes
 nothing-bytes R e = rw e
 
--- An exchanged extraction is the swapped predicate and then its remainder.
+-- An exchanged extraction is the swapped predicate with the position as it was, and then its remainder.
 abbrev pub ExtractionView : List ℕ → (end : ℕ) → Extraction → (swapped : SpatialPredicate) → Type 0
 ExtractionView s end x swapped = (X : tree.Extraction) → ExtractionAt s x end X
-    → Headed [] (Both (PredicateAt unchanged s swapped) (RemainderAt s (x .remainder) end)) (joined predicateBytes remainderExchanged)
-    (extractionExchanged X)
+    → Headed [] (Both (PredicateAt unchanged s swapped) (RemainderAt s (x .remainder) end))
+    (joined (predicateBytes (x .position)) remainderExchanged) (extractionExchanged X)
 
 module _ {s : List ℕ} (end : ℕ) where
   pub frame-view : (f : Frame) (F : tree.Frame) → FrameAt s f end F
@@ -51,9 +52,9 @@ module _ {s : List ℕ} (end : ℕ) where
   pub extraction-view : (x : Extraction) (swapped : SpatialPredicate)
       → Exchanges (λ s. PredicateAt unchanged s (x .predicate)) (λ s. PredicateAt unchanged s swapped)
       → ExtractionView s end x swapped
-  unfolding extractionBytes exchangeExtraction predicateBytes
+  unfolding extractionBytes exchangeExtraction predicateBytes bigEndian
   extraction-view x swapped swaps X h = record {
     it = (exchangePredicate (X .predicate), X .remainder);
     stands = record { one = swaps s (X .predicate) (h .predicate); two = h .remainder };
-    is = refl;
+    is = rw (h .position);
   }

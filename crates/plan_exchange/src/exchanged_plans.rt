@@ -9,16 +9,17 @@ ghost use Rattle.writing.specs.Writing.{Room, Puts};
 ghost use Rattle.plan_reader.specs.Plans.{ExtractionAt};
 ghost use Rattle.plan_exchange.specs.Exchanged.{extractionExchanged, PlanAt, HeldPlan, ExchangedPlan};
 
-// The extraction exchanged, its remainder where the predicate ended.
+// The extraction exchanged, its position kept, its remainder where the predicate ended.
 fn put_extraction_exchanged(out: &mut [u8], src: &[u8], x: Extraction, end: usize) -> usize
     requires { ⌜ Room (ExtractionAt (now src) x end) extractionExchanged 0 (now out) ⌝ }
     ensures { λ r. ⌜ Puts (ExtractionAt (now (src .entry)) x end) extractionExchanged (now (out .entry)) (now (out .exit)) r ⌝ }
 {
     let predicate = x.predicate;
     let swapped = predicate.swap_for_swapped_children();
+    let position = x.position as usize;
     let rest = x.remainder;
     let to = [0u16; 1];
-    let w = put_predicate(out, src, swapped, ColumnIndexes::Kept, &to);
+    let w = put_predicate(out, src, swapped, position, ColumnIndexes::Kept, &to);
     w + put_remainder_exchanged(&mut out[w..], src, rest, end)
 }
 

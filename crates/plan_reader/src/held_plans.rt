@@ -1,6 +1,7 @@
 // Held plans: nothing, a physical frame, or an extraction.
 use field_reader::field_readers::Field;
 use field_reader::field_readers::byte;
+use field_reader::field_readers::number;
 use frame_reader::frames::Body;
 use frame_reader::frames::Frame;
 use frame_reader::frames::Physical;
@@ -18,7 +19,7 @@ ghost use Rattle.definitions.specs.Basics.{mapResult};
 ghost use Rattle.definitions.specs.Expression.{extracted};
 ghost use Rattle.definitions.specs.Decode as decode;
 ghost use Rattle.definitions.specs.Plans as plans;
-ghost use Rattle.plan_reader.specs.Plans.{RemainderIs, ExtractionIs, HeldIs};
+ghost use Rattle.plan_reader.specs.Plans.{afterPosition, RemainderIs, ExtractionIs, HeldIs};
 
 // What is left of the frame that a predicate was taken from.
 pub enum Remainder {
@@ -26,8 +27,9 @@ pub enum Remainder {
     Frame(Frame),
 }
 
-// An extraction: its predicate and its remainder.
+// An extraction: the position that it holds, its predicate and its remainder.
 pub struct Extraction {
+    pub position: u64,
     pub predicate: SpatialPredicate,
     pub remainder: Remainder,
 }
@@ -85,10 +87,10 @@ fn remainder_at(s: &[u8], at: usize, nodes: usize) -> Remained
     }
 }
 
-// An extraction after its first byte.
-fn extraction_body(s: &[u8], at: usize, first: u64) -> Extracted
+// What follows the position of an extraction: its predicate, which the first byte announces, and its remainder.
+fn after_position(s: &[u8], at: usize, first: u64, position: u64) -> Extracted
     requires { ⌜ at ≤ length (now s) ⌝ }
-    ensures { λ r. ⌜ ExtractionIs (now (s .entry)) at r (decode.extractionBody first) ⌝ }
+    ensures { λ r. ⌜ ExtractionIs (now (s .entry)) at r (afterPosition first position) ⌝ }
 {
     match predicate_of_kind(s, at, first) {
         Predicated::Refused(why) => Extracted::Refused(why),
@@ -96,12 +98,24 @@ fn extraction_body(s: &[u8], at: usize, first: u64) -> Extracted
             Remained::Refused(why) => Extracted::Refused(why),
             Remained::Read(remainder, end) => Extracted::Read(
                 Extraction {
+                    position,
                     predicate,
                     remainder,
                 },
                 end,
             ),
         },
+    }
+}
+
+// An extraction after its first byte; its position may be any.
+fn extraction_body(s: &[u8], at: usize, first: u64) -> Extracted
+    requires { ⌜ at ≤ length (now s) ⌝ }
+    ensures { λ r. ⌜ ExtractionIs (now (s .entry)) at r (decode.extractionBody first) ⌝ }
+{
+    match number(s, at, 2) {
+        Field::Refused(why) => Extracted::Refused(why),
+        Field::Value(position, next) => after_position(s, next, first, position),
     }
 }
 

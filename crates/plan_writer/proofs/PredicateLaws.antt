@@ -1,8 +1,8 @@
--- The fields of a predicate as numbers and the arguments after them, and its bytes as its first byte and its fields.
+-- The fields of a predicate as numbers and the arguments after them, and its bytes as its first byte, its position and its fields.
 use Prim.Native.Nat.{ℕ, _≤_}
 use native.Mathlib.Omega.{arith}
 use mathlib.Core.Path.{_≡_, refl, sym, ap, _∙_}
-use mathlib.Core.List.{List, [], _∷_, append-assoc}
+use mathlib.Core.List.{List, [], _∷_, _++_, append-assoc}
 use lib.ListN.{length}
 use lib.Seq.{sets}
 use Rattle.definitions.specs.Basics.{bigEndian}
@@ -24,7 +24,7 @@ use Rattle.writing.specs.Writing.{Room, Both, joined}
 use Rattle.writing.proofs.Written.{chain}
 use Rattle.writing.proofs.Sequence.{stores, Headed, head-room}
 use Rattle.argument_writer.specs.Arguments.{changeOf, Stood, written, BothStood, bothWritten}
-use Rattle.plan_writer.specs.Predicates.{predicateBytes, kindOf, knnHead}
+use Rattle.plan_writer.specs.Predicates.{headOf, predicateBytes, kindOf, knnHead}
 use Rattle.argument_writer.specs.declared.arguments.ColumnIndexes.{ColumnIndexes}
 use Rattle.argument_writer.specs.declared.arguments.Argument.{Argument}
 
@@ -119,7 +119,7 @@ knn-head k spheroid probe ties before {middle} {r} room same number =
     let end : r ≡ 4 = number .ends in
     chain (omega arith) (rw end at number) (stores (spheroid ∷ probe ∷ ties ∷ []) middle 4 (omega arith))
 
--- ---- the first byte, then the fields
+-- ---- the first byte and the position, then the fields
 
 first-byte : (change : Change) (s : List ℕ) (p : SpatialPredicate) (P : Predicate) → PredicateAt change s p P → predicateKind P ≡ kindOf p
 unfolding predicateKind
@@ -127,13 +127,17 @@ first-byte change s (Distance p) P h = ap predicateKind (h .is)
 first-byte change s (Relation p) P h = ap predicateKind (h .is)
 first-byte change s (KNearestNeighbors p) P h = ap predicateKind (h .is)
 
--- A predicate is its first byte and then its fields.
-abbrev pub PredicateView : Change → List ℕ → SpatialPredicate → (number : ℕ) → Type 0
-PredicateView change s p number =
-    (P : Predicate) → PredicateAt change s p P → Headed (number ∷ []) (PredicateAt change s p) predicateFields (predicateBytes P)
+-- A predicate is its first byte with its position and then its fields.
+abbrev pub PredicateView : Change → List ℕ → SpatialPredicate → (kind position : ℕ) → Type 0
+PredicateView change s p kind position =
+    (P : Predicate) → PredicateAt change s p P
+    → Headed (headOf kind position) (PredicateAt change s p) predicateFields (predicateBytes position P)
 
-pub predicate-view : (change : Change) (s : List ℕ) (p : SpatialPredicate) (number : ℕ) → number ≡ kindOf p
-    → PredicateView change s p number
-unfolding predicateBytes
-predicate-view change s p number e P h =
-    record { it = P; stands = h; is = ap (λ (n : ℕ). n ∷ predicateFields P) (first-byte change s p P h ∙ sym e) }
+pub predicate-view : (change : Change) (s : List ℕ) (p : SpatialPredicate) (kind position : ℕ) → kind ≡ kindOf p
+    → PredicateView change s p kind position
+unfolding predicateBytes headOf
+predicate-view change s p kind position e P h = record {
+  it = P;
+  stands = h;
+  is = ap (λ (n : ℕ). n ∷ (bigEndian 2 position ++ predicateFields P)) (first-byte change s p P h ∙ sym e);
+}

@@ -1,4 +1,4 @@
-// The one writer of predicates: the first byte, then the fields into the part after it.
+// The one writer of predicates: the first byte and the position, then the fields into the part after them.
 ghost use mathlib.Core.Path.{_≡_};
 ghost use Prim.Native.Nat.{_≤_};
 ghost use lib.ListN.{length};
@@ -8,6 +8,7 @@ ghost use Rattle.writing.specs.Written.{WroteAt};
 ghost use Rattle.writing.specs.Writing.{Room, Puts};
 ghost use Rattle.argument_writer.specs.Arguments.{changeOf};
 ghost use Rattle.plan_writer.specs.Predicates.{predicateBytes, kindOf, knnHead};
+use crate::frame_heads::put_head;
 use argument_writer::arguments::Argument;
 use argument_writer::arguments::ColumnIndexes;
 use argument_writer::arguments::put_both;
@@ -124,7 +125,7 @@ fn put_knn(out: &mut [u8], src: &[u8], p: KNNPredicate, indexes: ColumnIndexes, 
     put_both(out, w, src, left, right, indexes, to)
 }
 
-// A predicate after its first byte.
+// A predicate after its first byte and its position.
 fn put_fields(
     out: &mut [u8],
     src: &[u8],
@@ -154,18 +155,21 @@ fn predicate_kind(p: SpatialPredicate) -> u8
     }
 }
 
-// Writes a predicate to the start of `out`, its columns' indexes kept or changed by the table; answers its length.
+// Writes a predicate to the start of `out`, with the position of its leaf and its columns' indexes kept or changed by the table;
+// answers its length.
 pub fn put_predicate(
     out: &mut [u8],
     src: &[u8],
     p: SpatialPredicate,
+    position: usize,
     indexes: ColumnIndexes,
     to: &[u16],
 ) -> usize
-    requires { ⌜ Room (PredicateAt (changeOf indexes (now to)) (now src) p) predicateBytes 0 (now out) ⌝ }
-    ensures { λ r. ⌜ Puts (PredicateAt (changeOf indexes (now (to .entry))) (now (src .entry)) p) predicateBytes (now (out .entry))
-        (now (out .exit)) r ⌝ }
+    requires { ⌜ Room (PredicateAt (changeOf indexes (now to)) (now src) p) (predicateBytes position) 0 (now out) ⌝ }
+    ensures { λ r. ⌜ Puts (PredicateAt (changeOf indexes (now (to .entry))) (now (src .entry)) p) (predicateBytes position)
+        (now (out .entry)) (now (out .exit)) r ⌝ }
 {
-    out[0] = predicate_kind(p);
-    1 + put_fields(&mut out[1..], src, p, indexes, to)
+    let kind = predicate_kind(p);
+    let w = put_head(out, kind, position);
+    w + put_fields(&mut out[w..], src, p, indexes, to)
 }

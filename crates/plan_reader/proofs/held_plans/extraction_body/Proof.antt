@@ -1,44 +1,28 @@
--- A predicate and then its remainder.
-use Rattle.predicate_reader.specs.declared.held_predicates.Predicated.the-variants.{Read}
-use Rattle.predicate_reader.specs.Predicates.{PredicateIs}
+-- The position in two bytes, and what follows it.
 use borrow.Author.Needs.{needs}
-use mathlib.Core.Path.{_∙_}
-use Rattle.definitions.specs.Decode.{predicateOfKind, extractionBody}
+use lib.Dec.{lit≤}
+use Rattle.definitions.specs.Decode.{extractionBody}
 use Rattle.theorems.proofs.ReaderLaws.{after, halts}
+use Rattle.plan_reader.proofs.Extractions.{read-on}
 use Rattle.plan_reader.proofs.held_plans.extraction_body.Statement.{statement}
 use Rattle.plan_reader.proofs.held_plans.extraction_body.Tie as tie
 
--- The predicate was read.
-found : (p : tie.After-predicate)
-    → let a = p .before .before .before .before .args in
-    let read = p .predicate .given .0 in
-    PredicateIs (a .s .now) (a .at) (Read (read .0) (read .1 .0) (read .1 .1 .0)) (predicateOfKind (a .first))
-found p = rw (p .predicate .given .1) at (p .before .before .predicate-of-kind .ensures)
-
-returns-3 : tie.Need-returns-3
+returns-2 : tie.Need-returns-2
 unfolding extractionBody
-returns-3 c =
-    let predicate = found (c .before .before .before .before .before) in
-    let rest = rw (c .before .remainder .given .1) at (c .before .before .before .remainder-at .ensures) in (
-      rest .0,
-      record { predicate = predicate .1; remainder = rest .1 },
-      record { predicate = predicate .2; remainder = rest .2 },
-      rest .3,
-      after _ (predicate .3) ∙ after _ (rest .4),
-    )
+returns-2 c =
+    let at-position = c .before .before in
+    let position = rw (at-position .position .given .1) at (at-position .before .before .number .ensures) in
+    let a = at-position .before .before .before .before .args in
+    read-on (a .s .now) (a .at) _ _ _ (c .after-position .result) (after _ (position .1 0)) (c .after-position .ensures)
 
 pub extraction-body-spec : {M : Type 1} → statement M
 unfolding extractionBody
 extraction-body-spec =
     tie.close
     (tie.spec
+    (λ c κs. (c .before .pre, lit≤ tt))
     (search needs)
     (search needs)
-    (search needs)
-    (λ c κs. found (c .before) .0)
-    (search needs)
-    (search needs)
-    (λ c. halts _ (rw (c .before .why .given .1) at (c .before .before .before .predicate-of-kind .ensures)))
-    (λ c. after _ (found (c .before .before .before .before .before) .3)
-    ∙ halts _ (rw (c .before .why2 .given .1) at (c .before .before .before .remainder-at .ensures)))
-    returns-3)
+    (λ c κs. (rw (c .before .position .given .1) at (c .before .before .before .number .ensures)) .0)
+    (λ c. halts _ ((rw (c .before .why .given .1) at (c .before .before .before .number .ensures)) 0))
+    returns-2)

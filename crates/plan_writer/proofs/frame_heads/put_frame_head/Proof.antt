@@ -1,19 +1,9 @@
--- `put_frame_head`: one byte, and the count in two.
-use native.Mathlib.Omega.{arith}
+-- `put_frame_head`: the first byte is 1, the number the count.
 use borrow.Author.Needs.{needs}
-use mathlib.Core.Path.{_∙_}
-use lib.ListN.{length-set}
-use Rattle.writing.proofs.Sequence.{byte-then}
-use Rattle.plan_writer.specs.Predicates.{frameHead}
+use Rattle.plan_writer.specs.Predicates.{headOf, frameHead}
 use Rattle.plan_writer.proofs.frame_heads.put_frame_head.Statement.{statement}
 use Rattle.plan_writer.proofs.frame_heads.put_frame_head.Tie as tie
 
 pub put-frame-head-spec : {M : Type 1} → statement M
-unfolding frameHead
-put-frame-head-spec =
-    tie.close
-    (tie.spec
-    (search needs)
-    (λ c κs. simp length-set (omega arith))
-    (λ c. c .before .before .put-number .kept .0 ∙ simp length-set)
-    (λ c. byte-then 1 (omega arith) (c .before .before .put-number .ensures)))
+unfolding headOf frameHead
+put-frame-head-spec = tie.close (tie.spec (search needs) (search needs) (λ c. c .before .before .put-head .ensures))
