@@ -25,9 +25,9 @@
 #include <stddef.h>
 #include <stdint.h>
 
-#define SPATIALJOIN_VERSION "0.3.0"
+#define SPATIALJOIN_VERSION "0.4.0"
 #define SPATIALJOIN_VERSION_MAJOR 0
-#define SPATIALJOIN_VERSION_MINOR 3
+#define SPATIALJOIN_VERSION_MINOR 4
 #define SPATIALJOIN_VERSION_PATCH 0
 
 /* The most bytes of a frame or plan. */
@@ -77,6 +77,10 @@ enum spatialjoin_plan {
     SPATIALJOIN_DISTANCE = 0x12, /* a distance */
     SPATIALJOIN_KNN = 0x13       /* nearest neighbours */
 };
+
+/* Of a plan that is an extraction: the position, from 0, of the conjunct that was taken among those of the filter as it was loaded or
+ * merged. Exchanging keeps it. */
+#define SPATIALJOIN_POSITION_OF(plan) ((unsigned)(plan)[1] * 256 + (unsigned)(plan)[2])
 
 /* The names in the mask of spatialjoin_logical. */
 enum spatialjoin_name {

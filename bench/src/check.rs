@@ -12,6 +12,18 @@ use crate::operations::{
 use crate::ours::{self, Console, Ours};
 use crate::plain;
 
+/// An extraction's bytes without its position, which the original does not have.
+fn without_position(plan: &[u8]) -> Vec<u8> {
+    [&plan[..1], &plan[3..]].concat()
+}
+
+/// Ours is the reading's extraction; the original's is, but for the position.
+fn same_extraction(what: &str, ours: &[u8], original: &[u8], reading: &[u8]) -> Result<(), String> {
+    same(what, ours, reading, reading)?;
+    let rest = without_position(reading);
+    same(what, &rest, original, &rest)
+}
+
 fn same(what: &str, ours: &[u8], original: &[u8], reading: &[u8]) -> Result<(), String> {
     if ours != reading {
         return Err(format!("{what}: ours differs from the reading"));
@@ -53,12 +65,12 @@ pub fn physical(physical: &Physical) -> Result<(), String> {
         ours.extract();
         out.clear();
         extract_from_bytes(frame, functions, &mut out);
-        same(name, ours.plan(), &out, &read(frame, &["extract"]))?;
+        same_extraction(name, ours.plan(), &out, &read(frame, &["extract"]))?;
         ours.exchange();
         out.clear();
         exchange_extraction_bytes(extraction, functions, &mut out);
         let expected = read(frame, &["extract", "exchange"]);
-        same(name, ours.plan(), &out, &expected)?;
+        same_extraction(name, ours.plan(), &out, &expected)?;
     }
     Ok(())
 }

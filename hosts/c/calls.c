@@ -80,12 +80,27 @@ static void refusals_of_plans(void)
     expect("extract, scratch too short", spatialjoin_extract(plan, sizeof plan, n, scratch, n - 1), SPATIALJOIN_TOO_SHORT);
     expect("exchange, scratch too short", spatialjoin_exchange(plan, sizeof plan, n, scratch, n - 1), SPATIALJOIN_TOO_SHORT);
     extracted = spatialjoin_extract(plan, sizeof plan, n, scratch, n);
-    expect("extract", extracted, 13);
+    expect("extract", extracted, 15);
     expect("a relation", plan[0], SPATIALJOIN_RELATION);
-    expect("extract again", spatialjoin_extract(plan, sizeof plan, 13, scratch, 13), SPATIALJOIN_ALREADY_EXTRACTED);
-    expect("exchange", spatialjoin_exchange(plan, sizeof plan, 13, scratch, 13), 13);
+    expect("extract again", spatialjoin_extract(plan, sizeof plan, 15, scratch, 15), SPATIALJOIN_ALREADY_EXTRACTED);
+    expect("exchange", spatialjoin_exchange(plan, sizeof plan, 15, scratch, 15), 15);
     plan[0] = SPATIALJOIN_FRAME;
-    expect("no plan", spatialjoin_exchange(plan, sizeof plan, 13, scratch, 13), SPATIALJOIN_NO_GOOD_PLAN);
+    expect("no plan", spatialjoin_exchange(plan, sizeof plan, 15, scratch, 15), SPATIALJOIN_NO_GOOD_PLAN);
+}
+
+/* Which conjunct was taken: of a filter whose first one does not match, and of a held extraction with any position. */
+static void positions(void)
+{
+    size_t n = (size_t)LOAD(UNMATCHED);
+    n = (size_t)spatialjoin_merge((const uint8_t *)GOOD, sizeof(GOOD) - 1, plan, sizeof plan, n, scratch, sizeof scratch);
+    n = (size_t)spatialjoin_extract(plan, sizeof plan, n, scratch, sizeof scratch);
+    expect("the second conjunct", SPATIALJOIN_POSITION_OF(plan), 1);
+    n = (size_t)spatialjoin_exchange(plan, sizeof plan, n, scratch, sizeof scratch);
+    expect("the second conjunct, exchanged", SPATIALJOIN_POSITION_OF(plan), 1);
+    plan[1] = 0xff;
+    plan[2] = 0xfe;
+    expect("any position", spatialjoin_exchange(plan, sizeof plan, n, scratch, sizeof scratch), (int64_t)n);
+    expect("any position, kept", SPATIALJOIN_POSITION_OF(plan), 65534);
 }
 
 static void names_of_frames(void)
@@ -234,6 +249,7 @@ int main(void)
 {
     refusals_of_frames();
     refusals_of_plans();
+    positions();
     names_of_frames();
     texts_of_frames();
     refusals_of_texts();

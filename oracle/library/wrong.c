@@ -23,6 +23,27 @@ int64_t spatialjoin_load(const uint8_t *frame, size_t frame_len, uint8_t *plan, 
     return answer;
 }
 
+/* What is wrong with the position in an extraction that a call left. */
+static void spoil_position(uint8_t *plan, int64_t answer, int wrong)
+{
+    uint8_t high;
+    if (answer <= 0 || plan[0] == 1) {
+        return;
+    }
+    high = plan[1];
+    if (wrong == 27 || wrong == 30) {
+        plan[1] = 0;
+        plan[2] = 0;
+    }
+    if (wrong == 28) {
+        plan[2] += 1;
+    }
+    if (wrong == 29) {
+        plan[1] = plan[2];
+        plan[2] = high;
+    }
+}
+
 int64_t spatialjoin_extract(uint8_t *plan, size_t plan_len, size_t n, uint8_t *scratch, size_t scratch_len)
 {
     int64_t answer = right_extract(plan, plan_len, n, scratch, scratch_len);
@@ -32,6 +53,7 @@ int64_t spatialjoin_extract(uint8_t *plan, size_t plan_len, size_t n, uint8_t *s
     if (WRONG == 4 && answer == -13 && scratch_len > 0) {
         scratch[0] ^= 1;
     }
+    spoil_position(plan, answer, WRONG == 30 ? 0 : WRONG);
     return answer;
 }
 
@@ -44,6 +66,11 @@ int64_t spatialjoin_exchange(uint8_t *plan, size_t plan_len, size_t n, uint8_t *
     if (WRONG == 6 && answer == -9 && n == scratch_len + 1) {
         answer = -11;
     }
+    if (WRONG == 31 && answer > 0 && plan[0] != 1 && 256 * (size_t)plan[1] + plan[2] > 1023) {
+        memcpy(plan, scratch, n);
+        answer = -10;
+    }
+    spoil_position(plan, answer, WRONG == 30 ? WRONG : 0);
     return answer;
 }
 

@@ -213,6 +213,9 @@ impl<'a, const TEXT: bool> Checker<'a, TEXT> {
             KNN => (&[255, 255, 255, 255, 1, 1, 2], 2),
             _ => return Err(2),
         };
+        // The position, which may be any.
+        self.byte_up_to(255)?;
+        self.byte_up_to(255)?;
         for most in most {
             self.byte_up_to(*most)?;
         }

@@ -72,6 +72,15 @@ pub fn load(frame: &[u8], plan: &mut [u8]) -> Result<usize, Refusal> {
     length(numbers::load(frame, plan))
 }
 
+/// The position, from 0, of the conjunct that was taken among those of the filter as it was loaded
+/// or merged, read off the plan's bytes. `None` where the plan is no extraction.
+pub fn position(plan: &[u8]) -> Option<u16> {
+    match *plan {
+        [0x11..=0x13, high, low, ..] => Some(u16::from_be_bytes([high, low])),
+        _ => None,
+    }
+}
+
 /// Pulls the spatial predicate out of the filter in the plan's first `n` bytes and gives the new
 /// plan's length. The old plan is copied to the scratch's first `n` bytes.
 ///

@@ -2,7 +2,7 @@
 //! merged filters.
 
 use spatialjoin::{MOST_BYTES, MOST_TEXT, NAMES, Names, Refusal, STACK_BYTES, Side};
-use spatialjoin::{exchange, extract, load, logical, merge, print};
+use spatialjoin::{exchange, extract, load, logical, merge, position, print};
 
 /// Columns 0 (of the left child) and 1 (of the right).
 const RECORDS: &[u8] = b"\x01\0\x02\0\0\0\0\0\x01\0\0\0\0";
@@ -114,7 +114,7 @@ fn refusals_of_an_extract() {
     assert_eq!(plan[..n], good());
 
     let extracted = extract(&mut plan, n, &mut scratch).expect("it matches");
-    assert_eq!(plan[..extracted], [&[0x11, 2], LEFT, LEFT, &[0]].concat());
+    assert_eq!(plan[..extracted], [&[0x11, 0, 0, 2], LEFT, LEFT, &[0]].concat());
     assert_eq!(scratch, good());
     let again = extract(&mut plan, extracted, &mut scratch);
     assert_eq!(again, Err(Refusal::AlreadyExtracted));
@@ -232,6 +232,21 @@ fn the_worked_run_with_a_row_policy() {
     assert_eq!(text_of(&plan[..merged]), answers[2]);
     let extracted = extract(&mut plan, merged, &mut scratch).expect("it matches");
     assert_eq!([&[0], &plan[..extracted]].concat(), bytes(answers[3]));
+}
+
+#[test]
+fn the_position_of_the_conjunct_that_was_taken() {
+    let (mut plan, n) = loaded(&[RECORDS, LEFT].concat());
+    let mut scratch = vec![0; MOST_BYTES];
+    let n = merge(&good(), &mut plan, n, &mut scratch).expect("two good frames");
+    assert_eq!(position(&plan[..n]), None);
+    let n = extract(&mut plan, n, &mut scratch).expect("the second matches");
+    assert_eq!(position(&plan[..n]), Some(1));
+    plan[1..3].copy_from_slice(&[0xff, 0xfe]);
+    let n = exchange(&mut plan, n, &mut scratch).expect("any position is good");
+    assert_eq!(position(&plan[..n]), Some(65_534));
+    assert_eq!(position(&plan[..2]), None);
+    assert_eq!(position(&[]), None);
 }
 
 /// The rows of the price list's table: held filter, policy, the answer's first digits, and the line.

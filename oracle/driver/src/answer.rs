@@ -13,7 +13,8 @@ use crate::host::tag_and_leaf;
 use crate::opaque::{Meaning, Opaque};
 use crate::scalars::{literal_of, operator_number};
 
-/// The bytes of an extraction. The form byte of a distance is none of the original's.
+/// The bytes of an extraction, but for its position. The form byte of a distance is none of the
+/// original's.
 pub fn put_extraction(
     predicate: &SpatialPredicate,
     form: u8,

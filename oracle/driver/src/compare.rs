@@ -27,8 +27,11 @@ pub struct Options {
 /// What a line is to be answered with.
 pub struct Expected {
     pub reading: Vec<u8>,
-    /// Nothing where the original has no part in the answer.
+    /// Nothing where the original has no part in the answer. An extraction's position (request 4 of
+    /// document 02) is left out of it.
     pub original: Option<Vec<u8>>,
+    /// What the original's line is held to: the reading's, an extraction without its position.
+    held_to: Vec<u8>,
 }
 
 /// Reading and original, each with its own plan.
@@ -42,7 +45,7 @@ impl Expected {
     /// Reading and original have the same answer, or the original has none.
     pub fn agrees(&self) -> bool {
         let original = self.original.as_ref();
-        original.is_none_or(|line| *line == self.reading)
+        original.is_none_or(|line| *line == self.held_to)
     }
 
     /// A refusal with 6 or 8, where document 01 lists that the original does something else.
@@ -53,10 +56,22 @@ impl Expected {
 
 impl References {
     pub fn expect(&mut self, line: &[u8]) -> Expected {
+        let reading = self.reading.answer(line);
         Expected {
-            reading: self.reading.answer(line),
             original: self.original.answer(line),
+            held_to: without_position(line, &reading),
+            reading,
         }
+    }
+}
+
+/// The answer to a line; if it is an extraction, without the four digits after its first byte.
+fn without_position(line: &[u8], answer: &[u8]) -> Vec<u8> {
+    match (line, answer.first_chunk()) {
+        (b"21" | b"22", Some(b"0011" | b"0012" | b"0013")) => {
+            [&answer[..4], &answer[8..]].concat()
+        }
+        _ => answer.to_vec(),
     }
 }
 

@@ -28,7 +28,7 @@ fn told(line: &[u8], expected: &Expected) -> String {
     let text = |answer: &[u8]| String::from_utf8_lossy(answer).into_owned();
     let reading = text(&expected.reading);
     match &expected.original {
-        Some(original) if expected.agrees() => format!("original {}", text(original)),
+        Some(_) if expected.agrees() => format!("original {reading}"),
         Some(original) => format!("differ {}, the reading {reading}", text(original)),
         None => format!("reading {reading}{}", nonetheless(line, expected)),
     }

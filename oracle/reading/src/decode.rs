@@ -63,7 +63,9 @@ fn extraction(bytes: &[u8]) -> Result<Extraction, Refusal> {
         return Err(Refusal::FrameLength);
     }
     let mut reader = Reader::new(bytes);
-    let predicate = match reader.byte()? {
+    let first = reader.byte()?;
+    let position = reader.two()?;
+    let predicate = match first {
         RELATION => reader.relation()?,
         DISTANCE => reader.distance()?,
         KNN => reader.knn()?,
@@ -72,6 +74,7 @@ fn extraction(bytes: &[u8]) -> Result<Extraction, Refusal> {
     let remainder = reader.remainder()?;
     reader.end()?;
     Ok(Extraction {
+        position,
         predicate,
         remainder,
     })

@@ -24,8 +24,9 @@ pub fn plan(plan: &Plan) -> Vec<u8> {
 }
 
 fn put_extraction(extraction: &Extraction) -> Vec<u8> {
-    let mut out = Vec::new();
-    put_predicate(&extraction.predicate, &mut out);
+    let mut out = vec![first_byte(&extraction.predicate)];
+    out.extend(extraction.position.to_be_bytes());
+    put_fields(&extraction.predicate, &mut out);
     match &extraction.remainder {
         Some(frame) => put_frame(frame, &mut out),
         None => out.push(0),
@@ -44,14 +45,22 @@ fn put_frame(frame: &Frame, out: &mut Vec<u8>) {
     put_expr(&frame.expr, out);
 }
 
-fn put_predicate(predicate: &Predicate, out: &mut Vec<u8>) {
+fn first_byte(predicate: &Predicate) -> u8 {
+    match predicate {
+        Predicate::Relation { .. } => RELATION,
+        Predicate::Distance { .. } => DISTANCE,
+        Predicate::Knn { .. } => KNN,
+    }
+}
+
+fn put_fields(predicate: &Predicate, out: &mut Vec<u8>) {
     match predicate {
         Predicate::Relation {
             relation,
             left,
             right,
         } => {
-            out.extend([RELATION, *relation]);
+            out.push(*relation);
             put_exprs(&[left, right], out);
         }
         Predicate::Distance {
@@ -61,7 +70,7 @@ fn put_predicate(predicate: &Predicate, out: &mut Vec<u8>) {
             right,
             distance,
         } => {
-            out.extend([DISTANCE, *form, side.byte()]);
+            out.extend([*form, side.byte()]);
             put_exprs(&[left, right, distance], out);
         }
         Predicate::Knn {
@@ -72,7 +81,6 @@ fn put_predicate(predicate: &Predicate, out: &mut Vec<u8>) {
             left,
             right,
         } => {
-            out.push(KNN);
             out.extend(k.to_be_bytes());
             out.extend([u8::from(*spheroid), probe.byte(), ties.map_or(2, u8::from)]);
             put_exprs(&[left, right], out);

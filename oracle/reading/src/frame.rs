@@ -184,6 +184,8 @@ pub enum Predicate {
 
 #[derive(Clone, Debug, PartialEq, Eq)]
 pub struct Extraction {
+    /// Request 4 of document 02: the leaf's position among the AND-leaves of the frame it was taken from.
+    pub position: u16,
     pub predicate: Predicate,
     pub remainder: Option<Frame>,
 }

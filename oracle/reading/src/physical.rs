@@ -225,6 +225,7 @@ pub fn extract(frame: &Frame) -> Option<Extraction> {
     })?;
     let remainder = without_leaf(&frame.expr, position).map(|expr| prune(&expr, &frame.records));
     Some(Extraction {
+        position: position as u16,
         predicate,
         remainder,
     })
@@ -279,6 +280,7 @@ pub fn exchange(plan: &Plan) -> Plan {
     match plan {
         Plan::Frame(frame) => Plan::Frame(exchange_frame(frame)),
         Plan::Extraction(extraction) => Plan::Extraction(Extraction {
+            position: extraction.position,
             predicate: exchange_predicate(&extraction.predicate),
             remainder: extraction.remainder.as_ref().map(exchange_frame),
         }),

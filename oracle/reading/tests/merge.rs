@@ -234,7 +234,7 @@ fn bad_frames() -> [Vec<u8>; 8] {
 /// The new frame's refusals come first, whatever is held and however little room there is.
 #[test]
 fn the_new_frame_comes_first() {
-    let extraction = [0x11, 0, 4, 0, 0, 0, 4, 0, 0, 0, 0];
+    let extraction = [0x11, 0, 0, 0, 4, 0, 0, 0, 4, 0, 0, 0, 0];
     let full = frame_of(rows(256), other(vec![]));
     for held in [&[][..], &[1], &extraction, &full] {
         for (number, new) in (1..).zip(bad_frames()) {
@@ -259,14 +259,14 @@ fn the_plan_then_16_then_9() {
         host.merge(&new).map_or_else(|number| number, |_| 0)
     };
     let held = frame(left());
-    let extraction = [0x11, 0, 4, 0, 0, 0, 4, 0, 0, 0, 0];
+    let extraction = [0x11, 0, 0, 0, 4, 0, 0, 0, 4, 0, 0, 0, 0];
     assert_eq!(answer(&held, held.len(), held.len() - 1), 10);
     assert_eq!(answer(&held, usize::MAX, held.len()), 10);
     assert_eq!(answer(&held, held.len() - 1, held.len()), 10);
-    assert_eq!(answer(&extraction[..10], 10, 10), 10);
+    assert_eq!(answer(&extraction[..12], 12, 12), 10);
     assert_eq!(answer(&held, 0, held.len()), 11);
     assert_eq!(answer(&[], 0, 0), 11);
-    assert_eq!(answer(&extraction, 11, 11), 12);
+    assert_eq!(answer(&extraction, 13, 13), 12);
     assert_eq!(answer(&held, held.len(), held.len()), 16);
     let small = alone(other(vec![]));
     assert_eq!(answer(&small, small.len(), small.len()), 9);

@@ -136,19 +136,19 @@ fn an_accepted_call_keeps_the_other_bytes() {
 
 #[test]
 fn held_plans() {
-    let mut good = [0x11, 0, 4, 0, 0, 0, 4, 0, 0, 0, 0];
+    let mut good = [0x11, 0, 0, 0, 4, 0, 0, 0, 4, 0, 0, 0, 0];
     let mut scratch = [0; 20];
     let call = |n: usize, buffer: &mut [u8], scratch: &mut [u8]| {
         extract(&mut { n }, buffer, scratch).map_or_else(Refusal::number, |_| 0)
     };
-    assert_eq!(call(11, &mut good, &mut scratch), 12);
-    assert_eq!(call(10, &mut good, &mut scratch), 10);
+    assert_eq!(call(13, &mut good, &mut scratch), 12);
     assert_eq!(call(12, &mut good, &mut scratch), 10);
+    assert_eq!(call(14, &mut good, &mut scratch), 10);
     assert_eq!(call(0, &mut good, &mut scratch), 11);
-    assert_eq!(call(11, &mut good, &mut []), 12);
-    assert_eq!(exchange(&mut 11, &mut good, &mut []), Err(Refusal::NoRoom));
-    good[1] = 9;
-    assert_eq!(call(11, &mut good, &mut scratch), 10);
+    assert_eq!(call(13, &mut good, &mut []), 12);
+    assert_eq!(exchange(&mut 13, &mut good, &mut []), Err(Refusal::NoRoom));
+    good[3] = 9;
+    assert_eq!(call(13, &mut good, &mut scratch), 10);
 }
 
 #[test]

@@ -34,8 +34,8 @@ fn worked_run() {
     run(input.as_bytes(), &mut output).unwrap();
     let expected = format!(
         "00{LOAD}\n\
-         0011010000000008000003000701000100000000080000000008\n\
-         0011020000030007000000000801000101000000080000000008\n\
+         00110000010000000008000003000701000100000000080000000008\n\
+         00110000020000030007000000000801000101000000080000000008\n\
          0c\n"
     );
     assert_eq!(String::from_utf8(output).unwrap(), expected);
@@ -46,32 +46,32 @@ fn rows_1_and_2_extract_and_exchange() {
     let lines = answers(&[LOAD, "21", "22"]);
     assert_eq!(
         lines[1],
-        "0011010000000008000003000701000100000000080000000008"
+        "00110000010000000008000003000701000100000000080000000008"
     );
     assert_eq!(
         lines[2],
-        "0011020000030007000000000801000101000000080000000008"
+        "00110000020000030007000000000801000101000000080000000008"
     );
 }
 
 #[test]
 fn row_3_largest_k() {
     let matched = knn_with_k(types::INT64, 4_294_967_295);
-    assert_eq!(matched, "0013ffffffff0000020000050008000006000700");
+    assert_eq!(matched, "00130000ffffffff0000020000050008000006000700");
     assert_eq!(knn_with_k(types::INT64, 4_294_967_296), "0d");
 }
 
 #[test]
 fn row_4_smallest_k() {
     assert_eq!(knn_with_k(types::INT32, -1), "0d");
-    assert!(knn_with_k(types::INT32, 0).starts_with("001300000000"));
+    assert!(knn_with_k(types::INT32, 0).starts_with("0013000000000000"));
 }
 
 #[test]
 fn row_5_knn_goes_first() {
     let pair = || vec![left(), right()];
     let expr = and(call("st_intersects", pair()), call("st_knn", pair()));
-    assert!(extracted(&frame(expr)).starts_with("0013"));
+    assert!(extracted(&frame(expr)).starts_with("00130001"));
 }
 
 #[test]
@@ -86,7 +86,7 @@ fn row_6_a_knn_that_does_not_match_remains() {
     );
     let line = extracted(&frame(expr));
     let tail = hex_text(&remainder);
-    assert_eq!(line, format!("00110000000500080000060007{tail}"));
+    assert_eq!(line, format!("001100010000000500080000060007{tail}"));
 }
 
 #[test]

@@ -8,8 +8,14 @@ use super::limits::{chain, expr_of_bytes, expr_of_nodes, other};
 use super::physical;
 use crate::rng::Rng;
 
-/// The bytes of an extraction.
+/// The bytes of an extraction, with any position.
 pub fn extraction(rng: &mut Rng) -> Vec<u8> {
+    let mut bytes = at_the_start(rng);
+    bytes[1..3].copy_from_slice(&(rng.draw() as u16).to_be_bytes());
+    bytes
+}
+
+fn at_the_start(rng: &mut Rng) -> Vec<u8> {
     match rng.below(12) {
         0 => with_nodes(rng),
         1 => with_depth(rng),
@@ -25,6 +31,7 @@ pub fn extraction(rng: &mut Rng) -> Vec<u8> {
 
 fn bytes(predicate: Predicate, remainder: Option<Frame>) -> Vec<u8> {
     encode::plan(&Plan::Extraction(Extraction {
+        position: 0,
         predicate,
         remainder,
     }))
