@@ -102,7 +102,8 @@ module _ {s : List ℕ} {f : Frame} {p : Pick} (to : List ℕ) (wide : 256 ≤ l
       let two = rest (F .records) (F .expr) (f .root) (p .position) (taken-frame t) (t .cut) in (
         omega (arith, one, two .0, extraction-length X),
         subst (λ (x : List ℕ). Wrote x before (together w middle part)) (extraction-parts X)
-            (then-wrote (predicateBytes (p .position) q) (remainderBytes (X .remainder)) before middle part w one (put .wrote q predicate) (two .1)),
+            (then-wrote (predicateBytes (p .position) q) (remainderBytes (X .remainder)) before middle part w one (put .wrote q predicate)
+            (two .1)),
       )
 
   pub extraction-ends : ExtractionFits s f p before → w + r ≤ length before

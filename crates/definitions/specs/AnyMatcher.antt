@@ -89,7 +89,7 @@ pub record Lists (match : Matcher) (Asks : Meaning → List Record → Type 0) :
       → (line : ℕ) × (priceLineBy match F ≡ some line) × (take 1 (planAfter s calls) ≡ line ∷ [])
   -- and an exchanged frame is on the same.
   pub lineExchanged : (F : Frame) → priceLineBy match (exchangeFrame F) ≡ priceLineBy match F
-  -- Two machines that both extracted hold the extraction of one leaf, exchanged or not, with the same first byte and the same position after it.
+  -- Two machines that both extracted hold the extraction of one leaf, exchanged or not, with the same first byte and position.
   pub sameLeaf : (F : Frame) (s t : SessionBy match F) (calls calls′ : List Made) → extractedIn s calls ≡ true → extractedIn t calls′ ≡ true
       → (X : Extraction) × TookAmong (matchesBy match F) F X
       × (planAfter s calls ≡ planBytes (extractedPlan X (oddIn s calls)))

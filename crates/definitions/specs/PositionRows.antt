@@ -46,7 +46,8 @@ pub record PositionRows : Type 0 where
   pub high-first : Option·map (λ X. take 3 (extractionBytes X)) (extraction manyLeaves) ≡ some (0x11 ∷ 1 ∷ 0 ∷ [])
   pub read-back : planOf (0x11 ∷ 1 ∷ 2 ∷ 2 ∷ 0 ∷ 0 ∷ 0 ∷ 0 ∷ 7 ∷ 0 ∷ 0 ∷ 1 ∷ 0 ∷ 8 ∷ 0 ∷ []) ≡ ok (extracted (placed 258))
   -- a held one of any value is good, and exchange keeps it
-  pub any-held : planOrRefusal (exchange 15 (extractionBytes (placed 65535)) (replicate 15 0)) ≡ ok (extractionBytes (placedExchanged 65535))
+  pub any-held : planOrRefusal (exchange 15 (extractionBytes (placed 65535)) (replicate 15 0))
+      ≡ ok (extractionBytes (placedExchanged 65535))
   -- the tight frame: its extraction is one byte shorter
   pub tight-frame : length (frameBytes tightFrame) ≡ 46
   pub tight-extraction : mapResult length (extractOf tightFrame) ≡ ok 45

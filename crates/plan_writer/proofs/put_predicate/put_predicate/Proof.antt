@@ -22,7 +22,8 @@ view c =
 -- The fields have room where the head ended.
 fields-room : (c : tie.After-put-head)
     → let a = c .before .before .before .before .before .before .args in
-    Room (PredicateAt (changeOf (a .indexes) (a .to .now)) (a .src .now) (a .p)) predicateFields (c .put-head .result) (c .put-head .last .0)
+    Room (PredicateAt (changeOf (a .indexes) (a .to .now)) (a .src .now) (a .p)) predicateFields (c .put-head .result)
+    (c .put-head .last .0)
 fields-room c =
     let kind = c .before .before in
     rest-room (view kind) (kind .before .before .before .before .pre) (c .put-head .ensures) (c .put-head .kept .0)
