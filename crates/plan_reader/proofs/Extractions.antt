@@ -13,11 +13,9 @@ use Rattle.definitions.specs.Decode.{extractionBody}
 use Rattle.definitions.specs.Plans.{wholeExtraction, frameOf, extractionOf, planOfKind, planOf}
 use Rattle.theorems.proofs.ReaderLaws.{after, halts, passes, fails}
 use Rattle.frame_reader.specs.Frames.{firstOf}
-use Rattle.plan_reader.specs.Plans.{RemainderIs, ExtractionIs}
+use Rattle.plan_reader.specs.Plans.{RemainderIs}
 use Rattle.plan_reader.specs.declared.held_plans.Remained.{Remained}
 use Rattle.plan_reader.specs.declared.held_plans.Remained.the-variants as remained
-use Rattle.plan_reader.specs.declared.held_plans.Extracted.{Extracted}
-use Rattle.plan_reader.specs.declared.held_plans.Extracted.the-variants as answer
 use Rattle.frame_reader.proofs.Wholes.{regroup, none-after, some-after}
 
 -- ---- remainders
@@ -27,14 +25,6 @@ pub follows : (s : List ℕ) (at place before : ℕ) (whole rest : Reader (Optio
     → whole before (drop at s) ≡ rest before (drop place s) → RemainderIs s place before r rest → RemainderIs s at before r whole
 follows s at place before whole rest (remained.Read r end) e h = (h .0, h .1, h .2, h .3, e ∙ h .4)
 follows s at place before whole rest (remained.Refused why) e h = e ∙ h
-
--- ---- extractions
-
--- What is right after the position is right for the whole.
-pub read-on : (s : List ℕ) (at place : ℕ) (whole rest : Reader Extraction) (r : Extracted)
-    → whole 0 (drop at s) ≡ rest 0 (drop place s) → ExtractionIs s place r rest → ExtractionIs s at r whole
-read-on s at place whole rest (answer.Read x end) e h = (h .0, h .1, h .2, h .3, e ∙ h .4)
-read-on s at place whole rest (answer.Refused why) e h = e ∙ h
 
 -- ---- whole extractions
 

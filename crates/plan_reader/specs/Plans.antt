@@ -6,15 +6,14 @@ use mathlib.Core.Option.{Option, none, some}
 use lib.ListN.{length, take, drop}
 use Rattle.definitions.specs.Basics.{Result, ok, refused}
 use Rattle.definitions.specs.Expression as tree
-use Rattle.definitions.specs.Readers.{read, stopped, Reader, _>>=_, give}
-use Rattle.definitions.specs.Decode.{predicateOfKind, remainder}
+use Rattle.definitions.specs.Readers.{read, stopped, Reader}
 use Rattle.definitions.specs.Plans.{planOf}
 use Rattle.terms.specs.Refusals.{numberOf}
 use Rattle.frame_reader.specs.Frames.{FrameAt}
 use Rattle.sedona_query_planner.specs.Predicates.{unchanged, PredicateAt}
 use Rattle.frame_reader.specs.declared.frames.Frame.{Frame}
 use Rattle.plan_reader.specs.declared.held_plans.Remainder.{Remainder}
-use Rattle.plan_reader.specs.declared.held_plans.Remainder.the-variants as rest
+use Rattle.plan_reader.specs.declared.held_plans.Remainder.the-variants as remainder
 use Rattle.plan_reader.specs.declared.held_plans.Extraction.{Extraction}
 use Rattle.plan_reader.specs.declared.held_plans.Held.{Held}
 use Rattle.plan_reader.specs.declared.held_plans.Held.the-variants as held
@@ -25,8 +24,8 @@ use Rattle.plan_reader.specs.declared.held_plans.Extracted.the-variants 
 
 -- The remainder R stands in s up to `end`.
 abbrev pub RemainderAt : List ℕ → Remainder → (end : ℕ) → Option tree.Frame → Type 0
-RemainderAt s rest.Nothing end R = R ≡ none
-RemainderAt s (rest.Frame f) end R = (F : tree.Frame) × (R ≡ some F) × FrameAt s f end F
+RemainderAt s remainder.Nothing end R = R ≡ none
+RemainderAt s (remainder.Frame f) end R = (F : tree.Frame) × (R ≡ some F) × FrameAt s f end F
 
 -- A remainder was read, `before` nodes counted up to its place.
 abbrev pub RemainderIs : List ℕ → (at before : ℕ) → Remained → Reader (Option tree.Frame) → Type 0
@@ -41,14 +40,7 @@ pub record ExtractionAt (s : List ℕ) (x : Extraction) (end : ℕ) (X : tree.Ex
   pub predicate : PredicateAt unchanged s (x .predicate) (X .predicate)
   pub remainder : RemainderAt s (x .remainder) end (X .remainder)
 
--- How an extraction is read once its position is known.
-abbrev pub afterPosition : (first position : ℕ) → Reader tree.Extraction
-afterPosition first position = do
-  predicate ← predicateOfKind first
-  rest ← remainder
-  give (record { position = position; predicate = predicate; remainder = rest })
-
--- An extraction, from some place of it on, was read.
+-- An extraction after its first byte was read.
 abbrev pub ExtractionIs : List ℕ → (at : ℕ) → Extracted → Reader tree.Extraction → Type 0
 ExtractionIs s at (extracted.Read x end) reader =
     (end ≤ length s) × (X : tree.Extraction) × ExtractionAt s x end X × (count : ℕ) × (reader 0 (drop at s) ≡ read X count (drop end s))

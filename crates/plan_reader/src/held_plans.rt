@@ -19,7 +19,7 @@ ghost use Rattle.definitions.specs.Basics.{mapResult};
 ghost use Rattle.definitions.specs.Expression.{extracted};
 ghost use Rattle.definitions.specs.Decode as decode;
 ghost use Rattle.definitions.specs.Plans as plans;
-ghost use Rattle.plan_reader.specs.Plans.{afterPosition, RemainderIs, ExtractionIs, HeldIs};
+ghost use Rattle.plan_reader.specs.Plans.{RemainderIs, ExtractionIs, HeldIs};
 
 // What is left of the frame that a predicate was taken from.
 pub enum Remainder {
@@ -87,27 +87,6 @@ fn remainder_at(s: &[u8], at: usize, nodes: usize) -> Remained
     }
 }
 
-// What follows the position of an extraction: its predicate, which the first byte announces, and its remainder.
-fn after_position(s: &[u8], at: usize, first: u64, position: u64) -> Extracted
-    requires { ⌜ at ≤ length (now s) ⌝ }
-    ensures { λ r. ⌜ ExtractionIs (now (s .entry)) at r (afterPosition first position) ⌝ }
-{
-    match predicate_of_kind(s, at, first) {
-        Predicated::Refused(why) => Extracted::Refused(why),
-        Predicated::Read(predicate, next, count) => match remainder_at(s, next, count) {
-            Remained::Refused(why) => Extracted::Refused(why),
-            Remained::Read(remainder, end) => Extracted::Read(
-                Extraction {
-                    position,
-                    predicate,
-                    remainder,
-                },
-                end,
-            ),
-        },
-    }
-}
-
 // An extraction after its first byte; its position may be any.
 fn extraction_body(s: &[u8], at: usize, first: u64) -> Extracted
     requires { ⌜ at ≤ length (now s) ⌝ }
@@ -115,7 +94,20 @@ fn extraction_body(s: &[u8], at: usize, first: u64) -> Extracted
 {
     match number(s, at, 2) {
         Field::Refused(why) => Extracted::Refused(why),
-        Field::Value(position, next) => after_position(s, next, first, position),
+        Field::Value(position, start) => match predicate_of_kind(s, start, first) {
+            Predicated::Refused(why) => Extracted::Refused(why),
+            Predicated::Read(predicate, next, count) => match remainder_at(s, next, count) {
+                Remained::Refused(why) => Extracted::Refused(why),
+                Remained::Read(remainder, end) => Extracted::Read(
+                    Extraction {
+                        position,
+                        predicate,
+                        remainder,
+                    },
+                    end,
+                ),
+            },
+        },
     }
 }
 
