@@ -114,7 +114,10 @@ fn refusals_of_an_extract() {
     assert_eq!(plan[..n], good());
 
     let extracted = extract(&mut plan, n, &mut scratch).expect("it matches");
-    assert_eq!(plan[..extracted], [&[0x11, 0, 0, 2], LEFT, LEFT, &[0]].concat());
+    assert_eq!(
+        plan[..extracted],
+        [&[0x11, 0, 0, 2], LEFT, LEFT, &[0]].concat()
+    );
     assert_eq!(scratch, good());
     let again = extract(&mut plan, extracted, &mut scratch);
     assert_eq!(again, Err(Refusal::AlreadyExtracted));

@@ -68,9 +68,7 @@ impl References {
 /// The answer to a line; if it is an extraction, without the four digits after its first byte.
 fn without_position(line: &[u8], answer: &[u8]) -> Vec<u8> {
     match (line, answer.first_chunk()) {
-        (b"21" | b"22", Some(b"0011" | b"0012" | b"0013")) => {
-            [&answer[..4], &answer[8..]].concat()
-        }
+        (b"21" | b"22", Some(b"0011" | b"0012" | b"0013")) => [&answer[..4], &answer[8..]].concat(),
         _ => answer.to_vec(),
     }
 }
