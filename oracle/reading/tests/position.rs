@@ -2,26 +2,23 @@
 
 mod common;
 
-use common::{and, call, frame, left, other, right};
-use reading::calls::{exchange, extract, load};
-use reading::frame::{Expr, MAX_BYTES, operator};
+use common::{and, answers, call, frame, frame_of, left, literal, other, record, right};
+use reading::calls::exchange;
+use reading::frame::{Expr, Side, literal as types, operator};
+use reading::program::{hex, parse};
 
-/// A plan after calls that are all accepted, `x` for an extract and `s` for an exchange.
-fn plan_after(frame: &[u8], list: &str) -> Vec<u8> {
-    let (mut n, mut plan, mut scratch) = (0, vec![0; MAX_BYTES], vec![0; MAX_BYTES]);
-    load(frame, &mut n, &mut plan).unwrap();
-    for letter in list.chars() {
-        let call = if letter == 'x' { extract } else { exchange };
-        call(&mut n, &mut plan, &mut scratch).unwrap();
-    }
-    plan.truncate(n);
-    plan
+/// The plan after the frame is loaded and the calls of these lines are made, all accepted.
+fn plan_after(frame: &[u8], calls: &[&str]) -> Vec<u8> {
+    let load = String::from_utf8(hex(frame)).unwrap();
+    let lines = [&[&load[..]], calls].concat();
+    let last = answers(&lines).pop().unwrap();
+    parse(last.strip_prefix("00").unwrap().as_bytes()).unwrap()
 }
 
 /// So many leaves that do not match.
 fn unmatched(count: usize) -> Expr {
     match count {
-        1 => other(vec![]),
+        1 => literal(types::BOOLEAN, 1),
         _ => and(unmatched(count / 2), unmatched(count - count / 2)),
     }
 }
@@ -34,7 +31,14 @@ fn matching(name: &str) -> Expr {
 fn counted_from_0_and_kept_by_every_exchange() {
     let filter = and(matching("st_touches"), matching("st_knn"));
     let filter = frame(and(other(vec![]), and(filter, matching("st_knn"))));
-    for list in ["x", "sx", "xs", "xss", "ssxs"] {
+    let lists: [&[&str]; 5] = [
+        &["21"],
+        &["22", "21"],
+        &["21", "22"],
+        &["21", "22", "22"],
+        &["22", "22", "21", "22"],
+    ];
+    for list in lists {
         assert_eq!(plan_after(&filter, list)[..3], [0x13, 0, 2]);
     }
 }
@@ -44,9 +48,9 @@ fn the_high_byte_comes_first() {
     for count in [255, 256, 257, 510] {
         let taken = matching("st_within");
         let position = (count as u16).to_be_bytes();
-        let after = plan_after(&frame(and(unmatched(count), taken.clone())), "x");
+        let after = plan_after(&frame(and(unmatched(count), taken.clone())), &["21"]);
         assert_eq!(after[1..3], position);
-        let before = plan_after(&frame(and(taken, unmatched(count))), "x");
+        let before = plan_after(&frame(and(taken, unmatched(count))), &["21"]);
         assert_eq!(before[1..3], [0, 0]);
     }
 }
@@ -65,6 +69,7 @@ fn any_held_position_is_good_and_kept() {
 #[test]
 fn a_knn_of_two_arguments_beside_another_leaf_has_a_byte_to_spare() {
     let rest = Expr::binary(operator::LAST, left(), right());
-    let filter = frame(and(matching("st_knn"), rest));
-    assert_eq!(plan_after(&filter, "x").len() + 1, filter.len());
+    let records = vec![record(Side::Left, 5), record(Side::Right, 6)];
+    let filter = frame_of(records, and(matching("st_knn"), rest));
+    assert_eq!(plan_after(&filter, &["21"]).len() + 1, filter.len());
 }
