@@ -32,7 +32,8 @@ unfolding Expression.relations Expression.invert Expression.count
 expression = 0
 
 unfoldable pub literals : ℕ
-unfolding Literals.signed Literals.isInt32 Literals.literalInRange Literals.u32 Literals.numberU32 Literals.numberBool
+unfolding Literals.signed Literals.isInt32 Literals.literalInRange Literals.u32 Literals.numberU32 Literals.isK Literals.onlyK
+    Literals.numberBool
 literals = 0
 
 unfoldable pub encode : ℕ
@@ -68,8 +69,8 @@ unfolding References.columnsOf References.recordAt References.sameSide Reference
 references = 0
 
 unfoldable pub match : ℕ
-unfolding Match.relationRequest Match.dwithinRequest Match.literalU32 Match.literalBool Match.knnLiterals Match.knnRequest
-    Match.callRequest Match.distanceRequest Match.comparisonRequest Match.request Match.commonSide Match.sideOf Match.isSide Match.orderOf
+unfolding Match.relationRequest Match.dwithinRequest Match.literalU32 Match.literalK Match.literalBool Match.knnLiterals
+    Match.knnRequest Match.callRequest Match.distanceRequest Match.comparisonRequest Match.request Match.commonSide Match.sideOf Match.isSide Match.orderOf
     Match.onChild Match.matchRelation Match.boundOn Match.storeDistance Match.matchDistance Match.matchKnn Match.matchRequest
     Match.matchLeaf
 match = 0

@@ -3,6 +3,7 @@ pub mod Everything
 pub mod Table
 pub mod OurRows
 pub mod PlacedRows
+pub mod Nearest
 pub mod Names
 pub mod Refusals
 pub mod ConsoleLines

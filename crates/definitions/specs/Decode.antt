@@ -8,7 +8,7 @@ use lib.Dec.{leb, ltb, eqb}
 use Rattle.definitions.specs.Limits.{mostNodes, mostLevels, mostRecords, mostOperator, mostNameBytes, firstNameByte, lastNameByte, mostChildren, twoBytes}
 use Rattle.definitions.specs.Basics.{if_then_else_}
 use Rattle.definitions.specs.Expression.{Side, left, right, noSide, Relation, equals, relations, Expr, column, literal, and, binary, call, other, field, Exprs, nil, cons, Record, Frame, Predicate, relation, distance, knn, Extraction}
-use Rattle.definitions.specs.Literals.{literalInRange}
+use Rattle.definitions.specs.Literals.{literalInRange, isK}
 use Rattle.definitions.specs.Leaves.{arity}
 use Rattle.definitions.specs.Readers.{read, stopped, Reader, _>>=_, _>>_, give, refuse, require, byte, byteUpTo, byteBetween, number, repeat}
 
@@ -187,10 +187,11 @@ distancePredicate = do
   bound ← argument
   give (distance form side l r bound)
 
--- KNN: k, spheroid, probe side, ties, left, right.
+-- KNN: k, spheroid, probe side, ties, left, right; a k of 0 is out of range (request 5).
 unfoldable pub knnPredicate : Reader Predicate
 knnPredicate = do
   k ← number 4
+  require 4 (isK k)
   spheroid ← byteUpTo 1
   probe ← sideUpTo 1
   ties ← byteUpTo 2

@@ -6,9 +6,9 @@ use mathlib.Core.List.{List, [], _∷_}
 use mathlib.Core.Option.{Option, none, some}
 use lib.ListN.{length}
 use lib.Dec.{leb, ltb}
-use Rattle.definitions.specs.Limits.{mostBytes, mostNodes, mostLevels, mostRecords, mostOperator, mostNameBytes, firstNameByte, lastNameByte, mostChildren, twoBytes, fourBytes, eightBytes}
+use Rattle.definitions.specs.Limits.{mostBytes, mostNodes, mostLevels, mostRecords, mostOperator, mostNameBytes, firstNameByte, lastNameByte, mostChildren, twoBytes, eightBytes}
 use Rattle.definitions.specs.Expression.{Side, left, right, noSide, Expr, column, literal, and, binary, call, other, field, Exprs, nil, cons, Record, Frame, Predicate, relation, distance, knn, Plan, empty, held, extracted, count}
-use Rattle.definitions.specs.Literals.{literalInRange}
+use Rattle.definitions.specs.Literals.{literalInRange, isK}
 use Rattle.definitions.specs.Encode.{planBytes}
 use Rattle.definitions.specs.Leaves.{arity}
 use Rattle.definitions.specs.Decode.{Columns, indexBelow, fields}
@@ -113,13 +113,13 @@ OneOfTwo left = Unit {0}
 OneOfTwo right = Unit {0}
 OneOfTwo noSide = ⊥
 
--- A predicate in range; its columns have no bound but their width.
+-- A predicate in range; its columns have no bound but their width, and its k is one (request 5).
 abbrev pub ReadablePredicate : Predicate → Type 0
 ReadablePredicate (relation type l r) = Readable (indexBelow twoBytes) l × Readable (indexBelow twoBytes) r
 ReadablePredicate (distance form side l r bound) =
     (form ≤ 4) × Readable (indexBelow twoBytes) l × Readable (indexBelow twoBytes) r × Readable (indexBelow twoBytes) bound
 ReadablePredicate (knn k spheroid probe ties l r) =
-    (k < fourBytes) × (spheroid ≤ 1) × OneOfTwo probe × (ties ≤ 2) × Readable (indexBelow twoBytes) l × Readable (indexBelow twoBytes) r
+    (isK k ≡ true) × (spheroid ≤ 1) × OneOfTwo probe × (ties ≤ 2) × Readable (indexBelow twoBytes) l × Readable (indexBelow twoBytes) r
 
 -- A remainder in range.
 abbrev pub ReadableRemainder : Option Frame → Type 0

@@ -43,6 +43,7 @@ pub mod AnyMatcher
 pub mod TenRows
 pub mod FurtherRows
 pub mod PositionRows
+pub mod NearestRows
 pub mod RefusalTable
 pub mod NameTables
 pub mod PrintClaims

@@ -1,6 +1,6 @@
 -- Literals: types 0 null, 1 Boolean, 2 Int32, 3 Int64, 4 UInt32, 5 UInt64, 6 other; the eight bytes are one unsigned number.
 use Prim.Native.Nat.{ℕ, _-_}
-use mathlib.Core.Bool.{Bool, true, _||_}
+use mathlib.Core.Bool.{Bool, true, _&&_, _||_}
 use mathlib.Core.Option.{Option, none, some}
 use lib.Dec.{leb, ltb, eqb}
 use lib.IntN.{ℤ, pos, negsuc}
@@ -35,6 +35,14 @@ numberU32 type bytes =
     if eqb type 2 || eqb type 3 then u32 (signed bytes) else
     if eqb type 4 || eqb type 5 then u32 (pos bytes) else
     none
+
+-- Whether a number is a k: from 1 to 4,294,967,295 (request 5).
+unfoldable pub isK : ℕ → Bool
+isK k = leb 1 k && ltb k fourBytes
+
+-- The number, if it is a k.
+unfoldable pub onlyK : ℕ → Option ℕ
+onlyK k = if isK k then some k else none
 
 -- The value, 0 or 1, of a Boolean.
 unfoldable pub numberBool : (type bytes : ℕ) → Option ℕ

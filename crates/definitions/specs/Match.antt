@@ -5,7 +5,7 @@ use mathlib.Core.List.{List, [], _∷_, map}
 use mathlib.Core.Option.{Option, none, some}
 use Rattle.definitions.specs.Basics.{if_then_else_, given_then_else_, ascii, sameName, all}
 use Rattle.definitions.specs.Expression.{Side, left, right, noSide, Relation, Expr, Exprs, nil, cons, functionOf, binaryOf, literalOf, Record, Predicate, relation, distance, knn}
-use Rattle.definitions.specs.Literals.{numberU32, numberBool}
+use Rattle.definitions.specs.Literals.{numberU32, onlyK, numberBool}
 unfoldable pub use Rattle.definitions.specs.Expression.{invert}
 unfoldable pub use Rattle.definitions.specs.References.{columnsOf, columnsOfAll, recordAt, sameSide, mapColumns, mapColumnsAll}
 use Rattle.definitions.specs.Leaves.{relationNamed, Comparison, compares, noComparison, comparison, distanceArguments}
@@ -37,6 +37,10 @@ dwithinRequest (cons a (cons b (cons bound more))) = askDistance 0 a b bound
 unfoldable pub literalU32 : Expr → Option ℕ
 literalU32 e = given literalOf e then (λ v. numberU32 (v .type) (v .bytes)) else none
 
+-- A literal that is a k; one of 0 is none (request 5).
+unfoldable pub literalK : Expr → Option ℕ
+literalK e = given literalU32 e then onlyK else none
+
 -- A literal that is Boolean.
 unfoldable pub literalBool : Expr → Option ℕ
 literalBool e = given literalOf e then (λ v. numberBool (v .type) (v .bytes)) else none
@@ -53,9 +57,9 @@ unfoldable pub knnRequest : Exprs → Request
 knnRequest nil = askNothing
 knnRequest (cons a nil) = askNothing
 knnRequest (cons a (cons b nil)) = askKnn 1 0 2 a b
-knnRequest (cons a (cons b (cons k nil))) = knnLiterals (literalU32 k) (some 0) (some 2) a b
-knnRequest (cons a (cons b (cons k (cons s nil)))) = knnLiterals (literalU32 k) (literalBool s) (some 2) a b
-knnRequest (cons a (cons b (cons k (cons s (cons t nil))))) = knnLiterals (literalU32 k) (literalBool s) (literalBool t) a b
+knnRequest (cons a (cons b (cons k nil))) = knnLiterals (literalK k) (some 0) (some 2) a b
+knnRequest (cons a (cons b (cons k (cons s nil)))) = knnLiterals (literalK k) (literalBool s) (some 2) a b
+knnRequest (cons a (cons b (cons k (cons s (cons t nil))))) = knnLiterals (literalK k) (literalBool s) (literalBool t) a b
 knnRequest (cons a (cons b (cons k (cons s (cons t (cons x more)))))) = askNothing
 
 -- A function asks by its name.

@@ -1,4 +1,4 @@
--- 01's worked run and its ten rows, the extractions with the position that request 4 adds.
+-- 01's worked run and its ten rows, the extractions with the position that request 4 adds, row 4 as request 5 has it.
 use Prim.Native.Nat.{ℕ, _≤_}
 use mathlib.Core.Path.{_≡_}
 use mathlib.Core.List.{List, [], _∷_, _++_}
@@ -111,8 +111,8 @@ pub record TenRows : Type 0 where
       ≡ withRest 0 (relation within (column 3 7) (column 0 8)) (workedRest right)
   pub row3-matches : extractOf (onBoth (knnOf (int64 4294967295))) ≡ alone (knn 4294967295 0 left 2 childL childR)
   pub row3-does-not : extractOf (onBoth (knnOf (int64 4294967296))) ≡ refused 13
-  pub row4-does-not : extractOf (onBoth (knnOf (int32 18446744073709551615))) ≡ refused 13
-  pub row4-matches : extractOf (onBoth (knnOf (int32 0))) ≡ alone (knn 0 0 left 2 childL childR)
+  pub row4-matches : extractOf (onBoth (knnOf (int32 1))) ≡ alone (knn 1 0 left 2 childL childR)
+  pub row4-does-not : extractOf (onBoth (knnOf (int32 0))) ≡ refused 13
   pub row5 : extractOf (onBoth (and (call (ascii "st_intersects") (two L R)) (call (ascii "st_knn") (two L R))))
       ≡ withRest 1 (knn 1 0 left 2 childL childR) (onBoth (call (ascii "st_intersects") (two L R)))
   pub row6 : extractOf (onBoth (and (call (ascii "st_knn") (two L L)) (call (ascii "st_intersects") (two L R))))

@@ -12,7 +12,7 @@ use Rattle.definitions.specs.Basics.{if_then_else_, ascii, sameName}
 use Rattle.definitions.specs.Expression.{Side, Relation, Expr, column, literal, and, binary, call, other, field, Exprs, nil, cons, Record, knn}
 use Rattle.definitions.specs.Literals.{literalInRange, numberBool}
 use Rattle.definitions.specs.Leaves.{relationNamed}
-use Rattle.definitions.specs.Match.{literalU32, literalBool, knnLiterals, knnRequest, matchLeaf}
+use Rattle.definitions.specs.Match.{literalK, literalBool, knnLiterals, knnRequest, matchLeaf}
 use Rattle.definitions.specs.Decode.{Columns, indexBelow}
 use Rattle.definitions.specs.Good.{InRange, InRangeAll}
 use Rattle.definitions.specs.Meaning.{Valuation, Meaning, value, values, frameColumns, Fair}
@@ -86,10 +86,10 @@ knn-asked : (c : Columns) (M : Meaning) (columns : ℕ → ℕ) (a b : Expr) (mo
     (knnRequest (cons a (cons b more)))
 unfolding knnRequest values
 knn-asked c M columns a b nil r = refl
-knn-asked c M columns a b (cons k nil) r = absent-asked (literalU32 k) (some 0) a b
-knn-asked c M columns a b (cons k (cons s nil)) r = absent-asked (literalU32 k) (literalBool s) a b
+knn-asked c M columns a b (cons k nil) r = absent-asked (literalK k) (some 0) a b
+knn-asked c M columns a b (cons k (cons s nil)) r = absent-asked (literalK k) (literalBool s) a b
 knn-asked c M columns a b (cons k (cons s (cons t nil))) r =
-    given-asked (literalU32 k) (literalBool s) (literalBool t) a b (flag c t (r .1 .1 .1 .1 .0))
+    given-asked (literalK k) (literalBool s) (literalBool t) a b (flag c t (r .1 .1 .1 .1 .0))
 knn-asked c M columns a b (cons k (cons s (cons t (cons u more)))) r = tt
 
 counting-knn : (v : Valuation) (rs : List Record) (name : List ℕ) (a b : Expr) (more : Exprs)

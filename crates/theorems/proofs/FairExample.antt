@@ -8,11 +8,11 @@ use mathlib.Core.Option.{Option, none, some}
 use lib.Dec.{leb, ltb, eqb}
 use lib.IntN.{ℤ, pos}
 use borrow.Author.Tests.{eqb-true, eqb-false, eq-eqb, ne-eqb}
-use Rattle.definitions.specs.Basics.{if_then_else_, ascii, sameName}
+use Rattle.definitions.specs.Basics.{if_then_else_, given_then_else_, ascii, sameName}
 use Rattle.definitions.specs.Expression.{Side, Relation, intersects, contains, within, covers, coveredBy, touches, crosses, overlaps, equals, Expr, column, literal, and, binary, call, other, field, Exprs, nil, cons, Record, knn, invert}
-use Rattle.definitions.specs.Literals.{signed, u32, numberU32}
+use Rattle.definitions.specs.Literals.{signed, u32, numberU32, isK, onlyK}
 use Rattle.definitions.specs.Leaves.{relationNamed}
-use Rattle.definitions.specs.Match.{literalU32, literalBool, knnLiterals, knnRequest, matchLeaf}
+use Rattle.definitions.specs.Match.{literalU32, literalK, literalBool, knnLiterals, knnRequest, matchLeaf}
 use Rattle.definitions.specs.Meaning.{Valuation, Meaning, value, frameColumns, Fair}
 use Rattle.definitions.specs.Claims.{FairMeaning, markedFrame, MarksDiffer}
 use Rattle.definitions.proofs.Everything.{everything}
@@ -139,6 +139,11 @@ literal-has columns (call name arguments) = tt
 literal-has columns (other tag children) = tt
 literal-has columns (field bits tag) = tt
 
+k-has : (v : ℕ) (n : Option ℕ) → Has v n → Has v (given n then onlyK else none)
+unfolding onlyK
+k-has v none h = tt
+k-has v (some k) h = by-test (Has v) (isK k) (some k) none (λ _. h) (λ _. tt)
+
 -- With k read off a literal of this value, KNN of two points is asked for.
 literals-asked : (x y z v : ℕ) (k spheroid ties : Option ℕ) (a b : Expr) → Has v k → x ≡ near y z v
     → Asked (λ k spheroid ties. x ≡ near y z k) (knnLiterals k spheroid ties a b)
@@ -155,9 +160,11 @@ module _ (columns : ℕ → ℕ) (a b : Expr) where
       value points columns (call name (cons a (cons b more))) ≡ near (value points columns a) (value points columns b) k
 
   k-asked : (k : Expr) (more : Exprs) (spheroid ties : Option ℕ)
-      → Asked (IsNear (ascii "st_knn") (cons k more)) (knnLiterals (literalU32 k) spheroid ties a b)
+      → Asked (IsNear (ascii "st_knn") (cons k more)) (knnLiterals (literalK k) spheroid ties a b)
   unfolding points called ofThree everything
-  k-asked k more spheroid ties = literals-asked _ _ _ (value points columns k) (literalU32 k) spheroid ties a b (literal-has columns k) refl
+  k-asked k more spheroid ties =
+      let v = value points columns k in
+      literals-asked _ _ _ v (literalK k) spheroid ties a b (k-has v (literalU32 k) (literal-has columns k)) refl
 
   knn-asked : (more : Exprs) → Asked (IsNear (ascii "st_knn") more) (knnRequest (cons a (cons b more)))
   unfolding points called ofThree everything

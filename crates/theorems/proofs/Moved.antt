@@ -12,7 +12,7 @@ use Rattle.definitions.specs.Expression.{Side, left, right, noSide, Relation, E
 use Rattle.definitions.specs.Leaves.{leaves, relationNamed, Comparison, compares, noComparison, comparison, distanceArguments}
 use Rattle.definitions.specs.Decode.{indexBelow}
 use Rattle.definitions.specs.References.{columnsOf, columnsOfAll, mapColumns, mapColumnsAll, recordAt}
-use Rattle.definitions.specs.Match.{ArgumentSide, noColumns, allOn, mixed, commonSide, sideOf, onChild, boundOn, Order, literalU32, literalBool, Request, askRelation, askDistance, askKnn, askNothing, relationRequest, dwithinRequest, knnLiterals, knnRequest, callRequest, distanceRequest, comparisonRequest, request, storeDistance, matchDistance, matchRequest, matchLeaf}
+use Rattle.definitions.specs.Match.{ArgumentSide, noColumns, allOn, mixed, commonSide, sideOf, onChild, boundOn, Order, literalU32, literalK, literalBool, Request, askRelation, askDistance, askKnn, askNothing, relationRequest, dwithinRequest, knnLiterals, knnRequest, callRequest, distanceRequest, comparisonRequest, request, storeDistance, matchDistance, matchRequest, matchLeaf}
 use Rattle.definitions.specs.Good.{All, InRange, NoMarks}
 use Rattle.theorems.proofs.Columns.{all-left, all-right, all-both, columns-below, mapComparison, comparison-mapped}
 use Rattle.theorems.proofs.Requests.{Within, request-within}
@@ -96,15 +96,15 @@ mapRequest f (askKnn k sp t a b) = askKnn k sp t (mapColumns f a) (mapColumns f 
 mapRequest f askNothing = askNothing
 
 module _ (f : ℕ → ℕ) where
-  u32-mapped : (e : Expr) → literalU32 (mapColumns f e) ≡ literalU32 e
-  unfolding literalU32 mapColumns
-  u32-mapped (column i t) = refl
-  u32-mapped (literal type v) = refl
-  u32-mapped (and l r) = refl
-  u32-mapped (binary o l r) = refl
-  u32-mapped (call name es) = refl
-  u32-mapped (other tag es) = refl
-  u32-mapped (field b t) = refl
+  k-mapped : (e : Expr) → literalK (mapColumns f e) ≡ literalK e
+  unfolding literalK literalU32 mapColumns
+  k-mapped (column i t) = refl
+  k-mapped (literal type v) = refl
+  k-mapped (and l r) = refl
+  k-mapped (binary o l r) = refl
+  k-mapped (call name es) = refl
+  k-mapped (other tag es) = refl
+  k-mapped (field b t) = refl
 
   bool-mapped : (e : Expr) → literalBool (mapColumns f e) ≡ literalBool e
   unfolding literalBool mapColumns
@@ -143,11 +143,11 @@ module _ (f : ℕ → ℕ) where
   knn-mapped nil = refl
   knn-mapped (cons a nil) = refl
   knn-mapped (cons a (cons b nil)) = refl
-  knn-mapped (cons a (cons b (cons k nil))) = rw (u32-mapped k) (literals-mapped (literalU32 k) (some 0) (some 2) a b)
+  knn-mapped (cons a (cons b (cons k nil))) = rw (k-mapped k) (literals-mapped (literalK k) (some 0) (some 2) a b)
   knn-mapped (cons a (cons b (cons k (cons s nil)))) =
-      rw (u32-mapped k, bool-mapped s) (literals-mapped (literalU32 k) (literalBool s) (some 2) a b)
+      rw (k-mapped k, bool-mapped s) (literals-mapped (literalK k) (literalBool s) (some 2) a b)
   knn-mapped (cons a (cons b (cons k (cons s (cons t nil))))) =
-      rw (u32-mapped k, bool-mapped s, bool-mapped t) (literals-mapped (literalU32 k) (literalBool s) (literalBool t) a b)
+      rw (k-mapped k, bool-mapped s, bool-mapped t) (literals-mapped (literalK k) (literalBool s) (literalBool t) a b)
   knn-mapped (cons a (cons b (cons k (cons s (cons t (cons x more)))))) = refl
 
   call-mapped : (name : List ℕ) (es : Exprs) → callRequest name (mapColumnsAll f es) ≡ mapRequest f (callRequest name es)

@@ -16,6 +16,7 @@ use Rattle.definitions.specs.AnyMatcher.{Extracts, OneCall, Lists, AnyMatcher}
 use Rattle.definitions.specs.TenRows.{TenRows}
 use Rattle.definitions.specs.FurtherRows.{FurtherRows}
 use Rattle.definitions.specs.PositionRows.{PositionRows}
+use Rattle.definitions.specs.NearestRows.{NearestRows}
 use Rattle.definitions.specs.RefusalTable.{RefusalTable}
 use Rattle.definitions.specs.NameTables.{NameTables}
 use Rattle.definitions.specs.PrintClaims.{PrintsApart, PrintsNeverAlike, TextShort, TextPrintable, NoLeadingZero, PrintAccepted, PrintGiven, PrintRefused}
@@ -48,6 +49,7 @@ use Rattle.definitions.proofs.Names.{each-once, names-ones, tables-hold}
 use Rattle.definitions.proofs.Table.{ten-rows-hold}
 use Rattle.definitions.proofs.OurRows.{further-rows-hold}
 use Rattle.definitions.proofs.PlacedRows.{position-rows-hold}
+use Rattle.definitions.proofs.Nearest.{nearest-rows-hold}
 use Rattle.definitions.proofs.Refusals.{refusals-hold}
 use Rattle.theorems.proofs.PrintsApart.{told-apart}
 use Rattle.theorems.proofs.TextLength.{text-short}
@@ -238,6 +240,9 @@ further-rows = further-rows-hold
 
 pub position-rows : PositionRows
 position-rows = position-rows-hold
+
+pub nearest-rows : NearestRows
+nearest-rows = nearest-rows-hold
 
 pub refusals : RefusalTable
 refusals = refusals-hold

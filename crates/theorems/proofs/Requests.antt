@@ -8,14 +8,13 @@ use mathlib.Core.Option.{Option, none, some}
 use lib.ListN.{length, length-append}
 use lib.Dec.{leb, eqb, lit≤}
 use borrow.Author.Tests.{leb-true, eqb-true}
-use Rattle.definitions.specs.Basics.{ascii, sameName}
+use Rattle.definitions.specs.Basics.{given_then_else_, ascii, sameName}
 use Rattle.definitions.specs.Expression.{Relation, Expr, column, literal, and, binary, call, other, field, Exprs, nil, cons}
-use Rattle.definitions.specs.Literals.{signed, literalInRange, u32, numberU32, numberBool}
-use lib.IntN.{ℤ, pos, negsuc}
+use Rattle.definitions.specs.Literals.{literalInRange, isK, onlyK, numberBool}
 use Rattle.definitions.specs.Encode.{exprBytes, exprsBytes}
 use Rattle.definitions.specs.Leaves.{relationNamed, Comparison, compares, noComparison, comparison, distanceArguments}
 use Rattle.definitions.specs.Decode.{Columns}
-use Rattle.definitions.specs.Match.{literalU32, literalBool, Request, askRelation, askDistance, askKnn, askNothing, relationRequest, dwithinRequest, knnLiterals, knnRequest, callRequest, distanceRequest, comparisonRequest, request}
+use Rattle.definitions.specs.Match.{literalU32, literalK, literalBool, Request, askRelation, askDistance, askKnn, askNothing, relationRequest, dwithinRequest, knnLiterals, knnRequest, callRequest, distanceRequest, comparisonRequest, request}
 use Rattle.definitions.specs.Good.{nodes, nodesAll, depth, depthAll, InRange, InRangeAll}
 pub use Rattle.theorems.proofs.Tools.{by-test, same-name}
 
@@ -32,7 +31,7 @@ Within c room size levels (askDistance form a b d) =
     × (3 + bytes a + bytes b + bytes d ≤ room) × (nodes a + nodes b + nodes d ≤ size) × (depth a ≤ levels) × (depth b ≤ levels)
     × (depth d ≤ levels)
 Within c room size levels (askKnn k spheroid ties a b) =
-    (k < 4294967296) × (spheroid ≤ 1) × (ties ≤ 2) × InRange c a × InRange c b
+    (isK k ≡ true) × (spheroid ≤ 1) × (ties ≤ 2) × InRange c a × InRange c b
     × (8 + bytes a + bytes b ≤ room) × (nodes a + nodes b ≤ size) × (depth a ≤ levels) × (depth b ≤ levels)
 Within c room size levels askNothing = Unit {0}
 
@@ -42,23 +41,19 @@ abbrev AtMost : ℕ → Option ℕ → Type 0
 AtMost n none = Unit {0}
 AtMost n (some k) = k ≤ n
 
--- A number that passed the test of 32 bits is below its bound.
-u32-at-most : (z : ℤ) → AtMost 4294967295 (u32 z)
-unfolding u32
-u32-at-most (pos n) = by-test (AtMost 4294967295) (leb n 4294967295) (some n) none (λ e. leb-true n 4294967295 e) (λ e. tt)
-u32-at-most (negsuc n) = tt
+-- A number that is asked for as k is one.
+abbrev K : Option ℕ → Type 0
+K none = Unit {0}
+K (some k) = isK k ≡ true
 
-u32-range : (e : Expr) → AtMost 4294967295 (literalU32 e)
-unfolding literalU32 numberU32
-u32-range (column i t) = tt
-u32-range (literal type v) =
-    by-test (AtMost 4294967295) (eqb type 2 || eqb type 3) (u32 (signed v)) _ (λ _. u32-at-most (signed v))
-    (λ _. by-test (AtMost 4294967295) (eqb type 4 || eqb type 5) (u32 (pos v)) none (λ _. u32-at-most (pos v)) (λ _. tt))
-u32-range (and l r) = tt
-u32-range (binary o l r) = tt
-u32-range (call name es) = tt
-u32-range (other tag es) = tt
-u32-range (field b t) = tt
+only-k : (n : Option ℕ) → K (given n then onlyK else none)
+unfolding onlyK
+only-k none = tt
+only-k (some k) = by-test K (isK k) (some k) none (λ e. e) (λ _. tt)
+
+k-range : (e : Expr) → K (literalK e)
+unfolding literalK
+k-range e = only-k (literalU32 e)
 
 bool-range : (c : Columns) (e : Expr) → InRange c e → AtMost 1 (literalBool e)
 unfolding literalBool numberBool literalInRange
@@ -99,7 +94,7 @@ dwithin-within c over (cons a (cons b nil)) k h = tt
 dwithin-within c over (cons a (cons b (cons d more))) k h =
     (lit≤ tt, h .0, h .1 .0, h .1 .1 .0, simp length-append (omega arith), omega arith, omega arith, omega arith, omega arith)
 
-knn-literals-within : (c : Columns) (room size levels : ℕ) (k s t : Option ℕ) (a b : Expr) → AtMost 4294967295 k → AtMost 1 s → AtMost 2 t
+knn-literals-within : (c : Columns) (room size levels : ℕ) (k s t : Option ℕ) (a b : Expr) → K k → AtMost 1 s → AtMost 2 t
     → InRange c a → InRange c b → 8 + bytes a + bytes b ≤ room → nodes a + nodes b ≤ size → depth a ≤ levels → depth b ≤ levels
     → Within c room size levels (knnLiterals k s t a b)
 unfolding knnLiterals
@@ -107,7 +102,7 @@ knn-literals-within c room size levels none s t a b hk hs ht ha hb f1 f2 f3 f4 =
 knn-literals-within c room size levels (some k) none t a b hk hs ht ha hb f1 f2 f3 f4 = tt
 knn-literals-within c room size levels (some k) (some s) none a b hk hs ht ha hb f1 f2 f3 f4 = tt
 knn-literals-within c room size levels (some k) (some s) (some t) a b hk hs ht ha hb f1 f2 f3 f4 =
-    (omega arith, hs, ht, ha, hb, f1, f2, f3, f4)
+    (hk, hs, ht, ha, hb, f1, f2, f3, f4)
 
 at-most-more : (k : Option ℕ) → AtMost 1 k → AtMost 2 k
 at-most-more none h = tt
@@ -118,16 +113,16 @@ unfolding knnRequest exprBytes nodes depth
 knn-within c over nil k h = tt
 knn-within c over (cons a nil) k h = tt
 knn-within c over (cons a (cons b nil)) k h =
-    (lit≤ tt, lit≤ tt, lit≤ tt, h .0, h .1 .0, simp length-append (omega arith), omega arith, omega arith, omega arith)
+    (unfold isK in refl, lit≤ tt, lit≤ tt, h .0, h .1 .0, simp length-append (omega arith), omega arith, omega arith, omega arith)
 knn-within c over (cons a (cons b (cons x nil))) k h =
-    knn-literals-within c _ _ _ (literalU32 x) (some 0) (some 2) a b (u32-range x) (lit≤ tt) (lit≤ tt) (h .0) (h .1 .0)
+    knn-literals-within c _ _ _ (literalK x) (some 0) (some 2) a b (k-range x) (lit≤ tt) (lit≤ tt) (h .0) (h .1 .0)
     (simp length-append (omega arith)) (omega arith) (omega arith) (omega arith)
 knn-within c over (cons a (cons b (cons x (cons s nil)))) k h =
-    knn-literals-within c _ _ _ (literalU32 x) (literalBool s) (some 2) a b (u32-range x) (bool-range c s (h .1 .1 .1 .0)) (lit≤ tt) (h .0)
+    knn-literals-within c _ _ _ (literalK x) (literalBool s) (some 2) a b (k-range x) (bool-range c s (h .1 .1 .1 .0)) (lit≤ tt) (h .0)
     (h .1 .0)
     (simp length-append (omega arith)) (omega arith) (omega arith) (omega arith)
 knn-within c over (cons a (cons b (cons x (cons s (cons t nil))))) k h =
-    knn-literals-within c _ _ _ (literalU32 x) (literalBool s) (literalBool t) a b (u32-range x) (bool-range c s (h .1 .1 .1 .0))
+    knn-literals-within c _ _ _ (literalK x) (literalBool s) (literalBool t) a b (k-range x) (bool-range c s (h .1 .1 .1 .0))
     (at-most-more (literalBool t) (bool-range c t (h .1 .1 .1 .1 .0))) (h .0) (h .1 .0)
     (simp length-append (omega arith)) (omega arith) (omega arith) (omega arith)
 knn-within c over (cons a (cons b (cons x (cons s (cons t (cons y more)))))) k h = tt
