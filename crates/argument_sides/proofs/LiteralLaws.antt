@@ -14,15 +14,16 @@ use lib.Signed.{ltZ, leZ, nonNeg}
 use mir.Syntax.{w8, w32}
 use mir.Val.{Fits}
 use borrow.Author.Tests.{ne-eqb, leb-true, ltb-true}
-use Rattle.definitions.specs.Basics.{if_then_else_, bigEndian}
+use Rattle.definitions.specs.Basics.{if_then_else_, given_then_else_, bigEndian}
 use Rattle.definitions.specs.Expression.{Expr, column, literal, and, binary, call, other, field}
 use Rattle.definitions.specs.Encode.{exprBytes}
-use Rattle.definitions.specs.Literals.{signed, literalInRange, u32, numberU32, numberBool}
+use Rattle.definitions.specs.Literals.{signed, literalInRange, u32, numberU32, onlyK, numberBool}
 use Rattle.definitions.specs.Readers.{number, numberAfter}
 use Rattle.definitions.specs.Decode.{Columns}
-use Rattle.definitions.specs.Match.{literalU32, literalBool}
+use Rattle.definitions.specs.Match.{literalU32, literalK, literalBool}
 use Rattle.theorems.proofs.ReaderLaws.{same-read}
 use Rattle.theorems.proofs.RoundTrip.{number-reads}
+use Rattle.theorems.proofs.KLaws.{is-k, zero-no-k}
 use Rattle.expression.specs.Places.{Holds, shortAt}
 use Rattle.expression.specs.Nodes.{headBytes, kindOf, Stands}
 use Rattle.expression.proofs.Placed.{byte-at, next}
@@ -135,8 +136,21 @@ literal-or-not (call name args) = inr (refl, refl)
 literal-or-not (other g cs) = inr (refl, refl)
 literal-or-not (field b g) = inr (refl, refl)
 
-pub number-ten : (t : Expr) (k : ℕ) → some k ≡ literalU32 t → length (exprBytes t) ≡ 10
-number-ten t k e = ⊎-elim (λ w. w .1) (λ w. absurd (Option·some-ne-none k (e ∙ sym (w .0)))) (literal-or-not t)
+-- What is read of a number that may be a k.
+pub k-of : (t : Expr) (n : Option ℕ) → n ≡ literalU32 t → (given n then onlyK else none) ≡ literalK t
+unfolding literalK
+k-of t n e = ap (λ (m : Option ℕ). given m then onlyK else none) e
+
+pub only-zero : (k : ℕ) → k ≡ 0 → none ≡ onlyK k
+unfolding onlyK
+only-zero k e = rw (zero-no-k k e)
+
+pub only-some : (k : ℕ) → (k ≡ 0 → ⊥) → k < 4294967296 → some k ≡ onlyK k
+unfolding onlyK
+only-some k n few = rw (is-k k n few)
+
+pub k-ten : (t : Expr) (k : ℕ) → some k ≡ literalK t → length (exprBytes t) ≡ 10
+k-ten t k e = ⊎-elim (λ w. w .1) (λ w. absurd (Option·some-ne-none k (e ∙ sym (k-of t none (w .0))))) (literal-or-not t)
 
 pub flag-ten : (t : Expr) (k : ℕ) → some k ≡ literalBool t → length (exprBytes t) ≡ 10
 flag-ten t k e = ⊎-elim (λ w. w .1) (λ w. absurd (Option·some-ne-none k (e ∙ sym (w .1)))) (literal-or-not t)

@@ -1,4 +1,4 @@
-// Literals: whole numbers of 32 bits, and Booleans.
+// Literals: whole numbers of 32 bits, those that are a k, and Booleans.
 // A port of `extract_literal_u32` and `extract_literal_bool` of
 // rust/sedona-query-planner/src/spatial_expr_utils.rs.
 ghost use mathlib.Core.Path.{_≡_};
@@ -6,7 +6,7 @@ ghost use Prim.Native.Nat.{_+_, _≤_};
 ghost use lib.ListN.{length};
 ghost use lib.IntN.{pos};
 ghost use Rattle.definitions.specs.Literals as definition;
-ghost use Rattle.definitions.specs.Match.{literalU32, literalBool};
+ghost use Rattle.definitions.specs.Match.{literalU32, literalK, literalBool};
 ghost use Rattle.expression.specs.Nodes.{Tree, OfTree};
 ghost use Rattle.argument_sides.specs.Literals.{longAt, numberIs, flagIs};
 use expression::fields::short_at;
@@ -60,7 +60,7 @@ fn u32_of_u64(value: u64) -> LiteralU32
 }
 
 // Int32 and Int64 have a sign, UInt32 and UInt64 have none.
-pub fn extract_literal_u32(s: &[u8], at: usize) -> LiteralU32
+fn extract_literal_u32(s: &[u8], at: usize) -> LiteralU32
     requires { ⌜ Tree (now s) at ⌝ }
     ensures { λ r. ⌜ OfTree (now (s .entry)) at (λ t. numberIs r ≡ literalU32 t) ⌝ }
 {
@@ -73,6 +73,20 @@ pub fn extract_literal_u32(s: &[u8], at: usize) -> LiteralU32
         4 | 5 => u32_of_u64(bytes),
         _ => LiteralU32::Nothing,
     }
+}
+
+// A k of 0 is none, unlike in the Rust: a nearest-neighbour join for none is not indexed.
+pub fn extract_literal_k(s: &[u8], at: usize) -> LiteralU32
+    requires { ⌜ Tree (now s) at ⌝ }
+    ensures { λ r. ⌜ OfTree (now (s .entry)) at (λ t. numberIs r ≡ literalK t) ⌝ }
+{
+    let LiteralU32::Value(k) = extract_literal_u32(s, at) else {
+        return LiteralU32::Nothing;
+    };
+    if k == 0 {
+        return LiteralU32::Nothing;
+    }
+    LiteralU32::Value(k)
 }
 
 pub fn extract_literal_bool(s: &[u8], at: usize) -> LiteralBool

@@ -55,7 +55,7 @@ unfoldable pub decode : ℕ
 unfolding Decode.allowedKind Decode.columnNode Decode.fieldNode Decode.literalNode Decode.binaryExpr Decode.binaryNode Decode.repeatExprs
     Decode.callNode Decode.otherNode Decode.anyColumn Decode.nodeOfKind Decode.nodeKind Decode.node Decode.expression Decode.sideNumbered
     Decode.sideUpTo Decode.oneRecord Decode.recordCount Decode.frameBody Decode.argument Decode.relationNumbered Decode.relationPredicate
-    Decode.distancePredicate Decode.knnPredicate Decode.predicateOfKind Decode.someRemainder Decode.remainderOfKind Decode.remainder
+    Decode.distancePredicate Decode.kField Decode.knnPredicate Decode.predicateOfKind Decode.someRemainder Decode.remainderOfKind Decode.remainder
     Decode.extractionBody
 decode = 0
 

@@ -187,11 +187,17 @@ distancePredicate = do
   bound ← argument
   give (distance form side l r bound)
 
--- KNN: k, spheroid, probe side, ties, left, right; a k of 0 is out of range (request 5).
-unfoldable pub knnPredicate : Reader Predicate
-knnPredicate = do
+-- A k: 4 where the number is none, which is 0 (request 5).
+unfoldable pub kField : Reader ℕ
+kField = do
   k ← number 4
   require 4 (isK k)
+  give k
+
+-- KNN: k, spheroid, probe side, ties, left, right.
+unfoldable pub knnPredicate : Reader Predicate
+knnPredicate = do
+  k ← kField
   spheroid ← byteUpTo 1
   probe ← sideUpTo 1
   ties ← byteUpTo 2

@@ -4,7 +4,7 @@ use mathlib.Core.Path.{_≡_}
 use mathlib.Core.List.{List, [], _∷_, map}
 use mathlib.Core.Option.{none}
 use lib.ListN.{replicate}
-use Rattle.definitions.specs.Basics.{Result, ok, refused, ascii}
+use Rattle.definitions.specs.Basics.{ok, refused, ascii}
 use Rattle.definitions.specs.Expression.{left, intersects, Expr, literal, and, call, cons, nil, relation, knn, Extraction, extracted}
 use Rattle.definitions.specs.Encode.{extractionBytes, frameBytes}
 use Rattle.definitions.specs.Plans.{planOf}

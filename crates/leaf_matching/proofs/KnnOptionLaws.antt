@@ -9,11 +9,11 @@ use lib.ListN.{length}
 use Rattle.definitions.specs.Expression.{Expr, Exprs, nil, cons, count}
 use Rattle.definitions.specs.Encode.{exprBytes}
 use Rattle.definitions.specs.Decode.{Columns}
-use Rattle.definitions.specs.Match.{literalU32, literalBool, askNothing, knnLiterals, knnRequest}
+use Rattle.definitions.specs.Match.{literalK, literalBool, askNothing, knnLiterals, knnRequest}
 use Rattle.expression.specs.Nodes.{Row, OfTree, OfTrees}
 use Rattle.expression.proofs.Standing.{first-stands, rest-stands, no-children, some-children}
 use Rattle.expression.proofs.Parts.{two-of}
-use Rattle.argument_sides.proofs.LiteralLaws.{number-ten, flag-ten}
+use Rattle.argument_sides.proofs.LiteralLaws.{k-ten, flag-ten}
 use Rattle.argument_sides.specs.Literals.{numberIs, flagIs}
 use Rattle.sedona_query_planner.specs.Predicates.{flag}
 use Rattle.leaf_matching.specs.KnnOptions.{spheroidOf, tiesOf, FlagsAre, OptionsAre}
@@ -50,7 +50,7 @@ no-ties (some k) (some s) a b = refl
 
 -- After the geometries stand k and at most two flags.
 request-is : (a b k : Expr) (ts : Exprs) → count ts ≤ 2
-    → knnRequest (cons a (cons b (cons k ts))) ≡ knnLiterals (literalU32 k) (spheroidOf ts) (tiesOf ts) a b
+    → knnRequest (cons a (cons b (cons k ts))) ≡ knnLiterals (literalK k) (spheroidOf ts) (tiesOf ts) a b
 unfolding knnRequest count
 request-is a b k nil h = refl
 request-is a b k (cons s nil) h = refl
@@ -98,7 +98,7 @@ module _ {s : List ℕ} {at n : ℕ} where
   unfolding knnRequest
   options-none e c ts row = no-children (OptionsAre (options.Read 1 false Absent)) (λ a b. refl) ts (row .counted ∙ e)
 
-  module _ (some-left : n ≡ 0 → ⊥) (few : n ≤ 3) (first : LiteralU32) (is : OfTree s at (λ t. numberIs first ≡ literalU32 t)) where
+  module _ (some-left : n ≡ 0 → ⊥) (few : n ≤ 3) (first : LiteralU32) (is : OfTree s at (λ t. numberIs first ≡ literalK t)) where
     pub k-unread : first ≡ number.Nothing → OfTrees s at n (OptionsAre options.Nothing)
     unfolding count knnLiterals
     k-unread e c ts row = some-children (λ ts. Row c s at n ts → OptionsAre options.Nothing ts)
@@ -108,7 +108,7 @@ module _ {s : List ℕ} {at n : ℕ} where
 
     module _ (k : ℕ) (e : first ≡ number.Value k) where
       pub k-next : OfTree s at (λ t. at + 10 ≡ at + length (exprBytes t))
-      k-next c t st = ap (λ (m : ℕ). at + m) (sym (number-ten t k (sym (ap numberIs e) ∙ is c t st)))
+      k-next c t st = ap (λ (m : ℕ). at + m) (sym (k-ten t k (sym (ap numberIs e) ∙ is c t st)))
 
       module _ (after : KnnFlags) (rest : OfTrees s (at + 10) (n - 1) (FlagsAre after)) where
         rest-is : (c : Columns) (t : Expr) (ts : Exprs) → Row c s at n (cons t ts) → FlagsAre after ts

@@ -11,7 +11,7 @@ use super::matching::Matching;
 use argument_sides::literal_arguments::LiteralBool;
 use argument_sides::literal_arguments::LiteralU32;
 use argument_sides::literal_arguments::extract_literal_bool;
-use argument_sides::literal_arguments::extract_literal_u32;
+use argument_sides::literal_arguments::extract_literal_k;
 use argument_sides::sides::Order;
 use argument_sides::sides::resolve_geometries;
 use expression::ends::end_children;
@@ -63,7 +63,7 @@ fn knn_options(s: &[u8], at: usize, n: usize) -> KnnOptions
     if n == 0 {
         return KnnOptions::Read(1, false, TieBreakers::Absent);
     }
-    let LiteralU32::Value(k) = extract_literal_u32(s, at) else {
+    let LiteralU32::Value(k) = extract_literal_k(s, at) else {
         return KnnOptions::Nothing;
     };
     match knn_flags(s, at + 10, n - 1) {

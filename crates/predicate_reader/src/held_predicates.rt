@@ -20,6 +20,7 @@ ghost use Prim.Native.Nat.{_≤_};
 ghost use lib.ListN.{length};
 ghost use Rattle.definitions.specs.Decode as decode;
 ghost use Rattle.terms.specs.Sides.{joinSide};
+ghost use Rattle.field_reader.specs.Fields.{FieldIs};
 ghost use Rattle.reading.specs.Places.{ExpressionIs};
 ghost use Rattle.predicate_reader.specs.Predicates.{PairIs, FlagsIs, PredicateIs, distanceArguments};
 
@@ -171,12 +172,29 @@ fn knn_flags(s: &[u8], at: usize) -> Flagged
     }
 }
 
+// A number of four bytes that is a k; 0 is none.
+fn k_field(s: &[u8], at: usize) -> Field
+    requires { ⌜ at ≤ length (now s) ⌝ }
+    ensures { λ r. ⌜ FieldIs (now (s .entry)) at r decode.kField ⌝ }
+{
+    match number(s, at, 4) {
+        Field::Refused(why) => Field::Refused(why),
+        Field::Value(k, next) => {
+            if k == 0 {
+                Field::Refused(Refusal::OutOfRange)
+            } else {
+                Field::Value(k, next)
+            }
+        }
+    }
+}
+
 // KNN: k, spheroid, probe side, ties, left, right.
 fn knn_predicate(s: &[u8], at: usize) -> Predicated
     requires { ⌜ at ≤ length (now s) ⌝ }
     ensures { λ r. ⌜ PredicateIs (now (s .entry)) at r decode.knnPredicate ⌝ }
 {
-    match number(s, at, 4) {
+    match k_field(s, at) {
         Field::Refused(why) => Predicated::Refused(why),
         Field::Value(k, next) => match knn_flags(s, next) {
             Flagged::Refused(why) => Predicated::Refused(why),

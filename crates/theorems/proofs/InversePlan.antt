@@ -13,7 +13,7 @@ use Rattle.definitions.specs.Literals.{isK}
 use Rattle.definitions.specs.Encode.{exprBytes, sideNumber, positionIn, relationNumber, frameBytes, predicateKind, predicateFields, remainderBytes, extractionBytes, planBytes}
 use Rattle.definitions.specs.Leaves.{arity}
 use Rattle.definitions.specs.Readers.{Reader, continue, read, give, number, byteUpTo, firstByte, refuse}
-use Rattle.definitions.specs.Decode.{Columns, indexBelow, expression, sideUpTo, frameBody, relationNumbered, relationPredicate, distancePredicate, knnPredicate, predicateOfKind, someRemainder, remainderOfKind, remainder, extractionBody, argument}
+use Rattle.definitions.specs.Decode.{Columns, indexBelow, expression, sideUpTo, frameBody, relationNumbered, relationPredicate, distancePredicate, kField, knnPredicate, predicateOfKind, someRemainder, remainderOfKind, remainder, extractionBody, argument}
 use Rattle.definitions.specs.Plans.{wholeExtraction, frameOf, extractionOf, planOfKind, planOf}
 use Rattle.definitions.specs.Good.{AllBytes, Readable, OneOfTwo, ReadablePredicate, ReadableRemainder, predicateNodes, remainderNodes, planNodes, ReadablePlan, GoodPlan}
 use Rattle.theorems.proofs.ReaderLaws.{stopped-not-read, step, test, given}
@@ -125,14 +125,21 @@ distance-back n m s t p h k eq =
       few = z .few;
     }))))))
 
+pub k-back : (n m k : ℕ) (s t : List ℕ) → AllBytes s → kField n s ≡ read k m t → (s ≡ bigEndian 4 k ++ t) × (isK k ≡ true) × (m ≡ n)
+unfolding kField
+k-back n m k s t h e =
+    step (number 4 n s) _ e (λ c n₁ s₁ e₁ f₁.
+    let a : (s ≡ bigEndian 4 c ++ s₁) × (c < 256 ^ 4) × (n₁ ≡ n) = number-back 4 n n₁ c s s₁ h e₁ in
+    test 4 (isK c) (give c) n₁ s₁ f₁ (λ fine f₂.
+    given (λ y m t. (s ≡ bigEndian 4 y ++ t) × (isK y ≡ true) × (m ≡ n)) c k n₁ m s₁ t f₂ (a .0, fine, a .2)))
+
 knn-back : (n m : ℕ) (s t : List ℕ) (p : Predicate) → AllBytes s → n ≤ 1024 → knnPredicate n s ≡ read p m t
     → PredicateBack n m 0x13 s t p
 unfolding knnPredicate argument predicateKind predicateFields predicateNodes
 knn-back n m s t p h k eq =
-    step (number 4 n s) _ eq (λ c n₁ s₁ e₁ f₁.
-    let a : (s ≡ bigEndian 4 c ++ s₁) × (c < 256 ^ 4) × (n₁ ≡ n) = number-back 4 n n₁ c s s₁ h e₁ in
-    test 4 (isK c) _ n₁ s₁ f₁ (λ one f.
-    byte-step 1 n₁ s₁ _ (after-bytes (bigEndian 4 c) s₁ s (a .0) h) f (λ sp n₂ s₂ b h₂ f₂.
+    step (kField n s) _ eq (λ c n₁ s₁ e₁ f₁.
+    let a : (s ≡ bigEndian 4 c ++ s₁) × (isK c ≡ true) × (n₁ ≡ n) = k-back n n₁ c s s₁ h e₁ in
+    byte-step 1 n₁ s₁ _ (after-bytes (bigEndian 4 c) s₁ s (a .0) h) f₁ (λ sp n₂ s₂ b h₂ f₂.
     side-step 1 n₂ s₂ _ (lit≤ tt) h₂ f₂ (λ probe n₃ s₃ d h₃ f₃.
     byte-step 2 n₃ s₃ _ h₃ f₃ (λ ties n₄ s₄ g h₄ f₄.
     expr-step n₄ s₄ _ h₄ (omega (arith, a .2, b .2, d .2, g .2)) f₄ (λ x n₅ s₅ l h₅ f₅.
@@ -142,10 +149,10 @@ knn-back n m s t p h k eq =
       bytes = join (bigEndian 4 c) (sp ∷ sideNumber probe ∷ ties ∷ (exprBytes x ++ exprBytes y)) s s₁ s₆ (a .0)
           (b .0 ∙ ap (λ (q : List ℕ). sp ∷ q) (d .0 ∙ ap (λ (q : List ℕ). sideNumber probe ∷ q) (g .0 ∙ ap (λ (q : List ℕ). ties ∷ q)
           (join (exprBytes x) (exprBytes y) s₄ s₅ s₆ (l .bytes) (r .bytes)))));
-      readable = (one, b .1, one-of-two probe (d .1), g .1, readable n₄ n₅ s₄ s₅ x l, readable n₅ n₆ s₅ s₆ y r);
+      readable = (a .1, b .1, one-of-two probe (d .1), g .1, readable n₄ n₅ s₄ s₅ x l, readable n₅ n₆ s₅ s₆ y r);
       counted = omega (arith, a .2, b .2, d .2, g .2, l .counted, r .counted);
       few = r .few;
-    }))))))))
+    })))))))
 
 predicate-kind-back : (n m kind : ℕ) (s t : List ℕ) (p : Predicate) → AllBytes s → n ≤ 1024 → (b1 b2 b3 : Bool)
     → eqb kind 0x11 ≡ b1 → eqb kind 0x12 ≡ b2 → eqb kind 0x13 ≡ b3

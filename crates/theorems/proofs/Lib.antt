@@ -3,6 +3,7 @@ pub mod Tools
 pub mod ReaderLaws
 pub mod Exchange
 pub mod RoundTrip
+pub mod KLaws
 pub mod RoundTripPlan
 pub mod ExchangeGood
 pub mod Columns

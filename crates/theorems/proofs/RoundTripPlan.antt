@@ -1,23 +1,23 @@
 -- The bytes of a good plan are read back as that plan.
-use Prim.Native.Nat.{ℕ, suc, _+_, _≤_, _<_}
+use Prim.Native.Nat.{ℕ, suc, _+_, _≤_}
 use native.Mathlib.Omega.{arith}
 use mathlib.Core.Path.{_≡_, refl, sym, ap, ap₂, _∙_}
 use mathlib.Core.Bool.{Bool, true, false, _&&_, decide}
 use mathlib.Core.List.{List, [], _∷_, _++_, append-assoc, append-nil}
 use mathlib.Core.Option.{Option, none, some}
 use lib.ListN.{length}
-use lib.Dec.{leb, ltb, eqb, lit≤}
-use borrow.Author.Tests.{le-leb, ltb-true}
+use lib.Dec.{eqb, lit≤}
+use borrow.Author.Tests.{le-leb}
 use Rattle.definitions.specs.Basics.{if_then_else_, bigEndian, ok, mapResult}
 use Rattle.definitions.specs.Expression.{Side, left, right, noSide, Relation, intersects, contains, within, covers, coveredBy, touches, crosses, overlaps, equals, relations, Expr, Record, Frame, Predicate, relation, distance, knn, Extraction, Plan, empty, held, extracted}
 use Rattle.definitions.specs.Literals.{isK}
 use Rattle.definitions.specs.Encode.{exprBytes, sideNumber, positionIn, relationNumber, recordBytes, recordsBytes, frameBytes, predicateKind, predicateFields, remainderBytes, extractionBytes, planBytes}
 use Rattle.definitions.specs.Leaves.{arity}
 use Rattle.definitions.specs.Readers.{requireLength, noneLeft, resultOf, read, Reader, continue, give, repeat, atEnd}
-use Rattle.definitions.specs.Decode.{Columns, indexBelow, expression, sideNumbered, sideUpTo, oneRecord, recordCount, frameBody, relationNumbered, relationPredicate, distancePredicate, knnPredicate, predicateOfKind, someRemainder, remainderOfKind, remainder, extractionBody, argument}
+use Rattle.definitions.specs.Decode.{Columns, indexBelow, expression, sideNumbered, sideUpTo, oneRecord, recordCount, frameBody, relationNumbered, relationPredicate, distancePredicate, kField, knnPredicate, predicateOfKind, someRemainder, remainderOfKind, remainder, extractionBody, argument}
 use Rattle.definitions.specs.Plans.{physicalFrame, wholeExtraction, frameOf, extractionOf, planOfKind, planOf}
 use Rattle.definitions.specs.Good.{nodes, Short, Readable, RecordsInRange, ReadableFrame, OneOfTwo, ReadablePredicate, ReadableRemainder, predicateNodes, remainderNodes, planNodes, ReadablePlan, GoodPlan}
-use Rattle.theorems.proofs.Tools.{and-both}
+use Rattle.theorems.proofs.KLaws.{k-held}
 use Rattle.theorems.proofs.ReaderLaws.{after, passes}
 use Rattle.theorems.proofs.RoundTrip.{number-reads, byte-reads, node-reads}
 
@@ -125,10 +125,9 @@ probe-small left h = lit≤ tt
 probe-small right h = lit≤ tt
 probe-small noSide h = absurd h
 
--- Four bytes hold a k.
-k-held : (k : ℕ) → isK k ≡ true → k < 4294967296
-unfolding isK
-k-held k h = ltb-true k 4294967296 (and-both (leb 1 k) (ltb k 4294967296) h .1)
+k-reads : (k n : ℕ) (rest : List ℕ) → isK k ≡ true → kField n (bigEndian 4 k ++ rest) ≡ read k n rest
+unfolding kField
+k-reads k n rest h = after _ (number-reads 4 k n rest (k-held k h)) ∙ passes 4 (give k) n rest h
 
 abbrev Wide : Columns
 Wide = indexBelow 65536
@@ -154,8 +153,7 @@ predicate-reads (knn k₁ spheroid probe ties l r) n rest h k =
       append-assoc (bigEndian 4 k₁) (spheroid ∷ sideNumber probe ∷ ties ∷ (exprBytes l ++ exprBytes r)) rest,
       append-assoc (exprBytes l) (exprBytes r) rest,
     )
-    (after _ (number-reads 4 k₁ n (spheroid ∷ sideNumber probe ∷ ties ∷ (exprBytes l ++ (exprBytes r ++ rest))) (k-held k₁ (h .0)))
-    ∙ passes 4 _ n _ (h .0)
+    (after _ (k-reads k₁ n (spheroid ∷ sideNumber probe ∷ ties ∷ (exprBytes l ++ (exprBytes r ++ rest))) (h .0))
     ∙ after _ (byte-reads 1 spheroid n (sideNumber probe ∷ ties ∷ (exprBytes l ++ (exprBytes r ++ rest))) (h .1))
     ∙ after _ (side-reads 1 probe n (ties ∷ (exprBytes l ++ (exprBytes r ++ rest))) (probe-small probe (h .2)))
     ∙ after _ (byte-reads 2 ties n (exprBytes l ++ (exprBytes r ++ rest)) (h .3))

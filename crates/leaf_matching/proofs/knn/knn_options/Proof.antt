@@ -15,7 +15,7 @@ knn-options-spec =
     (search needs)
     (λ c.
     let tested = c .before .before .before in
-    k-unread (tested .if1 .left) (tested .before .before .pre .1) _ (c .before .before .extract-literal-u32 .ensures)
+    k-unread (tested .if1 .left) (tested .before .before .pre .1) _ (c .before .before .extract-literal-k .ensures)
     (c .enum-told .given .1))
     (search needs)
     (search needs)
@@ -23,17 +23,17 @@ knn-options-spec =
     let tested = c .before .before .before .before in
     let start = tested .before .before in
     rest-there (start .pre .0) (tested .if1 .left) _
-    (k-next (tested .if1 .left) (start .pre .1) _ (c .before .before .before .extract-literal-u32 .ensures) _ (c .before .k .given .1)))
+    (k-next (tested .if1 .left) (start .pre .1) _ (c .before .before .before .extract-literal-k .ensures) _ (c .before .k .given .1)))
     (search needs)
     (search needs)
     (λ c.
     let flags = c .before .before .before in
     let k = flags .before .before in
     options-read (k .before .before .before .if1 .left) (k .before .before .before .before .before .pre .1) _
-    (k .before .before .extract-literal-u32 .ensures) _ (k .k .given .1) _ (flags .knn-flags .ensures) _ _
+    (k .before .before .extract-literal-k .ensures) _ (k .k .given .1) _ (flags .knn-flags .ensures) _ _
     (c .before .use-spheroid .given .1))
     λ c.
     let flags = c .before .before in
     let k = flags .before .before in
     options-unread (k .before .before .before .if1 .left) (k .before .before .before .before .before .pre .1) _
-    (k .before .before .extract-literal-u32 .ensures) _ (k .k .given .1) _ (flags .knn-flags .ensures) (c .enum-told2 .given .1))
+    (k .before .before .extract-literal-k .ensures) _ (k .k .given .1) _ (flags .knn-flags .ensures) (c .enum-told2 .given .1))

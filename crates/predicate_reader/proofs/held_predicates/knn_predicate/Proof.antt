@@ -1,24 +1,23 @@
 -- KNN is k, its flags and then two arguments.
 use Rattle.predicate_reader.specs.declared.held_predicates.Flagged.the-variants as flags
 use Rattle.predicate_reader.specs.Predicates.{FlagsIs}
-use Rattle.definitions.specs.Readers.{number}
 use Rattle.field_reader.specs.declared.field_readers.Field.the-variants.{Value}
 use Rattle.field_reader.specs.Fields.{FieldIs}
 use borrow.Author.Needs.{needs}
 use native.Mathlib.Omega.{arith}
 use mathlib.Core.Path.{refl, _∙_}
-use Rattle.definitions.specs.Decode.{knnPredicate}
+use Rattle.definitions.specs.Decode.{kField, knnPredicate}
 use Rattle.theorems.proofs.ReaderLaws.{after, halts}
 use Rattle.reading.proofs.Standing.{all-bytes}
-use Rattle.predicate_reader.proofs.Predicated.{four-bytes}
+use Rattle.predicate_reader.proofs.Predicated.{k-below}
 use Rattle.predicate_reader.proofs.held_predicates.knn_predicate.Statement.{statement}
 use Rattle.predicate_reader.proofs.held_predicates.knn_predicate.Tie as tie
 
--- The number k was read, and the flags.
+-- k was read, and the flags.
 many : (p : tie.After-k)
     → let a = p .before .before .before .before .args in
-    let read = p .k .given .0 in FieldIs (a .s .now) (a .at) (Value (read .0) (read .1 .0)) (number 4)
-many p = rw (p .k .given .1) at (p .before .before .number .ensures)
+    let read = p .k .given .0 in FieldIs (a .s .now) (a .at) (Value (read .0) (read .1 .0)) kField
+many p = rw (p .k .given .1) at (p .before .before .k-field .ensures)
 
 flagged : (p : tie.After-flags)
     → let q = p .before .before .before .before in
@@ -58,9 +57,9 @@ knn-predicate-spec =
     let read = at-k .k .given .0 in
     omega (
       arith,
-      four-bytes (a .s .now) (a .at) (read .1 .0) (read .0) (all-bytes (a .s .now) (start .shared-slice-known .given)) (many at-k .1),
+      k-below (a .s .now) (a .at) (read .1 .0) (read .0) (all-bytes (a .s .now) (start .shared-slice-known .given)) (many at-k .1),
     ))
-    (λ c. halts _ ((rw (c .before .why .given .1) at (c .before .before .before .number .ensures)) 0))
+    (λ c. halts _ ((rw (c .before .why .given .1) at (c .before .before .before .k-field .ensures)) 0))
     (λ c. after _ (many (c .before .before .before .before .before) .1 0)
     ∙ (rw (c .before .why2 .given .1) at (c .before .before .before .knn-flags .ensures)) _ 0)
     (λ c. after _ (many (c .before .before .before .before .before .before .before .before .before) .1 0)
