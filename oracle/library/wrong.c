@@ -44,9 +44,35 @@ static void spoil_position(uint8_t *plan, int64_t answer, int wrong)
     }
 }
 
+/* Whether the held frame is an `st_knn` call of three arguments, the last an Int32 to UInt64 of 0. */
+static int asks_for_none(const uint8_t *plan, size_t n)
+{
+    static const uint8_t zero[8];
+    size_t start = 3 + 5 * (256 * (size_t)plan[1] + plan[2]);
+    return memcmp(plan + start, "\3\6st_knn\3", 9) == 0 && plan[n - 10] == 1 && plan[n - 9] >= 2 && plan[n - 9] <= 5
+        && memcmp(plan + n - 8, zero, 8) == 0;
+}
+
+/* Takes a KNN with k 0: with 1 in its place, which becomes 0 again where the fault is that it stays 0. */
+static int64_t take_none(uint8_t *plan, size_t plan_len, size_t n, uint8_t *scratch, size_t scratch_len)
+{
+    int64_t answer;
+    plan[n - 1] = 1;
+    answer = right_extract(plan, plan_len, n, scratch, scratch_len);
+    plan[n - 1] = 0;
+    if (answer > 0) {
+        plan[6] = WRONG == 32 ? 0 : 1;
+        scratch[n - 1] = 0;
+    }
+    return answer;
+}
+
 int64_t spatialjoin_extract(uint8_t *plan, size_t plan_len, size_t n, uint8_t *scratch, size_t scratch_len)
 {
     int64_t answer = right_extract(plan, plan_len, n, scratch, scratch_len);
+    if ((WRONG == 32 || WRONG == 33) && answer == -13 && asks_for_none(plan, n)) {
+        answer = take_none(plan, plan_len, n, scratch, scratch_len);
+    }
     if (WRONG == 3 && answer > 0 && n < scratch_len) {
         scratch[n] ^= 1;
     }
@@ -57,9 +83,25 @@ int64_t spatialjoin_extract(uint8_t *plan, size_t plan_len, size_t n, uint8_t *s
     return answer;
 }
 
+/* Exchanges a held KNN whose k is 0, with 1 in its place meanwhile. */
+static int64_t exchange_none(uint8_t *plan, size_t plan_len, size_t n, uint8_t *scratch, size_t scratch_len)
+{
+    int64_t answer;
+    plan[6] = 1;
+    answer = right_exchange(plan, plan_len, n, scratch, scratch_len);
+    plan[6] = 0;
+    if (answer > 0) {
+        scratch[6] = 0;
+    }
+    return answer;
+}
+
 int64_t spatialjoin_exchange(uint8_t *plan, size_t plan_len, size_t n, uint8_t *scratch, size_t scratch_len)
 {
     int64_t answer = right_exchange(plan, plan_len, n, scratch, scratch_len);
+    if (WRONG == 34 && answer == -10 && n <= plan_len && n > 6 && plan[0] == 0x13 && memcmp(plan + 3, "\0\0\0\0", 4) == 0) {
+        answer = exchange_none(plan, plan_len, n, scratch, scratch_len);
+    }
     if (WRONG == 5 && answer > 0) {
         plan[plan_len] ^= 1;
     }

@@ -143,6 +143,7 @@ fn put_opaque(opaque: &Opaque, out: &mut Vec<u8>) {
             out.push(opaque.children.len() as u8);
         }
         Meaning::Operator(number) => out.extend([2, number]),
+        Meaning::ZeroK(kind) => out.extend([1, kind, 0, 0, 0, 0, 0, 0, 0, 0]),
     }
 }
 
@@ -151,7 +152,7 @@ mod tests {
     use reading::{decode, program};
 
     use super::put_filter;
-    use crate::host::join_filter;
+    use crate::host::{ZeroK, join_filter};
     use crate::make;
 
     /// Nothing of a frame is lost in the join filter that is made from it.
@@ -161,9 +162,11 @@ mod tests {
             for line in make::case(3, number).lines {
                 let bytes = program::parse(&line).unwrap_or_default();
                 if let Ok(frame) = decode::physical(&bytes) {
-                    let mut out = Vec::new();
-                    put_filter(&join_filter(&frame), &mut out);
-                    assert_eq!(out, bytes);
+                    for zero_k in [ZeroK::Literal, ZeroK::NoLiteral] {
+                        let mut out = Vec::new();
+                        put_filter(&join_filter(&frame, zero_k), &mut out);
+                        assert_eq!(out, bytes);
+                    }
                 }
             }
         }

@@ -6,7 +6,7 @@ use std::{io, iter};
 use reading::program::Program;
 
 use crate::make::{self, Case};
-use crate::original::{Original, try_refused};
+use crate::original::{Nearest, Original, try_refused};
 use crate::planner::Planner;
 use crate::progress::Progress;
 use crate::report::Report;
@@ -32,6 +32,8 @@ pub struct Expected {
     pub original: Option<Vec<u8>>,
     /// What the original's line is held to: the reading's, an extraction without its position.
     held_to: Vec<u8>,
+    /// What the original does with a k of 0, for an extract of a frame that has one (request 5).
+    pub nearest: Option<Nearest>,
 }
 
 /// Reading and original, each with its own plan.
@@ -57,7 +59,12 @@ impl Expected {
 impl References {
     pub fn expect(&mut self, line: &[u8]) -> Expected {
         let reading = self.reading.answer(line);
+        let nearest = match line {
+            b"21" => self.original.nearest(),
+            _ => None,
+        };
         Expected {
+            nearest,
             original: self.original.answer(line),
             held_to: without_position(line, &reading),
             reading,
@@ -180,6 +187,9 @@ fn hold(
             && let Some(tried) = try_refused(line)
         {
             report.count_tried(&compared.expected.reading, tried);
+        }
+        if let Some(nearest) = &compared.expected.nearest {
+            report.count_nearest(&compared.expected.reading, nearest);
         }
         if !compared.agrees() {
             differences += 1;

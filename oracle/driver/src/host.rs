@@ -12,7 +12,7 @@ use datafusion_expr::{ColumnarValue, Expr as LogicalExpr, ScalarUDF, Volatility,
 use datafusion_physical_expr::expressions::{BinaryExpr, Column, Literal};
 use datafusion_physical_expr::{PhysicalExpr, ScalarFunctionExpr};
 use datafusion_physical_plan::joins::utils::{ColumnIndex, JoinFilter};
-use reading::frame::{Expr, Frame, Record, Side, operator};
+use reading::frame::{Expr, Frame, Record, Side, literal, operator};
 
 use crate::opaque::{Meaning, Opaque};
 use crate::scalars::{self, scalar};
@@ -34,7 +34,29 @@ pub fn tag_and_leaf(name: &str) -> (u16, u16) {
     ((number >> 16) as u16, number as u16)
 }
 
-pub fn join_filter(frame: &Frame) -> JoinFilter {
+/// What the original is given for a k of 0 in an AND-leaf: the literal, or a node that it doesn't know.
+#[derive(Clone, Copy)]
+pub enum ZeroK {
+    Literal,
+    NoLiteral,
+}
+
+/// The type of the literal 0 that stands for k in a leaf.
+pub fn zero_k(leaf: &Expr) -> Option<u8> {
+    match leaf {
+        Expr::Function { name, args } if name == b"st_knn" && args.len() <= 5 => match args
+            .get(2)?
+        {
+            Expr::Literal { kind, bytes } if *bytes == [0; 8] => (literal::INT32..=literal::UINT64)
+                .contains(kind)
+                .then_some(*kind),
+            _ => None,
+        },
+        _ => None,
+    }
+}
+
+pub fn join_filter(frame: &Frame, zero_k: ZeroK) -> JoinFilter {
     let field = |record: &Record| Field::new(record.tag.to_string(), DataType::Null, true);
     let fields: Vec<Field> = frame.records.iter().map(field).collect();
     let index = |record: &Record| ColumnIndex {
@@ -42,7 +64,7 @@ pub fn join_filter(frame: &Frame) -> JoinFilter {
         side: join_side(record.side),
     };
     JoinFilter::new(
-        and_tree(&frame.expr, &mut 0),
+        and_tree(&frame.expr, zero_k, &mut 0),
         frame.records.iter().map(index).collect(),
         Arc::new(Schema::new(fields)),
     )
@@ -57,16 +79,30 @@ pub fn join_side(side: Side) -> JoinSide {
 }
 
 /// The expression, its AND-leaves counted on the way.
-fn and_tree(expr: &Expr, leaf: &mut u16) -> Arc<dyn PhysicalExpr> {
+fn and_tree(expr: &Expr, zero_k: ZeroK, leaf: &mut u16) -> Arc<dyn PhysicalExpr> {
     match expr {
         Expr::Binary { op, left, right } if *op == operator::AND => {
-            let left = and_tree(left, leaf);
-            binary(*op, left, and_tree(right, leaf))
+            let left = and_tree(left, zero_k, leaf);
+            binary(*op, left, and_tree(right, zero_k, leaf))
         }
         _ => {
             *leaf += 1;
-            physical(expr, *leaf - 1)
+            and_leaf(expr, zero_k, *leaf - 1)
         }
+    }
+}
+
+fn and_leaf(expr: &Expr, given: ZeroK, leaf: u16) -> Arc<dyn PhysicalExpr> {
+    match (expr, given, zero_k(expr)) {
+        (Expr::Function { name, args }, ZeroK::NoLiteral, Some(kind)) => {
+            let mut args: Vec<_> = args.iter().map(|arg| physical(arg, leaf)).collect();
+            args[2] = Arc::new(Opaque {
+                meaning: Meaning::ZeroK(kind),
+                children: Vec::new(),
+            });
+            function(name, args)
+        }
+        _ => physical(expr, leaf),
     }
 }
 

@@ -3,7 +3,7 @@
 use std::io::{self, BufRead, Write};
 
 use crate::compare::{Expected, References};
-use crate::original::{Tried, try_refused};
+use crate::original::{Nearest, Tried, try_refused};
 
 /// Answers every line of the input, and says whether reading and original agreed on all of them.
 /// It is an error if there is none.
@@ -28,7 +28,7 @@ fn told(line: &[u8], expected: &Expected) -> String {
     let text = |answer: &[u8]| String::from_utf8_lossy(answer).into_owned();
     let reading = text(&expected.reading);
     match &expected.original {
-        Some(_) if expected.agrees() => format!("original {reading}"),
+        Some(_) if expected.agrees() => format!("original {reading}{}", as_it_is(expected)),
         Some(original) => format!("differ {}, the reading {reading}", text(original)),
         None => format!("reading {reading}{}", nonetheless(line, expected)),
     }
@@ -44,6 +44,15 @@ fn nonetheless(line: &[u8], expected: &Expected) -> &'static str {
         Some(Tried::Extracts) => ", the original extracts",
         Some(Tried::FindsNothing) => ", the original finds nothing",
         None => "",
+    }
+}
+
+/// What the original does with a k of 0 that it gets as a literal.
+fn as_it_is(expected: &Expected) -> &'static str {
+    match expected.nearest {
+        Some(Nearest::Panics) => ", with its k of 0 it panics",
+        Some(Nearest::TakesZero) => ", with its k of 0 it takes that",
+        Some(Nearest::TakesAnother) | Some(Nearest::FindsNothing) | None => "",
     }
 }
 
@@ -72,6 +81,24 @@ mod tests {
         let within = "010000030973745f77697468696e00";
         assert!(lines(within.as_bytes(), &mut output).unwrap());
         assert_eq!(output, b"reading 08, the original panics\n");
+    }
+
+    #[test]
+    fn a_k_of_0_is_no_literal_and_is_given_to_the_original_nonetheless() {
+        let mut output = Vec::new();
+        let columns = "01000200000000000100000000";
+        let nearest = "030673745f6b6e6e03000000000000000100000102";
+        let run = format!(
+            "{columns}{nearest}0000000000000000\n21\n{columns}{nearest}0000000000000001\n21"
+        );
+        assert!(lines(run.as_bytes(), &mut output).unwrap());
+        let text = String::from_utf8(output).unwrap();
+        let told: Vec<&str> = text.lines().collect();
+        assert_eq!(told[1], "original 0d, with its k of 0 it takes that");
+        assert_eq!(
+            told[3],
+            "original 00130000000000010000020000000000000000000000"
+        );
     }
 
     #[test]

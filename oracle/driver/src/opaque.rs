@@ -16,6 +16,8 @@ pub enum Meaning {
     Other(u16),
     /// A binary of this number, for which DataFusion has no operator.
     Operator(u8),
+    /// A literal 0 of this type in place of k, which is no literal k (request 5 of document 02).
+    ZeroK(u8),
 }
 
 /// A node of a type that the original does not know, as most node types are to it.

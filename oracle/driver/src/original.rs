@@ -20,7 +20,7 @@ use sedona_query_planner::spatial_predicate::{
 };
 
 use crate::answer::{put_extraction, side_number, taken_leaf};
-use crate::host::{join_filter, logical_join};
+use crate::host::{ZeroK, join_filter, logical_join, zero_k};
 
 /// The names in the order in which the original's `collect_spatial_predicate_names` lists them,
 /// which gives them their bits.
@@ -70,6 +70,14 @@ pub enum Tried {
     FindsNothing,
 }
 
+/// What the original does with a filter that has a k of 0 in an AND-leaf, given as it is.
+pub enum Nearest {
+    Panics,
+    TakesZero,
+    TakesAnother,
+    FindsNothing,
+}
+
 #[derive(Default)]
 pub struct Original {
     held: Held,
@@ -89,6 +97,14 @@ impl Original {
             [LOGICAL, ..] => decode::logical(&bytes).ok().map(|expr| logical(&expr)),
             [0x21] => self.extract(),
             [0x22] => self.exchange(),
+            _ => None,
+        }
+    }
+
+    /// What it does with the held frame as it is, if that has a k of 0.
+    pub fn nearest(&self) -> Option<Nearest> {
+        match &self.held {
+            Held::Frame(frame) if has_zero_k(frame) => Some(try_zero_k(frame)),
             _ => None,
         }
     }
@@ -161,8 +177,9 @@ fn accepted(bytes: &[u8]) -> Vec<u8> {
     hex(&[&[0], bytes].concat())
 }
 
+/// As request 5 of document 02 has it: the original gets a k of 0 as no literal.
 fn transform(frame: &Frame) -> Option<Extracted> {
-    let (predicate, remainder) = transform_join_filter(&join_filter(frame))?;
+    let (predicate, remainder) = transform_join_filter(&join_filter(frame, ZeroK::NoLiteral))?;
     let form = match &predicate {
         SpatialPredicate::Distance(distance) => form(frame, distance),
         _ => NO_FORM,
@@ -210,12 +227,29 @@ pub fn names_and_side(filter: &LogicalExpr, left: &DFSchema, right: &DFSchema) -
 pub fn try_refused(line: &[u8]) -> Option<Tried> {
     let bytes = parse(line).ok()?;
     let frame = decode::physical_shape(&bytes).ok()?;
-    let filter = join_filter(&frame);
+    let filter = join_filter(&frame, ZeroK::Literal);
     Some(match guarded(|| transform_join_filter(&filter)) {
         None => Tried::Panics,
         Some(Some(_)) => Tried::Extracts,
         Some(None) => Tried::FindsNothing,
     })
+}
+
+fn has_zero_k(frame: &Frame) -> bool {
+    let leaves = frame.expr.and_leaves();
+    leaves.into_iter().any(|leaf| zero_k(leaf).is_some())
+}
+
+fn try_zero_k(frame: &Frame) -> Nearest {
+    let filter = join_filter(frame, ZeroK::Literal);
+    match guarded(|| transform_join_filter(&filter)) {
+        None => Nearest::Panics,
+        Some(Some((SpatialPredicate::KNearestNeighbors(knn), _))) if knn.k == 0 => {
+            Nearest::TakesZero
+        }
+        Some(Some(_)) => Nearest::TakesAnother,
+        Some(None) => Nearest::FindsNothing,
+    }
 }
 
 thread_local! {

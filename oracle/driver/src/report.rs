@@ -8,7 +8,7 @@ use reading::program::parse;
 
 use crate::compare::Compared;
 use crate::make::Case;
-use crate::original::Tried;
+use crate::original::{Nearest, Tried};
 
 #[derive(Default)]
 struct ClassCount {
@@ -30,6 +30,14 @@ struct TriedCount {
     nothing: u64,
 }
 
+#[derive(Default)]
+struct NearestCount {
+    panics: u64,
+    zero: u64,
+    another: u64,
+    nothing: u64,
+}
+
 /// A case with a difference, its first one, and the smallest lines that still have one when
 /// they are run alone.
 pub struct Difference {
@@ -44,6 +52,7 @@ pub struct Report {
     classes: BTreeMap<&'static str, ClassCount>,
     answers: BTreeMap<&'static str, AnswerCount>,
     tried: BTreeMap<String, TriedCount>,
+    nearest: BTreeMap<&'static str, NearestCount>,
     runs: u64,
     /// Lines that the planner wrote.
     pub written: u64,
@@ -67,6 +76,17 @@ impl Report {
             Tried::Panics => count.panics += 1,
             Tried::Extracts => count.extracts += 1,
             Tried::FindsNothing => count.nothing += 1,
+        }
+    }
+
+    /// An extract of a frame with a k of 0, by our answer.
+    pub fn count_nearest(&mut self, answer: &[u8], nearest: &Nearest) {
+        let count = self.nearest.entry(kind(b"21", answer)).or_default();
+        match nearest {
+            Nearest::Panics => count.panics += 1,
+            Nearest::TakesZero => count.zero += 1,
+            Nearest::TakesAnother => count.another += 1,
+            Nearest::FindsNothing => count.nothing += 1,
         }
     }
 
@@ -207,11 +227,31 @@ impl Report {
     }
 }
 
+impl Report {
+    fn write_nearest(&self, f: &mut fmt::Formatter<'_>) -> fmt::Result {
+        let (zero, another, nothing, panics) = ("takes it", "another", "finds none", "panics");
+        writeln!(
+            f,
+            "\na k of 0; the original, as it is{zero:>10}{another:>10}{nothing:>12}{panics:>8}"
+        )?;
+        for (answer, count) in &self.nearest {
+            let (zero, another, nothing) = (count.zero, count.another, count.nothing);
+            let panics = count.panics;
+            writeln!(
+                f,
+                "{answer:<32}{zero:>10}{another:>10}{nothing:>12}{panics:>8}"
+            )?;
+        }
+        Ok(())
+    }
+}
+
 impl fmt::Display for Report {
     fn fmt(&self, f: &mut fmt::Formatter<'_>) -> fmt::Result {
         self.write_classes(f)?;
         self.write_answers(f)?;
         self.write_tried(f)?;
+        self.write_nearest(f)?;
         for difference in &self.shown {
             write!(f, "\n{difference}")?;
         }

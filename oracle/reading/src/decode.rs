@@ -274,9 +274,17 @@ impl<'a> Reader<'a> {
         })
     }
 
+    /// Request 5 of document 02: an extraction with k 0 is not good.
+    fn k(&mut self) -> Result<u32, Refusal> {
+        match self.four()? {
+            0 => Err(Refusal::Range),
+            k => Ok(k),
+        }
+    }
+
     fn knn(&mut self) -> Result<Predicate, Refusal> {
         Ok(Predicate::Knn {
-            k: self.four()?,
+            k: self.k()?,
             spheroid: self.bool()?,
             probe: match self.bool()? {
                 false => Side::Left,

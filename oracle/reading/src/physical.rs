@@ -173,7 +173,7 @@ fn match_knn(leaf: &Expr, records: &[Record]) -> Option<Predicate> {
     }
     let found = geometries(&args[0], &args[1], records)?;
     let flag = |position: usize| args.get(position).map(literal_bool);
-    let k = args.get(2).map_or(Some(1), literal_u32)?;
+    let k = args.get(2).map_or(Some(1), literal_k)?;
     let spheroid = flag(3).unwrap_or(Some(false))?;
     let ties = match flag(4) {
         Some(value) => Some(value?),
@@ -193,6 +193,11 @@ fn match_knn(leaf: &Expr, records: &[Record]) -> Option<Predicate> {
         left,
         right,
     })
+}
+
+/// Request 5 of document 02: a 0 is no literal k.
+fn literal_k(expr: &Expr) -> Option<u32> {
+    literal_u32(expr).filter(|k| *k > 0)
 }
 
 fn literal_u32(expr: &Expr) -> Option<u32> {

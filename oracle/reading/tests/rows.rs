@@ -63,8 +63,8 @@ fn row_3_largest_k() {
 
 #[test]
 fn row_4_smallest_k() {
-    assert_eq!(knn_with_k(types::INT32, -1), "0d");
-    assert!(knn_with_k(types::INT32, 0).starts_with("0013000000000000"));
+    assert!(knn_with_k(types::INT32, 1).starts_with("001300000000000100"));
+    assert_eq!(knn_with_k(types::INT32, 0), "0d");
 }
 
 #[test]

@@ -54,7 +54,10 @@ fn predicate(rng: &mut Rng, argument: &mut dyn FnMut(&mut Rng) -> Expr) -> Predi
             distance: argument(rng),
         },
         _ => Predicate::Knn {
-            k: rng.draw() as u32,
+            k: match rng.below(4) {
+                0 => rng.below(2) as u32,
+                _ => rng.draw() as u32,
+            },
             spheroid: rng.one_in(2),
             probe: rng.pick(&[Side::Left, Side::Left, Side::Right, Side::Right, Side::None]),
             ties: rng.pick(&[None, Some(false), Some(true)]),
