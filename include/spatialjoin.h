@@ -25,9 +25,9 @@
 #include <stddef.h>
 #include <stdint.h>
 
-#define SPATIALJOIN_VERSION "0.4.0"
+#define SPATIALJOIN_VERSION "0.5.0"
 #define SPATIALJOIN_VERSION_MAJOR 0
-#define SPATIALJOIN_VERSION_MINOR 4
+#define SPATIALJOIN_VERSION_MINOR 5
 #define SPATIALJOIN_VERSION_PATCH 0
 
 /* The most bytes of a frame or plan. */
