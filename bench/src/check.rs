@@ -1,9 +1,9 @@
-//! Before anything is timed: ours, the original and the reading give the same bytes; of print and
-//! merge, which the original has not, plain Rust in its place.
+//! Before anything is timed: ours, the original and the reading give the same bytes, and plain Rust
+//! where it is timed. Of print and merge, which the original has not, all but the original.
 
-use reading::calls;
-use reading::frame::MAX_BYTES;
+use reading::frame::{MAX_BYTES, Plan};
 use reading::refusal::Refusal;
+use reading::{calls, decode, encode};
 use spatialjoin::MOST_TEXT;
 
 use crate::operations::{
@@ -75,6 +75,82 @@ pub fn physical(physical: &Physical) -> Result<(), String> {
     Ok(())
 }
 
+/// Plain Rust's load and extract, whose refusals are tried too.
+pub fn plain(physical: &Physical) -> Result<(), String> {
+    for frame in &physical.group.frames {
+        if !plain_load(frame) || !plain_extract(frame, &read(frame, &["extract"])) {
+            let name = physical.group.name;
+            return Err(format!("{name}: plain Rust differs from the reading"));
+        }
+    }
+    Ok(())
+}
+
+/// A load by plain Rust and by the reading, into the same buffer: both leave the same.
+fn loaded_alike(frame: &[u8], room: usize) -> bool {
+    let mut plain = vec![0; room];
+    let mut read = plain.clone();
+    let answer = plain::load(frame, &mut plain);
+    let expected = calls::load(frame, &mut 0, &mut read);
+    answer == expected.map_err(Refusal::number) && plain == read
+}
+
+/// Accepted, and refused by the frame or the room.
+fn plain_load(frame: &[u8]) -> bool {
+    let n = frame.len();
+    [
+        loaded_alike(frame, MAX_BYTES),
+        loaded_alike(frame, n),
+        loaded_alike(frame, n - 1),
+        loaded_alike(&frame[..n - 1], n),
+        loaded_alike(&lent(frame, n + 1), n),
+        loaded_alike(&frame[1..], n),
+        loaded_alike(&[], n),
+    ]
+    .into_iter()
+    .all(|alike| alike)
+}
+
+/// Likewise an extract, whose buffers are two.
+fn extracted_alike(plan: &[u8], n: usize, scratch: usize) -> bool {
+    let mut plain = (plan.to_vec(), vec![0; scratch]);
+    let mut read = plain.clone();
+    let answer = plain::extract(&mut plain.0, n, &mut plain.1);
+    let expected = calls::extract(&mut { n }, &mut read.0, &mut read.1);
+    answer == expected.map_err(Refusal::number) && plain == read
+}
+
+/// Accepted, and refused by the plan or the room, or since no conjunct of the remainder matches.
+fn plain_extract(frame: &[u8], extraction: &[u8]) -> bool {
+    let n = frame.len();
+    let remainder = decode::plan(extraction).ok().and_then(|plan| match plan {
+        Plan::Extraction(extraction) => extraction.remainder,
+        Plan::Frame(_) => None,
+    });
+    let rest = remainder.map_or(Vec::new(), |frame| encode::physical(&frame));
+    [
+        extracted_alike(&lent(frame, MAX_BYTES), n, MAX_BYTES),
+        extracted_alike(frame, n, n),
+        extracted_alike(frame, n, n - 1),
+        extracted_alike(frame, n - 1, n),
+        extracted_alike(&lent(frame, n + 1), n + 1, n + 1),
+        extracted_alike(frame, 0, n),
+        extracted_alike(frame, n + 1, n),
+        extracted_alike(extraction, extraction.len(), 0),
+        extracted_alike(extraction, extraction.len() - 1, 0),
+        extracted_alike(&rest, rest.len(), n),
+    ]
+    .into_iter()
+    .all(|alike| alike)
+}
+
+/// These bytes in a buffer of this length.
+fn lent(bytes: &[u8], room: usize) -> Vec<u8> {
+    let mut plan = bytes.to_vec();
+    plan.resize(room, 0);
+    plan
+}
+
 pub fn print(physical: &Physical) -> Result<(), String> {
     for frame in &physical.group.frames {
         let name = physical.group.name;
@@ -105,11 +181,6 @@ fn merged_alike(frame: &[u8], plan: &[u8], n: usize, scratch: usize) -> bool {
 /// Accepted, and refused by the frame, the plan or the room.
 fn plain_merge(held: &[u8], new: &[u8], extraction: &[u8]) -> bool {
     let (n, merged) = (held.len(), held.len() + new.len() - 1);
-    let lent = |bytes: &[u8], room: usize| {
-        let mut plan = bytes.to_vec();
-        plan.resize(room, 0);
-        plan
-    };
     let plan = lent(held, MAX_BYTES);
     let taken = lent(extraction, MAX_BYTES);
     let full = lent(&read_merged(held, new), MAX_BYTES);

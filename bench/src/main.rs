@@ -18,7 +18,7 @@ use frames::Group;
 use measure::{Row, Task, measure};
 use operations::{Logical, Merges, Physical};
 use ours::{Console, Ours};
-use table::{Column, ORIGINAL, Table, YARDSTICK};
+use table::{BOTH, Column, ORIGINAL, Table, YARDSTICK};
 
 const USAGE: &str = "bench [--rounds N | --repeat GROUP]";
 
@@ -88,6 +88,7 @@ fn run(rounds: usize) -> Result<(), String> {
     let logical: Vec<Logical> = frames::logical().into_iter().map(Logical::new).collect();
     let printed = || physical.iter().chain(&texts);
     printed().try_for_each(check::physical)?;
+    printed().try_for_each(check::plain)?;
     printed().try_for_each(check::print)?;
     let merges: Vec<Merges> = frames::merges().into_iter().map(Merges::new).collect();
     merges.iter().try_for_each(check::merge)?;
@@ -105,13 +106,14 @@ fn print_tables(
     rounds: usize,
 ) {
     println!("Nanoseconds a frame: median, ± half the distance between the quartiles.\n");
+    let beside_both = |title, tasks| shown(title, BOTH, measure(tasks, rounds));
     let timed = |title, tasks| shown(title, ORIGINAL, measure(tasks, rounds));
     let ours_alone = |title, tasks| shown(title, YARDSTICK, measure(tasks, rounds));
     let each = |task: fn(&Physical) -> Task<'_>| physical.iter().map(task).collect();
     let tables = [
-        timed("Load", each(Physical::load)),
-        timed("Load and extract", each(Physical::load_and_extract)),
-        timed("Extract, a frame held", each(Physical::extract)),
+        beside_both("Load", each(Physical::load)),
+        beside_both("Load and extract", each(Physical::load_and_extract)),
+        beside_both("Extract, a frame held", each(Physical::extract)),
         timed("Exchange, a frame held", each(Physical::exchange_frame)),
         timed(
             "Exchange, an extraction held",

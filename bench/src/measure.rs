@@ -15,7 +15,7 @@ pub enum Contender {
     RustFromBytes,
     RustCall,
     RustAnswer,
-    /// Of print and merge, which the original has not.
+    /// The same call as ours, in plain Rust.
     PlainRust,
     /// Ours, beside our print or merge.
     Load,

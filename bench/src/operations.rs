@@ -40,6 +40,16 @@ fn copy(frames: &[Vec<u8>]) -> Work<'_> {
     })
 }
 
+/// Buffers of plain Rust that hold each frame: n, plan and scratch.
+fn plans(frames: &[Vec<u8>]) -> Vec<(usize, Vec<u8>, Vec<u8>)> {
+    let held = |frame: &Vec<u8>| {
+        let mut plan = frame.clone();
+        plan.resize(MAX_BYTES, 0);
+        (frame.len(), plan, vec![0; MAX_BYTES])
+    };
+    frames.iter().map(held).collect()
+}
+
 /// What is done with a group, on its frames or on plans made of them.
 fn task<'a>(name: &'static str, bytes: &[Vec<u8>], works: Works<'a>) -> Task<'a> {
     let total: usize = bytes.iter().map(Vec::len).sum();
@@ -111,9 +121,15 @@ impl Physical {
                 &self.functions,
             ));
         });
+        let mut plan = vec![0; MAX_BYTES];
+        let plain = self.each(move |i| {
+            let _ = black_box(plain::load(black_box(&frames[i]), &mut plan));
+            black_box(&mut plan);
+        });
         let works = vec![
             (Contender::Ours, ours),
             (Contender::RustFromBytes, from_bytes),
+            (Contender::PlainRust, plain),
             (Contender::Copy, copy(frames)),
         ];
         task(self.group.name, &self.group.frames, works)
@@ -150,17 +166,30 @@ impl Physical {
             ours.load(black_box(&frames[i]));
             ours.extract();
         });
-        self.against_extraction(ours)
+        let (mut plan, mut scratch) = (vec![0; MAX_BYTES], vec![0; MAX_BYTES]);
+        let plain = self.each(move |i| {
+            let n = plain::load(black_box(&frames[i]), &mut plan).unwrap_or(0);
+            let _ = black_box(plain::extract(black_box(&mut plan), n, &mut scratch));
+            black_box((&mut plan, &mut scratch));
+        });
+        self.against_extraction(ours, plain)
     }
 
     pub fn extract(&self) -> Task<'_> {
         let mut held = self.held(false);
         let ours = self.each(move |i| held[i].extract_and_return());
-        self.against_extraction(ours)
+        let mut held = plans(&self.group.frames);
+        let plain = self.each(move |i| {
+            let (n, plan, scratch) = &mut held[i];
+            let _ = black_box(plain::extract(plan, *n, scratch));
+            std::mem::swap(plan, scratch);
+            black_box(&mut held);
+        });
+        self.against_extraction(ours, plain)
     }
 
-    /// Ours, and what the original does for an extraction.
-    fn against_extraction<'a>(&'a self, ours: Work<'a>) -> Task<'a> {
+    /// Ours and plain Rust, and what the original does for an extraction.
+    fn against_extraction<'a>(&'a self, ours: Work<'a>, plain: Work<'a>) -> Task<'a> {
         let frames = &self.group.frames;
         let from_bytes =
             self.writing(|i, out| extract_from_bytes(black_box(&frames[i]), &self.functions, out));
@@ -169,7 +198,9 @@ impl Physical {
         });
         let extracted = self.extracted();
         let answer = self.writing(move |i, out| black_box(&extracted[i]).put(out));
-        self.task_of_all(frames, [ours, from_bytes, call, answer])
+        let mut task = self.task_of_all(frames, [ours, from_bytes, call, answer]);
+        task.works.push((Contender::PlainRust, plain));
+        task
     }
 
     pub fn exchange_frame(&self) -> Task<'_> {
@@ -265,7 +296,7 @@ impl Merges {
             held[i].merge_and_return(black_box(&frames[i]));
             black_box(&mut held);
         });
-        let mut held = self.plans();
+        let mut held = plans(&self.pairs.held);
         let plain = in_turn(frames.len(), move |i| {
             let (n, plan, scratch) = &mut held[i];
             let _ = black_box(plain::merge(black_box(&frames[i]), plan, *n, scratch));
@@ -289,16 +320,6 @@ impl Merges {
             let mut ours = Ours::new();
             ours.load(frame);
             ours
-        };
-        self.pairs.held.iter().map(held).collect()
-    }
-
-    /// The same for plain Rust: n, plan and scratch.
-    fn plans(&self) -> Vec<(usize, Vec<u8>, Vec<u8>)> {
-        let held = |frame: &Vec<u8>| {
-            let mut plan = frame.clone();
-            plan.resize(MAX_BYTES, 0);
-            (frame.len(), plan, vec![0; MAX_BYTES])
         };
         self.pairs.held.iter().map(held).collect()
     }

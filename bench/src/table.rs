@@ -69,27 +69,58 @@ const OURS_TO_COPY: Column = ("ours / copy", |row| {
     shown(row.ratio(&[Contender::Copy]).map(f64::recip))
 });
 
+const FROM_BYTES_TO_OURS: Column = ("Rust from bytes / ours", |row| {
+    shown(row.ratio(&[Contender::RustFromBytes]))
+});
+const CALL_AND_ANSWER_TO_OURS: Column = ("Rust call and answer / ours", |row| {
+    shown(row.ratio(&[Contender::RustCall, Contender::RustAnswer]))
+});
+const CALL_TO_OURS: Column = ("Rust call / ours", |row| {
+    shown(row.ratio(&[Contender::RustCall]))
+});
+const FROM_BYTES: Column = ("Rust from bytes", |row| row.time(Contender::RustFromBytes));
+const FROM_BYTES_A_BYTE: Column = ("Rust from bytes, a byte", |row| {
+    shown(row.per_byte(Contender::RustFromBytes))
+});
+const CALL: Column = ("Rust call", |row| row.time(Contender::RustCall));
+const ANSWER: Column = ("Rust answer", |row| row.time(Contender::RustAnswer));
+const PLAIN_TO_OURS: Column = ("plain Rust / ours", |row| {
+    shown(row.ratio(&[Contender::PlainRust]))
+});
+const PLAIN: Column = ("plain Rust", |row| row.time(Contender::PlainRust));
+
 /// Beside the original.
 pub const ORIGINAL: &[Column] = &[
     FRAMES,
     BYTES,
-    ("Rust from bytes / ours", |row| {
-        shown(row.ratio(&[Contender::RustFromBytes]))
-    }),
-    ("Rust call and answer / ours", |row| {
-        shown(row.ratio(&[Contender::RustCall, Contender::RustAnswer]))
-    }),
-    ("Rust call / ours", |row| {
-        shown(row.ratio(&[Contender::RustCall]))
-    }),
+    FROM_BYTES_TO_OURS,
+    CALL_AND_ANSWER_TO_OURS,
+    CALL_TO_OURS,
     OURS,
     OURS_A_BYTE,
-    ("Rust from bytes", |row| row.time(Contender::RustFromBytes)),
-    ("Rust from bytes, a byte", |row| {
-        shown(row.per_byte(Contender::RustFromBytes))
-    }),
-    ("Rust call", |row| row.time(Contender::RustCall)),
-    ("Rust answer", |row| row.time(Contender::RustAnswer)),
+    FROM_BYTES,
+    FROM_BYTES_A_BYTE,
+    CALL,
+    ANSWER,
+    COPY,
+    OURS_TO_COPY,
+];
+
+/// Beside the original and plain Rust.
+pub const BOTH: &[Column] = &[
+    FRAMES,
+    BYTES,
+    FROM_BYTES_TO_OURS,
+    CALL_AND_ANSWER_TO_OURS,
+    CALL_TO_OURS,
+    PLAIN_TO_OURS,
+    OURS,
+    OURS_A_BYTE,
+    FROM_BYTES,
+    FROM_BYTES_A_BYTE,
+    CALL,
+    ANSWER,
+    PLAIN,
     COPY,
     OURS_TO_COPY,
 ];
@@ -98,15 +129,13 @@ pub const ORIGINAL: &[Column] = &[
 pub const YARDSTICK: &[Column] = &[
     FRAMES,
     BYTES,
-    ("plain Rust / ours", |row| {
-        shown(row.ratio(&[Contender::PlainRust]))
-    }),
+    PLAIN_TO_OURS,
     ("ours / our load", |row| {
         shown(row.ratio(&[Contender::Load]).map(f64::recip))
     }),
     OURS,
     OURS_A_BYTE,
-    ("plain Rust", |row| row.time(Contender::PlainRust)),
+    PLAIN,
     ("plain Rust, a byte", |row| {
         shown(row.per_byte(Contender::PlainRust))
     }),

@@ -39,8 +39,18 @@ pub fn frame<const TEXT: bool>(frame: &[u8]) -> Result<Checked, u8> {
     })
 }
 
-/// Whether these bytes are a good extraction.
-pub fn is_extraction(plan: &[u8]) -> bool {
+/// The measures of a held frame; refusals 10, 11 and 12.
+pub fn held(plan: &[u8], n: usize) -> Result<Checked, u8> {
+    let plan = plan.get(..n).ok_or(10)?;
+    match plan.first() {
+        None => Err(11),
+        Some(&PHYSICAL) => frame::<false>(plan).map_err(|_| 10),
+        Some(_) if is_extraction(plan) => Err(12),
+        Some(_) => Err(10),
+    }
+}
+
+fn is_extraction(plan: &[u8]) -> bool {
     plan.len() <= MAX_BYTES && Checker::<false>::new(plan, 0).extraction().is_ok()
 }
 
@@ -207,15 +217,18 @@ impl<'a, const TEXT: bool> Checker<'a, TEXT> {
     }
     /// A predicate and a remainder, whose nodes count together.
     fn extraction(&mut self) -> Result<(), u8> {
-        let (most, arguments): (&[u8], usize) = match self.byte_up_to(KNN)? {
+        let first = self.byte_up_to(KNN)?;
+        // The position may be any, and k any but 0.
+        self.two()?;
+        if first == KNN && self.field()? == [0; 4] {
+            return Err(4);
+        }
+        let (most, arguments): (&[u8], usize) = match first {
             RELATION => (&[8], 2),
             DISTANCE => (&[4, 2], 3),
-            KNN => (&[255, 255, 255, 255, 1, 1, 2], 2),
+            KNN => (&[1, 1, 2], 2),
             _ => return Err(2),
         };
-        // The position, which may be any.
-        self.byte_up_to(255)?;
-        self.byte_up_to(255)?;
         for most in most {
             self.byte_up_to(*most)?;
         }
