@@ -8,3 +8,4 @@ pub mod Names
 pub mod Refusals
 pub mod ConsoleLines
 pub mod FilterRows
+pub mod TabledRows

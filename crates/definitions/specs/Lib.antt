@@ -50,4 +50,7 @@ pub mod PrintClaims
 pub mod PrintRows
 pub mod MergeClaims
 pub mod MergeRows
+pub mod NodeTable
+pub mod TableClaims
+pub mod TableRows
 pub mod PruningClaims

@@ -42,4 +42,5 @@ pub mod Merged
 pub mod MergeCall
 pub mod Histories
 pub mod Pruned
+pub mod NodeTables
 pub mod Proved

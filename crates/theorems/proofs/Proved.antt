@@ -24,6 +24,8 @@ use Rattle.definitions.specs.PrintRows.{PrintRows}
 use Rattle.definitions.specs.Merge.{mergeFrames}
 use Rattle.definitions.specs.MergeClaims.{MergedGood, MergedValue, MergedLeaves, MergeAccepted, MergeWrites, MergeKeeps, MergeHolds, ListAfterMerge, ValueAfterMerge, HistoryOfCalls, AnyMatcherMerges}
 use Rattle.definitions.specs.MergeRows.{MergeRows}
+use Rattle.definitions.specs.TableClaims.{TableNests, TableExchanged}
+use Rattle.definitions.specs.TableRows.{TableRows}
 use Rattle.definitions.specs.PruningClaims.{KeptByHeldIndexes}
 use Rattle.theorems.proofs.Exchange.{plan-twice}
 use Rattle.theorems.proofs.ExtractExchange.{exchanged-by}
@@ -59,6 +61,8 @@ use Rattle.theorems.proofs.Merged.{merged-good, merged-value, merged-le
 use Rattle.theorems.proofs.MergeCall.{merge-accepts, merge-wrote, merge-keeps-all, merge-held, list-after}
 use Rattle.theorems.proofs.Histories.{history-of}
 use Rattle.definitions.proofs.FilterRows.{merge-rows-hold}
+use Rattle.definitions.proofs.TabledRows.{table-rows-hold}
+use Rattle.theorems.proofs.NodeTables.{table-nests-by, table-exchanged-by}
 use Rattle.theorems.proofs.Pruned.{kept-by-held}
 
 -- ---- with every lawful matcher
@@ -323,3 +327,14 @@ merge-rows = merge-rows-hold
 
 pub kept-by-held-indexes : KeptByHeldIndexes
 kept-by-held-indexes = kept-by-held
+
+-- ---- request 6
+
+pub table-nests : TableNests
+table-nests = table-nests-by
+
+pub table-exchanged : TableExchanged
+table-exchanged = table-exchanged-by
+
+pub table-rows : TableRows
+table-rows = table-rows-hold
