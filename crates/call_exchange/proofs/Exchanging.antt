@@ -1,13 +1,13 @@
 -- What an exchange is, once the held plan and the scratch's length are known.
 use Prim.Native.Nat.{ℕ, _≤_, _<_}
 use native.Mathlib.Omega.{arith}
-use mathlib.Core.Path.{_≡_, refl, sym, ap, _∙_}
+use mathlib.Core.Path.{_≡_, refl, ap, _∙_}
 use mathlib.Core.Bool.{Bool, true, false}
 use mathlib.Core.List.{List, _++_}
 use lib.ListN.{length, take, drop}
 use lib.Dec.{leb}
 use borrow.Author.Tests.{le-leb, lt-leb}
-use Rattle.definitions.specs.Basics.{if_then_else_, Result, ok, refused}
+use Rattle.definitions.specs.Basics.{if_then_else_, ok, refused}
 use Rattle.definitions.specs.Expression.{Plan, empty, held, extracted}
 use Rattle.definitions.specs.Encode.{planBytes}
 use Rattle.definitions.specs.Plans.{planOf}
@@ -20,7 +20,7 @@ use Rattle.plan_reader.specs.declared.held_plans.Held.the-variants as there
 use Rattle.plan_exchange.specs.Exchanged.{PlanAt, HeldPlan, PlanIs}
 use Rattle.call_exchange.specs.Holding.{HoldsPlan}
 use Rattle.join_filter.proofs.Refusing.{exchange-call, refuses, outcome}
-use Rattle.join_filter.proofs.Keeping.{plan-length, held-is, plan-size, kept, kept-over}
+use Rattle.join_filter.proofs.Keeping.{plan-length, held-is, plan-size, kept, kept-length, kept-over}
 
 -- A plan that an exchange takes.
 abbrev pub Exchangeable : Plan → Type 0
@@ -87,7 +87,7 @@ is-exchangeable {n} {before} {h} holds = exchangeable (take n before) h (length 
 module _ {n : ℕ} {before : List ℕ} {h : Held} (holds : HoldsPlan n before h) (scratch after : List ℕ)
     (copied : after ≡ take n (drop 0 before) ++ drop n scratch) where
   pub copy-length : n ≡ length (take n after)
-  copy-length = sym (ap length (kept n before (holds .fits) scratch after copied) ∙ plan-length n before (holds .fits))
+  copy-length = kept-length n before (holds .fits) scratch after copied
 
   pub still-there : PlanAt (take n after) h n (holds .it)
   still-there = rw (kept n before (holds .fits) scratch after copied) (rw (plan-length n before (holds .fits)) at (holds .stands))

@@ -7,7 +7,7 @@ use mathlib.Core.List.{List, _++_}
 use lib.ListN.{length, take, drop}
 use lib.Dec.{leb}
 use borrow.Author.Tests.{le-leb, lt-leb}
-use Rattle.definitions.specs.Basics.{if_then_else_, Result, ok, refused}
+use Rattle.definitions.specs.Basics.{if_then_else_, ok, refused}
 use Rattle.definitions.specs.Expression.{Frame, held}
 use Rattle.definitions.specs.Encode.{frameBytes, planBytes}
 use Rattle.definitions.specs.Plans.{frameOf}
@@ -23,7 +23,7 @@ use Rattle.writing.specs.Writing.{Room, Puts}
 use Rattle.plan_merge.specs.Merging.{FramesAt, mergedFrame}
 use Rattle.call_merge.specs.Given.{GivenFrame, Counts, overTogether}
 use Rattle.join_filter.proofs.Refusing.{merge-call, refuses, outcome}
-use Rattle.join_filter.proofs.Keeping.{held-is, plan-size, plan-length, kept, kept-over}
+use Rattle.join_filter.proofs.Keeping.{held-is, plan-size, plan-length, kept, kept-length, kept-over}
 
 pub frame-refused : (frame : List ℕ) (n : ℕ) (before scratch : List ℕ) (number : ℕ) → frameOf frame ≡ refused number
     → merge frame n before scratch ≡ refuses n before scratch number
@@ -141,7 +141,7 @@ module _ {frame : List ℕ} {n : ℕ} {before scratch : List ℕ} {f g : places.
   there = kept n before (r .both .held .fits) scratch copy (r .copied)
 
   pub copy-length : n ≡ length (take n copy)
-  copy-length = sym (ap length there ∙ plan-length n before (r .both .held .fits))
+  copy-length = kept-length n before (r .both .held .fits) scratch copy (r .copied)
 
   abbrev pair : Frame × Frame
   pair = (r .both .held .frame, r .both .given .frame)

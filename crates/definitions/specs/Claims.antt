@@ -1,4 +1,4 @@
--- What is claimed of the definitions; proofs/Proved.antt proves each claim.
+-- What is claimed of the definitions; crate `theorems` proves each claim.
 use Prim.Native.Nat.{ℕ, suc, _+_, _*_, _≤_, _<_}
 use mathlib.Core.Path.{_≡_}
 use mathlib.Core.Bool.{Bool, true, false, _&&_, not}

@@ -1,4 +1,4 @@
--- Request 2 of document 02: what is claimed of merged frames and of the call merge; proofs/Proved.antt proves each claim.
+-- Request 2 of document 02: what is claimed of merged frames and of the call merge; crate `theorems` proves each claim.
 use Prim.Native.Nat.{ℕ, _+_, _≤_}
 use mathlib.Core.Path.{_≡_}
 use mathlib.Core.Bool.{true, false, _&&_, not}

@@ -1,4 +1,4 @@
--- Request 1 of document 02: what is claimed of printed texts and of the call print; proofs/Proved.antt proves each claim.
+-- Request 1 of document 02: what is claimed of printed texts and of the call print; crate `theorems` proves each claim.
 use Prim.Native.Nat.{ℕ, _*_, _≤_, _<_}
 use mathlib.Core.Path.{_≡_}
 use mathlib.Core.Bool.{Bool, true, false, _&&_}

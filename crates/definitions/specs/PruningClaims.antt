@@ -1,4 +1,4 @@
--- Request 3 of document 02: what is claimed of pruning by held indexes; proofs/Proved.antt proves it.
+-- Request 3 of document 02: what is claimed of pruning by held indexes; crate `theorems` proves it.
 use Prim.Native.Nat.{ℕ}
 use mathlib.Core.Path.{_≡_}
 use mathlib.Core.Bool.{Bool, true}

@@ -1,4 +1,4 @@
--- Request 6 of document 02: what is claimed of the table of a frame's nodes.
+-- Request 6 of document 02: what is claimed of the table of a frame's nodes; crate `theorems` proves each claim.
 use Prim.Native.Nat.{ℕ, _+_, _*_, _<_}
 use mathlib.Core.Path.{_≡_}
 use mathlib.Core.List.{List, [], _∷_, _++_}

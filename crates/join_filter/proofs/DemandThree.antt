@@ -22,6 +22,7 @@ use Rattle.definitions.specs.Claims.{Agree, someLeafMatches, Took, extractedPla
 use Rattle.definitions.specs.Merge.{mergeFrames, merge}
 use Rattle.definitions.specs.History.{Call, loading, making, merging, oneCallBy, historyBy}
 use Rattle.theorems.proofs.InverseFrame.{same-ok}
+use Rattle.theorems.proofs.MergeCall.{same-held}
 use Rattle.theorems.proofs.Proved.{load-holds, list-of-calls, same-plan, exchange-accepted, extract-accepted, extract-takes, position-in-bytes, price-line-stays, list-has-value, merge-holds, history-of-calls}
 use Rattle.join_filter.specs.Outcomes.{answerOf, nAfter, LoadIs, OutcomeIs}
 use Rattle.join_filter.specs.Lists.{CallIs, Ran, noCall, called, Starts, byLoad, byMerge, CodeRun, outcome, plan, extracted, odd, DemandThree, CodeMeetsDemandThree}
@@ -80,9 +81,6 @@ merge-is frame n before scratch left kept k bytes plan-bytes is =
     let (old, new, found, given, s) = merge-holds matchLeaf frame n before scratch bytes plan-bytes taken in
     (old, new, found, given, (s .0, s .1 ∙ ap (λ (o : Outcome). o .n) is, s .2 ∙ ap (λ (o : Outcome). o .buffer) is))
 
-same-frame : (p q : Frame) → held p ≡ held q → p ≡ q
-same-frame p q e = cc
-
 module _ (F : Frame) where
   -- What starts a run leaves a session of F.
   started : (size : ℕ) (left : List ℕ) → Starts F size left → Holds size left F
@@ -91,7 +89,7 @@ module _ (F : Frame) where
       subst (Holds size left) (same-ok G F (sym is-good ∙ good)) h
   started size left (byMerge frame n before scratch kept old new bytes plan-bytes given found joined is) =
       let (old′, new′, found′, given′, h) = merge-is frame n before scratch left kept size bytes plan-bytes is in
-      let one : old′ ≡ old = same-frame old′ old (same-ok _ _ (sym found′ ∙ found)) in
+      let one : old′ ≡ old = same-held old′ old (same-ok _ _ (sym found′ ∙ found)) in
       let two : new′ ≡ new = same-ok new′ new (sym given′ ∙ given) in
       subst (Holds size left) (ap₂ mergeFrames one two ∙ joined) h
 

@@ -1,4 +1,4 @@
-// What load, extract, exchange and print answer.
+// What load, extract, exchange, print and merge answer.
 use terms::refusals::Refusal;
 
 // The length of the new plan or of the text, or why the call is refused.

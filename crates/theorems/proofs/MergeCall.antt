@@ -151,7 +151,7 @@ merge-held match frame n buffer scratch bytes plan-bytes a =
 
 -- ---- after a list of calls
 
-same-held : (F G : Frame) → held F ≡ held G → F ≡ G
+pub same-held : (F G : Frame) → held F ≡ held G → F ≡ G
 same-held F G e = cc
 
 held-not-extracted : (F : Frame) (X : Extraction) (o : Bool) → held F ≡ (if o then extracted (exchangeExtraction X) else extracted X) → ⊥

@@ -1,11 +1,11 @@
 -- The table of a frame's nodes: one record a node, each inside its parent and before the next.
-use Prim.Native.Nat.{ℕ, zero, suc, _+_, _*_, _≤_, _<_}
+use Prim.Native.Nat.{ℕ, suc, _+_, _*_, _≤_, _<_}
 use native.Mathlib.Omega.{arith}
-use mathlib.Core.Path.{_≡_, refl, sym, ap, ap₂, _∙_, subst}
+use mathlib.Core.Path.{_≡_, refl, ap, ap₂, _∙_, subst}
 use mathlib.Core.List.{List, [], _∷_, _++_, append-nil, append-assoc}
 use lib.ListN.{length, length-append, length-map}
 use Rattle.definitions.specs.Basics.{bigEndian}
-use Rattle.definitions.specs.Expression.{Expr, column, literal, and, binary, call, other, field, Exprs, nil, cons, Frame}
+use Rattle.definitions.specs.Expression.{Expr, column, literal, and, binary, call, other, field, Exprs, nil, cons}
 use Rattle.definitions.specs.Encode.{exprBytes, exprsBytes, frameBytes}
 use Rattle.definitions.specs.Exchange.{exchangeRecord, exchangeFrame}
 use Rattle.definitions.specs.Good.{nodes, nodesAll}

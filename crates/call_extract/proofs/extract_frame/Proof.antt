@@ -1,11 +1,10 @@
 -- Each refusal is the definition's; the frame is kept in the scratch and its extraction written from there.
 use borrow.Author.Needs.{needs}
-use mathlib.Core.Path.{sym, ap, _∙_}
-use lib.ListN.{length}
+use mathlib.Core.Path.{sym}
 use Rattle.reading.proofs.Standing.{all-bytes}
 use Rattle.call_extract.proofs.extract_frame.Statement.{statement}
 use Rattle.call_extract.proofs.extract_frame.Tie as tie
-use Rattle.join_filter.proofs.Keeping.{plan-length, kept}
+use Rattle.join_filter.proofs.Keeping.{plan-length, kept-length}
 use Rattle.call_extract.proofs.Extracting.{scratch-short, no-leaf, over, extraction-fits, extracts}
 
 returns : tie.Need-returns
@@ -31,9 +30,7 @@ slice-aggregate-put-extraction c =
     let copied = c .before .before .before .before in
     let start = copied .before .before .before .before .before .before .before .before .before .before .before in
     let a = start .args in
-    sym (ap length (kept (a .n) (a .plan .now) (start .pre .fits) (a .scratch .now) (copied .copy-bytes .last .0)
-    (copied .copy-bytes .ensures))
-    ∙ plan-length (a .n) (a .plan .now) (start .pre .fits))
+    kept-length (a .n) (a .plan .now) (start .pre .fits) (a .scratch .now) (copied .copy-bytes .last .0) (copied .copy-bytes .ensures)
 
 put-extraction-requires : tie.Need-put-extraction-requires
 put-extraction-requires c κs =

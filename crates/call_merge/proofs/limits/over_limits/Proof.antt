@@ -1,5 +1,4 @@
 -- Each test is one of the definition's, and the last decides.
-use borrow.Author.Needs.{needs}
 use native.Mathlib.Omega.{arith}
 use Rattle.call_merge.proofs.Sums.{bytes-over, nodes-over, depth-over, records-decide}
 use Rattle.call_merge.proofs.limits.over_limits.Statement.{statement}
