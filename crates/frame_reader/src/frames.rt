@@ -6,7 +6,7 @@ use field_reader::field_readers::Skipped;
 use field_reader::field_readers::byte;
 use leaf_arity::arity::Arity;
 use leaf_arity::arity::check_arity;
-use reading::head_readers::Columns;
+use head_reader::head_readers::Columns;
 use reading::walk::Walked;
 use reading::walk::expression;
 use terms::refusals::Refusal;

@@ -4,7 +4,7 @@ use field_reader::field_readers::byte_up_to;
 use field_reader::field_readers::number;
 use frame_reader::column_records::Sided;
 use frame_reader::column_records::side_up_to;
-use reading::head_readers::Columns;
+use head_reader::head_readers::Columns;
 use reading::walk::Walked;
 use reading::walk::expression;
 use sedona_query_planner::spatial_predicate::DistancePredicate;

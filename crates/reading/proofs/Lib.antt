@@ -1,4 +1,3 @@
 -- Laws that several proofs use.
-pub mod Children
 pub mod Walks
 pub mod Standing

@@ -17,7 +17,8 @@ use Rattle.terms.specs.declared.refusals.Refusal.{Refusal}
 use Rattle.reading.specs.declared.walk.Walked.{Walked}
 use Rattle.reading.specs.declared.walk.Walked.the-variants.{To, Refused}
 use Rattle.terms.specs.Refusals.{numberOf}
-use Rattle.reading.specs.Nodes.{WalkedIs, Counted, depthAbove}
+use Rattle.head_reader.specs.Heads.{depthAbove}
+use Rattle.reading.specs.Nodes.{WalkedIs, Counted}
 use Rattle.theorems.proofs.ReaderLaws.{after, halts, step, given}
 
 counts : {B : Type 0} (n : ℕ) (s : List ℕ) (next : Bool → Reader B) → n < 1024 → continue (countNode n s) next ≡ next true (suc n) s

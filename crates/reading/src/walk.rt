@@ -1,8 +1,8 @@
 // The walk over a node and the walk over its children, which call each other. Nodes left to count fall.
-use crate::head_readers::Columns;
-use crate::head_readers::Head;
-use crate::head_readers::head_of_kind;
-use crate::head_readers::node_kind;
+use head_reader::head_readers::Columns;
+use head_reader::head_readers::Head;
+use head_reader::head_readers::head_of_kind;
+use head_reader::head_readers::node_kind;
 use field_reader::field_readers::Field;
 use terms::refusals::Refusal;
 ghost use mathlib.Core.Path.{_≡_};
@@ -11,7 +11,8 @@ ghost use lib.ListN.{length};
 ghost use Rattle.definitions.specs.Decode as decode;
 ghost use Rattle.definitions.specs.Decode.{repeatExprs};
 ghost use Rattle.definitions.specs.Good.{depth};
-ghost use Rattle.reading.specs.Nodes.{WalkedIs, Counted, columnsOf, depthAbove};
+ghost use Rattle.head_reader.specs.Heads.{columnsOf, depthAbove};
+ghost use Rattle.reading.specs.Nodes.{WalkedIs, Counted};
 ghost use Rattle.reading.specs.Places.{ExpressionIs};
 
 // The place after nodes, how many nodes there were up to it, and the depth of what was read.

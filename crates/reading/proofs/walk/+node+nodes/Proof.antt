@@ -1,6 +1,7 @@
 -- A node is its kind, its head and a row of children; a row is a node and the rest of the row. Nodes left to count fall with each node.
 use Rattle.expression.proofs.Cycles.{below}
-use Rattle.reading.specs.Nodes.{columnsOf, depthAbove, WalkedIs}
+use Rattle.head_reader.specs.Heads.{columnsOf, depthAbove}
+use Rattle.reading.specs.Nodes.{WalkedIs}
 use Rattle.reading.specs.declared.walk.Walked.{Walked}
 use Rattle.reading.specs.declared.walk.Walked.the-variants.{To}
 use Rattle.definitions.specs.Decode as decode
@@ -19,8 +20,8 @@ use Rattle.reading.proofs.walk.+node+nodes.Lts-node as node-lts
 use Rattle.reading.proofs.walk.nodes.Reads as nodes
 use Rattle.reading.proofs.walk.nodes.Kinds as nodes-kinds
 use Rattle.reading.proofs.walk.+node+nodes.Lts-nodes as nodes-lts
-use Rattle.reading.proofs.head_readers.head_of_kind.Reads as head-of-kind-reads
-use Rattle.reading.proofs.head_readers.node_kind.Reads as node-kind-reads
+use Rattle.head_reader.proofs.head_readers.head_of_kind.Reads as head-of-kind-reads
+use Rattle.head_reader.proofs.head_readers.node_kind.Reads as node-kind-reads
 use Rattle.reading.proofs.walk.deeper.Reads as deeper-reads
 use Rattle.reading.proofs.walk.+node+nodes.{statement}
 use Rattle.reading.proofs.walk.+node+nodes.Tie.{close}

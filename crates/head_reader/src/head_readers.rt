@@ -15,7 +15,7 @@ ghost use Prim.Native.Nat.{_≤_};
 ghost use lib.ListN.{length};
 ghost use Rattle.definitions.specs.Decode as decode;
 ghost use Rattle.field_reader.specs.Fields.{FieldIs};
-ghost use Rattle.reading.specs.Nodes.{HeadIs, columnsOf};
+ghost use Rattle.head_reader.specs.Heads.{HeadIs, columnsOf};
 
 // Which columns an expression may have: those of a physical frame, below their count, or those of a logical one.
 pub enum Columns {
@@ -46,7 +46,7 @@ fn allowed_kind(kind: u64, columns: Columns) -> bool
 }
 
 // A kind byte.
-pub(crate) fn node_kind(s: &[u8], at: usize, columns: Columns) -> Field
+pub fn node_kind(s: &[u8], at: usize, columns: Columns) -> Field
     requires { ⌜ at ≤ length (now s) ⌝ }
     ensures { λ r. ⌜ FieldIs (now (s .entry)) at r (decode.nodeKind (columnsOf columns)) ⌝ }
 {
@@ -161,7 +161,7 @@ fn other_head(s: &[u8], at: usize) -> Head
 }
 
 // The fields of a node of this kind.
-pub(crate) fn head_of_kind(s: &[u8], at: usize, kind: u64, columns: Columns) -> Head
+pub fn head_of_kind(s: &[u8], at: usize, kind: u64, columns: Columns) -> Head
     requires { ⌜ at ≤ length (now s) ⌝ }
     ensures { λ r. ⌜ HeadIs (now (s .entry)) at r (λ child. decode.nodeOfKind (columnsOf columns) child kind) ⌝ }
 {

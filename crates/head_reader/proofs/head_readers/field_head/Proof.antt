@@ -7,9 +7,9 @@ use Rattle.definitions.specs.Decode.{repeatExprs, fieldNode}
 use Rattle.definitions.specs.Good.{depth}
 use Rattle.theorems.proofs.ReaderLaws.{after}
 use Rattle.field_reader.proofs.Reading.{stops-in-two}
-use Rattle.reading.proofs.Children.{alone}
-use Rattle.reading.proofs.head_readers.field_head.Statement.{statement}
-use Rattle.reading.proofs.head_readers.field_head.Tie as tie
+use Rattle.head_reader.proofs.Children.{alone}
+use Rattle.head_reader.proofs.head_readers.field_head.Statement.{statement}
+use Rattle.head_reader.proofs.head_readers.field_head.Tie as tie
 
 returns-2 : tie.Need-returns-2
 unfolding repeatExprs fieldNode depth

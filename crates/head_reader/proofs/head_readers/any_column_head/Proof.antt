@@ -1,8 +1,8 @@
 -- Each mode's arm is its column.
 use Rattle.definitions.specs.Decode.{anyColumn}
 use borrow.Author.Needs.{needs}
-use Rattle.reading.proofs.head_readers.any_column_head.Statement.{statement}
-use Rattle.reading.proofs.head_readers.any_column_head.Tie as tie
+use Rattle.head_reader.proofs.head_readers.any_column_head.Statement.{statement}
+use Rattle.head_reader.proofs.head_readers.any_column_head.Tie as tie
 
 pub any-column-head-spec : {M : Type 1} → statement M
 unfolding anyColumn

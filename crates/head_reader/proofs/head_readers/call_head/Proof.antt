@@ -5,8 +5,8 @@ use Rattle.definitions.specs.Decode.{callNode}
 use Rattle.definitions.specs.Good.{depth}
 use Rattle.theorems.proofs.ReaderLaws.{after, halts}
 use borrow.Author.Needs.{needs}
-use Rattle.reading.proofs.head_readers.call_head.Statement.{statement}
-use Rattle.reading.proofs.head_readers.call_head.Tie as tie
+use Rattle.head_reader.proofs.head_readers.call_head.Statement.{statement}
+use Rattle.head_reader.proofs.head_readers.call_head.Tie as tie
 
 name-bytes-requires : tie.Need-name-bytes-requires
 name-bytes-requires c κs = (rw (c .before .size .given .1) at (c .before .before .before .byte-between .ensures)) .0

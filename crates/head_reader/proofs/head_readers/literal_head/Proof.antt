@@ -7,9 +7,9 @@ use Rattle.definitions.specs.Decode.{repeatExprs, literalNode}
 use Rattle.definitions.specs.Good.{depth}
 use Rattle.theorems.proofs.ReaderLaws.{after, passes, fails}
 use Rattle.field_reader.proofs.Reading.{stops-in-two}
-use Rattle.reading.proofs.Children.{alone}
-use Rattle.reading.proofs.head_readers.literal_head.Statement.{statement}
-use Rattle.reading.proofs.head_readers.literal_head.Tie as tie
+use Rattle.head_reader.proofs.Children.{alone}
+use Rattle.head_reader.proofs.head_readers.literal_head.Statement.{statement}
+use Rattle.head_reader.proofs.head_readers.literal_head.Tie as tie
 
 returns-2 : tie.Need-returns-2
 unfolding repeatExprs literalNode depth

@@ -9,8 +9,8 @@ use Rattle.definitions.specs.Expression.{Expr, column, Exprs, nil, cons, count}
 use Rattle.definitions.specs.Readers.{Read, read, stopped, Reader, continue, _>>=_, give, byteUpTo}
 use Rattle.definitions.specs.Decode.{repeatExprs, Columns, nodeOfKind, anyColumn, binaryExpr, binaryNode}
 use Rattle.definitions.specs.Good.{depth}
-use Rattle.reading.specs.declared.head_readers.Head.the-variants.{Children}
-use Rattle.reading.specs.Nodes.{HeadIs, depthAbove}
+use Rattle.head_reader.specs.declared.head_readers.Head.the-variants.{Children}
+use Rattle.head_reader.specs.Heads.{HeadIs, depthAbove}
 use Rattle.theorems.proofs.ReaderLaws.{after}
 
 -- A node with no child is the only level.

@@ -3,8 +3,8 @@ use mathlib.Core.Path.{sym, _∙_}
 use Rattle.definitions.specs.Decode.{nodeKind}
 use Rattle.theorems.proofs.ReaderLaws.{after, halts, passes, fails}
 use borrow.Author.Needs.{needs}
-use Rattle.reading.proofs.head_readers.node_kind.Statement.{statement}
-use Rattle.reading.proofs.head_readers.node_kind.Tie as tie
+use Rattle.head_reader.proofs.head_readers.node_kind.Statement.{statement}
+use Rattle.head_reader.proofs.head_readers.node_kind.Tie as tie
 
 returns-2 : tie.Need-returns-2
 unfolding nodeKind

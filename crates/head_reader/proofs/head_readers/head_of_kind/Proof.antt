@@ -1,10 +1,10 @@
 -- Each kind's arm is its line of the definition.
-use Rattle.reading.specs.Nodes.{columnsOf}
+use Rattle.head_reader.specs.Heads.{columnsOf}
 use Rattle.definitions.specs.Decode.{nodeOfKind}
-use Rattle.reading.proofs.Children.{column-kind}
+use Rattle.head_reader.proofs.Children.{column-kind}
 use borrow.Author.Needs.{needs}
-use Rattle.reading.proofs.head_readers.head_of_kind.Statement.{statement}
-use Rattle.reading.proofs.head_readers.head_of_kind.Tie as tie
+use Rattle.head_reader.proofs.head_readers.head_of_kind.Statement.{statement}
+use Rattle.head_reader.proofs.head_readers.head_of_kind.Tie as tie
 
 returns-5 : tie.Need-returns-5
 returns-5 c = let a = c .before .before .before .args in

@@ -3,8 +3,8 @@ use native.Mathlib.Omega.{arith}
 use borrow.Author.Tests.{le-leb, lt-leb}
 use Rattle.definitions.specs.Decode.{allowedKind}
 use borrow.Author.Needs.{needs}
-use Rattle.reading.proofs.head_readers.allowed_kind.Statement.{statement}
-use Rattle.reading.proofs.head_readers.allowed_kind.Tie as tie
+use Rattle.head_reader.proofs.head_readers.allowed_kind.Statement.{statement}
+use Rattle.head_reader.proofs.head_readers.allowed_kind.Tie as tie
 
 returns-3 : tie.Need-returns-3
 unfolding allowedKind

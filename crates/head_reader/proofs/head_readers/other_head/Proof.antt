@@ -7,8 +7,8 @@ use Rattle.definitions.specs.Decode.{otherNode}
 use Rattle.definitions.specs.Good.{depth}
 use Rattle.theorems.proofs.ReaderLaws.{after}
 use Rattle.field_reader.proofs.Reading.{stops-in-two}
-use Rattle.reading.proofs.head_readers.other_head.Statement.{statement}
-use Rattle.reading.proofs.head_readers.other_head.Tie as tie
+use Rattle.head_reader.proofs.head_readers.other_head.Statement.{statement}
+use Rattle.head_reader.proofs.head_readers.other_head.Tie as tie
 
 returns-2 : tie.Need-returns-2
 unfolding otherNode depth
