@@ -1,6 +1,6 @@
 // Whole frames, physical and logical, the arity of AND-leaves included.
-use crate::column_records::record_count;
-use crate::column_records::records;
+use record_reader::column_records::record_count;
+use record_reader::column_records::records;
 use field_reader::field_readers::Field;
 use field_reader::field_readers::Skipped;
 use field_reader::field_readers::byte;

@@ -1,3 +1,2 @@
 // Reading whole frames, the arity of AND-leaves included: where records and expression stand, or why the frame is refused.
-pub mod column_records;
 pub mod frames;

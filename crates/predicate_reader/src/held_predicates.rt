@@ -2,8 +2,8 @@
 use field_reader::field_readers::Field;
 use field_reader::field_readers::byte_up_to;
 use field_reader::field_readers::number;
-use frame_reader::column_records::Sided;
-use frame_reader::column_records::side_up_to;
+use record_reader::column_records::Sided;
+use record_reader::column_records::side_up_to;
 use head_reader::head_readers::Columns;
 use reading::walk::Walked;
 use reading::walk::expression;

@@ -3,8 +3,8 @@ use borrow.Author.Needs.{needs}
 use mathlib.Core.Path.{_∙_}
 use Rattle.definitions.specs.Decode.{sideUpTo}
 use Rattle.theorems.proofs.ReaderLaws.{after, halts}
-use Rattle.frame_reader.proofs.column_records.side_up_to.Statement.{statement}
-use Rattle.frame_reader.proofs.column_records.side_up_to.Tie as tie
+use Rattle.record_reader.proofs.column_records.side_up_to.Statement.{statement}
+use Rattle.record_reader.proofs.column_records.side_up_to.Tie as tie
 
 returns-2 : tie.Need-returns-2
 unfolding sideUpTo

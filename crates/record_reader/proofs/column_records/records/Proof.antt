@@ -5,8 +5,8 @@ use Prim.Native.Nat.{_≤_}
 use lib.ListN.{length}
 use Rattle.definitions.specs.Decode.{oneRecord}
 use Rattle.field_reader.proofs.Repeats.{Left, all-left, one-fewer, one-stops, none-left}
-use Rattle.frame_reader.proofs.column_records.records.Statement.{statement}
-use Rattle.frame_reader.proofs.column_records.records.Tie as tie
+use Rattle.record_reader.proofs.column_records.records.Statement.{statement}
+use Rattle.record_reader.proofs.column_records.records.Tie as tie
 
 abbrev Inv-loop : tie.InvT-loop
 Inv-loop s at many next₀ left₀ next left = (next ≤ length s) × Left s at many oneRecord next left

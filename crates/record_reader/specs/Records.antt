@@ -7,8 +7,8 @@ use Rattle.definitions.specs.Expression as tree
 use Rattle.terms.specs.Refusals.{numberOf}
 use Rattle.terms.specs.Sides.{joinSide}
 use Rattle.field_reader.specs.Fields.{StopsAt, ReadsAt}
-use Rattle.frame_reader.specs.declared.column_records.Sided.{Sided}
-use Rattle.frame_reader.specs.declared.column_records.Sided.the-variants as sided
+use Rattle.record_reader.specs.declared.column_records.Sided.{Sided}
+use Rattle.record_reader.specs.declared.column_records.Sided.the-variants as sided
 
 -- A side was read.
 abbrev pub SideIs : List ℕ → (at : ℕ) → Sided → Reader tree.Side → Type 0

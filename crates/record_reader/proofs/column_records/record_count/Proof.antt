@@ -5,8 +5,8 @@ use borrow.Author.Tests.{le-leb, lt-leb}
 use Rattle.definitions.specs.Decode.{recordCount}
 use Rattle.theorems.proofs.ReaderLaws.{after, halts, passes, fails}
 use borrow.Author.Needs.{needs}
-use Rattle.frame_reader.proofs.column_records.record_count.Statement.{statement}
-use Rattle.frame_reader.proofs.column_records.record_count.Tie as tie
+use Rattle.record_reader.proofs.column_records.record_count.Statement.{statement}
+use Rattle.record_reader.proofs.column_records.record_count.Tie as tie
 
 returns-2 : tie.Need-returns-2
 unfolding recordCount

@@ -1,6 +1,6 @@
 -- A record is its side and then two numbers.
-use Rattle.frame_reader.specs.declared.column_records.Sided.the-variants.{Value}
-use Rattle.frame_reader.specs.Records.{SideIs}
+use Rattle.record_reader.specs.declared.column_records.Sided.the-variants.{Value}
+use Rattle.record_reader.specs.Records.{SideIs}
 use native.Mathlib.Omega.{arith}
 use borrow.Author.Needs.{needs}
 use mathlib.Core.Path.{_∙_}
@@ -8,8 +8,8 @@ use Rattle.definitions.specs.Readers.{number}
 use Rattle.definitions.specs.Decode.{sideUpTo, oneRecord}
 use Rattle.theorems.proofs.ReaderLaws.{after, halts}
 use Rattle.field_reader.proofs.Reading.{stops-in-two}
-use Rattle.frame_reader.proofs.column_records.one_record.Statement.{statement}
-use Rattle.frame_reader.proofs.column_records.one_record.Tie as tie
+use Rattle.record_reader.proofs.column_records.one_record.Statement.{statement}
+use Rattle.record_reader.proofs.column_records.one_record.Tie as tie
 
 -- The side was read.
 side : (p : tie.After-child)

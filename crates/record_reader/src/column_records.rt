@@ -14,7 +14,7 @@ ghost use lib.ListN.{length};
 ghost use Rattle.definitions.specs.Readers as readers;
 ghost use Rattle.definitions.specs.Decode as decode;
 ghost use Rattle.field_reader.specs.Fields.{FieldIs, SkippedIs};
-ghost use Rattle.frame_reader.specs.Records.{SideIs};
+ghost use Rattle.record_reader.specs.Records.{SideIs};
 
 // A side and the place after it.
 pub enum Sided {
@@ -48,7 +48,7 @@ fn one_record(s: &[u8], at: usize) -> Skipped
 }
 
 // So many records.
-pub(crate) fn records(s: &[u8], at: usize, many: u64) -> Skipped
+pub fn records(s: &[u8], at: usize, many: u64) -> Skipped
     requires { ⌜ at ≤ length (now s) ⌝ }
     ensures { λ r. ⌜ SkippedIs (now (s .entry)) at r (readers.repeat many decode.oneRecord) ⌝ }
 {
@@ -69,7 +69,7 @@ pub(crate) fn records(s: &[u8], at: usize, many: u64) -> Skipped
 }
 
 // How many records a frame has, at most 256.
-pub(crate) fn record_count(s: &[u8], at: usize) -> Field
+pub fn record_count(s: &[u8], at: usize) -> Field
     requires { ⌜ at ≤ length (now s) ⌝ }
     ensures { λ r. ⌜ FieldIs (now (s .entry)) at r decode.recordCount ⌝ }
 {
