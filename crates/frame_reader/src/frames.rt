@@ -1,14 +1,14 @@
 // Whole frames, physical and logical, the arity of AND-leaves included.
-use record_reader::column_records::record_count;
-use record_reader::column_records::records;
 use field_reader::field_readers::Field;
 use field_reader::field_readers::Skipped;
 use field_reader::field_readers::byte;
+use head_reader::head_readers::Columns;
 use leaf_arity::arity::Arity;
 use leaf_arity::arity::check_arity;
-use head_reader::head_readers::Columns;
 use reading::walk::Walked;
 use reading::walk::expression;
+use record_reader::column_records::record_count;
+use record_reader::column_records::records;
 use terms::refusals::Refusal;
 ghost use mathlib.Core.Path.{_≡_};
 ghost use Prim.Native.Nat.{_≤_};

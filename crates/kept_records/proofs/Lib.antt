@@ -1,3 +1,2 @@
 -- Laws that several proofs use.
-pub mod KeyLaws
 pub mod RecordLaws

@@ -2,11 +2,11 @@
 use field_reader::field_readers::Field;
 use field_reader::field_readers::byte_up_to;
 use field_reader::field_readers::number;
-use record_reader::column_records::Sided;
-use record_reader::column_records::side_up_to;
 use head_reader::head_readers::Columns;
 use reading::walk::Walked;
 use reading::walk::expression;
+use record_reader::column_records::Sided;
+use record_reader::column_records::side_up_to;
 use sedona_query_planner::spatial_predicate::DistancePredicate;
 use sedona_query_planner::spatial_predicate::KNNPredicate;
 use sedona_query_planner::spatial_predicate::RelationPredicate;

@@ -1,9 +1,9 @@
 // The walk over a node and the walk over its children, which call each other. Nodes left to count fall.
+use field_reader::field_readers::Field;
 use head_reader::head_readers::Columns;
 use head_reader::head_readers::Head;
 use head_reader::head_readers::head_of_kind;
 use head_reader::head_readers::node_kind;
-use field_reader::field_readers::Field;
 use terms::refusals::Refusal;
 ghost use mathlib.Core.Path.{_≡_};
 ghost use Prim.Native.Nat.{_≤_, max};

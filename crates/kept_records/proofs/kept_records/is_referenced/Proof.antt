@@ -4,7 +4,7 @@ use native.Mathlib.Omega.{arith}
 use mathlib.Core.Path.{subst}
 use lib.ListN.{length}
 use Rattle.argument_writer.proofs.TableLaws.{records-within}
-use Rattle.kept_records.specs.Keys.{AmongIs}
+use Rattle.record_keys.specs.Keys.{AmongIs}
 use Rattle.kept_records.proofs.RecordLaws.{marked-stays, among-stays}
 use Rattle.kept_records.proofs.kept_records.is_referenced.Statement.{statement}
 use Rattle.kept_records.proofs.kept_records.is_referenced.Tie as tie

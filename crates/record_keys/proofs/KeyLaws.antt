@@ -10,7 +10,7 @@ use lib.Seq.{getD-set-same, getD-set-other}
 use lib.Dec.{eqb}
 use borrow.Author.Tests.{eqb-true, eqb-false}
 use borrow.Author.Count.{below-none, below-more}
-use Rattle.kept_records.specs.Keys.{keyAt, MarkedKey, Among, AmongIs, KeyRow}
+use Rattle.record_keys.specs.Keys.{keyAt, MarkedKey, Among, AmongIs, KeyRow}
 
 -- ---- filling
 

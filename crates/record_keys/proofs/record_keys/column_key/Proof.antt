@@ -3,8 +3,8 @@ use Prim.Native.Nat.{_+_}
 use native.Mathlib.Omega.{arith}
 use mir.Facts.{fits-8-32}
 use borrow.Author.Needs.{needs}
-use Rattle.kept_records.proofs.kept_records.column_key.Statement.{statement}
-use Rattle.kept_records.proofs.kept_records.column_key.Tie as tie
+use Rattle.record_keys.proofs.record_keys.column_key.Statement.{statement}
+use Rattle.record_keys.proofs.record_keys.column_key.Tie as tie
 
 cast-result : tie.Need-cast-result
 cast-result c = fits-8-32 (c .shared-slice-known2 .given _)

@@ -4,9 +4,9 @@ use native.Mathlib.Omega.{arith}
 use mathlib.Core.Logic.{⊎-elim}
 use lib.ListN.{length}
 use Rattle.argument_writer.proofs.TableLaws.{records-within}
-use Rattle.kept_records.proofs.KeyLaws.{Filled, filled-none, filled-marked, filled-passed, filled-all}
-use Rattle.kept_records.proofs.kept_records.marked_keys.Statement.{statement}
-use Rattle.kept_records.proofs.kept_records.marked_keys.Tie as tie
+use Rattle.record_keys.proofs.KeyLaws.{Filled, filled-none, filled-marked, filled-passed, filled-all}
+use Rattle.record_keys.proofs.record_keys.marked_keys.Statement.{statement}
+use Rattle.record_keys.proofs.record_keys.marked_keys.Tie as tie
 
 abbrev Inv-loop : tie.InvT-loop
 Inv-loop keys₀ src rec count used n₀ i₀ keys n i = Filled src rec count used keys n i (length keys₀)

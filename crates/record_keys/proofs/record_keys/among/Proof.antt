@@ -2,10 +2,10 @@
 use Prim.Native.Nat.{ℕ, _≤_, _-_}
 use native.Mathlib.Omega.{arith}
 use mathlib.Core.Path.{subst}
-use Rattle.kept_records.specs.Keys.{AmongIs}
-use Rattle.kept_records.proofs.KeyLaws.{among-none, among-more}
-use Rattle.kept_records.proofs.kept_records.among.Statement.{statement}
-use Rattle.kept_records.proofs.kept_records.among.Tie as tie
+use Rattle.record_keys.specs.Keys.{AmongIs}
+use Rattle.record_keys.proofs.KeyLaws.{among-none, among-more}
+use Rattle.record_keys.proofs.record_keys.among.Statement.{statement}
+use Rattle.record_keys.proofs.record_keys.among.Tie as tie
 
 abbrev Inv-loop : tie.InvT-loop
 Inv-loop keys n key found₀ k₀ found k = (k ≤ n) × AmongIs keys k key found
