@@ -1,7 +1,7 @@
 -- Which definition the answer is.
 use Rattle.definitions.specs.Basics.{Result, ok, refused}
 use Rattle.definitions.specs.Logical as definitions
-use Rattle.logical_filter.specs.Logicals.{querySideIs}
+use Rattle.query_side.specs.QuerySides.{querySideIs}
 use Rattle.terms.specs.Refusals.{numberOf}
 use Rattle.call_logical.specs.declared.Names.{Names}
 use Rattle.call_logical.specs.declared.Names.the-variants.{Found, Refused}

@@ -1,10 +1,10 @@
 // The call logical.
 use frame_reader::frames::Logical;
 use frame_reader::frames::logical_frame;
-use logical_filter::knn_query_side::KNNJoinQuerySide;
-use logical_filter::knn_query_side::find_knn_query_side;
 use logical_filter::predicate_names::PredicateNames;
 use logical_filter::predicate_names::collect_spatial_predicate_names;
+use query_side::knn_query_side::KNNJoinQuerySide;
+use query_side::knn_query_side::find_knn_query_side;
 use terms::refusals::Refusal;
 ghost use mathlib.Core.Path.{_≡_};
 ghost use Rattle.definitions.specs.Logical as definitions;

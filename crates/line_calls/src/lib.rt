@@ -8,7 +8,7 @@ use hexadecimal::hex::Decoded;
 use hexadecimal::hex::decode;
 use join_filter::answers;
 use line_answers::Answer;
-use logical_filter::knn_query_side::query_side_number;
+use query_side::knn_query_side::query_side_number;
 use terms::refusals::Refusal;
 ghost use mathlib.Core.Path.{_≡_};
 ghost use mathlib.Core.List.{List};

@@ -1,4 +1,3 @@
 -- Laws that several proofs use.
 pub mod NameMasks
 pub mod NameWalk
-pub mod QueryWalk

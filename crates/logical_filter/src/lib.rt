@@ -1,3 +1,2 @@
-// The logical half of the planner: the spatial names of a filter, and the query side of its first KNN call.
-pub mod knn_query_side;
+// The spatial names of a logical filter.
 pub mod predicate_names;

@@ -9,7 +9,7 @@ use call_merge::merge;
 use call_print::print;
 use host_answers::answer_number;
 use host_answers::minus_refusal;
-use logical_filter::knn_query_side::query_side_number;
+use query_side::knn_query_side::query_side_number;
 ghost use mathlib.Core.Path.{_≡_};
 ghost use Rattle.definitions.specs.Calls as definitions;
 ghost use Rattle.definitions.specs.Hosts.{hostedNames};

@@ -1,6 +1,6 @@
 -- A good frame's names and query side are those of the expression that stands in it; a refusal is the frame's own.
 use borrow.Author.Needs.{needs}
-use Rattle.logical_filter.specs.Logicals.{querySideIs}
+use Rattle.query_side.specs.QuerySides.{querySideIs}
 use Rattle.call_logical.proofs.logical.Statement.{statement}
 use Rattle.call_logical.proofs.logical.Tie as tie
 use Rattle.frame_reader.proofs.Standing.{expr-stands}

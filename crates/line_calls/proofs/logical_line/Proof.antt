@@ -4,7 +4,7 @@ use borrow.Author.Needs.{needs}
 use native.Mathlib.Omega.{arith}
 use Rattle.definitions.specs.Basics.{ok}
 use Rattle.definitions.specs.Logical.{logical}
-use Rattle.logical_filter.specs.Logicals.{querySideIs}
+use Rattle.query_side.specs.QuerySides.{querySideIs}
 use Rattle.call_logical.specs.Found.{namesOf}
 use Rattle.line_calls.proofs.CallLaws.{few-names, names-give, refusal-gives}
 use Rattle.line_calls.proofs.logical_line.Statement.{statement}

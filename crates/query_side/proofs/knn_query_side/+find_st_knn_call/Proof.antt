@@ -6,18 +6,18 @@ use Rattle.definitions.specs.Basics.{ascii}
 use Rattle.expression.proofs.EndWalk.{end-node}
 use Rattle.expression.proofs.Parts.{left-stands, both-end, call-end}
 use Rattle.expression.proofs.There.{and-left-there, and-right-there, pair-there, call-there, plain-there, both-there, name-there, arguments-there}
-use Rattle.logical_filter.proofs.QueryWalk.{no-plain, no-binary, is-knn, no-knn, knn-left, knn-right}
+use Rattle.query_side.proofs.QueryWalk.{no-plain, no-binary, is-knn, no-knn, knn-left, knn-right}
 use borrow.Fn.PlainCycle.{Measures}
-use Rattle.logical_filter.proofs.knn_query_side.find_st_knn_call.Reads as reads
-use Rattle.logical_filter.proofs.knn_query_side.find_st_knn_call.Kinds as kinds
-use Rattle.logical_filter.proofs.knn_query_side.+find_st_knn_call.Lts-find_st_knn_call as lts
+use Rattle.query_side.proofs.knn_query_side.find_st_knn_call.Reads as reads
+use Rattle.query_side.proofs.knn_query_side.find_st_knn_call.Kinds as kinds
+use Rattle.query_side.proofs.knn_query_side.+find_st_knn_call.Lts-find_st_knn_call as lts
 use Rattle.expression.proofs.ends.end_children.Reads as end-children
 use Rattle.expression.proofs.leaves.node_at.Reads as node-at
 use Rattle.expression.proofs.names.same_name_ignore_case.Reads as same-name-ignore-case
-use Rattle.logical_filter.proofs.knn_query_side.+find_st_knn_call.{
+use Rattle.query_side.proofs.knn_query_side.+find_st_knn_call.{
   statement,
 }
-use Rattle.logical_filter.proofs.knn_query_side.+find_st_knn_call.Tie.{
+use Rattle.query_side.proofs.knn_query_side.+find_st_knn_call.Tie.{
   close,
 }
 

@@ -25,10 +25,10 @@ use Rattle.expression.proofs.Standing.{head-stands, head-fits, kind-is, childre
 use Rattle.expression.proofs.EndWalk.{end-node, first-there, rest-there}
 use Rattle.expression.proofs.Parts.{left-stands, right-stands, both-ends}
 use Rattle.sedona_expr.specs.Parsed.{Arguments}
-use Rattle.logical_filter.specs.Logicals.{orElse, firstKnn, KnnIs, SchemasAre}
-use Rattle.logical_filter.specs.declared.knn_query_side.KnnCall.{KnnCall}
-use Rattle.logical_filter.specs.declared.knn_query_side.KnnCall.the-variants as knnCall
-use Rattle.logical_filter.specs.declared.knn_query_side.Schemas.{Schemas}
+use Rattle.query_side.specs.QuerySides.{orElse, firstKnn, KnnIs, SchemasAre}
+use Rattle.query_side.specs.declared.knn_query_side.KnnCall.{KnnCall}
+use Rattle.query_side.specs.declared.knn_query_side.KnnCall.the-variants as knnCall
+use Rattle.query_side.specs.declared.knn_query_side.Schemas.{Schemas}
 use Rattle.expression.proofs.AndLeaves.{and-leaves, binary-leaf, call-leaf, plain-leaf, all-append, all-one}
 
 -- ---- the first KNN call

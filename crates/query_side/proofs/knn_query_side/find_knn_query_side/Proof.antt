@@ -7,9 +7,9 @@ use Rattle.definitions.specs.Decode.{Columns}
 use Rattle.definitions.specs.Logical.{querySide}
 use Rattle.expression.specs.Nodes.{Stands}
 use Rattle.expression.proofs.EndWalk.{first-there}
-use Rattle.logical_filter.proofs.QueryWalk.{sideBy, no-side, no-argument, argument-side}
-use Rattle.logical_filter.proofs.knn_query_side.find_knn_query_side.Statement.{statement}
-use Rattle.logical_filter.proofs.knn_query_side.find_knn_query_side.Tie as tie
+use Rattle.query_side.proofs.QueryWalk.{sideBy, no-side, no-argument, argument-side}
+use Rattle.query_side.proofs.knn_query_side.find_knn_query_side.Statement.{statement}
+use Rattle.query_side.proofs.knn_query_side.find_knn_query_side.Tie as tie
 
 returns-2 : tie.Need-returns-2
 returns-2 c = λ d t h.

@@ -7,7 +7,7 @@ ghost use Rattle.definitions.specs.Encode.{sideNumber, exprBytes, exprsBytes};
 ghost use Rattle.definitions.specs.Leaves.{leaves};
 ghost use Rattle.definitions.specs.Logical.{bitsOf, bitsOfAll, querySide};
 ghost use Rattle.expression.specs.Nodes.{Tree, OfTree, OfTreeIn, Trees, OfTrees};
-ghost use Rattle.logical_filter.specs.Logicals.{firstKnn, KnnIs, SchemasAre, querySideIs};
+ghost use Rattle.query_side.specs.QuerySides.{firstKnn, KnnIs, SchemasAre, querySideIs};
 use expression::ends::end_children;
 use expression::heads::head_at;
 use expression::leaves::Node;

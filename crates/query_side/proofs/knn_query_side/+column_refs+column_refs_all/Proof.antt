@@ -6,19 +6,19 @@ use lib.ListN.{length}
 use borrow.Author.Needs.{needs}
 use Rattle.expression.proofs.Standing.{node-some, after-head}
 use Rattle.expression.proofs.EndWalk.{children-there}
-use Rattle.logical_filter.proofs.QueryWalk.{bits-within, a-field-is, node-columns, Joining, joining-begins, joining-first, joining-goes-on, joining-ends}
+use Rattle.query_side.proofs.QueryWalk.{bits-within, a-field-is, node-columns, Joining, joining-begins, joining-first, joining-goes-on, joining-ends}
 use borrow.Fn.PlainCycle.{Measures}
-use Rattle.logical_filter.proofs.knn_query_side.column_refs.Reads as column-refs
-use Rattle.logical_filter.proofs.knn_query_side.column_refs.Kinds as column-refs-kinds
-use Rattle.logical_filter.proofs.knn_query_side.+column_refs+column_refs_all.Lts-column_refs as column-refs-lts
-use Rattle.logical_filter.proofs.knn_query_side.column_refs_all.Reads as column-refs-all
-use Rattle.logical_filter.proofs.knn_query_side.column_refs_all.Kinds as column-refs-all-kinds
-use Rattle.logical_filter.proofs.knn_query_side.+column_refs+column_refs_all.Lts-column_refs_all as column-refs-all-lts
+use Rattle.query_side.proofs.knn_query_side.column_refs.Reads as column-refs
+use Rattle.query_side.proofs.knn_query_side.column_refs.Kinds as column-refs-kinds
+use Rattle.query_side.proofs.knn_query_side.+column_refs+column_refs_all.Lts-column_refs as column-refs-lts
+use Rattle.query_side.proofs.knn_query_side.column_refs_all.Reads as column-refs-all
+use Rattle.query_side.proofs.knn_query_side.column_refs_all.Kinds as column-refs-all-kinds
+use Rattle.query_side.proofs.knn_query_side.+column_refs+column_refs_all.Lts-column_refs_all as column-refs-all-lts
 use Rattle.expression.proofs.heads.head_at.Reads as head-at
-use Rattle.logical_filter.proofs.knn_query_side.+column_refs+column_refs_all.{
+use Rattle.query_side.proofs.knn_query_side.+column_refs+column_refs_all.{
   statement,
 }
-use Rattle.logical_filter.proofs.knn_query_side.+column_refs+column_refs_all.Tie.{
+use Rattle.query_side.proofs.knn_query_side.+column_refs+column_refs_all.Tie.{
   close,
 }
 

@@ -1,8 +1,8 @@
 -- `query_side_number`: each side by itself.
 use borrow.Author.Needs.{needs}
 use Rattle.definitions.specs.Encode.{sideNumber}
-use Rattle.logical_filter.proofs.knn_query_side.query_side_number.Statement.{statement}
-use Rattle.logical_filter.proofs.knn_query_side.query_side_number.Tie as tie
+use Rattle.query_side.proofs.knn_query_side.query_side_number.Statement.{statement}
+use Rattle.query_side.proofs.knn_query_side.query_side_number.Tie as tie
 
 pub query-side-number-spec : {M : Type 1} → statement M
 unfolding sideNumber
