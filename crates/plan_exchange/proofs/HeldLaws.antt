@@ -10,7 +10,8 @@ use Rattle.definitions.specs.Exchange.{exchangePlan}
 use Rattle.definitions.specs.Calls.{writtenOver}
 use Rattle.theorems.proofs.ExchangeGood.{plan-as-long}
 use Rattle.writing.specs.Writing.{Room, Puts}
-use Rattle.plan_exchange.specs.Exchanged.{frameExchanged, extractionExchanged, HeldPlan, ExchangedPlan}
+use Rattle.frame_exchange.specs.ExchangedBytes.{frameExchanged, extractionExchanged}
+use Rattle.plan_exchange.specs.Exchanged.{HeldPlan, ExchangedPlan}
 
 as-long : (p : Plan) (x : List ℕ) → planBytes (exchangePlan p) ≡ x → length x ≡ length (planBytes p)
 as-long p x is = rw (← is) (plan-as-long p)

@@ -1,4 +1,2 @@
 -- Laws that several proofs use.
-pub mod FrameViews
-pub mod RecordLaws
 pub mod HeldLaws

@@ -1,30 +1,16 @@
 -- What an exchange answers and writes.
 use Prim.Native.Nat.{ℕ, _≤_}
 use mathlib.Core.Path.{_≡_}
-use mathlib.Core.List.{List, map}
-use mathlib.Core.Option.{Option, Option·map}
+use mathlib.Core.List.{List}
 use lib.ListN.{length}
-use Rattle.definitions.specs.Expression.{Record, Frame, Extraction, Plan, held, extracted}
-use Rattle.definitions.specs.Encode.{recordsBytes, frameBytes, remainderBytes, extractionBytes, planBytes}
-use Rattle.definitions.specs.Exchange.{exchangeRecord, exchangeFrame, exchangeExtraction, exchangePlan}
+use Rattle.definitions.specs.Expression.{Frame, Extraction, Plan, held, extracted}
+use Rattle.definitions.specs.Encode.{planBytes}
+use Rattle.definitions.specs.Exchange.{exchangePlan}
 use Rattle.definitions.specs.Calls.{writtenOver}
 use Rattle.frame_reader.specs.Frames.{FrameAt}
 use Rattle.plan_reader.specs.Plans.{ExtractionAt}
 use Rattle.plan_reader.specs.declared.held_plans.Held.{Held}
 use Rattle.plan_reader.specs.declared.held_plans.Held.the-variants as there
-
--- The bytes of what is exchanged.
-abbrev pub recordsExchanged : List Record → List ℕ
-recordsExchanged records = recordsBytes (map exchangeRecord records)
-
-abbrev pub frameExchanged : Frame → List ℕ
-frameExchanged F = frameBytes (exchangeFrame F)
-
-abbrev pub remainderExchanged : Option Frame → List ℕ
-remainderExchanged R = remainderBytes (Option·map exchangeFrame R)
-
-abbrev pub extractionExchanged : Extraction → List ℕ
-extractionExchanged X = extractionBytes (exchangeExtraction X)
 
 -- The plan p, a frame or an extraction, stands in s up to `end`.
 abbrev pub PlanAt : List ℕ → Held → (end : ℕ) → Plan → Type 0

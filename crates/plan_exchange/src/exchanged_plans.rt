@@ -1,13 +1,14 @@
 // A held plan exchanged: written over the plan's start from a copy of the old plan, which ends at `end`.
-use crate::exchanged_frames::put_frame_exchanged;
-use crate::exchanged_frames::put_remainder_exchanged;
 use argument_writer::arguments::ColumnIndexes;
+use frame_exchange::exchanged_frames::put_frame_exchanged;
+use frame_exchange::exchanged_frames::put_remainder_exchanged;
 use plan_reader::held_plans::Extraction;
 use plan_reader::held_plans::Held;
 use plan_writer::put_predicate::put_predicate;
 ghost use Rattle.writing.specs.Writing.{Room, Puts};
 ghost use Rattle.plan_reader.specs.Plans.{ExtractionAt};
-ghost use Rattle.plan_exchange.specs.Exchanged.{extractionExchanged, PlanAt, HeldPlan, ExchangedPlan};
+ghost use Rattle.frame_exchange.specs.ExchangedBytes.{extractionExchanged};
+ghost use Rattle.plan_exchange.specs.Exchanged.{PlanAt, HeldPlan, ExchangedPlan};
 
 // The extraction exchanged, its position kept, its remainder where the predicate ended.
 fn put_extraction_exchanged(out: &mut [u8], src: &[u8], x: Extraction, end: usize) -> usize

@@ -2,8 +2,8 @@
 use native.Mathlib.Omega.{arith}
 use borrow.Author.Needs.{needs}
 use Rattle.writing.proofs.Sequence.{from-zero, part-room, part-put, ends-within, first-room, second-room, both-put, stored-room, stored-put}
-use Rattle.plan_exchange.specs.Exchanged.{remainderExchanged}
-use Rattle.plan_exchange.proofs.FrameViews.{ExtractionView, extraction-view}
+use Rattle.frame_exchange.specs.ExchangedBytes.{remainderExchanged}
+use Rattle.frame_exchange.proofs.FrameViews.{ExtractionView, extraction-view}
 use Rattle.plan_exchange.proofs.exchanged_plans.put_extraction_exchanged.Statement.{
   statement,
 }

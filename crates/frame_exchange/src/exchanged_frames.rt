@@ -8,8 +8,8 @@ use writing::copies::copy_bytes;
 ghost use Rattle.frame_reader.specs.Frames.{FrameAt};
 ghost use Rattle.plan_reader.specs.Plans.{RemainderAt};
 ghost use Rattle.writing.specs.Writing.{Room, Puts, PutsAt};
-ghost use Rattle.plan_exchange.specs.Held.{RecordsAt};
-ghost use Rattle.plan_exchange.specs.Exchanged.{recordsExchanged, frameExchanged, remainderExchanged};
+ghost use Rattle.frame_exchange.specs.Held.{RecordsAt};
+ghost use Rattle.frame_exchange.specs.ExchangedBytes.{recordsExchanged, frameExchanged, remainderExchanged};
 
 // Records are copied, then the side of each is negated where it stands.
 fn put_records_exchanged(out: &mut [u8], src: &[u8], rec: usize, count: usize) -> usize
@@ -38,7 +38,7 @@ fn put_records_at(out: &mut [u8], w: usize, src: &[u8], rec: usize, count: usize
 }
 
 // The frame that stands up to `end`, exchanged, to the start of `out`; answers its length.
-pub(crate) fn put_frame_exchanged(out: &mut [u8], src: &[u8], f: Frame, end: usize) -> usize
+pub fn put_frame_exchanged(out: &mut [u8], src: &[u8], f: Frame, end: usize) -> usize
     requires { ⌜ Room (FrameAt (now src) f end) frameExchanged 0 (now out) ⌝ }
     ensures { λ r. ⌜ Puts (FrameAt (now (src .entry)) f end) frameExchanged (now (out .entry)) (now (out .exit)) r ⌝ }
 {
@@ -50,12 +50,7 @@ pub(crate) fn put_frame_exchanged(out: &mut [u8], src: &[u8], f: Frame, end: usi
 }
 
 // `00`, or the frame exchanged.
-pub(crate) fn put_remainder_exchanged(
-    out: &mut [u8],
-    src: &[u8],
-    rest: Remainder,
-    end: usize,
-) -> usize
+pub fn put_remainder_exchanged(out: &mut [u8], src: &[u8], rest: Remainder, end: usize) -> usize
     requires { ⌜ Room (RemainderAt (now src) rest end) remainderExchanged 0 (now out) ⌝ }
     ensures { λ r. ⌜ Puts (RemainderAt (now (src .entry)) rest end) remainderExchanged (now (out .entry)) (now (out .exit)) r ⌝ }
 {

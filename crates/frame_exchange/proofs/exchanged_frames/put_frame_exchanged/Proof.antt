@@ -5,9 +5,9 @@ use Rattle.definitions.specs.Basics.{bigEndian}
 use Rattle.plan_writer.specs.Predicates.{frameHead}
 use Rattle.writing.specs.Writing.{same}
 use Rattle.writing.proofs.Sequence.{first-room, second-room, both-put, head-room, rest-room, headed-put}
-use Rattle.plan_exchange.proofs.FrameViews.{frame-view}
-use Rattle.plan_exchange.proofs.exchanged_frames.put_frame_exchanged.Statement.{statement}
-use Rattle.plan_exchange.proofs.exchanged_frames.put_frame_exchanged.Tie as tie
+use Rattle.frame_exchange.proofs.FrameViews.{frame-view}
+use Rattle.frame_exchange.proofs.exchanged_frames.put_frame_exchanged.Statement.{statement}
+use Rattle.frame_exchange.proofs.exchanged_frames.put_frame_exchanged.Tie as tie
 
 put-frame-head-requires : tie.Need-put-frame-head-requires
 unfolding bigEndian frameHead

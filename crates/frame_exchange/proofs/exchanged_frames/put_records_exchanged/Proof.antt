@@ -4,9 +4,9 @@ use native.Mathlib.Omega.{arith}
 use borrow.Author.Needs.{needs}
 use mathlib.Core.Path.{_≡_, refl}
 use lib.ListN.{length, length-set}
-use Rattle.plan_exchange.proofs.RecordLaws.{Negated, records-fit, negated-next, records-put}
-use Rattle.plan_exchange.proofs.exchanged_frames.put_records_exchanged.Statement.{statement}
-use Rattle.plan_exchange.proofs.exchanged_frames.put_records_exchanged.Tie as tie
+use Rattle.frame_exchange.proofs.RecordLaws.{Negated, records-fit, negated-next, records-put}
+use Rattle.frame_exchange.proofs.exchanged_frames.put_records_exchanged.Statement.{statement}
+use Rattle.frame_exchange.proofs.exchanged_frames.put_records_exchanged.Tie as tie
 
 abbrev Inv-loop : tie.InvT-loop
 Inv-loop out₀ src rec count n i₀ out i =

@@ -15,8 +15,8 @@ use Rattle.definitions.specs.Exchange.{negate, exchangeRecord}
 use Rattle.theorems.proofs.ExchangeGood.{records-length}
 use Rattle.expression.proofs.Placed.{fits}
 use Rattle.writing.specs.Writing.{Room, Puts}
-use Rattle.plan_exchange.specs.Held.{RecordsAt}
-use Rattle.plan_exchange.specs.Exchanged.{recordsExchanged}
+use Rattle.frame_exchange.specs.Held.{RecordsAt}
+use Rattle.frame_exchange.specs.ExchangedBytes.{recordsExchanged}
 use Rattle.writing.proofs.Written.{taken}
 
 -- The bytes of records of which the first i are exchanged.

@@ -1,9 +1,9 @@
 -- `put_remainder_exchanged`: one byte for none, or the frame.
 use borrow.Author.Needs.{needs}
 use Rattle.writing.proofs.Sequence.{from-zero, known-room, known-put, stored-room, stored-put}
-use Rattle.plan_exchange.proofs.FrameViews.{nothing-bytes, remainder-view}
-use Rattle.plan_exchange.proofs.exchanged_frames.put_remainder_exchanged.Statement.{statement}
-use Rattle.plan_exchange.proofs.exchanged_frames.put_remainder_exchanged.Tie as tie
+use Rattle.frame_exchange.proofs.FrameViews.{nothing-bytes, remainder-view}
+use Rattle.frame_exchange.proofs.exchanged_frames.put_remainder_exchanged.Statement.{statement}
+use Rattle.frame_exchange.proofs.exchanged_frames.put_remainder_exchanged.Tie as tie
 
 put-frame-exchanged-requires : tie.Need-put-frame-exchanged-requires
 put-frame-exchanged-requires c κs =

@@ -18,8 +18,8 @@ use Rattle.writing.specs.Writing.{Both, joined, same}
 use Rattle.sedona_query_planner.specs.Predicates.{unchanged, PredicateAt, Exchanges}
 use Rattle.sedona_query_planner.specs.declared.spatial_predicate.SpatialPredicate.{SpatialPredicate}
 use Rattle.plan_writer.specs.Predicates.{predicateBytes, frameHead}
-use Rattle.plan_exchange.specs.Held.{RecordsAt}
-use Rattle.plan_exchange.specs.Exchanged.{recordsExchanged, frameExchanged, remainderExchanged, extractionExchanged}
+use Rattle.frame_exchange.specs.Held.{RecordsAt}
+use Rattle.frame_exchange.specs.ExchangedBytes.{recordsExchanged, frameExchanged, remainderExchanged, extractionExchanged}
 use Rattle.writing.proofs.Sequence.{Headed}
 use Rattle.writing.proofs.SpanLaws.{there}
 

@@ -2,8 +2,8 @@
 use native.Mathlib.Omega.{arith}
 use borrow.Author.Needs.{needs}
 use Rattle.writing.proofs.Sequence.{part-room, part-put, ends-within}
-use Rattle.plan_exchange.proofs.exchanged_frames.put_records_at.Statement.{statement}
-use Rattle.plan_exchange.proofs.exchanged_frames.put_records_at.Tie as tie
+use Rattle.frame_exchange.proofs.exchanged_frames.put_records_at.Statement.{statement}
+use Rattle.frame_exchange.proofs.exchanged_frames.put_records_at.Tie as tie
 
 add-result : tie.Need-add-result
 add-result c =
