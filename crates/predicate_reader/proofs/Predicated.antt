@@ -1,20 +1,10 @@
 -- Predicates: the numbers before the arguments, and then they.
-use Prim.Native.Nat.{ℕ, zero, suc, _≤_, _<_}
-use native.Mathlib.Omega.{arith}
-use mathlib.Core.Path.{_≡_, refl, _∙_}
+use Prim.Native.Nat.{ℕ}
+use mathlib.Core.Path.{_≡_, _∙_}
 use mathlib.Core.List.{List}
 use lib.ListN.{drop}
-use lib.Dec.{eqb}
 use Rattle.definitions.specs.Expression as tree
-use Rattle.definitions.specs.Readers.{Reader, byteUpTo, number}
-use Rattle.definitions.specs.Decode.{kField}
-use Rattle.definitions.specs.Good.{AllBytes}
-use Rattle.theorems.proofs.KLaws.{k-held}
-use Rattle.theorems.proofs.Inverse.{byte-up-to-back, number-back}
-use Rattle.theorems.proofs.InversePlan.{k-back}
-use Rattle.sedona_query_planner.specs.Predicates.{flag, tiesNumbered}
-use Rattle.field_reader.specs.Fields.{ReadsAt}
-use Rattle.reading.proofs.Standing.{bytes-from}
+use Rattle.definitions.specs.Readers.{Reader}
 use Rattle.predicate_reader.specs.declared.held_predicates.Predicated.{Predicated}
 use Rattle.predicate_reader.specs.declared.held_predicates.Predicated.the-variants.{Read, Refused}
 use Rattle.predicate_reader.specs.Predicates.{PredicateIs}
@@ -24,27 +14,3 @@ pub precedes : (s : List ℕ) (at place : ℕ) (whole rest : Reader tree.Predica
     → whole 0 (drop at s) ≡ rest 0 (drop place s) → PredicateIs s place r rest → PredicateIs s at r whole
 precedes s at place whole rest (Read p next count) e h = (h .0, h .1, h .2, e ∙ h .3)
 precedes s at place whole rest (Refused why) e h = e ∙ h
-
--- ---- numbers that were read are in their ranges
-
-pub up-to : (s : List ℕ) (at next value most : ℕ) → ReadsAt s at next value (byteUpTo most) → value ≤ most
-up-to s at next value most reads = byte-up-to-back most 0 0 value (drop at s) (drop next s) (reads 0) .1
-
-pub four-bytes : (s : List ℕ) (at next value : ℕ) → AllBytes s → ReadsAt s at next value (number 4) → value < 4294967296
-four-bytes s at next value bytes reads = number-back 4 0 0 value (drop at s) (drop next s) (bytes-from at s bytes) (reads 0) .1
-
-pub k-below : (s : List ℕ) (at next value : ℕ) → AllBytes s → ReadsAt s at next value kField → value < 4294967296
-k-below s at next value bytes reads =
-    k-held value (k-back 0 0 value (drop at s) (drop next s) (bytes-from at s bytes) (reads 0) .1)
-
--- A flag that is 0 or 1, and ties of 0 to 2, are what is stored for them.
-pub flag-stored : (n : ℕ) → n ≤ 1 → flag (eqb n 1) ≡ n
-flag-stored zero h = refl
-flag-stored (suc zero) h = refl
-flag-stored (suc (suc n)) h = absurd (omega arith)
-
-pub ties-stored : (n : ℕ) → n ≤ 2 → tiesNumbered n ≡ n
-ties-stored zero h = refl
-ties-stored (suc zero) h = refl
-ties-stored (suc (suc zero)) h = refl
-ties-stored (suc (suc (suc n))) h = absurd (omega arith)

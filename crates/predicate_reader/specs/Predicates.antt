@@ -5,17 +5,14 @@ use mathlib.Core.List.{List}
 use lib.ListN.{length, drop}
 use Rattle.definitions.specs.Expression as tree
 use Rattle.definitions.specs.Expression.{Expr}
-use Rattle.definitions.specs.Readers.{read, stopped, Reader, _>>=_, give, byteUpTo}
-use Rattle.definitions.specs.Decode.{sideUpTo, argument}
+use Rattle.definitions.specs.Readers.{read, stopped, Reader, _>>=_, give}
+use Rattle.definitions.specs.Decode.{argument}
 use Rattle.terms.specs.Refusals.{numberOf}
-use Rattle.terms.specs.Sides.{joinSide}
-use Rattle.sedona_query_planner.specs.Predicates.{flag, tiesNumber, unchanged, ArgumentAt, PredicateAt}
+use Rattle.sedona_query_planner.specs.Predicates.{unchanged, ArgumentAt, PredicateAt}
 use Rattle.predicate_reader.specs.declared.held_predicates.Predicated.{Predicated}
 use Rattle.predicate_reader.specs.declared.held_predicates.Predicated.the-variants as predicated
 use Rattle.predicate_reader.specs.declared.held_predicates.Pair.{Pair}
 use Rattle.predicate_reader.specs.declared.held_predicates.Pair.the-variants as pair
-use Rattle.predicate_reader.specs.declared.held_predicates.Flagged.{Flagged}
-use Rattle.predicate_reader.specs.declared.held_predicates.Flagged.the-variants as flagged
 
 -- ---- two arguments
 
@@ -32,25 +29,6 @@ PairIs s at (pair.Read right end count) =
     (end ≤ length s) × (l r : Expr) × ArgumentAt unchanged s at right l × ArgumentAt unchanged s right end r
     × ((next : Expr → Expr → Reader tree.Predicate) → thenBoth next 0 (drop at s) ≡ next l r count (drop end s))
 PairIs s at (pair.Refused why) = (next : Expr → Expr → Reader tree.Predicate) → thenBoth next 0 (drop at s) ≡ stopped (numberOf why)
-
--- ---- the flags of KNN
-
--- Spheroid, probe side and ties, and what comes after them.
-abbrev pub thenFlags : ((spheroid : ℕ) → tree.Side → (ties : ℕ) → Reader tree.Predicate) → Reader tree.Predicate
-thenFlags next = do
-  spheroid ← byteUpTo 1
-  probe ← sideUpTo 1
-  ties ← byteUpTo 2
-  next spheroid probe ties
-
--- Flags were read.
-abbrev pub FlagsIs : List ℕ → (at : ℕ) → Flagged → Type 0
-FlagsIs s at (flagged.Read f end) =
-    (end ≤ length s)
-    × ((next : ℕ → tree.Side → ℕ → Reader tree.Predicate) (n : ℕ)
-    → thenFlags next n (drop at s) ≡ next (flag (f .«use_spheroid»)) (joinSide (f .«probe_side»)) (tiesNumber (f .ties)) n (drop end s))
-FlagsIs s at (flagged.Refused why) =
-    (next : ℕ → tree.Side → ℕ → Reader tree.Predicate) (n : ℕ) → thenFlags next n (drop at s) ≡ stopped (numberOf why)
 
 -- ---- predicates
 

@@ -1,8 +1,10 @@
 // The predicate of a held extraction: which it is, and where its arguments stand.
 use field_reader::field_readers::Field;
 use field_reader::field_readers::byte_up_to;
-use field_reader::field_readers::number;
 use head_reader::head_readers::Columns;
+use knn_reader::knn_fields::Flagged;
+use knn_reader::knn_fields::k_field;
+use knn_reader::knn_fields::knn_flags;
 use reading::walk::Walked;
 use reading::walk::expression;
 use record_reader::column_records::Sided;
@@ -11,25 +13,15 @@ use sedona_query_planner::spatial_predicate::DistancePredicate;
 use sedona_query_planner::spatial_predicate::KNNPredicate;
 use sedona_query_planner::spatial_predicate::RelationPredicate;
 use sedona_query_planner::spatial_predicate::SpatialPredicate;
-use sedona_query_planner::spatial_predicate::TieBreakers;
 use sedona_query_planner::spatial_predicate::relation_numbered;
-use sedona_query_planner::spatial_predicate::ties_numbered;
 use terms::refusals::Refusal;
 use terms::sides::JoinSide;
 ghost use Prim.Native.Nat.{_≤_};
 ghost use lib.ListN.{length};
 ghost use Rattle.definitions.specs.Decode as decode;
 ghost use Rattle.terms.specs.Sides.{joinSide};
-ghost use Rattle.field_reader.specs.Fields.{FieldIs};
 ghost use Rattle.reading.specs.Places.{ExpressionIs};
-ghost use Rattle.predicate_reader.specs.Predicates.{PairIs, FlagsIs, PredicateIs, distanceArguments};
-
-// The flags of KNN.
-pub struct Flags {
-    pub use_spheroid: bool,
-    pub probe_side: JoinSide,
-    pub ties: TieBreakers,
-}
+ghost use Rattle.predicate_reader.specs.Predicates.{PairIs, PredicateIs, distanceArguments};
 
 // A predicate, the place after it, and how many nodes there were up to it.
 pub enum Predicated {
@@ -40,12 +32,6 @@ pub enum Predicated {
 // Two arguments: where the second starts, where it ends, and how many nodes there were up to it.
 pub enum Pair {
     Read(usize, usize, usize),
-    Refused(Refusal),
-}
-
-// Flags and the place after them.
-pub enum Flagged {
-    Read(Flags, usize),
     Refused(Refusal),
 }
 
@@ -145,47 +131,6 @@ fn distance_predicate(s: &[u8], at: usize) -> Predicated
             Sided::Refused(why) => Predicated::Refused(why),
             Sided::Value(side, left) => distance_arguments(s, left, form as u8, side),
         },
-    }
-}
-
-// Spheroid, probe side, ties.
-fn knn_flags(s: &[u8], at: usize) -> Flagged
-    requires { ⌜ at ≤ length (now s) ⌝ }
-    ensures { λ r. ⌜ FlagsIs (now (s .entry)) at r ⌝ }
-{
-    match byte_up_to(s, at, 1) {
-        Field::Refused(why) => Flagged::Refused(why),
-        Field::Value(spheroid, second) => match side_up_to(s, second, 1) {
-            Sided::Refused(why) => Flagged::Refused(why),
-            Sided::Value(probe_side, third) => match byte_up_to(s, third, 2) {
-                Field::Refused(why) => Flagged::Refused(why),
-                Field::Value(number, end) => Flagged::Read(
-                    Flags {
-                        use_spheroid: spheroid == 1,
-                        probe_side,
-                        ties: ties_numbered(number),
-                    },
-                    end,
-                ),
-            },
-        },
-    }
-}
-
-// A number of four bytes that is a k; 0 is none.
-fn k_field(s: &[u8], at: usize) -> Field
-    requires { ⌜ at ≤ length (now s) ⌝ }
-    ensures { λ r. ⌜ FieldIs (now (s .entry)) at r decode.kField ⌝ }
-{
-    match number(s, at, 4) {
-        Field::Refused(why) => Field::Refused(why),
-        Field::Value(k, next) => {
-            if k == 0 {
-                Field::Refused(Refusal::OutOfRange)
-            } else {
-                Field::Value(k, next)
-            }
-        }
     }
 }
 

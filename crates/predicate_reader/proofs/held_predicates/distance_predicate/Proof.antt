@@ -7,7 +7,8 @@ use native.Mathlib.Omega.{arith}
 use mathlib.Core.Path.{_∙_}
 use Rattle.definitions.specs.Decode.{distancePredicate}
 use Rattle.theorems.proofs.ReaderLaws.{after, halts}
-use Rattle.predicate_reader.proofs.Predicated.{precedes, up-to}
+use Rattle.knn_reader.proofs.Fields.{up-to}
+use Rattle.predicate_reader.proofs.Predicated.{precedes}
 use Rattle.predicate_reader.proofs.held_predicates.distance_predicate.Statement.{statement}
 use Rattle.predicate_reader.proofs.held_predicates.distance_predicate.Tie as tie
 

@@ -1,6 +1,6 @@
 -- KNN is k, its flags and then two arguments.
-use Rattle.predicate_reader.specs.declared.held_predicates.Flagged.the-variants as flags
-use Rattle.predicate_reader.specs.Predicates.{FlagsIs}
+use Rattle.knn_reader.specs.declared.knn_fields.Flagged.the-variants as flags
+use Rattle.knn_reader.specs.Flags.{FlagsIs}
 use Rattle.field_reader.specs.declared.field_readers.Field.the-variants.{Value}
 use Rattle.field_reader.specs.Fields.{FieldIs}
 use borrow.Author.Needs.{needs}
@@ -9,7 +9,7 @@ use mathlib.Core.Path.{refl, _∙_}
 use Rattle.definitions.specs.Decode.{kField, knnPredicate}
 use Rattle.theorems.proofs.ReaderLaws.{after, halts}
 use Rattle.reading.proofs.Standing.{all-bytes}
-use Rattle.predicate_reader.proofs.Predicated.{k-below}
+use Rattle.knn_reader.proofs.Fields.{k-below}
 use Rattle.predicate_reader.proofs.held_predicates.knn_predicate.Statement.{statement}
 use Rattle.predicate_reader.proofs.held_predicates.knn_predicate.Tie as tie
 

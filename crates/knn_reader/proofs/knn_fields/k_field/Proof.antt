@@ -4,10 +4,10 @@ use Rattle.definitions.specs.Decode.{kField}
 use Rattle.theorems.proofs.KLaws.{is-k, zero-no-k}
 use Rattle.theorems.proofs.ReaderLaws.{after, halts, passes, fails}
 use Rattle.reading.proofs.Standing.{all-bytes}
-use Rattle.predicate_reader.proofs.Predicated.{four-bytes}
+use Rattle.knn_reader.proofs.Fields.{four-bytes}
 use borrow.Author.Needs.{needs}
-use Rattle.predicate_reader.proofs.held_predicates.k_field.Statement.{statement}
-use Rattle.predicate_reader.proofs.held_predicates.k_field.Tie as tie
+use Rattle.knn_reader.proofs.knn_fields.k_field.Statement.{statement}
+use Rattle.knn_reader.proofs.knn_fields.k_field.Tie as tie
 
 returns-2 : tie.Need-returns-2
 unfolding kField

@@ -2,9 +2,9 @@
 use borrow.Author.Needs.{needs}
 use mathlib.Core.Path.{_∙_}
 use Rattle.theorems.proofs.ReaderLaws.{after, halts}
-use Rattle.predicate_reader.proofs.Predicated.{up-to, flag-stored, ties-stored}
-use Rattle.predicate_reader.proofs.held_predicates.knn_flags.Statement.{statement}
-use Rattle.predicate_reader.proofs.held_predicates.knn_flags.Tie as tie
+use Rattle.knn_reader.proofs.Fields.{up-to, flag-stored, ties-stored}
+use Rattle.knn_reader.proofs.knn_fields.knn_flags.Statement.{statement}
+use Rattle.knn_reader.proofs.knn_fields.knn_flags.Tie as tie
 
 side-up-to-requires : tie.Need-side-up-to-requires
 side-up-to-requires c κs = (rw (c .before .spheroid .given .1) at (c .before .before .before .byte-up-to .ensures)) .0
