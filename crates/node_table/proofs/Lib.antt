@@ -1,0 +1,4 @@
+-- Laws that several proofs use.
+pub mod Filling
+pub mod NumberLaws
+pub mod RecordLaws
