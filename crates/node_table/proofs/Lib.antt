@@ -2,3 +2,4 @@
 pub mod Filling
 pub mod NumberLaws
 pub mod RecordLaws
+pub mod LocalRow
