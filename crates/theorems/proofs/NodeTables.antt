@@ -18,7 +18,7 @@ use Rattle.theorems.proofs.ExchangeGood.{frame-length}
 mutual
   unfolding nodesFrom nodes rowFrom nodesAll
 
-  node-count : (at : ℕ) (e : Expr) → length (nodesFrom at e) ≡ nodes e
+  pub node-count : (at : ℕ) (e : Expr) → length (nodesFrom at e) ≡ nodes e
   node-count at (column index tag) = refl
   node-count at (literal type bytes) = refl
   node-count at (and l r) =
@@ -31,7 +31,7 @@ mutual
   node-count at (other tag children) = ap suc (row-count (at + 4) children)
   node-count at (field bits tag) = refl
 
-  row-count : (at : ℕ) (es : Exprs) → length (rowFrom at es) ≡ nodesAll es
+  pub row-count : (at : ℕ) (es : Exprs) → length (rowFrom at es) ≡ nodesAll es
   row-count at nil = refl
   row-count at (cons e es) =
       length-append (nodesFrom at e) (rowFrom (at + length (exprBytes e)) es)

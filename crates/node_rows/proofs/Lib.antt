@@ -1,0 +1,6 @@
+-- Laws that several proofs use.
+pub mod NumberLaws
+pub mod RowLaws
+pub mod CollectWalk
+pub mod FillLaws
+pub mod TableLaws

@@ -1,0 +1,89 @@
+-- Request 6 of document 02: rows that hold the nodes of an expression. (Ours.)
+use Prim.Native.Nat.{ℕ, _+_, _-_, _≤_, _<_}
+use mathlib.Core.Path.{_≡_}
+use mathlib.Core.Bool.{Bool, true, false}
+use mathlib.Core.List.{List, [], _++_, map}
+use lib.ListN.{length, take, getD, replicate}
+use Rattle.definitions.specs.Expression.{Expr, Exprs}
+use Rattle.definitions.specs.Encode.{exprBytes, exprsBytes}
+use Rattle.definitions.specs.Decode.{Columns}
+use Rattle.definitions.specs.Good.{nodes, nodesAll}
+use Rattle.definitions.specs.NodeTable.{NodeRecord, nodesFrom}
+use Rattle.expression.specs.Places.{Holds}
+use Rattle.expression.specs.Nodes.{Stands, Row}
+use Rattle.writing.specs.Written.{WroteAt}
+use Rattle.node_rows.specs.Numbers.{number, numbersFrom, rowNumbers, nextsFrom, rowNexts}
+use Rattle.node_rows.specs.declared.collecting.Passed.{Passed}
+
+-- ---- rows that are filled
+
+-- The rows hold the nodes of the expression at a place from index i on.
+pub record Tabled (numbers next : List ℕ) (at i : ℕ) (t : Expr) : Type 0 where
+  pub numbered : Holds numbers i (numbersFrom at t)
+  pub followed : Holds next i (nextsFrom i t)
+  pub short : at + length (exprBytes t) ≤ 16384
+
+-- The same of several expressions.
+pub record TabledAll (numbers next : List ℕ) (at i : ℕ) (ts : Exprs) : Type 0 where
+  pub numbered : Holds numbers i (rowNumbers at ts)
+  pub followed : Holds next i (rowNexts i ts)
+  pub short : at + length (exprsBytes ts) ≤ 16384
+
+-- ---- rows to be filled
+
+-- Both rows have places up to this one.
+pub record Room (numbers next : List ℕ) (last : ℕ) : Type 0 where
+  pub numbered : last ≤ length numbers
+  pub followed : last ≤ length next
+  pub few : last ≤ 1024
+
+-- An expression stands there, and the rows have room for its nodes.
+pub record Fits (s : List ℕ) (at i : ℕ) (numbers next : List ℕ) : Type 0 where
+  pub columns : Columns
+  pub tree : Expr
+  pub stands : Stands columns s at tree
+  pub short : at + length (exprBytes tree) ≤ 16384
+  pub room : Room numbers next (i + nodes tree)
+
+-- The same of n expressions in a row.
+pub record FitsAll (s : List ℕ) (at n i : ℕ) (numbers next : List ℕ) : Type 0 where
+  pub columns : Columns
+  pub trees : Exprs
+  pub row : Row columns s at n trees
+  pub short : at + length (exprsBytes trees) ≤ 16384
+  pub room : Room numbers next (i + nodesAll trees)
+
+-- Its nodes were put into the rows from index i on; where it ends, and the index after them.
+pub record Collected (at i : ℕ) (numbers next numbered followed : List ℕ) (r : Passed) (t : Expr) : Type 0 where
+  pub ends : r .end ≡ at + length (exprBytes t)
+  pub own : WroteAt i (numbersFrom at t) numbers numbered (r .index)
+  pub after : WroteAt i (nextsFrom i t) next followed (r .index)
+
+-- The same of several expressions.
+pub record CollectedAll (at i : ℕ) (numbers next numbered followed : List ℕ) (r : Passed) (ts : Exprs) : Type 0 where
+  pub ends : r .end ≡ at + length (exprsBytes ts)
+  pub own : WroteAt i (rowNumbers at ts) numbers numbered (r .index)
+  pub after : WroteAt i (rowNexts i ts) next followed (r .index)
+
+-- ---- a row of its own
+
+-- These are the records of the `count` nodes of an expression at a place, or count is 0 and there are none.
+pub data Records (s : List ℕ) (root count : ℕ) : List NodeRecord → Type 0 where
+  nothing : count ≡ 0 → Records s root count []
+  filled : {c : Columns} {t : Expr} → Stands c s root t → count ≡ nodes t → count ≤ 1024 → root + length (exprBytes t) ≤ 16384
+      → Records s root count (nodesFrom root t)
+
+-- There are such records; what is claimed of them.
+abbrev pub Filling : List ℕ → (root count : ℕ) → Type 0
+Filling s root count = (records : List NodeRecord) × Records s root count records
+
+abbrev pub RowIs : List ℕ → (root count : ℕ) → List ℕ → Type 0
+RowIs s root count r =
+    (records : List NodeRecord) → Records s root count records → r ≡ map number records ++ replicate (1024 - count) 0
+
+-- ---- rows that are compared
+
+-- Whether the first `count` of both are equal.
+abbrev pub SameIs : (a b : List ℕ) (count : ℕ) → Bool → Type 0
+SameIs a b count true = take count a ≡ take count b
+SameIs a b count false = (k : ℕ) × (k < count) × (getD a k 0 ≡ getD b k 0 → ⊥)

@@ -1,0 +1,65 @@
+// One walk over an expression that fills both rows.
+ghost use Rattle.expression.specs.Nodes.{OfTree, OfTrees};
+ghost use Rattle.node_rows.specs.Rows.{Fits, FitsAll, Collected, CollectedAll, Filling, RowIs};
+use super::numbers::node_number;
+use expression::heads::head_at;
+
+// Where a walk ended, and the index of the node that comes after it.
+pub struct Passed {
+    pub end: usize,
+    pub index: usize,
+}
+
+// Puts the expression at a place into the rows, its first node at index i.
+pub fn collect_nodes(numbers: &mut [u32], next: &mut [u16], s: &[u8], at: usize, i: usize) -> Passed
+    requires { ⌜ Fits (now s) at i (now numbers) (now next) ⌝ }
+    ensures { λ r. ⌜ OfTree (now (s .entry)) at
+        (Collected at i (now (numbers .entry)) (now (next .entry)) (now (numbers .exit)) (now (next .exit)) r) ⌝ }
+{
+    let head = head_at(s, at);
+    let first = head.next;
+    let n = head.children;
+    let passed = collect_children(numbers, next, s, first, n, i + 1);
+    numbers[i] = node_number(s[at], at, passed.end);
+    next[i] = passed.index as u16;
+    passed
+}
+
+// The same for n expressions in a row.
+fn collect_children(
+    numbers: &mut [u32],
+    next: &mut [u16],
+    s: &[u8],
+    at: usize,
+    n: usize,
+    i: usize,
+) -> Passed
+    requires { ⌜ FitsAll (now s) at n i (now numbers) (now next) ⌝ }
+    ensures { λ r. ⌜ OfTrees (now (s .entry)) at n
+        (CollectedAll at i (now (numbers .entry)) (now (next .entry)) (now (numbers .exit)) (now (next .exit)) r) ⌝ }
+{
+    let mut end = at;
+    let mut index = i;
+    let mut left = n;
+    while 0 < left {
+        let one = collect_nodes(numbers, next, s, end, index);
+        end = one.end;
+        index = one.index;
+        left -= 1;
+    }
+    Passed { end, index }
+}
+
+// The numbers of the `count` nodes of the expression at `root`, and 0 after them.
+pub fn node_row(s: &[u8], root: usize, count: usize) -> [u32; 1024]
+    requires { ⌜ Filling (now s) root count ⌝ }
+    ensures { λ r. ⌜ RowIs (now (s .entry)) root count r ⌝ }
+{
+    let mut numbers = [0u32; 1024];
+    if count == 0 {
+        return numbers;
+    }
+    let mut next = [0u16; 1024];
+    collect_nodes(&mut numbers, &mut next, s, root, 0);
+    numbers
+}
