@@ -1,9 +1,9 @@
 -- Request 6 of document 02: rows that hold the nodes of an expression. (Ours.)
-use Prim.Native.Nat.{ℕ, _+_, _-_, _≤_, _<_}
+use Prim.Native.Nat.{ℕ, _+_, _≤_, _<_}
 use mathlib.Core.Path.{_≡_}
 use mathlib.Core.Bool.{Bool, true, false}
 use mathlib.Core.List.{List, [], _++_, map}
-use lib.ListN.{length, take, getD, replicate}
+use lib.ListN.{length, take, drop, getD}
 use Rattle.definitions.specs.Expression.{Expr, Exprs}
 use Rattle.definitions.specs.Encode.{exprBytes, exprsBytes}
 use Rattle.definitions.specs.Decode.{Columns}
@@ -73,13 +73,14 @@ pub data Records (s : List ℕ) (root count : ℕ) : List NodeRecord → Type 0 
   filled : {c : Columns} {t : Expr} → Stands c s root t → count ≡ nodes t → count ≤ 1024 → root + length (exprBytes t) ≤ 16384
       → Records s root count (nodesFrom root t)
 
--- There are such records; what is claimed of them.
+-- There are such records.
 abbrev pub Filling : List ℕ → (root count : ℕ) → Type 0
 Filling s root count = (records : List NodeRecord) × Records s root count records
 
-abbrev pub RowIs : List ℕ → (root count : ℕ) → List ℕ → Type 0
-RowIs s root count r =
-    (records : List NodeRecord) → Records s root count records → r ≡ map number records ++ replicate (1024 - count) 0
+-- Their numbers are at the row's start, those after them as they were.
+abbrev pub RowIs : List ℕ → (root count : ℕ) → (before after : List ℕ) → Type 0
+RowIs s root count before after =
+    (records : List NodeRecord) → Records s root count records → after ≡ map number records ++ drop count before
 
 -- ---- rows that are compared
 

@@ -1,4 +1,6 @@
 // One walk over an expression that fills both rows.
+ghost use Prim.Native.Nat.{_≤_};
+ghost use lib.ListN.{length};
 ghost use Rattle.expression.specs.Nodes.{OfTree, OfTrees};
 ghost use Rattle.node_rows.specs.Rows.{Fits, FitsAll, Collected, CollectedAll, Filling, RowIs};
 use super::numbers::node_number;
@@ -50,16 +52,14 @@ fn collect_children(
     Passed { end, index }
 }
 
-// The numbers of the `count` nodes of the expression at `root`, and 0 after them.
-pub fn node_row(s: &[u8], root: usize, count: usize) -> [u32; 1024]
-    requires { ⌜ Filling (now s) root count ⌝ }
-    ensures { λ r. ⌜ RowIs (now (s .entry)) root count r ⌝ }
+// Puts the numbers of the `count` nodes of the expression at `root` at the row's start; those after them stay.
+pub fn node_row(row: &mut [u32], s: &[u8], root: usize, count: usize)
+    requires { ⌜ (count ≤ length (now row)) × Filling (now s) root count ⌝ }
+    ensures { λ _. ⌜ RowIs (now (s .entry)) root count (now (row .entry)) (now (row .exit)) ⌝ }
 {
-    let mut numbers = [0u32; 1024];
     if count == 0 {
-        return numbers;
+        return;
     }
     let mut next = [0u16; 1024];
-    collect_nodes(&mut numbers, &mut next, s, root, 0);
-    numbers
+    collect_nodes(row, &mut next, s, root, 0);
 }
