@@ -3,3 +3,4 @@ pub mod Filling
 pub mod NumberLaws
 pub mod RecordLaws
 pub mod LocalRow
+pub mod FillLaws

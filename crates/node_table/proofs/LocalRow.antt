@@ -16,7 +16,7 @@ use base.Logic.{SProp, ent, guard, guardI, via, emp, sep, ex}
 use base.Fml.{Lft, GName, Fml, fsep, fat, fdead, flent}
 use prog.Wp.{Heap, Env}
 use ghost.Atoms.{Atoms, sem}
-use types.Kit.{Given, Item, given, ‵, _⊛_, some, later, _$_, _∵_, !, qed, move, drop, use1, use2, use3, split, pick, check, rewrite, fsplit, fjoin, fpick, fpack, feqI, frame, await, updating, now as at-once, show, done}
+use types.Kit.{Given, Item, given, ‵, _⊛_, some, later, _$_, _∵_, !, qed, move, drop, use1, use3, split, pick, check, rewrite, fsplit, fjoin, fpick, fpack, feqI, frame, await, updating, now as at-once, show, done}
 use types.Run.{Opd}
 use types.SemTy.{cells, Arr}
 use types.Share.{arr-parts}
@@ -86,7 +86,8 @@ module _ {M : Type 1} (𝓤 : URA M) (H : Heap 𝓤) (A : Atoms 𝓤) (W : Given
       qed W (‵ (fat fullShare ρ b 0 u) ∷ []) ∵ use1 W (‵ (cellAt fullShare (Row m .mir) (u ∷ []) b 0)) (W .laws .at-raw fullShare ρ b 0 u) $
       owned ! (Row m) (Is (Row m)) makes-row zs _ is $ move ! (1 ∷ 0 ∷ []) $ fjoin ! $
       fpack ! (List Val) (λ vs. fsep (cellAt fullShare (Row m .mir) vs b 0) (Row m .own zs vs)) (u ∷ []) $
-      use1 W (‵ (arr-parts (shares u32) m .part fullShare zs b 0)) (array-apart 𝓤 H A W u32 fullShare tt m zs b 0) $ fsplit ! $ drop ! $ done !
+      use1 W (‵ (arr-parts (shares u32) m .part fullShare zs b 0)) (array-apart 𝓤 H A W u32 fullShare tt m zs b 0) $ fsplit ! $ drop ! $
+      done !
 
   -- the array of these numbers is there
   abbrev pub There : (b : ℕ) → List ℕ → SProp 𝓤
@@ -96,9 +97,11 @@ module _ {M : Type 1} (𝓤 : URA M) (H : Heap 𝓤) (A : Atoms 𝓤) (W : Given
   unfolding partOf
   whole-again zs b l =
       qed W (‵ (row u32 fullShare zs b 0) ∷ []) ∵ feqI ! ℕ (length zs) m l $ fjoin ! $
-      use1 W (‵ (partAt (Row m) fullShare zs b 0)) (array-whole 𝓤 H A W u32 fullShare m zs b 0) $ fpick ! (λ vs. fsplit ! $ move ! (1 ∷ []) $
+      use1 W (‵ (partAt (Row m) fullShare zs b 0)) (array-whole 𝓤 H A W u32 fullShare m zs b 0) $
+      fpick ! (λ vs. fsplit ! $ move ! (1 ∷ []) $
       facts ! (Row m) (Is (Row m)) (shows 𝓤 H A (Row m)) zs vs (λ is.
-      rewrite ! 0 (λ (us : List Val). ‵ (cellAt fullShare (Row m .mir) us b 0)) (array-tells u32 (uint-vals w32) (uint-tells w32) m zs vs is) refl $
+      rewrite ! 0 (λ (us : List Val). ‵ (cellAt fullShare (Row m .mir) us b 0))
+      (array-tells u32 (uint-vals w32) (uint-tells w32) m zs vs is) refl $
       use1 W (‵ (fat fullShare ρ b 0 (value zs))) (W .laws .raw-at fullShare ρ b 0 (value zs)) $
       check ! (subst (Is (Row m) zs) (array-tells u32 (uint-vals w32) (uint-tells w32) m zs vs is) is) $ done !))
 

@@ -1,11 +1,14 @@
 // The lent table of a frame's nodes. Only `put_nodes` writes into it and only `take_nodes` reads it; all other code works on a plain
 // row of numbers, one number a node record. Public for the crate `spatialjoin_c`.
+use node_rows::collecting::node_row;
 ghost use mathlib.Core.Path.{_≡_};
 ghost use mathlib.Core.List.{map, _++_};
 ghost use Prim.Native.Nat.{_<_, _≤_};
 ghost use lib.ListN.{length, getD, take, drop};
-ghost use Rattle.node_table.specs.Numbers.{number, numbered};
-ghost use Rattle.node_table.specs.Records.{nodeOf, nodesOf};
+ghost use Rattle.node_rows.specs.Numbers.{number};
+ghost use Rattle.node_rows.specs.Rows.{Filling};
+ghost use Rattle.node_table.specs.Numbers.{numbered};
+ghost use Rattle.node_table.specs.Records.{nodeOf, nodesOf, FilledIs};
 
 #[repr(C)]
 pub struct NodeRecord {
@@ -63,6 +66,16 @@ pub fn put_nodes(table: &mut [NodeRecord], row: &[u32], count: usize)
         table[i] = node_at(row, i);
         i += 1;
     }
+}
+
+// Puts the records of the `count` nodes of the expression at `root` at the table's start.
+pub fn fill_table(table: &mut [NodeRecord], s: &[u8], root: usize, count: usize)
+    requires { ⌜ (count ≤ length (now table)) × Filling (now s) root count ⌝ }
+    ensures { λ _. ⌜ FilledIs (now (s .entry)) root count (nodesOf (now (table .entry))) (nodesOf (now (table .exit))) ⌝ }
+{
+    let mut row = [0; 1024];
+    node_row(&mut row, s, root, count);
+    put_nodes(table, &row, count);
 }
 
 // The one function that reads a lent table: the row's first numbers become those of its records, the others stay.

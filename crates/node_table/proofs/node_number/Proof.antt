@@ -3,7 +3,8 @@ use native.Mathlib.Omega.{arith}
 use borrow.Author.Needs.{needs}
 use mathlib.Core.Path.{sym}
 use Rattle.node_table.specs.Records.{nodeOf}
-use Rattle.node_table.proofs.NumberLaws.{number-told, kind-over, start-over, end-over}
+use Rattle.node_rows.proofs.NumberLaws.{number-told}
+use Rattle.node_table.proofs.NumberLaws.{kind-over, start-over, end-over}
 use Rattle.node_table.proofs.node_number.Statement.{statement}
 use Rattle.node_table.proofs.node_number.Tie as tie
 
@@ -18,9 +19,9 @@ returns-3 c = sym (end-over (nodeOf (c .before .before .before .args .node)) (om
 
 returns-4 : tie.Need-returns-4
 returns-4 c = sym (number-told (nodeOf (c .before .before .before .args .node)) (record {
-  kind-fits = omega (arith, c .before .before .if1 .left);
-  start-fits = omega (arith, c .before .if2 .left);
-  end-fits = omega (arith, c .if3 .left);
+  kind = omega (arith, c .before .before .if1 .left);
+  start = omega (arith, c .before .if2 .left);
+  end = omega (arith, c .if3 .left);
 }))
 
 pub node-number-spec : {M : Type 1} → statement M

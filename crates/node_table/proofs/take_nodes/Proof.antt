@@ -230,7 +230,8 @@ module _ {M : Type 1} (𝓤 : URA M) (H : Heap 𝓤) (A : Atoms 𝓤) (W : Given
                 rewrite ! 0 (λ (j : ℕ). ‵ (row u32 fullShare (tab j) b o)) e refl $ move ! (0 ∷ 17 ∷ 18 ∷ 19 ∷ []) $
                 closes-slice ! tt u32 ys (tab n) same-length b o $ returns ! (look ! 16 refl) $
                 forget ! 3 refl $ forget ! 4 refl $ forget ! 13 refl $ forget ! 14 refl $ forget ! 15 refl $ forget ! 16 refl $
-                move ! (16 ∷ 19 ∷ []) $ free1 ! $ move ! (13 ∷ 18 ∷ []) $ free1 ! $ move ! (13 ∷ 17 ∷ []) $ free1 ! $ move ! (13 ∷ 16 ∷ []) $
+                move ! (16 ∷ 19 ∷ []) $ free1 ! $ move ! (13 ∷ 18 ∷ []) $ free1 ! $ move ! (13 ∷ 17 ∷ []) $ free1 ! $
+                move ! (13 ∷ 16 ∷ []) $
                 free1 ! $
                 move ! (3 ∷ 15 ∷ []) $ free1 ! $ move ! (3 ∷ 14 ∷ []) $ free1 ! $ move ! (3 ∷ 13 ∷ []) $ free1 ! $ move ! (3 ∷ 12 ∷ []) $
                 free1 ! $
@@ -240,7 +241,8 @@ module _ {M : Type 1} (𝓤 : URA M) (H : Heap 𝓤) (A : Atoms 𝓤) (W : Given
             | inr l ↦
                 rewrite ! 2 (λ (z : Bool). ‵ (fat fullShare tyBool l₅ 0 (vbool z))) (lt-ltb (t .0) n l) refl $
                 stays ! (load ! (from ! (stop !)) (look ! 2 refl)) $
-                assigns ! (bin ! (load ! (from ! (stop !)) (look ! 1 refl)) (lit ! tt) (record { fits = scaled (t .0) l })) (from ! (stop !))
+                assigns ! (bin ! (load ! (from ! (stop !)) (look ! 1 refl)) (lit ! tt) (record { fits = scaled (t .0) l }))
+                (from ! (stop !))
                 (init ! 4 refl (tt, record { fits = scaled (t .0) l })) $
                 assigns ! (bin ! (load ! (from ! (fld ! refl (stop !))) (look-in ! 12 (sub ! 0 refl (whole !))))
                 (load ! (from ! (stop !)) (look ! 4 refl)) tt) (from ! (stop !)) (init ! 5 refl (tt, tt)) $
@@ -249,15 +251,17 @@ module _ {M : Type 1} (𝓤 : URA M) (H : Heap 𝓤) (A : Atoms 𝓤) (W : Given
                 move ! (9 ∷ 10 ∷ []) $
                 looks-slice ! tt T.the-row (Is T.the-row) (shows 𝓤 H A T.the-row) (LL.vals T.the-type T′.the-laws)
                 (LL.tells T.the-type T′.the-laws) (LL.copy T.the-type T′.the-copy 𝓤 H A W) xs b₁ o₁ (λ q′.
-                elem-out ! T.the-row (Is T.the-row) (shows 𝓤 H A T.the-row) (LL.vals T.the-type T′.the-laws) (LL.tells T.the-type T′.the-laws)
+                elem-out ! T.the-row (Is T.the-row) (shows 𝓤 H A T.the-row) (LL.vals T.the-type T′.the-laws)
+                (LL.tells T.the-type T′.the-laws)
                 q′ xs (t .0) blank b₁ o₁ (omega (arith, fits .1)) (λ is.
                 assigns ! (of-opd ! (load ! (from ! (hop ! (look ! 10 refl) (stop !))) (look-raw ! 0 refl))) (from ! (stop !))
                 (init ! 11 refl (typed (t .0) is)) $
                 elem-back ! T.the-row q′ xs (t .0) blank (mach (t .0) ∷ []) b₁ o₁ (omega (arith, fits .1)) $
                 shuts-slice ! tt T.the-row q′ xs b₁ o₁ $
-                -- [the token; the fractured borrow; the row; i; the test; the number; 12 * i; its place; the record; 4 * i; its place; _1; …]
+                -- [the token; the fractured borrow; the row; i; the test; the number; 12 * i; its place; the record; 4 * i; …]
                 use0 W (raw (NodeNumber 𝓤 H A mem run .pre (to (t .0)))) (lends (t .0) is) $
-                calls-at ! fm (NodeNumber 𝓤 H A mem run) known (to (t .0)) (and-then ! (load ! (from ! (stop !)) (look ! 9 refl)) (no-more !))
+                calls-at ! fm (NodeNumber 𝓤 H A mem run) known (to (t .0))
+                (and-then ! (load ! (from ! (stop !)) (look ! 9 refl)) (no-more !))
                 (λ u.
                 use1 W (later (some (λ (m : ℕ). (‵ ftrue ⊛ ‵ (u32 .own m (u ∷ [])))
                 ⊛ raw (ensured 𝓤 H A g.ended (g.clauses 𝓤 H A mem run) (to (t .0) .0 .0) (to (t .0) .0 .3) tt m)))) (id⊢ 𝓤 _) $ await ! tt $
@@ -280,10 +284,12 @@ module _ {M : Type 1} (𝓤 : URA M) (H : Heap 𝓤) (A : Atoms 𝓤) (W : Given
                 owned ! u32 (Is u32) (uint-makes 𝓤 H A W w32) m _ (refl, is₁ .1) $ move ! (1 ∷ 0 ∷ 3 ∷ []) $
                 elem-put ! u32 fullShare (tab (t .0)) (t .0) m (vint w32 m ∷ []) b o (within (t .0) l) $ move ! (1 ∷ []) $ drop ! $
                 rewrite ! 0 (λ (zs : List ℕ). ‵ (row u32 fullShare zs b o)) (take-next (t .0) l m e) refl $
-                -- [the row; the token; the fractured borrow; i; the test; the number; 12 * i; its place; the record; 4 * i; its place; _1; …]
-                assigns-last ! (bin ! (load ! (from ! (stop !)) (look ! 3 refl)) (lit ! tt) (record { fits = omega arith })) (from ! (stop !))
+                -- [the row; the token; the fractured borrow; i; the test; the number; 12 * i; its place; the record; 4 * i; …]
+                assigns-last ! (bin ! (load ! (from ! (stop !)) (look ! 3 refl)) (lit ! tt) (record { fits = omega arith }))
+                (from ! (stop !))
                 (store ! 3 refl (tt, record { fits = omega arith })) $
-                forget ! 4 refl $ forget ! 5 refl $ forget ! 6 refl $ forget ! 7 refl $ forget ! 8 refl $ forget ! 9 refl $ forget ! 10 refl $
+                forget ! 4 refl $ forget ! 5 refl $ forget ! 6 refl $ forget ! 7 refl $ forget ! 8 refl $ forget ! 9 refl $
+                forget ! 10 refl $
                 move ! (0 ∷ 3 ∷ 4 ∷ 5 ∷ 6 ∷ 7 ∷ 8 ∷ 9 ∷ 10 ∷ 2 ∷ 1 ∷ []) $
                 again ! Less (At l₀ l₁ l₂ l₃ l₄ l₅ l₆ l₇ l₈ l₉ l₁₀ l₁₁) t (t .0 + 1, omega arith) (omega arith))))))))
           ]) (0, omega arith)))))))))))))
