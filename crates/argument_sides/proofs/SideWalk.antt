@@ -15,8 +15,10 @@ use Rattle.expression.specs.Places.{shortAt}
 use Rattle.expression.specs.Nodes.{childrenOf, OfTree}
 use Rattle.expression.specs.Heads.{HeadIs}
 use Rattle.expression.specs.declared.heads.Head.{Head}
-use Rattle.argument_sides.specs.Frames.{Over, OverAll, Framed, OfFrame, FramedAll, OfFrameAll, FramedTwo, OfFrameTwo}
+use Rattle.argument_sides.specs.Frames.{Over, OverAll, Framed, OfFrame, FramedAll, OfFrameAll, OverTwo, FramedTwo, OfFrameTwo}
 use Rattle.terms.specs.Sides.{joinSide}
+use Rattle.node_rows.specs.Rows.{Begin, TwoTabled, OfTwo, TwoAre}
+use Rattle.node_rows.specs.declared.pairs.Two.{Two}
 use Rattle.argument_sides.specs.Sides.{argumentSide, order, see, seeAll, sidesIn, SideIs, SidesAre, ArgumentIs, GeometriesAre}
 use Rattle.terms.specs.declared.sides.JoinSide.{JoinSide}
 use Rattle.argument_sides.specs.declared.sides.Sides.{Sides}
@@ -126,15 +128,29 @@ argument-is {records = records} {t = t} r saw = record {
 
 -- ---- two arguments in a row
 
-module _ {s : List ℕ} {rec at : ℕ} where
-  pub second-framed : FramedTwo s rec at → (a : Argument) → OfFrame s rec at (ArgumentIs at a) → Framed s rec (a .end)
-  second-framed p a is = (p .0, p .2, subst (λ (q : ℕ). Over s rec q (p .0) (p .2)) (sym (is (p .0) (p .1) (p .3 .one) .end)) (p .3 .two))
+-- They are in the rows, and stand where these say.
+module _ {s : List ℕ} {rec at i : ℕ} {numbers next : List ℕ} (tabled : OfFrameTwo s rec at (λ records. Begin numbers next at i)) where
+  pub two-tabled : FramedTwo s rec at → TwoTabled numbers next i
+  two-tabled p = let begin = tabled (p .0) (p .1) (p .2) (p .3) in (at, p .1, p .2, begin .0, begin .1)
 
-  pub geometries-are : (a b : Argument) → OfFrame s rec at (ArgumentIs at a) → OfFrame s rec (a .end) (ArgumentIs (a .end) b)
-      → (o : Order) → order o ≡ orderOf (argumentSide (a .side)) (argumentSide (b .side))
-      → OfFrameTwo s rec at (GeometriesAre at (record { second = a .end; end = b .end; order = o }))
-  geometries-are a b one two o e records x y over =
-      let first : ArgumentIs at a records x = one records x (over .one) in
-      let second : ArgumentIs (a .end) b records y =
-      two records y (subst (λ (q : ℕ). Over s rec q records y) (sym (first .end)) (over .two)) in
-      record { second = first .end; end = second .end; order = e ∙ ap₂ orderOf (first .side) (second .side) }
+  module _ {two : Two} (told : OfTwo numbers next i (TwoAre i two)) where
+    places : {records : List Record} {x y : Expr} → OverTwo s rec at records x y → TwoAre i two at x y
+    places {records} {x} {y} over = let begin = tabled records x y over in told at x y (begin .0) (begin .1)
+
+    second-over : {records : List Record} {x y : Expr} → OverTwo s rec at records x y → Over s rec (two .middle) records y
+    second-over {records} {x} {y} over = subst (λ (q : ℕ). Over s rec q records y) (sym (places over .middle)) (over .two)
+
+    pub second-framed : FramedTwo s rec at → Framed s rec (two .middle)
+    second-framed p = (p .0, p .2, second-over (p .3))
+
+    pub geometries-are : (a b : Argument) → OfFrame s rec at (ArgumentIs at a) → OfFrame s rec (two .middle) (ArgumentIs (two .middle) b)
+        → (o : Order) → order o ≡ orderOf (argumentSide (a .side)) (argumentSide (b .side))
+        → OfFrameTwo s rec at (GeometriesAre at (record { second = two .middle; end = two .end; order = o }))
+    geometries-are a b one other o e records x y over =
+        let first : ArgumentIs at a records x = one records x (over .one) in
+        let second : ArgumentIs (two .middle) b records y = other records y (second-over over) in
+        record {
+          second = places over .middle;
+          end = places over .end ∙ ap (λ (q : ℕ). q + length (exprBytes y)) (sym (places over .middle));
+          order = e ∙ ap₂ orderOf (first .side) (second .side);
+        }

@@ -7,10 +7,12 @@ ghost use lib.ListN.{length, getD};
 ghost use Rattle.definitions.specs.Decode.{sideNumbered};
 ghost use Rattle.definitions.specs.Match.{sameSide, isSide, orderOf};
 ghost use Rattle.terms.specs.Sides.{joinSide};
+ghost use Rattle.node_rows.specs.Rows.{Begin};
 ghost use Rattle.argument_sides.specs.Frames.{Framed, OfFrame, FramedAll, OfFrameAll, FramedTwo, OfFrameTwo};
 ghost use Rattle.argument_sides.specs.Sides.{argumentSide, order, see, SideIs, SidesAre, ArgumentIs, GeometriesAre};
 use expression::fields::short_at;
 use expression::heads::head_at;
+use node_rows::pairs::two_at;
 use terms::sides::JoinSide;
 use terms::sides::side_number;
 use terms::sides::side_numbered;
@@ -152,17 +154,25 @@ pub fn resolve_column_reference_sides(first: Argument, second: Argument) -> Orde
     Order::Neither
 }
 
-// The geometries at a place and after it, each walked once.
-pub fn resolve_geometries(s: &[u8], rec: usize, at: usize) -> Geometries
+// The geometries at a place and after it, the first of which has index i. Where they end is read from the rows.
+pub fn resolve_geometries(
+    s: &[u8],
+    rec: usize,
+    at: usize,
+    numbers: &[u32],
+    next: &[u16],
+    i: usize,
+) -> Geometries
     requires { ⌜ FramedTwo (now s) rec at ⌝ }
+    requires { ⌜ OfFrameTwo (now s) rec at (λ records. Begin (now numbers) (now next) at i) ⌝ }
     ensures { λ r. ⌜ OfFrameTwo (now (s .entry)) rec at (GeometriesAre at r) ⌝ }
 {
+    let two = two_at(numbers, next, i);
     let first = side_of_column_references(s, rec, at);
-    let next = first.end;
-    let second = side_of_column_references(s, rec, next);
+    let second = side_of_column_references(s, rec, two.middle);
     Geometries {
-        second: next,
-        end: second.end,
+        second: two.middle,
+        end: two.end,
         order: resolve_column_reference_sides(first, second),
     }
 }

@@ -1,5 +1,5 @@
 -- What each return of `match_distance_predicate` answers, and what its calls require.
-use Prim.Native.Nat.{ℕ, _+_}
+use Prim.Native.Nat.{ℕ}
 use native.Mathlib.Omega.{arith}
 use mathlib.Core.Path.{_≡_, refl, sym, ap, ap₂, _∙_}
 use mathlib.Core.Bool.{false}
@@ -8,11 +8,10 @@ use mathlib.Core.Option.{Option, none, some}
 use lib.ListN.{length}
 use Rattle.definitions.specs.Expression.{Expr, Record, Predicate, distance}
 use Rattle.sedona_query_planner.specs.Predicates.{onChildren, ArgumentAt}
-use Rattle.definitions.specs.Encode.{exprBytes}
 use Rattle.definitions.specs.Decode.{indexBelow}
 use Rattle.definitions.specs.Match as definition
 use Rattle.definitions.specs.Match.{request, sideOf, orderOf, onChild, boundOn, storeDistance, matchDistance, matchRequest, matchLeaf}
-use Rattle.expression.specs.Nodes.{Stands, OfTree, OfTreeIn}
+use Rattle.expression.specs.Nodes.{Spans, OfTreeIn}
 use Rattle.sedona_expr.specs.Parsed as parsed
 use Rattle.sedona_expr.specs.Parsed.{ParsedIs}
 use Rattle.sedona_expr.specs.declared.utils.ParsedDistancePredicate.{ParsedDistancePredicate}
@@ -85,34 +84,29 @@ module _ {s : List ℕ} {at : ℕ} {p : ParsedDistancePredicate} where
       → Framed s rec (p .arg0) × Framed s rec (p .arg1) × Framed s rec (p .«arg_distance»)
   arguments-framed is f =
       let d = is _ _ (f .2 .tree) in (
-        (f .0, d .a, record { entries = f .2 .entries; tree = d .arg0 }),
-        (f .0, d .b, record { entries = f .2 .entries; tree = d .arg1 }),
-        (f .0, d .bound, record { entries = f .2 .entries; tree = d .argDistance }),
+        (f .0, d .a, record { entries = f .2 .entries; tree = d .arg0 .stands }),
+        (f .0, d .b, record { entries = f .2 .entries; tree = d .arg1 .stands }),
+        (f .0, d .bound, record { entries = f .2 .entries; tree = d .argDistance .stands }),
       )
 
 -- What is known once the arguments are read.
-pub record Walked (s : List ℕ) (rec at : ℕ) (p : ParsedDistancePredicate) (x y d : Argument) (end : ℕ) : Type 0 where
+pub record Walked (s : List ℕ) (rec at : ℕ) (p : ParsedDistancePredicate) (x y d : Argument) : Type 0 where
   pub asked : Parses s at p
   pub first : OfFrame s rec (p .arg0) (ArgumentIs (p .arg0) x)
   pub second : OfFrame s rec (p .arg1) (ArgumentIs (p .arg1) y)
   pub limit : OfFrame s rec (p .«arg_distance») (ArgumentIs (p .«arg_distance») d)
-  pub ends : OfTree s at (λ t. end ≡ at + length (exprBytes t))
 
-module _ {s : List ℕ} {rec at : ℕ} {p : ParsedDistancePredicate} {x y d : Argument} {end : ℕ} (w : Walked s rec at p x y d end)
+module _ {s : List ℕ} {rec at : ℕ} {p : ParsedDistancePredicate} {x y d : Argument} (w : Walked s rec at p x y d)
     {records : List Record} {t : Expr} (over : Over s rec at records t) where
   -- What the walk of an argument says of it.
-  spans : (q : ℕ) {e : Expr} (a : Argument) → OfFrame s rec q (ArgumentIs q a) → Stands (indexBelow (length records)) s q e
-      → ArgumentAt (onChildren records) s q (a .end) e × (sideOf records e ≡ argumentSide (a .side))
-  spans q {e} a told stands =
-      let here : Over s rec q records e = record { entries = over .entries; tree = stands } in
-      let known : ArgumentIs q a records e = told records e here in
-      (record { stands = stands; ends = known .end }, sym (known .side))
+  spans : (q : ℕ) {end : ℕ} {e : Expr} (a : Argument) → OfFrame s rec q (ArgumentIs q a) → Spans (indexBelow (length records)) s q end e
+      → ArgumentAt (onChildren records) s q end e × (sideOf records e ≡ argumentSide (a .side))
+  spans q {e = e} a told it =
+      let here : Over s rec q records e = record { entries = over .entries; tree = it .stands } in
+      (record { stands = it .stands; ends = it .ends }, sym (told records e here .side))
 
   it : parsed.Distance (indexBelow (length records)) s p (request t)
   it = w .asked _ t (over .tree)
-
-  ended : end ≡ at + length (exprBytes t)
-  ended = w .ends (indexBelow (length records)) t (over .tree)
 
   distance-match : matchLeaf records t
       ≡ matchDistance records (p .form) (onChild records (it .a)) (onChild records (it .b)) (it .bound) (argumentSide (d .side))
@@ -123,8 +117,8 @@ module _ {s : List ℕ} {rec at : ℕ} {p : ParsedDistancePredicate} {x y d : Ar
       (spans _ d (w .limit) (it .argDistance) .1) (ap₂ orderOf (spans _ x (w .first) (it .arg0) .1) (spans _ y (w .second) (it .arg1) .1))
 
   pub distance-undefined : (z : DistanceSide) → z ≡ distanceSide (d .side) → z ≡ Undefined
-      → LeafMatching isDistance s rec at (Unmatched end) records t
-  distance-undefined z k e = (distance-match ∙ undefined-match _ _ _ _ _ (d .side) _ (sym e ∙ k), ended)
+      → LeafMatching isDistance s rec Unmatched records t
+  distance-undefined z k e = distance-match ∙ undefined-match _ _ _ _ _ (d .side) _ (sym e ∙ k)
 
   module _ (z : DistanceSide) (k : z ≡ distanceSide (d .side)) (side : JoinSide) (is : z ≡ Known side) (o : Order)
       (lie : order o ≡ orderOf (argumentSide (x .side)) (argumentSide (y .side))) where
@@ -135,9 +129,9 @@ module _ {s : List ℕ} {rec at : ℕ} {p : ParsedDistancePredicate} {x y d : Ar
         ∙ ap (storeDistance (p .form) (joinSide side) (onChild records (it .a)) (onChild records (it .b))
         (boundOn records (joinSide side) (it .bound))) (sym lie ∙ ap order e)
 
-    pub distance-neither : o ≡ Neither → LeafMatching isDistance s rec at (Unmatched end) records t
+    pub distance-neither : o ≡ Neither → LeafMatching isDistance s rec Unmatched records t
     unfolding storeDistance
-    distance-neither e = (known-match Neither e, ended)
+    distance-neither e = known-match Neither e
 
     -- Two geometries in their places, and the bound.
     abbrev distanceAt : (left leftEnd right rightEnd : ℕ) → SpatialPredicate
@@ -147,7 +141,7 @@ module _ {s : List ℕ} {rec at : ℕ} {p : ParsedDistancePredicate} {x y d : Ar
       right = right;
       «right_end» = rightEnd;
       distance = p .«arg_distance»;
-      «distance_end» = d .end;
+      «distance_end» = p .«distance_end»;
       «distance_side» = side;
       form = p .form;
     })
@@ -156,25 +150,23 @@ module _ {s : List ℕ} {rec at : ℕ} {p : ParsedDistancePredicate} {x y d : Ar
         → ArgumentAt (onChildren records) s right rightEnd r
         → matchLeaf records t
         ≡ some (distance (p .form) (joinSide side) (onChild records l) (onChild records r) (boundOn records (joinSide side) (it .bound)))
-        → LeafMatching isDistance s rec at (Matched (distanceAt left leftEnd right rightEnd) end) records t
+        → LeafMatching isDistance s rec (Matched (distanceAt left leftEnd right rightEnd)) records t
     unfolding isDistance boundOn
-    stored {l} {r} a b m = (
-      record {
-        q = distance (p .form) (joinSide side) (onChild records l) (onChild records r) (boundOn records (joinSide side) (it .bound));
-        is = m;
-        passes = refl;
-        stands =
-            record { l = l; r = r; bound = it .bound; left = a; right = b; limit = spans _ d (w .limit) (it .argDistance) .0; is = refl };
-      },
-      ended,
-    )
+    stored {l} {r} a b m =
+        record {
+          q = distance (p .form) (joinSide side) (onChild records l) (onChild records r) (boundOn records (joinSide side) (it .bound));
+          is = m;
+          passes = refl;
+          stands =
+              record { l = l; r = r; bound = it .bound; left = a; right = b; limit = spans _ d (w .limit) (it .argDistance) .0; is = refl };
+        }
 
     pub distance-left : o ≡ LeftRight
-        → LeafMatching isDistance s rec at (Matched (distanceAt (p .arg0) (x .end) (p .arg1) (y .end)) end) records t
+        → LeafMatching isDistance s rec (Matched (distanceAt (p .arg0) (p .arg1) (p .arg1) (p .«arg1_end»))) records t
     unfolding storeDistance
     distance-left e = stored (spans _ x (w .first) (it .arg0) .0) (spans _ y (w .second) (it .arg1) .0) (known-match LeftRight e)
 
     pub distance-right : o ≡ RightLeft
-        → LeafMatching isDistance s rec at (Matched (distanceAt (p .arg1) (y .end) (p .arg0) (x .end)) end) records t
+        → LeafMatching isDistance s rec (Matched (distanceAt (p .arg1) (p .«arg1_end») (p .arg0) (p .arg1))) records t
     unfolding storeDistance
     distance-right e = stored (spans _ y (w .second) (it .arg1) .0) (spans _ x (w .first) (it .arg0) .0) (known-match RightLeft e)

@@ -1,11 +1,10 @@
 -- What each return of `match_knn_predicate` answers.
-use Prim.Native.Nat.{ℕ, _+_, _-_, _≤_, _<_}
+use Prim.Native.Nat.{ℕ, _-_, _≤_, _<_}
 use native.Mathlib.Omega.{arith}
 use mathlib.Core.Path.{_≡_, refl, sym, ap, _∙_}
 use mathlib.Core.Bool.{Bool, true}
 use mathlib.Core.List.{List}
 use mathlib.Core.Option.{none, some}
-use lib.ListN.{length}
 use Rattle.definitions.specs.Basics.{ascii, sameName}
 use Rattle.definitions.specs.Expression.{Expr, call, Exprs, nil, cons, count, Record, knn}
 use Rattle.definitions.specs.Match.{askNothing, knnRequest, callRequest, request, onChild, boundOn, matchKnn, matchRequest, matchLeaf}
@@ -25,7 +24,6 @@ use Rattle.argument_sides.specs.declared.sides.Order.{Order}
 use Rattle.argument_sides.specs.declared.sides.Order.the-variants.{LeftRight, RightLeft, Neither}
 use Rattle.expression.specs.Places.{part}
 use Rattle.expression.specs.declared.leaves.Called.{Called}
-use Rattle.definitions.specs.Encode.{exprsBytes}
 use Rattle.terms.specs.declared.sides.JoinSide.{JoinSide}
 use Rattle.argument_sides.specs.declared.sides.Geometries.{Geometries}
 use Rattle.sedona_query_planner.specs.declared.spatial_predicate.TieBreakers.{TieBreakers}
@@ -34,7 +32,7 @@ use Rattle.sedona_query_planner.specs.declared.spatial_predicate.SpatialPredica
 use Rattle.leaf_matching.specs.declared.knn.KnnOptions.{KnnOptions}
 use Rattle.leaf_matching.specs.declared.knn.KnnOptions.the-variants as options
 use Rattle.leaf_matching.proofs.Asked.{none-lacks}
-use Rattle.leaf_matching.proofs.MatchLaws.{Pair, call-pair, pair-ends, named}
+use Rattle.leaf_matching.proofs.MatchLaws.{Pair, call-pair, named}
 
 -- ---- a function of this name
 
@@ -84,28 +82,24 @@ knnAt at g k spheroid side ties = KNearestNeighbors (record {
 })
 
 -- What is known once the geometries and the options are read.
-pub record Walked (s : List ℕ) (rec : ℕ) (k : Called) (g : Geometries) (read : KnnOptions) (end : ℕ) : Type 0 where
+pub record Walked (s : List ℕ) (rec : ℕ) (k : Called) (g : Geometries) (read : KnnOptions) : Type 0 where
   pub same : true ≡ sameName (part s (k .name) (k .end)) (ascii "st_knn")
   pub enough : 2 ≤ k .count
   pub geometries : OfFrameTwo s rec (k .first) (GeometriesAre (k .first) g)
   pub options : OfTrees s (g .end) (k .count - 2) (OptionsAre read)
-  pub ends : OfTrees s (g .end) (k .count - 2) (λ ts. end ≡ g .end + length (exprsBytes ts))
 
-module _ {s : List ℕ} {rec : ℕ} {k : Called} {g : Geometries} {read : KnnOptions} {end : ℕ} (w : Walked s rec k g read end)
+module _ {s : List ℕ} {rec : ℕ} {k : Called} {g : Geometries} {read : KnnOptions} (w : Walked s rec k g read)
     {records : List Record} {name : List ℕ} {ts : Exprs} (over : CallOver s rec k records name ts) where
   pair : Pair s rec (k .first) (k .count) records g ts
   pair = call-pair g (w .geometries) (w .enough) ts over
-
-  ended : end ≡ k .first + length (exprsBytes ts)
-  ended = pair-ends g ts pair end (w .ends)
 
   knn-asks : matchLeaf records (call name ts) ≡ matchRequest records (asked read (pair .a) (pair .b))
   knn-asks = knn-leaf records name ts (named over true (ascii "st_knn") (w .same))
       ∙ ap (matchRequest records) (ap knnRequest (pair .is) ∙ w .options _ (pair .more) (pair .rest) (pair .a) (pair .b))
 
-  pub knn-unread : read ≡ options.Nothing → CallMatching isKnn s rec k (Unmatched end) records name ts
+  pub knn-unread : read ≡ options.Nothing → CallMatching isKnn s rec Unmatched records name ts
   unfolding matchRequest
-  knn-unread e = (knn-asks ∙ ap (λ (o : KnnOptions). matchRequest records (asked o (pair .a) (pair .b))) e, ended)
+  knn-unread e = knn-asks ∙ ap (λ (o : KnnOptions). matchRequest records (asked o (pair .a) (pair .b))) e
 
   module _ (n : ℕ) (spheroid : Bool) (ties : TieBreakers) (e : read ≡ options.Read n spheroid ties) where
     knn-match : (o : Order) → g .order ≡ o → matchLeaf records (call name ts)
@@ -115,9 +109,9 @@ module _ {s : List ℕ} {rec : ℕ} {k : Called} {g : Geometries} {read : KnnOpt
         ∙ ap (matchKnn n (flag spheroid) (tiesNumber ties) (onChild records (pair .a)) (onChild records (pair .b)))
         (sym (pair .lie) ∙ ap order f)
 
-    pub knn-neither : g .order ≡ Neither → CallMatching isKnn s rec k (Unmatched end) records name ts
+    pub knn-neither : g .order ≡ Neither → CallMatching isKnn s rec Unmatched records name ts
     unfolding matchKnn
-    knn-neither f = (knn-match Neither f, ended)
+    knn-neither f = knn-match Neither f
 
     -- The first geometry's side is the probe side.
     knn-matched : (side : JoinSide)
@@ -125,23 +119,31 @@ module _ {s : List ℕ} {rec : ℕ} {k : Called} {g : Geometries} {read : KnnOpt
         ≡ some (knn n (flag spheroid) (joinSide side) (tiesNumber ties) (onChild records (pair .a)) (onChild records (pair .b)))
         → ((e : Expr) → (boundOn records (joinSide side) e ≡ onChild records e)
         × (boundOn records (negate (joinSide side)) e ≡ onChild records e))
-        → CallMatching isKnn s rec k (Matched (knnAt (k .first) g n spheroid side ties) end) records name ts
+        → CallMatching isKnn s rec (Matched (knnAt (k .first) g n spheroid side ties)) records name ts
     unfolding isKnn
-    knn-matched side m on = (
-      record {
-        q = knn n (flag spheroid) (joinSide side) (tiesNumber ties) (onChild records (pair .a)) (onChild records (pair .b));
-        is = m;
-        passes = refl;
-        stands = record { l = pair .a; r = pair .b; left = pair .first; right = pair .second; is = rw (on (pair .a) .0, on (pair .b) .1) };
-      },
-      ended,
-    )
+    knn-matched side m on =
+        record {
+          q = knn n (flag spheroid) (joinSide side) (tiesNumber ties) (onChild records (pair .a)) (onChild records (pair .b));
+          is = m;
+          passes = refl;
+          stands = record {
+            l = pair .a;
+            r = pair .b;
+            left = pair .first;
+            right = pair .second;
+            is = rw (
+              on (pair .a) .0,
+              on
+                  (pair .b) .1,
+            );
+          };
+        }
 
-    pub knn-left : g .order ≡ LeftRight → CallMatching isKnn s rec k (Matched (knnAt (k .first) g n spheroid Left ties) end) records name ts
+    pub knn-left : g .order ≡ LeftRight → CallMatching isKnn s rec (Matched (knnAt (k .first) g n spheroid Left ties)) records name ts
     unfolding matchKnn boundOn negate
     knn-left f = knn-matched Left (knn-match LeftRight f) (λ e. (refl, refl))
 
     pub knn-right : g .order ≡ RightLeft
-        → CallMatching isKnn s rec k (Matched (knnAt (k .first) g n spheroid Right ties) end) records name ts
+        → CallMatching isKnn s rec (Matched (knnAt (k .first) g n spheroid Right ties)) records name ts
     unfolding matchKnn boundOn negate
     knn-right f = knn-matched Right (knn-match RightLeft f) (λ e. (refl, refl))

@@ -1,23 +1,26 @@
--- Laws of matching: two geometries of a function, where it ends, and requests that ask for no predicate of a kind.
+-- Laws of matching: two geometries of a function, and requests that ask for no predicate of a kind.
 use Prim.Native.Nat.{ℕ, _+_, _-_, _≤_}
 use native.Mathlib.Omega.{arith}
 use mathlib.Core.Path.{_≡_, refl, sym, ap, _∙_, subst}
 use mathlib.Core.Bool.{Bool}
 use mathlib.Core.List.{List}
-use lib.ListN.{length, length-append}
+use lib.ListN.{length}
 use Rattle.definitions.specs.Basics.{sameName}
 use Rattle.definitions.specs.Expression.{Expr, Exprs, cons, count, Record}
-use Rattle.definitions.specs.Encode.{exprBytes, exprsBytes}
+use Rattle.definitions.specs.Encode.{exprBytes}
 use Rattle.definitions.specs.Decode.{indexBelow}
 use Rattle.definitions.specs.Match.{sideOf, orderOf}
 use Rattle.expression.specs.Places.{part}
-use Rattle.expression.specs.Nodes.{Row, Trees, OfTrees}
+use Rattle.expression.specs.Nodes.{Row, Trees}
 use Rattle.expression.specs.declared.leaves.Called.{Called}
 use Rattle.argument_sides.specs.Frames.{Over, OverAll, OverTwo, FramedTwo, OfFrameTwo, CallOver, CallFramed}
 use Rattle.argument_sides.specs.Sides.{order, GeometriesAre}
 use Rattle.sedona_query_planner.specs.Predicates.{onChildren, ArgumentAt}
 use Rattle.argument_sides.specs.declared.sides.Geometries.{Geometries}
 use Rattle.argument_sides.proofs.Framing.{first-over, rest-over}
+use Rattle.expression.specs.Leaves.{OfCall}
+use Rattle.node_rows.specs.Rows.{TabledAll, Begin}
+use Rattle.node_rows.proofs.IndexLaws.{two-begin}
 use Rattle.expression.proofs.Parts.{two-of}
 
 -- ---- the first two arguments of a function
@@ -59,14 +62,6 @@ module _ {s : List ℕ} {rec at n : ℕ} {records : List Record} where
   pair-over g is h arguments o = two-of (λ ts. OverAll s rec at n records ts → Pair s rec at n records g ts)
       (λ a b more o. pair-row g is h a b more o) arguments (omega (arith, o .row .counted)) o
 
-  -- What follows them ends where the arguments do.
-  pub pair-ends : (g : Geometries) (arguments : Exprs) (pair : Pair s rec at n records g arguments) (end : ℕ)
-      → OfTrees s (g .end) (n - 2) (λ ts. end ≡ g .end + length (exprsBytes ts)) → end ≡ at + length (exprsBytes arguments)
-  unfolding exprsBytes
-  pair-ends g arguments pair end is =
-      rw (pair .is) (simp (length-append, length-append)
-      (omega (arith, is _ (pair .more) (pair .rest), pair .first .ends, pair .second .ends)))
-
 module _ {s : List ℕ} {rec : ℕ} {k : Called} where
   arguments-over : {records : List Record} {name : List ℕ} {arguments : Exprs} → CallOver s rec k records name arguments
       → OverAll s rec (k .first) (k .count) records arguments
@@ -81,6 +76,16 @@ module _ {s : List ℕ} {rec : ℕ} {k : Called} where
   pub pair-framed : CallFramed s rec k → 2 ≤ k .count → FramedTwo s rec (k .first)
   pair-framed p h = two-of (λ ts. OverAll s rec (k .first) (k .count) (p .0) ts → FramedTwo s rec (k .first))
       (λ a b ts o. (p .0, a, b, two-over h o)) (p .2) (omega (arith, p .3 .stands .row .counted)) (arguments-over (p .3))
+
+  -- Both are in the rows.
+  pub pair-begins : {numbers next : List ℕ} {i : ℕ} → CallFramed s rec k → 2 ≤ k .count
+      → OfCall s k (λ c name. TabledAll numbers next (k .first) i) → OfFrameTwo s rec (k .first) (λ records. Begin numbers next
+      (k .first) i)
+  pair-begins {numbers} {next} {i} p h tabled = two-of
+      (λ ts. Row (indexBelow (length (p .0))) s (k .first) (k .count) ts → TabledAll numbers next (k .first) i ts
+      → OfFrameTwo s rec (k .first) (λ records. Begin numbers next (k .first) i))
+      (λ a b more row held records l r over. two-begin h row held (indexBelow (length records)) l r (over .one .tree) (over .two .tree))
+      (p .2) (omega (arith, p .3 .stands .row .counted)) (p .3 .stands .row) (tabled _ (p .1) (p .2) (p .3 .stands))
 
   pub rest-trees : CallFramed s rec k → 2 ≤ k .count → (g : Geometries) → OfFrameTwo s rec (k .first) (GeometriesAre (k .first) g)
       → Trees s (g .end) (k .count - 2)

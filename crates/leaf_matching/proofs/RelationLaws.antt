@@ -1,20 +1,17 @@
 -- What each return of `match_relation_predicate` answers.
-use Prim.Native.Nat.{ℕ, _+_, _-_, _≤_, _<_}
+use Prim.Native.Nat.{ℕ, _≤_, _<_}
 use native.Mathlib.Omega.{arith}
 use mathlib.Core.Path.{_≡_, refl, sym, ap, _∙_}
 use mathlib.Core.Bool.{Bool, true, false}
 use mathlib.Core.List.{List}
 use mathlib.Core.Option.{none, some, Option·none-ne-some}
-use lib.ListN.{length}
 use Rattle.definitions.specs.Basics.{ascii, sameName, any}
 use Rattle.definitions.specs.Expression.{relations, call, Exprs, nil, cons, count, Record, relation}
 use Rattle.definitions.specs.Expression as definition
-use Rattle.definitions.specs.Encode.{exprsBytes}
 use Rattle.definitions.specs.Leaves.{typeNamed, relationNamed}
 use Rattle.definitions.specs.Match.{relationRequest, callRequest, request, askNothing, invert, onChild, boundOn, matchRelation, matchRequest, matchLeaf}
 use Rattle.theorems.proofs.Requests.{same-name}
 use Rattle.expression.specs.Places.{part}
-use Rattle.expression.specs.Nodes.{OfTrees}
 use Rattle.expression.specs.declared.leaves.Called.{Called}
 use Rattle.sedona_query_planner.specs.Relations.{relationOf}
 use Rattle.sedona_query_planner.specs.declared.spatial_predicate.SpatialRelationType.{SpatialRelationType}
@@ -28,7 +25,7 @@ use Rattle.sedona_query_planner.specs.declared.spatial_predicate.SpatialPredica
 use Rattle.sedona_query_planner.specs.declared.spatial_predicate.SpatialPredicate.the-variants.{Relation}
 use Rattle.leaf_matching.specs.declared.matching.Matching.the-variants.{Matched, Unmatched}
 use Rattle.leaf_matching.proofs.Asked.{none-lacks}
-use Rattle.leaf_matching.proofs.MatchLaws.{Pair, call-pair, pair-ends}
+use Rattle.leaf_matching.proofs.MatchLaws.{Pair, call-pair}
 
 -- ---- a function with a relation name
 
@@ -69,19 +66,15 @@ relationAt left leftEnd right rightEnd type = Relation (record {
 })
 
 -- What is known once the geometries are read.
-pub record Walked (s : List ℕ) (rec : ℕ) (k : Called) (g : Geometries) (type : SpatialRelationType) (end : ℕ) : Type 0 where
+pub record Walked (s : List ℕ) (rec : ℕ) (k : Called) (g : Geometries) (type : SpatialRelationType) : Type 0 where
   pub named : relationNamed (part s (k .name) (k .end)) ≡ some (relationOf type)
   pub enough : 2 ≤ k .count
   pub geometries : OfFrameTwo s rec (k .first) (GeometriesAre (k .first) g)
-  pub ends : OfTrees s (g .end) (k .count - 2) (λ ts. end ≡ g .end + length (exprsBytes ts))
 
-module _ {s : List ℕ} {rec : ℕ} {k : Called} {g : Geometries} {type : SpatialRelationType} {end : ℕ} (w : Walked s rec k g type end)
+module _ {s : List ℕ} {rec : ℕ} {k : Called} {g : Geometries} {type : SpatialRelationType} (w : Walked s rec k g type)
     {records : List Record} {name : List ℕ} {ts : Exprs} (over : CallOver s rec k records name ts) where
   pair : Pair s rec (k .first) (k .count) records g ts
   pair = call-pair g (w .geometries) (w .enough) ts over
-
-  ended : end ≡ k .first + length (exprsBytes ts)
-  ended = pair-ends g ts pair end (w .ends)
 
   relation-match : (o : Order) → g .order ≡ o
       → matchLeaf records (call name ts) ≡ matchRelation (relationOf type) (onChild records (pair .a)) (onChild records (pair .b)) (order o)
@@ -90,38 +83,34 @@ module _ {s : List ℕ} {rec : ℕ} {k : Called} {g : Geometries} {type : Spatia
       ∙ ap (λ (ts : Exprs). matchRequest records (relationRequest (some (relationOf type)) ts)) (pair .is)
       ∙ ap (matchRelation (relationOf type) (onChild records (pair .a)) (onChild records (pair .b))) (sym (pair .lie) ∙ ap order f)
 
-  pub relation-neither : g .order ≡ Neither → CallMatching isRelation s rec k (Unmatched end) records name ts
+  pub relation-neither : g .order ≡ Neither → CallMatching isRelation s rec Unmatched records name ts
   unfolding matchRelation
-  relation-neither f = (relation-match Neither f, ended)
+  relation-neither f = relation-match Neither f
 
   pub relation-left : g .order ≡ LeftRight
-      → CallMatching isRelation s rec k (Matched (relationAt (k .first) (g .second) (g .second) (g .end) type) end) records name ts
+      → CallMatching isRelation s rec (Matched (relationAt (k .first) (g .second) (g .second) (g .end) type)) records name ts
   unfolding matchRelation isRelation boundOn
-  relation-left f = (
-    record {
-      q = relation (relationOf type) (onChild records (pair .a)) (onChild records (pair .b));
-      is = relation-match LeftRight f;
-      passes = refl;
-      stands = record { l = pair .a; r = pair .b; left = pair .first; right = pair .second; is = refl };
-    },
-    ended,
-  )
+  relation-left f =
+      record {
+        q = relation (relationOf type) (onChild records (pair .a)) (onChild records (pair .b));
+        is = relation-match LeftRight f;
+        passes = refl;
+        stands = record { l = pair .a; r = pair .b; left = pair .first; right = pair .second; is = refl };
+      }
 
   pub relation-right : (inverse : SpatialRelationType) → relationOf inverse ≡ invert (relationOf type) → g .order ≡ RightLeft
-      → CallMatching isRelation s rec k (Matched (relationAt (g .second) (g .end) (k .first) (g .second) inverse) end) records name ts
+      → CallMatching isRelation s rec (Matched (relationAt (g .second) (g .end) (k .first) (g .second) inverse)) records name ts
   unfolding matchRelation isRelation boundOn
-  relation-right inverse i f = (
-    record {
-      q = relation (invert (relationOf type)) (onChild records (pair .b)) (onChild records (pair .a));
-      is = relation-match RightLeft f;
-      passes = refl;
-      stands = record {
-        l = pair .b;
-        r = pair .a;
-        left = pair .second;
-        right = pair .first;
-        is = ap (λ (t : definition.Relation). relation t (onChild records (pair .b)) (onChild records (pair .a))) (sym i);
-      };
-    },
-    ended,
-  )
+  relation-right inverse i f =
+      record {
+        q = relation (invert (relationOf type)) (onChild records (pair .b)) (onChild records (pair .a));
+        is = relation-match RightLeft f;
+        passes = refl;
+        stands = record {
+          l = pair .b;
+          r = pair .a;
+          left = pair .second;
+          right = pair .first;
+          is = ap (λ (t : definition.Relation). relation t (onChild records (pair .b)) (onChild records (pair .a))) (sym i);
+        };
+      }

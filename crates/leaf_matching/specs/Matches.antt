@@ -1,14 +1,11 @@
 -- What matching a leaf answers.
-use Prim.Native.Nat.{ℕ, _+_}
+use Prim.Native.Nat.{ℕ}
 use mathlib.Core.Path.{_≡_}
 use mathlib.Core.Bool.{Bool, true, false}
 use mathlib.Core.List.{List}
 use mathlib.Core.Option.{Option, none, some}
-use lib.ListN.{length}
 use Rattle.definitions.specs.Expression.{Expr, Exprs, call, Record, Predicate, relation, distance, knn}
-use Rattle.definitions.specs.Encode.{exprBytes, exprsBytes}
 use Rattle.definitions.specs.Match.{matchLeaf}
-use Rattle.expression.specs.declared.leaves.Called.{Called}
 use Rattle.sedona_query_planner.specs.Predicates.{onChildren, PredicateAt}
 use Rattle.sedona_query_planner.specs.declared.spatial_predicate.SpatialPredicate.{SpatialPredicate}
 use Rattle.leaf_matching.specs.declared.matching.Matching.{Matching}
@@ -39,19 +36,17 @@ pub record Matches (kind : Predicate → Bool) (s : List ℕ) (rec : ℕ) (recor
   pub passes : kind q ≡ true
   pub stands : PredicateAt (onChildren records) s p q
 
--- The answer for a leaf with this match that ends at this place.
-abbrev pub MatchingIs : (kind : Predicate → Bool) (s : List ℕ) (rec : ℕ) (records : List Record) (match : Option Predicate) (ending : ℕ)
+-- The answer for a leaf with this match.
+abbrev pub MatchingIs : (kind : Predicate → Bool) (s : List ℕ) (rec : ℕ) (records : List Record) (match : Option Predicate)
     → Matching → Type 0
-MatchingIs kind s rec records match ending (Matched p end) = Matches kind s rec records p match × (end ≡ ending)
-MatchingIs kind s rec records match ending (Unmatched end) = (match ≡ none) × (end ≡ ending)
-MatchingIs kind s rec records match ending NotAsked = Lacks kind match
+MatchingIs kind s rec records match (Matched p) = Matches kind s rec records p match
+MatchingIs kind s rec records match Unmatched = match ≡ none
+MatchingIs kind s rec records match NotAsked = Lacks kind match
 
--- The answer for the leaf at a place.
-abbrev pub LeafMatching : (kind : Predicate → Bool) (s : List ℕ) (rec at : ℕ) → Matching → (records : List Record) (leaf : Expr) → Type 0
-LeafMatching kind s rec at r records leaf = MatchingIs kind s rec records (matchLeaf records leaf) (at + length (exprBytes leaf)) r
+-- The answer for a leaf, and for one that is a function.
+abbrev pub LeafMatching : (kind : Predicate → Bool) (s : List ℕ) (rec : ℕ) → Matching → (records : List Record) (leaf : Expr) → Type 0
+LeafMatching kind s rec r records leaf = MatchingIs kind s rec records (matchLeaf records leaf) r
 
--- The answer for a function, which ends where its arguments do.
-abbrev pub CallMatching : (kind : Predicate → Bool) (s : List ℕ) (rec : ℕ) (k : Called) → Matching
+abbrev pub CallMatching : (kind : Predicate → Bool) (s : List ℕ) (rec : ℕ) → Matching
     → (records : List Record) (name : List ℕ) (arguments : Exprs) → Type 0
-CallMatching kind s rec k r records name arguments =
-    MatchingIs kind s rec records (matchLeaf records (call name arguments)) (k .first + length (exprsBytes arguments)) r
+CallMatching kind s rec r records name arguments = LeafMatching kind s rec r records (call name arguments)

@@ -2,6 +2,8 @@
 // A port of `match_distance_predicate` of
 // rust/sedona-query-planner/src/spatial_expr_utils.rs.
 ghost use mathlib.Core.Path.{_≡_};
+ghost use Rattle.expression.specs.Nodes.{OfTree};
+ghost use Rattle.node_rows.specs.Rows.{Tabled};
 ghost use Rattle.argument_sides.specs.Frames.{Framed, OfFrame};
 ghost use Rattle.leaf_matching.specs.Matches.{isDistance, LeafMatching};
 ghost use Rattle.leaf_matching.specs.Distances.{distanceSide};
@@ -10,7 +12,6 @@ use argument_sides::sides::Order;
 use argument_sides::sides::Sides;
 use argument_sides::sides::resolve_column_reference_sides;
 use argument_sides::sides::side_of_column_references;
-use expression::ends::end_node;
 use sedona_expr::utils::Parsed;
 use sedona_expr::utils::parse_distance_predicate;
 use sedona_query_planner::spatial_predicate::DistancePredicate;
@@ -35,28 +36,35 @@ fn side_of_distance(of: Sides) -> DistanceSide
 }
 
 // The left geometry is stored first; the distance needs a defined side.
-pub fn match_distance_predicate(s: &[u8], rec: usize, at: usize) -> Matching
+pub fn match_distance_predicate(
+    s: &[u8],
+    rec: usize,
+    at: usize,
+    numbers: &[u32],
+    next: &[u16],
+    i: usize,
+) -> Matching
     requires { ⌜ Framed (now s) rec at ⌝ }
-    ensures { λ r. ⌜ OfFrame (now (s .entry)) rec at (LeafMatching isDistance (now (s .entry)) rec at r) ⌝ }
+    requires { ⌜ OfTree (now s) at (Tabled (now numbers) (now next) at i) ⌝ }
+    ensures { λ r. ⌜ OfFrame (now (s .entry)) rec at (LeafMatching isDistance (now (s .entry)) rec r) ⌝ }
 {
-    let Parsed::Distance(parsed) = parse_distance_predicate(s, at) else {
+    let Parsed::Distance(parsed) = parse_distance_predicate(s, at, numbers, next, i) else {
         return Matching::NotAsked;
     };
-    let end = end_node(s, at);
     let distance = side_of_column_references(s, rec, parsed.arg_distance);
     let arg0 = side_of_column_references(s, rec, parsed.arg0);
     let arg1 = side_of_column_references(s, rec, parsed.arg1);
     let columns = distance.side;
     let DistanceSide::Known(distance_side) = side_of_distance(columns) else {
-        return Matching::Unmatched(end);
+        return Matching::Unmatched;
     };
     let mut predicate = DistancePredicate {
         left: parsed.arg0,
-        left_end: arg0.end,
+        left_end: parsed.arg1,
         right: parsed.arg1,
-        right_end: arg1.end,
+        right_end: parsed.arg1_end,
         distance: parsed.arg_distance,
-        distance_end: distance.end,
+        distance_end: parsed.distance_end,
         distance_side,
         form: parsed.form,
     };
@@ -64,11 +72,11 @@ pub fn match_distance_predicate(s: &[u8], rec: usize, at: usize) -> Matching
         Order::LeftRight => {}
         Order::RightLeft => {
             predicate.left = parsed.arg1;
-            predicate.left_end = arg1.end;
+            predicate.left_end = parsed.arg1_end;
             predicate.right = parsed.arg0;
-            predicate.right_end = arg0.end;
+            predicate.right_end = parsed.arg1;
         }
-        Order::Neither => return Matching::Unmatched(end),
+        Order::Neither => return Matching::Unmatched,
     }
-    Matching::Matched(SpatialPredicate::Distance(predicate), end)
+    Matching::Matched(SpatialPredicate::Distance(predicate))
 }

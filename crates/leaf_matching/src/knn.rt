@@ -4,6 +4,8 @@
 ghost use Prim.Native.Nat.{_≤_};
 ghost use Rattle.definitions.specs.Extract.{isKnn};
 ghost use Rattle.expression.specs.Nodes.{Trees, OfTrees};
+ghost use Rattle.expression.specs.Leaves.{OfCall};
+ghost use Rattle.node_rows.specs.Rows.{TabledAll};
 ghost use Rattle.argument_sides.specs.Frames.{CallFramed, OfCallFrame};
 ghost use Rattle.leaf_matching.specs.Matches.{CallMatching};
 ghost use Rattle.leaf_matching.specs.KnnOptions.{FlagsAre, OptionsAre};
@@ -14,7 +16,6 @@ use argument_sides::literal_arguments::extract_literal_bool;
 use argument_sides::literal_arguments::extract_literal_k;
 use argument_sides::sides::Order;
 use argument_sides::sides::resolve_geometries;
-use expression::ends::end_children;
 use expression::leaves::Called;
 use expression::names::same_name;
 use sedona_query_planner::spatial_predicate::KNNPredicate;
@@ -72,9 +73,18 @@ fn knn_options(s: &[u8], at: usize, n: usize) -> KnnOptions
     }
 }
 
-pub fn match_knn_predicate(s: &[u8], rec: usize, called: Called) -> Matching
+// The first argument has index i.
+pub fn match_knn_predicate(
+    s: &[u8],
+    rec: usize,
+    called: Called,
+    numbers: &[u32],
+    next: &[u16],
+    i: usize,
+) -> Matching
     requires { ⌜ CallFramed (now s) rec called ⌝ }
-    ensures { λ r. ⌜ OfCallFrame (now (s .entry)) rec called (CallMatching isKnn (now (s .entry)) rec called r) ⌝ }
+    requires { ⌜ OfCall (now s) called (λ c name. TabledAll (now numbers) (now next) (called .first) i) ⌝ }
+    ensures { λ r. ⌜ OfCallFrame (now (s .entry)) rec called (CallMatching isKnn (now (s .entry)) rec r) ⌝ }
 {
     if !same_name(s, called.name, called.end, b"st_knn") {
         return Matching::NotAsked;
@@ -84,17 +94,16 @@ pub fn match_knn_predicate(s: &[u8], rec: usize, called: Called) -> Matching
     if count < 2 || 5 < count {
         return Matching::NotAsked;
     }
-    let geometries = resolve_geometries(s, rec, queries);
+    let geometries = resolve_geometries(s, rec, queries, numbers, next, i);
     let options = geometries.end;
-    let end = end_children(s, options, count - 2);
     let KnnOptions::Read(k, use_spheroid, ties) = knn_options(s, options, count - 2) else {
-        return Matching::Unmatched(end);
+        return Matching::Unmatched;
     };
     let order = geometries.order;
     let probe_side = match order {
         Order::LeftRight => JoinSide::Left,
         Order::RightLeft => JoinSide::Right,
-        Order::Neither => return Matching::Unmatched(end),
+        Order::Neither => return Matching::Unmatched,
     };
     let predicate = KNNPredicate {
         left: queries,
@@ -106,5 +115,5 @@ pub fn match_knn_predicate(s: &[u8], rec: usize, called: Called) -> Matching
         probe_side,
         include_tie_breakers: ties,
     };
-    Matching::Matched(SpatialPredicate::KNearestNeighbors(predicate), end)
+    Matching::Matched(SpatialPredicate::KNearestNeighbors(predicate))
 }

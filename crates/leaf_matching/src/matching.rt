@@ -1,9 +1,9 @@
 // What matching a leaf answers.
 use sedona_query_planner::spatial_predicate::SpatialPredicate;
 
-// Its predicate and where the leaf ends; only where it ends; or that the leaf asks for no predicate of this kind, and was not walked.
+// Its predicate; that it has none; or that it asks for none of this kind.
 pub enum Matching {
-    Matched(SpatialPredicate, usize),
-    Unmatched(usize),
+    Matched(SpatialPredicate),
+    Unmatched,
     NotAsked,
 }

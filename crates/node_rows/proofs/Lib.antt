@@ -1,6 +1,8 @@
 -- Laws that several proofs use.
 pub mod NumberLaws
 pub mod RowLaws
+pub mod IndexLaws
 pub mod CollectWalk
 pub mod FillLaws
 pub mod TableLaws
+pub mod OneTree

@@ -16,7 +16,8 @@ use Rattle.expression.proofs.Placed.{fits, first, front, back}
 use Rattle.expression.proofs.Placed as placed
 use Rattle.expression.proofs.Standing.{head-some, tree-length}
 use Rattle.node_rows.specs.Numbers.{number, startAt, endAt, numbersFrom, rowNumbers, nextsFrom, rowNexts}
-use Rattle.node_rows.specs.Rows.{Tabled, TabledAll}
+use Rattle.node_rows.specs.Rows.{Tabled, TabledAll, TwoAre}
+use Rattle.node_rows.specs.declared.pairs.Two.{Two}
 use Rattle.node_rows.proofs.NumberLaws.{Told, number-end, number-start}
 
 -- ---- a node and its children
@@ -173,3 +174,30 @@ module _ {numbers next : List ℕ} {at i : ℕ} where
           (back (nextsFrom i t) (rowNexts (i + nodes t) ts) row-after k (omega (arith, nexts-length i t)));
       short = omega (arith, size);
     }
+
+-- ---- two in a row
+
+module _ {numbers next : List ℕ} {at i : ℕ} {a b : Expr} {more : Exprs} (h : TabledAll numbers next at i (cons a (cons b more))) where
+  pub second-tabled : (k : ℕ) → k ≡ i + nodes a → Tabled numbers next (at + length (exprBytes a)) k b
+  second-tabled k e = tabled-first (tabled-rest h (at + length (exprBytes a)) k refl e)
+
+  pub two-are : (r : Two) → r .start ≡ startAt numbers i → r .middle ≡ endAt numbers i → (k : ℕ) → k ≡ getD next i 0
+      → r .end ≡ endAt numbers k → r .after ≡ getD next k 0 → TwoAre i r at a b
+  two-are r start middle k is end after =
+      let one : Tabled numbers next at i a = tabled-first h in
+      let two : Tabled numbers next (at + length (exprBytes a)) k b = second-tabled k (is ∙ tabled-next one) in
+      record {
+        start = start ∙ tabled-start one;
+        middle = middle ∙ tabled-end one;
+        end = end ∙ tabled-end two;
+        after = after ∙ tabled-next two ∙ ap (λ (n : ℕ). n + nodes b) (is ∙ tabled-next one);
+      }
+
+  -- Both indexes lie within the rows.
+  pub two-within : (k : ℕ) → k ≡ getD next i 0
+      → (i < length numbers) × (i < length next) × (k < length numbers) × (k < length next)
+  two-within k is =
+      let one : Tabled numbers next at i a = tabled-first h in
+      let first = tabled-within one in
+      let second = tabled-within (second-tabled k (is ∙ tabled-next one)) in
+      (first .0, first .1, second .0, second .1)

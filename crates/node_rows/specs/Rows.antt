@@ -4,7 +4,7 @@ use mathlib.Core.Path.{_≡_}
 use mathlib.Core.Bool.{Bool, true, false}
 use mathlib.Core.List.{List, [], _++_, map}
 use lib.ListN.{length, take, drop, getD}
-use Rattle.definitions.specs.Expression.{Expr, Exprs}
+use Rattle.definitions.specs.Expression.{Expr, Exprs, cons}
 use Rattle.definitions.specs.Encode.{exprBytes, exprsBytes}
 use Rattle.definitions.specs.Decode.{Columns}
 use Rattle.definitions.specs.Good.{nodes, nodesAll}
@@ -14,6 +14,7 @@ use Rattle.expression.specs.Nodes.{Stands, Row}
 use Rattle.writing.specs.Written.{WroteAt}
 use Rattle.node_rows.specs.Numbers.{number, numbersFrom, rowNumbers, nextsFrom, rowNexts}
 use Rattle.node_rows.specs.declared.collecting.Passed.{Passed}
+use Rattle.node_rows.specs.declared.pairs.Two.{Two}
 
 -- ---- rows that are filled
 
@@ -28,6 +29,25 @@ pub record TabledAll (numbers next : List ℕ) (at i : ℕ) (ts : Exprs) : Type 
   pub numbered : Holds numbers i (rowNumbers at ts)
   pub followed : Holds next i (rowNexts i ts)
   pub short : at + length (exprsBytes ts) ≤ 16384
+
+-- The rows hold two expressions, and perhaps more after them.
+abbrev pub Begin : (numbers next : List ℕ) (at i : ℕ) (a b : Expr) → Type 0
+Begin numbers next at i a b = (more : Exprs) × TabledAll numbers next at i (cons a (cons b more))
+
+-- At least two expressions are in the rows from index i on; what is claimed of the first two, which start at a place.
+abbrev pub TwoTabled : (numbers next : List ℕ) (i : ℕ) → Type 0
+TwoTabled numbers next i = (at : ℕ) × (a : Expr) × (b : Expr) × (more : Exprs) × TabledAll numbers next at i (cons a (cons b more))
+
+abbrev pub OfTwo : (numbers next : List ℕ) (i : ℕ) → (ℕ → Expr → Expr → Type 0) → Type 0
+OfTwo numbers next i P =
+    (at : ℕ) (a b : Expr) (more : Exprs) → TabledAll numbers next at i (cons a (cons b more)) → P at a b
+
+-- Where they stand, and the index after them.
+pub record TwoAre (i : ℕ) (r : Two) (at : ℕ) (a b : Expr) : Type 0 where
+  pub start : r .start ≡ at
+  pub middle : r .middle ≡ at + length (exprBytes a)
+  pub end : r .end ≡ at + length (exprBytes a) + length (exprBytes b)
+  pub after : r .after ≡ i + nodes a + nodes b
 
 -- ---- rows to be filled
 

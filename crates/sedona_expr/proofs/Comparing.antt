@@ -1,7 +1,7 @@
 -- The side of a comparison that is read, and the arguments of `st_distance`.
 use Prim.Native.Nat.{ℕ, suc, _+_, _≤_, _<_}
 use native.Mathlib.Omega.{arith}
-use mathlib.Core.Path.{_≡_, refl, ap, _∙_}
+use mathlib.Core.Path.{_≡_, refl, sym, ap, _∙_, subst}
 use mathlib.Core.Bool.{Bool, true, false, _||_}
 use mathlib.Core.List.{List}
 use mathlib.Core.Option.{none, some}
@@ -14,12 +14,12 @@ use Rattle.definitions.specs.Encode.{exprBytes}
 use Rattle.definitions.specs.Leaves.{compares, noComparison, comparison, distanceArguments}
 use Rattle.definitions.specs.Decode.{Columns}
 use Rattle.expression.specs.Places.{part}
-use Rattle.expression.specs.Nodes.{kindOf, Row, Tree, OfTree}
+use Rattle.expression.specs.Nodes.{kindOf, Stands, Row, Tree, OfTree}
 use Rattle.expression.specs.Leaves.{Pair, CallIs}
 use Rattle.expression.specs.declared.leaves.Called.{Called}
 use Rattle.expression.proofs.Standing.{first-stands}
 use Rattle.expression.proofs.Parts.{pair-right}
-use Rattle.sedona_expr.specs.Parsed.{BothSides, ComparisonIs, Arguments}
+use Rattle.sedona_expr.specs.Parsed.{compared, SidesOf, ComparedIs, BothSides, Arguments}
 use Rattle.sedona_expr.specs.declared.utils.Compared.{Compared}
 use Rattle.sedona_expr.specs.declared.utils.Compared.the-variants.{Sides, Nothing}
 
@@ -31,32 +31,53 @@ within o k h i false e = rw (e, eq-eqb o (suc k) (omega (arith, eqb-false o k e)
 outside : (o k : ℕ) → (k ≤ o → k + 2 ≤ o) → (eqb o k || eqb o (suc k)) ≡ false
 outside o k h = rw (ne-eqb o k (λ e. omega (arith, h (omega arith))), ne-eqb o (suc k) (λ e. omega (arith, h (omega arith))))
 
-module _ (l r : Expr) (operator : ℕ) where
-  pub reads-left : 1 ≤ operator → operator < 3 → comparison operator l r ≡ compares l r
-  unfolding comparison
+module _ (left right operator : ℕ) where
+  pub reads-left : 1 ≤ operator → operator < 3 → Sides left right ≡ compared operator left right
+  unfolding compared
   reads-left h k = rw (within operator 1 h k (eqb operator 1) refl)
 
-  pub reads-right : 3 ≤ operator → operator < 5 → comparison operator l r ≡ compares r l
-  unfolding comparison
+  pub reads-right : 3 ≤ operator → operator < 5 → Sides right left ≡ compared operator left right
+  unfolding compared
   reads-right h k = rw (outside operator 1 (λ i. h), within operator 3 h k (eqb operator 3) refl)
 
-  pub reads-neither : (1 ≤ operator → 5 ≤ operator) → comparison operator l r ≡ noComparison
-  unfolding comparison
+  pub reads-neither : (1 ≤ operator → 5 ≤ operator) → Nothing ≡ compared operator left right
+  unfolding compared
   reads-neither h = rw (outside operator 1 (λ i. omega (arith, h i)), outside operator 3 (λ i. h (omega arith)))
+
+-- They are the definitions' sides, whatever is known of both.
+module _ (P : ℕ → Expr → Type 0) {left right : ℕ} {l r : Expr} (x : P left l) (y : P right r) where
+  by-tests : (a b : Bool) → ComparedIs P (if a then Sides left right else if b then Sides right left else Nothing)
+      (if a then compares l r else if b then compares r l else noComparison)
+  by-tests true b = record { m = l; b = r; is = refl; standsMeasured = x; standsBound = y }
+  by-tests false true = record { m = r; b = l; is = refl; standsMeasured = y; standsBound = x }
+  by-tests false false = refl
+
+  sides-are : (operator : ℕ) {answer : Compared} → answer ≡ compared operator left right → ComparedIs P answer (comparison operator l r)
+  unfolding compared comparison
+  sides-are operator e = subst (λ (a : Compared). ComparedIs P a (comparison operator l r)) (sym e)
+      (by-tests (eqb operator 1 || eqb operator 2) (eqb operator 3 || eqb operator 4))
+
+  pub told-sides : (operator : ℕ) {answer : Compared} {measured bound : ℕ} → answer ≡ Sides measured bound
+      → answer ≡ compared operator left right → SidesOf P measured bound (comparison operator l r)
+  told-sides operator e is = rw e at (sides-are operator is)
+
+  pub told-nothing : (operator : ℕ) {answer : Compared} → answer ≡ Nothing → answer ≡ compared operator left right
+      → comparison operator l r ≡ noComparison
+  told-nothing operator e is = rw e at (sides-are operator is)
 
 -- The sides of two expressions in a row.
 module _ {c : Columns} {s : List ℕ} {left : ℕ} {l r : Expr} (row : Row c s left 2 (cons l (cons r nil))) (right : ℕ)
     (ends : OfTree s left (λ t. right ≡ left + length (exprBytes t))) (operator : ℕ) {answer : Compared} where
-  pub sides-found : {measured bound : ℕ} → answer ≡ Sides measured bound → ComparisonIs operator left right answer
+  pub sides-found : {measured bound : ℕ} → answer ≡ Sides measured bound → answer ≡ compared operator left right
       → BothSides c s measured bound (comparison operator l r)
-  sides-found e is = rw e at (is c s l r (first-stands row) (pair-right row right ends))
+  sides-found e is = told-sides (Stands c s) (first-stands row) (pair-right row right ends) operator e is
 
-  pub sides-missing : answer ≡ Nothing → ComparisonIs operator left right answer → comparison operator l r ≡ noComparison
-  sides-missing e is = rw e at (is c s l r (first-stands row) (pair-right row right ends))
+  pub sides-missing : answer ≡ Nothing → answer ≡ compared operator left right → comparison operator l r ≡ noComparison
+  sides-missing e is = told-nothing (Stands c s) (first-stands row) (pair-right row right ends) operator e is
 
 -- So there is something to measure.
 pub measured-there : {s : List ℕ} {left : ℕ} (pair : Pair s left) (right : ℕ) → OfTree s left (λ t. right ≡ left + length (exprBytes t))
-    → (operator : ℕ) {answer : Compared} {measured bound : ℕ} → answer ≡ Sides measured bound → ComparisonIs operator left right answer
+    → (operator : ℕ) {answer : Compared} {measured bound : ℕ} → answer ≡ Sides measured bound → answer ≡ compared operator left right
     → Tree s measured
 measured-there pair right ends operator e is =
     let sides = sides-found (pair .3) right ends operator e is in

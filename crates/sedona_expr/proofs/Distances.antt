@@ -1,27 +1,62 @@
 -- What is asked for, by what was found of a comparison and of a function.
-use Prim.Native.Nat.{ℕ, _+_, _-_, _≤_, _<_}
+use Prim.Native.Nat.{ℕ, _+_, _≤_, _<_}
 use native.Mathlib.Omega.{arith}
-use mathlib.Core.Path.{_≡_, refl, sym, ap, _∙_}
+use mathlib.Core.Path.{_≡_, refl, sym, ap, _∙_, subst}
 use mathlib.Core.Bool.{Bool, true, false}
 use mathlib.Core.List.{List}
-use mathlib.Core.Option.{Option, none, some}
+use mathlib.Core.Option.{Option, none, some, Option·none-ne-some}
 use lib.ListN.{length}
-use Rattle.definitions.specs.Basics.{ascii, sameName}
-use Rattle.definitions.specs.Expression.{Relation, Expr, and, binary, Exprs, nil, cons, count}
-use Rattle.definitions.specs.Encode.{exprBytes}
+use Rattle.definitions.specs.Basics.{if_then_else_, ascii, sameName}
+use Rattle.definitions.specs.Expression.{Relation, Expr, column, literal, and, binary, call, other, field, Exprs, nil, cons, count}
 use Rattle.definitions.specs.Leaves.{Comparison, noComparison, comparison, distanceArguments, relationNamed}
 use Rattle.definitions.specs.Match.{relationRequest, dwithinRequest, knnLiterals, knnRequest, callRequest, distanceRequest, comparisonRequest, request}
 use Rattle.definitions.specs.Decode.{Columns}
 use Rattle.theorems.proofs.Requests.{same-name}
 use Rattle.expression.specs.Places.{part}
-use Rattle.expression.specs.Nodes.{Row, OfTree}
+use Rattle.expression.specs.Nodes.{headBytes, childrenOf, Row}
 use Rattle.expression.specs.Leaves.{Both, CallStands, CallIs, PlainNode, plainColumn, plainLiteral, plainOther, plainField}
 use Rattle.expression.specs.declared.leaves.Called.{Called}
 use Rattle.expression.proofs.Standing.{first-stands}
-use Rattle.expression.proofs.Parts.{rest-row, two-of, three-of}
-use Rattle.sedona_expr.specs.Parsed.{BothSides, Arguments, isDistance, Distance}
+use Rattle.expression.proofs.Parts.{two-of, three-of}
+use Rattle.node_rows.specs.Numbers.{startAt, endAt}
+use Rattle.node_rows.specs.Rows.{TabledAll, TwoTabled, OfTwo, TwoAre}
+use Rattle.node_rows.specs.declared.pairs.Two.{Two}
+use Rattle.node_rows.proofs.RowLaws.{tabled-end, tabled-within}
+use Rattle.node_rows.proofs.IndexLaws.{Indexed, index-spans, index-row, first-spans, second-spans, after-second, third-tabled}
+use Rattle.sedona_expr.specs.declared.utils.ParsedDistancePredicate.{ParsedDistancePredicate}
+use Rattle.sedona_expr.specs.Parsed.{SidesOf, Arguments, isDistance, Distance}
+
+-- A distance whose geometries are these two, and whose bound stands from d to e.
+abbrev pub distanceAt : (form : ℕ) → Two → (d e : ℕ) → ParsedDistancePredicate
+distanceAt form r d e = record {
+  form = form;
+  arg0 = r .start;
+  arg1 = r .middle;
+  «arg1_end» = r .end;
+  «arg_distance» = d;
+  «distance_end» = e;
+}
+
+more-count : (a b : Expr) (more : Exprs) → 2 ≤ count (cons a (cons b more))
+unfolding count
+more-count a b more = omega arith
 
 -- ---- comparisons
+
+chosen : (same : Bool) (args all : Exprs) → (if same then some args else none) ≡ some all → args ≡ all
+chosen true args all e = cc
+chosen false args all e = absurd (Option·none-ne-some _ e)
+
+-- The arguments of `st_distance` are its children.
+argument-children : (t : Expr) (all : Exprs) → distanceArguments t ≡ some all → childrenOf t ≡ all
+unfolding distanceArguments childrenOf
+argument-children (column i g) all e = absurd (Option·none-ne-some _ e)
+argument-children (literal y v) all e = absurd (Option·none-ne-some _ e)
+argument-children (and l r) all e = absurd (Option·none-ne-some _ e)
+argument-children (binary o l r) all e = absurd (Option·none-ne-some _ e)
+argument-children (call name args) all e = chosen (sameName name (ascii "st_distance")) args all e
+argument-children (other g cs) all e = absurd (Option·none-ne-some _ e)
+argument-children (field b g) all e = absurd (Option·none-ne-some _ e)
 
 module _ (form : ℕ) where
   few-compared : (bound : Expr) (args : Exprs) → count args < 2 → isDistance (distanceRequest form bound (some args)) ≡ false
@@ -34,7 +69,9 @@ module _ (form : ℕ) where
   unfolding comparisonRequest isDistance
   not-compared e = rw e
 
-  module _ {c : Columns} {s : List ℕ} {measured bound : ℕ} {q : Comparison} (sides : BothSides c s measured bound q) where
+  -- Its sides are told by their indexes.
+  module _ {c : Columns} {s numbers next : List ℕ} {measured bound : ℕ} {q : Comparison}
+      (sides : SidesOf (Indexed c s numbers next) measured bound q) where
     asked : comparisonRequest form q ≡ distanceRequest form (sides .b) (distanceArguments (sides .m))
     unfolding comparisonRequest
     asked = ap (comparisonRequest form) (sides .is)
@@ -47,22 +84,45 @@ module _ (form : ℕ) where
       pub too-few : n < 2 → isDistance (comparisonRequest form q) ≡ false
       too-few h = rw (asked, found .is) (few-compared (sides .b) (found .all) (omega (arith, found .row .counted)))
 
-      pub compared-distance : 2 ≤ n → (second : ℕ) → OfTree s first (λ t. second ≡ first + length (exprBytes t))
-          → Distance c s (record { form = form; arg0 = first; arg1 = second; «arg_distance» = bound }) (comparisonRequest form q)
+      -- The arguments are the children of the side that is read.
+      measured-two : (P : Exprs → Type 0) → ((a b : Expr) (more : Exprs) → distanceArguments (sides .m) ≡ some (cons a (cons b more))
+          → childrenOf (sides .m) ≡ cons a (cons b more) → P (cons a (cons b more))) → 2 ≤ n → P (found .all)
+      measured-two P f h = two-of
+          (λ args. distanceArguments (sides .m) ≡ some args → childrenOf (sides .m) ≡ args → P args)
+          (λ a b more is same. f a b more is same) (found .all) (omega (arith, found .row .counted)) (found .is)
+          (argument-children (sides .m) (found .all) (found .is))
+
+      pub two-measured : 2 ≤ n → TwoTabled numbers next (measured + 1)
+      two-measured = measured-two (λ args. TwoTabled numbers next (measured + 1))
+          (λ a b more is same. (
+            startAt numbers measured + length (headBytes (sides .m)),
+            a,
+            b,
+            more,
+            subst (TabledAll numbers next (startAt numbers measured + length (headBytes (sides .m))) (measured + 1)) same
+                (index-row (sides .standsMeasured) .1),
+          ))
+
+      pub compared-distance : 2 ≤ n → {r : Two} → OfTwo numbers next (measured + 1) (TwoAre (measured + 1) r) → (d e : ℕ)
+          → d ≡ startAt numbers bound → e ≡ endAt numbers bound → Distance c s (distanceAt form r d e) (comparisonRequest form q)
       unfolding distanceRequest
-      compared-distance h second ends = two-of
-          (λ args. Row c s first n args → distanceArguments (sides .m) ≡ some args
-          → Distance c s (record { form = form; arg0 = first; arg1 = second; «arg_distance» = bound }) (comparisonRequest form q))
-          (λ a b more row e. record {
+      compared-distance h {r} told d e start end = measured-two (λ args. Distance c s (distanceAt form r d e) (comparisonRequest form q))
+          (λ a b more is same.
+          let place : ℕ = startAt numbers measured + length (headBytes (sides .m)) in
+          let both = index-row (sides .standsMeasured) in
+          let two : TwoAre (measured + 1) r place a b =
+          told place a b more (subst (TabledAll numbers next place (measured + 1)) same (both .1)) in
+          let row : Row c s place (count (childrenOf (sides .m))) (cons a (cons b more)) =
+          subst (Row c s place (count (childrenOf (sides .m)))) same (both .0) in
+          record {
             a = a;
             b = b;
             bound = sides .b;
-            is = asked ∙ rw e;
-            arg0 = first-stands row;
-            arg1 = first-stands (rest-row row second ends);
-            argDistance = sides .standsBound;
-          })
-          (found .all) (omega (arith, found .row .counted)) (found .row) (found .is)
+            is = asked ∙ rw is;
+            arg0 = first-spans row two;
+            arg1 = second-spans row two (omega (arith, ap count same, more-count a b more));
+            argDistance = index-spans (sides .standsBound) d e start end;
+          }) h
 
 -- ---- functions
 
@@ -120,25 +180,37 @@ module _ {c : Columns} {s : List ℕ} {k : Called} {name : List ℕ} {args : Exp
     pub dwithin-too-few : k .count < 3 → isDistance (callRequest name args) ≡ false
     dwithin-too-few h = rw (dwithin-asked name args (named ∙ f)) (few-dwithin args (omega (arith, st .row .counted)))
 
-    pub dwithin-distance : 3 ≤ k .count → (second third : ℕ) → OfTree s (k .first) (λ t. second ≡ k .first + length (exprBytes t))
-        → OfTree s second (λ t. third ≡ second + length (exprBytes t))
-        → Distance c s (record { form = 0; arg0 = k .first; arg1 = second; «arg_distance» = third }) (callRequest name args)
+    pub two-given : {numbers next : List ℕ} {i : ℕ} → TabledAll numbers next (k .first) i args → 3 ≤ k .count → TwoTabled numbers next i
+    two-given {numbers} {next} {i} tabled h = two-of (λ args. TabledAll numbers next (k .first) i args → TwoTabled numbers next i)
+        (λ a b more t. (k .first, a, b, more, t)) args (omega (arith, st .row .counted)) tabled
+
+    pub dwithin-distance : 3 ≤ k .count → {numbers next : List ℕ} {i : ℕ} → TabledAll numbers next (k .first) i args → {r : Two}
+        → OfTwo numbers next i (TwoAre i r) → (e : ℕ) → e ≡ endAt numbers (r .after)
+        → Distance c s (distanceAt 0 r (r .end) e) (callRequest name args)
     unfolding dwithinRequest
-    dwithin-distance h second third ends end = three-of
-        (λ args. Row c s (k .first) (k .count) args → callRequest name args ≡ dwithinRequest args
-        → Distance c s (record { form = 0; arg0 = k .first; arg1 = second; «arg_distance» = third }) (callRequest name args))
-        (λ a b d more row is.
-        let rest : Row c s second (k .count - 1) (cons b (cons d more)) = rest-row row second ends in
+    dwithin-distance h {numbers} {next} {i} tabled {r} told e end = three-of
+        (λ args. Row c s (k .first) (k .count) args → TabledAll numbers next (k .first) i args → callRequest name args ≡ dwithinRequest args
+        → Distance c s (distanceAt 0 r (r .end) e) (callRequest name args))
+        (λ a b d more row t is.
+        let two : TwoAre i r (k .first) a b = told (k .first) a b (cons d more) t in
         record {
           a = a;
           b = b;
           bound = d;
           is = is;
-          arg0 = first-stands row;
-          arg1 = first-stands rest;
-          argDistance = first-stands (rest-row rest third end);
+          arg0 = first-spans row two;
+          arg1 = second-spans row two (omega arith);
+          argDistance = record { stands = first-stands (after-second row two (omega arith)); ends = end ∙ tabled-end (third-tabled t two) };
         })
-        args (omega (arith, st .row .counted)) (st .row) (dwithin-asked name args (named ∙ f))
+        args (omega (arith, st .row .counted)) (st .row) tabled (dwithin-asked name args (named ∙ f))
+
+    -- The third argument has a place in the rows.
+    pub third-within : 3 ≤ k .count → {numbers next : List ℕ} {i : ℕ} → TabledAll numbers next (k .first) i args → {r : Two}
+        → OfTwo numbers next i (TwoAre i r) → r .after < length numbers
+    third-within h {numbers} {next} {i} tabled {r} told = three-of
+        (λ args. TabledAll numbers next (k .first) i args → r .after < length numbers)
+        (λ a b d more t. tabled-within (third-tabled t (told (k .first) a b (cons d more) t)) .0)
+        args (omega (arith, st .row .counted)) tabled
 
 -- ---- any node
 

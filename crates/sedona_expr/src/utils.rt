@@ -2,16 +2,22 @@
 ghost use Rattle.definitions.specs.Leaves.{distanceArguments};
 ghost use Rattle.definitions.specs.Leaves as definitions;
 ghost use Rattle.definitions.specs.Match.{comparisonRequest, callRequest, request};
-ghost use Rattle.expression.specs.Nodes.{Tree, OfTreeIn};
+ghost use mathlib.Core.Path.{_≡_};
+ghost use Rattle.definitions.specs.Expression.{nil, cons};
+ghost use Rattle.expression.specs.Nodes.{Tree, OfTree, OfTreeIn};
 ghost use Rattle.expression.specs.Leaves.{Pair, OfPair, Calls, OfCall};
-ghost use Rattle.sedona_expr.specs.Parsed.{ComparisonIs, DistanceIs, ParsedIs};
-use expression::ends::end_node;
+ghost use Rattle.node_rows.specs.Numbers.{startAt};
+ghost use Rattle.node_rows.specs.Rows.{Tabled, TabledAll};
+ghost use Rattle.sedona_expr.specs.Parsed.{compared, DistanceIs, ParsedIs};
 use expression::leaves::Called;
 use expression::leaves::Node;
 use expression::leaves::node_at;
 use expression::names::same_name;
+use node_rows::numbers::end_of;
+use node_rows::numbers::start_of;
+use node_rows::pairs::two_at;
 
-// The places of the side of a comparison on which `st_distance` is looked for, and of the other, its bound.
+// The side of a comparison on which `st_distance` is looked for, and the other, its bound: each by the number that it was given.
 pub enum Compared {
     Sides(usize, usize),
     Nothing,
@@ -23,12 +29,15 @@ pub enum DistanceCall {
     Nothing,
 }
 
-// The places of both geometries and of the distance; forms are 0 `st_dwithin`, 1 Lt, 2 LtEq, 3 Gt, 4 GtEq.
+// The places of both geometries, the first of which ends where the second starts, and of the distance; forms are 0 `st_dwithin`,
+// 1 Lt, 2 LtEq, 3 Gt, 4 GtEq.
 pub struct ParsedDistancePredicate {
     pub form: u8,
     pub arg0: usize,
     pub arg1: usize,
+    pub arg1_end: usize,
     pub arg_distance: usize,
+    pub distance_end: usize,
 }
 
 pub enum Parsed {
@@ -37,7 +46,7 @@ pub enum Parsed {
 }
 
 pub fn comparison(operator: u8, left: usize, right: usize) -> Compared
-    ensures { λ r. ⌜ ComparisonIs operator left right r ⌝ }
+    ensures { λ r. ⌜ r ≡ compared operator left right ⌝ }
 {
     match operator {
         1 | 2 => Compared::Sides(left, right),
@@ -60,33 +69,39 @@ pub fn distance_arguments(s: &[u8], at: usize) -> DistanceCall
     }
 }
 
-// A comparison takes the first two arguments of `st_distance`.
-fn parse_comparison(s: &[u8], operator: u8, left: usize) -> Parsed
-    requires { ⌜ Pair (now s) left ⌝ }
-    ensures { λ p. ⌜ OfPair (now (s .entry)) left
+// A comparison takes the first two arguments of `st_distance`; its left side has index i.
+fn parse_comparison(s: &[u8], operator: u8, numbers: &[u32], next: &[u16], i: usize) -> Parsed
+    requires { ⌜ Pair (now s) (startAt (now numbers) i) ⌝ }
+    requires { ⌜ OfPair (now s) (startAt (now numbers) i)
+        (λ c l r. TabledAll (now numbers) (now next) (startAt (now numbers) i) i (cons l (cons r nil))) ⌝ }
+    ensures { λ p. ⌜ OfPair (now (s .entry)) (startAt (now (numbers .entry)) i)
         (λ c l r. ParsedIs c (now (s .entry)) p (comparisonRequest operator (definitions.comparison operator l r))) ⌝ }
 {
-    let right = end_node(s, left);
-    let Compared::Sides(measured, bound) = comparison(operator, left, right) else {
+    let Compared::Sides(measured, bound) = comparison(operator, i, next[i] as usize) else {
         return Parsed::Nothing;
     };
-    let DistanceCall::Arguments(first, count) = distance_arguments(s, measured) else {
+    let DistanceCall::Arguments(_, count) = distance_arguments(s, start_of(numbers, measured))
+    else {
         return Parsed::Nothing;
     };
     if count < 2 {
         return Parsed::Nothing;
     }
+    let geometries = two_at(numbers, next, measured + 1);
     Parsed::Distance(ParsedDistancePredicate {
         form: operator,
-        arg0: first,
-        arg1: end_node(s, first),
-        arg_distance: bound,
+        arg0: geometries.start,
+        arg1: geometries.middle,
+        arg1_end: geometries.end,
+        arg_distance: start_of(numbers, bound),
+        distance_end: end_of(numbers, bound),
     })
 }
 
-// `st_dwithin` takes its first three arguments.
-fn parse_dwithin(s: &[u8], call: Called) -> Parsed
+// `st_dwithin` takes its first three arguments; the first has index i.
+fn parse_dwithin(s: &[u8], call: Called, numbers: &[u32], next: &[u16], i: usize) -> Parsed
     requires { ⌜ Calls (now s) call ⌝ }
+    requires { ⌜ OfCall (now s) call (λ c name arguments. TabledAll (now numbers) (now next) (call .first) i arguments) ⌝ }
     ensures { λ p. ⌜ OfCall (now (s .entry)) call (λ c name arguments. ParsedIs c (now (s .entry)) p (callRequest name arguments)) ⌝ }
 {
     if !same_name(s, call.name, call.end, b"st_dwithin") {
@@ -95,23 +110,33 @@ fn parse_dwithin(s: &[u8], call: Called) -> Parsed
     if call.count < 3 {
         return Parsed::Nothing;
     }
-    let first = call.first;
-    let second = end_node(s, first);
+    let geometries = two_at(numbers, next, i);
+    let distance = geometries.after;
     Parsed::Distance(ParsedDistancePredicate {
         form: 0,
-        arg0: first,
-        arg1: second,
-        arg_distance: end_node(s, second),
+        arg0: geometries.start,
+        arg1: geometries.middle,
+        arg1_end: geometries.end,
+        arg_distance: geometries.end,
+        distance_end: end_of(numbers, distance),
     })
 }
 
-pub fn parse_distance_predicate(s: &[u8], at: usize) -> Parsed
+// The leaf at a place, which has index i.
+pub fn parse_distance_predicate(
+    s: &[u8],
+    at: usize,
+    numbers: &[u32],
+    next: &[u16],
+    i: usize,
+) -> Parsed
     requires { ⌜ Tree (now s) at ⌝ }
+    requires { ⌜ OfTree (now s) at (Tabled (now numbers) (now next) at i) ⌝ }
     ensures { λ p. ⌜ OfTreeIn (now (s .entry)) at (λ c t. ParsedIs c (now (s .entry)) p (request t)) ⌝ }
 {
     match node_at(s, at) {
-        Node::Binary(operator, left) => parse_comparison(s, operator, left),
-        Node::Call(call) => parse_dwithin(s, call),
+        Node::Binary(operator, _) => parse_comparison(s, operator, numbers, next, i + 1),
+        Node::Call(call) => parse_dwithin(s, call, numbers, next, i + 1),
         Node::And(_) => Parsed::Nothing,
         Node::Plain(_) => Parsed::Nothing,
     }

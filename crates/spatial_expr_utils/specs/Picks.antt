@@ -6,7 +6,6 @@ use mathlib.Core.List.{List, map}
 use mathlib.Core.Option.{Option, none, some}
 use lib.ListN.{length}
 use Rattle.definitions.specs.Expression.{Expr, Record, Predicate}
-use Rattle.definitions.specs.Encode.{exprBytes}
 use Rattle.definitions.specs.Leaves.{leaves}
 use Rattle.definitions.specs.Match.{matchLeaf}
 use Rattle.definitions.specs.Extract as definition
@@ -45,14 +44,13 @@ pub record FirstIs (wanted : Wanted) (s : List ℕ) (rec at before up : ℕ) (p 
   pub stands : PredicateAt (onChildren records) s (p .predicate) q
   pub cut : CutAt (p .cut) up t at i
 
-pub record NothingIs (wanted : Wanted) (at before next count : ℕ) (records : List Record) (t : Expr) : Type 0 where
+pub record NothingIs (wanted : Wanted) (before count : ℕ) (records : List Record) (t : Expr) : Type 0 where
   pub first : firstMatch (wants wanted) (matches records t) ≡ none
-  pub ends : next ≡ at + length (exprBytes t)
   pub counted : count ≡ before + length (leaves t)
 
 abbrev pub FoundIs : Wanted → (s : List ℕ) (rec at before up : ℕ) → Found → (records : List Record) → Expr → Type 0
 FoundIs wanted s rec at before up (found.Leaf p) records t = FirstIs wanted s rec at before up p records t
-FoundIs wanted s rec at before up (found.Nothing next count) records t = NothingIs wanted at before next count records t
+FoundIs wanted s rec at before up (found.Nothing count) records t = NothingIs wanted before count records t
 
 -- The definitions' pick, with its place; the root is its own parent.
 pub record TakenIs (s : List ℕ) (rec at : ℕ) (p : Pick) (records : List Record) (t : Expr) : Type 0 where

@@ -1,23 +1,25 @@
 // The AND-leaf that is taken: the first KNN match, else the first other match.
 // A port of `extract_spatial_predicate` and `extract_knn_predicate_prioritized` of
 // rust/sedona-query-planner/src/spatial_expr_utils.rs.
+// A node is given by its place and its index in the rows, which say where it ends and which node comes after it.
 ghost use Prim.Native.Nat.{_≤_};
 ghost use mathlib.Core.Path.{_≡_};
 ghost use mathlib.Core.List.{[], _∷_};
 ghost use Rattle.definitions.specs.Leaves.{leaves};
-ghost use Rattle.expression.specs.Nodes.{OfTreeIn};
+ghost use Rattle.expression.specs.Nodes.{OfTree, OfTreeIn};
 ghost use Rattle.expression.specs.Leaves.{NodeIs};
 ghost use Rattle.argument_sides.specs.Frames.{Framed, OfFrame};
+ghost use Rattle.node_rows.specs.Rows.{Tabled};
 ghost use Rattle.leaf_matching.specs.Matches.{LeafMatching};
 ghost use Rattle.spatial_expr_utils.specs.Picks.{isOther, wants, FoundIs, PickedIs};
 use expression::cuts::Cut;
-use expression::ends::end_node;
 use expression::leaves::Node;
 use expression::leaves::node_at;
 use leaf_matching::distance::match_distance_predicate;
 use leaf_matching::knn::match_knn_predicate;
 use leaf_matching::matching::Matching;
 use leaf_matching::relation::match_relation_predicate;
+use node_rows::numbers::end_of;
 use sedona_query_planner::spatial_predicate::SpatialPredicate;
 
 // Which matches a pass over the AND-leaves is for: KNN, or relations and distances.
@@ -34,10 +36,10 @@ pub struct Pick {
     pub cut: Cut,
 }
 
-// What a pass found below a node; if nothing, where the node ends and how many AND-leaves there are up to its end.
+// What a pass found below a node; if nothing, how many AND-leaves there are up to its end.
 pub enum Found {
     Leaf(Pick),
-    Nothing(usize, usize),
+    Nothing(usize),
 }
 
 pub enum Picked {
@@ -46,33 +48,52 @@ pub enum Picked {
 }
 
 // A leaf as a relation, else as a distance.
-fn match_other(s: &[u8], rec: usize, at: usize, node: Node) -> Matching
+fn match_other(
+    s: &[u8],
+    rec: usize,
+    at: usize,
+    numbers: &[u32],
+    next: &[u16],
+    i: usize,
+    node: Node,
+) -> Matching
     requires { ⌜ Framed (now s) rec at ⌝ }
+    requires { ⌜ OfTree (now s) at (Tabled (now numbers) (now next) at i) ⌝ }
     requires { ⌜ OfTreeIn (now s) at (λ c t. NodeIs c (now s) at node t) ⌝ }
-    ensures { λ r. ⌜ OfFrame (now (s .entry)) rec at (LeafMatching isOther (now (s .entry)) rec at r) ⌝ }
+    ensures { λ r. ⌜ OfFrame (now (s .entry)) rec at (LeafMatching isOther (now (s .entry)) rec r) ⌝ }
 {
     let Node::Call(called) = node else {
-        return match_distance_predicate(s, rec, at);
+        return match_distance_predicate(s, rec, at, numbers, next, i);
     };
-    match match_relation_predicate(s, rec, called) {
-        Matching::Matched(predicate, end) => Matching::Matched(predicate, end),
-        Matching::Unmatched(end) => Matching::Unmatched(end),
-        Matching::NotAsked => match_distance_predicate(s, rec, at),
+    match match_relation_predicate(s, rec, called, numbers, next, i + 1) {
+        Matching::Matched(predicate) => Matching::Matched(predicate),
+        Matching::Unmatched => Matching::Unmatched,
+        Matching::NotAsked => match_distance_predicate(s, rec, at, numbers, next, i),
     }
 }
 
-fn match_wanted(s: &[u8], rec: usize, at: usize, node: Node, wanted: Wanted) -> Matching
+fn match_wanted(
+    s: &[u8],
+    rec: usize,
+    at: usize,
+    numbers: &[u32],
+    next: &[u16],
+    i: usize,
+    node: Node,
+    wanted: Wanted,
+) -> Matching
     requires { ⌜ Framed (now s) rec at ⌝ }
+    requires { ⌜ OfTree (now s) at (Tabled (now numbers) (now next) at i) ⌝ }
     requires { ⌜ OfTreeIn (now s) at (λ c t. NodeIs c (now s) at node t) ⌝ }
-    ensures { λ r. ⌜ OfFrame (now (s .entry)) rec at (LeafMatching (wants wanted) (now (s .entry)) rec at r) ⌝ }
+    ensures { λ r. ⌜ OfFrame (now (s .entry)) rec at (LeafMatching (wants wanted) (now (s .entry)) rec r) ⌝ }
 {
     match wanted {
-        Wanted::Other => match_other(s, rec, at, node),
+        Wanted::Other => match_other(s, rec, at, numbers, next, i, node),
         Wanted::Knn => {
             let Node::Call(called) = node else {
                 return Matching::NotAsked;
             };
-            match_knn_predicate(s, rec, called)
+            match_knn_predicate(s, rec, called, numbers, next, i + 1)
         }
     }
 }
@@ -82,22 +103,26 @@ fn leaf_match(
     s: &[u8],
     rec: usize,
     at: usize,
+    numbers: &[u32],
+    next: &[u16],
+    i: usize,
     node: Node,
     wanted: Wanted,
     position: usize,
     parent: usize,
 ) -> Found
     requires { ⌜ Framed (now s) rec at ⌝ }
+    requires { ⌜ OfTree (now s) at (Tabled (now numbers) (now next) at i) ⌝ }
     requires { ⌜ OfTreeIn (now s) at (λ c t. NodeIs c (now s) at node t) ⌝ }
     requires { ⌜ OfFrame (now s) rec at (λ records t. leaves t ≡ t ∷ []) ⌝ }
     requires { ⌜ position ≤ at ⌝ }
     ensures { λ r. ⌜ OfFrame (now (s .entry)) rec at (FoundIs wanted (now (s .entry)) rec at position parent r) ⌝ }
 {
-    match match_wanted(s, rec, at, node, wanted) {
-        Matching::Matched(predicate, end) => {
+    match match_wanted(s, rec, at, numbers, next, i, node, wanted) {
+        Matching::Matched(predicate) => {
             let cut = Cut {
                 leaf: at,
-                end,
+                end: end_of(numbers, i),
                 parent,
             };
             return Found::Leaf(Pick {
@@ -106,11 +131,11 @@ fn leaf_match(
                 cut,
             });
         }
-        Matching::Unmatched(end) => {
-            return Found::Nothing(end, position + 1);
+        Matching::Unmatched => {
+            return Found::Nothing(position + 1);
         }
         Matching::NotAsked => {
-            return Found::Nothing(end_node(s, at), position + 1);
+            return Found::Nothing(position + 1);
         }
     }
 }
@@ -120,29 +145,35 @@ fn first_match(
     s: &[u8],
     rec: usize,
     at: usize,
+    numbers: &[u32],
+    next: &[u16],
+    i: usize,
     wanted: Wanted,
     position: usize,
     parent: usize,
 ) -> Found
     requires { ⌜ Framed (now s) rec at ⌝ }
+    requires { ⌜ OfTree (now s) at (Tabled (now numbers) (now next) at i) ⌝ }
     requires { ⌜ position ≤ at ⌝ }
     ensures { λ r. ⌜ OfFrame (now (s .entry)) rec at (FoundIs wanted (now (s .entry)) rec at position parent r) ⌝ }
 {
-    let mut next = at;
+    let mut place = at;
+    let mut index = i;
     let mut count = position;
     let mut up = parent;
     loop {
-        let node = node_at(s, next);
+        let node = node_at(s, place);
         let Node::And(left) = node else {
-            return leaf_match(s, rec, next, node, wanted, count, up);
+            return leaf_match(s, rec, place, numbers, next, index, node, wanted, count, up);
         };
-        match first_match(s, rec, left, wanted, count, next) {
+        match first_match(s, rec, left, numbers, next, index + 1, wanted, count, place) {
             Found::Leaf(pick) => {
                 return Found::Leaf(pick);
             }
-            Found::Nothing(right, counted) => {
-                up = next;
-                next = right;
+            Found::Nothing(counted) => {
+                up = place;
+                place = end_of(numbers, index + 1);
+                index = next[index + 1] as usize;
                 count = counted;
             }
         }
@@ -150,23 +181,39 @@ fn first_match(
 }
 
 // The first KNN match.
-fn extract_knn_predicate_prioritized(s: &[u8], rec: usize, at: usize) -> Found
+fn extract_knn_predicate_prioritized(
+    s: &[u8],
+    rec: usize,
+    at: usize,
+    numbers: &[u32],
+    next: &[u16],
+    i: usize,
+) -> Found
     requires { ⌜ Framed (now s) rec at ⌝ }
+    requires { ⌜ OfTree (now s) at (Tabled (now numbers) (now next) at i) ⌝ }
     ensures { λ r. ⌜ OfFrame (now (s .entry)) rec at (FoundIs Wanted.Knn (now (s .entry)) rec at 0 at r) ⌝ }
 {
-    first_match(s, rec, at, Wanted::Knn, 0, at)
+    first_match(s, rec, at, numbers, next, i, Wanted::Knn, 0, at)
 }
 
 // A first pass for KNN, which cannot be a filter, and another for the rest.
-pub fn extract_spatial_predicate(s: &[u8], rec: usize, at: usize) -> Picked
+pub fn extract_spatial_predicate(
+    s: &[u8],
+    rec: usize,
+    at: usize,
+    numbers: &[u32],
+    next: &[u16],
+    i: usize,
+) -> Picked
     requires { ⌜ Framed (now s) rec at ⌝ }
+    requires { ⌜ OfTree (now s) at (Tabled (now numbers) (now next) at i) ⌝ }
     ensures { λ r. ⌜ OfFrame (now (s .entry)) rec at (PickedIs (now (s .entry)) rec at r) ⌝ }
 {
-    if let Found::Leaf(pick) = extract_knn_predicate_prioritized(s, rec, at) {
+    if let Found::Leaf(pick) = extract_knn_predicate_prioritized(s, rec, at, numbers, next, i) {
         return Picked::Leaf(pick);
     }
-    match first_match(s, rec, at, Wanted::Other, 0, at) {
+    match first_match(s, rec, at, numbers, next, i, Wanted::Other, 0, at) {
         Found::Leaf(pick) => Picked::Leaf(pick),
-        Found::Nothing(_, _) => Picked::Nothing,
+        Found::Nothing(_) => Picked::Nothing,
     }
 }

@@ -14,8 +14,8 @@ slice-aggregate-held-plan : tie.Need-slice-aggregate-held-plan
 slice-aggregate-held-plan c =
     let a = c .before .before .before .before .args in sym (plan-length (a .n) (a .plan .now) (c .before .if1 .left))
 
-extract-frame-requires : tie.Need-extract-frame-requires
-extract-frame-requires c κs =
+extract-held-requires : tie.Need-extract-held-requires
+extract-held-requires c κs =
     let at-f = c .before .before .before in
     let good = rw (at-f .f .given .1) at (at-f .before .before .held-plan .ensures) in
     record { frame = good .0; fits = at-f .before .before .before .before .if1 .left; stands = good .1; is = good .2 }
@@ -54,7 +54,7 @@ extract-spec =
     (λ c. search needs)
     (λ c. search needs)
     (λ c. search needs)
-    extract-frame-requires
+    extract-held-requires
     (λ c. search needs)
     returns-2
     (λ c. search needs)

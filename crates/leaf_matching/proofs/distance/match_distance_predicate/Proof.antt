@@ -15,33 +15,28 @@ returns c =
     (at-parse-distance-predicate .parse-distance-predicate .ensures _ t (over .tree)))
 
 -- The parsed arguments stand in the frame.
-framed : (c : tie.After-end-node)
-    → let start = c .before .before .before .before .before .before .args in
-    let found = c .before .before .parsed .given .0 .0 in
+framed : (c : tie.After-known-told)
+    → let start = c .before .before .before .before .before .before .before .args in
+    let found = c .before .parsed .given .0 .0 in
     Framed (start .s .now) (start .rec) (found .arg0) × Framed (start .s .now) (start .rec) (found .arg1)
     × Framed (start .s .now) (start .rec) (found .«arg_distance»)
 framed c =
-    let at-parsed = c .before .before in
+    let at-parsed = c .before in
     arguments-framed (parses (at-parsed .before .before .parse-distance-predicate .ensures) (at-parsed .parsed .given .1))
-    (c .before .before .before .before .before .before .pre)
+    (c .before .before .before .before .before .before .before .pre .0)
 
 walked : (c : tie.After-side-of-column-references3)
-    → let start = c .before .before .before .before .before .before .before .before .before .args in
-    Walked (start .s .now) (start .rec) (start .at) (c .before .before .before .before .before .parsed .given .0 .0)
+    → let start = c .before .before .before .before .before .before .before .before .before .before .args in
+    Walked (start .s .now) (start .rec) (start .at) (c .before .before .before .before .parsed .given .0 .0)
     (c .before .side-of-column-references2 .result)
     (c .side-of-column-references3 .result) (c .before .before .side-of-column-references .result)
-    (c .before .before .before .end-node .result)
 walked c =
-    let at-side-of-column-references = c .before .before in
-    let at-end-node = at-side-of-column-references .before in
-    let at-parsed = at-end-node .before .before in
-    let at-parse-distance-predicate = at-parsed .before .before in
+    let at-parsed = c .before .before .before .before in
     record {
-      asked = parses (at-parse-distance-predicate .parse-distance-predicate .ensures) (at-parsed .parsed .given .1);
+      asked = parses (at-parsed .before .before .parse-distance-predicate .ensures) (at-parsed .parsed .given .1);
       first = c .before .side-of-column-references2 .ensures;
       second = c .side-of-column-references3 .ensures;
-      limit = at-side-of-column-references .side-of-column-references .ensures;
-      ends = at-end-node .end-node .ensures;
+      limit = c .before .before .side-of-column-references .ensures;
     }
 
 returns-2 : tie.Need-returns-2
@@ -53,11 +48,10 @@ pub match-distance-predicate-spec : {M : Type 1} → statement M
 match-distance-predicate-spec =
     tie.close
     (tie.spec
-    (λ c κs. framed-tree (c .before .pre))
+    (λ c κs. let start = c .before .before .before in (framed-tree (start .pre .0), start .pre .1))
     (search needs)
     (search needs)
     returns
-    (λ c κs. framed-tree (c .before .before .before .before .before .pre))
     (λ c κs. framed c .2)
     (λ c κs. framed (c .before) .0)
     (λ c κs. framed (c .before .before) .1)

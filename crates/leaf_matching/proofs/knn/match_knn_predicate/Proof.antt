@@ -5,7 +5,7 @@ use mathlib.Core.Logic.{⊎-elim}
 use borrow.Author.Tests.{ltb-true, ltb-false, not-true, not-false}
 use Rattle.definitions.specs.Basics.{ascii}
 use Rattle.leaf_matching.proofs.Asked.{other-name}
-use Rattle.leaf_matching.proofs.MatchLaws.{pair-framed, rest-trees, named}
+use Rattle.leaf_matching.proofs.MatchLaws.{pair-framed, pair-begins, rest-trees, named}
 use Rattle.leaf_matching.proofs.KnnLaws.{few-lacks, many-lacks, Walked, knn-unread, knn-neither, knn-left, knn-right}
 use borrow.Author.Needs.{needs}
 use Rattle.leaf_matching.proofs.knn.match_knn_predicate.Statement.{statement}
@@ -20,44 +20,33 @@ returns-2 : tie.Need-returns-2
 unfolding ascii
 returns-2 c =
     let at-same-name = c .before .before in
-    let start = at-same-name .before .before .before in
+    let start = at-same-name .before .before .before .before .before in
     λ records name ts over.
     let same = named over _ (ascii "st_knn") (at-same-name .same-name .ensures) ∙ not-false _ (c .before .if1 .left) in
     ⊎-elim (λ w. few-lacks records name ts same (omega (arith, w .taken)))
     (λ w. many-lacks records name ts same (omega (arith, ltb-true 5 (start .args .called .count) (w .1 .taken)))) (c .if2 .came)
 
-end-children-requires : tie.Need-end-children-requires
-end-children-requires c κs =
-    let at-if2 = c .before .before in
-    let start = at-if2 .before .before .before .before .before in
-    rest-trees (start .pre) (at-if2 .if2 .left) _ (c .resolve-geometries .ensures)
-
 knn-options-requires : tie.Need-knn-options-requires
 knn-options-requires c κs =
-    let at-if3 = c .before .before in
-    let at-if2 = at-if3 .before in
-    let start = at-if2 .before .before .before .before .before in (
-      rest-trees (start .pre) (at-if2 .if2 .left) _ (c .before .resolve-geometries .ensures),
-      omega
-          (arith, ltb-false 5 (start .args .called .count) (at-if3 .if3 .left)),
+    let at-if3 = c .before in
+    let start = at-if3 .before .before .before .before .before .before .before .before in (
+      rest-trees (start .pre .0) (at-if3 .before .if2 .left) _ (c .resolve-geometries .ensures),
+      omega (arith, ltb-false 5 (start .args .called .count) (at-if3 .if3 .left)),
     )
 
 walked : (c : tie.After-knn-options)
-    → let start = c .before .before .before .before .before .before .before .before .before .args in
-    Walked (start .s .now) (start .rec) (start .called) (c .before .before .resolve-geometries .result) (c .knn-options .result)
-    (c .before .end-children .result)
+    → let start = c .before .before .before .before .before .before .before .before .before .before .args in
+    Walked (start .s .now) (start .rec) (start .called) (c .before .resolve-geometries .result) (c .knn-options .result)
 unfolding ascii
 walked c =
-    let at-resolve-geometries = c .before .before in
-    let at-if2 = at-resolve-geometries .before .before in
+    let at-if2 = c .before .before .before in
     let at-if1 = at-if2 .before in
     let at-same-name = at-if1 .before in
     record {
       same = sym (not-false _ (at-if1 .if1 .left)) ∙ at-same-name .same-name .ensures;
       enough = at-if2 .if2 .left;
-      geometries = at-resolve-geometries .resolve-geometries .ensures;
+      geometries = c .before .resolve-geometries .ensures;
       options = c .knn-options .ensures;
-      ends = c .before .end-children .ensures;
     }
 
 returns-4 : tie.Need-returns-4
@@ -86,8 +75,10 @@ match-knn-predicate-spec =
     (search needs)
     returns
     returns-2
-    (λ c κs. pair-framed (c .before .before .before .before .before .before .pre) (c .before .if2 .left))
-    end-children-requires
+    (λ c κs.
+    let start = c .before .before .before .before .before .before .before .before in
+    let enough = c .before .if2 .left in
+    (pair-framed (start .pre .0) enough, pair-begins (start .pre .0) enough (start .pre .1)))
     knn-options-requires
     (search needs)
     (search needs)

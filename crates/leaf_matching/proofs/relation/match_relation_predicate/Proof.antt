@@ -4,7 +4,7 @@ use native.Mathlib.Omega.{arith}
 use Rattle.definitions.specs.Leaves.{relationNamed}
 use Rattle.sedona_query_planner.specs.Relations.{namedRelation}
 use Rattle.leaf_matching.proofs.Asked.{no-relation}
-use Rattle.leaf_matching.proofs.MatchLaws.{pair-framed, rest-trees}
+use Rattle.leaf_matching.proofs.MatchLaws.{pair-framed, pair-begins}
 use Rattle.leaf_matching.proofs.RelationLaws.{few-lacks, Walked, relation-neither, relation-left, relation-right}
 use borrow.Author.Needs.{needs}
 use Rattle.leaf_matching.proofs.relation.match_relation_predicate.Statement.{
@@ -27,24 +27,17 @@ returns-2 c =
     (ap relationNamed (sym (over .stands .spelling)) ∙ sym (at-from-name .from-name .ensures)
     ∙ ap namedRelation (at-named .named .given .1)) (omega (arith, over .stands .row .counted))
 
-end-children-requires : tie.Need-end-children-requires
-end-children-requires c κs =
-    let start = c .before .before .before .before .before .before .before in
-    rest-trees (start .pre) (c .before .if1 .left) _ (c .resolve-geometries .ensures)
-
-walked : (c : tie.After-end-children)
-    → let start = c .before .before .before .before .before .before .before .before .args in
-    Walked (start .s .now) (start .rec) (start .called) (c .before .resolve-geometries .result)
-    (c .before .before .before .before .named .given .0 .0) (c .end-children .result)
+walked : (c : tie.After-resolve-geometries)
+    → let start = c .before .before .before .before .before .before .before .before .before .args in
+    Walked (start .s .now) (start .rec) (start .called) (c .resolve-geometries .result) (c .before .before .before .named .given .0 .0)
 walked c =
-    let at-if1 = c .before .before in
+    let at-if1 = c .before in
     let at-named = at-if1 .before .before in
     let at-from-name = at-named .before .before in
     record {
       named = sym (at-from-name .from-name .ensures) ∙ ap namedRelation (at-named .named .given .1);
       enough = at-if1 .if1 .left;
-      geometries = c .before .resolve-geometries .ensures;
-      ends = c .end-children .ensures;
+      geometries = c .resolve-geometries .ensures;
     }
 
 returns-5 : tie.Need-returns-5
@@ -61,8 +54,9 @@ match-relation-predicate-spec =
     (search needs)
     returns
     returns-2
-    (λ c κs. pair-framed (c .before .before .before .before .before .before .pre) (c .if1 .left))
-    end-children-requires
+    (λ c κs.
+    let start = c .before .before .before .before .before .before .before .before in
+    (pair-framed (start .pre .0) (c .if1 .left), pair-begins (start .pre .0) (c .if1 .left) (start .pre .1)))
     (search needs)
     (search needs)
     (search needs)

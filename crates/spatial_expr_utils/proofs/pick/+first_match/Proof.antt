@@ -1,10 +1,13 @@
--- `first_match`: in an And, what the left side finds comes first, and the loop goes on with the right side, where the walk of the left
--- ended.
+-- `first_match`: in an And, what the left side finds comes first, and the loop goes on with the right side, where the rows say that the
+-- left one ends.
 -- A call goes to a place further on, so the measure is the bytes left.
+use native.Mathlib.Omega.{arith}
+use mathlib.Core.Path.{refl}
 use lib.ListN.{length}
+use mir.Facts.{fits-16-64}
 use Rattle.argument_sides.proofs.Framing.{framed-tree}
 use Rattle.spatial_expr_utils.proofs.Nodes.{single-leaf}
-use Rattle.spatial_expr_utils.proofs.FirstLaws.{Along, along-begins, left-there, along-left, along-less, along-right}
+use Rattle.spatial_expr_utils.proofs.FirstLaws.{Along, along-begins, along-within, along-tabled, left-within, left-there, along-left, along-less, along-right}
 use borrow.Author.Needs.{needs}
 use Prim.Native.Nat.{ℕ, _-_}
 use borrow.Fn.PlainCycle.{Measures}
@@ -13,24 +16,26 @@ use Rattle.spatial_expr_utils.proofs.pick.first_match.Kinds as first-ma
 use Rattle.spatial_expr_utils.proofs.pick.+first_match.Lts-first_match as first-match-lts
 use Rattle.expression.proofs.leaves.node_at.Reads as node-at
 use Rattle.spatial_expr_utils.proofs.pick.leaf_match.Reads as leaf-match
+use Rattle.node_rows.proofs.numbers.end_of.Reads as end-of
 use Rattle.spatial_expr_utils.proofs.pick.+first_match.{statement}
 use Rattle.spatial_expr_utils.proofs.pick.+first_match.Tie.{close}
 
-abbrev μ-first-match : Measures 1 first-match-kinds.ps ℕ
+abbrev μ-first-match : Measures 3 first-match-kinds.ps ℕ
 μ-first-match κs a = length (a .0 .now) - a .1 .1 .0
 
 abbrev Inv-loop : first-match-lts.InvT-loop
-Inv-loop s rec at wanted position parent next₀ count₀ up₀ next count up = Along wanted s rec at position parent next count up
+Inv-loop s rec at numbers next i wanted position parent place₀ index₀ count₀ up₀ place index count up =
+    Along wanted s numbers next rec at position parent place index count up
 
 abbrev μ-loop : first-match-lts.MeasureT-loop
-μ-loop s rec at wanted position parent next₀ count₀ up₀ next count up = length s - next
+μ-loop s rec at numbers next i wanted position parent place₀ index₀ count₀ up₀ place index count up = length s - place
 
 pub +first-match-spec : {M : Type 1} → statement M
 +first-match-spec = close μ-first-match λ t. first-match-lts.spec
-    (_, node-at.Learnt, _, leaf-match.Learnt, _, first-match.Post) _ first-match.Post
+    (_, node-at.Learnt, _, leaf-match.Learnt, _, first-match.Post, _, end-of.Learnt) _ first-match.Post
     Inv-loop
     μ-loop
-    (λ c. along-begins (c .before .pre .1 .0) (c .before .pre .1 .1))
+    (λ c. let pre = c .before .before .before .pre .1 in along-begins (pre .0) (pre .1 .0) (pre .1 .1))
     (λ c κs. framed-tree (c .loop .inv .there))
     (λ c. search needs)
     (λ c κs.
@@ -38,29 +43,59 @@ pub +first-match-spec : {M : Type 1} → statement M
     let node = c .before .node-at in (
       inv .there,
       (
-        node .ensures,
+        inv .tabled,
         (
-          (λ records u over. single-leaf (node .result) (node .ensures) (over .tree)
-              (c .match .keys2)),
-          inv .few,
+          node .ensures,
+          ((λ records u over. single-leaf (node .result) (node .ensures) (over .tree) (c .match .keys2)), inv .few),
         ),
       ),
     ))
     (λ c. c .before .before .before .loop .inv .rest (c .leaf-match .result) (c .leaf-match .ensures))
+    (λ c. let start = c .before .before .before .before .before .before .before .before in
+    omega (arith, start .good, along-within (c .before .before .before .before .loop .inv) .0))
     (λ c κs.
     let turn = c .before .before .before .before in
-    left-there (turn .loop .inv) (c .before .before .before .node-at .ensures) (c .before .node .given .1) (turn .before .before .pre .0))
+    let is = c .before .before .before .node-at .ensures in
+    let told = c .before .node .given .1 in
+    let left = left-there (turn .loop .inv) is told (c .before .before .before .before .before .before .before .before .pre .0) in
+    (left .0, (left .1 .0, (along-tabled (turn .loop .inv) is told, left .1 .1))))
     (λ c. search needs)
     (λ c.
     let at-node = c .before .before .before .before .before in
-    along-left (at-node .before .before .before .loop .inv) (at-node .before .before .node-at .ensures) (at-node .node .given .1)
+    along-left (c .before .before .before .before .before .before .before .before .loop .inv) (at-node .before .before .node-at .ensures)
+    (at-node .node .given .1)
     (λ records u over. rw (c .before .pick .given .1) at (c .before .before .before .first-match .ensures records u over)))
     (λ c. search needs)
+    (λ c. let start = c .before .before .before .before .before .before .before .before .before .before .before .before in
+    omega (arith, start .good, along-within (c .before .before .before .before .before .before .before .before .loop .inv) .0))
+    (λ c κs. left-within (c .before .before .before .before .before .before .before .before .loop .inv)
+    (c .before .before .before .before .before .before .before .node-at .ensures)
+    (c .before .before .before .before .before .node .given .1) .0)
+    (λ c. let start = c .before .before .before .before .before .before .before .before .before .before .before .before .before in
+    omega (arith, start .good, along-within (c .before .before .before .before .before .before .before .before .before .loop .inv) .0))
     (λ c.
-    let at-node = c .before .before .before .before .before in
-    along-less (at-node .before .before .before .loop .inv) (at-node .before .before .node-at .ensures) (at-node .node .given .1)
-    (λ records u over. rw (c .before .right .given .1) at (c .before .before .before .first-match .ensures records u over)))
+    let start = c .before .before .before .before .before .before .before .before .before .before .before .before .before in
+    omega (
+      arith,
+      start .good,
+      left-within (c .before .before .before .before .before .before .before .before .before .loop .inv)
+          (c .before .before .before .before .before .before .before .before .node-at .ensures)
+          (c .before .before .before .before .before .before .node .given .1) .1,
+    ))
+    (λ c. left-within (c .before .before .before .before .before .before .before .before .before .before .loop .inv)
+    (c .before .before .before .before .before .before .before .before .before .node-at .ensures)
+    (c .before .before .before .before .before .before .before .node .given .1) .1)
+    (λ c. fits-16-64 (c .shared-slice-known4 .given _))
     (λ c.
-    let at-node = c .before .before .before .before .before in
-    along-right (at-node .before .before .before .loop .inv) (at-node .before .before .node-at .ensures) (at-node .node .given .1)
-    (λ records u over. rw (c .before .right .given .1) at (c .before .before .before .first-match .ensures records u over)))
+    let at-node = c .before .before .before .before .before .before .before in
+    along-less (c .before .before .before .before .before .before .before .before .before .before .loop .inv)
+    (at-node .before .before .node-at .ensures) (at-node .node .given .1)
+    (λ records u over. rw (c .before .before .before .counted .given .1) at
+    (c .before .before .before .before .before .first-match .ensures records u over)) (c .before .end-of .ensures))
+    (λ c.
+    let at-node = c .before .before .before .before .before .before .before in
+    along-right (c .before .before .before .before .before .before .before .before .before .before .loop .inv)
+    (at-node .before .before .node-at .ensures) (at-node .node .given .1)
+    (λ records u over. rw (c .before .before .before .counted .given .1) at
+    (c .before .before .before .before .before .first-match .ensures records u over)) (c .before .end-of .ensures)
+    _ refl)
