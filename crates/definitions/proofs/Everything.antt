@@ -22,6 +22,7 @@ use Rattle.definitions.specs.Program as Program
 use Rattle.definitions.specs.Printed as Printed
 use Rattle.definitions.specs.Good as Good
 use Rattle.definitions.specs.Merge as Merge
+use Rattle.definitions.specs.NodeTable as NodeTable
 
 unfoldable pub basics : ℕ
 unfolding Basics.ascii Basics.sameName Basics.bigEndian Basics.any Basics.all Basics.keep
@@ -86,9 +87,14 @@ unfolding Exchange.negate Exchange.exchangeRecord Exchange.exchangeFrame Exchang
     Exchange.exchangePlan
 exchange = 0
 
+unfoldable pub tables : ℕ
+unfolding NodeTable.kindByte NodeTable.recordOf NodeTable.nodesFrom NodeTable.rowFrom NodeTable.nodeTable NodeTable.sameRecord
+    NodeTable.beginsWith NodeTable.blank
+tables = 0
+
 unfoldable pub calls : ℕ
-unfolding Calls.writtenOver Calls.newAfterLoad Calls.finishLoad Calls.load Calls.finish Calls.heldPlan Calls.newAfterExchange
-    Calls.exchange Calls.matchedBytes Calls.newAfterExtractBy Calls.extractBy
+unfolding Calls.writtenOver Calls.tabled Calls.filledBy Calls.tableFits Calls.newAfterLoad Calls.finishLoad Calls.load Calls.finish
+    Calls.heldPlan Calls.newAfterExchange Calls.exchange Calls.matchedBytes Calls.newAfterExtractBy Calls.extractFilledBy Calls.extractBy
 calls = 0
 
 unfoldable pub machine : ℕ
@@ -114,7 +120,7 @@ logical = 0
 
 unfoldable pub program : ℕ
 unfolding Program.digitValue Program.pairBytes Program.digitBytes Program.orRefused Program.lineBytes Program.digit Program.digits
-    Program.refusedLine Program.loadLine Program.logicalLine Program.callLine Program.lineOf Program.readLine Program.lineOutcome
+    Program.refusedLine Program.loadLine Program.logicalLine Program.lineCall Program.callLine Program.lineOf Program.readLine Program.lineOutcome
     Program.writtenLine Program.intoFirst Program.linesOf Program.outputFrom Program.freshPlan Program.output
 program = 0
 
@@ -124,10 +130,11 @@ unfolding Printed.figures Printed.decimalWidth Printed.decimal Printed.digits16 
 printing = 0
 
 unfoldable pub merging : ℕ
-unfolding Good.nodes Good.depth Merge.raised Merge.mergeFrames Merge.overLimits Merge.mergedBytes Merge.newAfterMerge Merge.merge
+unfolding Good.nodes Good.depth Merge.raised Merge.mergeFrames Merge.overLimits Merge.mergedFrame Merge.newAfterMerge
+    Merge.withTable Merge.merge
 merging = 0
 
 unfoldable pub everything : ℕ
-unfolding basics expression literals encode leaves readers decode plans references match extract exchange calls machine sessions meaning
+unfolding basics expression literals encode leaves readers decode plans references match extract exchange tables calls machine sessions meaning
     logical program printing merging
 everything = 0

@@ -10,17 +10,17 @@ use Rattle.definitions.specs.Limits.{mostBytes}
 use Rattle.definitions.specs.Basics.{Result, ok, refused}
 use Rattle.definitions.specs.Expression.{Record, Frame, Extraction, held, extracted}
 use Rattle.definitions.specs.Encode.{frameBytes, extractionBytes, planBytes}
-use Rattle.definitions.specs.Plans.{frameOf}
 use Rattle.definitions.specs.Match.{matchLeaf}
 use Rattle.definitions.specs.Extract.{Matcher, matchesBy, extractionBy}
 use Rattle.definitions.specs.Exchange.{exchangeFrame, exchangeExtraction}
-use Rattle.definitions.specs.Calls.{load, extractBy}
+use Rattle.definitions.specs.Calls.{extractBy}
 use Rattle.definitions.specs.Machine.{Kind}
 use Rattle.definitions.specs.Good.{AllBytes, GoodPlan}
+use Rattle.definitions.specs.NodeTable.{NodeRecord}
 use Rattle.definitions.specs.Sessions.{Made, extractWith, exchangeWith, makeBy, machineAfterBy, accepted, SessionBy, after, lengthAfter, planAfter, extractedIn, oddIn, answerAfter}
 use Rattle.definitions.specs.Meaning.{Valuation, Meaning, frameValue, extractionValue}
 use Rattle.definitions.specs.Matchers.{Lawful, Symmetric, LeafAsks}
-use Rattle.definitions.specs.Claims.{CallWrote, extractRefusals, RefusedBy, AgreeBy, someLeafMatchesBy, matchAt, TookAmong, extractedPlan, NamesLeaf, priceLineBy, OnLine, valuesWhen, HasValue}
+use Rattle.definitions.specs.Claims.{CallWrote, extractRefusals, RefusedBy, LoadHoldsBy, AgreeBy, someLeafMatchesBy, matchAt, TookAmong, extractedPlan, NamesLeaf, priceLineBy, OnLine, valuesWhen, HasValue}
 
 -- The extractions with a matcher; `Asks` is what their values ask of a meaning and of the records.
 pub record Extracts (match : Matcher) (Asks : Meaning → List Record → Type 0) : Type 0 where
@@ -40,24 +40,25 @@ pub record Extracts (match : Matcher) (Asks : Meaning → List Record → Type 0
 -- A call with a matcher.
 pub record OneCall (match : Matcher) : Type 0 where
   -- The length that it gives is at most 16,384.
-  pub short : (kind : Kind) (n : ℕ) (buffer scratch : List ℕ) (m : ℕ) → AllBytes buffer → makeBy match kind n buffer scratch .answer ≡ ok m
-      → m ≤ mostBytes
+  pub short : (kind : Kind) (n : ℕ) (buffer scratch : List ℕ) (table : List NodeRecord) (m : ℕ) → AllBytes buffer
+      → makeBy match kind n buffer scratch table .answer ≡ ok m → m ≤ mostBytes
   -- Refused, it keeps n and both buffers.
-  pub keeps : (kind : Kind) (n : ℕ) (buffer scratch : List ℕ) → accepted (makeBy match kind n buffer scratch .answer) ≡ false
-      → (makeBy match kind n buffer scratch .n ≡ n) × (makeBy match kind n buffer scratch .buffer ≡ buffer)
-      × (makeBy match kind n buffer scratch .scratch ≡ scratch)
+  pub keeps : (kind : Kind) (n : ℕ) (buffer scratch : List ℕ) (table : List NodeRecord)
+      → accepted (makeBy match kind n buffer scratch table .answer) ≡ false
+      → (makeBy match kind n buffer scratch table .n ≡ n) × (makeBy match kind n buffer scratch table .buffer ≡ buffer)
+      × (makeBy match kind n buffer scratch table .scratch ≡ scratch)
   -- Accepted, it writes what 01 says and keeps every other byte of both buffers.
-  pub writes : (kind : Kind) (n : ℕ) (buffer scratch : List ℕ) → AllBytes buffer
-      → accepted (makeBy match kind n buffer scratch .answer) ≡ true → CallWrote n buffer scratch (makeBy match kind n buffer scratch)
+  pub writes : (kind : Kind) (n : ℕ) (buffer scratch : List ℕ) (table : List NodeRecord) → AllBytes buffer
+      → accepted (makeBy match kind n buffer scratch table .answer) ≡ true
+      → CallWrote n buffer scratch (makeBy match kind n buffer scratch table)
   -- An extract's answer is a length or one of its own refusals.
-  pub refusals : (n : ℕ) (buffer scratch : List ℕ) → RefusedBy extractRefusals (extractBy match n buffer scratch .answer)
+  pub refusals : (n : ℕ) (buffer scratch : List ℕ) (table : List NodeRecord)
+      → RefusedBy extractRefusals (extractBy match n buffer scratch table .answer)
 
 -- Lists of calls with a matcher, from a held frame.
 pub record Lists (match : Matcher) (Asks : Meaning → List Record → Type 0) : Type 0 where
   -- An accepted load leaves a session of its frame.
-  pub loads : (frame : List ℕ) (n : ℕ) (buffer : List ℕ) → AllBytes frame → accepted (load frame n buffer .answer) ≡ true
-      → (F : Frame) × (frameOf frame ≡ ok F) × (load frame n buffer .answer ≡ ok (length frame))
-      × (s : SessionBy match F) × (s .n ≡ load frame n buffer .n) × (s .buffer ≡ load frame n buffer .buffer)
+  pub loads : LoadHoldsBy match
   -- Every list gives what the two-bit machine gives.
   pub machine : (F : Frame) (s : SessionBy match F) (calls : List Made) → AgreeBy match F (after s calls) (machineAfterBy match F calls)
   -- Its answers are those of its calls, each made after the calls before it.

@@ -1,5 +1,6 @@
 -- The calls load, extract and exchange on lent buffers. (The logical call has no buffers: Logical.)
 use Prim.Native.Nat.{ℕ}
+use mathlib.Core.Bool.{Bool, true}
 use mathlib.Core.List.{List, _++_}
 use mathlib.Core.Option.{Option, none, some}
 use lib.ListN.{length, take, drop}
@@ -11,32 +12,59 @@ use Rattle.definitions.specs.Plans.{frameOf, planOf}
 use Rattle.definitions.specs.Match.{matchLeaf}
 use Rattle.definitions.specs.Extract.{Matcher, extractionBy}
 use Rattle.definitions.specs.Exchange.{exchangePlan}
+use Rattle.definitions.specs.Good.{nodes}
+use Rattle.definitions.specs.NodeTable.{NodeRecord, nodeTable, beginsWith}
 
--- These bytes at the start, the bytes after them as they were.
-unfoldable pub writtenOver : (bytes buffer : List ℕ) → List ℕ
-writtenOver bytes buffer = bytes ++ drop (length bytes) buffer
+-- These at the start, those after them as they were.
+unfoldable pub writtenOver : {A : Type 0} → (new old : List A) → List A
+writtenOver new old = new ++ drop (length new) old
 
--- ---- load: 1 to 8, 9
+-- ---- the table of nodes (request 6)
 
--- What a load gives: the frame's length or a refusal, and what n and the plan buffer are afterwards.
+-- A frame, or 17 where the table is shorter than its node count.
+unfoldable pub tabled : (places : ℕ) → Frame → Result Frame
+tabled places F = if leb (nodes (F .expr)) places then ok F else refused 17
+
+-- The table filled with a frame's records, those past them as they were; a refusal changes none.
+unfoldable pub filledBy : Result Frame → (table : List NodeRecord) → List NodeRecord
+filledBy (ok F) table = writtenOver (nodeTable F) table
+filledBy (refused number) table = table
+
+-- Whether the table begins with the records of the frame that is held; where none is, any does.
+unfoldable pub tableFits : (table : List NodeRecord) → Result Plan → Bool
+tableFits table (ok (held F)) = beginsWith (nodeTable F) table
+tableFits table (ok (extracted X)) = true
+tableFits table (ok empty) = true
+tableFits table (refused number) = true
+
+-- ---- load: 1 to 8, 9, 17
+
+-- What a load gives: the frame's length or a refusal, and what n, the plan buffer and the table are afterwards.
 pub record LoadOutcome : Type 0 where
   pub answer : Result ℕ
   pub n : ℕ
   pub buffer : List ℕ
+  pub table : List NodeRecord
 
--- The new plan of a load: the frame as it is; 9 where the plan buffer is shorter.
-unfoldable pub newAfterLoad : (frame : List ℕ) → (room : ℕ) → Result Frame → Result (List ℕ)
-newAfterLoad frame room (refused number) = refused number
-newAfterLoad frame room (ok F) = if leb (length frame) room then ok frame else refused 9
+-- The frame that is loaded: 9 where the plan buffer is shorter than its bytes, then 17.
+unfoldable pub newAfterLoad : (frame : List ℕ) → (room places : ℕ) → Result Frame → Result Frame
+newAfterLoad frame room places (refused number) = refused number
+newAfterLoad frame room places (ok F) = if leb (length frame) room then tabled places F else refused 9
 
--- The new plan at the buffer's start; a refusal changes nothing.
-unfoldable pub finishLoad : (n : ℕ) → (buffer : List ℕ) → Result (List ℕ) → LoadOutcome
-finishLoad n buffer (ok bytes) = record { answer = ok (length bytes); n = length bytes; buffer = writtenOver bytes buffer }
-finishLoad n buffer (refused number) = record { answer = refused number; n = n; buffer = buffer }
+-- The frame as it is at the buffer's start, and its records at the table's; a refusal changes nothing.
+unfoldable pub finishLoad : (frame : List ℕ) → (n : ℕ) → (buffer : List ℕ) → (table : List NodeRecord) → Result Frame → LoadOutcome
+finishLoad frame n buffer table (ok F) = record {
+  answer = ok (length frame);
+  n = length frame;
+  buffer = writtenOver frame buffer;
+  table = filledBy (ok F) table;
+}
+finishLoad frame n buffer table (refused number) =
+    record { answer = refused number; n = n; buffer = buffer; table = filledBy (refused number) table }
 
--- Load takes a frame and reads nothing of the old plan.
-unfoldable pub load : (frame : List ℕ) → (n : ℕ) → (buffer : List ℕ) → LoadOutcome
-load frame n buffer = finishLoad n buffer (newAfterLoad frame (length buffer) (frameOf frame))
+-- Load takes a frame and reads nothing of the old plan nor of the table.
+unfoldable pub load : (frame : List ℕ) → (n : ℕ) → (buffer : List ℕ) → (table : List NodeRecord) → LoadOutcome
+load frame n buffer table = finishLoad frame n buffer table (newAfterLoad frame (length buffer) (length table) (frameOf frame))
 
 -- ---- extract and exchange
 
@@ -88,10 +116,19 @@ newAfterExtractBy match n room (ok (held F)) = if leb n room then matchedBytes (
 abbrev pub newAfterExtract : (n room : ℕ) → Result Plan → Result (List ℕ)
 newAfterExtract = newAfterExtractBy matchLeaf
 
--- The call extract.
-unfoldable pub extractBy : Matcher → (n : ℕ) → (buffer scratch : List ℕ) → Outcome
-extractBy match n buffer scratch = finish n buffer scratch (newAfterExtractBy match n (length scratch) (heldPlan n buffer))
+-- The call extract with a table that fits.
+unfoldable pub extractFilledBy : Matcher → (n : ℕ) → (buffer scratch : List ℕ) → Outcome
+extractFilledBy match n buffer scratch = finish n buffer scratch (newAfterExtractBy match n (length scratch) (heldPlan n buffer))
 
 -- 01's, with `matchLeaf`.
-abbrev pub extract : (n : ℕ) → (buffer scratch : List ℕ) → Outcome
+abbrev pub extractFilled : (n : ℕ) → (buffer scratch : List ℕ) → Outcome
+extractFilled = extractFilledBy matchLeaf
+
+-- The call extract: 10 for a table that does not fit.
+unfoldable pub extractBy : Matcher → (n : ℕ) → (buffer scratch : List ℕ) → (table : List NodeRecord) → Outcome
+extractBy match n buffer scratch table =
+    if tableFits table (heldPlan n buffer) then extractFilledBy match n buffer scratch else finish n buffer scratch (refused 10)
+
+-- 01's, with `matchLeaf`.
+abbrev pub extract : (n : ℕ) → (buffer scratch : List ℕ) → (table : List NodeRecord) → Outcome
 extract = extractBy matchLeaf

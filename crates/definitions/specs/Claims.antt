@@ -19,9 +19,10 @@ use Rattle.definitions.specs.Match.{matchLeaf}
 use Rattle.definitions.specs.Extract.{isKnn, without, prune, Matcher, matchesBy, matchesOf, extractionBy, extraction}
 use Rattle.definitions.specs.Exchange.{exchangeFrame, exchangeExtraction, exchangePlan}
 use Rattle.definitions.specs.Calls.{LoadOutcome, load, Outcome, extract, exchange}
+use Rattle.definitions.specs.NodeTable.{NodeRecord, nodeTable}
 use Rattle.definitions.specs.Machine.{Kind, machinePlan, machineLength, Run}
 use Rattle.definitions.specs.Good.{AllBytes, nodes, Short, Readable, GoodPlan, NoMarks}
-use Rattle.definitions.specs.Sessions.{Made, extractWith, exchangeWith, make, ListOutcome, machineAfter, accepted, Session, after, lengthAfter, planLeft, planAfter, extractedIn, oddIn, answerAfter}
+use Rattle.definitions.specs.Sessions.{Made, extractWith, exchangeWith, make, ListOutcome, machineAfter, accepted, SessionBy, Session, after, lengthAfter, planLeft, planAfter, extractedIn, oddIn, answerAfter}
 use Rattle.definitions.specs.Meaning.{Valuation, Meaning, Fair, andValue, frameValue, extractionValue, planValue, exchangedValues}
 use Rattle.definitions.specs.Logical.{spatialNames, mask, distinct, logical}
 use Rattle.definitions.specs.Printed.{print}
@@ -76,31 +77,41 @@ ExchangeGood = (p : Plan) → GoodPlan p → GoodPlan (exchangePlan p) × (lengt
 -- The length that a call gives is at most 16,384.
 abbrev pub LengthsShort : Type 0
 LengthsShort =
-    ((frame : List ℕ) (n : ℕ) (buffer : List ℕ) (m : ℕ) → AllBytes frame → load frame n buffer .answer ≡ ok m → m ≤ mostBytes)
-    × ((kind : Kind) (n : ℕ) (buffer scratch : List ℕ) (m : ℕ) → AllBytes buffer → make kind n buffer scratch .answer ≡ ok m
-    → m ≤ mostBytes)
+    ((frame : List ℕ) (n : ℕ) (buffer : List ℕ) (table : List NodeRecord) (m : ℕ) → AllBytes frame
+    → load frame n buffer table .answer ≡ ok m → m ≤ mostBytes)
+    × ((kind : Kind) (n : ℕ) (buffer scratch : List ℕ) (table : List NodeRecord) (m : ℕ) → AllBytes buffer
+    → make kind n buffer scratch table .answer ≡ ok m → m ≤ mostBytes)
 
 -- ---- demand 1: what a call changes, and the numbers of its refusals
 
--- A refused load keeps n and the plan buffer; a refused extract or exchange keeps n and both buffers.
+-- A refused load keeps n, the plan buffer and the table; a refused extract or exchange keeps n and both buffers.
 abbrev pub RefusedKeeps : Type 0
 RefusedKeeps =
-    ((frame : List ℕ) (n : ℕ) (buffer : List ℕ) → accepted (load frame n buffer .answer) ≡ false
-    → (load frame n buffer .n ≡ n) × (load frame n buffer .buffer ≡ buffer))
-    × ((kind : Kind) (n : ℕ) (buffer scratch : List ℕ) → accepted (make kind n buffer scratch .answer) ≡ false
-    → (make kind n buffer scratch .n ≡ n) × (make kind n buffer scratch .buffer ≡ buffer) × (make kind n buffer scratch .scratch ≡ scratch))
+    ((frame : List ℕ) (n : ℕ) (buffer : List ℕ) (table : List NodeRecord) → accepted (load frame n buffer table .answer) ≡ false
+    → (load frame n buffer table .n ≡ n) × (load frame n buffer table .buffer ≡ buffer) × (load frame n buffer table .table ≡ table))
+    × ((kind : Kind) (n : ℕ) (buffer scratch : List ℕ) (table : List NodeRecord)
+    → accepted (make kind n buffer scratch table .answer) ≡ false
+    → (make kind n buffer scratch table .n ≡ n) × (make kind n buffer scratch table .buffer ≡ buffer)
+    × (make kind n buffer scratch table .scratch ≡ scratch))
 
--- From a place on the bytes are as they were, and as many.
-pub record SameFrom (place : ℕ) (old new : List ℕ) : Type 0 where
+-- From a place on they are as they were, and as many.
+pub record SameFrom {A : Type 0} (place : ℕ) (old new : List A) : Type 0 where
   pub asMany : length new ≡ length old
   pub rest : drop place new ≡ drop place old
 
--- A load wrote the frame to the plan buffer's start and changed nothing else.
-pub record LoadWrote (frame buffer : List ℕ) (o : LoadOutcome) : Type 0 where
+-- Request 6: a table was filled with a frame's records, and those past them kept.
+pub record Filled (F : Frame) (table after : List NodeRecord) : Type 0 where
+  pub enough : nodes (F .expr) ≤ length table
+  pub records : take (nodes (F .expr)) after ≡ nodeTable F
+  pub others : SameFrom (nodes (F .expr)) table after
+
+-- A load wrote the frame to the plan buffer's start, filled the table with its records, and changed nothing else.
+pub record LoadWrote (frame buffer : List ℕ) (table : List NodeRecord) (o : LoadOutcome) : Type 0 where
   pub answer : o .answer ≡ ok (length frame)
   pub size : o .n ≡ length frame
   pub plan : take (length frame) (o .buffer) ≡ frame
   pub others : SameFrom (length frame) buffer (o .buffer)
+  pub filled : (F : Frame) × (frameOf frame ≡ ok F) × Filled F table (o .table)
 
 -- A call copied the old plan to the scratch's first n bytes, wrote a plan of the length that it gave, and changed nothing else.
 pub record CallWrote (n : ℕ) (buffer scratch : List ℕ) (o : Outcome) : Type 0 where
@@ -112,14 +123,14 @@ pub record CallWrote (n : ℕ) (buffer scratch : List ℕ) (o : Outcome) : Type 
 -- An accepted call writes what 01 says and keeps every other byte of both buffers.
 abbrev pub AcceptedWrites : Type 0
 AcceptedWrites =
-    ((frame : List ℕ) (n : ℕ) (buffer : List ℕ) → accepted (load frame n buffer .answer) ≡ true
-    → LoadWrote frame buffer (load frame n buffer))
-    × ((kind : Kind) (n : ℕ) (buffer scratch : List ℕ) → AllBytes buffer → accepted (make kind n buffer scratch .answer) ≡ true
-    → CallWrote n buffer scratch (make kind n buffer scratch))
+    ((frame : List ℕ) (n : ℕ) (buffer : List ℕ) (table : List NodeRecord) → accepted (load frame n buffer table .answer) ≡ true
+    → LoadWrote frame buffer table (load frame n buffer table))
+    × ((kind : Kind) (n : ℕ) (buffer scratch : List ℕ) (table : List NodeRecord) → AllBytes buffer
+    → accepted (make kind n buffer scratch table .answer) ≡ true → CallWrote n buffer scratch (make kind n buffer scratch table))
 
--- The refusals of each call, in the order of 01 and 02; print is request 1's, merge request 2's.
+-- The refusals of each call, in the order of 01 and 02; print is request 1's, merge request 2's, 17 request 6's.
 unfoldable pub loadRefusals : List ℕ
-loadRefusals = 1 ∷ 2 ∷ 3 ∷ 4 ∷ 5 ∷ 6 ∷ 7 ∷ 8 ∷ 9 ∷ []
+loadRefusals = 1 ∷ 2 ∷ 3 ∷ 4 ∷ 5 ∷ 6 ∷ 7 ∷ 8 ∷ 9 ∷ 17 ∷ []
 
 unfoldable pub extractRefusals : List ℕ
 extractRefusals = 10 ∷ 11 ∷ 12 ∷ 9 ∷ 13 ∷ []
@@ -134,7 +145,7 @@ unfoldable pub printRefusals : List ℕ
 printRefusals = 1 ∷ 2 ∷ 3 ∷ 4 ∷ 5 ∷ 6 ∷ 7 ∷ 8 ∷ 15 ∷ []
 
 unfoldable pub mergeRefusals : List ℕ
-mergeRefusals = 1 ∷ 2 ∷ 3 ∷ 4 ∷ 5 ∷ 6 ∷ 7 ∷ 8 ∷ 10 ∷ 11 ∷ 12 ∷ 16 ∷ 9 ∷ []
+mergeRefusals = 1 ∷ 2 ∷ 3 ∷ 4 ∷ 5 ∷ 6 ∷ 7 ∷ 8 ∷ 10 ∷ 11 ∷ 12 ∷ 16 ∷ 9 ∷ 17 ∷ []
 
 -- A value, or a refusal with one of these numbers.
 abbrev pub RefusedBy : {A : Type 0} → (numbers : List ℕ) → Result A → Type 0
@@ -144,27 +155,38 @@ RefusedBy numbers (refused number) = any (eqb number) numbers ≡ true
 -- Every answer is a value or one of the call's own refusals.
 abbrev pub RefusalsOfCalls : Type 0
 RefusalsOfCalls =
-    ((frame : List ℕ) (n : ℕ) (buffer : List ℕ) → RefusedBy loadRefusals (load frame n buffer .answer))
-    × ((n : ℕ) (buffer scratch : List ℕ) → RefusedBy extractRefusals (extract n buffer scratch .answer))
+    ((frame : List ℕ) (n : ℕ) (buffer : List ℕ) (table : List NodeRecord) → RefusedBy loadRefusals (load frame n buffer table .answer))
+    × ((n : ℕ) (buffer scratch : List ℕ) (table : List NodeRecord) → RefusedBy extractRefusals (extract n buffer scratch table .answer))
     × ((n : ℕ) (buffer scratch : List ℕ) → RefusedBy exchangeRefusals (exchange n buffer scratch .answer))
     × ((frame : List ℕ) → RefusedBy logicalRefusals (logical frame))
     × ((frame buffer : List ℕ) → RefusedBy printRefusals (print frame buffer .answer))
-    × ((frame : List ℕ) (n : ℕ) (buffer scratch : List ℕ) → RefusedBy mergeRefusals (merge frame n buffer scratch .answer))
+    × ((frame : List ℕ) (n : ℕ) (buffer scratch : List ℕ) (table : List NodeRecord)
+    → RefusedBy mergeRefusals (merge frame n buffer scratch table .answer))
 
 -- ---- demand 3: lists of calls
 
--- A good frame is loaded exactly when the plan buffer has room for its bytes.
+-- A good frame is loaded exactly when the plan buffer has room for its bytes and the table for its nodes.
 abbrev pub LoadAccepted : Type 0
 LoadAccepted =
-    (F : Frame) (n : ℕ) (buffer : List ℕ) → GoodPlan (held F)
-    → accepted (load (frameBytes F) n buffer .answer) ≡ leb (length (frameBytes F)) (length buffer)
+    (F : Frame) (n : ℕ) (buffer : List ℕ) (table : List NodeRecord) → GoodPlan (held F)
+    → accepted (load (frameBytes F) n buffer table .answer)
+    ≡ (leb (length (frameBytes F)) (length buffer) && leb (nodes (F .expr)) (length table))
 
--- An accepted load is of a good frame, gives its length, and leaves it held: a session of that frame.
+-- A call left this n, plan buffer and table in a session of this frame: all that is claimed of sessions holds from there. (Ours.)
+abbrev pub LeavesSession : Matcher → Frame → (n : ℕ) → (buffer : List ℕ) → (table : List NodeRecord) → Type 0
+LeavesSession match F n buffer table = (s : SessionBy match F) × (s .n ≡ n) × (s .buffer ≡ buffer) × (s .table ≡ table)
+
+-- An accepted load is of a good frame, gives its length, and leaves it held, whatever the matcher: a session of that frame.
+abbrev pub LoadHoldsBy : Matcher → Type 0
+LoadHoldsBy match =
+    (frame : List ℕ) (n : ℕ) (buffer : List ℕ) (table : List NodeRecord) → AllBytes frame
+    → accepted (load frame n buffer table .answer) ≡ true
+    → (F : Frame) × (frameOf frame ≡ ok F) × (load frame n buffer table .answer ≡ ok (length frame))
+    × LeavesSession match F (load frame n buffer table .n) (load frame n buffer table .buffer) (load frame n buffer table .table)
+
+-- 01's, with `matchLeaf`.
 abbrev pub LoadHolds : Type 0
-LoadHolds =
-    (frame : List ℕ) (n : ℕ) (buffer : List ℕ) → AllBytes frame → accepted (load frame n buffer .answer) ≡ true
-    → (F : Frame) × (frameOf frame ≡ ok F) × (load frame n buffer .answer ≡ ok (length frame))
-    × (s : Session F) × (s .n ≡ load frame n buffer .n) × (s .buffer ≡ load frame n buffer .buffer)
+LoadHolds = LoadHoldsBy matchLeaf
 
 -- The calls give the machine's answers, and leave the machine's plan and its length.
 pub record AgreeBy (match : Matcher) (F : Frame) (o : ListOutcome) (m : Run) : Type 0 where

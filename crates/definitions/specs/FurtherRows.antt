@@ -10,6 +10,7 @@ use Rattle.definitions.specs.Expression.{left, right, within, column, an
 use Rattle.definitions.specs.Encode.{frameBytes}
 use Rattle.definitions.specs.Extract.{holds}
 use Rattle.definitions.specs.Calls.{exchange, extractBy}
+use Rattle.definitions.specs.NodeTable.{nodeTable}
 use Rattle.definitions.specs.Meaning.{andValue}
 use Rattle.definitions.specs.TenRows.{planOrRefusal, extractAfter, exchangeAfter, extractOf, workedFrame, L, R, onBoth, childL, childR, two, knnOf, int32, alone, withRest}
 
@@ -30,7 +31,7 @@ pub record FurtherRows : Type 0 where
   pub exchange-kept : exchange (length worked) worked (replicate 3 0xee)
       ≡ record { answer = refused 9; n = length worked; buffer = worked; scratch = replicate 3 0xee }
   -- extract goes by the matcher that it is given: none matches here
-  pub own-matcher : extractBy (λ records e. none) (length worked) worked (replicate 64 0) .answer ≡ refused 13
+  pub own-matcher : extractBy (λ records e. none) (length worked) worked (replicate 64 0) (nodeTable workedFrame) .answer ≡ refused 13
   -- indexes 3 and 5 are held, of a column at the top and of one inside a call; the tags 1 and 2 are not, nor is what lies between
   pub indexes-held : map (holds (and (column 3 1) (call (ascii "f") (cons (column 5 2) nil)))) (1 ∷ 2 ∷ 3 ∷ 4 ∷ 5 ∷ [])
       ≡ false ∷ false ∷ true ∷ false ∷ true ∷ []

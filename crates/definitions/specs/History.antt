@@ -12,9 +12,10 @@ use Rattle.definitions.specs.Extract.{Matcher}
 use Rattle.definitions.specs.Exchange.{exchangeFrame}
 use Rattle.definitions.specs.Calls.{LoadOutcome, load, Outcome}
 use Rattle.definitions.specs.Machine.{Bits, fresh, machinePlan, machineLength, Step, machineStep}
-use Rattle.definitions.specs.Good.{AllBytes}
-use Rattle.definitions.specs.Sessions.{Made, makeBy, ListOutcome}
-use Rattle.definitions.specs.Merge.{mergeFrames, overLimits, merge}
+use Rattle.definitions.specs.Good.{AllBytes, nodes}
+use Rattle.definitions.specs.NodeTable.{NodeRecord}
+use Rattle.definitions.specs.Sessions.{Made, makeBy}
+use Rattle.definitions.specs.Merge.{mergeFrames, overLimits, MergeOutcome, merge}
 
 -- One call: a load, an extract or exchange, or a merge.
 pub data Call : Type 0 where
@@ -47,10 +48,14 @@ refuseCall s number = record { answer = refused number; state = s }
 unfoldable pub startAt : Frame → Answered
 startAt F = record { answer = ok (length (frameBytes F)); state = started F fresh }
 
--- Load: 1 to 8, 9; `room` is the plan buffer's length.
-unfoldable pub loadCall : (room : ℕ) → State → Result Frame → Answered
-loadCall room s (refused number) = refuseCall s number
-loadCall room s (ok F) = if leb (length (frameBytes F)) room then startAt F else refuseCall s 9
+-- 17 where the table is shorter than the frame's node count, else the machine starts afresh from it (request 6).
+unfoldable pub startIn : (places : ℕ) → State → Frame → Answered
+startIn places s F = if leb (nodes (F .expr)) places then startAt F else refuseCall s 17
+
+-- Load: 1 to 8, 9, 17; `room` is the plan buffer's length, `places` the table's.
+unfoldable pub loadCall : (room places : ℕ) → State → Result Frame → Answered
+loadCall room places s (refused number) = refuseCall s number
+loadCall room places s (ok F) = if leb (length (frameBytes F)) room then startIn places s F else refuseCall s 9
 
 -- Extract and exchange: 11, else what the two-bit machine does.
 unfoldable pub makeCall : Matcher → State → Made → Answered
@@ -63,26 +68,26 @@ makeCall match (started F bits) c =
 abbrev pub heldNow : Frame → (odd : Bool) → Frame
 heldNow F odd = if odd then exchangeFrame F else F
 
--- A merged frame: 16, 9, else the machine starts afresh from it.
-unfoldable pub mergedCall : (n scratch room : ℕ) → State → Frame → Answered
-mergedCall n scratch room s M =
+-- A merged frame: 16, 9, 17, else the machine starts afresh from it.
+unfoldable pub mergedCall : (n scratch room places : ℕ) → State → Frame → Answered
+mergedCall n scratch room places s M =
     if overLimits M then refuseCall s 16 else
-    if leb n scratch && leb (length (frameBytes M)) room then startAt M else
+    if leb n scratch && leb (length (frameBytes M)) room then startIn places s M else
     refuseCall s 9
 
--- Merge: 1 to 8, 11, 12, 16, 9. (10 never comes, because what is held is good.)
-unfoldable pub mergeCall : Matcher → (scratch room : ℕ) → State → Result Frame → Answered
-mergeCall match scratch room s (refused number) = refuseCall s number
-mergeCall match scratch room nothing (ok new) = refuseCall nothing 11
-mergeCall match scratch room (started F bits) (ok new) =
+-- Merge: 1 to 8, 11, 12, 16, 9, 17. (10 never comes, because what is held is good.)
+unfoldable pub mergeCall : Matcher → (scratch room places : ℕ) → State → Result Frame → Answered
+mergeCall match scratch room places s (refused number) = refuseCall s number
+mergeCall match scratch room places nothing (ok new) = refuseCall nothing 11
+mergeCall match scratch room places (started F bits) (ok new) =
     if bits .isExtracted then refuseCall (started F bits) 12 else
-    mergedCall (machineLength match F bits) scratch room (started F bits) (mergeFrames (heldNow F (bits .isOdd)) new)
+    mergedCall (machineLength match F bits) scratch room places (started F bits) (mergeFrames (heldNow F (bits .isOdd)) new)
 
--- One call, over a plan buffer of this length.
-unfoldable pub machineCall : Matcher → (room : ℕ) → State → Call → Answered
-machineCall match room s (loading frame) = loadCall room s (frameOf frame)
-machineCall match room s (making c) = makeCall match s c
-machineCall match room s (merging frame scratch) = mergeCall match (length scratch) room s (frameOf frame)
+-- One call, over a plan buffer and a table of these lengths.
+unfoldable pub machineCall : Matcher → (room places : ℕ) → State → Call → Answered
+machineCall match room places s (loading frame) = loadCall room places s (frameOf frame)
+machineCall match room places s (making c) = makeCall match s c
+machineCall match room places s (merging frame scratch) = mergeCall match (length scratch) room places s (frameOf frame)
 
 -- The answers of a list of calls, and the state at its end.
 pub record History : Type 0 where
@@ -90,32 +95,43 @@ pub record History : Type 0 where
   pub state : State
 
 -- The machine fed a list of calls.
-unfoldable pub machineHistory : Matcher → (room : ℕ) → State → List Call → History
-machineHistory match room s [] = record { answers = []; state = s }
-machineHistory match room s (c ∷ cs) =
-    let one : Answered = machineCall match room s c in
-    let after : History = machineHistory match room (one .state) cs in
+unfoldable pub machineHistory : Matcher → (room places : ℕ) → State → List Call → History
+machineHistory match room places s [] = record { answers = []; state = s }
+machineHistory match room places s (c ∷ cs) =
+    let one : Answered = machineCall match room places s c in
+    let after : History = machineHistory match room places (one .state) cs in
     record { answers = one .answer ∷ after .answers; state = after .state }
 
 -- ---- the calls
 
--- What extract, exchange and merge leave but for the scratch.
-abbrev pub butScratch : Outcome → LoadOutcome
-butScratch o = record { answer = o .answer; n = o .n; buffer = o .buffer }
+-- What extract and exchange leave but for the scratch; the table is as it was.
+abbrev pub butScratch : Outcome → (table : List NodeRecord) → LoadOutcome
+butScratch o table = record { answer = o .answer; n = o .n; buffer = o .buffer; table = table }
 
--- One call on n and the plan buffer.
-unfoldable pub oneCallBy : Matcher → (n : ℕ) → (buffer : List ℕ) → Call → LoadOutcome
-oneCallBy match n buffer (loading frame) = load frame n buffer
-oneCallBy match n buffer (making c) = butScratch (makeBy match (c .kind) n buffer (c .scratch))
-oneCallBy match n buffer (merging frame scratch) = butScratch (merge frame n buffer scratch)
+-- What merge leaves but for the scratch.
+abbrev pub mergedBut : MergeOutcome → LoadOutcome
+mergedBut o = record { answer = o .answer; n = o .n; buffer = o .buffer; table = o .table }
 
--- A list of calls, each given the last n and the plan buffer as it was left.
-unfoldable pub historyBy : Matcher → (n : ℕ) → (buffer : List ℕ) → List Call → ListOutcome
-historyBy match n buffer [] = record { answers = []; n = n; buffer = buffer }
-historyBy match n buffer (c ∷ cs) =
-    let one : LoadOutcome = oneCallBy match n buffer c in
-    let after : ListOutcome = historyBy match (one .n) (one .buffer) cs in
-    record { answers = one .answer ∷ after .answers; n = after .n; buffer = after .buffer }
+-- One call on n, the plan buffer and the table.
+unfoldable pub oneCallBy : Matcher → (n : ℕ) → (buffer : List ℕ) → (table : List NodeRecord) → Call → LoadOutcome
+oneCallBy match n buffer table (loading frame) = load frame n buffer table
+oneCallBy match n buffer table (making c) = butScratch (makeBy match (c .kind) n buffer (c .scratch) table) table
+oneCallBy match n buffer table (merging frame scratch) = mergedBut (merge frame n buffer scratch table)
+
+-- The answers of such a list, and n, the plan buffer and the table at its end.
+pub record HistoryOutcome : Type 0 where
+  pub answers : List (Result ℕ)
+  pub n : ℕ
+  pub buffer : List ℕ
+  pub table : List NodeRecord
+
+-- A list of calls, each given the last n, and the plan buffer and the table as they were left.
+unfoldable pub historyBy : Matcher → (n : ℕ) → (buffer : List ℕ) → (table : List NodeRecord) → List Call → HistoryOutcome
+historyBy match n buffer table [] = record { answers = []; n = n; buffer = buffer; table = table }
+historyBy match n buffer table (c ∷ cs) =
+    let one : LoadOutcome = oneCallBy match n buffer table c in
+    let after : HistoryOutcome = historyBy match (one .n) (one .buffer) (one .table) cs in
+    record { answers = one .answer ∷ after .answers; n = after .n; buffer = after .buffer; table = after .table }
 
 -- The frame that a call hands over is of bytes.
 abbrev pub FrameIsBytes : Call → Type 0

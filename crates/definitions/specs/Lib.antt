@@ -26,9 +26,10 @@ pub mod References
 pub mod Match
 pub mod Extract
 pub mod Exchange
+pub mod Good
+pub mod NodeTable
 pub mod Calls
 pub mod Machine
-pub mod Good
 pub mod Sessions
 pub mod Meaning
 pub mod Matchers
@@ -50,7 +51,6 @@ pub mod PrintClaims
 pub mod PrintRows
 pub mod MergeClaims
 pub mod MergeRows
-pub mod NodeTable
 pub mod TableClaims
 pub mod TableRows
 pub mod PruningClaims

@@ -10,9 +10,10 @@ use Rattle.definitions.specs.Expression.{left, noSide, Expr, column, and
 use Rattle.definitions.specs.Encode.{frameBytes}
 use Rattle.definitions.specs.Extract.{matchesOf}
 use Rattle.definitions.specs.Calls.{Outcome, extract}
+use Rattle.definitions.specs.NodeTable.{nodeTable, blank}
 use Rattle.definitions.specs.Claims.{markedFrame}
-use Rattle.definitions.specs.Merge.{mergeFrames, overLimits, merge}
-use Rattle.definitions.specs.RefusalTable.{ands, tree, over, matching}
+use Rattle.definitions.specs.Merge.{mergeFrames, overLimits, MergeOutcome, merge}
+use Rattle.definitions.specs.RefusalTable.{ands, tree, over, matchingFrame, matching}
 
 -- A frame over so many equal records.
 abbrev pub frameOver : (records : ℕ) → Expr → Frame
@@ -40,37 +41,43 @@ large = frameOver 0 (other 0 (groups nil 14))
 abbrev pub larger : (name : ℕ) → Frame
 larger name = frameOver 0 (other 0 (groups (cons (call (replicate name 97) nil) nil) 15))
 
--- A merge into a plan buffer of `room` bytes that starts with a frame, with so many bytes of scratch.
-abbrev pub into : Frame → (new : List ℕ) → (room scratch : ℕ) → Outcome
-into old new room scratch = merge new (length (frameBytes old)) (take room (frameBytes old ++ replicate room 9)) (replicate scratch 7)
+-- A merge into a plan buffer of `room` bytes that starts with a frame, with so many bytes of scratch and a table of `places` records.
+abbrev pub intoTable : Frame → (new : List ℕ) → (room scratch places : ℕ) → MergeOutcome
+intoTable old new room scratch places =
+    merge new (length (frameBytes old)) (take room (frameBytes old ++ replicate room 9)) (replicate scratch 7) (replicate places blank)
+
+-- With a table that has room.
+abbrev pub into : Frame → (new : List ℕ) → (room scratch : ℕ) → MergeOutcome
+into old new room scratch = intoTable old new room scratch 1024
 
 -- Its answer.
 abbrev pub answerInto : (old new : Frame) → (room scratch : ℕ) → Result ℕ
 answerInto old new room scratch = into old (frameBytes new) room scratch .answer
 
 -- A merge into the extraction of `matching`, without scratch.
-abbrev pub intoExtraction : Outcome
+abbrev pub intoExtraction : MergeOutcome
 intoExtraction =
-    let o : Outcome = extract (length matching) matching (replicate 64 0) in
-    merge (frameBytes small) (o .n) (o .buffer) []
+    let o : Outcome = extract (length matching) matching (replicate 64 0) (nodeTable matchingFrame) in
+    merge (frameBytes small) (o .n) (o .buffer) [] []
 
 pub record MergeRows : Type 0 where
   -- the held filter on the left, three equal records kept, column 1 of the new filter raised by one held record
   pub merged : mergeFrames (frameOver 1 (column 0 7)) (frameOver 2 (column 1 8)) ≡ frameOver 3 (and (column 0 7) (column 2 8))
-  -- the old plan in the scratch, the bytes after both kept
+  -- the old plan in the scratch, the merged frame's three records in the table; bytes and records after them kept
   pub written :
-      into small (frameBytes small) 16 9
+      intoTable small (frameBytes small) 16 9 5
       ≡ record {
         answer = ok 13;
         n = 13;
         buffer = frameBytes (frameOver 0 (and (other 12 nil) (other 12 nil))) ++ (9 ∷ 9 ∷ 9 ∷ []);
         scratch = frameBytes small ++ (7 ∷ 7 ∷ []);
+        table = nodeTable (frameOver 0 (and (other 12 nil) (other 12 nil))) ++ (blank ∷ blank ∷ []);
       }
   -- 1 to 8 of the new frame before 10; 11 with nothing held, 12 with an extraction, before 9
-  pub bad-first : merge (2 ∷ []) 5 [] [] .answer ≡ refused 2
-  pub bad-arity : merge (frameBytes (frameOver 0 (call (ascii "st_within") nil))) 5 [] [] .answer ≡ refused 8
-  pub bad-plan : merge (frameBytes small) 5 [] [] .answer ≡ refused 10
-  pub no-plan : merge (frameBytes small) 0 [] [] .answer ≡ refused 11
+  pub bad-first : merge (2 ∷ []) 5 [] [] [] .answer ≡ refused 2
+  pub bad-arity : merge (frameBytes (frameOver 0 (call (ascii "st_within") nil))) 5 [] [] [] .answer ≡ refused 8
+  pub bad-plan : merge (frameBytes small) 5 [] [] [] .answer ≡ refused 10
+  pub no-plan : merge (frameBytes small) 0 [] [] [] .answer ≡ refused 11
   pub held-extraction : intoExtraction .answer ≡ refused 12
   -- 9 for a scratch or a plan buffer that is a byte short; both just long enough
   pub short-scratch : answerInto small small 13 6 ≡ refused 9

@@ -41,8 +41,8 @@ pub record NearestRows : Type 0 where
   -- a held extraction with k 0 is no plan: 10 before 12
   pub held-one : exchange 21 (heldKnn 1) (replicate 21 0) .answer ≡ ok 21
   pub held-zero : exchange 21 (heldKnn 0) (replicate 21 0) .answer ≡ refused 10
-  pub held-extract : extract 21 (heldKnn 0) (replicate 21 0) .answer ≡ refused 10
-  pub held-merge : merge (frameBytes workedFrame) 21 (heldKnn 0) (replicate 21 0) .answer ≡ refused 10
+  pub held-extract : extract 21 (heldKnn 0) (replicate 21 0) [] .answer ≡ refused 10
+  pub held-merge : merge (frameBytes workedFrame) 21 (heldKnn 0) (replicate 21 0) [] .answer ≡ refused 10
   -- and is not good
   pub zero-not-good : GoodPlan (extracted (nearest 0)) → ⊥
   -- the reader's refusal is 4, a field out of its range

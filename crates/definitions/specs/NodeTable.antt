@@ -1,7 +1,9 @@
 -- Request 6 of document 02: the table of a frame's nodes.
 use Prim.Native.Nat.{ℕ, _+_, _*_}
+use mathlib.Core.Bool.{Bool, true, false, _&&_}
 use mathlib.Core.List.{List, [], _∷_, _++_}
 use lib.ListN.{length}
+use lib.Dec.{eqb}
 use Rattle.definitions.specs.Expression.{Expr, column, literal, and, binary, call, other, field, Exprs, nil, cons, Frame}
 use Rattle.definitions.specs.Encode.{exprBytes}
 
@@ -45,3 +47,17 @@ unfoldable mutual
 -- The table of a frame: one record a node, in prefix order.
 unfoldable pub nodeTable : Frame → List NodeRecord
 nodeTable F = nodesFrom (3 + 5 * length (F .records)) (F .expr)
+
+-- Whether two records are equal.
+unfoldable pub sameRecord : NodeRecord → NodeRecord → Bool
+sameRecord a b = eqb (a .kind) (b .kind) && (eqb (a .start) (b .start) && eqb (a .end) (b .end))
+
+-- Whether a table begins with these records.
+unfoldable pub beginsWith : (records table : List NodeRecord) → Bool
+beginsWith [] table = true
+beginsWith (r ∷ records) [] = false
+beginsWith (r ∷ records) (t ∷ table) = sameRecord r t && beginsWith records table
+
+-- A record that no node has. (Ours.)
+unfoldable pub blank : NodeRecord
+blank = record { kind = 255; start = 0; end = 0 }

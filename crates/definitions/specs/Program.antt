@@ -5,12 +5,12 @@ use mathlib.Core.List.{List, [], _∷_, _++_}
 use mathlib.Core.Option.{Option, none, some}
 use lib.ListN.{length, take, replicate}
 use lib.Dec.{leb, ltb, eqb}
-use Rattle.definitions.specs.Limits.{mostBytes, mostDigits}
+use Rattle.definitions.specs.Limits.{mostBytes, mostDigits, mostNodes}
 use Rattle.definitions.specs.Basics.{if_then_else_, Result, ok, refused, mapResult}
-use Rattle.definitions.specs.Calls.{LoadOutcome, load, Outcome}
+use Rattle.definitions.specs.Calls.{LoadOutcome, load, Outcome, extractFilled, exchange}
 use Rattle.definitions.specs.Machine.{Kind, extractCall, exchangeCall}
-use Rattle.definitions.specs.Sessions.{make}
 use Rattle.definitions.specs.Logical.{logical, logicalBytes}
+use Rattle.definitions.specs.NodeTable.{blank}
 
 -- ---- hexadecimal
 
@@ -68,21 +68,26 @@ pub record LineOutcome : Type 0 where
 unfoldable pub refusedLine : (number : ℕ) → Kept → LineOutcome
 refusedLine number kept = record { answer = refused number; kept = kept }
 
--- `01..`: load; the answer is the plan.
+-- `01..`: load, with a table of 1,024 records (request 6), which every frame's nodes fit; the answer is the plan.
 unfoldable pub loadLine : (bytes : List ℕ) → Kept → LineOutcome
 loadLine bytes kept =
-    let o : LoadOutcome = load bytes (kept .n) (kept .buffer) in
+    let o : LoadOutcome = load bytes (kept .n) (kept .buffer) (replicate mostNodes blank) in
     record { answer = mapResult (λ n. take n (o .buffer)) (o .answer); kept = record { n = o .n; buffer = o .buffer } }
 
 -- `02..`: logical; the answer is mask, count and side.
 unfoldable pub logicalLine : (bytes : List ℕ) → Kept → LineOutcome
 logicalLine bytes kept = record { answer = mapResult logicalBytes (logical bytes); kept = kept }
 
+-- The call of a kind; the program lends extract the table as it was filled (request 6).
+unfoldable pub lineCall : Kind → (n : ℕ) → (buffer scratch : List ℕ) → Outcome
+lineCall extractCall n buffer scratch = extractFilled n buffer scratch
+lineCall exchangeCall n buffer scratch = exchange n buffer scratch
+
 -- `21` and `22`: extract and exchange with a scratch of 16,384 bytes, 7 where more follows; the answer is the plan.
 unfoldable pub callLine : Kind → (more : List ℕ) → Kept → LineOutcome
 callLine kind (b ∷ more) kept = refusedLine 7 kept
 callLine kind [] kept =
-    let o : Outcome = make kind (kept .n) (kept .buffer) (replicate mostBytes 0) in
+    let o : Outcome = lineCall kind (kept .n) (kept .buffer) (replicate mostBytes 0) in
     record { answer = mapResult (λ n. take n (o .buffer)) (o .answer); kept = record { n = o .n; buffer = o .buffer } }
 
 -- A line by its first byte: 1 if there is none, 2 for any other.

@@ -4,9 +4,10 @@ use mathlib.Core.Path.{_≡_}
 use mathlib.Core.List.{List, [], _∷_, _++_, map}
 use lib.ListN.{replicate}
 use Rattle.definitions.specs.Basics.{Result, ok, refused, ascii, mapResult}
-use Rattle.definitions.specs.Expression.{left, right, Expr, column, literal, and, binary, call, other, field, nil, cons}
+use Rattle.definitions.specs.Expression.{left, right, Expr, column, literal, and, binary, call, other, field, nil, cons, Frame}
 use Rattle.definitions.specs.Encode.{frameBytes, exprBytes}
 use Rattle.definitions.specs.Calls.{LoadOutcome, load}
+use Rattle.definitions.specs.NodeTable.{blank}
 use Rattle.definitions.specs.Sessions.{Made, extractWith, exchangeWith, callsRun}
 use Rattle.definitions.specs.Logical.{logical, logicalBytes}
 use Rattle.definitions.specs.Program.{lineOutcome, freshPlan, output}
@@ -48,9 +49,9 @@ tree (suc n) = and (tree n) (tree n)
 abbrev pub over : Expr → Expr
 over e = other 0 (cons e nil)
 
--- The answer of a load into a buffer that has room.
+-- The answer of a load into a buffer and a table that have room.
 abbrev pub loads : List ℕ → Result ℕ
-loads bytes = load bytes 0 (replicate 16384 0) .answer
+loads bytes = load bytes 0 (replicate 16384 0) (replicate 1024 blank) .answer
 
 -- Physical frames with their answers.
 abbrev pub physicalRows : Rows ℕ
@@ -103,17 +104,21 @@ abbrev pub exchangeIn : ℕ → Made
 exchangeIn room = exchangeWith (replicate room 0)
 
 -- `st_within` of a left and a right column: 35 bytes, its extraction 15.
-abbrev pub matching : List ℕ
-matching = frameBytes (record {
+abbrev pub matchingFrame : Frame
+matchingFrame = record {
   records = record { side = left; child = 0; tag = 0 } ∷ record { side = right; child = 0; tag = 0 } ∷ [];
   expr = call (ascii "st_within") (cons (column 0 0) (cons (column 1 0) nil));
-})
+}
 
--- The answers of calls after a frame was loaded into a buffer of 64 bytes.
+-- Its bytes.
+abbrev pub matching : List ℕ
+matching = frameBytes matchingFrame
+
+-- The answers of calls after a frame was loaded into a buffer of 64 bytes and a table of 3 records.
 abbrev pub callsLoaded : (frame : List ℕ) → List Made → List (Result ℕ)
 callsLoaded frame calls =
-    let o : LoadOutcome = load frame 0 (replicate 64 0) in
-    callsRun (o .n) (o .buffer) calls .answers
+    let o : LoadOutcome = load frame 0 (replicate 64 0) (replicate 3 blank) in
+    callsRun (o .n) (o .buffer) (o .table) calls .answers
 
 -- ---- lines
 
@@ -125,13 +130,13 @@ lines (l ∷ ls) = l ++ (10 ∷ lines ls)
 -- Each refusal, which of two comes first, and inputs that are accepted.
 pub record RefusalTable : Type 0 where
   pub physical : Given loads physicalRows
-  pub buffer : load (frame (literal 0 0)) 0 (replicate 12 0) .answer ≡ refused 9
-  pub arity-before-buffer : load (frame (call (ascii "st_within") nil)) 0 [] .answer ≡ refused 8
+  pub buffer : load (frame (literal 0 0)) 0 (replicate 12 0) (blank ∷ []) .answer ≡ refused 9
+  pub arity-before-buffer : load (frame (call (ascii "st_within") nil)) 0 [] [] .answer ≡ refused 8
   pub logical : Given (λ bytes. mapResult logicalBytes (logical bytes)) logicalRows
   -- n over the buffer's length, and bytes that are no plan
-  pub bad-plan : callsRun 14 (frame (literal 0 0)) (extractIn 64 ∷ exchangeIn 64 ∷ []) .answers ≡ refused 10 ∷ refused 10 ∷ []
-  pub other-bytes : callsRun 12 (frame (literal 0 0)) (extractIn 64 ∷ exchangeIn 64 ∷ []) .answers ≡ refused 10 ∷ refused 10 ∷ []
-  pub no-plan : callsRun 0 (frame (literal 0 0)) (extractIn 64 ∷ exchangeIn 64 ∷ []) .answers ≡ refused 11 ∷ refused 11 ∷ []
+  pub bad-plan : callsRun 14 (frame (literal 0 0)) [] (extractIn 64 ∷ exchangeIn 64 ∷ []) .answers ≡ refused 10 ∷ refused 10 ∷ []
+  pub other-bytes : callsRun 12 (frame (literal 0 0)) [] (extractIn 64 ∷ exchangeIn 64 ∷ []) .answers ≡ refused 10 ∷ refused 10 ∷ []
+  pub no-plan : callsRun 0 (frame (literal 0 0)) [] (extractIn 64 ∷ exchangeIn 64 ∷ []) .answers ≡ refused 11 ∷ refused 11 ∷ []
   -- a scratch that is too short and one that is not, for each call; a second extract, whatever its scratch
   pub calls :
       callsLoaded matching

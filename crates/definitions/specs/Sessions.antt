@@ -12,6 +12,7 @@ use Rattle.definitions.specs.Extract.{Matcher}
 use Rattle.definitions.specs.Calls.{Outcome, extractBy, exchange}
 use Rattle.definitions.specs.Machine.{Kind, extractCall, exchangeCall, Fed, Run, machineRun, fresh}
 use Rattle.definitions.specs.Good.{GoodPlan}
+use Rattle.definitions.specs.NodeTable.{NodeRecord, nodeTable, beginsWith}
 
 -- ---- lists of calls
 
@@ -28,13 +29,13 @@ extractWith scratch = record { kind = extractCall; scratch = scratch }
 abbrev pub exchangeWith : (scratch : List ℕ) → Made
 exchangeWith scratch = record { kind = exchangeCall; scratch = scratch }
 
--- The call of a kind.
-unfoldable pub makeBy : Matcher → Kind → (n : ℕ) → (buffer scratch : List ℕ) → Outcome
-makeBy match extractCall n buffer scratch = extractBy match n buffer scratch
-makeBy match exchangeCall n buffer scratch = exchange n buffer scratch
+-- The call of a kind; an exchange has no table.
+unfoldable pub makeBy : Matcher → Kind → (n : ℕ) → (buffer scratch : List ℕ) → (table : List NodeRecord) → Outcome
+makeBy match extractCall n buffer scratch table = extractBy match n buffer scratch table
+makeBy match exchangeCall n buffer scratch table = exchange n buffer scratch
 
 -- 01's, with `matchLeaf`.
-abbrev pub make : Kind → (n : ℕ) → (buffer scratch : List ℕ) → Outcome
+abbrev pub make : Kind → (n : ℕ) → (buffer scratch : List ℕ) → (table : List NodeRecord) → Outcome
 make = makeBy matchLeaf
 
 -- The answers of a list of calls, and n and the plan buffer at its end.
@@ -43,16 +44,16 @@ pub record ListOutcome : Type 0 where
   pub n : ℕ
   pub buffer : List ℕ
 
--- A list of calls, each given the last n and the plan buffer as it was left.
-unfoldable pub callsRunBy : Matcher → (n : ℕ) → (buffer : List ℕ) → List Made → ListOutcome
-callsRunBy match n buffer [] = record { answers = []; n = n; buffer = buffer }
-callsRunBy match n buffer (c ∷ cs) =
-    let one : Outcome = makeBy match (c .kind) n buffer (c .scratch) in
-    let after : ListOutcome = callsRunBy match (one .n) (one .buffer) cs in
+-- A list of calls, each given the last n and the plan buffer as it was left, and one and the same table, which none of them writes.
+unfoldable pub callsRunBy : Matcher → (n : ℕ) → (buffer : List ℕ) → (table : List NodeRecord) → List Made → ListOutcome
+callsRunBy match n buffer table [] = record { answers = []; n = n; buffer = buffer }
+callsRunBy match n buffer table (c ∷ cs) =
+    let one : Outcome = makeBy match (c .kind) n buffer (c .scratch) table in
+    let after : ListOutcome = callsRunBy match (one .n) (one .buffer) table cs in
     record { answers = one .answer ∷ after .answers; n = after .n; buffer = after .buffer }
 
 -- 01's, with `matchLeaf`.
-abbrev pub callsRun : (n : ℕ) → (buffer : List ℕ) → List Made → ListOutcome
+abbrev pub callsRun : (n : ℕ) → (buffer : List ℕ) → (table : List NodeRecord) → List Made → ListOutcome
 callsRun = callsRunBy matchLeaf
 
 -- A call as the machine is fed it: its kind and the length of its scratch.
@@ -94,13 +95,16 @@ exchangesOdd (c ∷ cs) (a ∷ answers) =
 
 -- ---- sessions
 
--- The good frame F is held: its bytes are the first n of a plan buffer. All calls of a session are made with its matcher.
+-- The good frame F is held: its bytes are the first n of a plan buffer, and the table is supposed as filled with its nodes (request 6).
+-- All calls of a session are made with its matcher.
 pub record SessionBy (match : Matcher) (F : Frame) : Type 0 where
   pub n : ℕ
   pub buffer : List ℕ
+  pub table : List NodeRecord
   pub good : GoodPlan (held F)
   pub fits : n ≤ length buffer
   pub holds : take n buffer ≡ frameBytes F
+  pub filled : beginsWith (nodeTable F) table ≡ true
 
 -- 01's, with `matchLeaf`.
 abbrev pub Session : Frame → Type 0
@@ -108,7 +112,7 @@ Session = SessionBy matchLeaf
 
 -- What a list of calls answers and leaves.
 abbrev pub after : {match : Matcher} {F : Frame} → SessionBy match F → List Made → ListOutcome
-after {match} s calls = callsRunBy match (s .n) (s .buffer) calls
+after {match} s calls = callsRunBy match (s .n) (s .buffer) (s .table) calls
 
 -- n after a list of calls: the plan's length.
 abbrev pub lengthAfter : {match : Matcher} {F : Frame} → SessionBy match F → List Made → ℕ
@@ -132,4 +136,4 @@ oddIn s calls = exchangesOdd calls (after s calls .answers)
 
 -- The answer of a call that is made after a list of calls.
 abbrev pub answerAfter : {match : Matcher} {F : Frame} → SessionBy match F → (before : List Made) → Made → Result ℕ
-answerAfter {match} s before c = makeBy match (c .kind) (after s before .n) (after s before .buffer) (c .scratch) .answer
+answerAfter {match} s before c = makeBy match (c .kind) (after s before .n) (after s before .buffer) (c .scratch) (s .table) .answer

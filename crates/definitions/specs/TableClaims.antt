@@ -1,13 +1,22 @@
 -- Request 6 of document 02: what is claimed of the table of a frame's nodes; crate `theorems` proves each claim.
-use Prim.Native.Nat.{ℕ, _+_, _*_, _<_}
+use Prim.Native.Nat.{ℕ, _+_, _*_, _≤_, _<_}
 use mathlib.Core.Path.{_≡_}
+use mathlib.Core.Bool.{true, false}
 use mathlib.Core.List.{List, [], _∷_, _++_}
-use lib.ListN.{length}
-use Rattle.definitions.specs.Expression.{Frame}
+use lib.ListN.{length, take}
+use Rattle.definitions.specs.Limits.{mostNodes}
+use Rattle.definitions.specs.Basics.{ok, refused}
+use Rattle.definitions.specs.Expression.{Record, Frame, Extraction, held, extracted}
 use Rattle.definitions.specs.Encode.{frameBytes}
 use Rattle.definitions.specs.Exchange.{exchangeFrame}
-use Rattle.definitions.specs.Good.{nodes}
-use Rattle.definitions.specs.NodeTable.{NodeRecord, nodeTable}
+use Rattle.definitions.specs.Extract.{Matcher}
+use Rattle.definitions.specs.Calls.{load, tableFits, heldPlan, extractFilledBy, extractBy}
+use Rattle.definitions.specs.Good.{AllBytes, nodes}
+use Rattle.definitions.specs.NodeTable.{NodeRecord, nodeTable, beginsWith}
+use Rattle.definitions.specs.Sessions.{Made, SessionBy, after}
+use Rattle.definitions.specs.Meaning.{Meaning}
+use Rattle.definitions.specs.Matchers.{Lawful}
+use Rattle.definitions.specs.Merge.{merge}
 
 -- Records that fill the bytes from one place to another: none, or a node, inside it after its head those of its children, which end
 -- where it ends, and then those that begin there.
@@ -33,3 +42,46 @@ TableNests =
 -- Exchange moves no node.
 abbrev pub TableExchanged : Type 0
 TableExchanged = (F : Frame) → nodeTable (exchangeFrame F) ≡ nodeTable F
+
+-- A table begins with records exactly when these are its first.
+abbrev pub BeginsExactly : Type 0
+BeginsExactly =
+    (records table : List NodeRecord)
+    → (beginsWith records table ≡ true → take (length records) table ≡ records)
+    × (take (length records) table ≡ records → beginsWith records table ≡ true)
+
+-- ---- the calls
+
+-- From a held frame, after any list of calls with a lawful matcher, the table fits what is held then, for exchange moves no node.
+abbrev pub TableStays : Type 1
+TableStays =
+    (match : Matcher) (Asks : Meaning → List Record → Type 0) → Lawful match Asks
+    → (F : Frame) (s : SessionBy match F) (calls : List Made)
+    → tableFits (s .table) (heldPlan (after s calls .n) (after s calls .buffer)) ≡ true
+
+-- With a table that fits extract is what it is without one, whatever the matcher,
+abbrev pub ExtractFilled : Type 0
+ExtractFilled =
+    (match : Matcher) (n : ℕ) (buffer scratch : List ℕ) (table : List NodeRecord) → tableFits table (heldPlan n buffer) ≡ true
+    → extractBy match n buffer scratch table ≡ extractFilledBy match n buffer scratch
+
+-- and with one that does not it gives 10 and keeps everything. A frame is held then.
+abbrev pub ExtractUnfilled : Type 0
+ExtractUnfilled =
+    (match : Matcher) (n : ℕ) (buffer scratch : List ℕ) (table : List NodeRecord) → tableFits table (heldPlan n buffer) ≡ false
+    → (extractBy match n buffer scratch table ≡ record { answer = refused 10; n = n; buffer = buffer; scratch = scratch })
+    × ((F : Frame) × (heldPlan n buffer ≡ ok (held F)) × (beginsWith (nodeTable F) table ≡ false))
+
+-- With an extraction held it gives 12, whatever the table.
+abbrev pub ExtractTwice : Type 0
+ExtractTwice =
+    (match : Matcher) (n : ℕ) (buffer scratch : List ℕ) (table : List NodeRecord) (X : Extraction) → heldPlan n buffer ≡ ok (extracted X)
+    → extractBy match n buffer scratch table .answer ≡ refused 12
+
+-- A good frame has at most 1,024 nodes, so load and merge never give 17 to a table of 1,024 records.
+abbrev pub NeverTooShort : Type 0
+NeverTooShort =
+    ((frame : List ℕ) (n : ℕ) (buffer : List ℕ) (table : List NodeRecord) → AllBytes frame → mostNodes ≤ length table
+    → load frame n buffer table .answer ≡ refused 17 → ⊥)
+    × ((frame : List ℕ) (n : ℕ) (buffer scratch : List ℕ) (table : List NodeRecord) → mostNodes ≤ length table
+    → merge frame n buffer scratch table .answer ≡ refused 17 → ⊥)

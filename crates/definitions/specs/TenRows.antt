@@ -9,6 +9,7 @@ use Rattle.definitions.specs.Expression.{Side, left, right, intersects, 
 use Rattle.definitions.specs.Encode.{frameBytes, extractionBytes, exprBytes}
 use Rattle.definitions.specs.Extract.{extraction}
 use Rattle.definitions.specs.Calls.{LoadOutcome, Outcome, load, extract, exchange}
+use Rattle.definitions.specs.NodeTable.{blank}
 use Rattle.definitions.specs.Logical.{logical, logicalBytes}
 use Rattle.definitions.specs.Program.{output}
 
@@ -31,11 +32,11 @@ workedOutput =
 abbrev pub planOrRefusal : Outcome → Result (List ℕ)
 planOrRefusal o = mapResult (λ n. take n (o .buffer)) (o .answer)
 
--- Load a frame into a buffer of 256 bytes, then extract.
+-- Load a frame into a buffer of 256 bytes and a table of 32 records, then extract.
 abbrev pub extractAfter : List ℕ → Outcome
 extractAfter frame =
-    let loaded : LoadOutcome = load frame 0 (replicate 256 0xff) in
-    extract (loaded .n) (loaded .buffer) (replicate 256 0xee)
+    let loaded : LoadOutcome = load frame 0 (replicate 256 0xff) (replicate 32 blank) in
+    extract (loaded .n) (loaded .buffer) (replicate 256 0xee) (loaded .table)
 
 -- Then exchange.
 abbrev pub exchangeAfter : Outcome → Outcome

@@ -11,6 +11,7 @@ use Rattle.definitions.specs.Expression.{Record, Frame, Extraction}
 use Rattle.definitions.specs.Extract.{Matcher, extractionBy}
 use Rattle.definitions.specs.Encode.{planBytes}
 use Rattle.definitions.specs.Calls.{Outcome}
+use Rattle.definitions.specs.NodeTable.{NodeRecord}
 use Rattle.definitions.specs.Machine.{Kind, extractCall, exchangeCall, Bits, machinePlan, machineLength, Step, refuseStep, acceptStep, takeStep, machineStep, machineRun, fresh}
 use Rattle.definitions.specs.Sessions.{Made, extractWith, exchangeWith, makeBy, callsRunBy, fed, machineAfterBy, accepted, isExtract, extractAccepted, exchangesOdd, SessionBy, lengthAfter, planAfter, extractedIn, oddIn, answerAfter}
 use Rattle.definitions.specs.Meaning.{Meaning}
@@ -127,19 +128,20 @@ module _ (match : Matcher) (F : Frame) (b : Bits) where
 -- ---- the calls
 
 -- A call in a list answers as it does on what the calls before it left.
-pub in-place : (match : Matcher) (n : ℕ) (buffer : List ℕ) (before : List Made) (c : Made) (later : List Made)
+pub in-place : (match : Matcher) (n : ℕ) (buffer : List ℕ) (table : List NodeRecord) (before : List Made) (c : Made) (later : List Made)
     → (others : List (Result ℕ))
-    × (callsRunBy match n buffer (before ++ (c ∷ later)) .answers
-    ≡ callsRunBy match n buffer before .answers
+    × (callsRunBy match n buffer table (before ++ (c ∷ later)) .answers
+    ≡ callsRunBy match n buffer table before .answers
     ++ (
-    makeBy match (c .kind) (callsRunBy match n buffer before .n) (callsRunBy match n buffer before .buffer) (c .scratch) .answer ∷
+    makeBy match (c .kind) (callsRunBy match n buffer table before .n) (callsRunBy match n buffer table before .buffer) (c .scratch) table
+        .answer ∷
     others
     ))
 unfolding callsRunBy
-in-place match n buffer [] c later = (_, refl)
-in-place match n buffer (b ∷ bs) c later =
-    let one : Outcome = makeBy match (b .kind) n buffer (b .scratch) in
-    let rest = in-place match (one .n) (one .buffer) bs c later in
+in-place match n buffer table [] c later = (_, refl)
+in-place match n buffer table (b ∷ bs) c later =
+    let one : Outcome = makeBy match (b .kind) n buffer (b .scratch) table in
+    let rest = in-place match (one .n) (one .buffer) table bs c later in
     (rest .0, ap {B = List (Result ℕ)} (λ answers. one .answer ∷ answers) (rest .1))
 
 -- The bits that a list of calls and its answers tell.
@@ -161,7 +163,8 @@ module _ {match : Matcher} {Asks : Meaning → List Record → Type 0} (laws : L
   -- The answer of a call is the machine's.
   pub machine-answer : (before : List Made) (c : Made)
       → answerAfter s before c ≡ machineStep match F (machineAfterBy match F before .bits) (c .kind) (length (c .scratch)) .answer
-  machine-answer before c = step-agrees laws F _ (c .kind) _ _ (c .scratch) (s .good) (after-all laws s before .holds) .answer
+  machine-answer before c =
+      step-agrees laws F _ (c .kind) _ _ (c .scratch) (s .table) (s .good) (s .filled) (after-all laws s before .holds) .answer
 
   pub exchange-among : (before : List Made) (scratch : List ℕ)
       → accepted (answerAfter s before (exchangeWith scratch)) ≡ leb (lengthAfter s before) (length scratch)

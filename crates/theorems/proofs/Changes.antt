@@ -14,25 +14,31 @@ use Rattle.definitions.specs.Expression.{Record, Frame, Extraction, Plan, empty
 use Rattle.definitions.specs.Encode.{frameBytes, planBytes}
 use Rattle.definitions.specs.Plans.{frameOf, planOf}
 use Rattle.definitions.specs.Extract.{Matcher, extractionBy}
-use Rattle.definitions.specs.Calls.{writtenOver, newAfterLoad, finishLoad, load, finish, heldPlan, newAfterExchange, exchange, matchedBytes, newAfterExtractBy, extractBy}
+use Rattle.definitions.specs.Calls.{writtenOver, filledBy, tableFits, finishLoad, load, Outcome, finish, heldPlan, newAfterExchange, exchange, matchedBytes, newAfterExtractBy, extractFilledBy, extractBy}
 use Rattle.definitions.specs.Machine.{Kind, extractCall, exchangeCall}
-use Rattle.definitions.specs.Good.{AllBytes, GoodPlan}
+use Rattle.definitions.specs.Good.{AllBytes, nodes, GoodPlan}
+use Rattle.definitions.specs.NodeTable.{NodeRecord, nodeTable}
 use Rattle.definitions.specs.Sessions.{makeBy, accepted}
 use Rattle.definitions.specs.Meaning.{Meaning}
 use Rattle.definitions.specs.Matchers.{Lawful}
-use Rattle.definitions.specs.Claims.{SameFrom, LoadWrote, CallWrote}
+use Rattle.definitions.specs.Claims.{SameFrom, Filled, LoadWrote, CallWrote}
+use Rattle.theorems.proofs.Tools.{by-test}
 use Rattle.theorems.proofs.InversePlan.{plan-back}
 use Rattle.theorems.proofs.ExtractGood.{GoodExtraction, good-by}
 use Rattle.theorems.proofs.ExchangeGood.{plan-as-long}
 use Rattle.theorems.proofs.Lengths.{bytes-up-to}
+use Rattle.theorems.proofs.NodeTables.{table-nests-by}
+use Rattle.theorems.proofs.ListTheorem.{Taken, taken-by}
 
 -- ---- a refusal
 
-loaded-keeps : (n : ℕ) (buffer : List ℕ) (x : Result (List ℕ)) → accepted (finishLoad n buffer x .answer) ≡ false
-    → (finishLoad n buffer x .n ≡ n) × (finishLoad n buffer x .buffer ≡ buffer)
-unfolding finishLoad accepted
-loaded-keeps n buffer (ok bytes) a = absurd (false≢true (sym a))
-loaded-keeps n buffer (refused number) a = (refl, refl)
+loaded-keeps : (frame : List ℕ) (n : ℕ) (buffer : List ℕ) (table : List NodeRecord) (x : Result Frame)
+    → accepted (finishLoad frame n buffer table x .answer) ≡ false
+    → (finishLoad frame n buffer table x .n ≡ n) × (finishLoad frame n buffer table x .buffer ≡ buffer)
+    × (finishLoad frame n buffer table x .table ≡ table)
+unfolding finishLoad filledBy accepted
+loaded-keeps frame n buffer table (ok F) a = absurd (false≢true (sym a))
+loaded-keeps frame n buffer table (refused number) a = (refl, refl, refl)
 
 pub finish-keeps : (n : ℕ) (buffer scratch : List ℕ) (x : Result (List ℕ)) → accepted (finish n buffer scratch x .answer) ≡ false
     → (finish n buffer scratch x .n ≡ n) × (finish n buffer scratch x .buffer ≡ buffer) × (finish n buffer scratch x .scratch ≡ scratch)
@@ -40,57 +46,67 @@ unfolding finish accepted
 finish-keeps n buffer scratch (ok bytes) a = absurd (false≢true (sym a))
 finish-keeps n buffer scratch (refused number) a = (refl, refl, refl)
 
-pub load-keeps : (frame : List ℕ) (n : ℕ) (buffer : List ℕ) → accepted (load frame n buffer .answer) ≡ false
-    → (load frame n buffer .n ≡ n) × (load frame n buffer .buffer ≡ buffer)
+pub load-keeps : (frame : List ℕ) (n : ℕ) (buffer : List ℕ) (table : List NodeRecord) → accepted (load frame n buffer table .answer) ≡ false
+    → (load frame n buffer table .n ≡ n) × (load frame n buffer table .buffer ≡ buffer) × (load frame n buffer table .table ≡ table)
 unfolding load
-load-keeps frame n buffer a = loaded-keeps n buffer _ a
+load-keeps frame n buffer table a = loaded-keeps frame n buffer table _ a
 
-pub make-keeps : (match : Matcher) (kind : Kind) (n : ℕ) (buffer scratch : List ℕ)
-    → accepted (makeBy match kind n buffer scratch .answer) ≡ false
-    → (makeBy match kind n buffer scratch .n ≡ n) × (makeBy match kind n buffer scratch .buffer ≡ buffer)
-    × (makeBy match kind n buffer scratch .scratch ≡ scratch)
-unfolding makeBy extractBy exchange
-make-keeps match extractCall n buffer scratch a = finish-keeps n buffer scratch _ a
-make-keeps match exchangeCall n buffer scratch a = finish-keeps n buffer scratch _ a
+-- An extract writes what it makes of the held plan, or gives 10 where the table does not fit.
+pub extract-writes : (match : Matcher) (n : ℕ) (buffer scratch : List ℕ) (table : List NodeRecord) (P : Outcome → Type 0)
+    → P (finish n buffer scratch (newAfterExtractBy match n (length scratch) (heldPlan n buffer)))
+    → P (finish n buffer scratch (refused 10)) → P (extractBy match n buffer scratch table)
+unfolding extractBy extractFilledBy
+extract-writes match n buffer scratch table P h k = by-test P (tableFits table (heldPlan n buffer)) _ _ (λ _. h) (λ _. k)
+
+pub make-keeps : (match : Matcher) (kind : Kind) (n : ℕ) (buffer scratch : List ℕ) (table : List NodeRecord)
+    → accepted (makeBy match kind n buffer scratch table .answer) ≡ false
+    → (makeBy match kind n buffer scratch table .n ≡ n) × (makeBy match kind n buffer scratch table .buffer ≡ buffer)
+    × (makeBy match kind n buffer scratch table .scratch ≡ scratch)
+unfolding makeBy exchange
+make-keeps match extractCall n buffer scratch table a =
+    extract-writes match n buffer scratch table
+    (λ (o : Outcome). accepted (o .answer) ≡ false → (o .n ≡ n) × (o .buffer ≡ buffer) × (o .scratch ≡ scratch))
+    (finish-keeps n buffer scratch _) (finish-keeps n buffer scratch (refused 10)) a
+make-keeps match exchangeCall n buffer scratch table a = finish-keeps n buffer scratch _ a
 
 -- ---- bytes written over others
 
-pub over-same : (bytes buffer : List ℕ) → length bytes ≤ length buffer → SameFrom (length bytes) buffer (writtenOver bytes buffer)
+pub over-same : {A : Type 0} (bytes buffer : List A) → length bytes ≤ length buffer
+    → SameFrom (length bytes) buffer (writtenOver bytes buffer)
 unfolding writtenOver
 over-same bytes buffer fits = record {
   asMany = simp (length-append, length-drop) (omega arith);
   rest = drop-append-seam bytes (drop (length bytes) buffer);
 }
 
-pub over-first : (bytes buffer : List ℕ) → take (length bytes) (writtenOver bytes buffer) ≡ bytes
+pub over-first : {A : Type 0} (bytes buffer : List A) → take (length bytes) (writtenOver bytes buffer) ≡ bytes
 unfolding writtenOver
 over-first bytes buffer = take-append-seam bytes (drop (length bytes) buffer)
 
 -- ---- load
 
-loaded-wrote : (frame : List ℕ) (n : ℕ) (buffer : List ℕ) (b : Bool) → leb (length frame) (length buffer) ≡ b
-    → accepted (finishLoad n buffer (if b then ok frame else refused 9) .answer) ≡ true
-    → LoadWrote frame buffer (finishLoad n buffer (if b then ok frame else refused 9))
-unfolding finishLoad accepted
-loaded-wrote frame n buffer true e a = record {
-  answer = refl;
-  size = refl;
-  plan = over-first frame buffer;
-  others = over-same frame buffer (leb-true (length frame) (length buffer) e);
-}
-loaded-wrote frame n buffer false e a = absurd (false≢true a)
+pub fills : (F : Frame) (table : List NodeRecord) → nodes (F .expr) ≤ length table → Filled F table (filledBy (ok F) table)
+unfolding filledBy
+fills F table enough =
+    let count : length (nodeTable F) ≡ nodes (F .expr) = table-nests-by F .0 in record {
+      enough = enough;
+      records = rw (← count) (over-first (nodeTable F) table);
+      others = subst (λ (k : ℕ). SameFrom k table (writtenOver (nodeTable F) table)) count
+          (over-same (nodeTable F) table (omega (arith, count, enough)));
+    }
 
-read-wrote : (frame : List ℕ) (n : ℕ) (buffer : List ℕ) (r : Result Frame)
-    → accepted (finishLoad n buffer (newAfterLoad frame (length buffer) r) .answer) ≡ true
-    → LoadWrote frame buffer (finishLoad n buffer (newAfterLoad frame (length buffer) r))
-unfolding newAfterLoad
-read-wrote frame n buffer (ok F) a = loaded-wrote frame n buffer (leb (length frame) (length buffer)) refl a
-read-wrote frame n buffer (refused number) a = unfold finishLoad accepted in absurd (false≢true a)
-
-pub load-wrote : (frame : List ℕ) (n : ℕ) (buffer : List ℕ) → accepted (load frame n buffer .answer) ≡ true
-    → LoadWrote frame buffer (load frame n buffer)
+pub load-wrote : (frame : List ℕ) (n : ℕ) (buffer : List ℕ) (table : List NodeRecord) → accepted (load frame n buffer table .answer) ≡ true
+    → LoadWrote frame buffer table (load frame n buffer table)
 unfolding load
-load-wrote frame n buffer a = read-wrote frame n buffer (frameOf frame) a
+load-wrote frame n buffer table a =
+    let t : Taken frame n buffer table (frameOf frame) = taken-by frame n buffer table a in
+    subst (LoadWrote frame buffer table) (sym (t .done)) (unfold finishLoad in record {
+      answer = refl;
+      size = refl;
+      plan = over-first frame buffer;
+      others = over-same frame buffer (t .fits);
+      filled = (t .frame-taken, t .is, fills (t .frame-taken) table (t .enough));
+    })
 
 -- ---- extract and exchange
 
@@ -159,12 +175,15 @@ module _ (n : ℕ) (buffer scratch : List ℕ) where
     by-room true e = of-plan (leb-true n (length buffer) e) (planOf (take n buffer)) refl
     by-room false e = none-from 10
 
-  pub make-wrote : {match : Matcher} {Asks : Meaning → List Record → Type 0} → Lawful match Asks → (kind : Kind) → AllBytes buffer
-      → accepted (makeBy match kind n buffer scratch .answer) ≡ true → CallWrote n buffer scratch (makeBy match kind n buffer scratch)
-  unfolding makeBy extractBy exchange
-  make-wrote {match} laws extractCall bytes a =
-      finish-wrote _ (held-fit (newAfterExtractBy match n (length scratch)) bytes (λ number. unfold newAfterExtractBy in tt)
-      (λ fits p g e. extract-fit fits laws p g e)) a
-  make-wrote laws exchangeCall bytes a =
+  pub make-wrote : {match : Matcher} {Asks : Meaning → List Record → Type 0} → Lawful match Asks → (kind : Kind)
+      → (table : List NodeRecord) → AllBytes buffer → accepted (makeBy match kind n buffer scratch table .answer) ≡ true
+      → CallWrote n buffer scratch (makeBy match kind n buffer scratch table)
+  unfolding makeBy exchange
+  make-wrote {match} laws extractCall table bytes a =
+      extract-writes match n buffer scratch table (λ (o : Outcome). accepted (o .answer) ≡ true → CallWrote n buffer scratch o)
+      (finish-wrote _ (held-fit (newAfterExtractBy match n (length scratch)) bytes (λ number. unfold newAfterExtractBy in tt)
+      (λ fits p g e. extract-fit fits laws p g e)))
+      (finish-wrote (refused 10) tt) a
+  make-wrote laws exchangeCall table bytes a =
       finish-wrote _ (held-fit (newAfterExchange n (length scratch)) bytes (λ number. unfold newAfterExchange in tt)
       (λ fits p g e. exchange-fit fits p e)) a

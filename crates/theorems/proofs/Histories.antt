@@ -8,27 +8,30 @@ use mathlib.Core.Option.{Option, none, some}
 use lib.ListN.{length, take}
 use lib.Dec.{leb}
 use borrow.Author.Tests.{leb-true, le-leb}
-use Rattle.definitions.specs.Basics.{if_then_else_, Result, ok, refused}
+use Rattle.definitions.specs.Basics.{if_then_else_, Result, ok, refused, mapResult}
 use Rattle.definitions.specs.Expression.{Record, Frame, Extraction, empty, held, extracted}
 use Rattle.definitions.specs.Encode.{planBytes, frameBytes}
 use Rattle.definitions.specs.Plans.{frameOf, planOf}
 use Rattle.definitions.specs.Extract.{Matcher, extractionBy}
 use Rattle.definitions.specs.Exchange.{exchangeFrame, exchangeExtraction, exchangePlan}
-use Rattle.definitions.specs.Calls.{LoadOutcome, writtenOver, newAfterLoad, finishLoad, load, finish, heldPlan, newAfterExchange, exchange, newAfterExtractBy, extractBy}
+use Rattle.definitions.specs.Calls.{LoadOutcome, writtenOver, tabled, filledBy, tableFits, newAfterLoad, finishLoad, load, Outcome, finish, heldPlan, newAfterExchange, exchange, newAfterExtractBy, extractFilledBy}
 use Rattle.definitions.specs.Machine.{Kind, extractCall, exchangeCall, Bits, fresh, extractionOr, machinePlan, machineLength, machineStep}
-use Rattle.definitions.specs.Good.{AllBytes, GoodPlan}
-use Rattle.definitions.specs.Sessions.{Made, makeBy, ListOutcome}
+use Rattle.definitions.specs.Good.{AllBytes, nodes, GoodPlan}
+use Rattle.definitions.specs.NodeTable.{NodeRecord, nodeTable}
+use Rattle.definitions.specs.Sessions.{Made, makeBy}
 use Rattle.definitions.specs.Meaning.{Meaning}
 use Rattle.definitions.specs.Matchers.{Lawful}
-use Rattle.definitions.specs.Merge.{mergeFrames, overLimits, mergedBytes, newAfterMerge, merge}
-use Rattle.definitions.specs.History.{Call, loading, making, merging, State, nothing, started, statePlan, Answered, refuseCall, startAt, loadCall, makeCall, heldNow, mergedCall, mergeCall, machineCall, History, machineHistory, butScratch, oneCallBy, historyBy, FrameIsBytes, FramesAreBytes}
+use Rattle.definitions.specs.Merge.{mergeFrames, overLimits, mergedFrame, newAfterMerge, withTable, merge}
+use Rattle.definitions.specs.History.{Call, loading, making, merging, State, nothing, started, statePlan, Answered, refuseCall, startAt, startIn, loadCall, makeCall, heldNow, mergedCall, mergeCall, machineCall, History, machineHistory, butScratch, mergedBut, oneCallBy, HistoryOutcome, historyBy, FrameIsBytes, FramesAreBytes}
 use Rattle.definitions.specs.MergeClaims.{HistoryOfCallsBy}
 use Rattle.theorems.proofs.Tools.{and-both}
 use Rattle.theorems.proofs.InverseFrame.{frame-back}
 use Rattle.theorems.proofs.ExtractGood.{GoodExtraction, good-by}
 use Rattle.theorems.proofs.ExchangeGood.{exchange-good, plan-as-long}
-use Rattle.theorems.proofs.Changes.{over-same}
-use Rattle.theorems.proofs.Lists.{Holds, bits, plan-extracted, plan-held, held-plan, Agrees, step-agrees}
+use Rattle.theorems.proofs.NodeTables.{table-nests-by}
+use Rattle.theorems.proofs.TablesFit.{extract-filled-by}
+use Rattle.theorems.proofs.Changes.{over-same, extract-writes}
+use Rattle.theorems.proofs.Lists.{Holds, Tabled, bits, plan-extracted, plan-held, held-plan, fits-machine, Agrees, step-agrees}
 use Rattle.theorems.proofs.ListTheorem.{written-held, session-holds}
 use Rattle.theorems.proofs.Merged.{good-merged}
 
@@ -50,32 +53,39 @@ unfolding extractionOr planBytes
 base-short F none h = omega arith
 base-short F (some X) h = h .1
 
-merge-again : (n scratch room : ℕ) (new : Frame) (X : Extraction) (o : Bool)
-    → newAfterMerge n scratch room (ok new) (ok (if o then extracted (exchangeExtraction X) else extracted X)) ≡ refused 12
+merge-again : (n scratch room places : ℕ) (new : Frame) (X : Extraction) (o : Bool)
+    → newAfterMerge n scratch room places (ok new) (ok (if o then extracted (exchangeExtraction X) else extracted X)) ≡ refused 12
 unfolding newAfterMerge
-merge-again n scratch room new X true = refl
-merge-again n scratch room new X false = refl
+merge-again n scratch room places new X true = refl
+merge-again n scratch room places new X false = refl
 
-merge-into : (n scratch room : ℕ) (new F : Frame) (o : Bool)
-    → newAfterMerge n scratch room (ok new) (ok (if o then held (exchangeFrame F) else held F))
-    ≡ mergedBytes n scratch room (mergeFrames (heldNow F o) new)
+merge-into : (n scratch room places : ℕ) (new F : Frame) (o : Bool)
+    → newAfterMerge n scratch room places (ok new) (ok (if o then held (exchangeFrame F) else held F))
+    ≡ mergedFrame n scratch room places (mergeFrames (heldNow F o) new)
 unfolding newAfterMerge
-merge-into n scratch room new F true = refl
-merge-into n scratch room new F false = refl
+merge-into n scratch room places new F true = refl
+merge-into n scratch room places new F false = refl
 
 held-now-good : (F : Frame) (o : Bool) → GoodPlan (held F) → GoodPlan (held (heldNow F o))
 unfolding exchangePlan
 held-now-good F true g = exchange-good (held F) g
 held-now-good F false g = g
 
+-- What a merge leaves but for the scratch, by the frame that it made.
+abbrev mergedTo : (n : ℕ) → (buffer scratch : List ℕ) → (table : List NodeRecord) → Result Frame → LoadOutcome
+mergedTo n buffer scratch table x = mergedBut (withTable (finish n buffer scratch (mapResult frameBytes x)) (filledBy x table))
+
 -- ---- with a lawful matcher
 
 module _ {match : Matcher} {Asks : Meaning → List Record → Type 0} (laws : Lawful match Asks) where
-  make-length : (k : Kind) (n : ℕ) (buffer scratch : List ℕ) → makeBy match k n buffer scratch .n ≤ length buffer
-      → length (makeBy match k n buffer scratch .buffer) ≡ length buffer
-  unfolding makeBy extractBy exchange
-  make-length extractCall n buffer scratch h = finish-length n buffer scratch _ h
-  make-length exchangeCall n buffer scratch h = finish-length n buffer scratch _ h
+  make-length : (k : Kind) (n : ℕ) (buffer scratch : List ℕ) (table : List NodeRecord)
+      → makeBy match k n buffer scratch table .n ≤ length buffer
+      → length (makeBy match k n buffer scratch table .buffer) ≡ length buffer
+  unfolding makeBy exchange
+  make-length extractCall n buffer scratch table h =
+      extract-writes match n buffer scratch table (λ (o : Outcome). o .n ≤ length buffer → length (o .buffer) ≡ length buffer)
+      (finish-length n buffer scratch _) (finish-length n buffer scratch (refused 10)) h
+  make-length exchangeCall n buffer scratch table h = finish-length n buffer scratch _ h
 
   -- The machine's plan is never longer than the frame that it started from.
   machine-short : (F : Frame) (e o : Bool) → GoodPlan (held F) → machineLength match F (bits e o) ≤ length (frameBytes F)
@@ -90,197 +100,226 @@ module _ {match : Matcher} {Asks : Meaning → List Record → Type 0} (laws : L
   machine-short F false true g = omega (arith, plan-as-long (held F))
   machine-short F false false g = omega arith
 
-  module _ (room : ℕ) where
-    -- n and a plan buffer of this length hold the state's plan, and the frame that it started from fits.
-    abbrev HoldsState : State → (n : ℕ) → (buffer : List ℕ) → Type 0
-    HoldsState nothing n buffer = (n ≡ 0) × (length buffer ≡ room)
-    HoldsState (started F b) n buffer =
-        GoodPlan (held F) × Holds laws F b n buffer × (length buffer ≡ room) × (length (frameBytes F) ≤ room)
+  module _ (room places : ℕ) where
+    -- Plan buffer and table are of these lengths.
+    abbrev Sized : (buffer : List ℕ) → (table : List NodeRecord) → Type 0
+    Sized buffer table = (length buffer ≡ room) × (length table ≡ places)
 
-    state-room : (s : State) (n : ℕ) (buffer : List ℕ) → HoldsState s n buffer → length buffer ≡ room
-    state-room nothing n buffer h = h .1
-    state-room (started F b) n buffer h = h .2
+    -- n and such a plan buffer hold the state's plan, the table is filled, and the frame that it started from fits.
+    abbrev HoldsState : State → (n : ℕ) → (buffer : List ℕ) → (table : List NodeRecord) → Type 0
+    HoldsState nothing n buffer table = (n ≡ 0) × Sized buffer table
+    HoldsState (started F b) n buffer table =
+        GoodPlan (held F) × Holds laws F b n buffer × Sized buffer table × (length (frameBytes F) ≤ room) × Tabled laws F table
+
+    sized : (s : State) (n : ℕ) (buffer : List ℕ) (table : List NodeRecord) → HoldsState s n buffer table → Sized buffer table
+    sized nothing n buffer table h = h .1
+    sized (started F b) n buffer table h = h .2
 
     -- What one call must give.
     record CallAgrees (a : Answered) (o : LoadOutcome) : Type 0 where
       answer : o .answer ≡ a .answer
-      holds : HoldsState (a .state) (o .n) (o .buffer)
+      holds : HoldsState (a .state) (o .n) (o .buffer) (o .table)
 
     -- A refusal keeps everything.
-    refuses : (s : State) (n : ℕ) (buffer : List ℕ) (number : ℕ) → HoldsState s n buffer
-        → CallAgrees (refuseCall s number) (record { answer = refused number; n = n; buffer = buffer })
+    refuses : (s : State) (n : ℕ) (buffer : List ℕ) (table : List NodeRecord) (number : ℕ) → HoldsState s n buffer table
+        → CallAgrees (refuseCall s number) (record { answer = refused number; n = n; buffer = buffer; table = table })
     unfolding refuseCall
-    refuses s n buffer number h = record { answer = refl; holds = h }
+    refuses s n buffer table number h = record { answer = refl; holds = h }
 
-    refuses-too : (s : State) (n : ℕ) (buffer scratch : List ℕ) (number : ℕ) → HoldsState s n buffer
-        → CallAgrees (refuseCall s number) (butScratch (finish n buffer scratch (refused number)))
-    unfolding finish
-    refuses-too s n buffer scratch number h = refuses s n buffer number h
+    refuses-too : (s : State) (n : ℕ) (buffer scratch : List ℕ) (table : List NodeRecord) (number : ℕ) → HoldsState s n buffer table
+        → CallAgrees (refuseCall s number) (mergedTo n buffer scratch table (refused number))
+    unfolding withTable finish filledBy
+    refuses-too s n buffer scratch table number h = refuses s n buffer table number h
 
     -- A good frame that fits is started from.
-    starts : (M : Frame) (buffer : List ℕ) → GoodPlan (held M) → length (frameBytes M) ≤ length buffer → length buffer ≡ room
-        → CallAgrees (startAt M)
-        (record { answer = ok (length (frameBytes M)); n = length (frameBytes M); buffer = writtenOver (frameBytes M) buffer })
-    unfolding startAt
-    starts M buffer g fits e =
-        let s = written-held match M (frameBytes M) buffer refl g fits in
+    starts : (M : Frame) (buffer : List ℕ) (table : List NodeRecord) → GoodPlan (held M) → length (frameBytes M) ≤ length buffer
+        → nodes (M .expr) ≤ length table → Sized buffer table
+        → CallAgrees (startAt M) (record {
+          answer = ok (length (frameBytes M));
+          n = length (frameBytes M);
+          buffer = writtenOver (frameBytes M) buffer;
+          table = filledBy (ok M) table;
+        })
+    unfolding startAt filledBy
+    starts M buffer table g fits enough e =
+        let s = written-held match M (frameBytes M) buffer table refl g fits in
         record {
           answer = refl;
           holds = (
             g,
             subst (λ (x : List ℕ). Holds laws M fresh (length (frameBytes M)) x) (s .2)
                 (subst (λ (k : ℕ). Holds laws M fresh k (s .0 .buffer)) (s .1) (session-holds laws (s .0))),
-            over-same (frameBytes M) buffer fits .asMany ∙ e,
-            omega (arith, fits, e),
+            (
+              over-same (frameBytes M) buffer fits .asMany ∙ e .0,
+              over-same (nodeTable M) table (omega (arith, table-nests-by M .0, enough)) .asMany ∙ e .1,
+            ),
+            omega (arith, fits, e .0),
+            subst (Tabled laws M) (s .3) (s .0 .filled),
           );
         }
 
     -- ---- load
 
-    load-by : (s : State) (n : ℕ) (buffer : List ℕ) (F : Frame) → HoldsState s n buffer → GoodPlan (held F)
-        → (t : Bool) → leb (length (frameBytes F)) (length buffer) ≡ t
-        → CallAgrees (if t then startAt F else refuseCall s 9) (finishLoad n buffer (if t then ok (frameBytes F) else refused 9))
+    load-by : (s : State) (n : ℕ) (buffer : List ℕ) (table : List NodeRecord) (F : Frame) → HoldsState s n buffer table → GoodPlan (held F)
+        → (t u : Bool) → leb (length (frameBytes F)) (length buffer) ≡ t → leb (nodes (F .expr)) (length table) ≡ u
+        → CallAgrees (if t then (if u then startAt F else refuseCall s 17) else refuseCall s 9)
+        (finishLoad (frameBytes F) n buffer table (if t then (if u then ok F else refused 17) else refused 9))
     unfolding finishLoad
-    load-by s n buffer F h g true t = starts F buffer g (leb-true _ _ t) (state-room s n buffer h)
-    load-by s n buffer F h g false t = refuses s n buffer 9 h
+    load-by s n buffer table F h g true true t u =
+        starts F buffer table g (leb-true _ _ t) (leb-true _ _ u) (sized s n buffer table h)
+    load-by s n buffer table F h g true false t u = unfold filledBy in refuses s n buffer table 17 h
+    load-by s n buffer table F h g false u t v = unfold filledBy in refuses s n buffer table 9 h
 
-    load-agrees : (s : State) (n : ℕ) (buffer frame : List ℕ) → AllBytes frame → HoldsState s n buffer → (r : Result Frame)
-        → frameOf frame ≡ r → CallAgrees (loadCall room s r) (finishLoad n buffer (newAfterLoad frame (length buffer) r))
-    unfolding loadCall newAfterLoad
-    load-agrees s n buffer frame bytes h (refused number) e = unfold finishLoad in refuses s n buffer number h
-    load-agrees s n buffer frame bytes h (ok F) e =
+    load-agrees : (s : State) (n : ℕ) (buffer : List ℕ) (table : List NodeRecord) (frame : List ℕ) → AllBytes frame
+        → HoldsState s n buffer table → (r : Result Frame) → frameOf frame ≡ r
+        → CallAgrees (loadCall room places s r) (finishLoad frame n buffer table (newAfterLoad frame (length buffer) (length table) r))
+    unfolding loadCall startIn newAfterLoad tabled
+    load-agrees s n buffer table frame bytes h (refused number) e = unfold finishLoad filledBy in refuses s n buffer table number h
+    load-agrees s n buffer table frame bytes h (ok F) e =
         let back = frame-back frame F bytes e in
-        subst (λ (x : List ℕ). CallAgrees (if leb (length (frameBytes F)) room then startAt F else refuseCall s 9)
-        (finishLoad n buffer (if leb (length x) (length buffer) then ok x else refused 9))) (sym (back .0))
-        (subst (λ (x : Bool). CallAgrees (if x then startAt F else refuseCall s 9)
-        (finishLoad n buffer (if leb (length (frameBytes F)) (length buffer) then ok (frameBytes F) else refused 9)))
-        (ap (leb (length (frameBytes F))) (state-room s n buffer h))
-        (load-by s n buffer F h (back .1) (leb (length (frameBytes F)) (length buffer)) refl))
+        let size = sized s n buffer table h in
+        rw (back .0, size .0, size .1)
+        (load-by s n buffer table F h (back .1) (leb (length (frameBytes F)) room) (leb (nodes (F .expr)) places)
+        (ap (leb (length (frameBytes F))) (size .0)) (ap (leb (nodes (F .expr))) (size .1)))
 
     -- ---- nothing held
 
-    make-nothing : (k : Kind) (buffer scratch : List ℕ) → length buffer ≡ room
-        → CallAgrees (refuseCall nothing 11) (butScratch (makeBy match k 0 buffer scratch))
-    unfolding makeBy extractBy exchange newAfterExtractBy newAfterExchange
-    make-nothing extractCall buffer scratch e = rw (empty-held buffer) (refuses-too nothing 0 buffer scratch 11 (refl, e))
-    make-nothing exchangeCall buffer scratch e = rw (empty-held buffer) (refuses-too nothing 0 buffer scratch 11 (refl, e))
+    fits-nothing : (buffer : List ℕ) (table : List NodeRecord) → tableFits table (heldPlan 0 buffer) ≡ true
+    unfolding tableFits
+    fits-nothing buffer table = ap (tableFits table) (empty-held buffer)
 
-    merge-nothing : (buffer scratch : List ℕ) → length buffer ≡ room → (r : Result Frame)
-        → CallAgrees (mergeCall match (length scratch) room nothing r)
-        (butScratch (finish 0 buffer scratch (newAfterMerge 0 (length scratch) (length buffer) r (heldPlan 0 buffer))))
+    make-nothing : (k : Kind) (buffer scratch : List ℕ) (table : List NodeRecord) → Sized buffer table
+        → CallAgrees (refuseCall nothing 11) (butScratch (makeBy match k 0 buffer scratch table) table)
+    unfolding makeBy exchange newAfterExtractBy newAfterExchange
+    make-nothing extractCall buffer scratch table e =
+        rw (extract-filled-by match 0 buffer scratch table (fits-nothing buffer table))
+        (unfold extractFilledBy finish in rw (empty-held buffer) (refuses nothing 0 buffer table 11 (refl, e)))
+    make-nothing exchangeCall buffer scratch table e = unfold finish in rw (empty-held buffer) (refuses nothing 0 buffer table 11 (refl, e))
+
+    merge-nothing : (buffer scratch : List ℕ) (table : List NodeRecord) → Sized buffer table → (r : Result Frame)
+        → CallAgrees (mergeCall match (length scratch) room places nothing r)
+        (mergedTo 0 buffer scratch table (newAfterMerge 0 (length scratch) (length buffer) (length table) r (heldPlan 0 buffer)))
     unfolding mergeCall newAfterMerge
-    merge-nothing buffer scratch e (refused number) = refuses-too nothing 0 buffer scratch number (refl, e)
-    merge-nothing buffer scratch e (ok new) = rw (empty-held buffer) (refuses-too nothing 0 buffer scratch 11 (refl, e))
+    merge-nothing buffer scratch table e (refused number) = refuses-too nothing 0 buffer scratch table number (refl, e)
+    merge-nothing buffer scratch table e (ok new) = rw (empty-held buffer) (refuses-too nothing 0 buffer scratch table 11 (refl, e))
 
     -- ---- extract and exchange
 
-    make-started : (F : Frame) (b : Bits) (n : ℕ) (buffer : List ℕ) (c : Made) → HoldsState (started F b) n buffer
-        → CallAgrees (makeCall match (started F b) c) (butScratch (makeBy match (c .kind) n buffer (c .scratch)))
+    make-started : (F : Frame) (b : Bits) (n : ℕ) (buffer : List ℕ) (table : List NodeRecord) (c : Made)
+        → HoldsState (started F b) n buffer table
+        → CallAgrees (makeCall match (started F b) c) (butScratch (makeBy match (c .kind) n buffer (c .scratch) table) table)
     unfolding makeCall
-    make-started F b n buffer c h =
-        let a : Agrees laws F (machineStep match F b (c .kind) (length (c .scratch))) (makeBy match (c .kind) n buffer (c .scratch)) =
-        step-agrees laws F b (c .kind) n buffer (c .scratch) (h .0) (h .1) in
+    make-started F b n buffer table c h =
+        let a : Agrees laws F (machineStep match F b (c .kind) (length (c .scratch))) (makeBy match (c .kind) n buffer (c .scratch) table) =
+        step-agrees laws F b (c .kind) n buffer (c .scratch) table (h .0) (h .4) (h .1) in
         let b′ : Bits = machineStep match F b (c .kind) (length (c .scratch)) .bits in
         let short : machineLength match F b′ ≤ length (frameBytes F) = machine-short F (b′ .isExtracted) (b′ .isOdd) (h .0) in
-        let fits : makeBy match (c .kind) n buffer (c .scratch) .n ≤ length buffer = omega (arith, a .holds .size, short, h .2, h .3) in
+        let fits : makeBy match (c .kind) n buffer (c .scratch) table .n ≤ length buffer =
+        omega (arith, a .holds .size, short, h .2 .0, h .3) in
         record {
           answer = a .answer;
-          holds = (h .0, a .holds, make-length (c .kind) n buffer (c .scratch) fits ∙ h .2, h .3);
+          holds = (h .0, a .holds, (make-length (c .kind) n buffer (c .scratch) table fits ∙ h .2 .0, h .2 .1), h .3, h .4);
         }
 
     -- ---- merge
 
-    module _ (F : Frame) (o : Bool) (n : ℕ) (buffer scratch : List ℕ) (h : HoldsState (started F (bits false o)) n buffer) (new : Frame)
-        (k : GoodPlan (held new)) where
+    module _ (F : Frame) (o : Bool) (n : ℕ) (buffer scratch : List ℕ) (table : List NodeRecord)
+        (h : HoldsState (started F (bits false o)) n buffer table) (new : Frame) (k : GoodPlan (held new)) where
       abbrev M : Frame
       M = mergeFrames (heldNow F o) new
 
       abbrev now : State
       now = started F (bits false o)
 
-      merged-by : (over t : Bool) → overLimits M ≡ over → (leb n (length scratch) && leb (length (frameBytes M)) (length buffer)) ≡ t
-          → CallAgrees (if over then refuseCall now 16 else if t then startAt M else refuseCall now 9)
-          (butScratch (finish n buffer scratch (if over then refused 16 else if t then ok (frameBytes M) else refused 9)))
-      unfolding finish
-      merged-by true t e f = refuses now n buffer 16 h
-      merged-by false false e f = refuses now n buffer 9 h
-      merged-by false true e f =
-          starts M buffer (good-merged (heldNow F o) new (held-now-good F o (h .0)) k e)
-          (leb-true _ _ (and-both (leb n (length scratch)) (leb (length (frameBytes M)) (length buffer)) f .1)) (h .2)
+      merged-by : (over t u : Bool) → overLimits M ≡ over
+          → (leb n (length scratch) && leb (length (frameBytes M)) (length buffer)) ≡ t → leb (nodes (M .expr)) (length table) ≡ u
+          → CallAgrees
+          (if over then refuseCall now 16 else if t then (if u then startAt M else refuseCall now 17) else refuseCall now 9)
+          (mergedTo n buffer scratch table
+          (if over then refused 16 else if t then (if u then ok M else refused 17) else refused 9))
+      unfolding withTable finish
+      merged-by true t u e f v = refuses-too now n buffer scratch table 16 h
+      merged-by false false u e f v = refuses-too now n buffer scratch table 9 h
+      merged-by false true false e f v = refuses-too now n buffer scratch table 17 h
+      merged-by false true true e f v =
+          starts M buffer table (good-merged (heldNow F o) new (held-now-good F o (h .0)) k e)
+          (leb-true _ _ (and-both (leb n (length scratch)) (leb (length (frameBytes M)) (length buffer)) f .1)) (leb-true _ _ v) (h .2)
 
-      merged-agrees : CallAgrees (mergedCall (machineLength match F (bits false o)) (length scratch) room now M)
-          (butScratch (finish n buffer scratch (mergedBytes n (length scratch) (length buffer) M)))
-      unfolding mergedCall mergedBytes
+      merged-agrees : CallAgrees (mergedCall (machineLength match F (bits false o)) (length scratch) room places now M)
+          (mergedTo n buffer scratch table (mergedFrame n (length scratch) (length buffer) (length table) M))
+      unfolding mergedCall startIn mergedFrame tabled
       merged-agrees =
-          subst (λ (x : Bool). CallAgrees (if overLimits M then refuseCall now 16 else if x then startAt M else refuseCall now 9)
-          (butScratch (finish n buffer scratch (mergedBytes n (length scratch) (length buffer) M))))
-          (ap₂ (λ (i j : ℕ). leb i (length scratch) && leb (length (frameBytes M)) j) (h .1 .size) (h .2))
-          (merged-by (overLimits M) (leb n (length scratch) && leb (length (frameBytes M)) (length buffer)) refl refl)
+          rw (← (h .1 .size), h .2 .0, h .2 .1)
+          (merged-by (overLimits M) (leb n (length scratch) && leb (length (frameBytes M)) room) (leb (nodes (M .expr)) places) refl
+          (ap (λ (k : ℕ). leb n (length scratch) && leb (length (frameBytes M)) k) (h .2 .0)) (ap (leb (nodes (M .expr))) (h .2 .1)))
 
-    merge-started : (F : Frame) (e o : Bool) (n : ℕ) (buffer frame scratch : List ℕ) → AllBytes frame
-        → HoldsState (started F (bits e o)) n buffer → (r : Result Frame) → frameOf frame ≡ r
-        → CallAgrees (mergeCall match (length scratch) room (started F (bits e o)) r)
-        (butScratch (finish n buffer scratch (newAfterMerge n (length scratch) (length buffer) r (heldPlan n buffer))))
+    merge-started : (F : Frame) (e o : Bool) (n : ℕ) (buffer frame scratch : List ℕ) (table : List NodeRecord) → AllBytes frame
+        → HoldsState (started F (bits e o)) n buffer table → (r : Result Frame) → frameOf frame ≡ r
+        → CallAgrees (mergeCall match (length scratch) room places (started F (bits e o)) r)
+        (mergedTo n buffer scratch table (newAfterMerge n (length scratch) (length buffer) (length table) r (heldPlan n buffer)))
     unfolding mergeCall newAfterMerge
-    merge-started F e o n buffer frame scratch bytes h (refused number) q =
-        refuses-too (started F (bits e o)) n buffer scratch number h
-    merge-started F true o n buffer frame scratch bytes h (ok new) q =
+    merge-started F e o n buffer frame scratch table bytes h (refused number) q =
+        refuses-too (started F (bits e o)) n buffer scratch table number h
+    merge-started F true o n buffer frame scratch table bytes h (ok new) q =
         rw (
           held-plan laws F true o n buffer (h .0) (h .1),
           plan-extracted laws F (h .1 .reached .0) o (h .1 .reached .1),
-          merge-again n (length scratch) (length buffer) new (h .1 .reached .0) o,
+          merge-again n (length scratch) (length buffer) (length table) new (h .1 .reached .0) o,
         )
-        (refuses-too (started F (bits true o)) n buffer scratch 12 h)
-    merge-started F false o n buffer frame scratch bytes h (ok new) q =
+        (refuses-too (started F (bits true o)) n buffer scratch table 12 h)
+    merge-started F false o n buffer frame scratch table bytes h (ok new) q =
         rw (
           held-plan laws F false o n buffer (h .0) (h .1),
           plan-held laws F o,
-          merge-into n (length scratch) (length buffer) new F o,
+          merge-into n (length scratch) (length buffer) (length table) new F o,
         )
-        (merged-agrees F o n buffer scratch h new (frame-back frame new bytes q .1))
+        (merged-agrees F o n buffer scratch table h new (frame-back frame new bytes q .1))
 
     -- ---- lists
 
-    call-agrees : (s : State) (n : ℕ) (buffer : List ℕ) (c : Call) → FrameIsBytes c → HoldsState s n buffer
-        → CallAgrees (machineCall match room s c) (oneCallBy match n buffer c)
+    call-agrees : (s : State) (n : ℕ) (buffer : List ℕ) (table : List NodeRecord) (c : Call) → FrameIsBytes c → HoldsState s n buffer table
+        → CallAgrees (machineCall match room places s c) (oneCallBy match n buffer table c)
     unfolding machineCall oneCallBy load merge makeCall
-    call-agrees s n buffer (loading frame) bytes h = load-agrees s n buffer frame bytes h (frameOf frame) refl
-    call-agrees nothing n buffer (making c) bytes h =
-        subst (λ (k : ℕ). CallAgrees (refuseCall nothing 11) (butScratch (makeBy match (c .kind) k buffer (c .scratch)))) (sym (h .0))
-        (make-nothing (c .kind) buffer (c .scratch) (h .1))
-    call-agrees (started F b) n buffer (making c) bytes h = make-started F b n buffer c h
-    call-agrees nothing n buffer (merging frame scratch) bytes h =
-        subst (λ (k : ℕ). CallAgrees (mergeCall match (length scratch) room nothing (frameOf frame))
-        (butScratch (merge frame k buffer scratch))) (sym (h .0)) (merge-nothing buffer scratch (h .1) (frameOf frame))
-    call-agrees (started F b) n buffer (merging frame scratch) bytes h =
-        merge-started F (b .isExtracted) (b .isOdd) n buffer frame scratch bytes h (frameOf frame) refl
+    call-agrees s n buffer table (loading frame) bytes h = load-agrees s n buffer table frame bytes h (frameOf frame) refl
+    call-agrees nothing n buffer table (making c) bytes h =
+        subst (λ (k : ℕ). CallAgrees (refuseCall nothing 11) (butScratch (makeBy match (c .kind) k buffer (c .scratch) table) table))
+        (sym (h .0)) (make-nothing (c .kind) buffer (c .scratch) table (h .1))
+    call-agrees (started F b) n buffer table (making c) bytes h = make-started F b n buffer table c h
+    call-agrees nothing n buffer table (merging frame scratch) bytes h =
+        subst (λ (k : ℕ). CallAgrees (mergeCall match (length scratch) room places nothing (frameOf frame))
+        (mergedBut (merge frame k buffer scratch table))) (sym (h .0)) (merge-nothing buffer scratch table (h .1) (frameOf frame))
+    call-agrees (started F b) n buffer table (merging frame scratch) bytes h =
+        merge-started F (b .isExtracted) (b .isOdd) n buffer frame scratch table bytes h (frameOf frame) refl
 
-    record AllAgree (m : History) (c : ListOutcome) : Type 0 where
+    record AllAgree (m : History) (c : HistoryOutcome) : Type 0 where
       answers : c .answers ≡ m .answers
-      holds : HoldsState (m .state) (c .n) (c .buffer)
+      holds : HoldsState (m .state) (c .n) (c .buffer) (c .table)
 
-    history-agrees : (calls : List Call) (s : State) (n : ℕ) (buffer : List ℕ) → FramesAreBytes calls → HoldsState s n buffer
-        → AllAgree (machineHistory match room s calls) (historyBy match n buffer calls)
+    history-agrees : (calls : List Call) (s : State) (n : ℕ) (buffer : List ℕ) (table : List NodeRecord) → FramesAreBytes calls
+        → HoldsState s n buffer table → AllAgree (machineHistory match room places s calls) (historyBy match n buffer table calls)
     unfolding machineHistory historyBy
-    history-agrees [] s n buffer bytes h = record { answers = refl; holds = h }
-    history-agrees (c ∷ cs) s n buffer bytes h =
-        let one : CallAgrees (machineCall match room s c) (oneCallBy match n buffer c) = call-agrees s n buffer c (bytes .0) h in
-        let after : AllAgree (machineHistory match room (machineCall match room s c .state) cs) _ =
-        history-agrees cs _ _ _ (bytes .1) (one .holds) in
+    history-agrees [] s n buffer table bytes h = record { answers = refl; holds = h }
+    history-agrees (c ∷ cs) s n buffer table bytes h =
+        let one : CallAgrees (machineCall match room places s c) (oneCallBy match n buffer table c) =
+        call-agrees s n buffer table c (bytes .0) h in
+        let after : AllAgree (machineHistory match room places (machineCall match room places s c .state) cs) _ =
+        history-agrees cs _ _ _ _ (bytes .1) (one .holds) in
         record { answers = ap₂ (λ (a : Result ℕ) (l : List (Result ℕ)). a ∷ l) (one .answer) (after .answers); holds = after .holds }
 
-    -- The plan that a state's buffer holds.
-    state-left : (s : State) (n : ℕ) (buffer : List ℕ) → HoldsState s n buffer
-        → (take n buffer ≡ planBytes (statePlan match s)) × (n ≡ length (planBytes (statePlan match s))) × (length buffer ≡ room)
+    -- The plan that a state's buffer holds, and the table that fits it.
+    state-left : (s : State) (n : ℕ) (buffer : List ℕ) (table : List NodeRecord) → HoldsState s n buffer table
+        → (take n buffer ≡ planBytes (statePlan match s)) × (n ≡ length (planBytes (statePlan match s)))
+        × Sized buffer table × (tableFits table (ok (statePlan match s)) ≡ true)
     unfolding statePlan planBytes machineLength
-    state-left nothing n buffer h = (ap (λ (k : ℕ). take k buffer) (h .0), h .0, h .1)
-    state-left (started F b) n buffer h = (h .1 .bytes, h .1 .size, h .2)
+    state-left nothing n buffer table h = (ap (λ (k : ℕ). take k buffer) (h .0), h .0, h .1, unfold tableFits in refl)
+    state-left (started F b) n buffer table h =
+        (h .1 .bytes, h .1 .size, h .2, fits-machine laws F (b .isExtracted) (b .isOdd) table (h .4))
 
   pub history-of : HistoryOfCallsBy match
-  history-of buffer calls bytes =
-      let a : AllAgree (length buffer) (machineHistory match (length buffer) nothing calls) (historyBy match 0 buffer calls) =
-      history-agrees (length buffer) calls nothing 0 buffer bytes (refl, refl) in
-      let l =
-      state-left (length buffer) (machineHistory match (length buffer) nothing calls .state) (historyBy match 0 buffer calls .n)
-      (historyBy match 0 buffer calls .buffer) (a .holds) in
-      (a .answers, l .0, l .1, l .2)
+  history-of buffer table calls bytes =
+      let m : History = machineHistory match (length buffer) (length table) nothing calls in
+      let o : HistoryOutcome = historyBy match 0 buffer table calls in
+      let a : AllAgree (length buffer) (length table) m o =
+      history-agrees (length buffer) (length table) calls nothing 0 buffer table bytes (refl, (refl, refl)) in
+      let l = state-left (length buffer) (length table) (m .state) (o .n) (o .buffer) (o .table) (a .holds) in
+      (a .answers, l .0, l .1, l .2 .0, l .2 .1, l .3)

@@ -12,7 +12,8 @@ use Rattle.definitions.specs.Encode.{planBytes}
 use Rattle.definitions.specs.Plans.{frameOf, planOf}
 use Rattle.definitions.specs.Extract.{Matcher, extractionBy}
 use Rattle.definitions.specs.Exchange.{exchangePlan}
-use Rattle.definitions.specs.Calls.{newAfterLoad, finishLoad, load, finish, heldPlan, newAfterExchange, exchange, matchedBytes, newAfterExtractBy, extractBy}
+use Rattle.definitions.specs.Calls.{newAfterLoad, finishLoad, load, finish, heldPlan, newAfterExchange, exchange, matchedBytes, newAfterExtractBy, extractFilledBy, extractBy, tableFits}
+use Rattle.definitions.specs.NodeTable.{NodeRecord}
 use Rattle.definitions.specs.Machine.{Kind, extractCall, exchangeCall}
 use Rattle.definitions.specs.Sessions.{makeBy}
 use Rattle.definitions.specs.Good.{AllBytes, GoodPlan}
@@ -34,21 +35,25 @@ if-short false x number h = tt
 
 -- ---- load
 
-load-short : (frame : List ℕ) (room : ℕ) (r : Result Frame) → AllBytes frame → frameOf frame ≡ r → Short (newAfterLoad frame room r)
-unfolding newAfterLoad planBytes
-load-short frame room (ok F) bytes e =
-    let back = frame-back frame F bytes e in
-    if-short (leb (length frame) room) (ok frame) 9 (subst (λ (s : List ℕ). length s ≤ 16384) (sym (back .0)) (back .1 .fewBytes))
-load-short frame room (refused number) bytes e = tt
-
-loaded-short : (n : ℕ) (buffer : List ℕ) (x : Result (List ℕ)) {m : ℕ} → Short x → finishLoad n buffer x .answer ≡ ok m → m ≤ 16384
+loaded-short : (frame : List ℕ) (n : ℕ) (buffer : List ℕ) (table : List NodeRecord) (x : Result Frame) {m : ℕ}
+    → length frame ≤ 16384 → finishLoad frame n buffer table x .answer ≡ ok m → m ≤ 16384
 unfolding finishLoad
-loaded-short n buffer (ok bytes) h e = subst (λ k. k ≤ 16384) (same-ok _ _ e) h
-loaded-short n buffer (refused number) h e = absurd (refused-not-ok _ _ e)
+loaded-short frame n buffer table (ok F) h e = subst (λ k. k ≤ 16384) (same-ok _ _ e) h
+loaded-short frame n buffer table (refused number) h e = absurd (refused-not-ok _ _ e)
 
-pub load-is-short : (frame : List ℕ) (n : ℕ) (buffer : List ℕ) (m : ℕ) → AllBytes frame → load frame n buffer .answer ≡ ok m → m ≤ 16384
+read-short : (frame : List ℕ) (n : ℕ) (buffer : List ℕ) (table : List NodeRecord) (r : Result Frame) {m : ℕ}
+    → AllBytes frame → frameOf frame ≡ r
+    → finishLoad frame n buffer table (newAfterLoad frame (length buffer) (length table) r) .answer ≡ ok m → m ≤ 16384
+unfolding newAfterLoad planBytes
+read-short frame n buffer table (ok F) bytes e is =
+    let back = frame-back frame F bytes e in
+    loaded-short frame n buffer table _ (subst (λ (s : List ℕ). length s ≤ 16384) (sym (back .0)) (back .1 .fewBytes)) is
+read-short frame n buffer table (refused number) bytes e is = unfold finishLoad in absurd (refused-not-ok _ _ is)
+
+pub load-is-short : (frame : List ℕ) (n : ℕ) (buffer : List ℕ) (table : List NodeRecord) (m : ℕ) → AllBytes frame
+    → load frame n buffer table .answer ≡ ok m → m ≤ 16384
 unfolding load
-load-is-short frame n buffer m bytes e = loaded-short n buffer _ (load-short frame (length buffer) (frameOf frame) bytes refl) e
+load-is-short frame n buffer table m bytes e = read-short frame n buffer table (frameOf frame) bytes refl e
 
 -- ---- extract and exchange
 
@@ -103,10 +108,17 @@ module _ {match : Matcher} {Asks : Meaning → List Record → Type 0} (laws : L
   extract-short n room (ok (extracted X)) g = tt
   extract-short n room (refused number) g = tt
 
-  pub make-short : (kind : Kind) (n : ℕ) (buffer scratch : List ℕ) (m : ℕ) → AllBytes buffer
-      → makeBy match kind n buffer scratch .answer ≡ ok m → m ≤ 16384
-  unfolding makeBy extractBy exchange
-  make-short extractCall n buffer scratch m bytes e =
-      finish-short n buffer scratch _ (extract-short n (length scratch) _ (held-good n buffer bytes)) e
-  make-short exchangeCall n buffer scratch m bytes e =
+  -- The table decides between what is written and 10.
+  tabled-short : (n : ℕ) (buffer scratch : List ℕ) (b : Bool) (x : Result (List ℕ)) {m : ℕ} → Short x
+      → (if b then finish n buffer scratch x else finish n buffer scratch (refused 10)) .answer ≡ ok m → m ≤ 16384
+  tabled-short n buffer scratch true x h e = finish-short n buffer scratch x h e
+  tabled-short n buffer scratch false x h e = finish-short n buffer scratch (refused 10) tt e
+
+  pub make-short : (kind : Kind) (n : ℕ) (buffer scratch : List ℕ) (table : List NodeRecord) (m : ℕ) → AllBytes buffer
+      → makeBy match kind n buffer scratch table .answer ≡ ok m → m ≤ 16384
+  unfolding makeBy extractBy extractFilledBy exchange
+  make-short extractCall n buffer scratch table m bytes e =
+      tabled-short n buffer scratch (tableFits table (heldPlan n buffer)) _
+      (extract-short n (length scratch) _ (held-good n buffer bytes)) e
+  make-short exchangeCall n buffer scratch table m bytes e =
       finish-short n buffer scratch _ (exchange-short n (length scratch) _ (held-good n buffer bytes)) e

@@ -19,6 +19,8 @@ pub mod OnlyIf
 pub mod ExtractExchange
 pub mod Pick
 pub mod ExtractGood
+pub mod NodeTables
+pub mod TablesFit
 pub mod Lists
 pub mod Inverse
 pub mod InverseFrame
@@ -42,5 +44,4 @@ pub mod Merged
 pub mod MergeCall
 pub mod Histories
 pub mod Pruned
-pub mod NodeTables
 pub mod Proved

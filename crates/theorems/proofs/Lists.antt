@@ -1,7 +1,7 @@
 -- Any list of calls gives the machine's answers and leaves the machine's plan.
 use Prim.Native.Nat.{ℕ, _≤_}
 use native.Mathlib.Omega.{arith}
-use mathlib.Core.Path.{_≡_, refl, sym, ap, ap₂, _∙_}
+use mathlib.Core.Path.{_≡_, refl, sym, ap, ap₂, _∙_, subst}
 use mathlib.Core.Bool.{Bool, true, false, not}
 use mathlib.Core.List.{List, [], _∷_, map}
 use mathlib.Core.Option.{Option, none, some, Option·map}
@@ -15,7 +15,8 @@ use Rattle.definitions.specs.Encode.{planBytes}
 use Rattle.definitions.specs.Plans.{planOf}
 use Rattle.definitions.specs.Extract.{Matcher, extractionBy}
 use Rattle.definitions.specs.Exchange.{exchangePlan, exchangeFrame, exchangeExtraction}
-use Rattle.definitions.specs.Calls.{Outcome, writtenOver, finish, heldPlan, newAfterExchange, exchange, matchedBytes, newAfterExtractBy, extractBy}
+use Rattle.definitions.specs.Calls.{Outcome, writtenOver, finish, heldPlan, newAfterExchange, exchange, matchedBytes, newAfterExtractBy, extractFilledBy, tableFits}
+use Rattle.definitions.specs.NodeTable.{NodeRecord, nodeTable, beginsWith}
 use Rattle.definitions.specs.Machine.{Kind, extractCall, exchangeCall, Bits, extractionOr, machinePlan, machineLength, Step, refuseStep, acceptStep, takeStep, machineStep, Run, machineRun}
 use Rattle.definitions.specs.Sessions.{Made, fed, makeBy, ListOutcome, callsRunBy}
 use Rattle.definitions.specs.Good.{GoodPlan}
@@ -26,6 +27,7 @@ use Rattle.theorems.proofs.ExtractExchange.{exchanged-by}
 use Rattle.theorems.proofs.ExchangeGood.{plan-as-long, exchange-good}
 use Rattle.theorems.proofs.ExtractGood.{GoodExtraction, good-by}
 use Rattle.theorems.proofs.RoundTripPlan.{plan-reads}
+use Rattle.theorems.proofs.TablesFit.{extract-filled-by, fits-exchanged, fits-base}
 
 -- The bits of the machine.
 abbrev pub bits : Bool → Bool → Bits
@@ -222,8 +224,8 @@ module _ {match : Matcher} {Asks : Meaning → List Record → Type 0} (laws : L
   extract-room F o n buffer scratch false h a = refuses F (bits false o) n buffer scratch 9 h
 
   extract-step : (F : Frame) (e o : Bool) (n : ℕ) (buffer scratch : List ℕ) → GoodPlan (held F) → Holds F (bits e o) n buffer
-      → Agrees F (machineStep match F (bits e o) extractCall (length scratch)) (extractBy match n buffer scratch)
-  unfolding extractBy machineStep swapped-extraction
+      → Agrees F (machineStep match F (bits e o) extractCall (length scratch)) (extractFilledBy match n buffer scratch)
+  unfolding extractFilledBy machineStep swapped-extraction
   extract-step F true o n buffer scratch g h =
       rw (
         held-plan F true o n buffer g h,
@@ -236,26 +238,51 @@ module _ {match : Matcher} {Asks : Meaning → List Record → Type 0} (laws : L
       (extract-room F o n buffer scratch (leb n (length scratch)) h
       (take-step F o n buffer scratch g h (extractionBy match F) refl (good-by laws F g)))
 
+  -- ---- the table
+
+  -- A table as it was filled.
+  abbrev pub Tabled : Frame → List NodeRecord → Type 0
+  Tabled F table = beginsWith (nodeTable F) table ≡ true
+
+  -- It fits every plan of the machine, and so extract takes it.
+  pub fits-machine : (F : Frame) (e o : Bool) (table : List NodeRecord) → Tabled F table
+      → tableFits table (ok (machinePlan match F (bits e o))) ≡ true
+  unfolding machinePlan
+  fits-machine F true true table t = fits-exchanged table _ ∙ fits-base table F (extractionBy match F) t
+  fits-machine F true false table t = fits-base table F (extractionBy match F) t
+  fits-machine F false true table t = fits-exchanged table (held F) ∙ unfold tableFits in t
+  fits-machine F false false table t = unfold tableFits in t
+
+  pub fits-held : (F : Frame) (b : Bits) (n : ℕ) (buffer : List ℕ) (table : List NodeRecord) → GoodPlan (held F) → Tabled F table
+      → Holds F b n buffer → tableFits table (heldPlan n buffer) ≡ true
+  fits-held F b n buffer table g t h =
+      ap (tableFits table) (held-plan F (b .isExtracted) (b .isOdd) n buffer g h) ∙ fits-machine F (b .isExtracted) (b .isOdd) table t
+
   -- ---- lists of calls
 
-  pub step-agrees : (F : Frame) (b : Bits) (k : Kind) (n : ℕ) (buffer scratch : List ℕ) → GoodPlan (held F) → Holds F b n buffer
-      → Agrees F (machineStep match F b k (length scratch)) (makeBy match k n buffer scratch)
+  pub step-agrees : (F : Frame) (b : Bits) (k : Kind) (n : ℕ) (buffer scratch : List ℕ) (table : List NodeRecord) → GoodPlan (held F)
+      → Tabled F table → Holds F b n buffer
+      → Agrees F (machineStep match F b k (length scratch)) (makeBy match k n buffer scratch table)
   unfolding makeBy
-  step-agrees F b extractCall n buffer scratch g h = extract-step F (b .isExtracted) (b .isOdd) n buffer scratch g h
-  step-agrees F b exchangeCall n buffer scratch g h = exchange-step F (b .isExtracted) (b .isOdd) n buffer scratch g h
+  step-agrees F b extractCall n buffer scratch table g t h =
+      subst (Agrees F (machineStep match F b extractCall (length scratch)))
+      (sym (extract-filled-by match n buffer scratch table (fits-held F b n buffer table g t h)))
+      (extract-step F (b .isExtracted) (b .isOdd) n buffer scratch g h)
+  step-agrees F b exchangeCall n buffer scratch table g t h = exchange-step F (b .isExtracted) (b .isOdd) n buffer scratch g h
 
   -- What a list of calls must give.
   pub record AgreesAll (F : Frame) (m : Run) (c : ListOutcome) : Type 0 where
     pub answers : c .answers ≡ m .answers
     pub holds : Holds F (m .bits) (c .n) (c .buffer)
 
-  pub run-agrees : (F : Frame) → GoodPlan (held F) → (calls : List Made) (b : Bits) (n : ℕ) (buffer : List ℕ) → Holds F b n buffer
-      → AgreesAll F (machineRun match F b (map fed calls)) (callsRunBy match n buffer calls)
+  pub run-agrees : (F : Frame) (table : List NodeRecord) → GoodPlan (held F) → Tabled F table
+      → (calls : List Made) (b : Bits) (n : ℕ) (buffer : List ℕ) → Holds F b n buffer
+      → AgreesAll F (machineRun match F b (map fed calls)) (callsRunBy match n buffer table calls)
   unfolding machineRun callsRunBy fed
-  run-agrees F g [] b n buffer h = record { answers = refl; holds = h }
-  run-agrees F g (c ∷ cs) b n buffer h =
-      let one : Agrees F (machineStep match F b (c .kind) (length (c .scratch))) (makeBy match (c .kind) n buffer (c .scratch)) =
-      step-agrees F b (c .kind) n buffer (c .scratch) g h in
+  run-agrees F table g t [] b n buffer h = record { answers = refl; holds = h }
+  run-agrees F table g t (c ∷ cs) b n buffer h =
+      let one : Agrees F (machineStep match F b (c .kind) (length (c .scratch))) (makeBy match (c .kind) n buffer (c .scratch) table) =
+      step-agrees F b (c .kind) n buffer (c .scratch) table g t h in
       let after : AgreesAll F (machineRun match F (machineStep match F b (c .kind) (length (c .scratch)) .bits) (map fed cs)) _ =
-      run-agrees F g cs _ _ _ (one .holds) in
+      run-agrees F table g t cs _ _ _ (one .holds) in
       record { answers = ap₂ (λ (a : Result ℕ) (l : List (Result ℕ)). a ∷ l) (one .answer) (after .answers); holds = after .holds }

@@ -17,8 +17,9 @@ use Rattle.definitions.specs.Leaves.{leaves}
 use Rattle.definitions.specs.Extract.{Matcher, matchesBy, extractionBy}
 use Rattle.definitions.specs.Exchange.{exchangePredicate, exchangeFrame, exchangeExtraction}
 use Rattle.definitions.specs.Calls.{Outcome}
+use Rattle.definitions.specs.NodeTable.{NodeRecord}
 use Rattle.definitions.specs.Machine.{extractCall, Bits, machinePlan, machineLength, refuseStep, acceptStep, takeStep, machineStep}
-use Rattle.definitions.specs.Sessions.{Made, extractWith, makeBy, callsRunBy, machineAfterBy, accepted, isExtract, extractAccepted, SessionBy, lengthAfter, planAfter, extractedIn, oddIn, answerAfter}
+use Rattle.definitions.specs.Sessions.{Made, extractWith, makeBy, ListOutcome, callsRunBy, machineAfterBy, accepted, isExtract, extractAccepted, SessionBy, lengthAfter, planAfter, extractedIn, oddIn, answerAfter}
 use Rattle.definitions.specs.Meaning.{Meaning}
 use Rattle.definitions.specs.Matchers.{Lawful}
 use Rattle.definitions.specs.Claims.{someLeafMatchesBy, TookAmong, extractedPlan, positionHeld, NamesLeaf, priceLineBy, OnLine}
@@ -87,16 +88,16 @@ none-by match F b room h = no-extraction match F b (extractionBy match F) (b .is
 -- ---- the end of a list
 
 -- An extract that is accepted at the end of a list was accepted in it.
-extracted-last : (match : Matcher) (n : ℕ) (buffer : List ℕ) (before : List Made) (scratch : List ℕ)
-    → accepted (makeBy match extractCall (callsRunBy match n buffer before .n) (callsRunBy match n buffer before .buffer) scratch .answer)
-    ≡ true
-    → extractAccepted (before ++ (extractWith scratch ∷ [])) (callsRunBy match n buffer (before ++ (extractWith scratch ∷ [])) .answers)
-    ≡ true
+extracted-last : (match : Matcher) (n : ℕ) (buffer : List ℕ) (table : List NodeRecord) (before : List Made) (scratch : List ℕ)
+    → let o : ListOutcome = callsRunBy match n buffer table before in
+    accepted (makeBy match extractCall (o .n) (o .buffer) scratch table .answer) ≡ true
+    → extractAccepted (before ++ (extractWith scratch ∷ []))
+    (callsRunBy match n buffer table (before ++ (extractWith scratch ∷ [])) .answers) ≡ true
 unfolding callsRunBy extractAccepted isExtract
-extracted-last match n buffer [] scratch a = ap (λ (b : Bool). b || false) a
-extracted-last match n buffer (b ∷ bs) scratch a =
-    let one : Outcome = makeBy match (b .kind) n buffer (b .scratch) in
-    ap (λ (x : Bool). (isExtract (b .kind) && accepted (one .answer)) || x) (extracted-last match (one .n) (one .buffer) bs scratch a)
+extracted-last match n buffer table [] scratch a = ap (λ (b : Bool). b || false) a
+extracted-last match n buffer table (b ∷ bs) scratch a =
+    let one : Outcome = makeBy match (b .kind) n buffer (b .scratch) table in
+    ap (λ (x : Bool). (isExtract (b .kind) && accepted (one .answer)) || x) (extracted-last match (one .n) (one .buffer) table bs scratch a)
     ∙ or-true (isExtract (b .kind) && accepted (one .answer))
 
 -- ---- with a lawful matcher
@@ -191,7 +192,11 @@ module _ {match : Matcher} {Asks : Meaning → List Record → Type 0} (laws : L
       line-with (some X) x m e h =
           let taken : accepted (answerAfter s before (extractWith scratch)) ≡ true =
           extract-among laws s before scratch ∙ rw (e, m, le-leb (lengthAfter s before) (length scratch) h) refl in
-          (taken, line-left (before ++ (extractWith scratch ∷ [])) (extracted-last match (s .n) (s .buffer) before scratch taken) X x)
+          (
+            taken,
+            line-left (before ++ (extractWith scratch ∷ []))
+                (extracted-last match (s .n) (s .buffer) (s .table) before scratch taken) X x,
+          )
 
       pub line-of-calls : extractedIn s before ≡ false → lengthAfter s before ≤ length scratch
           → OnLine (priceLineBy match F) (answerAfter s before (extractWith scratch)) (planAfter s (before ++ (extractWith scratch ∷ [])))

@@ -1,16 +1,21 @@
 -- The table of a frame's nodes: one record a node, each inside its parent and before the next.
-use Prim.Native.Nat.{ℕ, suc, _+_, _*_, _≤_, _<_}
+use Prim.Native.Nat.{ℕ, zero, suc, _+_, _*_, _≤_, _<_}
 use native.Mathlib.Omega.{arith}
-use mathlib.Core.Path.{_≡_, refl, ap, ap₂, _∙_, subst}
+use mathlib.Core.Path.{_≡_, refl, sym, ap, ap₂, _∙_, subst}
+use mathlib.Core.Bool.{true, _&&_, false≢true}
 use mathlib.Core.List.{List, [], _∷_, _++_, append-nil, append-assoc}
-use lib.ListN.{length, length-append, length-map}
+use lib.ListN.{length, take, drop, length-append, length-map}
+use lib.Dec.{eqb}
+use borrow.Author.Tests.{eqb-true, eq-eqb}
 use Rattle.definitions.specs.Basics.{bigEndian}
 use Rattle.definitions.specs.Expression.{Expr, column, literal, and, binary, call, other, field, Exprs, nil, cons}
 use Rattle.definitions.specs.Encode.{exprBytes, exprsBytes, frameBytes}
 use Rattle.definitions.specs.Exchange.{exchangeRecord, exchangeFrame}
 use Rattle.definitions.specs.Good.{nodes, nodesAll}
-use Rattle.definitions.specs.NodeTable.{NodeRecord, kindByte, recordOf, nodesFrom, rowFrom, nodeTable}
-use Rattle.definitions.specs.TableClaims.{Nested, nothing, node, Rising, TableNests, TableExchanged}
+use Rattle.definitions.specs.NodeTable.{NodeRecord, kindByte, recordOf, nodesFrom, rowFrom, nodeTable, sameRecord, beginsWith}
+use Rattle.definitions.specs.Calls.{writtenOver}
+use Rattle.definitions.specs.TableClaims.{Nested, nothing, node, Rising, TableNests, TableExchanged, BeginsExactly}
+use Rattle.theorems.proofs.Tools.{and-both}
 use Rattle.theorems.proofs.ExchangeGood.{frame-length}
 
 -- ---- one record a node
@@ -130,3 +135,51 @@ table-nests-by F =
 pub table-exchanged-by : TableExchanged
 unfolding nodeTable exchangeFrame
 table-exchanged-by F = ap (λ (k : ℕ). nodesFrom (3 + 5 * k) (F .expr)) (length-map (F .records) exchangeRecord)
+
+-- ---- tables that begin with records
+
+same-record : (a b : NodeRecord) → sameRecord a b ≡ true → a ≡ b
+unfolding sameRecord
+same-record a b e =
+    let (kind, others) = and-both (eqb (a .kind) (b .kind)) _ e in
+    let (start, end) = and-both (eqb (a .start) (b .start)) (eqb (a .end) (b .end)) others in
+    let k : a .kind ≡ b .kind = eqb-true (a .kind) (b .kind) kind in
+    let s : a .start ≡ b .start = eqb-true (a .start) (b .start) start in
+    let z : a .end ≡ b .end = eqb-true (a .end) (b .end) end in
+    ap (λ (x : ℕ). record { kind = x; start = a .start; end = a .end }) k
+    ∙ ap₂ (λ (x y : ℕ). record { kind = b .kind; start = x; end = y }) s z
+
+record-same : (a : NodeRecord) → sameRecord a a ≡ true
+unfolding sameRecord
+record-same a = rw (eq-eqb (a .kind) (a .kind) refl, eq-eqb (a .start) (a .start) refl, eq-eqb (a .end) (a .end) refl) refl
+
+begins-taken : (records table : List NodeRecord) → beginsWith records table ≡ true → take (length records) table ≡ records
+unfolding beginsWith
+begins-taken [] table e = refl
+begins-taken (r ∷ records) [] e = absurd (false≢true e)
+begins-taken (r ∷ records) (t ∷ table) e =
+    let (same, more) = and-both (sameRecord r t) (beginsWith records table) e in
+    ap₂ (λ (x : NodeRecord) (y : List NodeRecord). x ∷ y) (sym (same-record r t same)) (begins-taken records table more)
+
+begins-self : (records more : List NodeRecord) → beginsWith records (records ++ more) ≡ true
+unfolding beginsWith
+begins-self [] more = refl
+begins-self (r ∷ records) more = ap₂ _&&_ (record-same r) (begins-self records more)
+
+first-and-rest : (k : ℕ) (table : List NodeRecord) → take k table ++ drop k table ≡ table
+first-and-rest zero table = refl
+first-and-rest (suc k) [] = refl
+first-and-rest (suc k) (t ∷ table) = ap {B = List NodeRecord} (λ x. t ∷ x) (first-and-rest k table)
+
+pub begins-exactly-by : BeginsExactly
+begins-exactly-by records table = (
+  begins-taken records table,
+  λ e. subst (λ (x : List NodeRecord). beginsWith records x ≡ true)
+      (ap (λ (x : List NodeRecord). x ++ drop (length records) table) (sym e) ∙ first-and-rest (length records) table)
+      (begins-self records (drop (length records) table)),
+)
+
+-- A table that was filled begins with its records.
+pub begins-filled : (records table : List NodeRecord) → beginsWith records (writtenOver records table) ≡ true
+unfolding writtenOver
+begins-filled records table = begins-self records (drop (length records) table)

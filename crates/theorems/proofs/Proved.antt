@@ -24,7 +24,7 @@ use Rattle.definitions.specs.PrintRows.{PrintRows}
 use Rattle.definitions.specs.Merge.{mergeFrames}
 use Rattle.definitions.specs.MergeClaims.{MergedGood, MergedValue, MergedLeaves, MergeAccepted, MergeWrites, MergeKeeps, MergeHolds, ListAfterMerge, ValueAfterMerge, HistoryOfCalls, AnyMatcherMerges}
 use Rattle.definitions.specs.MergeRows.{MergeRows}
-use Rattle.definitions.specs.TableClaims.{TableNests, TableExchanged}
+use Rattle.definitions.specs.TableClaims.{TableNests, TableExchanged, BeginsExactly, TableStays, ExtractFilled, ExtractUnfilled, ExtractTwice, NeverTooShort}
 use Rattle.definitions.specs.TableRows.{TableRows}
 use Rattle.definitions.specs.PruningClaims.{KeptByHeldIndexes}
 use Rattle.theorems.proofs.Exchange.{plan-twice}
@@ -35,10 +35,10 @@ use Rattle.theorems.proofs.Taken.{rest-of-leaves-are}
 use Rattle.theorems.proofs.ExtractGood.{GoodExtraction, good-by}
 use Rattle.theorems.proofs.ExchangeGood.{exchange-good, plan-as-long, moved-good}
 use Rattle.theorems.proofs.Lists.{plan-good}
-use Rattle.theorems.proofs.ListTheorem.{load-accepts, load-held, list-agrees}
+use Rattle.theorems.proofs.ListTheorem.{load-accepts, load-held, list-agrees, stays}
 use Rattle.theorems.proofs.Lengths.{load-is-short, make-short}
 use Rattle.theorems.proofs.Changes.{load-keeps, make-keeps, load-wrote, make-wrote}
-use Rattle.theorems.proofs.RefusalNumbers.{load-refusals, extract-refusals, exchange-refusals, logical-refusals, print-refusals, merge-refusals}
+use Rattle.theorems.proofs.RefusalNumbers.{load-refusals, extract-refusals, exchange-refusals, logical-refusals, print-refusals, merge-refusals, never-too-short-by}
 use Rattle.theorems.proofs.Answers.{told, plan-told, in-place, plans-same, exchange-among, extract-among}
 use Rattle.theorems.proofs.MatchLaws.{match-laws}
 use Rattle.theorems.proofs.Pick.{takes-by, none-by}
@@ -62,7 +62,8 @@ use Rattle.theorems.proofs.MergeCall.{merge-accepts, merge-wrote, merge
 use Rattle.theorems.proofs.Histories.{history-of}
 use Rattle.definitions.proofs.FilterRows.{merge-rows-hold}
 use Rattle.definitions.proofs.TabledRows.{table-rows-hold}
-use Rattle.theorems.proofs.NodeTables.{table-nests-by, table-exchanged-by}
+use Rattle.theorems.proofs.NodeTables.{table-nests-by, table-exchanged-by, begins-exactly-by}
+use Rattle.theorems.proofs.TablesFit.{extract-filled-by, extract-unfilled-by, extract-twice-by}
 use Rattle.theorems.proofs.Pruned.{kept-by-held}
 
 -- ---- with every lawful matcher
@@ -81,7 +82,7 @@ module _ {match : Matcher} {Asks : Meaning → List Record → Type 0} (laws : L
   one-call = record {
     short = make-short laws;
     keeps = make-keeps match;
-    writes = λ kind n buffer scratch. make-wrote n buffer scratch laws kind;
+    writes = λ kind n buffer scratch table. make-wrote n buffer scratch laws kind table;
     refusals = extract-refusals match;
   }
 
@@ -98,7 +99,7 @@ module _ {match : Matcher} {Asks : Meaning → List Record → Type 0} (laws : L
   lists = record {
     loads = load-held match;
     machine = λ F. list-agrees laws;
-    inPlace = λ F s. in-place match (s .n) (s .buffer);
+    inPlace = λ F s. in-place match (s .n) (s .buffer) (s .table);
     samePlan = λ F. plans-same laws;
     exchangeAccepted = λ F. exchange-among laws;
     extractAccepted = λ F. extract-among laws;
@@ -335,6 +336,24 @@ table-nests = table-nests-by
 
 pub table-exchanged : TableExchanged
 table-exchanged = table-exchanged-by
+
+pub begins-exactly : BeginsExactly
+begins-exactly = begins-exactly-by
+
+pub table-stays : TableStays
+table-stays match Asks laws F s calls = stays laws s calls
+
+pub extract-filled : ExtractFilled
+extract-filled = extract-filled-by
+
+pub extract-unfilled : ExtractUnfilled
+extract-unfilled = extract-unfilled-by
+
+pub extract-twice : ExtractTwice
+extract-twice = extract-twice-by
+
+pub never-too-short : NeverTooShort
+never-too-short = never-too-short-by
 
 pub table-rows : TableRows
 table-rows = table-rows-hold

@@ -1,11 +1,13 @@
 -- Each reader refuses with its own numbers only, and a sequence with those of its steps; so each call does.
-use Prim.Native.Nat.{ℕ, zero, suc}
-use mathlib.Core.Path.{_≡_, refl}
-use mathlib.Core.Bool.{Bool, true, false, _&&_}
+use Prim.Native.Nat.{ℕ, zero, suc, _≤_}
+use native.Mathlib.Omega.{arith}
+use mathlib.Core.Path.{_≡_, refl, sym, ap, _∙_}
+use mathlib.Core.Bool.{Bool, true, false, _&&_, false≢true}
 use mathlib.Core.List.{List, [], _∷_}
 use mathlib.Core.Option.{Option, none, some}
 use lib.ListN.{length}
 use lib.Dec.{leb, ltb, eqb}
+use borrow.Author.Tests.{le-leb}
 use Rattle.definitions.specs.Basics.{if_then_else_, Result, ok, refused, mapResult, any}
 use Rattle.definitions.specs.Expression.{Frame, Extraction, Plan, empty, held, extracted}
 use Rattle.definitions.specs.Encode.{frameBytes}
@@ -15,12 +17,18 @@ use Rattle.definitions.specs.Extract.{Matcher, extractionBy}
 use Rattle.definitions.specs.Readers.{Read, read, stopped, Reader, continue, require, firstByte, byteUpTo, byteBetween, numberAfter, number, repeat, requireLength, noneLeft, atEnd, resultOf}
 use Rattle.definitions.specs.Decode.{Columns, indexBelow, fields, allowedKind, columnNode, fieldNode, literalNode, binaryNode, repeatExprs, callNode, otherNode, anyColumn, nodeOfKind, countNode, nodeKind, node, expression, sideUpTo, oneRecord, recordCount, frameBody}
 use Rattle.definitions.specs.Plans.{physicalFrame, logicalFrame, frameOf, logicalOf}
-use Rattle.definitions.specs.Calls.{newAfterLoad, finishLoad, load, finish, heldPlan, newAfterExchange, exchange, matchedBytes, newAfterExtractBy, extractBy}
+use Rattle.definitions.specs.Calls.{tabled, newAfterLoad, finishLoad, load, Outcome, finish, heldPlan, newAfterExchange, exchange, matchedBytes, newAfterExtractBy, extractBy}
+use Rattle.definitions.specs.Good.{nodes, planNodes}
+use Rattle.definitions.specs.NodeTable.{NodeRecord}
 use Rattle.definitions.specs.Logical.{logicalAnswer, logical}
 use Rattle.definitions.specs.Printed.{printed, textOf, finishPrint, print}
-use Rattle.definitions.specs.Merge.{mergeFrames, overLimits, mergedBytes, newAfterMerge, merge}
+use Rattle.definitions.specs.Merge.{mergeFrames, overLimits, mergedFrame, newAfterMerge, withTable, merge}
 use Rattle.definitions.specs.Claims.{loadRefusals, extractRefusals, exchangeRefusals, logicalRefusals, printRefusals, mergeRefusals, RefusedBy}
+use Rattle.definitions.specs.TableClaims.{NeverTooShort}
 use Rattle.theorems.proofs.Tools.{by-test}
+use Rattle.theorems.proofs.InverseFrame.{frame-back}
+use Rattle.theorems.proofs.Changes.{extract-writes}
+use Rattle.theorems.proofs.Merged.{within-limits}
 
 -- ---- readers
 
@@ -219,24 +227,35 @@ module _ (P : ℕ → Type 0) where
   map-only f (ok a) h = tt
   map-only f (refused number) h = h
 
-  loaded-only : (n : ℕ) (buffer : List ℕ) (x : Result (List ℕ)) → Refuses x → Refuses (finishLoad n buffer x .answer)
+  loaded-only : (frame : List ℕ) (n : ℕ) (buffer : List ℕ) (table : List NodeRecord) (x : Result Frame) → Refuses x
+      → Refuses (finishLoad frame n buffer table x .answer)
   unfolding finishLoad
-  loaded-only n buffer (ok bytes) h = tt
-  loaded-only n buffer (refused number) h = h
+  loaded-only frame n buffer table (ok F) h = tt
+  loaded-only frame n buffer table (refused number) h = h
 
   finish-only : (n : ℕ) (buffer scratch : List ℕ) (x : Result (List ℕ)) → Refuses x → Refuses (finish n buffer scratch x .answer)
   unfolding finish
   finish-only n buffer scratch (ok bytes) h = tt
   finish-only n buffer scratch (refused number) h = h
 
-  if-only : (number : ℕ) (b : Bool) (x : Result (List ℕ)) → Refuses x → P number → Refuses (if b then x else refused number)
+  if-only : {A : Type 0} (number : ℕ) (b : Bool) (x : Result A) → Refuses x → P number → Refuses (if b then x else refused number)
   if-only number true x h p = h
   if-only number false x h p = p
 
-  load-only : (frame : List ℕ) (room : ℕ) (r : Result Frame) → Refuses r → P 9 → Refuses (newAfterLoad frame room r)
+  tabled-only : (places : ℕ) (F : Frame) → P 17 → Refuses (tabled places F)
+  unfolding tabled
+  tabled-only places F p17 = if-only 17 (leb (nodes (F .expr)) places) (ok F) tt p17
+
+  -- A table with room refuses nothing.
+  tabled-enough : (places : ℕ) (F : Frame) → nodes (F .expr) ≤ places → Refuses (tabled places F)
+  unfolding tabled
+  tabled-enough places F h = rw (le-leb (nodes (F .expr)) places h) tt
+
+  load-only : (frame : List ℕ) (room places : ℕ) (r : Result Frame) → Refuses r → P 9
+      → ((F : Frame) → r ≡ ok F → Refuses (tabled places F)) → Refuses (newAfterLoad frame room places r)
   unfolding newAfterLoad
-  load-only frame room (ok F) h p9 = if-only 9 (leb (length frame) room) (ok frame) tt p9
-  load-only frame room (refused number) h p9 = h
+  load-only frame room places (ok F) h p9 t = if-only 9 (leb (length frame) room) (tabled places F) (t F refl) p9
+  load-only frame room places (refused number) h p9 t = h
 
   printed-only : (buffer : List ℕ) (x : Result (List ℕ)) → Refuses x → Refuses (finishPrint buffer x .answer)
   unfolding finishPrint
@@ -270,14 +289,14 @@ module _ (P : ℕ → Type 0) where
       extract-only match (ok (held F)) =
           if-only 9 (leb n room) (matchedBytes (extractionBy match F)) (taken-only (extractionBy match F)) p9
 
-    module _ (p12 : P 12) (p16 : P 16) (scratch : ℕ) where
-      merged-only : (M : Frame) → Refuses (mergedBytes n scratch room M)
-      unfolding mergedBytes
+    module _ (p12 : P 12) (p16 : P 16) (scratch places : ℕ) (t : (M : Frame) → overLimits M ≡ false → Refuses (tabled places M)) where
+      merged-only : (M : Frame) → Refuses (mergedFrame n scratch room places M)
+      unfolding mergedFrame
       merged-only M =
           by-test Refuses (overLimits M) (refused 16) _ (λ _. p16)
-          (λ _. if-only 9 (leb n scratch && leb (length (frameBytes M)) room) (ok (frameBytes M)) tt p9)
+          (λ under. if-only 9 (leb n scratch && leb (length (frameBytes M)) room) (tabled places M) (t M under) p9)
 
-      merge-only : (new : Result Frame) → Refuses new → (old : Result Plan) → Refuses (newAfterMerge n scratch room new old)
+      merge-only : (new : Result Frame) → Refuses new → (old : Result Plan) → Refuses (newAfterMerge n scratch room places new old)
       unfolding newAfterMerge
       merge-only (refused number) h old = h
       merge-only (ok new) h (refused number) = p10
@@ -293,22 +312,26 @@ refused-by : {A : Type 0} (numbers : List ℕ) (r : Result A) → Refuses (In nu
 refused-by numbers (ok a) h = tt
 refused-by numbers (refused number) h = h
 
-pub load-refusals : (frame : List ℕ) (n : ℕ) (buffer : List ℕ) → RefusedBy loadRefusals (load frame n buffer .answer)
+pub load-refusals : (frame : List ℕ) (n : ℕ) (buffer : List ℕ) (table : List NodeRecord)
+    → RefusedBy loadRefusals (load frame n buffer table .answer)
 unfolding load frameOf loadRefusals any
-load-refusals frame n buffer =
+load-refusals frame n buffer table =
     let read = physical-only (In loadRefusals) refl refl refl refl refl refl refl refl 0 frame in
     let given =
-    load-only (In loadRefusals) frame (length buffer) (frameOf frame) (result-only (In loadRefusals) (physicalFrame 0 frame) read) refl in
-    refused-by loadRefusals (load frame n buffer .answer)
-    (loaded-only (In loadRefusals) n buffer (newAfterLoad frame (length buffer) (frameOf frame)) given)
+    load-only (In loadRefusals) frame (length buffer) (length table) (frameOf frame)
+    (result-only (In loadRefusals) (physicalFrame 0 frame) read) refl (λ F _. tabled-only (In loadRefusals) (length table) F refl) in
+    refused-by loadRefusals (load frame n buffer table .answer)
+    (loaded-only (In loadRefusals) frame n buffer table (newAfterLoad frame (length buffer) (length table) (frameOf frame)) given)
 
-pub extract-refusals : (match : Matcher) (n : ℕ) (buffer scratch : List ℕ)
-    → RefusedBy extractRefusals (extractBy match n buffer scratch .answer)
-unfolding extractBy extractRefusals any
-extract-refusals match n buffer scratch =
-    refused-by extractRefusals (extractBy match n buffer scratch .answer)
+pub extract-refusals : (match : Matcher) (n : ℕ) (buffer scratch : List ℕ) (table : List NodeRecord)
+    → RefusedBy extractRefusals (extractBy match n buffer scratch table .answer)
+unfolding extractRefusals any
+extract-refusals match n buffer scratch table =
+    refused-by extractRefusals (extractBy match n buffer scratch table .answer)
+    (extract-writes match n buffer scratch table (λ (o : Outcome). Refuses (In extractRefusals) (o .answer))
     (finish-only (In extractRefusals) n buffer scratch (newAfterExtractBy match n (length scratch) (heldPlan n buffer))
     (extract-only (In extractRefusals) refl refl refl n (length scratch) refl refl match (heldPlan n buffer)))
+    (finish-only (In extractRefusals) n buffer scratch (refused 10) refl))
 
 pub exchange-refusals : (n : ℕ) (buffer scratch : List ℕ) → RefusedBy exchangeRefusals (exchange n buffer scratch .answer)
 unfolding exchange exchangeRefusals any
@@ -333,13 +356,53 @@ print-refusals frame buffer =
     refused-by printRefusals (print frame buffer .answer)
     (printed-only (In printRefusals) buffer (textOf (length buffer) (frameOf frame)) given)
 
-pub merge-refusals : (frame : List ℕ) (n : ℕ) (buffer scratch : List ℕ) → RefusedBy mergeRefusals (merge frame n buffer scratch .answer)
-unfolding merge frameOf mergeRefusals any
-merge-refusals frame n buffer scratch =
+pub merge-refusals : (frame : List ℕ) (n : ℕ) (buffer scratch : List ℕ) (table : List NodeRecord)
+    → RefusedBy mergeRefusals (merge frame n buffer scratch table .answer)
+unfolding merge withTable frameOf mergeRefusals any
+merge-refusals frame n buffer scratch table =
     let read = physical-only (In mergeRefusals) refl refl refl refl refl refl refl refl 0 frame in
     let given =
-    merge-only (In mergeRefusals) refl refl refl n (length buffer) refl refl (length scratch) (frameOf frame)
+    merge-only (In mergeRefusals) refl refl refl n (length buffer) refl refl (length scratch) (length table)
+    (λ M _. tabled-only (In mergeRefusals) (length table) M refl) (frameOf frame)
     (result-only (In mergeRefusals) (physicalFrame 0 frame) read) (heldPlan n buffer) in
-    refused-by mergeRefusals (merge frame n buffer scratch .answer)
-    (finish-only (In mergeRefusals) n buffer scratch
-    (newAfterMerge n (length scratch) (length buffer) (frameOf frame) (heldPlan n buffer)) given)
+    refused-by mergeRefusals (merge frame n buffer scratch table .answer)
+    (finish-only (In mergeRefusals) n buffer scratch _ (map-only (In mergeRefusals) frameBytes
+    (newAfterMerge n (length scratch) (length buffer) (length table) (frameOf frame) (heldPlan n buffer)) given))
+
+-- ---- 17
+
+-- Any number but 17.
+abbrev Not17 : ℕ → Type 0
+Not17 number = eqb number 17 ≡ false
+
+-- Whether an answer is 17.
+abbrev is-17 : {A : Type 0} → Result A → Bool
+is-17 (ok a) = false
+is-17 (refused number) = eqb number 17
+
+not-17 : {A : Type 0} (r : Result A) → Refuses Not17 r → r ≡ refused 17 → ⊥
+not-17 r h e = false≢true (sym (none r h) ∙ ap is-17 e)
+  where
+    none : {A : Type 0} (r : Result A) → Refuses Not17 r → is-17 r ≡ false
+    none (ok a) h = refl
+    none (refused number) h = h
+
+frame-not-17 : (frame : List ℕ) → Refuses Not17 (frameOf frame)
+unfolding frameOf
+frame-not-17 frame =
+    result-only Not17 (physicalFrame 0 frame) (physical-only Not17 refl refl refl refl refl refl refl refl 0 frame)
+
+pub never-too-short-by : NeverTooShort
+unfolding load merge withTable planNodes
+never-too-short-by = (
+  λ frame n buffer table bytes room e.
+      not-17 _ (loaded-only Not17 frame n buffer table _
+      (load-only Not17 frame (length buffer) (length table) (frameOf frame) (frame-not-17 frame) refl
+      (λ F is. tabled-enough Not17 (length table) F (omega (arith, room, frame-back frame F bytes is .1 .fewNodes))))) e,
+  λ frame n buffer scratch table room e.
+      not-17 _ (finish-only Not17 n buffer scratch _ (map-only Not17 frameBytes
+      (newAfterMerge n (length scratch) (length buffer) (length table) (frameOf frame) (heldPlan n buffer))
+      (merge-only Not17 refl refl refl n (length buffer) refl refl (length scratch) (length table)
+      (λ M under. tabled-enough Not17 (length table) M (omega (arith, room, within-limits M under .1)))
+      (frameOf frame) (frame-not-17 frame) (heldPlan n buffer)))) e,
+)
