@@ -1,7 +1,7 @@
 -- The number of each refusal: document 01's, and 02's from 15 on.
 use Prim.Native.Nat.{ℕ}
 use Rattle.terms.specs.declared.refusals.Refusal.{Refusal}
-use Rattle.terms.specs.declared.refusals.Refusal.the-variants.{EmptyOrTooLong, WrongFirstByte, EndsInsideField, OutOfRange, TooManyOrTooDeep, NoSuchColumn, BytesAfterEnd, TooFewArguments, BufferTooShort, NoGoodPlan, PlanEmpty, AlreadyExtracted, NoLeafMatches, NotHexadecimal, TextBufferTooShort, MergedTooLarge}
+use Rattle.terms.specs.declared.refusals.Refusal.the-variants.{EmptyOrTooLong, WrongFirstByte, EndsInsideField, OutOfRange, TooManyOrTooDeep, NoSuchColumn, BytesAfterEnd, TooFewArguments, BufferTooShort, NoGoodPlan, PlanEmpty, AlreadyExtracted, NoLeafMatches, NotHexadecimal, TextBufferTooShort, MergedTooLarge, TableTooShort}
 
 abbrev pub numberOf : Refusal → ℕ
 numberOf EmptyOrTooLong = 1
@@ -20,3 +20,4 @@ numberOf NoLeafMatches = 13
 numberOf NotHexadecimal = 14
 numberOf TextBufferTooShort = 15
 numberOf MergedTooLarge = 16
+numberOf TableTooShort = 17

@@ -20,6 +20,7 @@ pub enum Refusal {
     NotHexadecimal,
     TextBufferTooShort,
     MergedTooLarge,
+    TableTooShort,
 }
 
 // The number of a refusal.
@@ -43,5 +44,6 @@ pub fn refusal_number(why: Refusal) -> u8
         Refusal::NotHexadecimal => 14,
         Refusal::TextBufferTooShort => 15,
         Refusal::MergedTooLarge => 16,
+        Refusal::TableTooShort => 17,
     }
 }

@@ -134,7 +134,7 @@ pub in-place : (match : Matcher) (n : ℕ) (buffer : List ℕ) (table : List Nod
     ≡ callsRunBy match n buffer table before .answers
     ++ (
     makeBy match (c .kind) (callsRunBy match n buffer table before .n) (callsRunBy match n buffer table before .buffer) (c .scratch) table
-        .answer ∷
+    .answer ∷
     others
     ))
 unfolding callsRunBy

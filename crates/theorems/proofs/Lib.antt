@@ -42,6 +42,7 @@ pub mod PrintCall
 pub mod Moved
 pub mod Merged
 pub mod MergeCall
+pub mod TablesRoom
 pub mod Histories
 pub mod Pruned
 pub mod Proved

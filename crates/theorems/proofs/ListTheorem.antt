@@ -64,7 +64,8 @@ module _ (frame : List ℕ) (n : ℕ) (buffer : List ℕ) (table : List NodeReco
 
 -- A good frame that is written over a plan buffer with room for it, its records over a table, is held, whatever the matcher.
 pub written-held : (match : Matcher) (F : Frame) (bytes buffer : List ℕ) (table : List NodeRecord) → bytes ≡ frameBytes F
-    → GoodPlan (held F) → length bytes ≤ length buffer → LeavesSession match F (length bytes) (writtenOver bytes buffer) (writtenOver (nodeTable F) table)
+    → GoodPlan (held F) → length bytes ≤ length buffer
+    → LeavesSession match F (length bytes) (writtenOver bytes buffer) (writtenOver (nodeTable F) table)
 unfolding writtenOver
 written-held match F bytes buffer table same good fits = (
   record {

@@ -191,8 +191,7 @@ module _ {match : Matcher} {Asks : Meaning → List Record → Type 0} (laws : L
       line-with none x m e h = must-say-13 x h
       line-with (some X) x m e h =
           let taken : accepted (answerAfter s before (extractWith scratch)) ≡ true =
-          extract-among laws s before scratch ∙ rw (e, m, le-leb (lengthAfter s before) (length scratch) h) refl in
-          (
+          extract-among laws s before scratch ∙ rw (e, m, le-leb (lengthAfter s before) (length scratch) h) refl in (
             taken,
             line-left (before ++ (extractWith scratch ∷ []))
                 (extracted-last match (s .n) (s .buffer) (s .table) before scratch taken) X x,

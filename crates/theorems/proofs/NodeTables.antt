@@ -65,7 +65,8 @@ nested-both : (at : ℕ) (l r : Expr) → Before (at + 2) l → Before (at + 2 +
 nested-both at l r left right =
     let place : ℕ = at + 2 + length (exprBytes l) in
     let alone : Nested place (place + length (exprBytes r)) (nodesFrom place r) =
-    subst (Nested place (place + length (exprBytes r))) (append-nil (nodesFrom place r)) (right (place + length (exprBytes r)) [] nothing) in
+    subst (Nested place (place + length (exprBytes r))) (append-nil (nodesFrom place r))
+    (right (place + length (exprBytes r)) [] nothing) in
     moved refl (simp length-append (omega arith)) (left (place + length (exprBytes r)) (nodesFrom place r) alone)
 
 mutual
@@ -75,10 +76,12 @@ mutual
       → Nested at end (nodesFrom at e ++ more)
   nested-node at (column index tag) end more h = headed at 5 (column index tag) end [] more (omega arith) nothing h
   nested-node at (literal type bytes) end more h = headed at 10 (literal type bytes) end [] more (omega arith) nothing h
-  nested-node at (and l r) end more h = headed at 2 (and l r) end _ more (omega arith) (nested-both at l r (λ z t k. nested-node (at + 2) l z t k)
-      (λ z t k. nested-node (at + 2 + length (exprBytes l)) r z t k)) h
-  nested-node at (binary operator l r) end more h = headed at 2 (binary operator l r) end _ more (omega arith) (nested-both at l r (λ z t k. nested-node (at + 2) l z t k)
-      (λ z t k. nested-node (at + 2 + length (exprBytes l)) r z t k)) h
+  nested-node at (and l r) end more h =
+      headed at 2 (and l r) end _ more (omega arith)
+      (nested-both at l r (λ z t k. nested-node (at + 2) l z t k) (λ z t k. nested-node (at + 2 + length (exprBytes l)) r z t k)) h
+  nested-node at (binary operator l r) end more h =
+      headed at 2 (binary operator l r) end _ more (omega arith)
+      (nested-both at l r (λ z t k. nested-node (at + 2) l z t k) (λ z t k. nested-node (at + 2 + length (exprBytes l)) r z t k)) h
   nested-node at (call name arguments) end more h =
       headed at (3 + length name) (call name arguments) end _ more (omega arith)
       (moved refl (simp length-append (omega arith)) (nested-row (at + (3 + length name)) arguments)) h

@@ -38,7 +38,8 @@ use Rattle.theorems.proofs.Lists.{plan-good}
 use Rattle.theorems.proofs.ListTheorem.{load-accepts, load-held, list-agrees, stays}
 use Rattle.theorems.proofs.Lengths.{load-is-short, make-short}
 use Rattle.theorems.proofs.Changes.{load-keeps, make-keeps, load-wrote, make-wrote}
-use Rattle.theorems.proofs.RefusalNumbers.{load-refusals, extract-refusals, exchange-refusals, logical-refusals, print-refusals, merge-refusals, never-too-short-by}
+use Rattle.theorems.proofs.RefusalNumbers.{load-refusals, extract-refusals, exchange-refusals, logical-refusals, print-refusals, merge-refusals}
+use Rattle.theorems.proofs.TablesRoom.{never-too-short-by}
 use Rattle.theorems.proofs.Answers.{told, plan-told, in-place, plans-same, exchange-among, extract-among}
 use Rattle.theorems.proofs.MatchLaws.{match-laws}
 use Rattle.theorems.proofs.Pick.{takes-by, none-by}

@@ -1,8 +1,7 @@
 -- Each reader refuses with its own numbers only, and a sequence with those of its steps; so each call does.
 use Prim.Native.Nat.{ℕ, zero, suc, _≤_}
-use native.Mathlib.Omega.{arith}
-use mathlib.Core.Path.{_≡_, refl, sym, ap, _∙_}
-use mathlib.Core.Bool.{Bool, true, false, _&&_, false≢true}
+use mathlib.Core.Path.{_≡_, refl}
+use mathlib.Core.Bool.{Bool, true, false, _&&_}
 use mathlib.Core.List.{List, [], _∷_}
 use mathlib.Core.Option.{Option, none, some}
 use lib.ListN.{length}
@@ -18,17 +17,14 @@ use Rattle.definitions.specs.Readers.{Read, read, stopped, Reader, continue, re
 use Rattle.definitions.specs.Decode.{Columns, indexBelow, fields, allowedKind, columnNode, fieldNode, literalNode, binaryNode, repeatExprs, callNode, otherNode, anyColumn, nodeOfKind, countNode, nodeKind, node, expression, sideUpTo, oneRecord, recordCount, frameBody}
 use Rattle.definitions.specs.Plans.{physicalFrame, logicalFrame, frameOf, logicalOf}
 use Rattle.definitions.specs.Calls.{tabled, newAfterLoad, finishLoad, load, Outcome, finish, heldPlan, newAfterExchange, exchange, matchedBytes, newAfterExtractBy, extractBy}
-use Rattle.definitions.specs.Good.{nodes, planNodes}
+use Rattle.definitions.specs.Good.{nodes}
 use Rattle.definitions.specs.NodeTable.{NodeRecord}
 use Rattle.definitions.specs.Logical.{logicalAnswer, logical}
 use Rattle.definitions.specs.Printed.{printed, textOf, finishPrint, print}
 use Rattle.definitions.specs.Merge.{mergeFrames, overLimits, mergedFrame, newAfterMerge, withTable, merge}
 use Rattle.definitions.specs.Claims.{loadRefusals, extractRefusals, exchangeRefusals, logicalRefusals, printRefusals, mergeRefusals, RefusedBy}
-use Rattle.definitions.specs.TableClaims.{NeverTooShort}
 use Rattle.theorems.proofs.Tools.{by-test}
-use Rattle.theorems.proofs.InverseFrame.{frame-back}
 use Rattle.theorems.proofs.Changes.{extract-writes}
-use Rattle.theorems.proofs.Merged.{within-limits}
 
 -- ---- readers
 
@@ -192,7 +188,7 @@ module _ (P : ℕ → Type 0) where
       unfolding atEnd
       end-only n s = require-only 7 (noneLeft s) p7 n s
 
-      physical-only : P 6 → P 8 → Only physicalFrame
+      pub physical-only : P 6 → P 8 → Only physicalFrame
       unfolding physicalFrame
       physical-only p6 p8 n s =
           then-only (requireLength n s) _ (length-only n s) (λ _ n s.
@@ -214,26 +210,26 @@ module _ (P : ℕ → Type 0) where
   -- ---- answers
 
   -- A value, or a refusal whose number has the property.
-  abbrev Refuses : {A : Type 0} → Result A → Type 0
+  abbrev pub Refuses : {A : Type 0} → Result A → Type 0
   Refuses (ok a) = Unit {0}
   Refuses (refused number) = P number
 
-  result-only : {A : Type 0} (r : Read A) → Stops r → Refuses (resultOf r)
+  pub result-only : {A : Type 0} (r : Read A) → Stops r → Refuses (resultOf r)
   unfolding resultOf
   result-only (read a n s) h = tt
   result-only (stopped number) h = h
 
-  map-only : {A B : Type 0} (f : A → B) (r : Result A) → Refuses r → Refuses (mapResult f r)
+  pub map-only : {A B : Type 0} (f : A → B) (r : Result A) → Refuses r → Refuses (mapResult f r)
   map-only f (ok a) h = tt
   map-only f (refused number) h = h
 
-  loaded-only : (frame : List ℕ) (n : ℕ) (buffer : List ℕ) (table : List NodeRecord) (x : Result Frame) → Refuses x
+  pub loaded-only : (frame : List ℕ) (n : ℕ) (buffer : List ℕ) (table : List NodeRecord) (x : Result Frame) → Refuses x
       → Refuses (finishLoad frame n buffer table x .answer)
   unfolding finishLoad
   loaded-only frame n buffer table (ok F) h = tt
   loaded-only frame n buffer table (refused number) h = h
 
-  finish-only : (n : ℕ) (buffer scratch : List ℕ) (x : Result (List ℕ)) → Refuses x → Refuses (finish n buffer scratch x .answer)
+  pub finish-only : (n : ℕ) (buffer scratch : List ℕ) (x : Result (List ℕ)) → Refuses x → Refuses (finish n buffer scratch x .answer)
   unfolding finish
   finish-only n buffer scratch (ok bytes) h = tt
   finish-only n buffer scratch (refused number) h = h
@@ -247,11 +243,11 @@ module _ (P : ℕ → Type 0) where
   tabled-only places F p17 = if-only 17 (leb (nodes (F .expr)) places) (ok F) tt p17
 
   -- A table with room refuses nothing.
-  tabled-enough : (places : ℕ) (F : Frame) → nodes (F .expr) ≤ places → Refuses (tabled places F)
+  pub tabled-enough : (places : ℕ) (F : Frame) → nodes (F .expr) ≤ places → Refuses (tabled places F)
   unfolding tabled
   tabled-enough places F h = rw (le-leb (nodes (F .expr)) places h) tt
 
-  load-only : (frame : List ℕ) (room places : ℕ) (r : Result Frame) → Refuses r → P 9
+  pub load-only : (frame : List ℕ) (room places : ℕ) (r : Result Frame) → Refuses r → P 9
       → ((F : Frame) → r ≡ ok F → Refuses (tabled places F)) → Refuses (newAfterLoad frame room places r)
   unfolding newAfterLoad
   load-only frame room places (ok F) h p9 t = if-only 9 (leb (length frame) room) (tabled places F) (t F refl) p9
@@ -296,7 +292,7 @@ module _ (P : ℕ → Type 0) where
           by-test Refuses (overLimits M) (refused 16) _ (λ _. p16)
           (λ under. if-only 9 (leb n scratch && leb (length (frameBytes M)) room) (tabled places M) (t M under) p9)
 
-      merge-only : (new : Result Frame) → Refuses new → (old : Result Plan) → Refuses (newAfterMerge n scratch room places new old)
+      pub merge-only : (new : Result Frame) → Refuses new → (old : Result Plan) → Refuses (newAfterMerge n scratch room places new old)
       unfolding newAfterMerge
       merge-only (refused number) h old = h
       merge-only (ok new) h (refused number) = p10
@@ -368,41 +364,3 @@ merge-refusals frame n buffer scratch table =
     refused-by mergeRefusals (merge frame n buffer scratch table .answer)
     (finish-only (In mergeRefusals) n buffer scratch _ (map-only (In mergeRefusals) frameBytes
     (newAfterMerge n (length scratch) (length buffer) (length table) (frameOf frame) (heldPlan n buffer)) given))
-
--- ---- 17
-
--- Any number but 17.
-abbrev Not17 : ℕ → Type 0
-Not17 number = eqb number 17 ≡ false
-
--- Whether an answer is 17.
-abbrev is-17 : {A : Type 0} → Result A → Bool
-is-17 (ok a) = false
-is-17 (refused number) = eqb number 17
-
-not-17 : {A : Type 0} (r : Result A) → Refuses Not17 r → r ≡ refused 17 → ⊥
-not-17 r h e = false≢true (sym (none r h) ∙ ap is-17 e)
-  where
-    none : {A : Type 0} (r : Result A) → Refuses Not17 r → is-17 r ≡ false
-    none (ok a) h = refl
-    none (refused number) h = h
-
-frame-not-17 : (frame : List ℕ) → Refuses Not17 (frameOf frame)
-unfolding frameOf
-frame-not-17 frame =
-    result-only Not17 (physicalFrame 0 frame) (physical-only Not17 refl refl refl refl refl refl refl refl 0 frame)
-
-pub never-too-short-by : NeverTooShort
-unfolding load merge withTable planNodes
-never-too-short-by = (
-  λ frame n buffer table bytes room e.
-      not-17 _ (loaded-only Not17 frame n buffer table _
-      (load-only Not17 frame (length buffer) (length table) (frameOf frame) (frame-not-17 frame) refl
-      (λ F is. tabled-enough Not17 (length table) F (omega (arith, room, frame-back frame F bytes is .1 .fewNodes))))) e,
-  λ frame n buffer scratch table room e.
-      not-17 _ (finish-only Not17 n buffer scratch _ (map-only Not17 frameBytes
-      (newAfterMerge n (length scratch) (length buffer) (length table) (frameOf frame) (heldPlan n buffer))
-      (merge-only Not17 refl refl refl n (length buffer) refl refl (length scratch) (length table)
-      (λ M under. tabled-enough Not17 (length table) M (omega (arith, room, within-limits M under .1)))
-      (frameOf frame) (frame-not-17 frame) (heldPlan n buffer)))) e,
-)

@@ -1,5 +1,4 @@
 -- A table that fits the held plan changes nothing of extract, and one that fits a plan fits it exchanged.
-use Prim.Native.Nat.{ℕ}
 use mathlib.Core.Path.{_≡_, refl, sym, ap, _∙_}
 use mathlib.Core.Bool.{Bool, true, false, false≢true}
 use mathlib.Core.List.{List}
