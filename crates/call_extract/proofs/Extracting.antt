@@ -13,7 +13,7 @@ use Rattle.definitions.specs.Expression.{Frame, Extraction}
 use Rattle.definitions.specs.Encode.{planBytes, extractionBytes}
 use Rattle.definitions.specs.Plans.{planOf}
 use Rattle.definitions.specs.Extract.{Pick, pick, takePick, matchesOf, extractionBy, extraction}
-use Rattle.definitions.specs.Calls.{Outcome, writtenOver, finish, heldPlan, matchedBytes, newAfterExtractBy, extract}
+use Rattle.definitions.specs.Calls.{Outcome, writtenOver, finish, heldPlan, matchedBytes, newAfterExtractBy, extractFilled}
 use Rattle.definitions.specs.Good.{AllBytes, ReadableFrame}
 use Rattle.theorems.proofs.ExtractGood.{GoodExtraction, extraction-good}
 use Rattle.frame_reader.specs.declared.frames.Frame as places
@@ -33,18 +33,18 @@ module _ (n : ℕ) (before scratch : List ℕ) {f : places.Frame} (h : HoldsFram
   F = h .frame
 
   by-test : (b : Bool) → leb n (length scratch) ≡ b → (x : Option Extraction) → extraction F ≡ x
-      → extract n before scratch ≡ finish n before scratch (if b then matchedBytes x else refused 9)
+      → extractFilled n before scratch ≡ finish n before scratch (if b then matchedBytes x else refused 9)
   unfolding newAfterExtractBy
   by-test b t x e =
       outcome extract-call n before scratch (held-is n before (h .fits) (h .is))
       (ap (λ (y : Bool). if y then matchedBytes (extraction F) else refused 9) t
       ∙ ap (λ (y : Option Extraction). if b then matchedBytes y else refused 9) e)
 
-  pub scratch-short : length scratch < n → extract n before scratch ≡ refuses n before scratch 9
+  pub scratch-short : length scratch < n → extractFilled n before scratch ≡ refuses n before scratch 9
   unfolding finish
   scratch-short short = by-test false (lt-leb n (length scratch) short) (extraction F) refl
 
-  pub no-leaf : n ≤ length scratch → pick (matchesOf F) ≡ none → extract n before scratch ≡ refuses n before scratch 13
+  pub no-leaf : n ≤ length scratch → pick (matchesOf F) ≡ none → extractFilled n before scratch ≡ refuses n before scratch 13
   unfolding finish extractionBy takePick matchedBytes
   no-leaf room e = by-test true (le-leb n (length scratch) room) none (ap (takePick F) e)
 
@@ -87,7 +87,7 @@ module _ (n : ℕ) (before scratch : List ℕ) {f : places.Frame} (h : HoldsFram
       extraction-fits = record { frame = F; predicate = t .q; taking = taking-kept; room = room }
 
       pub extracts : n ≤ length scratch → (written : List ℕ) (answer : ℕ) → ExtractionPut (take n after) f p before written answer
-          → extract n before scratch ≡ record { answer = ok answer; n = answer; buffer = written; scratch = after }
+          → extractFilled n before scratch ≡ record { answer = ok answer; n = answer; buffer = written; scratch = after }
       unfolding finish matchedBytes planBytes extractionBytes writtenOver
       extracts enough written answer put =
           let is = put F (t .q) taking-kept in

@@ -30,7 +30,7 @@ fn extract_frame(
 ) -> Answer
     requires { ⌜ HoldsFrame n (now plan) f ⌝ }
     requires { ⌜ Indexed n (now plan) f (now numbers) (now next) ⌝ }
-    ensures { λ r. ⌜ OutcomeIs (definitions.extract n (now (plan .entry)) (now (scratch .entry))) n (now (plan .exit))
+    ensures { λ r. ⌜ OutcomeIs (definitions.extractFilled n (now (plan .entry)) (now (scratch .entry))) n (now (plan .exit))
         (now (scratch .exit)) r ⌝ }
 {
     if scratch.len() < n {
@@ -56,7 +56,7 @@ fn extract_collected(
 ) -> Answer
     requires { ⌜ HoldsFrame n (now plan) f ⌝ }
     requires { ⌜ RoomFor f (now numbers) (now next) ⌝ }
-    ensures { λ r. ⌜ OutcomeIs (definitions.extract n (now (plan .entry)) (now (scratch .entry))) n (now (plan .exit))
+    ensures { λ r. ⌜ OutcomeIs (definitions.extractFilled n (now (plan .entry)) (now (scratch .entry))) n (now (plan .exit))
         (now (scratch .exit)) r ⌝ }
 {
     collect_nodes(numbers, next, &plan[..n], f.root, 0);
@@ -66,7 +66,7 @@ fn extract_collected(
 // The same for at most 32 nodes: most frames have few, and need no longer rows cleared.
 fn extract_few(plan: &mut [u8], n: usize, scratch: &mut [u8], f: Frame) -> Answer
     requires { ⌜ HoldsFrame n (now plan) f × (f .nodes ≤ 32) ⌝ }
-    ensures { λ r. ⌜ OutcomeIs (definitions.extract n (now (plan .entry)) (now (scratch .entry))) n (now (plan .exit))
+    ensures { λ r. ⌜ OutcomeIs (definitions.extractFilled n (now (plan .entry)) (now (scratch .entry))) n (now (plan .exit))
         (now (scratch .exit)) r ⌝ }
 {
     let mut numbers = [0u32; 32];
@@ -77,7 +77,7 @@ fn extract_few(plan: &mut [u8], n: usize, scratch: &mut [u8], f: Frame) -> Answe
 // The same for as many as there may be.
 fn extract_many(plan: &mut [u8], n: usize, scratch: &mut [u8], f: Frame) -> Answer
     requires { ⌜ HoldsFrame n (now plan) f ⌝ }
-    ensures { λ r. ⌜ OutcomeIs (definitions.extract n (now (plan .entry)) (now (scratch .entry))) n (now (plan .exit))
+    ensures { λ r. ⌜ OutcomeIs (definitions.extractFilled n (now (plan .entry)) (now (scratch .entry))) n (now (plan .exit))
         (now (scratch .exit)) r ⌝ }
 {
     let mut numbers = [0u32; 1024];
@@ -88,7 +88,7 @@ fn extract_many(plan: &mut [u8], n: usize, scratch: &mut [u8], f: Frame) -> Answ
 // A held frame, with rows for its nodes.
 fn extract_held(plan: &mut [u8], n: usize, scratch: &mut [u8], f: Frame) -> Answer
     requires { ⌜ HoldsFrame n (now plan) f ⌝ }
-    ensures { λ r. ⌜ OutcomeIs (definitions.extract n (now (plan .entry)) (now (scratch .entry))) n (now (plan .exit))
+    ensures { λ r. ⌜ OutcomeIs (definitions.extractFilled n (now (plan .entry)) (now (scratch .entry))) n (now (plan .exit))
         (now (scratch .exit)) r ⌝ }
 {
     if f.nodes <= 32 {
@@ -98,7 +98,7 @@ fn extract_held(plan: &mut [u8], n: usize, scratch: &mut [u8], f: Frame) -> Answ
 }
 
 pub fn extract(plan: &mut [u8], n: usize, scratch: &mut [u8]) -> Answer
-    ensures { λ r. ⌜ OutcomeIs (definitions.extract n (now (plan .entry)) (now (scratch .entry))) n (now (plan .exit))
+    ensures { λ r. ⌜ OutcomeIs (definitions.extractFilled n (now (plan .entry)) (now (scratch .entry))) n (now (plan .exit))
         (now (scratch .exit)) r ⌝ }
 {
     if plan.len() < n {

@@ -7,19 +7,21 @@ use mathlib.Core.List.{List, [], _∷_, _++_, map}
 use lib.ListN.{length, take, drop, replicate, length-append, length-replicate}
 use Rattle.definitions.specs.Basics.{if_then_else_, Result, ok, refused, mapResult, any, sameName, bigEndian}
 use Rattle.definitions.specs.Encode.{sideNumber}
-use Rattle.definitions.specs.Expression.{Expr, Side}
+use Rattle.definitions.specs.Expression.{Expr, Side, Frame}
 use Rattle.definitions.specs.Leaves.{leaves}
 use Rattle.definitions.specs.Plans.{frameOf, logicalOf}
-use Rattle.definitions.specs.Calls.{LoadOutcome, Outcome, writtenOver, newAfterLoad, finishLoad, load, finish, heldPlan, newAfterExtract, extractBy, newAfterExchange, exchange}
+use Rattle.definitions.specs.Calls.{LoadOutcome, Outcome, writtenOver, newAfterLoad, finishLoad, load, finish, heldPlan, newAfterExtract, extractFilledBy, newAfterExchange, exchange}
+use Rattle.definitions.specs.NodeTable.{NodeRecord, blank}
 use Rattle.definitions.specs.Machine.{Kind, extractCall, exchangeCall}
-use Rattle.definitions.specs.Sessions.{makeBy, make}
 use Rattle.definitions.specs.Logical.{LogicalAnswer, leafName, distinct, spatialNames, logicalAnswer, logical, logicalBytes}
-use Rattle.definitions.specs.Program.{Kept, LineOutcome, refusedLine, loadLine, logicalLine, callLine}
+use Rattle.definitions.specs.Program.{Kept, LineOutcome, refusedLine, loadLine, logicalLine, lineCall, callLine}
 use Rattle.theorems.proofs.InversePlan.{refused-not-ok}
 use Rattle.terms.specs.Refusals.{numberOf}
 use Rattle.terms.specs.declared.refusals.Refusal.{Refusal}
 use Rattle.join_filter.specs.Outcomes.{answerOf, nAfter, LoadIs, OutcomeIs}
 use Rattle.join_filter.specs.declared.answers.Answer.{Answer as CallAnswer}
+use Rattle.join_filter.specs.declared.answers.Loaded.{Loaded}
+use Rattle.call_load.specs.Loads.{LoadedIs}
 use Rattle.join_filter.specs.declared.answers.Answer.the-variants.{Length, Refused as CallRefused}
 use Rattle.line_answers.specs.declared.Answer.the-variants.{Logical, Refused}
 use Rattle.line_answers.specs.Answers.{planLength, keptAs, AnswerIs}
@@ -47,24 +49,29 @@ plan-written bytes before {after} {m} e f =
 
 -- ---- load
 
-loaded-fits : (x : Result (List ℕ)) (n : ℕ) (before : List ℕ) {m k : ℕ} {after : List ℕ}
-    → finishLoad n before x ≡ record { answer = ok m; n = k; buffer = after } → m ≤ length after
+loaded-fits : (x : Result Frame) (frame : List ℕ) (n : ℕ) (before : List ℕ) (table : List NodeRecord) {m k : ℕ} {after : List ℕ}
+    {filled : List NodeRecord}
+    → finishLoad frame n before table x ≡ record { answer = ok m; n = k; buffer = after; table = filled } → m ≤ length after
 unfolding finishLoad
-loaded-fits (ok bytes) n before e = plan-written bytes before (ap (λ (o : LoadOutcome). o .answer) e)
+loaded-fits (ok F) frame n before table e = plan-written frame before (ap (λ (o : LoadOutcome). o .answer) e)
     (ap (λ (o : LoadOutcome). o .buffer) e)
-loaded-fits (refused number) n before e = absurd (refused-not-ok _ _ (ap (λ (o : LoadOutcome). o .answer) e))
+loaded-fits (refused number) frame n before table e = absurd (refused-not-ok _ _ (ap (λ (o : LoadOutcome). o .answer) e))
 
-load-fits : (frame before : List ℕ) {after : List ℕ} (a : CallAnswer) → LoadIs frame before after a
-    → planLength (lineAnswer a) ≤ length after
+load-fits : (frame before : List ℕ) {after : List ℕ} (table : List NodeRecord) {filled : List NodeRecord} (a : CallAnswer)
+    → LoadIs frame before after table filled a → planLength (lineAnswer a) ≤ length after
 unfolding load
-load-fits frame before (Length m) is = loaded-fits (newAfterLoad frame (length before) (frameOf frame)) 0 before (is 0)
-load-fits frame before (CallRefused why) is = omega arith
+load-fits frame before table (Length m) is =
+    loaded-fits (newAfterLoad frame (length before) (length table) (frameOf frame)) frame 0 before table (is 0)
+load-fits frame before table (CallRefused why) is = omega arith
 
-pub load-gives : (frame before : List ℕ) {after : List ℕ} (a : CallAnswer) → LoadIs frame before after a → (n : ℕ)
-    → AnswerIs (loadLine frame (keptAs n before)) n after (lineAnswer a)
+pub load-gives : (frame before : List ℕ) {after : List ℕ} (r : Loaded) → LoadedIs frame before after 1024 r → (n : ℕ)
+    → AnswerIs (loadLine frame (keptAs n before)) n after (lineAnswer (r .answer))
 unfolding loadLine
-load-gives frame before {after} a is n =
-    rw (ap (λ (o : LoadOutcome). given (o .answer) (o .n) (o .buffer)) (is n)) (answer-given a n after (load-fits frame before a is))
+load-gives frame before {after} r loaded n =
+    let table : List NodeRecord = replicate 1024 blank in
+    let is = loaded .2 table (length-replicate {A = NodeRecord} 1024 blank) in
+    rw (ap (λ (o : LoadOutcome). given (o .answer) (o .n) (o .buffer)) (is n))
+    (answer-given (r .answer) n after (load-fits frame before table (r .answer) is))
 
 -- ---- extract and exchange
 
@@ -77,8 +84,9 @@ unfolding finish
 any-scratch n before s t (ok bytes) = refl
 any-scratch n before s t (refused number) = refl
 
-same-call : (kind : Kind) (n : ℕ) (before s t : List ℕ) → length s ≡ length t → made (make kind n before s) ≡ made (make kind n before t)
-unfolding makeBy extractBy exchange
+same-call : (kind : Kind) (n : ℕ) (before s t : List ℕ) → length s ≡ length t
+    → made (lineCall kind n before s) ≡ made (lineCall kind n before t)
+unfolding lineCall extractFilledBy exchange
 same-call extractCall n before s t e = rw e (any-scratch n before s t (newAfterExtract n (length t) (heldPlan n before)))
 same-call exchangeCall n before s t e = rw e (any-scratch n before s t (newAfterExchange n (length t) (heldPlan n before)))
 
@@ -88,15 +96,15 @@ unfolding finish
 finish-fits (ok bytes) n before s e = plan-written bytes before (ap (λ (o : Outcome). o .answer) e) (ap (λ (o : Outcome). o .buffer) e)
 finish-fits (refused number) n before s e = absurd (refused-not-ok _ _ (ap (λ (o : Outcome). o .answer) e))
 
-call-fits : (kind : Kind) (n : ℕ) (before s : List ℕ) {after t : List ℕ} (a : CallAnswer) → OutcomeIs (make kind n before s) n after t a
+call-fits : (kind : Kind) (n : ℕ) (before s : List ℕ) {after t : List ℕ} (a : CallAnswer) → OutcomeIs (lineCall kind n before s) n after t a
     → planLength (lineAnswer a) ≤ length after
-unfolding makeBy extractBy exchange
+unfolding lineCall extractFilledBy exchange
 call-fits extractCall n before s (Length m) is = finish-fits (newAfterExtract n (length s) (heldPlan n before)) n before s is
 call-fits exchangeCall n before s (Length m) is = finish-fits (newAfterExchange n (length s) (heldPlan n before)) n before s is
 call-fits kind n before s (CallRefused why) is = omega arith
 
 pub call-gives : (kind : Kind) (n : ℕ) (before s : List ℕ) {after t : List ℕ} (a : CallAnswer)
-    → OutcomeIs (make kind n before s) n after t a → length s ≡ 16384
+    → OutcomeIs (lineCall kind n before s) n after t a → length s ≡ 16384
     → AnswerIs (callLine kind [] (keptAs n before)) n after (lineAnswer a)
 unfolding callLine
 call-gives kind n before s {after} a is size =
@@ -105,7 +113,7 @@ call-gives kind n before s {after} a is size =
 
 -- Nothing but the scratch that it was lent is left there.
 pub call-leaves : (kind : Kind) (n : ℕ) (before s : List ℕ) {after t : List ℕ} (a : CallAnswer)
-    → OutcomeIs (make kind n before s) n after t a
+    → OutcomeIs (lineCall kind n before s) n after t a
     → t ≡ callScratch kind [] (keptAs n before) s
 unfolding callScratch
 call-leaves kind n before s a is = sym (ap (λ (o : Outcome). o .scratch) is)

@@ -2,47 +2,79 @@
 use Prim.Native.Nat.{ℕ}
 use native.Mathlib.Omega.{arith}
 use mathlib.Core.Path.{_≡_, refl, sym, ap, _∙_}
-use mathlib.Core.List.{List}
+use mathlib.Core.Bool.{true}
+use mathlib.Core.List.{List, [], _++_}
 use lib.IntN.{ℤ}
-use lib.ListN.{length}
-use Rattle.definitions.specs.Calls.{LoadOutcome, Outcome}
+use lib.ListN.{length, drop, replicate, length-replicate}
+use Rattle.definitions.specs.NodeTable.{NodeRecord, blank}
+use Rattle.definitions.specs.Calls.{LoadOutcome, Outcome, extractFilled, exchange}
 use Rattle.definitions.specs.Hosts.{hosted}
-use Rattle.definitions.specs.Machine.{Kind}
-use Rattle.definitions.specs.Sessions.{make, accepted}
+use Rattle.definitions.specs.Machine.{exchangeCall}
+use Rattle.definitions.specs.Sessions.{makeBy, accepted}
 use Rattle.definitions.specs.Printed.{printed, PrintOutcome}
-use Rattle.definitions.specs.Merge.{merge}
+use Rattle.definitions.specs.Merge.{MergeOutcome, merge}
 use Rattle.definitions.specs.Good.{AllBytes}
 use Rattle.theorems.proofs.InverseFrame.{same-ok, frame-back}
+use Rattle.theorems.proofs.MatchLaws.{match-laws}
+use Rattle.theorems.proofs.Lengths.{filled-short}
 use Rattle.theorems.proofs.Proved.{lengths-short, text-is-short, print-given, merge-writes}
-use Rattle.join_filter.specs.Outcomes.{answerOf, LoadIs, OutcomeIs, PrintIs}
+use Rattle.join_filter.specs.Outcomes.{answerOf, LoadIs, OutcomeIs, MergeIs, PrintIs}
+use Rattle.join_filter.specs.declared.answers.Loaded.{Loaded}
+use Rattle.call_load.specs.Loads.{LoadedIs}
+use Rattle.call_merge.specs.Merges.{MergedIs}
 use Rattle.join_filter.specs.declared.answers.Answer.{Answer}
 use Rattle.join_filter.specs.declared.answers.Answer.the-variants.{Length, Refused}
-use Rattle.spatialjoin_c.specs.Hosted.{LoadHosted, CallHosted, PrintHosted}
+use Rattle.spatialjoin_c.specs.Hosted.{LoadHosted, CallHosted, MergeHosted, PrintHosted}
 use Rattle.host_answers.specs.Short.{Short}
 
-module _ (frame before after : List ℕ) (r : Answer) (is : LoadIs frame before after r) where
-  pub load-short : AllBytes frame → Short r
-  load-short = short r is where
-    short : (r : Answer) → LoadIs frame before after r → AllBytes frame → Short r
-    short (Length m) is bytes = omega (arith, lengths-short .0 frame 0 before m bytes (ap (λ (o : LoadOutcome). o .answer) (is 0)))
-    short (Refused why) is bytes = tt
+-- A table of 1,024 records.
+some-table : List NodeRecord
+some-table = replicate 1024 blank
 
-  pub load-hosted : (z : ℤ) → z ≡ hosted (answerOf r) → LoadHosted frame before after z
-  load-hosted z e n = rw (e, ap (λ (o : LoadOutcome). o .answer) (is n), ap (λ (o : LoadOutcome). o .buffer) (is n)) (refl, refl)
+some-length : length some-table ≡ 1024
+unfolding some-table
+some-length = length-replicate {A = NodeRecord} 1024 blank
 
-pub call-short : (kind : Kind) (n : ℕ) (before scratch after kept : List ℕ) (r : Answer)
-    → OutcomeIs (make kind n before scratch) n after kept r → AllBytes before → Short r
-call-short kind n before scratch after kept (Length m) is bytes =
-    omega (arith, lengths-short .1 kind n before scratch m bytes (ap (λ (o : Outcome). o .answer) is))
-call-short kind n before scratch after kept (Refused why) is bytes = tt
+module _ (frame before after : List ℕ) (r : Loaded) (is : LoadedIs frame before after 1024 r) where
+  pub load-short : AllBytes frame → Short (r .answer)
+  load-short = short (r .answer) (is .2 some-table some-length) where
+    short : (a : Answer) → LoadIs frame before after some-table (is .0 ++ drop (r .count) some-table) a → AllBytes frame → Short a
+    short (Length m) so bytes =
+        omega (arith, lengths-short .0 frame 0 before some-table m bytes (ap (λ (o : LoadOutcome). o .answer) (so 0)))
+    short (Refused why) so bytes = tt
 
-pub merge-short : (frame : List ℕ) (n : ℕ) (before scratch after kept : List ℕ) (r : Answer)
-    → OutcomeIs (merge frame n before scratch) n after kept r → Short r
-unfolding accepted
-merge-short frame n before scratch after kept (Length m) is =
-    let (old, new, found, given, wrote) = merge-writes frame n before scratch (ap (λ (o : Outcome). accepted (o .answer)) is) in
-    omega (arith, wrote .short, ap (λ (o : Outcome). o .n) is)
-merge-short frame n before scratch after kept (Refused why) is = tt
+  pub load-hosted : (z : ℤ) → z ≡ hosted (answerOf (r .answer)) → LoadHosted frame before after z
+  load-hosted z e n table size =
+      let so = is .2 table size n in
+      rw (e, ap (λ (o : LoadOutcome). o .answer) so, ap (λ (o : LoadOutcome). o .buffer) so) (refl, refl)
+
+pub extract-short : (n : ℕ) (before scratch after kept : List ℕ) (r : Answer)
+    → OutcomeIs (extractFilled n before scratch) n after kept r → AllBytes before → Short r
+extract-short n before scratch after kept (Length m) is bytes =
+    omega (arith, filled-short match-laws n before scratch m bytes (ap (λ (o : Outcome). o .answer) is))
+extract-short n before scratch after kept (Refused why) is bytes = tt
+
+pub exchange-short : (n : ℕ) (before scratch after kept : List ℕ) (r : Answer)
+    → OutcomeIs (exchange n before scratch) n after kept r → AllBytes before → Short r
+unfolding makeBy
+exchange-short n before scratch after kept (Length m) is bytes =
+    omega (arith, lengths-short .1 exchangeCall n before scratch [] m bytes (ap (λ (o : Outcome). o .answer) is))
+exchange-short n before scratch after kept (Refused why) is bytes = tt
+
+module _ (frame : List ℕ) (n : ℕ) (before scratch after kept : List ℕ) (r : Loaded)
+    (is : MergedIs frame n before scratch after kept 1024 r) where
+  pub merge-short : Short (r .answer)
+  merge-short = short (r .answer) (is .2 some-table some-length) where
+    short : (a : Answer) → MergeIs (merge frame n before scratch some-table) n after kept (is .0 ++ drop (r .count) some-table) a → Short a
+    short (Length m) so =
+        let taken : accepted (merge frame n before scratch some-table .answer) ≡ true =
+        ap (λ (o : MergeOutcome). accepted (o .answer)) so ∙ (unfold accepted in refl) in
+        let (old, new, found, given, wrote) = merge-writes frame n before scratch some-table taken in
+        omega (arith, wrote .short, ap (λ (o : MergeOutcome). o .n) so)
+    short (Refused why) so = tt
+
+  pub merge-hosted : (z : ℤ) → z ≡ hosted (answerOf (r .answer)) → MergeHosted frame n before scratch after kept z
+  merge-hosted z e table size = rw (e, is .2 table size) (refl, refl, refl)
 
 pub call-hosted : (o : Outcome) (n : ℕ) (after kept : List ℕ) (r : Answer) → OutcomeIs o n after kept r
     → (z : ℤ) → z ≡ hosted (answerOf r) → CallHosted o after kept z

@@ -14,22 +14,22 @@ ghost use mathlib.Core.Path.{_≡_};
 ghost use Rattle.definitions.specs.Calls as definitions;
 ghost use Rattle.definitions.specs.Hosts.{hostedNames};
 ghost use Rattle.definitions.specs.Logical as logicals;
-ghost use Rattle.definitions.specs.Merge as merges;
-ghost use Rattle.spatialjoin_c.specs.Hosted.{LoadHosted, CallHosted, PrintHosted};
+ghost use Rattle.spatialjoin_c.specs.Hosted.{LoadHosted, CallHosted, MergeHosted, PrintHosted};
 
 // Loads a frame as the new plan; reads nothing of the old one.
 #[no_mangle]
 pub extern "C" fn spatialjoin_load(frame: &[u8], plan: &mut [u8]) -> i64
     ensures { λ r. ⌜ LoadHosted (now (frame .entry)) (now (plan .entry)) (now (plan .exit)) r ⌝ }
 {
-    let answer = load(plan, frame);
+    let loaded = load(plan, frame, 1024);
+    let answer = loaded.answer;
     answer_number(answer)
 }
 
 // Pulls the predicate out of the plan in the first n bytes.
 #[no_mangle]
 pub extern "C" fn spatialjoin_extract(plan: &mut [u8], n: usize, scratch: &mut [u8]) -> i64
-    ensures { λ r. ⌜ CallHosted (definitions.extract n (now (plan .entry)) (now (scratch .entry))) (now (plan .exit))
+    ensures { λ r. ⌜ CallHosted (definitions.extractFilled n (now (plan .entry)) (now (scratch .entry))) (now (plan .exit))
         (now (scratch .exit)) r ⌝ }
 {
     answer_number(extract(plan, n, scratch))
@@ -77,8 +77,10 @@ pub extern "C" fn spatialjoin_merge(
     n: usize,
     scratch: &mut [u8],
 ) -> i64
-    ensures { λ r. ⌜ CallHosted (merges.merge (now (frame .entry)) n (now (plan .entry)) (now (scratch .entry))) (now (plan .exit))
+    ensures { λ r. ⌜ MergeHosted (now (frame .entry)) n (now (plan .entry)) (now (scratch .entry)) (now (plan .exit))
         (now (scratch .exit)) r ⌝ }
 {
-    answer_number(merge(plan, n, scratch, frame))
+    let merged = merge(plan, n, scratch, frame, 1024);
+    let joined = merged.answer;
+    answer_number(joined)
 }

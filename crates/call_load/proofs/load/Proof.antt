@@ -1,30 +1,43 @@
--- A good frame with room is copied; each refusal is the frame's own, 9 for the room.
+-- A good frame with room is copied, and its nodes are told; each refusal is the frame's own, then 9 for the room, then 17 for the table.
 use borrow.Author.Needs.{needs}
+use native.Mathlib.Omega.{arith}
+use Rattle.reading.proofs.Standing.{all-bytes}
 use Rattle.call_load.proofs.load.Statement.{statement}
 use Rattle.call_load.proofs.load.Tie as tie
-use Rattle.call_load.proofs.Loading.{load-refuses, load-short, load-copies}
+use Rattle.call_load.proofs.Loading.{load-refuses, load-short, load-untabled, load-copies}
 
 returns : tie.Need-returns
 returns c =
-    let told = c .before in
-    let good = rw (told .enum-told .given .1) at (told .before .before .physical-frame .ensures) in
+    let told = c .before .before .before in
+    let good = rw (told .f .given .1) at (told .before .before .physical-frame .ensures) in
     let a = told .before .before .before .before .before .args in
-    load-short (a .frame .now) (a .plan .now) (good .0) (good .2) (c .if1 .taken)
+    rw (c .unfilled2 .ensures) (load-short (a .frame .now) (a .plan .now) (a .held) (good .0) (good .2) (c .before .if1 .taken))
 
 returns-2 : tie.Need-returns-2
 returns-2 c =
-    let bad = rw (c .before .why .given .1) at (c .before .before .before .physical-frame .ensures) in
-    let a = c .before .before .before .before .before .before .args in
-    load-refuses (a .frame .now) (a .plan .now) _ bad
+    let told = c .before .before .before .before in
+    let good = rw (told .f .given .1) at (told .before .before .physical-frame .ensures) in
+    let a = told .before .before .before .before .before .args in
+    rw (c .unfilled3 .ensures)
+    (load-untabled (a .frame .now) (a .plan .now) (a .held) (good .0) (good .2) (c .before .before .if1 .left)
+    (omega (arith, good .1 .sized, c .before .if2 .taken)))
 
 returns-3 : tie.Need-returns-3
 returns-3 c =
+    let bad = rw (c .before .before .why .given .1) at (c .before .before .before .before .physical-frame .ensures) in
+    let a = c .before .before .before .before .before .before .before .args in
+    rw (c .unfilled .ensures) (load-refuses (a .frame .now) (a .plan .now) (a .held) (c .before .before .why .given .0 .0) bad)
+
+returns-4 : tie.Need-returns-4
+returns-4 c =
     let copied = c .before .before in
-    let at-if1 = copied .before .before in
-    let told = at-if1 .before in
-    let good = rw (told .enum-told .given .1) at (told .before .before .physical-frame .ensures) in
-    let a = told .before .before .before .before .before .args in
-    load-copies (a .frame .now) (a .plan .now) (good .0) (good .2) (at-if1 .if1 .left) (copied .copy-bytes .last .0)
+    let tests = copied .before .before in
+    let told = tests .before .before .before in
+    let good = rw (told .f .given .1) at (told .before .before .physical-frame .ensures) in
+    let known = told .before .before .before in
+    let a = known .before .before .args in
+    load-copies (a .frame .now) (a .plan .now) (a .held) (good .0) (good .2) (tests .before .if1 .left) _ (good .1)
+    (all-bytes (a .frame .now) (known .shared-slice-known .given)) (tests .if2 .left) (copied .copy-bytes .last .0)
     (copied .copy-bytes .ensures)
 
 pub load-spec : {M : Type 1} → statement M
@@ -33,9 +46,13 @@ load-spec =
     (tie.spec
     (λ c κs. search needs)
     (λ c. search needs)
+    (λ c κs. search needs)
     (λ c. search needs)
+    (λ c κs. search needs)
     returns
     (λ c κs. search needs)
     returns-2
+    (λ c κs. search needs)
+    returns-3
     (λ c. search needs)
-    returns-3)
+    returns-4)

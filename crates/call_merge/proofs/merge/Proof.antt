@@ -1,6 +1,7 @@
 -- A frame that is refused is refused by merge; a good one is merged into what is held.
 use borrow.Author.Needs.{needs}
-use Rattle.call_merge.proofs.Merging.{frame-refused}
+use Rattle.join_filter.proofs.Refusing.{frame-refused}
+use Rattle.call_merge.proofs.Merging.{unfilled-is}
 use Rattle.call_merge.proofs.merge.Statement.{statement}
 use Rattle.call_merge.proofs.merge.Tie as tie
 
@@ -12,14 +13,18 @@ merge-good-requires c κs =
 
 returns : tie.Need-returns
 returns c =
-    let bad = rw (c .before .why .given .1) at (c .before .before .before .physical-frame .ensures) in
-    let a = c .before .before .before .before .before .before .before .args in
-    frame-refused (a .frame .now) (a .n) (a .plan .now) (a .scratch .now) _ bad
+    let told = c .before .before in
+    let bad = rw (told .why .given .1) at (told .before .before .physical-frame .ensures) in
+    let a = told .before .before .before .before .before .before .args in
+    rw (c .unfilled .ensures)
+    (unfilled-is (a .frame .now) (a .n) (a .plan .now) (a .scratch .now) (a .held) (told .why .given .0 .0)
+    (λ table size. frame-refused table (a .frame .now) (a .n) (a .plan .now) (a .scratch .now) _ bad))
 
 pub merge-spec : {M : Type 1} → statement M
 merge-spec =
     tie.close
     (tie.spec
+    (search needs)
     (search needs)
     (search needs)
     (search needs)

@@ -2,16 +2,20 @@
 use borrow.Author.Needs.{needs}
 use mathlib.Core.Path.{refl, sym}
 use Rattle.definitions.specs.Merge.{newAfterMerge}
+use Rattle.terms.specs.declared.refusals.Refusal.the-variants.{NoGoodPlan, PlanEmpty, AlreadyExtracted}
 use Rattle.join_filter.proofs.Keeping.{plan-length}
 use Rattle.join_filter.proofs.Refusing.{merge-call, no-room-for-n, no-plan, empty-plan, extracted-before}
+use Rattle.call_merge.proofs.Merging.{unfilled-is}
 use Rattle.call_merge.proofs.merge_good.Statement.{statement}
 use Rattle.call_merge.proofs.merge_good.Tie as tie
 
 returns : tie.Need-returns
 returns c =
-    let start = c .before .before .before .before in
+    let start = c .before .before .before .before .before in
     let a = start .args in
-    no-room-for-n (merge-call (a .frame .now) _ (start .pre .is)) (a .n) (a .plan .now) (a .scratch .now) (c .if1 .taken)
+    rw (c .unfilled .ensures)
+    (unfilled-is (a .frame .now) (a .n) (a .plan .now) (a .scratch .now) (a .held) NoGoodPlan (λ table size.
+    no-room-for-n (merge-call table (a .frame .now) _ (start .pre .is)) (a .n) (a .plan .now) (a .scratch .now) (c .before .if1 .taken)))
 
 slice-aggregate-held-plan : tie.Need-slice-aggregate-held-plan
 slice-aggregate-held-plan c =
@@ -26,37 +30,48 @@ merge-held-requires c κs =
 
 returns-2 : tie.Need-returns-2
 returns-2 c =
-    let bad = rw (c .enum-told .given .1) at (c .before .before .held-plan .ensures) in
-    let fits = c .before .before .before .before in
+    let bad = rw (c .before .enum-told .given .1) at (c .before .before .before .held-plan .ensures) in
+    let fits = c .before .before .before .before .before in
     let start = fits .before .before .before .before in
     let a = start .args in
-    no-plan (merge-call (a .frame .now) _ (start .pre .is)) (a .n) (a .plan .now) (a .scratch .now) (fits .if1 .left) (bad .0) (bad .1)
+    rw (c .unfilled2 .ensures)
+    (unfilled-is (a .frame .now) (a .n) (a .plan .now) (a .scratch .now) (a .held) NoGoodPlan (λ table size.
+    no-plan (merge-call table (a .frame .now) _ (start .pre .is)) (a .n) (a .plan .now) (a .scratch .now) (fits .if1 .left) (bad .0)
+    (bad .1)))
 
 returns-3 : tie.Need-returns-3
 returns-3 c =
-    let none = rw (c .enum-told2 .given .1) at (c .before .before .held-plan .ensures) in
-    let fits = c .before .before .before .before in
+    let none = rw (c .before .enum-told2 .given .1) at (c .before .before .before .held-plan .ensures) in
+    let fits = c .before .before .before .before .before in
     let start = fits .before .before .before .before in
     let a = start .args in
-    empty-plan (merge-call (a .frame .now) _ (start .pre .is)) (a .n) (a .plan .now) (a .scratch .now) (fits .if1 .left) none
+    rw (c .unfilled3 .ensures)
+    (unfilled-is (a .frame .now) (a .n) (a .plan .now) (a .scratch .now) (a .held) PlanEmpty (λ table size.
+    empty-plan (merge-call table (a .frame .now) _ (start .pre .is)) (a .n) (a .plan .now) (a .scratch .now) (fits .if1 .left) none))
 
 returns-4 : tie.Need-returns-4
 unfolding newAfterMerge
 returns-4 c =
-    let good = rw (c .enum-told3 .given .1) at (c .before .before .held-plan .ensures) in
-    let fits = c .before .before .before .before in
+    let good = rw (c .before .enum-told3 .given .1) at (c .before .before .before .held-plan .ensures) in
+    let fits = c .before .before .before .before .before in
     let start = fits .before .before .before .before in
     let a = start .args in
-    extracted-before (merge-call (a .frame .now) _ (start .pre .is)) (a .n) (a .plan .now) (a .scratch .now) (fits .if1 .left) (λ X. refl)
-    (good .0) (good .2)
+    rw (c .unfilled4 .ensures)
+    (unfilled-is (a .frame .now) (a .n) (a .plan .now) (a .scratch .now) (a .held) AlreadyExtracted (λ table size.
+    extracted-before (merge-call table (a .frame .now) _ (start .pre .is)) (a .n) (a .plan .now) (a .scratch .now) (fits .if1 .left)
+    (λ X. refl) (good .0) (good .2)))
 
 pub merge-good-spec : {M : Type 1} → statement M
 merge-good-spec =
     tie.close
     (tie.spec
+    (search needs)
     returns
     (search needs)
     slice-aggregate-held-plan
+    (search needs)
+    (search needs)
+    (search needs)
     (search needs)
     (search needs)
     (search needs)

@@ -2,7 +2,7 @@
 use borrow.Author.Needs.{needs}
 use native.Mathlib.Omega.{arith}
 use Rattle.definitions.specs.Machine.{extractCall, exchangeCall}
-use Rattle.definitions.specs.Sessions.{makeBy}
+use Rattle.definitions.specs.Program.{lineCall}
 use Rattle.line_answers.proofs.LineLaws.{refused-line}
 use Rattle.line_calls.proofs.CallLaws.{call-gives, call-leaves, more-follow, more-leave, none-follow}
 use Rattle.line_calls.proofs.plan_line.Statement.{statement}
@@ -16,7 +16,7 @@ returns c =
     )
 
 returns-2 : tie.Need-returns-2
-unfolding makeBy
+unfolding lineCall
 returns-2 c =
     let call = c .before .before .before .before .before .extract in
     let told = c .before .before .before .before .before .before .before .before in
@@ -28,7 +28,7 @@ returns-2 c =
     )
 
 returns-3 : tie.Need-returns-3
-unfolding makeBy
+unfolding lineCall
 returns-3 c =
     let call = c .before .before .before .before .before .exchange in
     let told = c .before .before .before .before .before .before .before .before in

@@ -1,19 +1,16 @@
 -- `spatialjoin_exchange`: the exchange's answer as one number.
 use borrow.Author.Needs.{needs}
-use Rattle.definitions.specs.Machine.{exchangeCall}
-use Rattle.definitions.specs.Sessions.{makeBy}
 use Rattle.reading.proofs.Standing.{all-bytes}
 use Rattle.host_answers.proofs.Numbers.{given-back}
-use Rattle.spatialjoin_c.proofs.Hosting.{call-short, call-hosted}
+use Rattle.spatialjoin_c.proofs.Hosting.{exchange-short, call-hosted}
 use Rattle.spatialjoin_c.proofs.spatialjoin_exchange.Statement.{statement}
 use Rattle.spatialjoin_c.proofs.spatialjoin_exchange.Tie as tie
 
 answer-number-requires : tie.Need-answer-number-requires
-unfolding makeBy
 answer-number-requires c κs =
     let called = c .before .before .before .before in
     let known = called .before .before .before .before in
-    call-short exchangeCall _ _ _ _ _ (called .exchange .result) (called .exchange .ensures)
+    exchange-short _ _ _ _ _ (called .exchange .result) (called .exchange .ensures)
     (all-bytes (known .before .args .plan .now) (known .slice-known .given))
 
 returns : tie.Need-returns

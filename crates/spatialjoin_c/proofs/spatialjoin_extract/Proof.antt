@@ -1,19 +1,16 @@
 -- `spatialjoin_extract`: the extract's answer as one number.
 use borrow.Author.Needs.{needs}
-use Rattle.definitions.specs.Machine.{extractCall}
-use Rattle.definitions.specs.Sessions.{makeBy}
 use Rattle.reading.proofs.Standing.{all-bytes}
 use Rattle.host_answers.proofs.Numbers.{given-back}
-use Rattle.spatialjoin_c.proofs.Hosting.{call-short, call-hosted}
+use Rattle.spatialjoin_c.proofs.Hosting.{extract-short, call-hosted}
 use Rattle.spatialjoin_c.proofs.spatialjoin_extract.Statement.{statement}
 use Rattle.spatialjoin_c.proofs.spatialjoin_extract.Tie as tie
 
 answer-number-requires : tie.Need-answer-number-requires
-unfolding makeBy
 answer-number-requires c κs =
     let called = c .before .before .before .before in
     let known = called .before .before .before .before in
-    call-short extractCall _ _ _ _ _ (called .extract .result) (called .extract .ensures)
+    extract-short _ _ _ _ _ (called .extract .result) (called .extract .ensures)
     (all-bytes (known .before .args .plan .now) (known .slice-known .given))
 
 returns : tie.Need-returns

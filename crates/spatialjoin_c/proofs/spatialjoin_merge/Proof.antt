@@ -1,7 +1,7 @@
 -- `spatialjoin_merge`: the merge's answer as one number.
 use borrow.Author.Needs.{needs}
 use Rattle.host_answers.proofs.Numbers.{given-back}
-use Rattle.spatialjoin_c.proofs.Hosting.{merge-short, call-hosted}
+use Rattle.spatialjoin_c.proofs.Hosting.{merge-short, merge-hosted}
 use Rattle.spatialjoin_c.proofs.spatialjoin_merge.Statement.{statement}
 use Rattle.spatialjoin_c.proofs.spatialjoin_merge.Tie as tie
 
@@ -12,7 +12,7 @@ answer-number-requires c κs =
 returns : tie.Need-returns
 returns c =
     let call = c .before .before .before .before .before .merge in
-    call-hosted _ _ _ _ (call .result) (call .ensures) _ (given-back _ _ (c .answer-number .ok) (c .answer-number .ensures))
+    merge-hosted _ _ _ _ _ _ (call .result) (call .ensures) _ (given-back _ _ (c .answer-number .ok) (c .answer-number .ensures))
 
 pub spatialjoin-merge-spec : {M : Type 1} → statement M
 spatialjoin-merge-spec =
