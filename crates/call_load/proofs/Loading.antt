@@ -8,7 +8,7 @@ use lib.ListN.{length, take, drop}
 use lib.Seq.{take-length}
 use lib.Dec.{leb}
 use borrow.Author.Tests.{le-leb, lt-leb}
-use Rattle.definitions.specs.Basics.{if_then_else_, Result, ok, refused}
+use Rattle.definitions.specs.Basics.{if_then_else_, ok, refused}
 use Rattle.definitions.specs.Expression.{Frame}
 use Rattle.definitions.specs.Encode.{planBytes}
 use Rattle.definitions.specs.Plans.{frameOf}
