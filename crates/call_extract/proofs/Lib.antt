@@ -2,3 +2,4 @@
 pub mod Taking
 pub mod Extracting
 pub mod Collecting
+pub mod Tables

@@ -1,6 +1,7 @@
 // The call extract.
 // A port of `transform_join_filter` of
 // rust/sedona-query-planner/src/spatial_expr_utils.rs.
+pub mod by_table;
 mod extraction;
 
 use extraction::put_extraction;
@@ -20,7 +21,7 @@ ghost use Rattle.plan_reader.specs.Plans.{HoldsFrame};
 ghost use Rattle.call_extract.specs.FrameRows.{Indexed, RoomFor};
 
 // A held frame whose nodes are in the rows: copies it to the scratch, then writes its extraction over the plan's start.
-fn extract_frame(
+pub(crate) fn extract_frame(
     plan: &mut [u8],
     n: usize,
     scratch: &mut [u8],
