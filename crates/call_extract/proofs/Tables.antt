@@ -1,22 +1,21 @@
 -- When a table begins with a frame's records: its numbers tell.
 use Prim.Native.Nat.{ℕ, zero, suc, _+_, _*_, _≤_, _<_, min}
 use native.Mathlib.Omega.{arith}
-use mathlib.Core.Path.{_≡_, refl, sym, ap, ap₂, _∙_}
-use mathlib.Core.Bool.{Bool, true, false, _&&_}
+use mathlib.Core.Path.{_≡_, refl, sym, ap, _∙_}
+use mathlib.Core.Bool.{Bool, true, false}
 use mathlib.Core.List.{List, [], _∷_, map}
 use lib.ListN.{length, take, getD, length-take, length-map}
 use lib.Seq.{take-take, getD-take}
-use lib.Dec.{eqb}
-use borrow.Author.Tests.{eqb-true, eq-eqb, lt-leb}
+use borrow.Author.Tests.{lt-leb}
 use Rattle.definitions.specs.Basics.{if_then_else_, Result, refused}
 use Rattle.definitions.specs.Expression as tree
 use Rattle.definitions.specs.Encode.{planBytes}
 use Rattle.definitions.specs.Plans.{planOf}
 use Rattle.definitions.specs.Good.{AllBytes}
-use Rattle.definitions.specs.NodeTable.{NodeRecord, nodesFrom, nodeTable}
-use Rattle.definitions.specs.Calls.{finish, heldPlan, extract}
+use Rattle.definitions.specs.NodeTable.{NodeRecord, nodesFrom, nodeTable, beginsWith}
+use Rattle.definitions.specs.Calls.{tableFits, finish, heldPlan, extractBy, extractFilled, extract}
 use Rattle.theorems.proofs.ExchangeGood.{frame-length}
-use Rattle.theorems.proofs.NodeTables.{node-count}
+use Rattle.theorems.proofs.NodeTables.{node-count, begins-exactly-by}
 use Rattle.frame_reader.specs.declared.frames.Frame.{Frame}
 use Rattle.frame_reader.proofs.Standing.{expr-stands}
 use Rattle.plan_reader.specs.Plans.{HoldsFrame}
@@ -29,43 +28,7 @@ use Rattle.node_rows.proofs.RowLaws.{numbers-length}
 use Rattle.node_rows.proofs.TableLaws.{nodes-told, numbers-tell, same-tabled}
 use Rattle.node_rows.proofs.OneTree.{of-tree}
 use Rattle.call_extract.specs.FrameRows.{Indexed}
-use Rattle.call_extract.specs.ExtractByTable.{sameRecord, beginsWith, tableFits, extractTabled, Begins, RowOf}
-
--- ---- lists of records
-
-both-hold : (a b : Bool) → (a && b) ≡ true → (a ≡ true) × (b ≡ true)
-both-hold true b e = (refl, e)
-both-hold false b e = let z : _≡_ {A = ℕ} 0 1 = cc in absurd (omega arith)
-
-same-record : (a b : NodeRecord) → sameRecord a b ≡ true → a ≡ b
-unfolding sameRecord
-same-record a b e =
-    let one = both-hold (eqb (a .kind) (b .kind)) (eqb (a .start) (b .start) && eqb (a .end) (b .end)) e in
-    let two = both-hold (eqb (a .start) (b .start)) (eqb (a .end) (b .end)) (one .1) in
-    ap₂ (λ (k s : ℕ). record { kind = k; start = s; end = a .end }) (eqb-true (a .kind) (b .kind) (one .0))
-    (eqb-true (a .start) (b .start) (two .0))
-    ∙ ap (λ (x : ℕ). record { kind = b .kind; start = b .start; end = x }) (eqb-true (a .end) (b .end) (two .1))
-
-record-same : (a : NodeRecord) → sameRecord a a ≡ true
-unfolding sameRecord
-record-same a = rw (eq-eqb (a .kind) (a .kind) refl, eq-eqb (a .start) (a .start) refl, eq-eqb (a .end) (a .end) refl)
-
-begins-taken : (records table : List NodeRecord) → beginsWith records table ≡ true → records ≡ take (length records) table
-unfolding beginsWith
-begins-taken [] table e = refl
-begins-taken (r ∷ records) [] e = let z : _≡_ {A = ℕ} 0 1 = cc in absurd (omega arith)
-begins-taken (r ∷ records) (t ∷ table) e =
-    let both = both-hold (sameRecord r t) (beginsWith records table) e in
-    ap₂ _∷_ (same-record r t (both .0)) (begins-taken records table (both .1))
-
-taken-begins : (records table : List NodeRecord) → records ≡ take (length records) table → beginsWith records table ≡ true
-unfolding beginsWith
-taken-begins [] table e = refl
-taken-begins (r ∷ records) [] e = let z : _≡_ {A = ℕ} 0 1 = cc in absurd (omega arith)
-taken-begins (r ∷ records) (t ∷ table) e =
-    let first : r ≡ t = cc in
-    let rest : records ≡ take (length records) table = cc in
-    rw (← first, record-same r) (taken-begins records table rest)
+use Rattle.call_extract.specs.ExtractByTable.{Begins, RowOf}
 
 numbers-taken : (k : ℕ) (table : List NodeRecord) → take k (map number table) ≡ map number (take k table)
 numbers-taken zero table = refl
@@ -109,11 +72,11 @@ decided false never = refl
 -- Where none is, the table does not matter.
 pub unheld : (n : ℕ) (plan scratch : List ℕ) (table : List NodeRecord) {r : Result tree.Plan} → heldPlan n plan ≡ r
     → tableFits table r ≡ true
-    → extractTabled n plan scratch table ≡ extract n plan scratch
-unfolding extractTabled
+    → extract n plan scratch table ≡ extractFilled n plan scratch
+unfolding extractBy
 unheld n plan scratch table e fits =
-    ap (λ (p : Result tree.Plan). if tableFits table p then extract n plan scratch else finish n plan scratch (refused 10)) e
-    ∙ ap (λ (b : Bool). if b then extract n plan scratch else finish n plan scratch (refused 10)) fits
+    ap (λ (p : Result tree.Plan). if tableFits table p then extractFilled n plan scratch else finish n plan scratch (refused 10)) e
+    ∙ ap (λ (b : Bool). if b then extractFilled n plan scratch else finish n plan scratch (refused 10)) fits
 
 pub over-long : (n : ℕ) (plan : List ℕ) → length plan < n → heldPlan n plan ≡ refused 10
 unfolding heldPlan
@@ -135,23 +98,23 @@ module _ (n : ℕ) (plan : List ℕ) {f : Frame} (h : HoldsFrame n plan f) (byte
   counted = ap length table-is ∙ node-count (f .root) (h .frame .expr) ∙ sym (h .stands .sized)
 
   by-test : (scratch : List ℕ) (table : List NodeRecord) (b : Bool) → beginsWith (nodeTable (h .frame)) table ≡ b
-      → extractTabled n plan scratch table ≡ (if b then extract n plan scratch else finish n plan scratch (refused 10))
-  unfolding extractTabled tableFits
+      → extract n plan scratch table ≡ (if b then extractFilled n plan scratch else finish n plan scratch (refused 10))
+  unfolding extractBy tableFits
   by-test scratch table b e =
-      ap (λ (p : Result tree.Plan). if tableFits table p then extract n plan scratch else finish n plan scratch (refused 10))
+      ap (λ (p : Result tree.Plan). if tableFits table p then extractFilled n plan scratch else finish n plan scratch (refused 10))
       (held-is n plan (h .fits) (h .is))
-      ∙ ap (λ (x : Bool). if x then extract n plan scratch else finish n plan scratch (refused 10)) e
+      ∙ ap (λ (x : Bool). if x then extractFilled n plan scratch else finish n plan scratch (refused 10)) e
 
   -- A table that does not begin with its records is refused.
   refuted : (scratch : List ℕ) (table : List NodeRecord) → (nodeTable (h .frame) ≡ take (f .nodes) table → ⊥)
-      → extractTabled n plan scratch table ≡ refuses n plan scratch 10
+      → extract n plan scratch table ≡ refuses n plan scratch 10
   unfolding finish
   refuted scratch table never = by-test scratch table false
       (decided (beginsWith (nodeTable (h .frame)) table)
-      (λ e. never (begins-taken (nodeTable (h .frame)) table e ∙ ap (λ (k : ℕ). take k table) counted)))
+      (λ e. never (sym (begins-exactly-by (nodeTable (h .frame)) table .0 e) ∙ ap (λ (k : ℕ). take k table) counted)))
 
   pub short-refused : (scratch row : List ℕ) (places : ℕ) (table : List NodeRecord) → places < f .nodes → RowOf row places table
-      → extractTabled n plan scratch table ≡ refuses n plan scratch 10
+      → extract n plan scratch table ≡ refuses n plan scratch 10
   short-refused scratch row places table less of =
       refuted scratch table (λ e. omega (arith, ap length e, counted, length-take (f .nodes) table, of .long))
 
@@ -166,17 +129,17 @@ module _ (n : ℕ) (plan : List ℕ) {f : Frame} (h : HoldsFrame n plan f) (byte
         ∙ taken (its-own .numbered) ∙ sym (ap (map number) table-is)
 
     module _ (scratch row : List ℕ) (table : List NodeRecord) (begins : Begins (f .nodes) row table) where
-      pub same-fits : take (f .nodes) own ≡ take (f .nodes) row → extractTabled n plan scratch table ≡ extract n plan scratch
+      pub same-fits : take (f .nodes) own ≡ take (f .nodes) row → extract n plan scratch table ≡ extractFilled n plan scratch
       same-fits same =
           let alike : map number (nodesFrom (f .root) (h .frame .expr)) ≡ map number (take (f .nodes) table) =
           ap (map number) (sym table-is) ∙ sym own-numbers ∙ same ∙ begins .same in
           let records : nodesFrom (f .root) (h .frame .expr) ≡ take (f .nodes) table =
           numbers-tell (nodesFrom (f .root) (h .frame .expr)) (take (f .nodes) table)
           (nodes-told (f .root) (h .frame .expr) (its-own .short)) alike in
-          by-test scratch table true (taken-begins (nodeTable (h .frame)) table
-          (table-is ∙ records ∙ ap (λ (k : ℕ). take k table) (sym counted)))
+          by-test scratch table true (begins-exactly-by (nodeTable (h .frame)) table .1
+          (sym (table-is ∙ records ∙ ap (λ (k : ℕ). take k table) (sym counted))))
 
-      pub other-refused : SameIs own row (f .nodes) false → extractTabled n plan scratch table ≡ refuses n plan scratch 10
+      pub other-refused : SameIs own row (f .nodes) false → extract n plan scratch table ≡ refuses n plan scratch 10
       other-refused differ = refuted scratch table
           (λ e.
           let same : take (f .nodes) own ≡ take (f .nodes) row = own-numbers ∙ ap (map number) e ∙ sym (begins .same) in

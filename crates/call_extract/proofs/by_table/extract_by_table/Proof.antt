@@ -4,7 +4,7 @@ use mathlib.Core.Path.{refl, sym, _∙_}
 use Rattle.definitions.specs.Calls.{newAfterExtractBy}
 use Rattle.join_filter.proofs.Keeping.{held-is, plan-length}
 use Rattle.join_filter.proofs.Refusing.{extract-call, no-room-for-n, no-plan, empty-plan, extracted-before}
-use Rattle.call_extract.specs.ExtractByTable.{tableFits}
+use Rattle.definitions.specs.Calls.{tableFits}
 use Rattle.call_extract.proofs.Tables.{unheld, over-long}
 use Rattle.call_extract.proofs.by_table.extract_by_table.Statement.{statement}
 use Rattle.call_extract.proofs.by_table.extract_by_table.Tie as tie
