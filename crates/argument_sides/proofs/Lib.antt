@@ -2,4 +2,3 @@
 pub mod Framing
 pub mod SideLaws
 pub mod SideWalk
-pub mod LiteralLaws

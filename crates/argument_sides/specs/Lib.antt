@@ -1,4 +1,3 @@
 -- What the contracts cite, in the order to read them.
 pub mod Frames
 pub mod Sides
-pub mod Literals

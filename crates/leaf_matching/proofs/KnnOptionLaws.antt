@@ -13,14 +13,14 @@ use Rattle.definitions.specs.Match.{literalK, literalBool, askNothing, knnLiter
 use Rattle.expression.specs.Nodes.{Row, OfTree, OfTrees}
 use Rattle.expression.proofs.Standing.{first-stands, rest-stands, no-children, some-children}
 use Rattle.expression.proofs.Parts.{two-of}
-use Rattle.argument_sides.proofs.LiteralLaws.{k-ten, flag-ten}
-use Rattle.argument_sides.specs.Literals.{numberIs, flagIs}
+use Rattle.literal_arguments.proofs.LiteralLaws.{k-ten, flag-ten}
+use Rattle.literal_arguments.specs.Literals.{numberIs, flagIs}
 use Rattle.sedona_query_planner.specs.Predicates.{flag}
 use Rattle.leaf_matching.specs.KnnOptions.{spheroidOf, tiesOf, FlagsAre, OptionsAre}
-use Rattle.argument_sides.specs.declared.literal_arguments.LiteralU32.{LiteralU32}
-use Rattle.argument_sides.specs.declared.literal_arguments.LiteralU32.the-variants as number
-use Rattle.argument_sides.specs.declared.literal_arguments.LiteralBool.{LiteralBool}
-use Rattle.argument_sides.specs.declared.literal_arguments.LiteralBool.the-variants as boolean
+use Rattle.literal_arguments.specs.declared.literal_arguments.LiteralU32.{LiteralU32}
+use Rattle.literal_arguments.specs.declared.literal_arguments.LiteralU32.the-variants as number
+use Rattle.literal_arguments.specs.declared.literal_arguments.LiteralBool.{LiteralBool}
+use Rattle.literal_arguments.specs.declared.literal_arguments.LiteralBool.the-variants as boolean
 use Rattle.sedona_query_planner.specs.declared.spatial_predicate.TieBreakers.{TieBreakers}
 use Rattle.sedona_query_planner.specs.declared.spatial_predicate.TieBreakers.the-variants.{Given, Absent}
 use Rattle.leaf_matching.specs.declared.knn.KnnFlags.{KnnFlags}

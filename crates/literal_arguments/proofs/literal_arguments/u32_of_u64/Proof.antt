@@ -2,8 +2,8 @@
 use borrow.Author.Tests.{le-leb, lt-leb}
 use Rattle.definitions.specs.Literals.{u32}
 use borrow.Author.Needs.{needs}
-use Rattle.argument_sides.proofs.literal_arguments.u32_of_u64.Statement.{statement}
-use Rattle.argument_sides.proofs.literal_arguments.u32_of_u64.Tie as tie
+use Rattle.literal_arguments.proofs.literal_arguments.u32_of_u64.Statement.{statement}
+use Rattle.literal_arguments.proofs.literal_arguments.u32_of_u64.Tie as tie
 
 pub u32-of-u64-spec : {M : Type 1} → statement M
 unfolding u32

@@ -4,10 +4,10 @@ use mathlib.Core.List.{List}
 use mathlib.Core.Option.{Option, none, some}
 use Rattle.expression.specs.Places.{shortAt}
 use Rattle.sedona_query_planner.specs.Predicates.{flag}
-use Rattle.argument_sides.specs.declared.literal_arguments.LiteralU32.{LiteralU32}
-use Rattle.argument_sides.specs.declared.literal_arguments.LiteralU32.the-variants as number
-use Rattle.argument_sides.specs.declared.literal_arguments.LiteralBool.{LiteralBool}
-use Rattle.argument_sides.specs.declared.literal_arguments.LiteralBool.the-variants as boolean
+use Rattle.literal_arguments.specs.declared.literal_arguments.LiteralU32.{LiteralU32}
+use Rattle.literal_arguments.specs.declared.literal_arguments.LiteralU32.the-variants as number
+use Rattle.literal_arguments.specs.declared.literal_arguments.LiteralBool.{LiteralBool}
+use Rattle.literal_arguments.specs.declared.literal_arguments.LiteralBool.the-variants as boolean
 
 -- The number in the eight bytes at a place.
 abbrev pub longAt : List ℕ → ℕ → ℕ

@@ -1,10 +1,10 @@
 -- `long_at`: four numbers of two bytes, each below 65,536.
 use native.Mathlib.Omega.{arith}
 use Prim.Native.Nat.{_+_, _<_}
-use Rattle.argument_sides.proofs.LiteralLaws.{short-below}
+use Rattle.literal_arguments.proofs.LiteralLaws.{short-below}
 use borrow.Author.Needs.{needs}
-use Rattle.argument_sides.proofs.literal_arguments.long_at.Statement.{statement}
-use Rattle.argument_sides.proofs.literal_arguments.long_at.Tie as tie
+use Rattle.literal_arguments.proofs.literal_arguments.long_at.Statement.{statement}
+use Rattle.literal_arguments.proofs.literal_arguments.long_at.Tie as tie
 
 below : (c : tie.After-short-at4)
     → (c .before .before .before .short-at .result < 65536) × (c .before .before .short-at2 .result < 65536)

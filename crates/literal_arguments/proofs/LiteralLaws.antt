@@ -29,7 +29,7 @@ use Rattle.expression.specs.Nodes.{headBytes, kindOf, Stands}
 use Rattle.expression.proofs.Placed.{byte-at, next}
 use Rattle.expression.proofs.OfKind.{a-literal}
 use Rattle.expression.proofs.Standing.{head-stands, head-fits, kind-is}
-use Rattle.argument_sides.specs.Literals.{longAt}
+use Rattle.literal_arguments.specs.Literals.{longAt}
 use Rattle.sedona_query_planner.specs.Predicates.{flag}
 
 -- ---- eight bytes

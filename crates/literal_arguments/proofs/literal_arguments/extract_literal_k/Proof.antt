@@ -1,10 +1,10 @@
 -- `extract_literal_k`: of the numbers of 32 bits only 0 is no k.
 use mathlib.Core.Path.{ap, sym, _∙_}
-use Rattle.argument_sides.specs.Literals.{numberIs}
-use Rattle.argument_sides.proofs.LiteralLaws.{k-of, only-zero, only-some}
+use Rattle.literal_arguments.specs.Literals.{numberIs}
+use Rattle.literal_arguments.proofs.LiteralLaws.{k-of, only-zero, only-some}
 use borrow.Author.Needs.{needs}
-use Rattle.argument_sides.proofs.literal_arguments.extract_literal_k.Statement.{statement}
-use Rattle.argument_sides.proofs.literal_arguments.extract_literal_k.Tie as tie
+use Rattle.literal_arguments.proofs.literal_arguments.extract_literal_k.Statement.{statement}
+use Rattle.literal_arguments.proofs.literal_arguments.extract_literal_k.Tie as tie
 
 pub extract-literal-k-spec : {M : Type 1} → statement M
 extract-literal-k-spec =

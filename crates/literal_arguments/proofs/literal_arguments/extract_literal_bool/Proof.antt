@@ -6,12 +6,12 @@ use mathlib.Core.Option.{some}
 use lib.Dec.{eqb}
 use Rattle.definitions.specs.Literals.{numberBool}
 use Rattle.expression.proofs.Standing.{node-some}
-use Rattle.argument_sides.specs.Literals.{longAt}
+use Rattle.literal_arguments.specs.Literals.{longAt}
 use Rattle.sedona_query_planner.specs.Predicates.{flag}
-use Rattle.argument_sides.proofs.LiteralLaws.{literal-is, no-literal, literal-flag, flag-small, flag-is, no-flag}
+use Rattle.literal_arguments.proofs.LiteralLaws.{literal-is, no-literal, literal-flag, flag-small, flag-is, no-flag}
 use borrow.Author.Needs.{needs}
-use Rattle.argument_sides.proofs.literal_arguments.extract_literal_bool.Statement.{statement}
-use Rattle.argument_sides.proofs.literal_arguments.extract_literal_bool.Tie as tie
+use Rattle.literal_arguments.proofs.literal_arguments.extract_literal_bool.Statement.{statement}
+use Rattle.literal_arguments.proofs.literal_arguments.extract_literal_bool.Tie as tie
 
 returns-2 : tie.Need-returns-2
 returns-2 c =

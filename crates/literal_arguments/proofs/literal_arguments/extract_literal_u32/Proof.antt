@@ -6,10 +6,10 @@ use mir.Syntax.{w64}
 use mir.Facts.{toZ-ofZ}
 use Rattle.definitions.specs.Literals.{signed, u32}
 use Rattle.expression.proofs.Standing.{node-some}
-use Rattle.argument_sides.proofs.LiteralLaws.{literal-is, no-literal, literal-number, number-below, number-signed, number-unsigned, number-above}
+use Rattle.literal_arguments.proofs.LiteralLaws.{literal-is, no-literal, literal-number, number-below, number-signed, number-unsigned, number-above}
 use borrow.Author.Needs.{needs}
-use Rattle.argument_sides.proofs.literal_arguments.extract_literal_u32.Statement.{statement}
-use Rattle.argument_sides.proofs.literal_arguments.extract_literal_u32.Tie as tie
+use Rattle.literal_arguments.proofs.literal_arguments.extract_literal_u32.Statement.{statement}
+use Rattle.literal_arguments.proofs.literal_arguments.extract_literal_u32.Tie as tie
 
 returns-2 : tie.Need-returns-2
 returns-2 c =

@@ -8,7 +8,7 @@ ghost use lib.IntN.{pos};
 ghost use Rattle.definitions.specs.Literals as definition;
 ghost use Rattle.definitions.specs.Match.{literalU32, literalK, literalBool};
 ghost use Rattle.expression.specs.Nodes.{Tree, OfTree};
-ghost use Rattle.argument_sides.specs.Literals.{longAt, numberIs, flagIs};
+ghost use Rattle.literal_arguments.specs.Literals.{longAt, numberIs, flagIs};
 use expression::fields::short_at;
 use expression::literals::signed;
 

@@ -4,9 +4,9 @@ use mir.Syntax.{w64}
 use mir.Val.{toZ, ofZ}
 use mir.Facts.{toZ-ofZ}
 use Rattle.definitions.specs.Literals.{u32}
-use Rattle.argument_sides.proofs.LiteralLaws.{negative-is, small-is, large-is}
-use Rattle.argument_sides.proofs.literal_arguments.u32_of_i64.Statement.{statement}
-use Rattle.argument_sides.proofs.literal_arguments.u32_of_i64.Tie as tie
+use Rattle.literal_arguments.proofs.LiteralLaws.{negative-is, small-is, large-is}
+use Rattle.literal_arguments.proofs.literal_arguments.u32_of_i64.Statement.{statement}
+use Rattle.literal_arguments.proofs.literal_arguments.u32_of_i64.Tie as tie
 
 pub u32-of-i64-spec : {M : Type 1} → statement M
 u32-of-i64-spec =
