@@ -1,4 +1,3 @@
 -- Laws that the proofs use.
-pub mod Sums
 pub mod Standing
 pub mod Merging

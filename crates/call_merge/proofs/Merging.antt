@@ -23,7 +23,8 @@ use Rattle.frame_reader.specs.declared.frames.Frame as places
 use Rattle.plan_reader.specs.Plans.{HoldsFrame}
 use Rattle.writing.specs.Writing.{Room, Puts}
 use Rattle.plan_merge.specs.Merging.{FramesAt, mergedFrame}
-use Rattle.call_merge.specs.Given.{GivenFrame, Counts, overTogether}
+use Rattle.merge_limits.specs.Together.{Counts, overTogether}
+use Rattle.call_merge.specs.Given.{GivenFrame}
 use Rattle.call_merge.specs.Merges.{MergedIs}
 use Rattle.terms.specs.Refusals.{numberOf}
 use Rattle.terms.specs.declared.refusals.Refusal.{Refusal}

@@ -1,13 +1,11 @@
 // The call merge.
-mod limits;
-
 use frame_reader::frames::Frame;
 use frame_reader::frames::Physical;
 use frame_reader::frames::physical_frame;
 use join_filter::answers::Answer;
 use join_filter::answers::Loaded;
 use join_filter::answers::unfilled;
-use limits::over_limits;
+use merge_limits::limits::over_limits;
 use plan_merge::merged_frames::put_merged;
 use plan_reader::held_plans::Held;
 use plan_reader::held_plans::held_plan;

@@ -6,7 +6,7 @@ use mathlib.Core.Path.{_≡_, refl, sym, _∙_}
 use mathlib.Core.Bool.{false}
 use lib.ListN.{length}
 use Rattle.reading.proofs.Standing.{all-bytes}
-use Rattle.call_merge.specs.Given.{overTogether}
+use Rattle.merge_limits.specs.Together.{overTogether}
 use Rattle.call_merge.proofs.Merging.{Both, counts, not-empty, root-bounds, too-large, scratch-short, plan-short, table-short, Ready, copy-length, merged-room, merges}
 use Rattle.call_merge.proofs.merge_held.Statement.{statement}
 use Rattle.call_merge.proofs.merge_held.Tie as tie

@@ -1,10 +1,10 @@
 // The limits of a merged frame, by what reading both frames counted.
 use frame_reader::frames::Frame;
 ghost use mathlib.Core.Path.{_≡_};
-ghost use Rattle.call_merge.specs.Given.{Counts, overTogether};
+ghost use Rattle.merge_limits.specs.Together.{Counts, overTogether};
 
 // Whether frames of n and m bytes are over a limit once merged: one byte shorter than both, one node more, one level deeper.
-pub(crate) fn over_limits(n: usize, m: usize, old: Frame, new: Frame) -> bool
+pub fn over_limits(n: usize, m: usize, old: Frame, new: Frame) -> bool
     requires { ⌜ Counts n m old new ⌝ }
     ensures { λ r. ⌜ r ≡ overTogether n m old new ⌝ }
 {

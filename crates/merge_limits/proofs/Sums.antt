@@ -6,7 +6,7 @@ use mathlib.Core.Bool.{true}
 use lib.Dec.{ltb}
 use borrow.Author.Tests.{lt-ltb, le-ltb}
 use Rattle.frame_reader.specs.declared.frames.Frame.{Frame}
-use Rattle.call_merge.specs.Given.{overTogether}
+use Rattle.merge_limits.specs.Together.{overTogether}
 
 module _ (n m : ℕ) (f g : Frame) where
   pub bytes-over : 16385 < n + m → true ≡ overTogether n m f g

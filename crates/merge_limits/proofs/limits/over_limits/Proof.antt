@@ -1,8 +1,8 @@
 -- Each test is one of the definition's, and the last decides.
 use native.Mathlib.Omega.{arith}
-use Rattle.call_merge.proofs.Sums.{bytes-over, nodes-over, depth-over, records-decide}
-use Rattle.call_merge.proofs.limits.over_limits.Statement.{statement}
-use Rattle.call_merge.proofs.limits.over_limits.Tie as tie
+use Rattle.merge_limits.proofs.Sums.{bytes-over, nodes-over, depth-over, records-decide}
+use Rattle.merge_limits.proofs.limits.over_limits.Statement.{statement}
+use Rattle.merge_limits.proofs.limits.over_limits.Tie as tie
 
 returns : tie.Need-returns
 returns c = let a = c .before .args in bytes-over (a .n) (a .m) (a .old) (a .new) (c .if1 .taken)
