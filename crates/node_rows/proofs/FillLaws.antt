@@ -7,7 +7,8 @@ use lib.ListN.{length, drop}
 use Rattle.definitions.specs.NodeTable.{NodeRecord}
 use Rattle.expression.specs.Nodes.{OfTree}
 use Rattle.node_rows.specs.Numbers.{number, numbersFrom}
-use Rattle.node_rows.specs.Rows.{Fits, Collected, Records, nothing, filled}
+use Rattle.expression.specs.Filling.{Records, nothing, filled}
+use Rattle.node_rows.specs.Rows.{Fits, Collected}
 use Rattle.node_rows.specs.declared.collecting.Passed.{Passed}
 use Rattle.node_rows.proofs.RowLaws.{nodes-below, numbers-length}
 

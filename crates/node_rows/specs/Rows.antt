@@ -2,15 +2,16 @@
 use Prim.Native.Nat.{ℕ, _+_, _≤_, _<_}
 use mathlib.Core.Path.{_≡_}
 use mathlib.Core.Bool.{Bool, true, false}
-use mathlib.Core.List.{List, [], _++_, map}
+use mathlib.Core.List.{List, _++_, map}
 use lib.ListN.{length, take, drop, getD}
 use Rattle.definitions.specs.Expression.{Expr, Exprs, cons}
 use Rattle.definitions.specs.Encode.{exprBytes, exprsBytes}
 use Rattle.definitions.specs.Decode.{Columns}
 use Rattle.definitions.specs.Good.{nodes, nodesAll}
-use Rattle.definitions.specs.NodeTable.{NodeRecord, nodesFrom}
+use Rattle.definitions.specs.NodeTable.{NodeRecord}
 use Rattle.expression.specs.Places.{Holds}
 use Rattle.expression.specs.Nodes.{Stands, Row}
+use Rattle.expression.specs.Filling.{Records}
 use Rattle.writing.specs.Written.{WroteAt}
 use Rattle.node_rows.specs.Numbers.{number, numbersFrom, rowNumbers, nextsFrom, rowNexts}
 use Rattle.node_rows.specs.declared.collecting.Passed.{Passed}
@@ -87,13 +88,7 @@ pub record CollectedAll (at i : ℕ) (numbers next numbered followed : List ℕ)
 
 -- ---- a row of its own
 
--- These are the records of the `count` nodes of an expression at a place, or count is 0 and there are none.
-pub data Records (s : List ℕ) (root count : ℕ) : List NodeRecord → Type 0 where
-  nothing : count ≡ 0 → Records s root count []
-  filled : {c : Columns} {t : Expr} → Stands c s root t → count ≡ nodes t → count ≤ 1024 → root + length (exprBytes t) ≤ 16384
-      → Records s root count (nodesFrom root t)
-
--- There are such records.
+-- Records stand there.
 abbrev pub Filling : List ℕ → (root count : ℕ) → Type 0
 Filling s root count = (records : List NodeRecord) × Records s root count records
 

@@ -5,9 +5,10 @@ use mathlib.Core.Path.{_≡_, refl, sym, _∙_, ap}
 use mathlib.Core.List.{List, _++_, map, map-append}
 use lib.ListN.{length, drop, take, length-map}
 use lib.Seq.{take-at}
-use Rattle.definitions.specs.NodeTable.{NodeRecord}
+use Rattle.definitions.specs.NodeTable.{NodeRecord, nodesFrom}
 use Rattle.node_rows.specs.Numbers.{number}
-use Rattle.node_rows.specs.Rows.{Records, nothing, filled, RowIs}
+use Rattle.expression.specs.Filling.{Records, nothing, filled}
+use Rattle.node_rows.specs.Rows.{RowIs}
 use Rattle.node_rows.proofs.RowLaws.{numbers-length}
 use Rattle.node_rows.proofs.TableLaws.{nodes-told}
 use Rattle.node_table.specs.Numbers.{numbered}
@@ -19,10 +20,10 @@ pub few-stand : {s : List ℕ} {root count : ℕ} {records : List NodeRecord} �
 few-stand (nothing e) = omega (arith, e)
 few-stand (filled stands size few short) = few
 
-numbers-count : {s : List ℕ} {root count : ℕ} {records : List NodeRecord} → Records s root count records
-    → length (map number records) ≡ count
-numbers-count (nothing e) = sym e
-numbers-count {root = root} (filled {t = t} stands size few short) = numbers-length root t ∙ sym size
+pub records-count : {s : List ℕ} {root count : ℕ} {records : List NodeRecord} → Records s root count records → length records ≡ count
+records-count (nothing e) = sym e
+records-count {root = root} (filled {t = t} stands size few short) =
+    sym (length-map (nodesFrom root t) number) ∙ numbers-length root t ∙ sym size
 
 numbers-back : {s : List ℕ} {root count : ℕ} {records : List NodeRecord} → Records s root count records
     → map numbered (map number records) ≡ records
@@ -35,5 +36,5 @@ filled-table s root count before row table put is e records so =
     e ∙ ap (λ (l : List NodeRecord). l ++ drop count table) (ap (λ (l : List ℕ). take count (map numbered l)) (is records so)
     ∙ ap (take count) (map-append numbered (map number records) (drop count before))
     ∙ take-at (map numbered (map number records)) (map numbered (drop count before)) count
-    (length-map (map number records) numbered ∙ numbers-count so)
+    (length-map (map number records) numbered ∙ length-map records number ∙ records-count so)
     ∙ numbers-back so)

@@ -4,7 +4,7 @@ use mathlib.Core.Path.{_≡_}
 use mathlib.Core.List.{List, map, _++_}
 use lib.ListN.{drop}
 use Rattle.definitions.specs.NodeTable.{NodeRecord}
-use Rattle.node_rows.specs.Rows.{Records}
+use Rattle.expression.specs.Filling.{Records}
 use Rattle.node_table.specs.declared.NodeRecord.{NodeRecord as Lent}
 
 -- The record that a struct of the table is. (Ours.)
