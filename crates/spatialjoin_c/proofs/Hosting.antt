@@ -7,7 +7,7 @@ use mathlib.Core.List.{List, [], _++_}
 use lib.IntN.{ℤ}
 use lib.ListN.{length, drop, replicate, length-replicate}
 use Rattle.definitions.specs.NodeTable.{NodeRecord, blank}
-use Rattle.definitions.specs.Calls.{LoadOutcome, Outcome, extractFilled, exchange}
+use Rattle.definitions.specs.Calls.{LoadOutcome, load, Outcome, extractFilled, exchange}
 use Rattle.definitions.specs.Hosts.{hosted}
 use Rattle.definitions.specs.Machine.{exchangeCall}
 use Rattle.definitions.specs.Sessions.{makeBy, accepted}
@@ -18,35 +18,52 @@ use Rattle.theorems.proofs.InverseFrame.{same-ok, frame-back}
 use Rattle.theorems.proofs.MatchLaws.{match-laws}
 use Rattle.theorems.proofs.Lengths.{filled-short}
 use Rattle.theorems.proofs.Proved.{lengths-short, text-is-short, print-given, merge-writes}
-use Rattle.join_filter.specs.Outcomes.{answerOf, LoadIs, OutcomeIs, MergeIs, PrintIs}
+use Rattle.join_filter.specs.Outcomes.{answerOf, nAfter, LoadIs, OutcomeIs, MergeIs, PrintIs}
 use Rattle.join_filter.specs.declared.answers.Loaded.{Loaded}
 use Rattle.call_load.specs.Loads.{LoadedIs}
 use Rattle.call_merge.specs.Merges.{MergedIs}
 use Rattle.join_filter.specs.declared.answers.Answer.{Answer}
 use Rattle.join_filter.specs.declared.answers.Answer.the-variants.{Length, Refused}
-use Rattle.spatialjoin_c.specs.Hosted.{LoadHosted, CallHosted, MergeHosted, PrintHosted}
+use Rattle.spatialjoin_c.specs.Hosted.{LoadLeft, CallHosted, MergeLeft, PrintHosted}
+use Rattle.spatialjoin_c.proofs.TableRoom.{load-keeps, merge-keeps, has-room}
 use Rattle.host_answers.specs.Short.{Short}
 
--- A table of 1,024 records.
-some-table : List NodeRecord
-some-table = replicate 1024 blank
+-- A table of so many records.
+some-table : ℕ → List NodeRecord
+some-table held = replicate held blank
 
-some-length : length some-table ≡ 1024
+some-length : (held : ℕ) → length (some-table held) ≡ held
 unfolding some-table
-some-length = length-replicate {A = NodeRecord} 1024 blank
+some-length held = length-replicate held blank
 
-module _ (frame before after : List ℕ) (r : Loaded) (is : LoadedIs frame before after 1024 r) where
+module _ (frame before after : List ℕ) (held : ℕ) (r : Loaded) (is : LoadedIs frame before after held r) where
   pub load-short : AllBytes frame → Short (r .answer)
-  load-short = short (r .answer) (is .2 some-table some-length) where
-    short : (a : Answer) → LoadIs frame before after some-table (is .0 ++ drop (r .count) some-table) a → AllBytes frame → Short a
+  load-short = short (r .answer) (is .2 (some-table held) (some-length held)) where
+    short : (a : Answer) → LoadIs frame before after (some-table held) (is .0 ++ drop (r .count) (some-table held)) a → AllBytes frame
+        → Short a
     short (Length m) so bytes =
-        omega (arith, lengths-short .0 frame 0 before some-table m bytes (ap (λ (o : LoadOutcome). o .answer) (so 0)))
+        omega (arith, lengths-short .0 frame 0 before (some-table held) m bytes (ap (λ (o : LoadOutcome). o .answer) (so 0)))
     short (Refused why) so bytes = tt
 
-  pub load-hosted : (z : ℤ) → z ≡ hosted (answerOf (r .answer)) → LoadHosted frame before after z
-  load-hosted z e n table size =
-      let so = is .2 table size n in
-      rw (e, ap (λ (o : LoadOutcome). o .answer) so, ap (λ (o : LoadOutcome). o .buffer) so) (refl, refl)
+  pub load-left : (z : ℤ) → z ≡ hosted (answerOf (r .answer))
+      → LoadLeft frame before held after (record { answer = z; root = r .root; count = r .count })
+  load-left z e n table size =
+      let so : load frame n before table ≡ record {
+        answer = answerOf (r .answer);
+        n = nAfter n (r .answer);
+        buffer = after;
+        table = is .0 ++ drop (r .count) table;
+      } = is .2 table size n in
+      let filled : load frame n before table .table ≡ is .0 ++ drop (r .count) table = ap (λ (o : LoadOutcome). o .table) so in (
+        e ∙ ap hosted (sym (ap (λ (o : LoadOutcome). o .answer) so)),
+        sym (ap (λ (o : LoadOutcome). o .buffer) so),
+        record {
+          records = is .0;
+          standing = is .1;
+          room = has-room table (is .1) (sym (ap length filled) ∙ load-keeps frame n before table);
+          done = filled;
+        },
+      )
 
 pub extract-short : (n : ℕ) (before scratch after kept : List ℕ) (r : Answer)
     → OutcomeIs (extractFilled n before scratch) n after kept r → AllBytes before → Short r
@@ -61,20 +78,34 @@ exchange-short n before scratch after kept (Length m) is bytes =
     omega (arith, lengths-short .1 exchangeCall n before scratch [] m bytes (ap (λ (o : Outcome). o .answer) is))
 exchange-short n before scratch after kept (Refused why) is bytes = tt
 
-module _ (frame : List ℕ) (n : ℕ) (before scratch after kept : List ℕ) (r : Loaded)
-    (is : MergedIs frame n before scratch after kept 1024 r) where
+module _ (frame : List ℕ) (n : ℕ) (before scratch after kept : List ℕ) (held : ℕ) (r : Loaded)
+    (is : MergedIs frame n before scratch after kept held r) where
   pub merge-short : Short (r .answer)
-  merge-short = short (r .answer) (is .2 some-table some-length) where
-    short : (a : Answer) → MergeIs (merge frame n before scratch some-table) n after kept (is .0 ++ drop (r .count) some-table) a → Short a
+  merge-short = short (r .answer) (is .2 (some-table held) (some-length held)) where
+    short : (a : Answer)
+        → MergeIs (merge frame n before scratch (some-table held)) n after kept (is .0 ++ drop (r .count) (some-table held)) a → Short a
     short (Length m) so =
-        let taken : accepted (merge frame n before scratch some-table .answer) ≡ true =
+        let taken : accepted (merge frame n before scratch (some-table held) .answer) ≡ true =
         ap (λ (o : MergeOutcome). accepted (o .answer)) so ∙ (unfold accepted in refl) in
-        let (old, new, found, given, wrote) = merge-writes frame n before scratch some-table taken in
+        let (old, new, found, given, wrote) = merge-writes frame n before scratch (some-table held) taken in
         omega (arith, wrote .short, ap (λ (o : MergeOutcome). o .n) so)
     short (Refused why) so = tt
 
-  pub merge-hosted : (z : ℤ) → z ≡ hosted (answerOf (r .answer)) → MergeHosted frame n before scratch after kept z
-  merge-hosted z e table size = rw (e, is .2 table size) (refl, refl, refl)
+  pub merge-left : (z : ℤ) → z ≡ hosted (answerOf (r .answer))
+      → MergeLeft frame n before scratch held after kept (record { answer = z; root = r .root; count = r .count })
+  merge-left z e table size =
+      let so = is .2 table size in
+      let filled : merge frame n before scratch table .table ≡ is .0 ++ drop (r .count) table = ap (λ (o : MergeOutcome). o .table) so in (
+        e ∙ ap hosted (sym (ap (λ (o : MergeOutcome). o .answer) so)),
+        sym (ap (λ (o : MergeOutcome). o .buffer) so),
+        sym (ap (λ (o : MergeOutcome). o .scratch) so),
+        record {
+          records = is .0;
+          standing = is .1;
+          room = has-room table (is .1) (sym (ap length filled) ∙ merge-keeps frame n before scratch table);
+          done = filled;
+        },
+      )
 
 pub call-hosted : (o : Outcome) (n : ℕ) (after kept : List ℕ) (r : Answer) → OutcomeIs o n after kept r
     → (z : ℤ) → z ≡ hosted (answerOf r) → CallHosted o after kept z

@@ -1,27 +1,27 @@
--- Which definition each number is, and what the buffers are.
-use Prim.Native.Nat.{ℕ}
+-- Which definition each number is, and what the buffers and the table are.
+use Prim.Native.Nat.{ℕ, _≤_}
 use mathlib.Core.Path.{_≡_}
-use mathlib.Core.List.{List}
+use mathlib.Core.List.{List, _++_}
 use lib.IntN.{ℤ}
-use lib.ListN.{length}
+use lib.ListN.{length, drop}
 use Rattle.definitions.specs.Calls.{load, Outcome}
-use Rattle.definitions.specs.Merge.{merge}
+use Rattle.definitions.specs.Merge.{MergeOutcome, merge}
 use Rattle.definitions.specs.NodeTable.{NodeRecord}
 use Rattle.definitions.specs.Hosts.{hosted}
 use Rattle.definitions.specs.Printed.{print}
+use Rattle.expression.specs.Filling.{Records}
+use Rattle.spatialjoin_c.specs.declared.cores.Loaded.{Loaded}
 
--- The load is the definition's with any table of 1,024 records, whatever n the host had.
-abbrev pub LoadHosted : (frame before after : List ℕ) → ℤ → Type 0
-LoadHosted frame before after r =
-    (n : ℕ) (table : List NodeRecord) → length table ≡ 1024
-    → (r ≡ hosted (load frame n before table .answer)) × (after ≡ load frame n before table .buffer)
+-- The load is the definition's, whatever n the host had: answer, plan buffer and table.
+abbrev pub LoadHosted : (frame before : List ℕ) (table : List NodeRecord) (after : List ℕ) (filled : List NodeRecord) → ℤ → Type 0
+LoadHosted frame before table after filled r =
+    (n : ℕ) → (r ≡ hosted (load frame n before table .answer)) × (after ≡ load frame n before table .buffer)
+    × (filled ≡ load frame n before table .table)
 
--- The merge is the definition's with any table of 1,024 records: answer and both buffers.
-abbrev pub MergeHosted : (frame : List ℕ) → (n : ℕ) → (before scratch after kept : List ℕ) → ℤ → Type 0
-MergeHosted frame n before scratch after kept r =
-    (table : List NodeRecord) → length table ≡ 1024
-    → (r ≡ hosted (merge frame n before scratch table .answer)) × (after ≡ merge frame n before scratch table .buffer)
-    × (kept ≡ merge frame n before scratch table .scratch)
+-- The merge is the definition's: answer, both buffers and the table.
+abbrev pub MergeHosted : MergeOutcome → (after scratch : List ℕ) (filled : List NodeRecord) → ℤ → Type 0
+MergeHosted o after scratch filled r =
+    (r ≡ hosted (o .answer)) × (after ≡ o .buffer) × (scratch ≡ o .scratch) × (filled ≡ o .table)
 
 -- The call is the definition's: answer and both buffers. n is the host's to keep: the length that was answered, else as it was.
 abbrev pub CallHosted : Outcome → (after scratch : List ℕ) → ℤ → Type 0
@@ -30,3 +30,27 @@ CallHosted o after scratch r = (r ≡ hosted (o .answer)) × (after ≡ o .buffe
 -- The print is the definition's: answer and text buffer.
 abbrev pub PrintHosted : (frame before after : List ℕ) → ℤ → Type 0
 PrintHosted frame before after r = (r ≡ hosted (print frame before .answer)) × (after ≡ print frame before .buffer)
+
+-- ---- a call that leaves the table to be filled
+
+-- What is left to do: records that stand in these bytes, which the table has room for, and which fill it. (Ours.)
+pub record Left (s : List ℕ) (root count : ℕ) (table filled : List NodeRecord) : Type 0 where
+  pub records : List NodeRecord
+  pub standing : Records s root count records
+  pub room : count ≤ length table
+  pub done : filled ≡ records ++ drop count table
+
+-- The load is the definition's with every table of so many records, but that the table is left to be filled. (Ours.)
+abbrev pub LoadLeft : (frame before : List ℕ) (held : ℕ) (after : List ℕ) → Loaded → Type 0
+LoadLeft frame before held after r =
+    (n : ℕ) (table : List NodeRecord) → length table ≡ held
+    → (r .answer ≡ hosted (load frame n before table .answer)) × (after ≡ load frame n before table .buffer)
+    × Left frame (r .root) (r .count) table (load frame n before table .table)
+
+-- The merge likewise; the records stand in the new plan. (Ours.)
+abbrev pub MergeLeft : (frame : List ℕ) (n : ℕ) (before scratch : List ℕ) (held : ℕ) (after scratched : List ℕ) → Loaded → Type 0
+MergeLeft frame n before scratch held after scratched r =
+    (table : List NodeRecord) → length table ≡ held
+    → (r .answer ≡ hosted (merge frame n before scratch table .answer)) × (after ≡ merge frame n before scratch table .buffer)
+    × (scratched ≡ merge frame n before scratch table .scratch)
+    × Left after (r .root) (r .count) table (merge frame n before scratch table .table)

@@ -1,29 +1,36 @@
 // What C and Rust hosts call; include/spatialjoin.h declares it. Each answer is a number of 64 bits; the buffers are as the
 // definitions' calls leave them.
+pub mod cores;
+
 use call_exchange::exchange;
 use call_extract::extract;
-use call_load::load;
 use call_logical::Names;
 use call_logical::logical;
-use call_merge::merge;
 use call_print::print;
+use cores::load_core;
+use cores::merge_core;
 use host_answers::answer_number;
 use host_answers::minus_refusal;
+use node_table::NodeRecord;
+use node_table::fill_table;
 use query_side::knn_query_side::query_side_number;
 ghost use mathlib.Core.Path.{_≡_};
 ghost use Rattle.definitions.specs.Calls as definitions;
 ghost use Rattle.definitions.specs.Hosts.{hostedNames};
 ghost use Rattle.definitions.specs.Logical as logicals;
+ghost use Rattle.definitions.specs.Merge as merges;
+ghost use Rattle.node_table.specs.Records.{nodesOf};
 ghost use Rattle.spatialjoin_c.specs.Hosted.{LoadHosted, CallHosted, MergeHosted, PrintHosted};
 
-// Loads a frame as the new plan; reads nothing of the old one.
+// Loads a frame as the new plan and fills the table with its nodes; reads nothing of what both held.
 #[no_mangle]
-pub extern "C" fn spatialjoin_load(frame: &[u8], plan: &mut [u8]) -> i64
-    ensures { λ r. ⌜ LoadHosted (now (frame .entry)) (now (plan .entry)) (now (plan .exit)) r ⌝ }
+pub extern "C" fn spatialjoin_load(frame: &[u8], plan: &mut [u8], table: &mut [NodeRecord]) -> i64
+    ensures { λ r. ⌜ LoadHosted (now (frame .entry)) (now (plan .entry)) (nodesOf (now (table .entry))) (now (plan .exit))
+        (nodesOf (now (table .exit))) r ⌝ }
 {
-    let loaded = load(plan, frame, 1024);
-    let answer = loaded.answer;
-    answer_number(answer)
+    let loaded = load_core(frame, plan, table.len());
+    fill_table(table, frame, loaded.root, loaded.count);
+    loaded.answer
 }
 
 // Pulls the predicate out of the plan in the first n bytes.
@@ -69,18 +76,19 @@ pub extern "C" fn spatialjoin_print(frame: &[u8], text: &mut [u8]) -> i64
     answer_number(printed)
 }
 
-// Joins a frame's filter to that of the plan in the first n bytes.
+// Joins a frame's filter to that of the plan in the first n bytes, and fills the table with the new plan's nodes.
 #[no_mangle]
 pub extern "C" fn spatialjoin_merge(
     frame: &[u8],
     plan: &mut [u8],
     n: usize,
     scratch: &mut [u8],
+    table: &mut [NodeRecord],
 ) -> i64
-    ensures { λ r. ⌜ MergeHosted (now (frame .entry)) n (now (plan .entry)) (now (scratch .entry)) (now (plan .exit))
-        (now (scratch .exit)) r ⌝ }
+    ensures { λ r. ⌜ MergeHosted (merges.merge (now (frame .entry)) n (now (plan .entry)) (now (scratch .entry))
+        (nodesOf (now (table .entry)))) (now (plan .exit)) (now (scratch .exit)) (nodesOf (now (table .exit))) r ⌝ }
 {
-    let merged = merge(plan, n, scratch, frame, 1024);
-    let joined = merged.answer;
-    answer_number(joined)
+    let merged = merge_core(frame, plan, n, scratch, table.len());
+    fill_table(table, plan, merged.root, merged.count);
+    merged.answer
 }

@@ -1,0 +1,45 @@
+-- What a call says before the table is filled, and what the filled table is then, make the definition's outcome.
+use mathlib.Core.Path.{_≡_, sym, _∙_}
+use Prim.Native.Nat.{ℕ, _≤_}
+use native.Mathlib.Omega.{arith}
+use mathlib.Core.List.{List}
+use lib.ListN.{length, length-map}
+use Rattle.definitions.specs.NodeTable as nodes
+use Rattle.node_table.specs.Records.{nodeOf, nodesOf, FilledIs}
+use Rattle.node_table.specs.declared.NodeRecord.{NodeRecord}
+use Rattle.definitions.specs.Merge.{merge}
+use Rattle.node_rows.specs.Rows.{Filling}
+use Rattle.spatialjoin_c.specs.Hosted.{Left, LoadLeft, LoadHosted, MergeLeft, MergeHosted}
+use Rattle.spatialjoin_c.specs.declared.cores.Loaded.{Loaded}
+
+-- the records that are left to put stand there, and the table has room for them
+pub left-asks : (s : List ℕ) (root count : ℕ) (table : List NodeRecord) (filled : List nodes.NodeRecord)
+    → Left s root count (nodesOf table) filled → (count ≤ length table) × Filling s root count
+left-asks s root count table filled l = (omega (arith, l .room, length-map table nodeOf), (l .records, l .standing))
+
+left-done : (s : List ℕ) (root count : ℕ) (table filled put : List nodes.NodeRecord)
+    → Left s root count table filled → FilledIs s root count table put → put ≡ filled
+left-done s root count table filled put l is = is (l .records) (l .standing) ∙ sym (l .done)
+
+module _ (table put : List NodeRecord) (r : Loaded) where
+  pub load-asks : (frame plan after : List ℕ) → LoadLeft frame plan (length table) after r
+      → (r .count ≤ length table) × Filling frame (r .root) (r .count)
+  load-asks frame plan after is = left-asks frame (r .root) (r .count) table _ (is 0 (nodesOf table) (length-map table nodeOf) .2)
+
+  pub load-is : (frame plan after : List ℕ) → LoadLeft frame plan (length table) after r
+      → FilledIs frame (r .root) (r .count) (nodesOf table) (nodesOf put)
+      → LoadHosted frame plan (nodesOf table) after (nodesOf put) (r .answer)
+  load-is frame plan after is filled n =
+      let so = is n (nodesOf table) (length-map table nodeOf) in
+      (so .0, so .1, left-done frame (r .root) (r .count) (nodesOf table) _ (nodesOf put) (so .2) filled)
+
+  module _ (frame : List ℕ) (n : ℕ) (plan scratch after scratched : List ℕ)
+      (is : MergeLeft frame n plan scratch (length table) after scratched r) where
+    pub merge-asks : (r .count ≤ length table) × Filling after (r .root) (r .count)
+    merge-asks = left-asks after (r .root) (r .count) table _ (is (nodesOf table) (length-map table nodeOf) .3)
+
+    pub merge-is : FilledIs after (r .root) (r .count) (nodesOf table) (nodesOf put)
+        → MergeHosted (merge frame n plan scratch (nodesOf table)) after scratched (nodesOf put) (r .answer)
+    merge-is filled =
+        let so = is (nodesOf table) (length-map table nodeOf) in
+        (so .0, so .1, so .2, left-done after (r .root) (r .count) (nodesOf table) _ (nodesOf put) (so .3) filled)

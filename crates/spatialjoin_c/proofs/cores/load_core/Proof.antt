@@ -1,0 +1,21 @@
+-- Right because it is the load with its answer as one number.
+use borrow.Author.Needs.{needs}
+use Rattle.reading.proofs.Standing.{all-bytes}
+use Rattle.host_answers.proofs.Numbers.{given-back}
+use Rattle.spatialjoin_c.proofs.Hosting.{load-short, load-left}
+use Rattle.spatialjoin_c.proofs.cores.load_core.Statement.{statement}
+use Rattle.spatialjoin_c.proofs.cores.load_core.Tie as tie
+
+answer-number-requires : tie.Need-answer-number-requires
+answer-number-requires c κs =
+    let call = c .before .before .load in
+    let known = c .before .before .before .before .before in
+    load-short _ _ _ _ (call .result) (call .ensures) (all-bytes (known .before .args .frame .now) (known .shared-slice-known .given))
+
+returns : tie.Need-returns
+returns c =
+    let call = c .before .before .before .load in
+    load-left _ _ _ _ (call .result) (call .ensures) _ (given-back _ _ (c .answer-number .ok) (c .answer-number .ensures))
+
+pub load-core-spec : {M : Type 1} → statement M
+load-core-spec = tie.close (tie.spec (λ c κs. search needs) answer-number-requires (λ c. search needs) returns)
