@@ -33,11 +33,15 @@ module _ (c : tie.After-known-told) where
   abbrev numbers : List ℕ
   numbers = c .before .before .before .before .before .before .before .before .args .numbers .now
 
+  -- What is known of both.
+  abbrev Told : (d : Columns) (l r : Expr) → Type 0
+  Told d l r =
+      let start = c .before .before .before .before .before .before .before .before in
+      let found = c .before .measured .given .0 in
+      SidesOf (Indexed d s numbers (start .args .next .now)) (found .0) (found .1 .0) (comparison (start .args .operator) l r)
+
   sides : (d : Columns) (l r : Expr) → Row d s (startAt numbers
-      (c .before .before .before .before .before .before .before .before .args .i)) 2 (cons l (cons r nil))
-      → SidesOf (Indexed d s numbers (c .before .before .before .before .before .before .before .before .args .next .now))
-      (c .before .measured .given .0 .0) (c .before .measured .given .0 .1 .0)
-      (comparison (c .before .before .before .before .before .before .before .before .args .operator) l r)
+      (c .before .before .before .before .before .before .before .before .args .i)) 2 (cons l (cons r nil)) → Told d l r
   sides d l r row =
       let start = c .before .before .before .before .before .before .before .before in
       let pair = index-pair row (start .pre .1 d l r row) _ refl in
@@ -45,11 +49,7 @@ module _ (c : tie.After-known-told) where
       (c .before .measured .given .1) (c .before .before .before .comparison .ensures)
 
   -- Those of the expressions that are required.
-  own : let pair = c .before .before .before .before .before .before .before .before .pre .0 in
-      SidesOf (Indexed (pair .0) s numbers (c .before .before .before .before .before .before .before .before .args .next .now))
-      (c .before .measured .given .0 .0)
-      (c .before .measured .given .0 .1 .0) (comparison
-      (c .before .before .before .before .before .before .before .before .args .operator) (pair .1) (pair .2))
+  own : let pair = c .before .before .before .before .before .before .before .before .pre .0 in Told (pair .0) (pair .1) (pair .2)
   own = let pair = c .before .before .before .before .before .before .before .before .pre .0 in
       sides (pair .0) (pair .1) (pair .2) (pair .3)
 

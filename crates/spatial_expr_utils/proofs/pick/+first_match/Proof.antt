@@ -51,51 +51,48 @@ pub +first-match-spec : {M : Type 1} → statement M
       ),
     ))
     (λ c. c .before .before .before .loop .inv .rest (c .leaf-match .result) (c .leaf-match .ensures))
-    (λ c. let start = c .before .before .before .before .before .before .before .before in
-    omega (arith, start .good, along-within (c .before .before .before .before .loop .inv) .0))
+    (λ c. let turn = c .before .before .before .before in
+    omega (arith, turn .before .before .before .before .good, along-within (turn .loop .inv) .0))
     (λ c κs.
     let turn = c .before .before .before .before in
     let is = c .before .before .before .node-at .ensures in
     let told = c .before .node .given .1 in
-    let left = left-there (turn .loop .inv) is told (c .before .before .before .before .before .before .before .before .pre .0) in
+    let left = left-there (turn .loop .inv) is told (turn .before .before .before .before .pre .0) in
     (left .0, (left .1 .0, (along-tabled (turn .loop .inv) is told, left .1 .1))))
     (λ c. search needs)
     (λ c.
-    let at-node = c .before .before .before .before .before in
-    along-left (c .before .before .before .before .before .before .before .before .loop .inv) (at-node .before .before .node-at .ensures)
-    (at-node .node .given .1)
+    let an-and = c .before .before .before .before .before in
+    along-left (an-and .before .before .before .loop .inv) (an-and .before .before .node-at .ensures) (an-and .node .given .1)
     (λ records u over. rw (c .before .pick .given .1) at (c .before .before .before .first-match .ensures records u over)))
     (λ c. search needs)
-    (λ c. let start = c .before .before .before .before .before .before .before .before .before .before .before .before in
-    omega (arith, start .good, along-within (c .before .before .before .before .before .before .before .before .loop .inv) .0))
-    (λ c κs. left-within (c .before .before .before .before .before .before .before .before .loop .inv)
-    (c .before .before .before .before .before .before .before .node-at .ensures)
-    (c .before .before .before .before .before .node .given .1) .0)
-    (λ c. let start = c .before .before .before .before .before .before .before .before .before .before .before .before .before in
-    omega (arith, start .good, along-within (c .before .before .before .before .before .before .before .before .before .loop .inv) .0))
+    (λ c. let turn = c .before .before .before .before .before .before .before .before in
+    omega (arith, turn .before .before .before .before .good, along-within (turn .loop .inv) .0))
+    (λ c κs.
+    let an-and = c .before .before .before .before .before in
+    left-within (an-and .before .before .before .loop .inv) (an-and .before .before .node-at .ensures) (an-and .node .given .1) .0)
+    (λ c. let turn = c .before .before .before .before .before .before .before .before .before in
+    omega (arith, turn .before .before .before .before .good, along-within (turn .loop .inv) .0))
     (λ c.
-    let start = c .before .before .before .before .before .before .before .before .before .before .before .before .before in
+    let an-and = c .before .before .before .before .before .before in
+    let turn = an-and .before .before .before in
     omega (
       arith,
-      start .good,
-      left-within (c .before .before .before .before .before .before .before .before .before .loop .inv)
-          (c .before .before .before .before .before .before .before .before .node-at .ensures)
-          (c .before .before .before .before .before .before .node .given .1) .1,
+      turn .before .before .before .before .good,
+      left-within (turn .loop .inv) (an-and .before .before .node-at .ensures) (an-and .node .given .1) .1,
     ))
-    (λ c. left-within (c .before .before .before .before .before .before .before .before .before .before .loop .inv)
-    (c .before .before .before .before .before .before .before .before .before .node-at .ensures)
-    (c .before .before .before .before .before .before .before .node .given .1) .1)
+    (λ c.
+    let an-and = c .before .before .before .before .before .before .before in
+    left-within (an-and .before .before .before .loop .inv) (an-and .before .before .node-at .ensures) (an-and .node .given .1) .1)
     (λ c. fits-16-64 (c .shared-slice-known4 .given _))
     (λ c.
-    let at-node = c .before .before .before .before .before .before .before in
-    along-less (c .before .before .before .before .before .before .before .before .before .before .loop .inv)
-    (at-node .before .before .node-at .ensures) (at-node .node .given .1)
-    (λ records u over. rw (c .before .before .before .counted .given .1) at
-    (c .before .before .before .before .before .first-match .ensures records u over)) (c .before .end-of .ensures))
+    let nothing = c .before .before .before in
+    let an-and = nothing .before .before .before .before in
+    along-less (an-and .before .before .before .loop .inv) (an-and .before .before .node-at .ensures) (an-and .node .given .1)
+    (λ records u over. rw (nothing .counted .given .1) at (nothing .before .before .first-match .ensures records u over))
+    (c .before .end-of .ensures))
     (λ c.
-    let at-node = c .before .before .before .before .before .before .before in
-    along-right (c .before .before .before .before .before .before .before .before .before .before .loop .inv)
-    (at-node .before .before .node-at .ensures) (at-node .node .given .1)
-    (λ records u over. rw (c .before .before .before .counted .given .1) at
-    (c .before .before .before .before .before .first-match .ensures records u over)) (c .before .end-of .ensures)
-    _ refl)
+    let nothing = c .before .before .before in
+    let an-and = nothing .before .before .before .before in
+    along-right (an-and .before .before .before .loop .inv) (an-and .before .before .node-at .ensures) (an-and .node .given .1)
+    (λ records u over. rw (nothing .counted .given .1) at (nothing .before .before .first-match .ensures records u over))
+    (c .before .end-of .ensures) _ refl)
