@@ -71,10 +71,7 @@ fn extract_lent(
     ensures { λ r. ⌜ ByTable (RowOf (now (row .entry)) places) n (now (plan .entry)) (now (scratch .entry)) (now (plan .exit))
         (now (scratch .exit)) r ⌝ }
 {
-    if places < f.nodes {
-        return Answer::Refused(Refusal::NoGoodPlan);
-    }
-    if row.len() < f.nodes {
+    if places < f.nodes || row.len() < f.nodes {
         return Answer::Refused(Refusal::NoGoodPlan);
     }
     if f.nodes <= 32 {
