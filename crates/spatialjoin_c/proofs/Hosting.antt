@@ -7,16 +7,14 @@ use mathlib.Core.List.{List, [], _++_}
 use lib.IntN.{ℤ}
 use lib.ListN.{length, drop, replicate, length-replicate}
 use Rattle.definitions.specs.NodeTable.{NodeRecord, blank}
-use Rattle.definitions.specs.Calls.{LoadOutcome, load, Outcome, extractFilled, exchange}
+use Rattle.definitions.specs.Calls.{LoadOutcome, load, Outcome, extract, exchange}
 use Rattle.definitions.specs.Hosts.{hosted}
-use Rattle.definitions.specs.Machine.{exchangeCall}
+use Rattle.definitions.specs.Machine.{extractCall, exchangeCall}
 use Rattle.definitions.specs.Sessions.{makeBy, accepted}
 use Rattle.definitions.specs.Printed.{printed, PrintOutcome}
 use Rattle.definitions.specs.Merge.{MergeOutcome, merge}
 use Rattle.definitions.specs.Good.{AllBytes}
 use Rattle.theorems.proofs.InverseFrame.{same-ok, frame-back}
-use Rattle.theorems.proofs.MatchLaws.{match-laws}
-use Rattle.theorems.proofs.Lengths.{filled-short}
 use Rattle.theorems.proofs.Proved.{lengths-short, text-is-short, print-given, merge-writes}
 use Rattle.join_filter.specs.Outcomes.{answerOf, nAfter, LoadIs, OutcomeIs, MergeIs, PrintIs}
 use Rattle.join_filter.specs.declared.answers.Loaded.{Loaded}
@@ -65,11 +63,12 @@ module _ (frame before after : List ℕ) (held : ℕ) (r : Loaded) (is : LoadedI
         },
       )
 
-pub extract-short : (n : ℕ) (before scratch after kept : List ℕ) (r : Answer)
-    → OutcomeIs (extractFilled n before scratch) n after kept r → AllBytes before → Short r
-extract-short n before scratch after kept (Length m) is bytes =
-    omega (arith, filled-short match-laws n before scratch m bytes (ap (λ (o : Outcome). o .answer) is))
-extract-short n before scratch after kept (Refused why) is bytes = tt
+pub extract-short : (n : ℕ) (before scratch after kept : List ℕ) (table : List NodeRecord) (r : Answer)
+    → OutcomeIs (extract n before scratch table) n after kept r → AllBytes before → Short r
+unfolding makeBy
+extract-short n before scratch after kept table (Length m) is bytes =
+    omega (arith, lengths-short .1 extractCall n before scratch table m bytes (ap (λ (o : Outcome). o .answer) is))
+extract-short n before scratch after kept table (Refused why) is bytes = tt
 
 pub exchange-short : (n : ℕ) (before scratch after kept : List ℕ) (r : Answer)
     → OutcomeIs (exchange n before scratch) n after kept r → AllBytes before → Short r

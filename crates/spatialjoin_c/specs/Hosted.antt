@@ -4,12 +4,13 @@ use mathlib.Core.Path.{_≡_}
 use mathlib.Core.List.{List, _++_}
 use lib.IntN.{ℤ}
 use lib.ListN.{length, drop}
-use Rattle.definitions.specs.Calls.{load, Outcome}
+use Rattle.definitions.specs.Calls.{load, extract, Outcome}
 use Rattle.definitions.specs.Merge.{MergeOutcome, merge}
 use Rattle.definitions.specs.NodeTable.{NodeRecord}
 use Rattle.definitions.specs.Hosts.{hosted}
 use Rattle.definitions.specs.Printed.{print}
 use Rattle.expression.specs.Filling.{Records}
+use Rattle.call_extract.specs.ExtractByTable.{RowOf}
 use Rattle.spatialjoin_c.specs.declared.cores.Loaded.{Loaded}
 
 -- The load is the definition's, whatever n the host had: answer, plan buffer and table.
@@ -54,3 +55,14 @@ MergeLeft frame n before scratch held after scratched r =
     → (r .answer ≡ hosted (merge frame n before scratch table .answer)) × (after ≡ merge frame n before scratch table .buffer)
     × (scratched ≡ merge frame n before scratch table .scratch)
     × Left after (r .root) (r .count) table (merge frame n before scratch table .table)
+
+-- ---- an extract from the numbers of the table's records
+
+-- The row has the first numbers of some table of so many records. (Ours.)
+abbrev pub Lent : (row : List ℕ) (held : ℕ) → Type 0
+Lent row held = (table : List NodeRecord) × RowOf row held table
+
+-- The extract is the definition's with every table of so many records whose first numbers are in the row. (Ours.)
+abbrev pub ExtractBy : (n : ℕ) (before scratch row : List ℕ) (held : ℕ) (after scratched : List ℕ) → ℤ → Type 0
+ExtractBy n before scratch row held after scratched r =
+    (table : List NodeRecord) → RowOf row held table → CallHosted (extract n before scratch table) after scratched r

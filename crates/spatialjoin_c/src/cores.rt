@@ -1,8 +1,11 @@
 // All of a call but the table, with the answer as a host gets it: what has no lent table needs no proof by hand.
+use call_extract::by_table::extract_by_table;
 use call_load::load;
 use call_merge::merge;
 use host_answers::answer_number;
-ghost use Rattle.spatialjoin_c.specs.Hosted.{LoadLeft, MergeLeft};
+ghost use mathlib.Core.Path.{_≡_};
+ghost use Prim.Native.Nat.{min};
+ghost use Rattle.spatialjoin_c.specs.Hosted.{LoadLeft, MergeLeft, Lent, ExtractBy};
 
 // The answer, and what the table is to be filled with: the nodes of the expression that begins at `root`, `count` of them, or none.
 pub struct Loaded {
@@ -44,4 +47,20 @@ pub fn merge_core(
         root,
         count,
     }
+}
+
+// How many of the table's records an extract takes: a frame has at most 1,024 nodes.
+pub fn taken_count(held: usize) -> usize
+    ensures { λ r. ⌜ r ≡ min held 1024 ⌝ }
+{
+    if held < 1024 { held } else { 1024 }
+}
+
+// `row` has the numbers of the first 1,024 of the table's `held` records, or of all.
+pub fn extract_core(plan: &mut [u8], n: usize, scratch: &mut [u8], row: &[u32], held: usize) -> i64
+    requires { ⌜ Lent (now row) held ⌝ }
+    ensures { λ r. ⌜ ExtractBy n (now (plan .entry)) (now (scratch .entry)) (now (row .entry)) held (now (plan .exit))
+        (now (scratch .exit)) r ⌝ }
+{
+    answer_number(extract_by_table(plan, n, scratch, row, held))
 }

@@ -3,16 +3,18 @@
 pub mod cores;
 
 use call_exchange::exchange;
-use call_extract::extract;
 use call_logical::Names;
 use call_logical::logical;
 use call_print::print;
+use cores::extract_core;
 use cores::load_core;
 use cores::merge_core;
+use cores::taken_count;
 use host_answers::answer_number;
 use host_answers::minus_refusal;
 use node_table::NodeRecord;
 use node_table::fill_table;
+use node_table::take_nodes;
 use query_side::knn_query_side::query_side_number;
 ghost use mathlib.Core.Path.{_≡_};
 ghost use Rattle.definitions.specs.Calls as definitions;
@@ -33,13 +35,21 @@ pub extern "C" fn spatialjoin_load(frame: &[u8], plan: &mut [u8], table: &mut [N
     loaded.answer
 }
 
-// Pulls the predicate out of the plan in the first n bytes.
+// Pulls the predicate out of the plan in the first n bytes, by the table of the nodes of the frame that is held.
 #[no_mangle]
-pub extern "C" fn spatialjoin_extract(plan: &mut [u8], n: usize, scratch: &mut [u8]) -> i64
-    ensures { λ r. ⌜ CallHosted (definitions.extractFilled n (now (plan .entry)) (now (scratch .entry))) (now (plan .exit))
-        (now (scratch .exit)) r ⌝ }
+pub extern "C" fn spatialjoin_extract(
+    plan: &mut [u8],
+    n: usize,
+    scratch: &mut [u8],
+    table: &[NodeRecord],
+) -> i64
+    ensures { λ r. ⌜ CallHosted (definitions.extract n (now (plan .entry)) (now (scratch .entry)) (nodesOf (now (table .entry))))
+        (now (plan .exit)) (now (scratch .exit)) r ⌝ }
 {
-    answer_number(extract(plan, n, scratch))
+    let count = taken_count(table.len());
+    let mut row = [0; 1024];
+    take_nodes(&mut row, table, count);
+    extract_core(plan, n, scratch, &row, table.len())
 }
 
 // Exchanges the join's children in the plan in the first n bytes.
