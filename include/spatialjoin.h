@@ -6,14 +6,20 @@
  * SPATIALJOIN_MOST_BYTES are enough for every frame, plan and scratch, SPATIALJOIN_MOST_TEXT for every text. docs/FRAMES.md of the
  * repository has their bytes.
  *
+ * TABLES. The host lends a table of node records too, of which SPATIALJOIN_MOST_NODES are always enough. An accepted load or merge
+ * fills its first records with the nodes of the new plan and keeps the others; a refused one keeps all. spatialjoin_extract takes it as
+ * the last of them left it. An exchange moves no node. Three bytes of a record belong to no field and are not written: compare records
+ * by their fields.
+ *
  * ANSWERS. An answer of at least 0 is a length (of spatialjoin_logical: see there). A negative one is a refusal: one of
  * enum spatialjoin_refusal.
  *
- * BUFFERS. Each pointer is to as many bytes as the length after it says, any alignment. No buffer of a call may overlap with another
- * of the same call: that is undefined behaviour, as `restrict` says. A buffer of length 0 may be NULL.
+ * BUFFERS. Each pointer is to as many bytes (of a table: records) as the length after it says, bytes with any alignment. No buffer of a
+ * call may overlap with another of the same call: that is undefined behaviour, as `restrict` says. A buffer of length 0 may be NULL.
  *
  * THREADS. The library has no state, allocates nothing and calls nothing but C's memory functions. Any number of threads may call
- * it at once, each with buffers that no other uses in the meantime. A frame, which is only read, may be lent to several calls at once.
+ * it at once, each with buffers that no other uses in the meantime. A frame, and the table of an extract, which are only read, may be
+ * lent to several calls at once.
  *
  * STACK. A call needs at most SPATIALJOIN_STACK_BYTES of stack, which is measured (hosts/c/stack.c) and not proved.
  *
@@ -25,9 +31,9 @@
 #include <stddef.h>
 #include <stdint.h>
 
-#define SPATIALJOIN_VERSION "0.5.0"
+#define SPATIALJOIN_VERSION "0.6.0"
 #define SPATIALJOIN_VERSION_MAJOR 0
-#define SPATIALJOIN_VERSION_MINOR 5
+#define SPATIALJOIN_VERSION_MINOR 6
 #define SPATIALJOIN_VERSION_PATCH 0
 
 /* The most bytes of a frame or plan. */
@@ -35,6 +41,9 @@
 
 /* The most bytes of a text that spatialjoin_print writes: no good frame has a longer one (theorem text-is-short). */
 #define SPATIALJOIN_MOST_TEXT 26620
+
+/* The most nodes of a frame or of both expressions that are merged: a table of so many records is never too short. */
+#define SPATIALJOIN_MOST_NODES 1024
 
 /* The most bytes of stack that a call needs. */
 #define SPATIALJOIN_STACK_BYTES 131072
@@ -62,13 +71,21 @@ enum spatialjoin_refusal {
     SPATIALJOIN_BYTES_AFTER = -7,        /* bytes after the frame's end */
     SPATIALJOIN_TOO_FEW_ARGUMENTS = -8,  /* a conjunct lacks arguments: see docs/FRAMES.md */
     SPATIALJOIN_TOO_SHORT = -9,          /* the plan buffer (load, merge) or the scratch is too short */
-    SPATIALJOIN_NO_GOOD_PLAN = -10,      /* n is over the buffer's length, or its first n bytes are no good plan */
+    SPATIALJOIN_NO_GOOD_PLAN = -10,      /* n is over the buffer's length, its first n bytes are no good plan, or not the table's */
     SPATIALJOIN_PLAN_EMPTY = -11,        /* n is 0 */
     SPATIALJOIN_ALREADY_EXTRACTED = -12, /* the plan is an extraction already */
     SPATIALJOIN_NO_MATCH = -13,          /* no conjunct matches: the join stays filtered */
     SPATIALJOIN_TEXT_TOO_SHORT = -15,    /* the text buffer is shorter than the text; -14 is no call's, but of the program's lines */
-    SPATIALJOIN_MERGED_TOO_LARGE = -16   /* merged, over SPATIALJOIN_MOST_BYTES, 1,024 nodes, 64 levels or 256 records */
+    SPATIALJOIN_MERGED_TOO_LARGE = -16,  /* merged, over SPATIALJOIN_MOST_BYTES, 1,024 nodes, 64 levels or 256 records */
+    SPATIALJOIN_TABLE_TOO_SHORT = -17    /* the table has fewer records than the new plan has nodes (load, merge) */
 };
+
+/* A node of a frame. */
+typedef struct spatialjoin_node {
+    uint8_t kind;   /* its kind byte, 0 to 4 */
+    uint32_t start; /* where it starts, the frame's first byte being 0 */
+    uint32_t end;   /* where it ends: one past the whole node */
+} spatialjoin_node;
 
 /* The first byte of a plan. */
 enum spatialjoin_plan {
@@ -113,15 +130,18 @@ enum spatialjoin_side {
 #define SPATIALJOIN_NAMES_OF(answer) ((unsigned)((answer) / 256 % 256))
 #define SPATIALJOIN_SIDE_OF(answer) ((unsigned)((answer) % 256))
 
-/* Loads a physical frame as the new plan: its length, or -1, -2, the first of -3 to -6 from left to right, -7, -8, -9 in this order.
- * What was held before plays no part. */
+/* Loads a physical frame as the new plan: its length, or -1, -2, the first of -3 to -6 from left to right, -7, -8, -9, -17 in this
+ * order. What was held before plays no part. The table's first records become those of the frame's nodes, in the order in which they
+ * stand in the frame. */
 int64_t spatialjoin_load(const uint8_t *SPATIALJOIN_RESTRICT frame, size_t frame_len,
-                         uint8_t *SPATIALJOIN_RESTRICT plan, size_t plan_len);
+                         uint8_t *SPATIALJOIN_RESTRICT plan, size_t plan_len,
+                         spatialjoin_node *SPATIALJOIN_RESTRICT table, size_t table_len);
 
-/* Pulls the spatial predicate out of the held filter: the new plan's length, or -10, -11, -12, -9, -13 in this order.
- * The old plan is copied to the scratch's first n bytes. */
+/* Pulls the spatial predicate out of the held filter: the new plan's length, or -10, -11, -12, -9, -13 in this order. -10 also where a
+ * frame is held and the table does not begin with its nodes. The old plan is copied to the scratch's first n bytes. */
 int64_t spatialjoin_extract(uint8_t *SPATIALJOIN_RESTRICT plan, size_t plan_len, size_t n,
-                            uint8_t *SPATIALJOIN_RESTRICT scratch, size_t scratch_len);
+                            uint8_t *SPATIALJOIN_RESTRICT scratch, size_t scratch_len,
+                            const spatialjoin_node *SPATIALJOIN_RESTRICT table, size_t table_len);
 
 /* Exchanges the join's children in the held plan: the new plan's length, or -10, -11, -9 in this order.
  * The old plan is copied to the scratch's first n bytes. */
@@ -141,12 +161,13 @@ int64_t spatialjoin_print(const uint8_t *SPATIALJOIN_RESTRICT frame, size_t fram
 
 /* Joins a physical frame's filter, a row policy for one, to the held filter by And, the held one on the left: the new plan's length,
  * n + frame_len - 1, or of the frame -1, -2, the first of -3 to -6 from left to right, -7, -8, then of the held plan -10, -11, -12,
- * then -16, -9 in this order. The held plan must be a frame, exchanged or not. Its records come first, then the frame's, equal ones
+ * then -16, -9, -17 in this order. The held plan must be a frame, exchanged or not. Its records come first, then the frame's, equal ones
  * too; the columns of the frame's filter are renumbered to stay with theirs. -9 is for either buffer. The old plan is copied to the
- * scratch's first n bytes. */
+ * scratch's first n bytes. The table is filled with the nodes of the new plan, whatever it held. */
 int64_t spatialjoin_merge(const uint8_t *SPATIALJOIN_RESTRICT frame, size_t frame_len,
                           uint8_t *SPATIALJOIN_RESTRICT plan, size_t plan_len, size_t n,
-                          uint8_t *SPATIALJOIN_RESTRICT scratch, size_t scratch_len);
+                          uint8_t *SPATIALJOIN_RESTRICT scratch, size_t scratch_len,
+                          spatialjoin_node *SPATIALJOIN_RESTRICT table, size_t table_len);
 
 #ifdef __cplusplus
 }

@@ -1,10 +1,10 @@
 //! Before anything is timed: ours, the original and the reading give the same bytes, and plain Rust
 //! where it is timed. Of print and merge, which the original has not, all but the original.
 
-use reading::frame::{MAX_BYTES, Plan};
+use reading::frame::{MAX_BYTES, MAX_NODES, Plan};
 use reading::refusal::Refusal;
-use reading::{calls, decode, encode};
-use spatialjoin::MOST_TEXT;
+use reading::{calls, decode, encode, nodes};
+use spatialjoin::{MOST_TEXT, Node};
 
 use crate::operations::{
     Logical, Merges, Physical, exchange_extraction_bytes, exchange_frame_bytes, extract_from_bytes,
@@ -37,10 +37,11 @@ fn same(what: &str, ours: &[u8], original: &[u8], reading: &[u8]) -> Result<(), 
 /// What the reading holds after a list of calls.
 fn read(frame: &[u8], list: &[&str]) -> Vec<u8> {
     let (mut n, mut plan, mut scratch) = (0, vec![0; MAX_BYTES], vec![0; MAX_BYTES]);
-    calls::load(frame, &mut n, &mut plan).expect("the frames are good");
+    let mut table = vec![nodes::Node::default(); MAX_NODES];
+    calls::load(frame, &mut n, &mut plan, &mut table).expect("the frames are good");
     for call in list {
         let answer = match *call {
-            "extract" => calls::extract(&mut n, &mut plan, &mut scratch),
+            "extract" => calls::extract(&mut n, &mut plan, &mut scratch, &table),
             _ => calls::exchange(&mut n, &mut plan, &mut scratch),
         };
         answer.expect("the frames have a match");
@@ -56,6 +57,9 @@ pub fn physical(physical: &Physical) -> Result<(), String> {
         let mut out = Vec::new();
         let mut ours = Ours::new();
         ours.load(frame);
+        if !ours.table().starts_with(&of_reading(&nodes_of(frame))) {
+            return Err(format!("{name}: our table differs from the reading's"));
+        }
         ours.extract_and_return();
         same(name, ours.plan(), frame, &read(frame, &[]))?;
         ours.exchange();
@@ -86,38 +90,59 @@ pub fn plain(physical: &Physical) -> Result<(), String> {
     Ok(())
 }
 
-/// A load by plain Rust and by the reading, into the same buffer: both leave the same.
-fn loaded_alike(frame: &[u8], room: usize) -> bool {
-    let mut plain = vec![0; room];
-    let mut read = plain.clone();
-    let answer = plain::load(frame, &mut plain);
-    let expected = calls::load(frame, &mut 0, &mut read);
-    answer == expected.map_err(Refusal::number) && plain == read
+/// A load by plain Rust and by the reading, into the same buffer and table: both leave the same.
+fn loaded_alike(frame: &[u8], room: usize, records: usize) -> bool {
+    let mut plain = (vec![0; room], vec![Node::default(); records]);
+    let mut read = (vec![0; room], vec![nodes::Node::default(); records]);
+    let answer = plain::load(frame, &mut plain.0, &mut plain.1);
+    let expected = calls::load(frame, &mut 0, &mut read.0, &mut read.1);
+    answer == expected.map_err(Refusal::number) && plain == (read.0, of_reading(&read.1))
 }
 
 /// Accepted, and refused by the frame or the room.
 fn plain_load(frame: &[u8]) -> bool {
-    let n = frame.len();
+    let (n, count) = (frame.len(), nodes_of(frame).len());
     [
-        loaded_alike(frame, MAX_BYTES),
-        loaded_alike(frame, n),
-        loaded_alike(frame, n - 1),
-        loaded_alike(&frame[..n - 1], n),
-        loaded_alike(&lent(frame, n + 1), n),
-        loaded_alike(&frame[1..], n),
-        loaded_alike(&[], n),
+        loaded_alike(frame, MAX_BYTES, MAX_NODES),
+        loaded_alike(frame, n, count),
+        loaded_alike(frame, n, count - 1),
+        loaded_alike(frame, n - 1, count - 1),
+        loaded_alike(&frame[..n - 1], n, count),
+        loaded_alike(&lent(frame, n + 1), n, count),
+        loaded_alike(&frame[1..], n, count),
+        loaded_alike(&[], n, count),
     ]
     .into_iter()
     .all(|alike| alike)
 }
 
-/// Likewise an extract, whose buffers are two.
+/// The nodes of a frame; none of other bytes.
+pub fn nodes_of(frame: &[u8]) -> Vec<nodes::Node> {
+    decode::physical(frame).map_or(Vec::new(), |frame| nodes::table(&frame))
+}
+
+/// The reading's records as the library's.
+pub fn of_reading(table: &[nodes::Node]) -> Vec<Node> {
+    let record = |node: &nodes::Node| Node {
+        kind: node.kind,
+        start: node.start,
+        end: node.end,
+    };
+    table.iter().map(record).collect()
+}
+
+/// Likewise an extract, whose buffers are two, with the plan's own table and with one that lacks a
+/// record.
 fn extracted_alike(plan: &[u8], n: usize, scratch: usize) -> bool {
-    let mut plain = (plan.to_vec(), vec![0; scratch]);
-    let mut read = plain.clone();
-    let answer = plain::extract(&mut plain.0, n, &mut plain.1);
-    let expected = calls::extract(&mut { n }, &mut read.0, &mut read.1);
-    answer == expected.map_err(Refusal::number) && plain == read
+    let table = nodes_of(plan.get(..n).unwrap_or_default());
+    let short = table.len().saturating_sub(1);
+    [&table[..], &table[..short]].into_iter().all(|table| {
+        let mut plain = (plan.to_vec(), vec![0; scratch]);
+        let mut read = plain.clone();
+        let answer = plain::extract(&mut plain.0, n, &mut plain.1, &of_reading(table));
+        let expected = calls::extract(&mut { n }, &mut read.0, &mut read.1, table);
+        answer == expected.map_err(Refusal::number) && plain == read
+    })
 }
 
 /// Accepted, and refused by the plan or the room, or since no conjunct of the remainder matches.
@@ -169,13 +194,24 @@ pub fn print(physical: &Physical) -> Result<(), String> {
     Ok(())
 }
 
-/// A merge by plain Rust and by the reading, on the same buffers: both leave the same.
+/// A merge by plain Rust and by the reading, on the same buffers and tables, one of which lacks a
+/// record: both leave the same.
 fn merged_alike(frame: &[u8], plan: &[u8], n: usize, scratch: usize) -> bool {
-    let mut plain = (plan.to_vec(), vec![0; scratch]);
-    let mut read = plain.clone();
-    let answer = plain::merge(frame, &mut plain.0, n, &mut plain.1);
-    let expected = calls::merge(frame, &mut { n }, &mut read.0, &mut read.1);
-    answer == expected.map_err(Refusal::number) && plain == read
+    let held = nodes_of(plan.get(..n).unwrap_or_default());
+    let count = held.len() + nodes_of(frame).len();
+    [count, count + 1, MAX_NODES].into_iter().all(|records| {
+        let mut plain = (
+            plan.to_vec(),
+            vec![0; scratch],
+            vec![Node::default(); records],
+        );
+        let mut read = (plan.to_vec(), vec![0; scratch]);
+        let mut table = vec![nodes::Node::default(); records];
+        let answer = plain::merge(frame, &mut plain.0, n, &mut plain.1, &mut plain.2);
+        let expected = calls::merge(frame, &mut { n }, &mut read.0, &mut read.1, &mut table);
+        let read = (read.0, read.1, of_reading(&table));
+        answer == expected.map_err(Refusal::number) && plain == read
+    })
 }
 
 /// Accepted, and refused by the frame, the plan or the room.
@@ -212,7 +248,8 @@ pub fn merge(merges: &Merges) -> Result<(), String> {
         let mut ours = Ours::new();
         ours.load(held);
         ours.merge(new);
-        if ours.plan() != read_merged(held, new) {
+        let merged = read_merged(held, new);
+        if ours.plan() != merged || !ours.table().starts_with(&of_reading(&nodes_of(&merged))) {
             return Err(format!("{name}: ours differs from the reading"));
         }
         ours.load(held);
@@ -226,8 +263,10 @@ pub fn merge(merges: &Merges) -> Result<(), String> {
 
 fn read_merged(held: &[u8], new: &[u8]) -> Vec<u8> {
     let (mut n, mut plan, mut scratch) = (0, vec![0; MAX_BYTES], vec![0; MAX_BYTES]);
-    calls::load(held, &mut n, &mut plan).expect("the frames are good");
-    calls::merge(new, &mut n, &mut plan, &mut scratch).expect("the frames are within the limits");
+    let mut table = vec![nodes::Node::default(); MAX_NODES];
+    calls::load(held, &mut n, &mut plan, &mut table).expect("the frames are good");
+    calls::merge(new, &mut n, &mut plan, &mut scratch, &mut table)
+        .expect("the frames are within the limits");
     plan.truncate(n);
     plan
 }

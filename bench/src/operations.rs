@@ -9,7 +9,7 @@ use driver::original::{Extracted, exchange_filter, names_and_side};
 use reading::frame::MAX_BYTES;
 use reading::merge::merged;
 use reading::{decode, encode};
-use spatialjoin::MOST_TEXT;
+use spatialjoin::{MOST_NODES, MOST_TEXT, Node};
 
 use crate::frames::{Group, Pairs};
 use crate::measure::{Contender, Task, Work, Works};
@@ -40,12 +40,49 @@ fn copy(frames: &[Vec<u8>]) -> Work<'_> {
     })
 }
 
-/// Buffers of plain Rust that hold each frame: n, plan and scratch.
-fn plans(frames: &[Vec<u8>]) -> Vec<(usize, Vec<u8>, Vec<u8>)> {
+/// Buffers of plain Rust that hold a frame, and its table.
+struct Plain {
+    n: usize,
+    plan: Vec<u8>,
+    scratch: Vec<u8>,
+    table: Vec<Node>,
+}
+
+impl Plain {
+    fn new() -> Self {
+        Plain {
+            n: 0,
+            plan: vec![0; MAX_BYTES],
+            scratch: vec![0; MAX_BYTES],
+            table: vec![Node::default(); MOST_NODES],
+        }
+    }
+
+    fn load(&mut self, frame: &[u8]) {
+        self.n = plain::load(frame, &mut self.plan, &mut self.table).unwrap_or(0);
+    }
+
+    fn extract(&mut self) {
+        let (plan, scratch) = (&mut self.plan, &mut self.scratch);
+        let _ = black_box(plain::extract(plan, self.n, scratch, &self.table));
+    }
+
+    fn merge(&mut self, frame: &[u8]) {
+        let (plan, scratch) = (&mut self.plan, &mut self.scratch);
+        let _ = black_box(plain::merge(frame, plan, self.n, scratch, &mut self.table));
+    }
+
+    /// The old plan is in the scratch: it is held again.
+    fn go_back(&mut self) {
+        std::mem::swap(&mut self.plan, &mut self.scratch);
+    }
+}
+
+fn plans(frames: &[Vec<u8>]) -> Vec<Plain> {
     let held = |frame: &Vec<u8>| {
-        let mut plan = frame.clone();
-        plan.resize(MAX_BYTES, 0);
-        (frame.len(), plan, vec![0; MAX_BYTES])
+        let mut held = Plain::new();
+        held.load(frame);
+        held
     };
     frames.iter().map(held).collect()
 }
@@ -121,10 +158,10 @@ impl Physical {
                 &self.functions,
             ));
         });
-        let mut plan = vec![0; MAX_BYTES];
+        let mut held = Plain::new();
         let plain = self.each(move |i| {
-            let _ = black_box(plain::load(black_box(&frames[i]), &mut plan));
-            black_box(&mut plan);
+            held.load(black_box(&frames[i]));
+            black_box(&mut held);
         });
         let works = vec![
             (Contender::Ours, ours),
@@ -166,11 +203,11 @@ impl Physical {
             ours.load(black_box(&frames[i]));
             ours.extract();
         });
-        let (mut plan, mut scratch) = (vec![0; MAX_BYTES], vec![0; MAX_BYTES]);
+        let mut held = Plain::new();
         let plain = self.each(move |i| {
-            let n = plain::load(black_box(&frames[i]), &mut plan).unwrap_or(0);
-            let _ = black_box(plain::extract(black_box(&mut plan), n, &mut scratch));
-            black_box((&mut plan, &mut scratch));
+            held.load(black_box(&frames[i]));
+            black_box(&mut held).extract();
+            black_box(&mut held);
         });
         self.against_extraction(ours, plain)
     }
@@ -180,9 +217,8 @@ impl Physical {
         let ours = self.each(move |i| held[i].extract_and_return());
         let mut held = plans(&self.group.frames);
         let plain = self.each(move |i| {
-            let (n, plan, scratch) = &mut held[i];
-            let _ = black_box(plain::extract(plan, *n, scratch));
-            std::mem::swap(plan, scratch);
+            held[i].extract();
+            held[i].go_back();
             black_box(&mut held);
         });
         self.against_extraction(ours, plain)
@@ -298,9 +334,8 @@ impl Merges {
         });
         let mut held = plans(&self.pairs.held);
         let plain = in_turn(frames.len(), move |i| {
-            let (n, plan, scratch) = &mut held[i];
-            let _ = black_box(plain::merge(black_box(&frames[i]), plan, *n, scratch));
-            std::mem::swap(plan, scratch);
+            held[i].merge(black_box(&frames[i]));
+            held[i].go_back();
             black_box(&mut held);
         });
         let mut loading = Ours::new();

@@ -1,12 +1,13 @@
 //! The library on buffers of a host.
 
 use reading::frame::MAX_BYTES;
-use spatialjoin::{MOST_TEXT, numbers};
+use spatialjoin::{MOST_NODES, MOST_TEXT, Node, numbers};
 
-/// Both buffers as long as the longest frame; they are never cleared.
+/// Both buffers as long as the longest frame, and the table too; they are never cleared.
 pub struct Ours {
     plan: Vec<u8>,
     scratch: Vec<u8>,
+    table: Vec<Node>,
     n: usize,
 }
 
@@ -15,35 +16,40 @@ impl Ours {
         Ours {
             plan: vec![0; MAX_BYTES],
             scratch: vec![0; MAX_BYTES],
+            table: vec![Node::default(); MOST_NODES],
             n: 0,
         }
     }
 
     pub fn load(&mut self, frame: &[u8]) {
-        let answer = numbers::load(frame, &mut self.plan);
+        let answer = numbers::load(frame, &mut self.plan, &mut self.table);
         self.keep(answer);
     }
 
     pub fn extract(&mut self) {
-        let answer = numbers::extract(&mut self.plan, self.n, &mut self.scratch);
+        let (plan, scratch) = (&mut self.plan, &mut self.scratch);
+        let answer = numbers::extract(plan, self.n, scratch, &self.table);
         self.keep(answer);
     }
 
     /// Extracts, and holds the old plan again: the call left it in the scratch, so the buffers
     /// change places and nothing is copied.
     pub fn extract_and_return(&mut self) {
-        numbers::extract(&mut self.plan, self.n, &mut self.scratch);
+        let (plan, scratch) = (&mut self.plan, &mut self.scratch);
+        numbers::extract(plan, self.n, scratch, &self.table);
         std::mem::swap(&mut self.plan, &mut self.scratch);
     }
 
     pub fn merge(&mut self, frame: &[u8]) {
-        let answer = numbers::merge(frame, &mut self.plan, self.n, &mut self.scratch);
+        let (plan, scratch) = (&mut self.plan, &mut self.scratch);
+        let answer = numbers::merge(frame, plan, self.n, scratch, &mut self.table);
         self.keep(answer);
     }
 
     /// Likewise.
     pub fn merge_and_return(&mut self, frame: &[u8]) {
-        numbers::merge(frame, &mut self.plan, self.n, &mut self.scratch);
+        let (plan, scratch) = (&mut self.plan, &mut self.scratch);
+        numbers::merge(frame, plan, self.n, scratch, &mut self.table);
         std::mem::swap(&mut self.plan, &mut self.scratch);
     }
 
@@ -59,6 +65,10 @@ impl Ours {
 
     pub fn plan(&self) -> &[u8] {
         &self.plan[..self.n]
+    }
+
+    pub fn table(&self) -> &[Node] {
+        &self.table
     }
 }
 

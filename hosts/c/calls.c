@@ -1,5 +1,5 @@
-/* Tests of the library as a C host sees it: every refusal by its constant, the names of the mask, texts, merged filters, NULL with
- * length 0. Ends with 1 where a call answers otherwise. `../check` builds and runs it. */
+/* Tests of the library as a C host sees it: every refusal by its constant, the names of the mask, texts, merged filters, tables of
+ * nodes, NULL with length 0. Ends with 1 where a call answers otherwise. `../check` builds and runs it. */
 #include <stdio.h>
 #include <string.h>
 
@@ -16,6 +16,7 @@ static uint8_t plan[SPATIALJOIN_MOST_BYTES];
 static uint8_t scratch[SPATIALJOIN_MOST_BYTES];
 static uint8_t text[SPATIALJOIN_MOST_TEXT];
 static uint8_t frame[SPATIALJOIN_MOST_BYTES + 1];
+static spatialjoin_node table[SPATIALJOIN_MOST_NODES];
 static int tried, failed;
 
 static void expect(const char *what, int64_t answer, int64_t expected)
@@ -28,9 +29,11 @@ static void expect(const char *what, int64_t answer, int64_t expected)
 }
 
 /* The bytes of a text, its last 0 not among them. */
-#define LOAD(text) spatialjoin_load((const uint8_t *)(text), sizeof(text) - 1, plan, sizeof plan)
+#define NODES SPATIALJOIN_MOST_NODES
+#define LOAD(text) spatialjoin_load((const uint8_t *)(text), sizeof(text) - 1, plan, sizeof plan, table, NODES)
 #define LOGICAL(text) spatialjoin_logical((const uint8_t *)(text), sizeof(text) - 1)
-#define MERGE(bytes, room, n, kept) spatialjoin_merge((const uint8_t *)(bytes), sizeof(bytes) - 1, plan, room, n, scratch, kept)
+#define MERGE(bytes, room, n, kept) \
+    spatialjoin_merge((const uint8_t *)(bytes), sizeof(bytes) - 1, plan, room, n, scratch, kept, table, NODES)
 #define PRINT(bytes, room) spatialjoin_print((const uint8_t *)(bytes), sizeof(bytes) - 1, text, room)
 
 /* A frame of this many levels: functions of one argument, the last of none. */
@@ -52,37 +55,38 @@ static void refusals_of_frames(void)
 {
     expect("good", LOAD(GOOD), sizeof(GOOD) - 1);
     expect("no bytes", LOAD(""), SPATIALJOIN_FRAME_LENGTH);
-    expect("too many bytes", spatialjoin_load(frame, sizeof frame, plan, sizeof plan), SPATIALJOIN_FRAME_LENGTH);
+    expect("too many bytes", spatialjoin_load(frame, sizeof frame, plan, sizeof plan, table, NODES), SPATIALJOIN_FRAME_LENGTH);
     expect("first byte", LOAD("\x02\x04\x00\x00\x00"), SPATIALJOIN_FIRST_BYTE);
     expect("cut", LOAD("\x01\x00\x00\x04"), SPATIALJOIN_FRAME_ENDS);
     expect("kind 5", LOAD("\x01\x00\x00\x05"), SPATIALJOIN_OUT_OF_RANGE);
-    expect("64 levels", spatialjoin_load(frame, levels(64), plan, sizeof plan), 259);
-    expect("65 levels", spatialjoin_load(frame, levels(65), plan, sizeof plan), SPATIALJOIN_TOO_LARGE);
+    expect("64 levels", spatialjoin_load(frame, levels(64), plan, sizeof plan, table, NODES), 259);
+    expect("65 levels", spatialjoin_load(frame, levels(65), plan, sizeof plan, table, NODES), SPATIALJOIN_TOO_LARGE);
     expect("no column 0", LOAD("\x01\x00\x00" LEFT), SPATIALJOIN_NO_SUCH_COLUMN);
     expect("a byte more", LOAD(GOOD "\x00"), SPATIALJOIN_BYTES_AFTER);
     expect("st_within()", LOAD(RECORDS "\x03\x09" "st_within" "\x00"), SPATIALJOIN_TOO_FEW_ARGUMENTS);
-    expect("plan too short", spatialjoin_load((const uint8_t *)GOOD, sizeof(GOOD) - 1, plan, sizeof(GOOD) - 2), SPATIALJOIN_TOO_SHORT);
+    expect("plan too short", spatialjoin_load((const uint8_t *)GOOD, sizeof(GOOD) - 1, plan, sizeof(GOOD) - 2, table, NODES),
+           SPATIALJOIN_TOO_SHORT);
 }
 
 static void refusals_of_plans(void)
 {
     size_t n;
     int64_t extracted;
-    expect("extract, n past the end", spatialjoin_extract(plan, 8, 9, scratch, sizeof scratch), SPATIALJOIN_NO_GOOD_PLAN);
-    expect("extract, n = 0", spatialjoin_extract(plan, sizeof plan, 0, scratch, sizeof scratch), SPATIALJOIN_PLAN_EMPTY);
+    expect("extract, n past the end", spatialjoin_extract(plan, 8, 9, scratch, sizeof scratch, table, NODES), SPATIALJOIN_NO_GOOD_PLAN);
+    expect("extract, n = 0", spatialjoin_extract(plan, sizeof plan, 0, scratch, sizeof scratch, table, NODES), SPATIALJOIN_PLAN_EMPTY);
     expect("exchange, n = 0", spatialjoin_exchange(plan, sizeof plan, 0, scratch, sizeof scratch), SPATIALJOIN_PLAN_EMPTY);
 
     n = (size_t)LOAD(UNMATCHED);
-    expect("no match", spatialjoin_extract(plan, sizeof plan, n, scratch, sizeof scratch), SPATIALJOIN_NO_MATCH);
+    expect("no match", spatialjoin_extract(plan, sizeof plan, n, scratch, sizeof scratch, table, NODES), SPATIALJOIN_NO_MATCH);
     expect("still a frame", plan[0], SPATIALJOIN_FRAME);
 
     n = (size_t)LOAD(GOOD);
-    expect("extract, scratch too short", spatialjoin_extract(plan, sizeof plan, n, scratch, n - 1), SPATIALJOIN_TOO_SHORT);
+    expect("extract, scratch too short", spatialjoin_extract(plan, sizeof plan, n, scratch, n - 1, table, NODES), SPATIALJOIN_TOO_SHORT);
     expect("exchange, scratch too short", spatialjoin_exchange(plan, sizeof plan, n, scratch, n - 1), SPATIALJOIN_TOO_SHORT);
-    extracted = spatialjoin_extract(plan, sizeof plan, n, scratch, n);
+    extracted = spatialjoin_extract(plan, sizeof plan, n, scratch, n, table, NODES);
     expect("extract", extracted, 15);
     expect("a relation", plan[0], SPATIALJOIN_RELATION);
-    expect("extract again", spatialjoin_extract(plan, sizeof plan, 15, scratch, 15), SPATIALJOIN_ALREADY_EXTRACTED);
+    expect("extract again", spatialjoin_extract(plan, sizeof plan, 15, scratch, 15, table, NODES), SPATIALJOIN_ALREADY_EXTRACTED);
     expect("exchange", spatialjoin_exchange(plan, sizeof plan, 15, scratch, 15), 15);
     plan[0] = SPATIALJOIN_FRAME;
     expect("no plan", spatialjoin_exchange(plan, sizeof plan, 15, scratch, 15), SPATIALJOIN_NO_GOOD_PLAN);
@@ -92,8 +96,8 @@ static void refusals_of_plans(void)
 static void positions(void)
 {
     size_t n = (size_t)LOAD(UNMATCHED);
-    n = (size_t)spatialjoin_merge((const uint8_t *)GOOD, sizeof(GOOD) - 1, plan, sizeof plan, n, scratch, sizeof scratch);
-    n = (size_t)spatialjoin_extract(plan, sizeof plan, n, scratch, sizeof scratch);
+    n = (size_t)spatialjoin_merge((const uint8_t *)GOOD, sizeof(GOOD) - 1, plan, sizeof plan, n, scratch, sizeof scratch, table, NODES);
+    n = (size_t)spatialjoin_extract(plan, sizeof plan, n, scratch, sizeof scratch, table, NODES);
     expect("the second conjunct", SPATIALJOIN_POSITION_OF(plan), 1);
     n = (size_t)spatialjoin_exchange(plan, sizeof plan, n, scratch, sizeof scratch);
     expect("the second conjunct, exchanged", SPATIALJOIN_POSITION_OF(plan), 1);
@@ -190,7 +194,7 @@ static void merged_filters(void)
     expect("the old plan", memcmp(scratch, GOOD, n) == 0, 1);
     expect("the bytes after both", plan[length] == 7 && scratch[n] == 7, 1);
     expect("merge again", MERGE(ALONE, sizeof plan, length, length), (int64_t)length + 6);
-    expect("extract what was merged", spatialjoin_extract(plan, sizeof plan, length + 6, scratch, sizeof scratch) > 0, 1);
+    expect("extract what was merged", spatialjoin_extract(plan, sizeof plan, length + 6, scratch, sizeof scratch, table, NODES) > 0, 1);
     expect("a relation", plan[0], SPATIALJOIN_RELATION);
 }
 
@@ -204,44 +208,94 @@ static void refusals_of_merges(void)
     expect("merge a logical frame", MERGE("\x02\x04\x00\x00\x00", 0, n, 0), SPATIALJOIN_FIRST_BYTE);
     expect("merge, cut", MERGE("\x01\x00\x00\x04", 0, n, 0), SPATIALJOIN_FRAME_ENDS);
     expect("merge, kind 5", MERGE("\x01\x00\x00\x05", 0, n, 0), SPATIALJOIN_OUT_OF_RANGE);
-    expect("merge 65 levels", spatialjoin_merge(frame, levels(65), plan, 0, n, scratch, 0), SPATIALJOIN_TOO_LARGE);
+    expect("merge 65 levels", spatialjoin_merge(frame, levels(65), plan, 0, n, scratch, 0, table, NODES), SPATIALJOIN_TOO_LARGE);
     expect("merge, no column 0", MERGE("\x01\x00\x00" LEFT, 0, n, 0), SPATIALJOIN_NO_SUCH_COLUMN);
     expect("merge, a byte more", MERGE(GOOD "\x00", 0, n, 0), SPATIALJOIN_BYTES_AFTER);
     expect("merge st_within()", MERGE(RECORDS "\x03\x09" "st_within" "\x00", 0, n, 0), SPATIALJOIN_TOO_FEW_ARGUMENTS);
-    expect("merge, n past the end", spatialjoin_merge(frame, levels(64), plan, n - 1, n, scratch, 0), SPATIALJOIN_NO_GOOD_PLAN);
-    expect("merge, n = 0", spatialjoin_merge(frame, levels(64), plan, n, 0, scratch, 0), SPATIALJOIN_PLAN_EMPTY);
-    expect("merge 64 levels", spatialjoin_merge(frame, levels(64), plan, n, n, scratch, 0), SPATIALJOIN_MERGED_TOO_LARGE);
+    expect("merge, n past the end", spatialjoin_merge(frame, levels(64), plan, n - 1, n, scratch, 0, table, NODES),
+           SPATIALJOIN_NO_GOOD_PLAN);
+    expect("merge, n = 0", spatialjoin_merge(frame, levels(64), plan, n, 0, scratch, 0, table, NODES), SPATIALJOIN_PLAN_EMPTY);
+    expect("merge 64 levels", spatialjoin_merge(frame, levels(64), plan, n, n, scratch, 0, table, NODES), SPATIALJOIN_MERGED_TOO_LARGE);
     expect("merge, scratch too short", MERGE(ALONE, sizeof plan, n, n - 1), SPATIALJOIN_TOO_SHORT);
     expect("merge, plan too short", MERGE(ALONE, n + 5, n, n), SPATIALJOIN_TOO_SHORT);
     expect("the held plan", memcmp(plan, GOOD, n) == 0 && plan[n] == 7 && scratch[0] == 7, 1);
-    expect("merge 63 levels", spatialjoin_merge(frame, levels(63), plan, sizeof plan, n, scratch, n), (int64_t)n + 254);
+    expect("merge 63 levels", spatialjoin_merge(frame, levels(63), plan, sizeof plan, n, scratch, n, table, NODES), (int64_t)n + 254);
     n = (size_t)LOAD(GOOD);
-    n = (size_t)spatialjoin_extract(plan, sizeof plan, n, scratch, n);
-    expect("merge, extracted", spatialjoin_merge(frame, levels(64), plan, n, n, scratch, 0), SPATIALJOIN_ALREADY_EXTRACTED);
+    n = (size_t)spatialjoin_extract(plan, sizeof plan, n, scratch, n, table, NODES);
+    expect("merge, extracted", spatialjoin_merge(frame, levels(64), plan, n, n, scratch, 0, table, NODES),
+           SPATIALJOIN_ALREADY_EXTRACTED);
+}
+
+/* Whether a record has these fields. */
+static int is_node(spatialjoin_node node, unsigned kind, uint32_t start, uint32_t end)
+{
+    return node.kind == kind && node.start == start && node.end == end;
+}
+
+/* GOOD has three nodes, itself and GOOD seven. */
+static void tables_of_nodes(void)
+{
+    static const spatialjoin_node stray = {7, 7, 7};
+    spatialjoin_node wrong[3];
+    size_t n, i;
+    for (i = 0; i < NODES; i++) {
+        table[i] = stray;
+    }
+    expect("a record's bytes", sizeof stray, 12);
+    expect("load, table too short", spatialjoin_load((const uint8_t *)GOOD, sizeof(GOOD) - 1, plan, sizeof plan, table, 2),
+           SPATIALJOIN_TABLE_TOO_SHORT);
+    expect("load, both too short", spatialjoin_load((const uint8_t *)GOOD, sizeof(GOOD) - 1, plan, 1, table, 2), SPATIALJOIN_TOO_SHORT);
+    expect("refused, the table stays", is_node(table[0], 7, 7, 7) && is_node(table[1], 7, 7, 7), 1);
+    n = (size_t)spatialjoin_load((const uint8_t *)GOOD, sizeof(GOOD) - 1, plan, sizeof plan, table, 4);
+    expect("load", (int64_t)n, sizeof(GOOD) - 1);
+    expect("its nodes", is_node(table[0], 3, 13, 35) && is_node(table[1], 0, 25, 30) && is_node(table[2], 0, 30, 35), 1);
+    expect("the record after them", is_node(table[3], 7, 7, 7), 1);
+    expect("extract, a record short", spatialjoin_extract(plan, sizeof plan, n, scratch, n, table, 2), SPATIALJOIN_NO_GOOD_PLAN);
+    for (i = 0; i < 9; i++) {
+        memcpy(wrong, table, sizeof wrong);
+        wrong[i / 3].kind ^= i % 3 == 0;
+        wrong[i / 3].start ^= i % 3 == 1;
+        wrong[i / 3].end ^= i % 3 == 2 ? 32768u : 0u;
+        expect("extract, another table", spatialjoin_extract(plan, sizeof plan, n, scratch, n, wrong, 3), SPATIALJOIN_NO_GOOD_PLAN);
+    }
+    expect("merge, table too short", spatialjoin_merge((const uint8_t *)GOOD, n, plan, sizeof plan, n, scratch, n, table, 6),
+           SPATIALJOIN_TABLE_TOO_SHORT);
+    expect("merge, scratch too short too", spatialjoin_merge((const uint8_t *)GOOD, n, plan, sizeof plan, n, scratch, 0, table, 6),
+           SPATIALJOIN_TOO_SHORT);
+    n = (size_t)spatialjoin_merge((const uint8_t *)GOOD, n, plan, sizeof plan, n, scratch, n, table, NODES);
+    expect("merged, the first node", is_node(table[0], 2, 23, (uint32_t)n), 1);
+    expect("merged, the record after them", is_node(table[7], 7, 7, 7), 1);
+    expect("exchange", spatialjoin_exchange(plan, sizeof plan, n, scratch, n), (int64_t)n);
+    expect("extract, exchanged", spatialjoin_extract(plan, sizeof plan, n, scratch, n, table, 7) > 0, 1);
+    expect("extract again, no table", spatialjoin_extract(plan, sizeof plan, n, scratch, 0, NULL, 0) < 0, 1);
 }
 
 static void null_buffers(void)
 {
     size_t n;
-    expect("load NULL", spatialjoin_load(NULL, 0, plan, sizeof plan), SPATIALJOIN_FRAME_LENGTH);
-    expect("load NULL to NULL", spatialjoin_load(NULL, 0, NULL, 0), SPATIALJOIN_FRAME_LENGTH);
-    expect("load to NULL", spatialjoin_load((const uint8_t *)GOOD, sizeof(GOOD) - 1, NULL, 0), SPATIALJOIN_TOO_SHORT);
+    expect("load NULL", spatialjoin_load(NULL, 0, plan, sizeof plan, table, NODES), SPATIALJOIN_FRAME_LENGTH);
+    expect("load NULL to NULL", spatialjoin_load(NULL, 0, NULL, 0, NULL, 0), SPATIALJOIN_FRAME_LENGTH);
+    expect("load to NULL", spatialjoin_load((const uint8_t *)GOOD, sizeof(GOOD) - 1, NULL, 0, table, NODES), SPATIALJOIN_TOO_SHORT);
     expect("logical NULL", spatialjoin_logical(NULL, 0), SPATIALJOIN_FRAME_LENGTH);
     expect("print NULL", spatialjoin_print(NULL, 0, text, sizeof text), SPATIALJOIN_FRAME_LENGTH);
     expect("print NULL to NULL", spatialjoin_print(NULL, 0, NULL, 0), SPATIALJOIN_FRAME_LENGTH);
     expect("print to NULL", spatialjoin_print((const uint8_t *)GOOD, sizeof(GOOD) - 1, NULL, 0), SPATIALJOIN_TEXT_TOO_SHORT);
-    expect("extract from NULL", spatialjoin_extract(NULL, 0, 0, NULL, 0), SPATIALJOIN_PLAN_EMPTY);
-    expect("extract from NULL, n = 1", spatialjoin_extract(NULL, 0, 1, NULL, 0), SPATIALJOIN_NO_GOOD_PLAN);
+    expect("extract from NULL", spatialjoin_extract(NULL, 0, 0, NULL, 0, NULL, 0), SPATIALJOIN_PLAN_EMPTY);
+    expect("extract from NULL, n = 1", spatialjoin_extract(NULL, 0, 1, NULL, 0, NULL, 0), SPATIALJOIN_NO_GOOD_PLAN);
     expect("exchange in NULL", spatialjoin_exchange(NULL, 0, 0, NULL, 0), SPATIALJOIN_PLAN_EMPTY);
     expect("exchange in NULL, n = 1", spatialjoin_exchange(NULL, 0, 1, NULL, 0), SPATIALJOIN_NO_GOOD_PLAN);
-    expect("merge NULL", spatialjoin_merge(NULL, 0, NULL, 0, 0, NULL, 0), SPATIALJOIN_FRAME_LENGTH);
-    expect("merge to NULL", spatialjoin_merge((const uint8_t *)GOOD, sizeof(GOOD) - 1, NULL, 0, 0, NULL, 0), SPATIALJOIN_PLAN_EMPTY);
-    expect("merge to NULL, n = 1", spatialjoin_merge((const uint8_t *)GOOD, sizeof(GOOD) - 1, NULL, 0, 1, NULL, 0),
+    expect("merge NULL", spatialjoin_merge(NULL, 0, NULL, 0, 0, NULL, 0, NULL, 0), SPATIALJOIN_FRAME_LENGTH);
+    expect("merge to NULL", spatialjoin_merge((const uint8_t *)GOOD, sizeof(GOOD) - 1, NULL, 0, 0, NULL, 0, table, NODES),
+           SPATIALJOIN_PLAN_EMPTY);
+    expect("merge to NULL, n = 1", spatialjoin_merge((const uint8_t *)GOOD, sizeof(GOOD) - 1, NULL, 0, 1, NULL, 0, table, NODES),
            SPATIALJOIN_NO_GOOD_PLAN);
     n = (size_t)LOAD(GOOD);
-    expect("merge with NULL", spatialjoin_merge((const uint8_t *)GOOD, sizeof(GOOD) - 1, plan, sizeof plan, n, NULL, 0),
+    expect("merge with NULL", spatialjoin_merge((const uint8_t *)GOOD, sizeof(GOOD) - 1, plan, sizeof plan, n, NULL, 0, table, NODES),
            SPATIALJOIN_TOO_SHORT);
-    expect("extract with NULL", spatialjoin_extract(plan, sizeof plan, n, NULL, 0), SPATIALJOIN_TOO_SHORT);
+    expect("extract with NULL", spatialjoin_extract(plan, sizeof plan, n, NULL, 0, table, NODES), SPATIALJOIN_TOO_SHORT);
+    expect("extract with no table", spatialjoin_extract(plan, sizeof plan, n, scratch, n, NULL, 0), SPATIALJOIN_NO_GOOD_PLAN);
+    expect("load with no table", spatialjoin_load((const uint8_t *)GOOD, sizeof(GOOD) - 1, plan, sizeof plan, NULL, 0),
+           SPATIALJOIN_TABLE_TOO_SHORT);
     expect("exchange with NULL", spatialjoin_exchange(plan, sizeof plan, n, NULL, 0), SPATIALJOIN_TOO_SHORT);
 }
 
@@ -255,6 +309,7 @@ int main(void)
     refusals_of_texts();
     merged_filters();
     refusals_of_merges();
+    tables_of_nodes();
     null_buffers();
     printf("%d answers, %d wrong\n", tried, failed);
     return failed > 0;

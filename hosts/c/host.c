@@ -27,10 +27,11 @@ static const uint8_t policy[] = {
     0x00, 0x00, 0x00, 0x00, 0x09,                                        /*   column 0, name tag 9 */
 };
 
-/* The host lends the buffers and keeps n, the length of the plan. */
+/* The host lends the buffers and the table, and keeps n, the length of the plan. */
 static uint8_t text[SPATIALJOIN_MOST_TEXT];
 static uint8_t plan[SPATIALJOIN_MOST_BYTES];
 static uint8_t scratch[SPATIALJOIN_MOST_BYTES];
+static spatialjoin_node table[SPATIALJOIN_MOST_NODES];
 static size_t n = 0;
 
 /* Prints a refused call's number. */
@@ -67,14 +68,14 @@ static void show(int64_t answer)
 int main(void)
 {
     show(spatialjoin_print(frame, sizeof frame, text, sizeof text));
-    take(spatialjoin_load(frame, sizeof frame, plan, sizeof plan));
-    take(spatialjoin_extract(plan, sizeof plan, n, scratch, sizeof scratch));
+    take(spatialjoin_load(frame, sizeof frame, plan, sizeof plan, table, SPATIALJOIN_MOST_NODES));
+    take(spatialjoin_extract(plan, sizeof plan, n, scratch, sizeof scratch, table, SPATIALJOIN_MOST_NODES));
     take(spatialjoin_exchange(plan, sizeof plan, n, scratch, sizeof scratch));
-    take(spatialjoin_extract(plan, sizeof plan, n, scratch, sizeof scratch));
+    take(spatialjoin_extract(plan, sizeof plan, n, scratch, sizeof scratch, table, SPATIALJOIN_MOST_NODES));
 
-    take(spatialjoin_load(frame, sizeof frame, plan, sizeof plan));
-    take(spatialjoin_merge(policy, sizeof policy, plan, sizeof plan, n, scratch, sizeof scratch));
+    take(spatialjoin_load(frame, sizeof frame, plan, sizeof plan, table, SPATIALJOIN_MOST_NODES));
+    take(spatialjoin_merge(policy, sizeof policy, plan, sizeof plan, n, scratch, sizeof scratch, table, SPATIALJOIN_MOST_NODES));
     show(spatialjoin_print(plan, n, text, sizeof text));
-    take(spatialjoin_extract(plan, sizeof plan, n, scratch, sizeof scratch));
+    take(spatialjoin_extract(plan, sizeof plan, n, scratch, sizeof scratch, table, SPATIALJOIN_MOST_NODES));
     return 0;
 }

@@ -10,6 +10,7 @@
 
 #define DEPTH 64
 #define PATTERN 0xa5
+#define NODES SPATIALJOIN_MOST_NODES
 #define STACK_SIZE (4 * SPATIALJOIN_STACK_BYTES)
 
 enum call { LOAD, EXTRACT, EXCHANGE, LOGICAL, PRINT, MERGE, CALLS };
@@ -30,6 +31,7 @@ static int logical_frame;
 static uint8_t plan[SPATIALJOIN_MOST_BYTES];
 static uint8_t scratch[SPATIALJOIN_MOST_BYTES];
 static uint8_t text[SPATIALJOIN_MOST_TEXT];
+static spatialjoin_node table[SPATIALJOIN_MOST_NODES];
 static size_t n;
 
 static uint8_t stack[STACK_SIZE];
@@ -188,12 +190,12 @@ static void make_frame(int depth, enum shape ands, int levels, enum leaf leaf, i
 static void make_call(void)
 {
     switch (called) {
-    case LOAD: answer = spatialjoin_load(frame, frame_len, plan, sizeof plan); break;
-    case EXTRACT: answer = spatialjoin_extract(plan, sizeof plan, n, scratch, sizeof scratch); break;
+    case LOAD: answer = spatialjoin_load(frame, frame_len, plan, sizeof plan, table, NODES); break;
+    case EXTRACT: answer = spatialjoin_extract(plan, sizeof plan, n, scratch, sizeof scratch, table, NODES); break;
     case EXCHANGE: answer = spatialjoin_exchange(plan, sizeof plan, n, scratch, sizeof scratch); break;
     case LOGICAL: answer = spatialjoin_logical(frame, frame_len); break;
     case PRINT: answer = spatialjoin_print(frame, frame_len, text, sizeof text); break;
-    case MERGE: answer = spatialjoin_merge(frame, frame_len, plan, sizeof plan, n, scratch, sizeof scratch); break;
+    case MERGE: answer = spatialjoin_merge(frame, frame_len, plan, sizeof plan, n, scratch, sizeof scratch, table, NODES); break;
     case CALLS: break;
     }
 }
@@ -240,7 +242,7 @@ static void measure_frame(void)
 static void measure_merges(void)
 {
     static const uint8_t small[] = {1, 0, 0, 4, 0, 0, 0};
-    n = (size_t)spatialjoin_load(small, sizeof small, plan, sizeof plan);
+    n = (size_t)spatialjoin_load(small, sizeof small, plan, sizeof plan, table, NODES);
     measure(MERGE);
     measure(EXTRACT);
     measure(LOAD);

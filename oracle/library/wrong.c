@@ -3,17 +3,70 @@
 #include <stdint.h>
 #include <string.h>
 
-int64_t right_load(const uint8_t *frame, size_t frame_len, uint8_t *plan, size_t plan_len);
-int64_t right_extract(uint8_t *plan, size_t plan_len, size_t n, uint8_t *scratch, size_t scratch_len);
+typedef struct {
+    uint8_t kind;
+    uint32_t start, end;
+} node;
+
+int64_t right_load(const uint8_t *frame, size_t frame_len, uint8_t *plan, size_t plan_len, node *table, size_t table_len);
+int64_t right_extract(uint8_t *plan, size_t plan_len, size_t n, uint8_t *scratch, size_t scratch_len, const node *table,
+                      size_t table_len);
 int64_t right_exchange(uint8_t *plan, size_t plan_len, size_t n, uint8_t *scratch, size_t scratch_len);
 int64_t right_logical(const uint8_t *frame, size_t frame_len);
 int64_t right_print(const uint8_t *frame, size_t frame_len, uint8_t *text, size_t text_len);
 int64_t right_merge(const uint8_t *frame, size_t frame_len, uint8_t *plan, size_t plan_len, size_t n, uint8_t *scratch,
-                    size_t scratch_len);
+                    size_t scratch_len, node *table, size_t table_len);
 
-int64_t spatialjoin_load(const uint8_t *frame, size_t frame_len, uint8_t *plan, size_t plan_len)
+/* The nodes of a frame, in a table of this file's, and how many they are: 0 where it is refused. */
+static node nodes[1024];
+
+static size_t nodes_of(const uint8_t *frame, size_t frame_len)
 {
-    int64_t answer = right_load(frame, frame_len, plan, plan_len);
+    static uint8_t loaded[16384];
+    size_t i, count = 0;
+    for (i = 0; i < 1024; i++) {
+        nodes[i].kind = 255;
+    }
+    if (right_load(frame, frame_len, loaded, sizeof loaded, nodes, 1024) < 0) {
+        return 0;
+    }
+    while (count < 1024 && nodes[count].kind != 255) {
+        count++;
+    }
+    return count;
+}
+
+/* What is wrong with the table that an accepted load or merge of this frame filled. */
+static void spoil_table(const uint8_t *frame, size_t frame_len, node *table, size_t table_len, int wrong)
+{
+    size_t count = wrong == 0 ? 0 : nodes_of(frame, frame_len);
+    if (wrong == 35 && count < table_len) {
+        table[count].kind ^= 1;
+    }
+    if (wrong == 36) {
+        table[count - 1].end -= 1;
+    }
+    if (wrong == 37) {
+        table[0].start += 1;
+    }
+    if (wrong == 38) {
+        table[table_len].kind ^= 1;
+    }
+}
+
+int64_t spatialjoin_load(const uint8_t *frame, size_t frame_len, uint8_t *plan, size_t plan_len, node *table, size_t table_len)
+{
+    int64_t answer = right_load(frame, frame_len, plan, plan_len, table, table_len);
+    if (answer > 0) {
+        spoil_table(frame, frame_len, table, table_len, WRONG >= 35 && WRONG <= 38 ? WRONG : 0);
+    }
+    if (WRONG == 39 && (answer == -17 || answer == -9) && table_len > 0) {
+        (void)nodes_of(frame, frame_len);
+        table[0] = nodes[0];
+    }
+    if (WRONG == 40 && answer == -9 && nodes_of(frame, frame_len) > table_len) {
+        answer = -17;
+    }
     if (WRONG == 1 && answer > 0 && (size_t)answer < plan_len) {
         plan[answer] ^= 1;
     }
@@ -54,11 +107,12 @@ static int asks_for_none(const uint8_t *plan, size_t n)
 }
 
 /* Takes a KNN with k 0: with 1 in its place, which becomes 0 again where the fault is that it stays 0. */
-static int64_t take_none(uint8_t *plan, size_t plan_len, size_t n, uint8_t *scratch, size_t scratch_len)
+static int64_t take_none(uint8_t *plan, size_t plan_len, size_t n, uint8_t *scratch, size_t scratch_len, const node *table,
+                         size_t table_len)
 {
     int64_t answer;
     plan[n - 1] = 1;
-    answer = right_extract(plan, plan_len, n, scratch, scratch_len);
+    answer = right_extract(plan, plan_len, n, scratch, scratch_len, table, table_len);
     plan[n - 1] = 0;
     if (answer > 0) {
         plan[6] = WRONG == 32 ? 0 : 1;
@@ -67,11 +121,42 @@ static int64_t take_none(uint8_t *plan, size_t plan_len, size_t n, uint8_t *scra
     return answer;
 }
 
-int64_t spatialjoin_extract(uint8_t *plan, size_t plan_len, size_t n, uint8_t *scratch, size_t scratch_len)
+/* Whether the plan is a good frame that the table does not begin with. */
+static int lacks_table(const uint8_t *plan, size_t plan_len, size_t n)
 {
-    int64_t answer = right_extract(plan, plan_len, n, scratch, scratch_len);
+    return n <= plan_len && n > 0 && plan[0] == 1 && nodes_of(plan, n) > 0;
+}
+
+/* Whether all but the ends of some records is right. */
+static int lacks_ends(const node *table, size_t table_len, size_t count)
+{
+    size_t i;
+    for (i = 0; i < count; i++) {
+        if (i >= table_len || table[i].kind != nodes[i].kind || table[i].start != nodes[i].start) {
+            return 0;
+        }
+    }
+    return 1;
+}
+
+int64_t spatialjoin_extract(uint8_t *plan, size_t plan_len, size_t n, uint8_t *scratch, size_t scratch_len, const node *table,
+                            size_t table_len)
+{
+    int64_t answer = right_extract(plan, plan_len, n, scratch, scratch_len, table, table_len);
     if ((WRONG == 32 || WRONG == 33) && answer == -13 && asks_for_none(plan, n)) {
-        answer = take_none(plan, plan_len, n, scratch, scratch_len);
+        answer = take_none(plan, plan_len, n, scratch, scratch_len, table, table_len);
+    }
+    if (WRONG == 41 && answer == -10 && lacks_table(plan, plan_len, n)) {
+        answer = right_extract(plan, plan_len, n, scratch, scratch_len, nodes, 1024);
+    }
+    if (WRONG == 42 && answer == -10 && lacks_table(plan, plan_len, n) && lacks_ends(table, table_len, nodes_of(plan, n))) {
+        answer = right_extract(plan, plan_len, n, scratch, scratch_len, nodes, 1024);
+    }
+    if (WRONG == 43 && answer == -12 && table_len == 0) {
+        answer = -10;
+    }
+    if (WRONG == 44 && answer == -10 && scratch_len < n && lacks_table(plan, plan_len, n)) {
+        answer = -9;
     }
     if (WRONG == 3 && answer > 0 && n < scratch_len) {
         scratch[n] ^= 1;
@@ -249,13 +334,34 @@ static int64_t spoil_answer(uint8_t *plan, size_t plan_len, size_t n, uint8_t *s
     return answer;
 }
 
+/* What is wrong with the table that a merge filled, or that it should have kept. */
+static int64_t spoil_merged_table(const uint8_t *plan, const uint8_t *scratch, size_t n, node *table, size_t table_len, int64_t answer)
+{
+    size_t count;
+    if (WRONG == 45 && answer > 0) {
+        count = nodes_of(scratch, n);
+        memcpy(table, nodes, count * sizeof *nodes);
+    }
+    if (answer > 0) {
+        spoil_table(plan, (size_t)answer, table, table_len, WRONG == 46 ? 35 : 0);
+    }
+    if (WRONG == 47 && answer == -17 && table_len > 0) {
+        table[0].kind ^= 1;
+    }
+    if (WRONG == 48 && answer == -16 && table_len == 0) {
+        answer = -17;
+    }
+    return answer;
+}
+
 int64_t spatialjoin_merge(const uint8_t *frame, size_t frame_len, uint8_t *plan, size_t plan_len, size_t n, uint8_t *scratch,
-                          size_t scratch_len)
+                          size_t scratch_len, node *table, size_t table_len)
 {
     int64_t answer;
     memcpy(plan_before, plan, least(plan_len, sizeof plan_before));
     memcpy(scratch_before, scratch, least(scratch_len, sizeof scratch_before));
-    answer = right_merge(frame, frame_len, plan, plan_len, n, scratch, scratch_len);
+    answer = right_merge(frame, frame_len, plan, plan_len, n, scratch, scratch_len, table, table_len);
+    answer = spoil_merged_table(plan, scratch, n, table, table_len, answer);
     if (answer > 0) {
         spoil_merge(frame, frame_len, plan, (size_t)answer, n, scratch);
     }

@@ -2,14 +2,24 @@
 //! extraction from the old plan's copy in the scratch.
 
 use reading::frame::{MAX_RECORDS, PHYSICAL};
+use spatialjoin::Node;
 
 use super::check;
 use super::nodes::{self, two};
 use super::pick::{NEITHER, Predicate, Taken, pick};
 
 /// The new plan's length, or the refusal's number.
-pub fn extract(plan: &mut [u8], n: usize, scratch: &mut [u8]) -> Result<usize, u8> {
-    let start = check::held(plan, n)?.start;
+pub fn extract(plan: &mut [u8], n: usize, scratch: &mut [u8], table: &[Node]) -> Result<usize, u8> {
+    let checked = check::held(plan, n)?;
+    let start = checked.start;
+    let table = table.get(..checked.nodes).ok_or(10)?;
+    let mut same = true;
+    nodes::each(&plan[..n], start, |index, node| {
+        same &= table[index] == node
+    });
+    if !same {
+        return Err(10);
+    }
     let scratch = scratch.get_mut(..n).ok_or(9)?;
     let taken = pick(&plan[..n], start).ok_or(13)?;
     scratch.copy_from_slice(&plan[..n]);

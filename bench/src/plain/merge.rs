@@ -2,12 +2,19 @@
 //! over the nodes.
 
 use reading::frame::{MAX_BYTES, MAX_DEPTH, MAX_NODES, MAX_RECORDS, operator};
+use spatialjoin::Node;
 
 use super::check::{self, Checked};
-use super::nodes::renumber;
+use super::nodes::{self, renumber};
 
 /// The new plan's length, or the refusal's number.
-pub fn merge(frame: &[u8], plan: &mut [u8], n: usize, scratch: &mut [u8]) -> Result<usize, u8> {
+pub fn merge(
+    frame: &[u8],
+    plan: &mut [u8],
+    n: usize,
+    scratch: &mut [u8],
+    table: &mut [Node],
+) -> Result<usize, u8> {
     let new = check::frame::<false>(frame)?;
     let held = check::held(plan, n)?;
     let length = n + frame.len() - 1;
@@ -20,8 +27,11 @@ pub fn merge(frame: &[u8], plan: &mut [u8], n: usize, scratch: &mut [u8]) -> Res
     }
     let scratch = scratch.get_mut(..n).ok_or(9)?;
     let plan = plan.get_mut(..length).ok_or(9)?;
+    let table = table.get_mut(..held.nodes + new.nodes + 1).ok_or(17)?;
     scratch.copy_from_slice(&plan[..n]);
     write(plan, &scratch[held.start..], &held, frame, &new);
+    let start = held.start + new.start - 3;
+    nodes::each(plan, start, |index, node| table[index] = node);
     Ok(length)
 }
 

@@ -1,5 +1,8 @@
 //! Over the nodes of expressions that were checked, in their order.
 
+use reading::frame::MAX_DEPTH;
+use spatialjoin::Node;
+
 pub const COLUMN: u8 = 0;
 pub const LITERAL: u8 = 1;
 pub const BINARY: u8 = 2;
@@ -59,6 +62,40 @@ pub fn renumber(nodes: &mut [u8], new: impl Fn(u16) -> u16) {
             nodes[at + 1..at + 3].copy_from_slice(&index.to_be_bytes());
         }
         at += size(nodes, at);
+    }
+}
+
+/// Tells each node of the frame with its index, once its children were told.
+pub fn each(frame: &[u8], start: usize, mut told: impl FnMut(usize, Node)) {
+    // The nodes around: index, start, and how many children are still to come.
+    let mut around = [(0, 0, 0); MAX_DEPTH];
+    let (mut at, mut index, mut level) = (start, 0, 0);
+    loop {
+        let kind = frame[at];
+        let node_start = at;
+        at += size(frame, at);
+        let children = match kind {
+            COLUMN | LITERAL => 0,
+            BINARY => 2,
+            _ => usize::from(frame[at - 1]),
+        };
+        around[level] = (index, node_start, children);
+        level += 1;
+        index += 1;
+        while around[level - 1].2 == 0 {
+            level -= 1;
+            let (index, start, _) = around[level];
+            let node = Node {
+                kind: frame[start],
+                start: start as u32,
+                end: at as u32,
+            };
+            told(index, node);
+            if level == 0 {
+                return;
+            }
+            around[level - 1].2 -= 1;
+        }
     }
 }
 

@@ -1,7 +1,7 @@
 //! A Rust host: the worked run's filter as text, then the run, its answers printed as the program
 //! spatialjoin prints them; then the filter with a row policy.
 
-use spatialjoin::{MOST_BYTES, MOST_TEXT, Refusal};
+use spatialjoin::{MOST_BYTES, MOST_NODES, MOST_TEXT, Node, Refusal};
 
 /// `st_within(column 0, column 1) AND column 1`; column 0 is column 3 of the right child, column 1
 /// column 0 of the left. `hosts/c/host.c` has it byte by byte.
@@ -11,21 +11,23 @@ const FRAME: &[u8] = b"\x01\0\x02\x01\0\x03\0\x07\0\0\0\0\x08\
 /// `region(column 0)`, a row policy; column 0 is column 1 of the left child.
 const POLICY: &[u8] = b"\x01\0\x01\0\0\x01\0\x09\x03\x06region\x01\0\0\0\0\x09";
 
-/// The host lends both buffers and keeps `n`, the length of the plan.
+/// The host lends both buffers and the table, and keeps `n`, the length of the plan.
 struct Host {
     plan: Vec<u8>,
     scratch: Vec<u8>,
+    table: Vec<Node>,
     n: usize,
 }
 
 impl Host {
     fn load(&mut self, frame: &[u8]) {
-        let answer = spatialjoin::load(frame, &mut self.plan);
+        let answer = spatialjoin::load(frame, &mut self.plan, &mut self.table);
         self.take(answer);
     }
 
     fn extract(&mut self) {
-        let answer = spatialjoin::extract(&mut self.plan, self.n, &mut self.scratch);
+        let (plan, scratch) = (&mut self.plan, &mut self.scratch);
+        let answer = spatialjoin::extract(plan, self.n, scratch, &self.table);
         self.take(answer);
     }
 
@@ -35,7 +37,8 @@ impl Host {
     }
 
     fn merge(&mut self, frame: &[u8]) {
-        let answer = spatialjoin::merge(frame, &mut self.plan, self.n, &mut self.scratch);
+        let (plan, scratch) = (&mut self.plan, &mut self.scratch);
+        let answer = spatialjoin::merge(frame, plan, self.n, scratch, &mut self.table);
         self.take(answer);
     }
 
@@ -68,6 +71,7 @@ fn main() {
     let mut host = Host {
         plan: vec![0; MOST_BYTES],
         scratch: vec![0; MOST_BYTES],
+        table: vec![Node::default(); MOST_NODES],
         n: 0,
     };
     host.load(FRAME);

@@ -7,6 +7,9 @@
 //! [`MOST_BYTES`] are enough for every frame, plan and scratch, [`MOST_TEXT`] for every text.
 //! `docs/FRAMES.md` of the repository has their bytes.
 //!
+//! The host lends a table too, of [`MOST_NODES`] records at most: [`load`] and [`merge`] fill it with
+//! the nodes of the new plan, and [`extract`] takes it as they left it. [`exchange`] moves no node.
+//!
 //! The calls have no state and allocate nothing, so any number of threads may make them. A call
 //! needs at most [`STACK_BYTES`] of stack, which is measured and not proved.
 
@@ -20,6 +23,21 @@ pub const MOST_BYTES: usize = 16_384;
 
 /// The most bytes of a text that [`print`] writes.
 pub const MOST_TEXT: usize = 26_620;
+
+/// The most nodes of a frame.
+pub const MOST_NODES: usize = 1_024;
+
+/// A node of a frame.
+#[repr(C)]
+#[derive(Clone, Copy, Debug, Default, PartialEq, Eq)]
+pub struct Node {
+    /// Its kind byte, 0 to 4.
+    pub kind: u8,
+    /// Where it starts, the frame's first byte being 0.
+    pub start: u32,
+    /// Where it ends: one past the whole node.
+    pub end: u32,
+}
 
 /// The most bytes of stack that a call needs.
 pub const STACK_BYTES: usize = 131_072;
@@ -62,14 +80,15 @@ pub enum Side {
     Right,
 }
 
-/// Loads a physical frame as the new plan and gives its length. What was held before
-/// plays no part.
+/// Loads a physical frame as the new plan and gives its length. The table's first records become
+/// those of the frame's nodes, in the order in which they stand in the frame; the others stay. What
+/// was held before plays no part.
 ///
 /// # Errors
 ///
-/// Refusals 1 to 9.
-pub fn load(frame: &[u8], plan: &mut [u8]) -> Result<usize, Refusal> {
-    length(numbers::load(frame, plan))
+/// Refusals 1 to 9 and 17.
+pub fn load(frame: &[u8], plan: &mut [u8], table: &mut [Node]) -> Result<usize, Refusal> {
+    length(numbers::load(frame, plan, table))
 }
 
 /// The position, from 0, of the conjunct that was taken among those of the filter as it was loaded
@@ -82,13 +101,19 @@ pub fn position(plan: &[u8]) -> Option<u16> {
 }
 
 /// Pulls the spatial predicate out of the filter in the plan's first `n` bytes and gives the new
-/// plan's length. The old plan is copied to the scratch's first `n` bytes.
+/// plan's length. The old plan is copied to the scratch's first `n` bytes. The table is the one that
+/// the last accepted [`load`] or [`merge`] filled.
 ///
 /// # Errors
 ///
 /// Refusals 9 to 13.
-pub fn extract(plan: &mut [u8], n: usize, scratch: &mut [u8]) -> Result<usize, Refusal> {
-    length(numbers::extract(plan, n, scratch))
+pub fn extract(
+    plan: &mut [u8],
+    n: usize,
+    scratch: &mut [u8],
+    table: &[Node],
+) -> Result<usize, Refusal> {
+    length(numbers::extract(plan, n, scratch, table))
 }
 
 /// Exchanges the join's children in the plan in the first `n` bytes and gives the new plan's
@@ -133,18 +158,20 @@ pub fn print(frame: &[u8], text: &mut [u8]) -> Result<usize, Refusal> {
 /// Joins the filter of a physical frame, a row policy for one, to the filter in the plan's first
 /// `n` bytes by And, the held one on the left, and gives the new plan's length. The frame's records
 /// follow the held ones, equal ones too, and its columns are renumbered to stay with them. The old
-/// plan is copied to the scratch's first `n` bytes.
+/// plan is copied to the scratch's first `n` bytes. The table is filled with the nodes of the new
+/// plan, whatever it held.
 ///
 /// # Errors
 ///
-/// Refusals 1 to 12 and 16.
+/// Refusals 1 to 12, 16 and 17.
 pub fn merge(
     frame: &[u8],
     plan: &mut [u8],
     n: usize,
     scratch: &mut [u8],
+    table: &mut [Node],
 ) -> Result<usize, Refusal> {
-    length(numbers::merge(frame, plan, n, scratch))
+    length(numbers::merge(frame, plan, n, scratch, table))
 }
 
 fn length(answer: i64) -> Result<usize, Refusal> {

@@ -1,13 +1,19 @@
 //! The calls with the answers of the C functions: a length (of [`logical`]: mask, count and side in
 //! one number), or minus the refusal's number. `include/spatialjoin.h` says what they do.
 
+use crate::Node;
+
 mod c {
+    use crate::Node;
+
     unsafe extern "C" {
         pub fn spatialjoin_load(
             frame: *const u8,
             frame_len: usize,
             plan: *mut u8,
             plan_len: usize,
+            table: *mut Node,
+            table_len: usize,
         ) -> i64;
         pub fn spatialjoin_extract(
             plan: *mut u8,
@@ -15,6 +21,8 @@ mod c {
             n: usize,
             scratch: *mut u8,
             scratch_len: usize,
+            table: *const Node,
+            table_len: usize,
         ) -> i64;
         pub fn spatialjoin_exchange(
             plan: *mut u8,
@@ -38,6 +46,8 @@ mod c {
             n: usize,
             scratch: *mut u8,
             scratch_len: usize,
+            table: *mut Node,
+            table_len: usize,
         ) -> i64;
     }
 }
@@ -45,13 +55,18 @@ mod c {
 // Each call is safe because a slice is memory of its length that is lent for the call, and slices
 // that are lent for writing overlap with no other.
 
-pub fn load(frame: &[u8], plan: &mut [u8]) -> i64 {
-    unsafe { c::spatialjoin_load(frame.as_ptr(), frame.len(), plan.as_mut_ptr(), plan.len()) }
+pub fn load(frame: &[u8], plan: &mut [u8], table: &mut [Node]) -> i64 {
+    let (frame, frame_len) = (frame.as_ptr(), frame.len());
+    let (plan, plan_len) = (plan.as_mut_ptr(), plan.len());
+    let (table, table_len) = (table.as_mut_ptr(), table.len());
+    unsafe { c::spatialjoin_load(frame, frame_len, plan, plan_len, table, table_len) }
 }
 
-pub fn extract(plan: &mut [u8], n: usize, scratch: &mut [u8]) -> i64 {
+pub fn extract(plan: &mut [u8], n: usize, scratch: &mut [u8], table: &[Node]) -> i64 {
     let (plan, plan_len) = (plan.as_mut_ptr(), plan.len());
-    unsafe { c::spatialjoin_extract(plan, plan_len, n, scratch.as_mut_ptr(), scratch.len()) }
+    let (scratch, scratch_len) = (scratch.as_mut_ptr(), scratch.len());
+    let (table, table_len) = (table.as_ptr(), table.len());
+    unsafe { c::spatialjoin_extract(plan, plan_len, n, scratch, scratch_len, table, table_len) }
 }
 
 pub fn exchange(plan: &mut [u8], n: usize, scratch: &mut [u8]) -> i64 {
@@ -67,9 +82,28 @@ pub fn print(frame: &[u8], text: &mut [u8]) -> i64 {
     unsafe { c::spatialjoin_print(frame.as_ptr(), frame.len(), text.as_mut_ptr(), text.len()) }
 }
 
-pub fn merge(frame: &[u8], plan: &mut [u8], n: usize, scratch: &mut [u8]) -> i64 {
+pub fn merge(
+    frame: &[u8],
+    plan: &mut [u8],
+    n: usize,
+    scratch: &mut [u8],
+    table: &mut [Node],
+) -> i64 {
     let (frame, frame_len) = (frame.as_ptr(), frame.len());
     let (plan, plan_len) = (plan.as_mut_ptr(), plan.len());
     let (scratch, scratch_len) = (scratch.as_mut_ptr(), scratch.len());
-    unsafe { c::spatialjoin_merge(frame, frame_len, plan, plan_len, n, scratch, scratch_len) }
+    let (table, table_len) = (table.as_mut_ptr(), table.len());
+    unsafe {
+        c::spatialjoin_merge(
+            frame,
+            frame_len,
+            plan,
+            plan_len,
+            n,
+            scratch,
+            scratch_len,
+            table,
+            table_len,
+        )
+    }
 }

@@ -22,7 +22,8 @@ pub enum Refusal {
     TooFewArguments = 8,
     /// 9: the plan buffer (load, merge) or the scratch is too short.
     TooShort = 9,
-    /// 10: `n` is over the buffer's length, or its first `n` bytes are no good plan.
+    /// 10: `n` is over the buffer's length, or its first `n` bytes are no good plan; of an extract also:
+    /// they are a frame, and the table does not begin with its nodes.
     NoGoodPlan = 10,
     /// 11: `n` is 0.
     PlanEmpty = 11,
@@ -34,11 +35,13 @@ pub enum Refusal {
     TextTooShort = 15,
     /// 16: the merged frame is over a limit.
     MergedTooLarge = 16,
+    /// 17: the table is shorter than the frame's node count.
+    TableTooShort = 17,
 }
 
 impl Refusal {
     /// All of them, by number.
-    pub const ALL: [Refusal; 15] = [
+    pub const ALL: [Refusal; 16] = [
         Refusal::FrameLength,
         Refusal::FirstByte,
         Refusal::FrameEnds,
@@ -54,9 +57,10 @@ impl Refusal {
         Refusal::NoMatch,
         Refusal::TextTooShort,
         Refusal::MergedTooLarge,
+        Refusal::TableTooShort,
     ];
 
-    /// 1 to 13, 15 or 16.
+    /// 1 to 13, or 15 to 17.
     pub fn number(self) -> u8 {
         self as u8
     }
@@ -77,12 +81,13 @@ impl Refusal {
             Refusal::BytesAfter => "bytes after the end",
             Refusal::TooFewArguments => "a conjunct lacks arguments",
             Refusal::TooShort => "plan buffer or scratch too short",
-            Refusal::NoGoodPlan => "no good plan in the first n bytes",
+            Refusal::NoGoodPlan => "no good plan in the first n bytes, or not the frame's table",
             Refusal::PlanEmpty => "plan empty",
             Refusal::AlreadyExtracted => "plan already extracted",
             Refusal::NoMatch => "no conjunct matches",
             Refusal::TextTooShort => "text buffer shorter than the text",
             Refusal::MergedTooLarge => "merged frame over a limit",
+            Refusal::TableTooShort => "table shorter than the node count",
         }
     }
 }

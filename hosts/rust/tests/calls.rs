@@ -1,7 +1,8 @@
 //! The worked run, every refusal of every call, the names of the mask and the query side, texts,
-//! merged filters.
+//! merged filters, tables of nodes.
 
-use spatialjoin::{MOST_BYTES, MOST_TEXT, NAMES, Names, Refusal, STACK_BYTES, Side};
+use spatialjoin::{MOST_BYTES, MOST_NODES, MOST_TEXT, STACK_BYTES};
+use spatialjoin::{NAMES, Names, Node, Refusal, Side};
 use spatialjoin::{exchange, extract, load, logical, merge, position, print};
 
 /// Columns 0 (of the left child) and 1 (of the right).
@@ -34,18 +35,30 @@ fn levels(count: usize) -> Vec<u8> {
     [call("f", 1).repeat(count - 1), call("f", 0)].concat()
 }
 
-/// The plan after an accepted load, and its length.
-fn loaded(frame: &[u8]) -> (Vec<u8>, usize) {
-    let mut plan = vec![0; MOST_BYTES];
-    let n = load(frame, &mut plan).expect("a good frame");
-    (plan, n)
+/// A record that no frame has.
+const STRAY: Node = Node {
+    kind: 7,
+    start: 7,
+    end: 7,
+};
+
+/// A table that is long enough for every frame.
+fn table() -> Vec<Node> {
+    vec![STRAY; MOST_NODES]
+}
+
+/// The plan after an accepted load, its length, and the table.
+fn loaded(frame: &[u8]) -> (Vec<u8>, usize, Vec<Node>) {
+    let (mut plan, mut table) = (vec![0; MOST_BYTES], table());
+    let n = load(frame, &mut plan, &mut table).expect("a good frame");
+    (plan, n, table)
 }
 
 /// What a load of the frame into a long buffer answers; refused, it changes nothing.
 fn load_alone(frame: &[u8]) -> Result<usize, Refusal> {
-    let mut plan = vec![7; MOST_BYTES];
-    let answer = load(frame, &mut plan);
-    assert!(answer.is_ok() || plan == vec![7; MOST_BYTES]);
+    let (mut plan, mut nodes) = (vec![7; MOST_BYTES], table());
+    let answer = load(frame, &mut plan, &mut nodes);
+    assert!(answer.is_ok() || plan == vec![7; MOST_BYTES] && nodes == table());
     answer
 }
 
@@ -54,12 +67,12 @@ fn worked_run() {
     let run = include_str!("../../../examples/worked-run.txt").lines();
     let answers = include_str!("../../../examples/worked-run-answers.txt").lines();
     let (mut plan, mut scratch, mut n) = (vec![0; MOST_BYTES], vec![0; MOST_BYTES], 0);
-    let mut lines = 0;
+    let (mut nodes, mut lines) = (table(), 0);
     for (line, answer) in run.zip(answers) {
         let given = match line {
-            "21" => extract(&mut plan, n, &mut scratch),
+            "21" => extract(&mut plan, n, &mut scratch, &nodes),
             "22" => exchange(&mut plan, n, &mut scratch),
-            _ => load(&bytes(line), &mut plan),
+            _ => load(&bytes(line), &mut plan, &mut nodes),
         };
         let expected = bytes(answer);
         match given {
@@ -93,42 +106,116 @@ fn refusals_of_a_load() {
     let fewer = frame_of(&call("st_within", 0));
     assert_eq!(load_alone(&fewer), Err(Refusal::TooFewArguments));
     let mut short = vec![7; good.len() - 1];
-    assert_eq!(load(&good, &mut short), Err(Refusal::TooShort));
-    assert_eq!(load(&good, &mut []), Err(Refusal::TooShort));
+    for records in [0, 3] {
+        let refused = load(&good, &mut short, &mut vec![STRAY; records]);
+        assert_eq!(refused, Err(Refusal::TooShort));
+    }
+    assert_eq!(load(&good, &mut [], &mut []), Err(Refusal::TooShort));
+    let (mut plan, mut nodes) = (vec![7; good.len()], [STRAY; 2]);
+    let refused = load(&good, &mut plan, &mut nodes);
+    assert_eq!(refused, Err(Refusal::TableTooShort));
+    assert_eq!((plan, nodes), (vec![7; good.len()], [STRAY; 2]));
+}
+
+/// The nodes of `good()`.
+const GOOD_NODES: [Node; 3] = [
+    Node {
+        kind: 3,
+        start: 13,
+        end: 35,
+    },
+    Node {
+        kind: 0,
+        start: 25,
+        end: 30,
+    },
+    Node {
+        kind: 0,
+        start: 30,
+        end: 35,
+    },
+];
+
+#[test]
+fn tables_of_nodes() {
+    let (_, n, table) = loaded(&good());
+    assert_eq!(table[..3], GOOD_NODES);
+    assert_eq!(table[3..], [STRAY; MOST_NODES - 3]);
+    let mut exact = [STRAY; 3];
+    assert_eq!(load(&good(), &mut vec![0; n], &mut exact), Ok(n));
+    assert_eq!(exact, GOOD_NODES);
+    assert_eq!(size_of::<Node>(), 12);
+}
+
+/// What an extract of `good()` answers with this table, and with the filter exchanged before.
+fn extracted_with(table: &[Node]) -> Result<usize, Refusal> {
+    let (mut plan, n, _) = loaded(&good());
+    let mut scratch = vec![0; n];
+    exchange(&mut plan, n, &mut scratch).expect("a held frame");
+    let exchanged = extract(&mut plan, n, &mut scratch, table);
+    let (mut plan, n, _) = loaded(&good());
+    let answer = extract(&mut plan, n, &mut scratch, table);
+    assert_eq!(answer, exchanged);
+    answer
+}
+
+#[test]
+fn an_extract_needs_the_frame_s_table() {
+    let accepted = extracted_with(&GOOD_NODES);
+    assert!(accepted.is_ok());
+    assert_eq!(
+        extracted_with(&[&GOOD_NODES[..], &[STRAY]].concat()),
+        accepted
+    );
+    assert_eq!(extracted_with(&GOOD_NODES[..2]), Err(Refusal::NoGoodPlan));
+    assert_eq!(extracted_with(&[]), Err(Refusal::NoGoodPlan));
+    for index in 0..3 {
+        for field in 0..3 {
+            let mut wrong = GOOD_NODES;
+            match field {
+                0 => wrong[index].kind += 1,
+                1 => wrong[index].start += 1,
+                _ => wrong[index].end += 1 << 15,
+            }
+            assert_eq!(extracted_with(&wrong), Err(Refusal::NoGoodPlan));
+        }
+    }
 }
 
 #[test]
 fn refusals_of_an_extract() {
-    let (mut plan, n) = loaded(&good());
+    let (mut plan, n, table) = loaded(&good());
     let mut scratch = vec![0; n];
     let past = plan.len() + 1;
-    let refused = extract(&mut plan, past, &mut scratch);
+    let refused = extract(&mut plan, past, &mut scratch, &table);
     assert_eq!(refused, Err(Refusal::NoGoodPlan));
-    assert_eq!(
-        extract(&mut plan, n - 1, &mut scratch),
-        Err(Refusal::NoGoodPlan)
-    );
-    assert_eq!(extract(&mut plan, 0, &mut scratch), Err(Refusal::PlanEmpty));
-    let refused = extract(&mut plan, n, &mut scratch[1..]);
+    let refused = extract(&mut plan, n - 1, &mut scratch, &table);
+    assert_eq!(refused, Err(Refusal::NoGoodPlan));
+    let refused = extract(&mut plan, 0, &mut scratch, &table);
+    assert_eq!(refused, Err(Refusal::PlanEmpty));
+    let refused = extract(&mut plan, n, &mut scratch[1..], &table);
     assert_eq!(refused, Err(Refusal::TooShort));
     assert_eq!(plan[..n], good());
 
-    let extracted = extract(&mut plan, n, &mut scratch).expect("it matches");
+    let extracted = extract(&mut plan, n, &mut scratch, &table).expect("it matches");
     assert_eq!(
         plan[..extracted],
         [&[0x11, 0, 0, 2], LEFT, LEFT, &[0]].concat()
     );
     assert_eq!(scratch, good());
-    let again = extract(&mut plan, extracted, &mut scratch);
-    assert_eq!(again, Err(Refusal::AlreadyExtracted));
+    for table in [&table[..], &[]] {
+        let again = extract(&mut plan, extracted, &mut scratch, table);
+        assert_eq!(again, Err(Refusal::AlreadyExtracted));
+    }
 
-    let (mut plan, n) = loaded(&[RECORDS, LEFT].concat());
-    assert_eq!(extract(&mut plan, n, &mut scratch), Err(Refusal::NoMatch));
+    let (mut plan, n, table) = loaded(&[RECORDS, LEFT].concat());
+    let refused = extract(&mut plan, n, &mut scratch, &table);
+    assert_eq!(refused, Err(Refusal::NoMatch));
 }
 
 #[test]
 fn refusals_of_an_exchange() {
-    let (mut plan, n) = loaded(&good());
+    let (mut plan, n, _) = loaded(&good());
     let mut scratch = vec![0; n];
     assert_eq!(
         exchange(&mut plan, n - 1, &mut scratch),
@@ -223,27 +310,27 @@ fn the_worked_run_with_a_row_policy() {
     let policy = line(include_str!("../../../examples/row-policy.txt"));
     let answers = include_str!("../../../examples/row-policy-answers.txt");
     let answers: Vec<&str> = answers.lines().collect();
-    let (mut plan, n) = loaded(&frame);
+    let (mut plan, n, mut table) = loaded(&frame);
     let mut scratch = vec![7; MOST_BYTES];
     assert_eq!([&[0], &plan[..n]].concat(), bytes(answers[0]));
-    let merged = merge(&policy, &mut plan, n, &mut scratch).expect("two good frames");
+    let merged = merge(&policy, &mut plan, n, &mut scratch, &mut table).expect("two good frames");
     assert_eq!(merged, n + policy.len() - 1);
     assert_eq!([&[0], &plan[..merged]].concat(), bytes(answers[1]));
     assert_eq!(scratch[..n], frame);
     assert_eq!(scratch[n..], vec![7; MOST_BYTES - n]);
     assert_eq!(plan[merged..], vec![0; MOST_BYTES - merged]);
     assert_eq!(text_of(&plan[..merged]), answers[2]);
-    let extracted = extract(&mut plan, merged, &mut scratch).expect("it matches");
+    let extracted = extract(&mut plan, merged, &mut scratch, &table).expect("it matches");
     assert_eq!([&[0], &plan[..extracted]].concat(), bytes(answers[3]));
 }
 
 #[test]
 fn the_position_of_the_conjunct_that_was_taken() {
-    let (mut plan, n) = loaded(&[RECORDS, LEFT].concat());
+    let (mut plan, n, mut table) = loaded(&[RECORDS, LEFT].concat());
     let mut scratch = vec![0; MOST_BYTES];
-    let n = merge(&good(), &mut plan, n, &mut scratch).expect("two good frames");
+    let n = merge(&good(), &mut plan, n, &mut scratch, &mut table).expect("two good frames");
     assert_eq!(position(&plan[..n]), None);
-    let n = extract(&mut plan, n, &mut scratch).expect("the second matches");
+    let n = extract(&mut plan, n, &mut scratch, &table).expect("the second matches");
     assert_eq!(position(&plan[..n]), Some(1));
     plan[1..3].copy_from_slice(&[0xff, 0xfe]);
     let n = exchange(&mut plan, n, &mut scratch).expect("any position is good");
@@ -269,10 +356,10 @@ fn price_lines_with_a_row_policy() {
     let rows = rows_with_a_policy();
     assert_eq!(frames.len(), 2 * rows.len());
     for (pair, row) in frames.chunks(2).zip(rows) {
-        let (mut plan, n) = loaded(&pair[0]);
+        let (mut plan, n, mut table) = loaded(&pair[0]);
         let mut scratch = vec![0; MOST_BYTES];
-        let n = merge(&pair[1], &mut plan, n, &mut scratch).expect("two good frames");
-        let (answer, line) = match extract(&mut plan, n, &mut scratch) {
+        let n = merge(&pair[1], &mut plan, n, &mut scratch, &mut table).expect("two good frames");
+        let (answer, line) = match extract(&mut plan, n, &mut scratch, &table) {
             Ok(length) => {
                 let line = ["indexed, relation", "indexed, distance", "indexed, KNN"];
                 let line = line[usize::from(plan[0] - 0x11)];
@@ -293,8 +380,10 @@ fn merge_into_good(frame: &[u8], scratch: usize, room: usize) -> Result<usize, R
     let n = plan.len();
     plan.resize(room, 7);
     let (before, mut scratch) = (plan.clone(), vec![7; scratch]);
-    let answer = merge(frame, &mut plan, n, &mut scratch);
-    assert!(answer.is_ok() || plan == before && scratch == vec![7; scratch.len()]);
+    let mut nodes = table();
+    let answer = merge(frame, &mut plan, n, &mut scratch, &mut nodes);
+    let kept = plan == before && scratch == vec![7; scratch.len()] && nodes == table();
+    assert!(answer.is_ok() || kept);
     answer
 }
 
@@ -327,15 +416,34 @@ fn refusals_of_a_merge() {
 
 #[test]
 fn refusals_of_a_merge_by_the_plan() {
-    let (mut plan, n) = loaded(&good());
+    let (mut plan, n, mut table) = loaded(&good());
     let mut scratch = vec![0; n];
-    let empty = merge(&good(), &mut plan, 0, &mut scratch);
+    let empty = merge(&good(), &mut plan, 0, &mut scratch, &mut table);
     assert_eq!(empty, Err(Refusal::PlanEmpty));
-    let cut = merge(&good(), &mut plan, n - 1, &mut scratch);
+    let cut = merge(&good(), &mut plan, n - 1, &mut scratch, &mut table);
     assert_eq!(cut, Err(Refusal::NoGoodPlan));
-    let extracted = extract(&mut plan, n, &mut scratch).expect("it matches");
-    let late = merge(&good(), &mut plan, extracted, &mut scratch);
+    let extracted = extract(&mut plan, n, &mut scratch, &table).expect("it matches");
+    let late = merge(&good(), &mut plan, extracted, &mut scratch, &mut table);
     assert_eq!(late, Err(Refusal::AlreadyExtracted));
+}
+
+/// Merged, `good()` and itself have 7 nodes.
+#[test]
+fn the_table_of_a_merge() {
+    let (mut plan, n, _) = loaded(&good());
+    let mut scratch = vec![0; n];
+    let mut short = [STRAY; 6];
+    let refused = merge(&good(), &mut plan, n, &mut scratch, &mut short);
+    assert_eq!(refused, Err(Refusal::TableTooShort));
+    assert_eq!((&plan[..n], short), (&good()[..], [STRAY; 6]));
+    let refused = merge(&good(), &mut plan, n, &mut scratch[1..], &mut short);
+    assert_eq!(refused, Err(Refusal::TooShort));
+    let mut table = [STRAY; 8];
+    let merged = merge(&good(), &mut plan, n, &mut scratch, &mut table).expect("there is room");
+    let (_, _, afresh) = loaded(&plan[..merged]);
+    assert_eq!(table[..7], afresh[..7]);
+    assert_eq!(table[7], STRAY);
+    assert!(extract(&mut plan, merged, &mut vec![0; merged], &table).is_ok());
 }
 
 #[test]

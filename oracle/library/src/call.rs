@@ -6,9 +6,10 @@ use driver::rng::Rng;
 use reading::calls;
 use reading::program::hex;
 use reading::refusal::Refusal;
-use spatialjoin::numbers;
+use spatialjoin::{Node, numbers};
 
 use crate::lent::Lent;
+use crate::tables::{of_reading, to_reading};
 
 #[derive(Clone, Copy, Debug, PartialEq, Eq, PartialOrd, Ord)]
 pub enum Kind {
@@ -30,15 +31,18 @@ pub struct Call {
     pub scratch: Vec<u8>,
     /// Of a print.
     pub text: Vec<u8>,
+    /// Of a load, of an extract and of a merge.
+    pub table: Vec<Node>,
 }
 
-/// An answer, and the buffers after it.
+/// An answer, and the buffers and the table after it.
 #[derive(PartialEq, Eq)]
 pub struct Outcome {
     pub answer: i64,
     pub plan: Vec<u8>,
     pub scratch: Vec<u8>,
     pub text: Vec<u8>,
+    pub table: Vec<Node>,
 }
 
 /// The library's outcome, and whether it left alone what wasn't its to write.
@@ -52,48 +56,61 @@ impl Call {
     pub fn expected(&self) -> Outcome {
         let (mut n, mut plan, mut scratch) = (self.n, self.plan.clone(), self.scratch.clone());
         let mut text = self.text.clone();
+        let mut table: Vec<_> = self.table.iter().map(to_reading).collect();
         let length = |result: Result<usize, Refusal>| result.map(|length| length as i64);
         let answer = match self.kind {
-            Kind::Load => length(calls::load(&self.frame, &mut n, &mut plan)),
-            Kind::Extract => length(calls::extract(&mut n, &mut plan, &mut scratch)),
+            Kind::Load => length(calls::load(&self.frame, &mut n, &mut plan, &mut table)),
+            Kind::Extract => length(calls::extract(&mut n, &mut plan, &mut scratch, &table)),
             Kind::Exchange => length(calls::exchange(&mut n, &mut plan, &mut scratch)),
             Kind::Logical => {
                 calls::logical(&self.frame).map(|bytes| i64::from(u32::from_be_bytes(bytes)))
             }
             Kind::Print => length(calls::print(&self.frame, &mut text)),
-            Kind::Merge => length(calls::merge(&self.frame, &mut n, &mut plan, &mut scratch)),
+            Kind::Merge => {
+                let (plan, scratch) = (&mut plan, &mut scratch);
+                length(calls::merge(&self.frame, &mut n, plan, scratch, &mut table))
+            }
         };
         Outcome {
             answer: answer.unwrap_or_else(|refusal| -i64::from(refusal.number())),
             plan,
             scratch,
             text,
+            table: table.iter().map(of_reading).collect(),
         }
     }
 
     pub fn given(&self, rng: &mut Rng) -> Given {
-        let frame = Lent::new(rng, &self.frame);
-        let mut plan = Lent::new(rng, &self.plan);
-        let mut scratch = Lent::new(rng, &self.scratch);
-        let mut text = Lent::new(rng, &self.text);
+        let frame = Lent::bytes(rng, &self.frame);
+        let mut plan = Lent::bytes(rng, &self.plan);
+        let mut scratch = Lent::bytes(rng, &self.scratch);
+        let mut text = Lent::bytes(rng, &self.text);
+        let mut table = Lent::records(rng, &self.table);
         let n = self.n;
         let answer = match self.kind {
-            Kind::Load => numbers::load(frame.bytes(), plan.bytes_mut()),
-            Kind::Extract => numbers::extract(plan.bytes_mut(), n, scratch.bytes_mut()),
-            Kind::Exchange => numbers::exchange(plan.bytes_mut(), n, scratch.bytes_mut()),
-            Kind::Logical => numbers::logical(frame.bytes()),
-            Kind::Print => numbers::print(frame.bytes(), text.bytes_mut()),
-            Kind::Merge => numbers::merge(frame.bytes(), plan.bytes_mut(), n, scratch.bytes_mut()),
+            Kind::Load => numbers::load(frame.items(), plan.items_mut(), table.items_mut()),
+            Kind::Extract => {
+                numbers::extract(plan.items_mut(), n, scratch.items_mut(), table.items())
+            }
+            Kind::Exchange => numbers::exchange(plan.items_mut(), n, scratch.items_mut()),
+            Kind::Logical => numbers::logical(frame.items()),
+            Kind::Print => numbers::print(frame.items(), text.items_mut()),
+            Kind::Merge => {
+                let (plan, scratch) = (plan.items_mut(), scratch.items_mut());
+                numbers::merge(frame.items(), plan, n, scratch, table.items_mut())
+            }
         };
         Given {
             outcome: Outcome {
                 answer,
-                plan: plan.bytes().to_vec(),
-                scratch: scratch.bytes().to_vec(),
-                text: text.bytes().to_vec(),
+                plan: plan.items().to_vec(),
+                scratch: scratch.items().to_vec(),
+                text: text.items().to_vec(),
+                table: table.items().to_vec(),
             },
-            frame_holds: frame.bytes() == self.frame,
-            guards_hold: [frame, plan, scratch, text].iter().all(Lent::guards_hold),
+            frame_holds: frame.items() == self.frame,
+            guards_hold: [frame, plan, scratch, text].iter().all(Lent::guards_hold)
+                && table.guards_hold(),
         }
     }
 }
@@ -115,6 +132,9 @@ impl Given {
                 faults.push(format!("the {name}, {}", shown(given)));
             }
         }
+        if self.outcome.table != expected.table {
+            faults.push(format!("the table, {}", records(&self.outcome.table)));
+        }
         if !self.frame_holds {
             faults.push("the frame was written to".to_owned());
         }
@@ -123,6 +143,12 @@ impl Given {
         }
         faults
     }
+}
+
+fn records(table: &[Node]) -> String {
+    let record = |node: &Node| format!("{}:{}-{}", node.kind, node.start, node.end);
+    let records: Vec<String> = table.iter().map(record).collect();
+    format!("{} records: {}", table.len(), records.join(" "))
 }
 
 fn shown(bytes: &[u8]) -> String {
@@ -136,7 +162,8 @@ impl fmt::Display for Call {
         writeln!(f, "  frame    {}", shown(&self.frame))?;
         writeln!(f, "  plan     {}", shown(&self.plan))?;
         writeln!(f, "  scratch  {}", shown(&self.scratch))?;
-        write!(f, "  text     {}", shown(&self.text))
+        writeln!(f, "  text     {}", shown(&self.text))?;
+        write!(f, "  table    {}", records(&self.table))
     }
 }
 
@@ -145,6 +172,7 @@ impl fmt::Display for Outcome {
         writeln!(f, "  answer   {}", self.answer)?;
         writeln!(f, "  plan     {}", shown(&self.plan))?;
         writeln!(f, "  scratch  {}", shown(&self.scratch))?;
-        write!(f, "  text     {}", shown(&self.text))
+        writeln!(f, "  text     {}", shown(&self.text))?;
+        write!(f, "  table    {}", records(&self.table))
     }
 }

@@ -5,12 +5,15 @@ use crate::call::Kind;
 
 /// The calls, with the refusals that documents 01 and 02 give each of them.
 const ANSWERS: [(Kind, &[i64]); 6] = [
-    (Kind::Load, &[1, 2, 3, 4, 5, 6, 7, 8, 9]),
+    (Kind::Load, &[1, 2, 3, 4, 5, 6, 7, 8, 9, 17]),
     (Kind::Extract, &[9, 10, 11, 12, 13]),
     (Kind::Exchange, &[9, 10, 11]),
     (Kind::Logical, &[1, 2, 3, 4, 5, 7]),
     (Kind::Print, &[1, 2, 3, 4, 5, 6, 7, 8, 15]),
-    (Kind::Merge, &[1, 2, 3, 4, 5, 6, 7, 8, 9, 10, 11, 12, 16]),
+    (
+        Kind::Merge,
+        &[1, 2, 3, 4, 5, 6, 7, 8, 9, 10, 11, 12, 16, 17],
+    ),
 ];
 
 /// How many calls there were of each kind, by what they answered.

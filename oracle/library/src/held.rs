@@ -4,12 +4,16 @@ use driver::make::damage::{damage, likely_bytes};
 use driver::make::extractions::extraction;
 use driver::rng::Rng;
 use reading::frame::MAX_BYTES;
+use spatialjoin::Node;
 
 use crate::call::{Call, Kind, Outcome};
+use crate::tables;
 
 pub struct Held {
     n: usize,
     plan: Vec<u8>,
+    /// As the last call left it; longer than it need be, at times.
+    table: Vec<Node>,
 }
 
 impl Held {
@@ -24,22 +28,29 @@ impl Held {
             _ => MAX_BYTES + rng.below(64),
         };
         let plan = any_bytes(rng, length);
-        Held { n: 0, plan }
+        // A node has at least four bytes.
+        let table = tables::to_fill(rng, frame / 4);
+        Held { n: 0, plan, table }
     }
 
     /// What an accepted call left.
     pub fn left_by(outcome: Outcome) -> Option<Self> {
         let n = usize::try_from(outcome.answer).ok()?;
-        let plan = outcome.plan;
-        Some(Held { n, plan })
+        let Outcome { plan, table, .. } = outcome;
+        Some(Held { n, plan, table })
     }
 
-    /// So many bytes more in the buffer.
+    /// So many bytes more in the buffer, and as many records in the table as they could be nodes.
     pub fn lengthen(&mut self, rng: &mut Rng, by: usize) {
         self.plan.extend(any_bytes(rng, by));
+        self.table.extend(tables::any_nodes(rng, by / 4));
     }
 
-    pub fn with_frame(&self, kind: Kind, frame: Vec<u8>) -> Call {
+    /// At times with a table of another length; it stays the one that is held.
+    pub fn with_frame(&mut self, kind: Kind, frame: Vec<u8>, rng: &mut Rng) -> Call {
+        if kind == Kind::Load && rng.one_in(4) {
+            self.table = tables::to_fill(rng, tables::nodes_of(&frame).len());
+        }
         Call {
             kind,
             frame,
@@ -47,6 +58,7 @@ impl Held {
             plan: self.plan.clone(),
             scratch: Vec::new(),
             text: Vec::new(),
+            table: self.table.clone(),
         }
     }
 
@@ -69,6 +81,7 @@ impl Held {
             plan: self.plan.clone(),
             scratch: any_bytes(rng, length),
             text: Vec::new(),
+            table: self.table.clone(),
         }
     }
 
@@ -85,10 +98,29 @@ impl Held {
             self.n = length;
         }
         self.plan = outcome.plan;
+        self.table = outcome.table;
     }
 
-    /// In most cases nothing; else another n, a damaged plan, or one that no call made.
+    /// In most cases nothing; else another table, or another n, a damaged plan, or one that no call
+    /// made, at times with its own table.
     pub fn disturb(&mut self, rng: &mut Rng) {
+        self.disturb_plan(rng);
+        let held = self.plan.get(..self.n).unwrap_or_default();
+        match rng.below(24) {
+            0 => {
+                let nodes = tables::nodes_of(held);
+                tables::damage(rng, &mut self.table, nodes.len());
+            }
+            1 | 2 => {
+                self.table = tables::nodes_of(held);
+                let more = rng.below(3);
+                self.table.extend(tables::any_nodes(rng, more));
+            }
+            _ => (),
+        }
+    }
+
+    fn disturb_plan(&mut self, rng: &mut Rng) {
         match rng.below(48) {
             0 => self.n = self.past_the_end(rng),
             1 => self.n = rng.below(self.plan.len() + 1),

@@ -1,36 +1,57 @@
 use driver::rng::Rng;
+use spatialjoin::Node;
+
+use crate::tables::any_node;
 
 /// Bytes on either side of a lent buffer that no call may change.
 const GUARD: usize = 64;
 
-/// A buffer to lend, with guard bytes on both sides.
-pub struct Lent {
-    memory: Vec<u8>,
-    as_lent: Vec<u8>,
+/// Records on either side of a lent table.
+const GUARD_RECORDS: usize = 6;
+
+/// A buffer or table to lend, with guards on both sides.
+pub struct Lent<T> {
+    memory: Vec<T>,
+    as_lent: Vec<T>,
     start: usize,
     len: usize,
 }
 
-impl Lent {
-    pub fn new(rng: &mut Rng, bytes: &[u8]) -> Self {
-        // Any alignment.
+impl Lent<u8> {
+    /// With any alignment.
+    pub fn bytes(rng: &mut Rng, bytes: &[u8]) -> Self {
         let start = GUARD + rng.below(16);
-        let mut memory = likely_bytes(rng, start);
-        memory.extend(bytes);
-        memory.extend(likely_bytes(rng, GUARD));
+        let before = likely_bytes(rng, start);
+        let after = likely_bytes(rng, GUARD);
+        Lent::between(before, bytes, after)
+    }
+}
+
+impl Lent<Node> {
+    pub fn records(rng: &mut Rng, records: &[Node]) -> Self {
+        let guard = |_| any_node(rng);
+        let mut before: Vec<Node> = (0..2 * GUARD_RECORDS).map(guard).collect();
+        let after = before.split_off(GUARD_RECORDS);
+        Lent::between(before, records, after)
+    }
+}
+
+impl<T: Copy + PartialEq> Lent<T> {
+    fn between(before: Vec<T>, items: &[T], after: Vec<T>) -> Self {
+        let memory = [&before[..], items, &after].concat();
         Lent {
             as_lent: memory.clone(),
             memory,
-            start,
-            len: bytes.len(),
+            start: before.len(),
+            len: items.len(),
         }
     }
 
-    pub fn bytes(&self) -> &[u8] {
+    pub fn items(&self) -> &[T] {
         &self.memory[self.start..self.start + self.len]
     }
 
-    pub fn bytes_mut(&mut self) -> &mut [u8] {
+    pub fn items_mut(&mut self) -> &mut [T] {
         &mut self.memory[self.start..self.start + self.len]
     }
 

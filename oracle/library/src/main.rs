@@ -5,6 +5,7 @@ mod counts;
 mod held;
 mod lent;
 mod merges;
+mod tables;
 mod texts;
 
 use std::env;
@@ -71,7 +72,10 @@ fn run(rng: &mut Rng, case: &Case, counts: &mut Counts) -> Result<(), String> {
     let mut held = Held::new(rng, longest(&asked));
     for asked in &asked {
         let call = match asked {
-            Asked::OfFrame(frame) => held.with_frame(frame_call(rng, frame), frame.clone()),
+            Asked::OfFrame(frame) => {
+                let kind = frame_call(rng, frame);
+                held.with_frame(kind, frame.clone(), rng)
+            }
             Asked::OfPlan(kind) => {
                 held.disturb(rng);
                 held.with_scratch(*kind, rng)

@@ -11,6 +11,7 @@ use crate::call::{Call, Kind};
 use crate::compare;
 use crate::counts::Counts;
 use crate::held::{Held, any_bytes};
+use crate::tables;
 
 /// Merges of a pair with all rooms, then calls on the plan that one of them left.
 pub fn run(rng: &mut Rng, pair: &Pair, counts: &mut Counts) -> Result<(), String> {
@@ -79,6 +80,7 @@ fn calls(rng: &mut Rng, plan: &[u8], frame: &[u8]) -> Vec<Call> {
         rng.shuffle(&mut pairs);
         pairs.truncate(4);
     }
+    let nodes = 1 + tables::nodes_of(plan).len() + tables::nodes_of(frame).len();
     let call = |(scratch, room)| Call {
         kind: Kind::Merge,
         frame: frame.to_vec(),
@@ -86,6 +88,7 @@ fn calls(rng: &mut Rng, plan: &[u8], frame: &[u8]) -> Vec<Call> {
         plan: in_buffer(rng, plan, room),
         scratch: any_bytes(rng, scratch),
         text: Vec::new(),
+        table: tables::to_fill(rng, nodes),
     };
     pairs.into_iter().map(call).collect()
 }

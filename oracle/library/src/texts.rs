@@ -41,6 +41,7 @@ pub fn prints_of(rng: &mut Rng, frame: &[u8]) -> Vec<Call> {
         plan: Vec::new(),
         scratch: Vec::new(),
         text: any_bytes(rng, room),
+        table: Vec::new(),
     };
     rooms.into_iter().map(print).collect()
 }

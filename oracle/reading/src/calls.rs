@@ -1,24 +1,40 @@
 //! The calls, on lent buffers. Of those that change the plan an accepted one gives the new plan's
-//! length, which `n` then holds too; a refused call leaves `n` and all buffers as they were.
+//! length, which `n` then holds too; a refused call leaves `n`, the table and all buffers as they were.
 
 use crate::frame::Plan;
 use crate::merge::{merged, within_limits};
+use crate::nodes::{self, Node};
 use crate::refusal::Refusal;
 use crate::{decode, encode, logical as logical_half, physical, print as console};
 
-/// Nothing of the old plan is read: `n` is only set.
-pub fn load(frame: &[u8], n: &mut usize, buffer: &mut [u8]) -> Result<usize, Refusal> {
-    decode::physical(frame)?;
+/// Nothing of the old plan is read: `n` is only set. Request 6 of document 02: the table is filled.
+pub fn load(
+    frame: &[u8],
+    n: &mut usize,
+    buffer: &mut [u8],
+    table: &mut [Node],
+) -> Result<usize, Refusal> {
+    let new = decode::physical(frame)?;
     let plan = buffer.get_mut(..frame.len()).ok_or(Refusal::NoRoom)?;
+    nodes::fill(table, &nodes::table(&new)).ok_or(Refusal::TableRoom)?;
     plan.copy_from_slice(frame);
     *n = frame.len();
     Ok(*n)
 }
 
-pub fn extract(n: &mut usize, buffer: &mut [u8], scratch: &mut [u8]) -> Result<usize, Refusal> {
+/// Request 6 of document 02: a held frame needs a table that begins with its nodes.
+pub fn extract(
+    n: &mut usize,
+    buffer: &mut [u8],
+    scratch: &mut [u8],
+    table: &[Node],
+) -> Result<usize, Refusal> {
     let Plan::Frame(frame) = held(*n, buffer)? else {
         return Err(Refusal::Extracted);
     };
+    if !table.starts_with(&nodes::table(&frame)) {
+        return Err(Refusal::BadPlan);
+    }
     if scratch.len() < *n {
         return Err(Refusal::NoRoom);
     }
@@ -47,12 +63,14 @@ pub fn print(frame: &[u8], buffer: &mut [u8]) -> Result<usize, Refusal> {
     Ok(text.len())
 }
 
-/// Request 2 of document 02: the held filter And this one. 9 is for either buffer.
+/// Request 2 of document 02: the held filter And this one. 9 is for either buffer. Request 6: the
+/// table is filled anew, whatever it held.
 pub fn merge(
     frame: &[u8],
     n: &mut usize,
     buffer: &mut [u8],
     scratch: &mut [u8],
+    table: &mut [Node],
 ) -> Result<usize, Refusal> {
     let new = decode::physical(frame)?;
     let Plan::Frame(held) = held(*n, buffer)? else {
@@ -65,6 +83,7 @@ pub fn merge(
     if scratch.len() < *n || buffer.len() < encode::physical(&merged).len() {
         return Err(Refusal::NoRoom);
     }
+    nodes::fill(table, &nodes::table(&merged)).ok_or(Refusal::TableRoom)?;
     Ok(replace(&Plan::Frame(merged), n, buffer, scratch))
 }
 

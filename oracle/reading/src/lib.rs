@@ -8,6 +8,7 @@ pub mod encode;
 pub mod frame;
 pub mod logical;
 pub mod merge;
+pub mod nodes;
 pub mod physical;
 pub mod print;
 pub mod program;

@@ -3,7 +3,8 @@
 use std::io::{self, BufRead, Write};
 
 use crate::calls;
-use crate::frame::{LOGICAL, MAX_BYTES, PHYSICAL};
+use crate::frame::{LOGICAL, MAX_BYTES, MAX_NODES, PHYSICAL};
+use crate::nodes::Node;
 use crate::refusal::Refusal;
 
 const EXTRACT: u8 = 0x21;
@@ -13,6 +14,7 @@ pub struct Program {
     n: usize,
     buffer: Vec<u8>,
     scratch: Vec<u8>,
+    table: Vec<Node>,
 }
 
 impl Default for Program {
@@ -21,6 +23,7 @@ impl Default for Program {
             n: 0,
             buffer: vec![0; MAX_BYTES],
             scratch: vec![0; MAX_BYTES],
+            table: vec![Node::default(); MAX_NODES],
         }
     }
 }
@@ -35,12 +38,17 @@ impl Program {
     }
 
     fn call(&mut self, frame: &[u8]) -> Result<Vec<u8>, Refusal> {
-        let Program { n, buffer, scratch } = self;
+        let Program {
+            n,
+            buffer,
+            scratch,
+            table,
+        } = self;
         match frame {
             [] => return Err(Refusal::FrameLength),
-            [PHYSICAL, ..] => calls::load(frame, n, buffer)?,
+            [PHYSICAL, ..] => calls::load(frame, n, buffer, table)?,
             [LOGICAL, ..] => return calls::logical(frame).map(Vec::from),
-            [EXTRACT] => calls::extract(n, buffer, scratch)?,
+            [EXTRACT] => calls::extract(n, buffer, scratch, table)?,
             [EXCHANGE] => calls::exchange(n, buffer, scratch)?,
             [EXTRACT | EXCHANGE, ..] => return Err(Refusal::BytesAfter),
             _ => return Err(Refusal::FirstByte),

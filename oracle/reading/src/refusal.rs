@@ -33,6 +33,8 @@ pub enum Refusal {
     TextRoom = 15,
     /// Merged frame over a limit.
     MergedLimit = 16,
+    /// Table shorter than the node count.
+    TableRoom = 17,
 }
 
 impl Refusal {

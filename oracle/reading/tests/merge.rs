@@ -5,15 +5,17 @@ mod common;
 use common::{and, answers, call, frame, frame_of, left, literal, other, record, right};
 use reading::calls::{exchange, extract, load, merge, print};
 use reading::decode::physical;
-use reading::frame::{Expr, Record, Side, literal as types, operator};
+use reading::frame::{Expr, MAX_NODES, Record, Side, literal as types, operator};
+use reading::nodes::{self, Node};
 use reading::program::{hex, parse};
 use reading::refusal::Refusal;
 
-/// A host's buffers, with bytes after the plan.
+/// A host's buffers, with bytes after the plan, and its table.
 struct Host {
     n: usize,
     plan: Vec<u8>,
     scratch: Vec<u8>,
+    table: Vec<Node>,
 }
 
 impl Host {
@@ -24,26 +26,43 @@ impl Host {
             n: bytes.len(),
             plan,
             scratch: vec![0xbb; 40_000],
+            table: filled(bytes),
         }
     }
 
-    /// Refused, it writes nothing; accepted, it leaves the old plan and keeps every other byte.
+    /// Refused, it writes nothing; accepted, it leaves the old plan, fills the table, and keeps every
+    /// other byte and record.
     fn merge(&mut self, frame: &[u8]) -> Result<usize, u8> {
-        let (n, plan, scratch) = (self.n, self.plan.clone(), self.scratch.clone());
-        let answer = merge(frame, &mut self.n, &mut self.plan, &mut self.scratch);
+        let (n, plan, scratch, table) = self.state();
+        let answer = merge(
+            frame,
+            &mut self.n,
+            &mut self.plan,
+            &mut self.scratch,
+            &mut self.table,
+        );
         match answer {
             Ok(length) => {
                 assert_eq!(length, self.n);
                 assert!(self.scratch[..n] == plan[..n] && self.scratch[n..] == scratch[n..]);
                 assert!(self.plan[length..] == plan[length..]);
+                let merged = nodes::table(&physical(self.plan()).unwrap());
+                assert_eq!(self.table[..merged.len()], merged);
+                assert_eq!(self.table[merged.len()..], table[merged.len()..]);
             }
-            Err(_) => assert!((n, plan, scratch) == self.state()),
+            Err(_) => assert!((n, plan, scratch, table) == self.state()),
         }
         answer.map_err(Refusal::number)
     }
 
-    fn state(&self) -> (usize, Vec<u8>, Vec<u8>) {
-        (self.n, self.plan.clone(), self.scratch.clone())
+    fn state(&self) -> (usize, Vec<u8>, Vec<u8>, Vec<Node>) {
+        let Host {
+            n,
+            plan,
+            scratch,
+            table,
+        } = self;
+        (*n, plan.clone(), scratch.clone(), table.clone())
     }
 
     fn plan(&self) -> &[u8] {
@@ -51,12 +70,24 @@ impl Host {
     }
 
     fn extract(&mut self) -> Result<usize, Refusal> {
-        extract(&mut self.n, &mut self.plan, &mut self.scratch)
+        extract(&mut self.n, &mut self.plan, &mut self.scratch, &self.table)
     }
 
     fn exchange(&mut self) -> Result<usize, Refusal> {
         exchange(&mut self.n, &mut self.plan, &mut self.scratch)
     }
+}
+
+/// A table of the frame's nodes and others after them.
+fn filled(frame: &[u8]) -> Vec<Node> {
+    let mut table = physical(frame).map_or(Vec::new(), |frame| nodes::table(&frame));
+    let other = Node {
+        kind: 9,
+        start: 8,
+        end: 7,
+    };
+    table.resize(MAX_NODES, other);
+    table
 }
 
 /// The plan after a merge that is accepted.
@@ -273,6 +304,22 @@ fn the_plan_then_16_then_9() {
     assert_eq!(Refusal::MergedLimit.number(), 16);
 }
 
+/// 17 comes after 9 and on a table that lacks one node.
+#[test]
+fn room_in_the_table() {
+    let (held, new) = (alone(tree(5)), alone(tree(7)));
+    let answer = |scratch, records| {
+        let mut host = Host::holding(&held);
+        host.scratch.truncate(scratch);
+        host.table.truncate(records);
+        host.merge(&new).err().unwrap_or(0)
+    };
+    assert_eq!(answer(held.len(), 13), 0);
+    assert_eq!(answer(held.len(), 12), 17);
+    assert_eq!(answer(held.len(), 0), 17);
+    assert_eq!(answer(held.len() - 1, 0), 9);
+}
+
 #[test]
 fn into_an_exchanged_frame() {
     let held = frame(left());
@@ -310,7 +357,8 @@ fn a_merged_frame_is_held_like_a_loaded_one() {
     let length = host.merge(&policy).unwrap();
     let mut loaded = Host::holding(&[]);
     let frame = host.plan().to_vec();
-    assert_eq!(load(&frame, &mut loaded.n, &mut loaded.plan), Ok(length));
+    let Host { n, plan, table, .. } = &mut loaded;
+    assert_eq!(load(&frame, n, plan, table), Ok(length));
     assert_eq!(host.extract(), loaded.extract());
     assert_eq!(host.plan(), loaded.plan());
     assert_eq!(host.plan()[0], 0x13);

@@ -71,8 +71,16 @@ fn a_held_k_of_0_is_10_before_all_else() {
         let bad = |answer| if fine { answer } else { Err(Refusal::BadPlan) };
         assert_eq!(call(exchange, n), bad(Ok(n)));
         assert_eq!(call(exchange, 0), bad(Err(Refusal::NoRoom)));
-        assert_eq!(call(extract, n), bad(Err(Refusal::Extracted)));
-        let merged = merge(&new, &mut { n }, &mut held.clone(), &mut vec![0; n]);
+        let without_table =
+            |n: &mut usize, plan: &mut [u8], scratch: &mut [u8]| extract(n, plan, scratch, &[]);
+        assert_eq!(call(without_table, n), bad(Err(Refusal::Extracted)));
+        let merged = merge(
+            &new,
+            &mut { n },
+            &mut held.clone(),
+            &mut vec![0; n],
+            &mut [],
+        );
         assert_eq!(merged, bad(Err(Refusal::Extracted)));
     }
 }

@@ -4,12 +4,19 @@ mod common;
 
 use common::{and, answers, call, frame, frame_of, left, literal, other, record, right};
 use reading::calls::{exchange, extract, load, logical};
-use reading::frame::{Expr, Side, literal as types, operator};
+use reading::frame::{Expr, MAX_NODES, Side, literal as types, operator};
+use reading::nodes::Node;
 use reading::program::run;
 use reading::refusal::Refusal;
 
 fn refused(frame: &[u8]) -> u8 {
-    load(frame, &mut 0, &mut [0; 20_000]).map_or_else(Refusal::number, |_| 0)
+    let answer = load(frame, &mut 0, &mut [0; 20_000], &mut records());
+    answer.map_or_else(Refusal::number, |_| 0)
+}
+
+/// A table that is long enough for every frame.
+fn records() -> Vec<Node> {
+    vec![Node::default(); MAX_NODES]
 }
 
 fn chain(depth: usize) -> Expr {
@@ -111,11 +118,16 @@ fn logical_columns_only_in_logical_frames() {
 fn a_refused_call_changes_nothing() {
     let frame = frame(call("st_covers", vec![right(), left()]));
     let (mut n, mut buffer, mut scratch) = (0, vec![0xaa; 200], vec![0xbb; 200]);
-    assert_eq!(load(&frame, &mut n, &mut buffer[..3]), Err(Refusal::NoRoom));
-    assert_eq!(load(&frame, &mut n, &mut buffer), Ok(frame.len()));
+    let mut table = records();
+    let refused = load(&frame, &mut n, &mut buffer[..3], &mut table);
+    assert_eq!(refused, Err(Refusal::NoRoom));
+    assert_eq!(table, records());
+    let loaded = load(&frame, &mut n, &mut buffer, &mut table);
+    assert_eq!(loaded, Ok(frame.len()));
     let before = buffer.clone();
     let short = &mut scratch[..frame.len() - 1];
-    assert_eq!(extract(&mut n, &mut buffer, short), Err(Refusal::NoRoom));
+    let refused = extract(&mut n, &mut buffer, short, &table);
+    assert_eq!(refused, Err(Refusal::NoRoom));
     assert_eq!(exchange(&mut n, &mut buffer, short), Err(Refusal::NoRoom));
     assert_eq!((n, &buffer), (frame.len(), &before));
     assert_eq!(scratch, vec![0xbb; 200]);
@@ -125,8 +137,9 @@ fn a_refused_call_changes_nothing() {
 fn an_accepted_call_keeps_the_other_bytes() {
     let frame = frame(call("st_covers", vec![right(), left()]));
     let (mut n, mut buffer, mut scratch) = (0, vec![0xaa; 200], vec![0xbb; 200]);
-    load(&frame, &mut n, &mut buffer).unwrap();
-    let length = extract(&mut n, &mut buffer, &mut scratch).unwrap();
+    let mut table = records();
+    load(&frame, &mut n, &mut buffer, &mut table).unwrap();
+    let length = extract(&mut n, &mut buffer, &mut scratch, &table).unwrap();
     assert_eq!(n, length);
     assert_eq!(scratch[..frame.len()], frame);
     assert_eq!(scratch[frame.len()..], [0xbb; 200][frame.len()..]);
@@ -139,7 +152,7 @@ fn held_plans() {
     let mut good = [0x11, 0, 0, 0, 4, 0, 0, 0, 4, 0, 0, 0, 0];
     let mut scratch = [0; 20];
     let call = |n: usize, buffer: &mut [u8], scratch: &mut [u8]| {
-        extract(&mut { n }, buffer, scratch).map_or_else(Refusal::number, |_| 0)
+        extract(&mut { n }, buffer, scratch, &[]).map_or_else(Refusal::number, |_| 0)
     };
     assert_eq!(call(13, &mut good, &mut scratch), 12);
     assert_eq!(call(12, &mut good, &mut scratch), 10);
