@@ -1,5 +1,5 @@
 -- When a table begins with a frame's records: its numbers tell.
-use Prim.Native.Nat.{ℕ, zero, suc, _+_, _*_, _≤_, _<_, min}
+use Prim.Native.Nat.{ℕ, zero, suc, _+_, _*_, _≤_, _<_}
 use native.Mathlib.Omega.{arith}
 use mathlib.Core.Path.{_≡_, refl, sym, ap, _∙_}
 use mathlib.Core.Bool.{Bool, true, false}
@@ -28,7 +28,7 @@ use Rattle.node_rows.proofs.RowLaws.{numbers-length}
 use Rattle.node_rows.proofs.TableLaws.{nodes-told, numbers-tell, same-tabled}
 use Rattle.node_rows.proofs.OneTree.{of-tree}
 use Rattle.call_extract.specs.FrameRows.{Indexed}
-use Rattle.call_extract.specs.ExtractByTable.{Begins, RowOf}
+use Rattle.call_extract.specs.ExtractByTable.{lentCount, Begins, RowOf}
 
 numbers-taken : (k : ℕ) (table : List NodeRecord) → take k (map number table) ≡ map number (take k table)
 numbers-taken zero table = refl
@@ -37,10 +37,10 @@ numbers-taken (suc k) (t ∷ table) = ap (λ (l : List ℕ). number t ∷ l) (nu
 
 -- ---- a row of the table's numbers
 
-pub row-begins : (count places : ℕ) (row : List ℕ) (table : List NodeRecord) → count ≤ places → count ≤ 1024 → RowOf row places table
-    → Begins count row table
-row-begins count places row table enough few of =
-    let m : ℕ = min places 1024 in
+pub row-begins : (n count places : ℕ) (row : List ℕ) (table : List NodeRecord) → count ≤ places → count ≤ 1024 → 3 * count ≤ n
+    → RowOf n row places table → Begins count row table
+row-begins n count places row table enough few small of =
+    let m : ℕ = lentCount n places in
     let less : count ≤ m = omega arith in
     record {
       long = omega (arith, of .long);
@@ -50,10 +50,10 @@ row-begins count places row table enough few of =
     }
 
 -- The row is as long as it says.
-pub row-long : (count places : ℕ) (row : List ℕ) (table : List NodeRecord) → count ≤ places → count ≤ 1024 → RowOf row places table
-    → count ≤ length row
-row-long count places row table enough few of =
-    let b = row-begins count places row table enough few of in
+pub row-long : (n count places : ℕ) (row : List ℕ) (table : List NodeRecord) → count ≤ places → count ≤ 1024 → 3 * count ≤ n
+    → RowOf n row places table → count ≤ length row
+row-long n count places row table enough few small of =
+    let b = row-begins n count places row table enough few small of in
     omega (
       arith,
       ap length (b .same),
@@ -113,7 +113,7 @@ module _ (n : ℕ) (plan : List ℕ) {f : Frame} (h : HoldsFrame n plan f) (byte
       (decided (beginsWith (nodeTable (h .frame)) table)
       (λ e. never (sym (begins-exactly-by (nodeTable (h .frame)) table .0 e) ∙ ap (λ (k : ℕ). take k table) counted)))
 
-  pub short-refused : (scratch row : List ℕ) (places : ℕ) (table : List NodeRecord) → places < f .nodes → RowOf row places table
+  pub short-refused : (scratch row : List ℕ) (places : ℕ) (table : List NodeRecord) → places < f .nodes → RowOf n row places table
       → extract n plan scratch table ≡ refuses n plan scratch 10
   short-refused scratch row places table less of =
       refuted scratch table (λ e. omega (arith, ap length e, counted, length-take (f .nodes) table, of .long))

@@ -1,5 +1,5 @@
 -- Request 6 of document 02: a lent table by the numbers of its records. (Ours.)
-use Prim.Native.Nat.{ℕ, _≤_, min}
+use Prim.Native.Nat.{ℕ, _≤_, _/_, min}
 use mathlib.Core.Path.{_≡_}
 use mathlib.Core.List.{List, map}
 use lib.ListN.{length, take}
@@ -14,10 +14,14 @@ pub record Begins (count : ℕ) (row : List ℕ) (table : List NodeRecord) : Typ
   pub long : count ≤ length table
   pub same : take count row ≡ map number (take count table)
 
--- The table has `places` records, and the row the numbers of the first 1,024 of them or of all.
-pub record RowOf (row : List ℕ) (places : ℕ) (table : List NodeRecord) : Type 0 where
+-- How many of a table's records can be those of a frame of n bytes: at most 1,024, and a third of its bytes.
+abbrev pub lentCount : (n places : ℕ) → ℕ
+lentCount n places = min (min places 1024) (n / 3)
+
+-- The table has `places` records, and the row the numbers of those that can be a frame's of n bytes.
+pub record RowOf (n : ℕ) (row : List ℕ) (places : ℕ) (table : List NodeRecord) : Type 0 where
   pub long : length table ≡ places
-  pub same : take (min places 1024) row ≡ map number (take (min places 1024) table)
+  pub same : take (lentCount n places) row ≡ map number (take (lentCount n places) table)
 
 -- For every such table the call is the definition's.
 abbrev pub ByTable : (Lent : List NodeRecord → Type 0) (n : ℕ) (before scratch after kept : List ℕ) → Answer → Type 0

@@ -68,7 +68,7 @@ fn extract_lent(
     places: usize,
 ) -> Answer
     requires { ⌜ HoldsFrame n (now plan) f ⌝ }
-    ensures { λ r. ⌜ ByTable (RowOf (now (row .entry)) places) n (now (plan .entry)) (now (scratch .entry)) (now (plan .exit))
+    ensures { λ r. ⌜ ByTable (RowOf n (now (row .entry)) places) n (now (plan .entry)) (now (scratch .entry)) (now (plan .exit))
         (now (scratch .exit)) r ⌝ }
 {
     if places < f.nodes || row.len() < f.nodes {
@@ -80,7 +80,7 @@ fn extract_lent(
     compare_many(plan, n, scratch, f, row)
 }
 
-// `row` has the numbers of the first 1,024 of the table's `places` records, or of all.
+// `row` has the numbers of the first of the table's `places` records, as many as a frame of n bytes can have.
 pub fn extract_by_table(
     plan: &mut [u8],
     n: usize,
@@ -88,7 +88,7 @@ pub fn extract_by_table(
     row: &[u32],
     places: usize,
 ) -> Answer
-    ensures { λ r. ⌜ ByTable (RowOf (now (row .entry)) places) n (now (plan .entry)) (now (scratch .entry)) (now (plan .exit))
+    ensures { λ r. ⌜ ByTable (RowOf n (now (row .entry)) places) n (now (plan .entry)) (now (scratch .entry)) (now (plan .exit))
         (now (scratch .exit)) r ⌝ }
 {
     if plan.len() < n {

@@ -1,12 +1,12 @@
 -- What a call says before the table is filled, and what the filled table is then, make the definition's outcome.
 use mathlib.Core.Path.{_≡_, sym, _∙_, ap, subst}
-use Prim.Native.Nat.{ℕ, _≤_, min}
+use Prim.Native.Nat.{ℕ, _≤_}
 use native.Mathlib.Omega.{arith}
 use mathlib.Core.List.{List, map, _++_}
 use lib.ListN.{length, length-map, take, drop}
 use lib.Seq.{take-at, length-take-le}
 use Rattle.definitions.specs.NodeTable as nodes
-use Rattle.call_extract.specs.ExtractByTable.{RowOf}
+use Rattle.call_extract.specs.ExtractByTable.{lentCount, RowOf}
 use Rattle.node_rows.specs.Numbers.{number}
 use Rattle.node_table.proofs.Filling.{map-take}
 use Rattle.node_table.specs.Records.{nodeOf, nodesOf, FilledIs}
@@ -49,9 +49,9 @@ module _ (table put : List NodeRecord) (r : Loaded) where
         (so .0, so .1, so .2, left-done after (r .root) (r .count) (nodesOf table) _ (nodesOf put) (so .3) filled)
 
 -- a row that begins with the numbers of a table's first records, as many as are taken
-pub row-of : (table : List NodeRecord) (count : ℕ) (before row : List ℕ) → count ≡ min (length table) 1024
-    → row ≡ take count (map number (nodesOf table)) ++ drop count before → RowOf row (length table) (nodesOf table)
-row-of table count before row e is =
+pub row-of : (n : ℕ) (table : List NodeRecord) (count : ℕ) (before row : List ℕ) → count ≡ lentCount n (length table)
+    → row ≡ take count (map number (nodesOf table)) ++ drop count before → RowOf n row (length table) (nodesOf table)
+row-of n table count before row e is =
     let numbers : List ℕ = map number (nodesOf table) in
     let first : take count row ≡ map number (take count (nodesOf table)) =
     ap (take count) is ∙ take-at (take count numbers) (drop count before) count

@@ -59,10 +59,10 @@ MergeLeft frame n before scratch held after scratched r =
 -- ---- an extract from the numbers of the table's records
 
 -- The row has the first numbers of some table of so many records. (Ours.)
-abbrev pub Lent : (row : List ℕ) (held : ℕ) → Type 0
-Lent row held = (table : List NodeRecord) × RowOf row held table
+abbrev pub Lent : (n : ℕ) (row : List ℕ) (held : ℕ) → Type 0
+Lent n row held = (table : List NodeRecord) × RowOf n row held table
 
 -- The extract is the definition's with every table of so many records whose first numbers are in the row. (Ours.)
 abbrev pub ExtractBy : (n : ℕ) (before scratch row : List ℕ) (held : ℕ) (after scratched : List ℕ) → ℤ → Type 0
 ExtractBy n before scratch row held after scratched r =
-    (table : List NodeRecord) → RowOf row held table → CallHosted (extract n before scratch table) after scratched r
+    (table : List NodeRecord) → RowOf n row held table → CallHosted (extract n before scratch table) after scratched r

@@ -5,6 +5,7 @@ use call_merge::merge;
 use host_answers::answer_number;
 ghost use mathlib.Core.Path.{_≡_};
 ghost use Prim.Native.Nat.{min};
+ghost use Rattle.call_extract.specs.ExtractByTable.{lentCount};
 ghost use Rattle.spatialjoin_c.specs.Hosted.{LoadLeft, MergeLeft, Lent, ExtractBy};
 
 // The answer, and what the table is to be filled with: the nodes of the expression that begins at `root`, `count` of them, or none.
@@ -49,16 +50,22 @@ pub fn merge_core(
     }
 }
 
-// How many of the table's records an extract takes: a frame has at most 1,024 nodes.
-pub fn taken_count(held: usize) -> usize
-    ensures { λ r. ⌜ r ≡ min held 1024 ⌝ }
+fn least(a: usize, b: usize) -> usize
+    ensures { λ r. ⌜ r ≡ min a b ⌝ }
 {
-    if held < 1024 { held } else { 1024 }
+    if a < b { a } else { b }
 }
 
-// `row` has the numbers of the first 1,024 of the table's `held` records, or of all.
+// How many of the table's records an extract takes: a frame of n bytes has at most 1,024 nodes, each of three bytes at least.
+pub fn taken_count(n: usize, held: usize) -> usize
+    ensures { λ r. ⌜ r ≡ lentCount n held ⌝ }
+{
+    least(least(held, 1024), n / 3)
+}
+
+// `row` has the numbers of the first of the table's `held` records, as many as are taken.
 pub fn extract_core(plan: &mut [u8], n: usize, scratch: &mut [u8], row: &[u32], held: usize) -> i64
-    requires { ⌜ Lent (now row) held ⌝ }
+    requires { ⌜ Lent n (now row) held ⌝ }
     ensures { λ r. ⌜ ExtractBy n (now (plan .entry)) (now (scratch .entry)) (now (row .entry)) held (now (plan .exit))
         (now (scratch .exit)) r ⌝ }
 {

@@ -46,7 +46,7 @@ pub extern "C" fn spatialjoin_extract(
     ensures { λ r. ⌜ CallHosted (definitions.extract n (now (plan .entry)) (now (scratch .entry)) (nodesOf (now (table .entry))))
         (now (plan .exit)) (now (scratch .exit)) r ⌝ }
 {
-    let count = taken_count(table.len());
+    let count = taken_count(n, table.len());
     let mut row = [0; 1024];
     take_nodes(&mut row, table, count);
     extract_core(plan, n, scratch, &row, table.len())

@@ -2,7 +2,7 @@
 -- A walk of the MIR: the local row is lent to `take_nodes` as `&mut`, for a lifetime ν, and to `extract_core` as `&`, for another, μ;
 -- plan and scratch go to `extract_core` for good, and the table is kept.
 use mathlib.Core.Path.{_≡_, refl, _∙_, ap}
-use Prim.Native.Nat.{ℕ, _<_, _^_, min}
+use Prim.Native.Nat.{ℕ, _<_, _^_}
 use native.Mathlib.Omega.{arith}
 use mathlib.Core.List.{List, [], _∷_, _++_, map}
 use lib.Dec.{lit<}
@@ -48,6 +48,7 @@ use Rattle.node_table.specs.declared.NodeRecord.{NodeRecord}
 use Rattle.node_table.proofs.NodeRecord as T
 use Rattle.node_table.proofs.LocalRow.{Row, value, big-lit, none-is, typed-row, called, sliced, LentMut, LentShr, lends-mut, mut-back, lends-shr, shr-back}
 use Rattle.definitions.specs.Calls.{extract}
+use Rattle.call_extract.specs.ExtractByTable.{lentCount}
 use Rattle.spatialjoin_c.specs.Hosted.{CallHosted, Lent, ExtractBy}
 use Rattle.spatialjoin_c.proofs.FilledLaws.{row-of}
 use Rattle.spatialjoin_c.proofs.cores.taken_count as g₁
@@ -147,7 +148,7 @@ module _ {M : Type 1} (𝓤 : URA M) (H : Heap 𝓤) (A : Atoms 𝓤) (W : Given
 
   -- what the callees are passed
   abbrev to₁ : TakenCount 𝓤 H A mem run .Ghost
-  to₁ = ((tt, tt, tt, (held, tt), (vint w64 held ∷ [], tt)), tt)
+  to₁ = ((tt, tt, tt, (n, (held, tt)), (vint w64 n ∷ [], (vint w64 held ∷ [], tt))), tt)
 
   abbrev to₂ : ℕ → GName → ℕ → ℕ → TakeNodes 𝓤 H A mem run .Ghost
   to₂ ν δ l k = (
@@ -175,7 +176,7 @@ module _ {M : Type 1} (𝓤 : URA M) (H : Heap 𝓤) (A : Atoms 𝓤) (W : Given
 
   -- what they ensure
   abbrev Said₁ : ℕ → Type 0
-  Said₁ k = k ≡ min held 1024
+  Said₁ k = k ≡ lentCount n held
 
   abbrev Said₂ : ℕ → List ℕ → Type 0
   Said₂ k zs = zs ≡ take k (map number (nodesOf (xs .now))) ++ dropped k none
@@ -186,7 +187,7 @@ module _ {M : Type 1} (𝓤 : URA M) (H : Heap 𝓤) (A : Atoms 𝓤) (W : Given
   lends₁ : ent 𝓤 (emp 𝓤) (TakenCount 𝓤 H A mem run .pre to₁)
   lends₁ =
       qed W [] ∵ nothing ! $ owned ! usize (Is usize) (uint-makes 𝓤 H A W w64) held _ (refl, room₂ .0) $ fjoin ! $
-      nothing ! $ join ! $ frame ! $ done !
+      owned ! usize (Is usize) (uint-makes 𝓤 H A W w64) n _ (refl, n-fits) $ fjoin ! $ nothing ! $ join ! $ frame ! $ done !
 
   said₁ : (k : ℕ) → ent 𝓤 (ensured 𝓤 H A g₁.ended (g₁.clauses 𝓤 H A mem run) (to₁ .0 .0) (to₁ .0 .3) tt k) (fact 𝓤 (Said₁ k))
   said₁ k = exE 𝓤 _ (λ ws. snd∗ 𝓤 (sem 𝓤 H A (lasts g₁.ended (to₁ .0 .0) (to₁ .0 .3) ws)) _)
@@ -210,7 +211,7 @@ module _ {M : Type 1} (𝓤 : URA M) (H : Heap 𝓤) (A : Atoms 𝓤) (W : Given
           qed W (raw (onEntry 𝓤 H A g₂.signature (to₂ ν δ l k .0 .0) (to₂ ν δ l k .0 .1) (to₂ ν δ l k .0 .3) (to₂ ν δ l k .0 .4)) ∷ []) ∵
           says ! (omega (arith, few, long), omega (arith, few)) $ done !
 
-  lends₃ : (μ : ℕ) (ε : GName) (l : ℕ) (zs : List ℕ) → Lent zs held
+  lends₃ : (μ : ℕ) (ε : GName) (l : ℕ) (zs : List ℕ) → Lent n zs held
       → ent 𝓤 (⋆ 𝓤 H A (‵ (flft κ q) ∷ ‵ (flft κ₁ q₁) ∷ ‵ (flft (μ ∷ []) fullShare) ∷ ‵ Own ∷ ‵ Own₁ ∷ ‵ (Seen μ ε l zs) ∷ []))
       (ExtractCore 𝓤 H A mem run .pre (to₃ μ ε l zs))
   lends₃ μ ε l zs lent =
@@ -262,7 +263,8 @@ module _ {M : Type 1} (𝓤 : URA M) (H : Heap 𝓤) (A : Atoms 𝓤) (W : Given
         move ! (38 ∷ []) $ split ! $ move ! (1 ∷ []) $ split ! $ move ! (1 ∷ []) $ split ! $
         -- [the table's token; true; the scratch's; the plan's; the table; true; the scratch; the plan; _16; …]
         use0 W (raw (TakenCount 𝓤 H A mem run .pre to₁)) lends₁ $ calls-at ! fm (TakenCount 𝓤 H A mem run) known₁ to₁
-        (and-then ! (load ! (from ! (stop !)) (look ! 27 refl)) (no-more !)) (λ u₁.
+        (and-then ! (load ! (from ! (stop !)) (look ! 37 refl)) (and-then ! (load ! (from ! (stop !)) (look ! 27 refl)) (no-more !)))
+        (λ u₁.
         use1 W (later (some (λ (k : ℕ). (‵ ftrue ⊛ ‵ (usize .own k (u₁ ∷ [])))
         ⊛ raw (ensured 𝓤 H A g₁.ended (g₁.clauses 𝓤 H A mem run) (to₁ .0 .0) (to₁ .0 .3) tt k)))) (id⊢ 𝓤 _) $ await ! tt $ pick ! (λ k.
         split ! $ move ! (1 ∷ []) $ use1 W (raw (fact 𝓤 (Said₁ k))) (said₁ k) $ heard ! (Said₁ k) (λ e₁. split ! $ drop ! $
@@ -316,7 +318,7 @@ module _ {M : Type 1} (𝓤 : URA M) (H : Heap 𝓤) (A : Atoms 𝓤) (W : Given
         move ! (8 ∷ 7 ∷ 2 ∷ 11 ∷ 10 ∷ 0 ∷ []) $
         cut (‵ (flft κ q) ∷ ‵ (flft κ₁ q₁) ∷ ‵ (flft (μ ∷ []) fullShare) ∷ ‵ Own ∷ ‵ Own₁ ∷ ‵ (Seen μ ε l₆ (zs .0)) ∷ [])
         (raw (ExtractCore 𝓤 H A mem run .pre (to₃ μ ε l₆ (zs .0))) ∷ []) _
-        (lends₃ μ ε l₆ (zs .0) (nodesOf (xs .now), row-of (xs .now) k none (zs .0) e₁ e₂)) $
+        (lends₃ μ ε l₆ (zs .0) (nodesOf (xs .now), row-of n (xs .now) k none (zs .0) e₁ e₂)) $
         -- [what `extract_core` asks; what is kept of the row; the table's token; true; the table; true; true; _16; …]
         calls-at ! fm (ExtractCore 𝓤 H A mem run) known₃ (to₃ μ ε l₆ (zs .0)) (and-then ! (load ! (from ! (stop !)) (look ! 15 refl))
         (and-then ! (load ! (from ! (stop !)) (look ! 34 refl)) (and-then ! (load ! (from ! (stop !)) (look ! 11 refl))
@@ -347,7 +349,7 @@ module _ {M : Type 1} (𝓤 : URA M) (H : Heap 𝓤) (A : Atoms 𝓤) (W : Given
         move ! (23 ∷ 24 ∷ []) $ free1 ! $ move ! (21 ∷ 22 ∷ []) $ free1 ! $ move ! (19 ∷ 20 ∷ []) $ free1 ! $
         move ! (17 ∷ 18 ∷ []) $ free1 ! $ move ! (15 ∷ 16 ∷ []) $ free1 ! $ move ! (13 ∷ 14 ∷ []) $ free1 ! $
         move ! (11 ∷ 12 ∷ []) $ free1 ! $ free0 ! $ keep ! (2 ∷ 1 ∷ 6 ∷ 5 ∷ 3 ∷ 8 ∷ []) $
-        by ! (exits z u₃ (ws .0) (ws .1 .1 .0) (e₃ (nodesOf (xs .now)) (row-of (xs .now) k none (zs .0) e₁ e₂))
+        by ! (exits z u₃ (ws .0) (ws .1 .1 .0) (e₃ (nodesOf (xs .now)) (row-of n (xs .now) k none (zs .0) e₁ e₂))
         la lw is₄)))))))))))))))))))))))))))))))))))))))))
       where
         fits-row : Room u32 1024

@@ -1,12 +1,12 @@
 -- `extract_lent`: a row of the table's numbers has those of as many records as the frame has nodes.
-use Prim.Native.Nat.{_≤_}
+use Prim.Native.Nat.{_*_, _≤_}
 use native.Mathlib.Omega.{arith}
 use mathlib.Core.Logic.{⊎-elim}
 use lib.ListN.{length}
 use borrow.Author.Needs.{needs}
 use borrow.Author.Tests.{ltb-true, ltb-false}
 use Rattle.reading.proofs.Standing.{all-bytes}
-use Rattle.call_extract.proofs.Collecting.{few-nodes}
+use Rattle.call_extract.proofs.Collecting.{few-nodes, small-nodes}
 use Rattle.call_extract.proofs.Tables.{row-begins, row-long, short-refused}
 use Rattle.call_extract.proofs.by_table.extract_lent.Statement.{statement}
 use Rattle.call_extract.proofs.by_table.extract_lent.Tie as tie
@@ -15,6 +15,10 @@ use Rattle.call_extract.proofs.by_table.extract_lent.Tie as tie
 few : (c : tie.After-slice-known) → c .before .args .f .nodes ≤ 1024
 few c =
     let a = c .before .args in few-nodes (a .n) (a .plan .now) (c .before .pre) (all-bytes (a .plan .now) (c .slice-known .given))
+
+small : (c : tie.After-slice-known) → 3 * c .before .args .f .nodes ≤ c .before .args .n
+small c =
+    let a = c .before .args in small-nodes (a .n) (a .plan .now) (c .before .pre) (all-bytes (a .plan .now) (c .slice-known .given))
 
 -- The table is shorter than that; a row of its numbers alone never is.
 returns : tie.Need-returns
@@ -26,7 +30,7 @@ returns c = λ table of.
     (a .row .now) (a .places) table (w .taken) of)
     (λ w. absurd (omega (
       arith,
-      row-long (a .f .nodes) (a .places) (a .row .now) table (w .0 .left) (few known) of,
+      row-long (a .n) (a .f .nodes) (a .places) (a .row .now) table (w .0 .left) (few known) (small known) of,
       ltb-true (length (a .row .now)) (a .f .nodes) (w .2 .taken),
     )))
     (c .if1 .came)
@@ -42,16 +46,16 @@ returns-2 c = λ table of.
     let tested = c .before .before .before .before .before .before .before .before .before .before .before in
     let known = tested .before .before .before .before in
     let a = known .before .args in
-    c .before .before .before .before .compare-few .ensures table (row-begins (a .f .nodes) (a .places) (a .row .now) table
-    (tested .if1 .left) (few known) of)
+    c .before .before .before .before .compare-few .ensures table (row-begins (a .n) (a .f .nodes) (a .places) (a .row .now) table
+    (tested .if1 .left) (few known) (small known) of)
 
 returns-3 : tie.Need-returns-3
 returns-3 c = λ table of.
     let tested = c .before .before .before .before .before .before .before .before .before .before .before in
     let known = tested .before .before .before .before in
     let a = known .before .args in
-    c .before .before .before .before .compare-many .ensures table (row-begins (a .f .nodes) (a .places) (a .row .now) table
-    (tested .if1 .left) (few known) of)
+    c .before .before .before .before .compare-many .ensures table (row-begins (a .n) (a .f .nodes) (a .places) (a .row .now) table
+    (tested .if1 .left) (few known) (small known) of)
 
 pub extract-lent-spec : {M : Type 1} → statement M
 extract-lent-spec =
