@@ -21,6 +21,14 @@ pub fn collect_nodes(numbers: &mut [u32], next: &mut [u16], s: &[u8], at: usize,
     let head = head_at(s, at);
     let first = head.next;
     let n = head.children;
+    if n == 0 {
+        numbers[i] = node_number(s[at], at, first);
+        next[i] = (i + 1) as u16;
+        return Passed {
+            end: first,
+            index: i + 1,
+        };
+    }
     let passed = collect_children(numbers, next, s, first, n, i + 1);
     numbers[i] = node_number(s[at], at, passed.end);
     next[i] = passed.index as u16;
