@@ -18,16 +18,16 @@ module _ {s : List ℕ} {root count : ℕ} (row : List ℕ) where
   nothing-filled (nothing e) z = sym (ap (λ (k : ℕ). drop k row) e)
   nothing-filled (filled {t = t} stands size few short) z = absurd (omega (arith, nodes-below t))
 
-  -- There is room for the nodes in the row and in one of 1,024.
+  -- There is room for the nodes, of which there are at most 1,024, in both rows.
   pub fits-rows : {records : List NodeRecord} (next : List ℕ) → Records s root count records → (count ≡ 0 → ⊥) → count ≤ length row
-      → 1024 ≤ length next → Fits s root 0 row next
+      → (count ≤ 1024 → count ≤ length next) → Fits s root 0 row next
   fits-rows next (nothing e) some room wide = absurd (some e)
   fits-rows next (filled {c} {t} stands size few short) some room wide = record {
     columns = c;
     tree = t;
     stands = stands;
     short = short;
-    room = record { numbered = omega arith; followed = omega arith; few = omega arith };
+    room = record { numbered = omega arith; followed = omega (arith, wide (omega arith)); few = omega arith };
   }
 
   pub nodes-filled : {after next followed : List ℕ} {r : Passed}

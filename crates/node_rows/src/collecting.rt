@@ -68,6 +68,12 @@ pub fn node_row(row: &mut [u32], s: &[u8], root: usize, count: usize)
     if count == 0 {
         return;
     }
+    // Most expressions have few nodes, and need no longer row cleared.
+    if count <= 32 {
+        let mut few = [0u16; 32];
+        collect_nodes(row, &mut few, s, root, 0);
+        return;
+    }
     let mut next = [0u16; 1024];
     collect_nodes(row, &mut next, s, root, 0);
 }
