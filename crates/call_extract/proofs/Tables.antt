@@ -17,6 +17,7 @@ use Rattle.definitions.specs.Calls.{tableFits, finish, heldPlan, extractBy, ext
 use Rattle.theorems.proofs.ExchangeGood.{frame-length}
 use Rattle.theorems.proofs.NodeTables.{node-count, begins-exactly-by}
 use Rattle.frame_reader.specs.declared.frames.Frame.{Frame}
+use Rattle.expression.proofs.Placed.{fits}
 use Rattle.frame_reader.proofs.Standing.{expr-stands}
 use Rattle.plan_reader.specs.Plans.{HoldsFrame}
 use Rattle.join_filter.proofs.Keeping.{held-is, plan-length, plan-size}
@@ -122,6 +123,9 @@ module _ (n : ℕ) (plan : List ℕ) {f : Frame} (h : HoldsFrame n plan f) (byte
   module _ {own next : List ℕ} (indexed : Indexed n plan f own next) where
     its-own : Tabled own next (f .root) 0 (h .frame .expr)
     its-own = indexed _ (h .frame .expr) (expr-stands (h .stands .expr))
+
+    pub own-long : f .nodes ≤ length own
+    own-long = omega (arith, fits (its-own .numbered), numbers-length (f .root) (h .frame .expr), h .stands .sized)
 
     own-numbers : take (f .nodes) own ≡ map number (nodeTable (h .frame))
     own-numbers =

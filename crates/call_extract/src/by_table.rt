@@ -2,82 +2,107 @@
 use super::extract_frame;
 use frame_reader::frames::Frame;
 use join_filter::answers::Answer;
-use node_rows::collecting::collect_nodes;
 use node_rows::numbers::same_numbers;
 use plan_reader::held_plans::Held;
-use plan_reader::held_plans::held_plan;
+use plan_reader::held_plans::held_plan_in;
 use terms::refusals::Refusal;
 ghost use Prim.Native.Nat.{_≤_};
 ghost use lib.ListN.{length};
 ghost use Rattle.plan_reader.specs.Plans.{HoldsFrame};
-ghost use Rattle.call_extract.specs.FrameRows.{RoomFor};
-ghost use Rattle.call_extract.specs.ExtractByTable.{Begins, RowOf, ByTable};
+ghost use Rattle.call_extract.specs.FrameRows.{Indexed, RoomIn};
+ghost use Rattle.call_extract.specs.ExtractByTable.{RowOf, ByTable};
 
-// A held frame: its nodes are collected and compared with the table's, and then those of the table are used.
+// A held frame whose nodes are in the rows: they are compared with the table's, and then those of the table are used. A table shorter
+// than the node count does not fit.
 fn extract_compared(
-    own: &mut [u32],
-    next: &mut [u16],
     plan: &mut [u8],
     n: usize,
     scratch: &mut [u8],
     f: Frame,
-    row: &[u32],
-) -> Answer
-    requires { ⌜ HoldsFrame n (now plan) f × (f .nodes ≤ length (now row)) ⌝ }
-    requires { ⌜ RoomFor f (now own) (now next) ⌝ }
-    ensures { λ r. ⌜ ByTable (Begins (f .nodes) (now (row .entry))) n (now (plan .entry)) (now (scratch .entry)) (now (plan .exit))
-        (now (scratch .exit)) r ⌝ }
-{
-    collect_nodes(own, next, &plan[..n], f.root, 0);
-    if same_numbers(own, row, f.nodes) {
-        return extract_frame(plan, n, scratch, f, row, next);
-    }
-    Answer::Refused(Refusal::NoGoodPlan)
-}
-
-// The same for at most 32 nodes.
-fn compare_few(plan: &mut [u8], n: usize, scratch: &mut [u8], f: Frame, row: &[u32]) -> Answer
-    requires { ⌜ HoldsFrame n (now plan) f × (f .nodes ≤ length (now row)) ⌝ }
-    requires { ⌜ f .nodes ≤ 32 ⌝ }
-    ensures { λ r. ⌜ ByTable (Begins (f .nodes) (now (row .entry))) n (now (plan .entry)) (now (scratch .entry)) (now (plan .exit))
-        (now (scratch .exit)) r ⌝ }
-{
-    let mut own = [0u32; 32];
-    let mut next = [0u16; 32];
-    extract_compared(&mut own, &mut next, plan, n, scratch, f, row)
-}
-
-// The same for as many as there may be.
-fn compare_many(plan: &mut [u8], n: usize, scratch: &mut [u8], f: Frame, row: &[u32]) -> Answer
-    requires { ⌜ HoldsFrame n (now plan) f × (f .nodes ≤ length (now row)) ⌝ }
-    ensures { λ r. ⌜ ByTable (Begins (f .nodes) (now (row .entry))) n (now (plan .entry)) (now (scratch .entry)) (now (plan .exit))
-        (now (scratch .exit)) r ⌝ }
-{
-    let mut own = [0u32; 1024];
-    let mut next = [0u16; 1024];
-    extract_compared(&mut own, &mut next, plan, n, scratch, f, row)
-}
-
-// A held frame: a table shorter than its node count does not fit.
-fn extract_lent(
-    plan: &mut [u8],
-    n: usize,
-    scratch: &mut [u8],
-    f: Frame,
+    own: &[u32],
+    next: &[u16],
     row: &[u32],
     places: usize,
 ) -> Answer
     requires { ⌜ HoldsFrame n (now plan) f ⌝ }
+    requires { ⌜ Indexed n (now plan) f (now own) (now next) ⌝ }
     ensures { λ r. ⌜ ByTable (RowOf n (now (row .entry)) places) n (now (plan .entry)) (now (scratch .entry)) (now (plan .exit))
         (now (scratch .exit)) r ⌝ }
 {
     if places < f.nodes || row.len() < f.nodes {
         return Answer::Refused(Refusal::NoGoodPlan);
     }
-    if f.nodes <= 32 {
-        return compare_few(plan, n, scratch, f, row);
+    if same_numbers(own, row, f.nodes) {
+        return extract_frame(plan, n, scratch, f, row, next);
     }
-    compare_many(plan, n, scratch, f, row)
+    Answer::Refused(Refusal::NoGoodPlan)
+}
+
+// The same of what is held, whose nodes go into the rows if it is a frame.
+fn extract_lent(
+    own: &mut [u32],
+    next: &mut [u16],
+    plan: &mut [u8],
+    n: usize,
+    scratch: &mut [u8],
+    row: &[u32],
+    places: usize,
+) -> Answer
+    requires { ⌜ RoomIn n (now plan) (now own) (now next) ⌝ }
+    ensures { λ r. ⌜ ByTable (RowOf n (now (row .entry)) places) n (now (plan .entry)) (now (scratch .entry)) (now (plan .exit))
+        (now (scratch .exit)) r ⌝ }
+{
+    match held_plan_in(own, next, &plan[..n]) {
+        Held::Bad => Answer::Refused(Refusal::NoGoodPlan),
+        Held::Empty => Answer::Refused(Refusal::PlanEmpty),
+        Held::Extraction(_) => Answer::Refused(Refusal::AlreadyExtracted),
+        Held::Frame(f) => extract_compared(plan, n, scratch, f, own, next, row, places),
+    }
+}
+
+// A plan of at most 96 bytes: short rows are enough, and the longer ones cost more to clear than such a frame to read.
+fn extract_short(
+    plan: &mut [u8],
+    n: usize,
+    scratch: &mut [u8],
+    row: &[u32],
+    places: usize,
+) -> Answer
+    requires { ⌜ (n ≤ length (now plan)) × (n ≤ 96) ⌝ }
+    ensures { λ r. ⌜ ByTable (RowOf n (now (row .entry)) places) n (now (plan .entry)) (now (scratch .entry)) (now (plan .exit))
+        (now (scratch .exit)) r ⌝ }
+{
+    let mut own = [0u32; 32];
+    let mut next = [0u16; 32];
+    extract_lent(&mut own, &mut next, plan, n, scratch, row, places)
+}
+
+// Of at most 768 bytes.
+fn extract_middle(
+    plan: &mut [u8],
+    n: usize,
+    scratch: &mut [u8],
+    row: &[u32],
+    places: usize,
+) -> Answer
+    requires { ⌜ (n ≤ length (now plan)) × (n ≤ 768) ⌝ }
+    ensures { λ r. ⌜ ByTable (RowOf n (now (row .entry)) places) n (now (plan .entry)) (now (scratch .entry)) (now (plan .exit))
+        (now (scratch .exit)) r ⌝ }
+{
+    let mut own = [0u32; 256];
+    let mut next = [0u16; 256];
+    extract_lent(&mut own, &mut next, plan, n, scratch, row, places)
+}
+
+// Of any length.
+fn extract_long(plan: &mut [u8], n: usize, scratch: &mut [u8], row: &[u32], places: usize) -> Answer
+    requires { ⌜ n ≤ length (now plan) ⌝ }
+    ensures { λ r. ⌜ ByTable (RowOf n (now (row .entry)) places) n (now (plan .entry)) (now (scratch .entry)) (now (plan .exit))
+        (now (scratch .exit)) r ⌝ }
+{
+    let mut own = [0u32; 1024];
+    let mut next = [0u16; 1024];
+    extract_lent(&mut own, &mut next, plan, n, scratch, row, places)
 }
 
 // `row` has the numbers of the first of the table's `places` records, as many as a frame of n bytes can have.
@@ -94,10 +119,11 @@ pub fn extract_by_table(
     if plan.len() < n {
         return Answer::Refused(Refusal::NoGoodPlan);
     }
-    match held_plan(&plan[..n]) {
-        Held::Bad => Answer::Refused(Refusal::NoGoodPlan),
-        Held::Empty => Answer::Refused(Refusal::PlanEmpty),
-        Held::Extraction(_) => Answer::Refused(Refusal::AlreadyExtracted),
-        Held::Frame(f) => extract_lent(plan, n, scratch, f, row, places),
+    if n <= 96 {
+        return extract_short(plan, n, scratch, row, places);
     }
+    if n <= 768 {
+        return extract_middle(plan, n, scratch, row, places);
+    }
+    extract_long(plan, n, scratch, row, places)
 }

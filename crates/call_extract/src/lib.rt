@@ -7,18 +7,16 @@ mod extraction;
 use extraction::put_extraction;
 use frame_reader::frames::Frame;
 use join_filter::answers::Answer;
-use node_rows::collecting::collect_nodes;
 use plan_reader::held_plans::Held;
-use plan_reader::held_plans::held_plan;
+use plan_reader::held_plans::held_plan_in;
 use spatial_expr_utils::pick::Picked;
 use spatial_expr_utils::pick::extract_spatial_predicate;
 use terms::refusals::Refusal;
 use writing::copies::copy_bytes;
-ghost use Prim.Native.Nat.{_≤_};
 ghost use Rattle.definitions.specs.Calls as definitions;
 ghost use Rattle.join_filter.specs.Outcomes.{OutcomeIs};
 ghost use Rattle.plan_reader.specs.Plans.{HoldsFrame};
-ghost use Rattle.call_extract.specs.FrameRows.{Indexed, RoomFor};
+ghost use Rattle.call_extract.specs.FrameRows.{Indexed, RoomIn};
 
 // A held frame whose nodes are in the rows: copies it to the scratch, then writes its extraction over the plan's start.
 pub(crate) fn extract_frame(
@@ -46,56 +44,24 @@ pub(crate) fn extract_frame(
     }
 }
 
-// The same, once its nodes are collected.
-fn extract_collected(
+// The same of what is held, whose nodes go into the rows if it is a frame.
+fn extract_held(
     numbers: &mut [u32],
     next: &mut [u16],
     plan: &mut [u8],
     n: usize,
     scratch: &mut [u8],
-    f: Frame,
 ) -> Answer
-    requires { ⌜ HoldsFrame n (now plan) f ⌝ }
-    requires { ⌜ RoomFor f (now numbers) (now next) ⌝ }
+    requires { ⌜ RoomIn n (now plan) (now numbers) (now next) ⌝ }
     ensures { λ r. ⌜ OutcomeIs (definitions.extractFilled n (now (plan .entry)) (now (scratch .entry))) n (now (plan .exit))
         (now (scratch .exit)) r ⌝ }
 {
-    collect_nodes(numbers, next, &plan[..n], f.root, 0);
-    extract_frame(plan, n, scratch, f, numbers, next)
-}
-
-// The same for at most 32 nodes: most frames have few, and need no longer rows cleared.
-fn extract_few(plan: &mut [u8], n: usize, scratch: &mut [u8], f: Frame) -> Answer
-    requires { ⌜ HoldsFrame n (now plan) f × (f .nodes ≤ 32) ⌝ }
-    ensures { λ r. ⌜ OutcomeIs (definitions.extractFilled n (now (plan .entry)) (now (scratch .entry))) n (now (plan .exit))
-        (now (scratch .exit)) r ⌝ }
-{
-    let mut numbers = [0u32; 32];
-    let mut next = [0u16; 32];
-    extract_collected(&mut numbers, &mut next, plan, n, scratch, f)
-}
-
-// The same for as many as there may be.
-fn extract_many(plan: &mut [u8], n: usize, scratch: &mut [u8], f: Frame) -> Answer
-    requires { ⌜ HoldsFrame n (now plan) f ⌝ }
-    ensures { λ r. ⌜ OutcomeIs (definitions.extractFilled n (now (plan .entry)) (now (scratch .entry))) n (now (plan .exit))
-        (now (scratch .exit)) r ⌝ }
-{
-    let mut numbers = [0u32; 1024];
-    let mut next = [0u16; 1024];
-    extract_collected(&mut numbers, &mut next, plan, n, scratch, f)
-}
-
-// A held frame, with rows for its nodes.
-fn extract_held(plan: &mut [u8], n: usize, scratch: &mut [u8], f: Frame) -> Answer
-    requires { ⌜ HoldsFrame n (now plan) f ⌝ }
-    ensures { λ r. ⌜ OutcomeIs (definitions.extractFilled n (now (plan .entry)) (now (scratch .entry))) n (now (plan .exit))
-        (now (scratch .exit)) r ⌝ }
-{
-    if f.nodes <= 32 {
-        return extract_few(plan, n, scratch, f);
+    match held_plan_in(numbers, next, &plan[..n]) {
+        Held::Bad => Answer::Refused(Refusal::NoGoodPlan),
+        Held::Empty => Answer::Refused(Refusal::PlanEmpty),
+        Held::Extraction(_) => Answer::Refused(Refusal::AlreadyExtracted),
+        Held::Frame(f) => extract_frame(plan, n, scratch, f, numbers, next),
     }
-    extract_many(plan, n, scratch, f)
 }
 
 pub fn extract(plan: &mut [u8], n: usize, scratch: &mut [u8]) -> Answer
@@ -105,10 +71,7 @@ pub fn extract(plan: &mut [u8], n: usize, scratch: &mut [u8]) -> Answer
     if plan.len() < n {
         return Answer::Refused(Refusal::NoGoodPlan);
     }
-    match held_plan(&plan[..n]) {
-        Held::Bad => Answer::Refused(Refusal::NoGoodPlan),
-        Held::Empty => Answer::Refused(Refusal::PlanEmpty),
-        Held::Extraction(_) => Answer::Refused(Refusal::AlreadyExtracted),
-        Held::Frame(f) => extract_held(plan, n, scratch, f),
-    }
+    let mut numbers = [0u32; 1024];
+    let mut next = [0u16; 1024];
+    extract_held(&mut numbers, &mut next, plan, n, scratch)
 }

@@ -2,3 +2,4 @@
 pub mod Standing
 pub mod Recorded
 pub mod Wholes
+pub mod FrameRows

@@ -1,4 +1,4 @@
--- What a node's fields leave to read: no child, two, or as many as they say; the node is one level above them.
+-- What a node's fields leave to read: no child, two, or as many as they say.
 use Prim.Native.Nat.{ℕ, zero, suc, _≤_}
 use native.Mathlib.Omega.{arith}
 use mathlib.Core.Path.{_≡_, refl, _∙_}
@@ -8,14 +8,14 @@ use borrow.Author.Tests.{ne-eqb}
 use Rattle.definitions.specs.Expression.{Expr, column, Exprs, nil, cons, count}
 use Rattle.definitions.specs.Readers.{Read, read, stopped, Reader, continue, _>>=_, give, byteUpTo}
 use Rattle.definitions.specs.Decode.{repeatExprs, Columns, nodeOfKind, anyColumn, binaryExpr, binaryNode}
-use Rattle.definitions.specs.Good.{depth}
+use Rattle.expression.specs.Nodes.{childrenOf}
 use Rattle.head_reader.specs.declared.head_readers.Head.the-variants.{Children}
-use Rattle.head_reader.specs.Heads.{HeadIs, depthAbove}
+use Rattle.head_reader.specs.Heads.{HeadIs}
 use Rattle.theorems.proofs.ReaderLaws.{after}
 
--- A node with no child is the only level.
-pub alone : (e : Expr) → depth e ≡ 1 → (es : Exprs) → count es ≡ 0 → depth e ≡ depthAbove es
-unfolding depth count
+-- A node with no child has those of an empty list.
+pub alone : (e : Expr) → childrenOf e ≡ nil → (es : Exprs) → count es ≡ 0 → childrenOf e ≡ es
+unfolding count
 alone e one nil none = one
 alone e one (cons x es) none = absurd (omega arith)
 
@@ -40,12 +40,12 @@ unfolding repeatExprs
 first f child (read l n s) = second f child l (child n s)
 first f child (stopped number) = refl
 
-above-two : (operator : ℕ) (es : Exprs) → count es ≡ 2 → depth (ofTwo (binaryExpr operator) es) ≡ depthAbove es
-unfolding binaryExpr ofTwo depth count
+above-two : (operator : ℕ) (es : Exprs) → count es ≡ 2 → childrenOf (ofTwo (binaryExpr operator) es) ≡ es
+unfolding binaryExpr ofTwo childrenOf count
 above-two operator nil both = absurd (omega arith)
 above-two operator (cons l nil) both = absurd (omega arith)
-above-two zero (cons l (cons r nil)) both = omega arith
-above-two (suc operator) (cons l (cons r nil)) both = omega arith
+above-two zero (cons l (cons r nil)) both = refl
+above-two (suc operator) (cons l (cons r nil)) both = refl
 above-two operator (cons l (cons r (cons x es))) both = absurd (omega arith)
 
 pub two : (s : List ℕ) (at end operator : ℕ) → end ≤ length s

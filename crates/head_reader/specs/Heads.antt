@@ -6,7 +6,8 @@ use lib.ListN.{length, drop}
 use Rattle.definitions.specs.Expression.{Expr, Exprs, count}
 use Rattle.definitions.specs.Readers.{stopped, Reader, continue, give}
 use Rattle.definitions.specs.Decode as decode
-use Rattle.definitions.specs.Good.{depth, depthAll}
+use Rattle.definitions.specs.Good.{depthAll}
+use Rattle.expression.specs.Nodes.{childrenOf}
 use Rattle.terms.specs.Refusals.{numberOf}
 use Rattle.head_reader.specs.declared.head_readers.Columns.{Columns}
 use Rattle.head_reader.specs.declared.head_readers.Columns.the-variants.{Below, Fields}
@@ -21,11 +22,12 @@ columnsOf Fields = decode.fields
 abbrev pub depthAbove : Exprs → ℕ
 depthAbove es = suc (depthAll es)
 
--- A node's fields were read: the rest of the node is `many` children from `first` on, and `build` makes the node above them.
+-- A node's fields were read: the rest of the node is `many` children from `first` on, and `build` makes the node that has
+-- them.
 abbrev pub HeadIs : List ℕ → (at : ℕ) → Head → ((child : Reader Expr) → Reader Expr) → Type 0
 HeadIs s at (head.Children first many) reader =
     (first ≤ length s) × (build : Exprs → Expr)
     × ((child : Reader Expr) (n : ℕ)
     → reader child n (drop at s) ≡ continue (decode.repeatExprs many child n (drop first s)) (λ es. give (build es)))
-    × ((es : Exprs) → count es ≡ many → depth (build es) ≡ depthAbove es)
+    × ((es : Exprs) → count es ≡ many → childrenOf (build es) ≡ es)
 HeadIs s at (head.Refused why) reader = (child : Reader Expr) (n : ℕ) → reader child n (drop at s) ≡ stopped (numberOf why)

@@ -20,7 +20,7 @@ use Rattle.expression.specs.declared.leaves.Node.{Node}
 use Rattle.expression.specs.declared.leaves.Node.the-variants as node
 use Rattle.expression.proofs.There.{and-left-there, and-right-there}
 use Rattle.expression.proofs.Parts.{left-stands, right-stands, both-ends, both-end, call-end}
-use Rattle.sedona_expr.specs.Parsed.{BothSides, Arguments}
+use Rattle.sedona_expr.specs.Parsed.{SidesOf, Arguments}
 use Rattle.leaf_arity.specs.Arities.{ArityIs}
 use Rattle.leaf_arity.specs.declared.arity.Arity.{Arity}
 use Rattle.leaf_arity.specs.declared.arity.Arity.the-variants.{Enough, Short}
@@ -44,18 +44,18 @@ module _ (operator : ℕ) (l r : Expr) where
   unfolding leafArity comparisonArity
   not-asked e = rw e
 
-  pub asked : {c : Columns} {s : List ℕ} {measured bound : ℕ} (sides : BothSides c s measured bound (comparison operator l r))
+  pub asked : {P : ℕ → Expr → Type 0} {measured bound : ℕ} (sides : SidesOf P measured bound (comparison operator l r))
       → leafArity (binary operator l r) ≡ distanceArity (distanceArguments (sides .m))
   unfolding leafArity comparisonArity
   asked sides = ap comparisonArity (sides .is)
 
 -- ---- the AND-leaves
 
-arity-one : (t : Expr) {e : Expr} → leaves t ≡ e ∷ [] → arity t ≡ leafArity e
+pub arity-one : (t : Expr) {e : Expr} → leaves t ≡ e ∷ [] → arity t ≡ leafArity e
 unfolding arity
 arity-one t {e} one = ap (all leafArity) one ∙ all-one leafArity e
 
-plain-needs : {t : Expr} → PlainNode t → leafArity t ≡ true
+pub plain-needs : {t : Expr} → PlainNode t → leafArity t ≡ true
 unfolding leafArity
 plain-needs plainColumn = refl
 plain-needs plainLiteral = refl

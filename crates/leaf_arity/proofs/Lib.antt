@@ -1,2 +1,3 @@
 -- Laws that several proofs use.
 pub mod ArityLaws
+pub mod ByRows

@@ -28,7 +28,7 @@ pub enum Arity {
 }
 
 // Whether a function has the arguments that its name needs.
-fn enough_arguments(s: &[u8], call: Called) -> bool
+pub(crate) fn enough_arguments(s: &[u8], call: Called) -> bool
     requires { ⌜ Calls (now s) call ⌝ }
     ensures { λ r. ⌜ OfCall (now (s .entry)) call (λ c name arguments. r ≡ callArity name (countOf arguments)) ⌝ }
 {
@@ -55,7 +55,7 @@ fn call_arity(s: &[u8], call: Called) -> Arity
 }
 
 // Whether an expression, if it is an `st_distance` call, has two arguments.
-fn enough_to_measure(s: &[u8], at: usize) -> bool
+pub(crate) fn enough_to_measure(s: &[u8], at: usize) -> bool
     requires { ⌜ Tree (now s) at ⌝ }
     ensures { λ r. ⌜ OfTree (now (s .entry)) at (λ t. r ≡ distanceArity (distanceArguments t)) ⌝ }
 {

@@ -6,12 +6,12 @@ use mathlib.Core.Path.{_≡_, refl, sym, ap, ap₂, _∙_, subst}
 use mathlib.Core.List.{List, [], _∷_, _++_, map, map-append}
 use lib.ListN.{length, take, drop, getD, set, length-append}
 use lib.Seq.{take-suc, append-snoc, set-at, length-take-le}
-use Rattle.definitions.specs.Expression.{Expr, Exprs, cons}
+use Rattle.definitions.specs.Expression.{Expr, Exprs, nil, cons}
 use Rattle.definitions.specs.Encode.{exprBytes, exprsBytes}
 use Rattle.definitions.specs.Decode.{Columns}
 use Rattle.definitions.specs.Good.{nodes, nodesAll}
 use Rattle.definitions.specs.NodeTable.{recordOf, nodesFrom, rowFrom}
-use Rattle.expression.specs.Nodes.{childrenOf, Stands, Row, OfTree, OfTrees, Tree}
+use Rattle.expression.specs.Nodes.{headBytes, childrenOf, Stands, Row, OfTree, OfTrees, Tree}
 use Rattle.expression.specs.Heads.{HeadIs}
 use Rattle.expression.specs.declared.heads.Head.{Head}
 use Rattle.expression.proofs.Standing.{tree-length, kind-is, head-some, children-stand, first-stands, rest-stands, some-children, no-children}
@@ -66,7 +66,35 @@ pub record Own (s : List ℕ) (at i : ℕ) (own after : List ℕ) (r : Passed) :
   pub numbered : i < length own
   pub followed : i < length after
 
--- Once its children were collected.
+-- Once the children of the node t, which begin at `first`, were collected.
+module _ {s : List ℕ} {at first : ℕ} (i : ℕ) {numbers next numbered followed : List ℕ} {r : Passed} {c : Columns} {t : Expr}
+    (stands : Stands c s at t) (begins : first ≡ at + length (headBytes t))
+    (told : CollectedAll first (i + 1) numbers next numbered followed r (childrenOf t)) where
+  its-end : r .end ≡ at + length (exprBytes t)
+  its-end = omega (arith, told .ends, tree-length t)
+
+  its-index : r .index ≡ i + nodes t
+  its-index = omega (arith, told .own .ends, row-numbers-length first (childrenOf t), nodes-below t)
+
+  -- Its own number and index are stored.
+  pub collects-own : i < length numbers → i < length next → (b : ℕ)
+      → b ≡ number (record { kind = getD s at 0; start = at; end = r .end })
+      → Collected at i numbers next (set numbered i b) (set followed i (r .index)) r t
+  unfolding recordOf
+  collects-own one two b is =
+      let itself : b ≡ number (recordOf at t) =
+      is ∙ ap₂ (λ (k e : ℕ). number (record { kind = k; start = at; end = e })) (sym (kind-is stands) ∙ kind-byte t) its-end in
+      record {
+        ends = its-end;
+        own = subst (λ (x : List ℕ). WroteAt i x numbers (set numbered i b) (r .index))
+            (ap₂ (λ (n p : ℕ). n ∷ rowNumbers p (childrenOf t)) itself begins ∙ sym (ap (map number) (nodes-split at t)))
+            (store-before b one (told .own));
+        after = subst (λ (x : List ℕ). WroteAt i x next (set followed i (r .index)) (r .index))
+            (ap (λ (n : ℕ). n ∷ rowNexts (i + 1) (childrenOf t)) its-index ∙ sym (nexts-split i t))
+            (store-before (r .index) two (told .after));
+      }
+
+-- The same by the head that was read.
 module _ {s : List ℕ} {at : ℕ} (i : ℕ) {numbers next numbered followed : List ℕ} {r : Passed} {h : Head}
     (below : OfTrees s (h .next) (h .children) (CollectedAll (h .next) (i + 1) numbers next numbered followed r)) where
   inside : {c : Columns} {t : Expr} → Stands c s at t → HeadIs at h t
@@ -74,23 +102,17 @@ module _ {s : List ℕ} {at : ℕ} (i : ℕ) {numbers next numbered followed : L
   inside {c} {t} stands head =
       below c (childrenOf t) (children-stand stands (h .next) (h .children) (head .next) (head .children))
 
-  its-end : {c : Columns} {t : Expr} → Stands c s at t → HeadIs at h t → r .end ≡ at + length (exprBytes t)
-  its-end {t = t} stands head = omega (arith, inside stands head .ends, head .next, tree-length t)
-
-  its-index : {c : Columns} {t : Expr} → Stands c s at t → HeadIs at h t → r .index ≡ i + nodes t
-  its-index {t = t} stands head =
-      omega (arith, inside stands head .own .ends, row-numbers-length (h .next) (childrenOf t), nodes-below t)
-
   -- What its number and its index ask for.
   pub own-fits : length numbered ≡ length numbers → length followed ≡ length next → (f : Fits s at i numbers next) → HeadIs at h (f .tree)
       → Own s at i numbered followed r
   own-fits same alike f head =
-      let index = its-index (f .stands) head in
+      let told = inside (f .stands) head in
+      let index = its-index i (f .stands) (head .next) told in
       let t = f .tree in
       record {
         kind = omega (arith, sym (kind-is (f .stands)), kind-byte t, kind-small t);
         start = omega (arith, f .short, head-some t, tree-length t);
-        end = omega (arith, f .short, its-end (f .stands) head);
+        end = omega (arith, f .short, its-end i (f .stands) (head .next) told);
         few = omega (arith, f .room .few, index);
         numbered = omega (arith, f .room .numbered, nodes-below t);
         followed = omega (arith, f .room .followed, nodes-below t);
@@ -99,32 +121,38 @@ module _ {s : List ℕ} {at : ℕ} (i : ℕ) {numbers next numbered followed : L
   pub collects-node : Fits s at i numbers next → (b : ℕ)
       → b ≡ number (record { kind = getD s at 0; start = at; end = r .end }) → {c : Columns} {t : Expr} → Stands c s at t → HeadIs at h t
       → Collected at i numbers next (set numbered i b) (set followed i (r .index)) r t
-  unfolding recordOf
-  collects-node f b is {c} {t} stands head =
-      let one : i < length numbers = omega (arith, f .room .numbered, nodes-below (f .tree)) in
-      let two : i < length next = omega (arith, f .room .followed, nodes-below (f .tree)) in
-      let told = inside stands head in
-      let itself : b ≡ number (recordOf at t) =
-      is ∙ ap₂ (λ (k e : ℕ). number (record { kind = k; start = at; end = e })) (sym (kind-is stands) ∙ kind-byte t)
-      (its-end stands head) in
-      record {
-        ends = its-end stands head;
-        own = subst (λ (x : List ℕ). WroteAt i x numbers (set numbered i b) (r .index))
-            (ap₂ (λ (n p : ℕ). n ∷ rowNumbers p (childrenOf t)) itself (head .next) ∙ sym (ap (map number) (nodes-split at t)))
-            (store-before b one (told .own));
-        after = subst (λ (x : List ℕ). WroteAt i x next (set followed i (r .index)) (r .index))
-            (ap (λ (n : ℕ). n ∷ rowNexts (i + 1) (childrenOf t)) (its-index stands head) ∙ sym (nexts-split i t))
-            (store-before (r .index) two (told .after));
-      }
+  collects-node f b is stands head =
+      collects-own i stands (head .next) (inside stands head) (omega (arith, f .room .numbered, nodes-below (f .tree)))
+      (omega (arith, f .room .followed, nodes-below (f .tree))) b is
 
 -- ---- a row
+
+-- No expression, and one before others.
+pub collects-nil : (at i : ℕ) (numbers next : List ℕ) → CollectedAll at i numbers next numbers next (record { end = at; index = i }) nil
+unfolding exprsBytes rowFrom rowNexts
+collects-nil at i numbers next = record { ends = omega arith; own = nothing-wrote numbers i; after = nothing-wrote next i }
+
+pub collects-cons : {at i : ℕ} {numbers next numbers₁ next₁ numbers₂ next₂ : List ℕ} {one r : Passed} {t : Expr} {ts : Exprs}
+    → i ≤ length numbers → i ≤ length next → Collected at i numbers next numbers₁ next₁ one t
+    → CollectedAll (one .end) (one .index) numbers₁ next₁ numbers₂ next₂ r ts → CollectedAll at i numbers next numbers₂ next₂ r (cons t ts)
+unfolding exprsBytes rowFrom rowNexts
+collects-cons {at} {i} {numbers} {next} {numbers₂ = numbers₂} {next₂} {one} {r} {t} {ts} room space a b =
+    let index : one .index ≡ i + nodes t = omega (arith, a .own .ends, numbers-length at t) in
+    record {
+      ends = simp length-append (omega (arith, a .ends, b .ends));
+      own = subst (λ (x : List ℕ). WroteAt i x numbers numbers₂ (r .index))
+          (ap (λ (p : ℕ). numbersFrom at t ++ rowNumbers p ts) (a .ends)
+          ∙ sym (map-append number (nodesFrom at t) (rowFrom (at + length (exprBytes t)) ts)))
+          (chain room (a .own) (b .own));
+      after = subst (λ (k : ℕ). WroteAt i (nextsFrom i t ++ rowNexts k ts) next next₂ (r .index)) index
+          (chain space (a .after) (b .after));
+    }
 
 module _ {s : List ℕ} {at n i : ℕ} {numbers next : List ℕ} where
   pub collects-none : {c : Columns} {ts : Exprs} → Row c s at n ts → n ≡ 0
       → CollectedAll at i numbers next numbers next (record { end = at; index = i }) ts
-  unfolding exprsBytes rowFrom rowNexts
   collects-none {ts = ts} row e = no-children (CollectedAll at i numbers next numbers next (record { end = at; index = i }))
-      (record { ends = omega arith; own = nothing-wrote numbers i; after = nothing-wrote next i }) ts (row .counted ∙ e)
+      (collects-nil at i numbers next) ts (row .counted ∙ e)
 
   -- The first, and then the others from where it ended.
   module _ {numbers₁ next₁ numbers₂ next₂ : List ℕ} {one r : Passed} (room : i ≤ length numbers) (space : i ≤ length next)
@@ -132,21 +160,9 @@ module _ {s : List ℕ} {at n i : ℕ} {numbers next : List ℕ} where
       (first : OfTree s at (Collected at i numbers next numbers₁ next₁ one))
       (others : OfTrees s (one .end) (n - 1) (CollectedAll (one .end) (one .index) numbers₁ next₁ numbers₂ next₂ r)) where
     both : {c : Columns} (t : Expr) (ts : Exprs) → Row c s at n (cons t ts) → CollectedAll at i numbers next numbers₂ next₂ r (cons t ts)
-    unfolding exprsBytes rowFrom rowNexts
     both {c} t ts row =
         let a : Collected at i numbers next numbers₁ next₁ one t = first c t (first-stands row) in
-        let b : CollectedAll (one .end) (one .index) numbers₁ next₁ numbers₂ next₂ r ts =
-        others c ts (rest-stands row (one .end) (n - 1) (a .ends) (omega arith)) in
-        let index : one .index ≡ i + nodes t = omega (arith, a .own .ends, numbers-length at t) in
-        record {
-          ends = simp length-append (omega (arith, a .ends, b .ends));
-          own = subst (λ (x : List ℕ). WroteAt i x numbers numbers₂ (r .index))
-              (ap (λ (p : ℕ). numbersFrom at t ++ rowNumbers p ts) (a .ends)
-              ∙ sym (map-append number (nodesFrom at t) (rowFrom (at + length (exprBytes t)) ts)))
-              (chain room (a .own) (b .own));
-          after = subst (λ (k : ℕ). WroteAt i (nextsFrom i t ++ rowNexts k ts) next next₂ (r .index)) index
-              (chain space (a .after) (b .after));
-        }
+        collects-cons room space a (others c ts (rest-stands row (one .end) (n - 1) (a .ends) (omega arith)))
 
     pub collects-some : {c : Columns} {ts : Exprs} → Row c s at n ts → CollectedAll at i numbers next numbers₂ next₂ r ts
     collects-some {c} {ts} row = some-children

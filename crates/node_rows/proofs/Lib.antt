@@ -6,3 +6,4 @@ pub mod CollectWalk
 pub mod FillLaws
 pub mod TableLaws
 pub mod OneTree
+pub mod NodeBytes

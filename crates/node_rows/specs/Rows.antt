@@ -3,7 +3,7 @@ use Prim.Native.Nat.{ℕ, _+_, _≤_, _<_}
 use mathlib.Core.Path.{_≡_}
 use mathlib.Core.Bool.{Bool, true, false}
 use mathlib.Core.List.{List, _++_, map}
-use lib.ListN.{length, take, drop, getD}
+use lib.ListN.{length, take, drop, getD, set}
 use Rattle.definitions.specs.Expression.{Expr, Exprs, cons}
 use Rattle.definitions.specs.Encode.{exprBytes, exprsBytes}
 use Rattle.definitions.specs.Decode.{Columns}
@@ -85,6 +85,17 @@ pub record CollectedAll (at i : ℕ) (numbers next numbered followed : List ℕ)
   pub ends : r .end ≡ at + length (exprsBytes ts)
   pub own : WroteAt i (rowNumbers at ts) numbers numbered (r .index)
   pub after : WroteAt i (rowNexts i ts) next followed (r .index)
+
+-- A node's number and the index after it fit, where the rows have its place.
+pub record Storable (numbers next : List ℕ) (i kind start end after : ℕ) : Type 0 where
+  pub followed : length numbers ≤ length next
+  pub fits : i < length numbers → (kind < 7) × (start < 16384) × (end < 32768)
+  pub few : after < 65536
+
+-- They were stored there.
+abbrev pub Stored : (numbers next : List ℕ) (i : ℕ) → NodeRecord → (after : ℕ) → (numbered followed : List ℕ) → Type 0
+Stored numbers next i node after numbered followed =
+    i < length numbers → (numbered ≡ set numbers i (number node)) × (followed ≡ set next i after)
 
 -- ---- a row of its own
 

@@ -3,13 +3,33 @@ ghost use Prim.Native.Nat.{_<_, _≤_};
 ghost use mathlib.Core.Path.{_≡_};
 ghost use lib.ListN.{length};
 ghost use Rattle.node_rows.specs.Numbers.{number, startAt, endAt};
-ghost use Rattle.node_rows.specs.Rows.{SameIs};
+ghost use Rattle.node_rows.specs.Rows.{SameIs, Storable, Stored};
 
 pub(crate) fn node_number(kind: u8, start: usize, end: usize) -> u32
     requires { ⌜ (kind < 7) × (start < 16384) × (end < 32768) ⌝ }
     ensures { λ r. ⌜ r ≡ number (record { kind = kind; start = start; end = end }) ⌝ }
 {
     kind as u32 * 536870912 + (start * 32768 + end) as u32
+}
+
+// Puts a node's number and the index of the node after it into the rows, where these have its place.
+pub fn put_node(
+    numbers: &mut [u32],
+    next: &mut [u16],
+    i: usize,
+    kind: u8,
+    start: usize,
+    end: usize,
+    after: usize,
+)
+    requires { ⌜ Storable (now numbers) (now next) i kind start end after ⌝ }
+    ensures { λ _. ⌜ Stored (now (numbers .entry)) (now (next .entry)) i (record { kind = kind; start = start; end = end }) after
+        (now (numbers .exit)) (now (next .exit)) ⌝ }
+{
+    if i < numbers.len() {
+        numbers[i] = node_number(kind, start, end);
+        next[i] = after as u16;
+    }
 }
 
 // Where the node starts whose number is at an index.

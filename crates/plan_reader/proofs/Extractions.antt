@@ -6,14 +6,16 @@ use mathlib.Core.List.{List, [], _∷_}
 use mathlib.Core.Option.{Option}
 use lib.ListN.{length, drop, getD}
 use borrow.Author.Tests.{eq-eqb, ne-eqb}
-use Rattle.definitions.specs.Basics.{ok, refused, mapResult}
+use Rattle.definitions.specs.Basics.{Result, ok, refused, mapResult}
 use Rattle.definitions.specs.Expression.{Frame, Extraction, empty, held, extracted}
 use Rattle.definitions.specs.Readers.{Read, read, stopped, Reader, continue, _>>_, give, byte, requireLength, atEnd, resultOf}
 use Rattle.definitions.specs.Decode.{extractionBody}
 use Rattle.definitions.specs.Plans.{wholeExtraction, frameOf, extractionOf, planOfKind, planOf}
 use Rattle.theorems.proofs.ReaderLaws.{after, halts, passes, fails}
 use Rattle.frame_reader.specs.Frames.{firstOf}
-use Rattle.plan_reader.specs.Plans.{RemainderIs}
+use Rattle.plan_reader.specs.Plans.{RemainderIs, HeldIs, HeldIn}
+use Rattle.plan_reader.specs.declared.held_plans.Held.{Held}
+use Rattle.plan_reader.specs.declared.held_plans.Held.the-variants as variants
 use Rattle.plan_reader.specs.declared.held_plans.Remained.{Remained}
 use Rattle.plan_reader.specs.declared.held_plans.Remained.the-variants as remained
 use Rattle.frame_reader.proofs.Wholes.{regroup, none-after, some-after}
@@ -77,3 +79,15 @@ pub extraction-held : (s : List ℕ) → 0 < length s → (getD s 0 0 ≡ 1 → 
 unfolding planOf planOfKind
 extraction-held [] h e = absurd (omega arith)
 extraction-held (b ∷ s) h e = rw (ne-eqb b 1 e)
+
+-- What is read as an extraction is no frame, so that nothing is to be in rows.
+no-frame : (x : Result Extraction) (F : Frame) → mapResult extracted x ≡ ok (held F) → ⊥
+no-frame (ok X) F e = let z : _≡_ {A = ℕ} 0 1 = cc in omega arith
+no-frame (refused k) F e = let z : _≡_ {A = ℕ} 0 1 = cc in omega arith
+
+pub extraction-in-rows : (s numbers indexes : List ℕ) (x : Result Extraction) (r : Held) → HeldIs s r (mapResult extracted x)
+    → HeldIn s r (mapResult extracted x) numbers indexes
+extraction-in-rows s numbers indexes x variants.Empty h = h
+extraction-in-rows s numbers indexes x (variants.Frame f) h = absurd (no-frame x (h .0) (h .2))
+extraction-in-rows s numbers indexes x (variants.Extraction e) h = h
+extraction-in-rows s numbers indexes x variants.Bad h = h

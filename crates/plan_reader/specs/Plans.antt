@@ -10,6 +10,7 @@ use Rattle.definitions.specs.Readers.{read, stopped, Reader}
 use Rattle.definitions.specs.Plans.{planOf}
 use Rattle.terms.specs.Refusals.{numberOf}
 use Rattle.frame_reader.specs.Frames.{FrameAt}
+use Rattle.node_rows.specs.Rows.{Tabled}
 use Rattle.sedona_query_planner.specs.Predicates.{unchanged, PredicateAt}
 use Rattle.frame_reader.specs.declared.frames.Frame.{Frame}
 use Rattle.plan_reader.specs.declared.held_plans.Remainder.{Remainder}
@@ -52,6 +53,14 @@ HeldIs s held.Empty result = result ≡ ok tree.empty
 HeldIs s (held.Frame f) result = (F : tree.Frame) × FrameAt s f (length s) F × (result ≡ ok (tree.held F))
 HeldIs s (held.Extraction x) result = (X : tree.Extraction) × ExtractionAt s x (length s) X × (result ≡ ok (tree.extracted X))
 HeldIs s held.Bad result = (number : ℕ) × (result ≡ refused number)
+
+-- The same, and the nodes of a frame are in the rows.
+abbrev pub HeldIn : List ℕ → Held → Result tree.Plan → (numbers indexes : List ℕ) → Type 0
+HeldIn s held.Empty result numbers indexes = HeldIs s held.Empty result
+HeldIn s (held.Frame f) result numbers indexes =
+    (F : tree.Frame) × FrameAt s f (length s) F × (result ≡ ok (tree.held F)) × Tabled numbers indexes (f .root) 0 (F .expr)
+HeldIn s (held.Extraction x) result numbers indexes = HeldIs s (held.Extraction x) result
+HeldIn s held.Bad result numbers indexes = HeldIs s held.Bad result
 
 -- The plan's first n bytes are a good frame, which stands there.
 pub record HoldsFrame (n : ℕ) (plan : List ℕ) (f : Frame) : Type 0 where

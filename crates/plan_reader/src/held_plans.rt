@@ -9,6 +9,7 @@ use frame_reader::frames::enough_arguments;
 use frame_reader::frames::first_byte;
 use frame_reader::frames::frame_body;
 use frame_reader::frames::physical_frame;
+use frame_reader::frames::physical_frame_in;
 use predicate_reader::held_predicates::Predicated;
 use predicate_reader::held_predicates::predicate_of_kind;
 use sedona_query_planner::spatial_predicate::SpatialPredicate;
@@ -19,7 +20,8 @@ ghost use Rattle.definitions.specs.Basics.{mapResult};
 ghost use Rattle.definitions.specs.Expression.{extracted};
 ghost use Rattle.definitions.specs.Decode as decode;
 ghost use Rattle.definitions.specs.Plans as plans;
-ghost use Rattle.plan_reader.specs.Plans.{RemainderIs, ExtractionIs, HeldIs};
+ghost use Rattle.frame_reader.specs.Frames.{Roomy};
+ghost use Rattle.plan_reader.specs.Plans.{RemainderIs, ExtractionIs, HeldIs, HeldIn};
 
 // What is left of the frame that a predicate was taken from.
 pub enum Remainder {
@@ -141,6 +143,23 @@ pub fn held_plan(s: &[u8]) -> Held
         return whole_extraction(s);
     }
     match physical_frame(s) {
+        Physical::Refused(_) => Held::Bad,
+        Physical::Good(frame) => Held::Frame(frame),
+    }
+}
+
+// The same, the nodes of a frame going into the rows.
+pub fn held_plan_in(numbers: &mut [u32], indexes: &mut [u16], s: &[u8]) -> Held
+    requires { ⌜ Roomy (now s) (now numbers) (now indexes) ⌝ }
+    ensures { λ r. ⌜ HeldIn (now (s .entry)) r (plans.planOf (now (s .entry))) (now (numbers .exit)) (now (indexes .exit)) ⌝ }
+{
+    if s.len() == 0 {
+        return Held::Empty;
+    }
+    if s[0] != 1 {
+        return whole_extraction(s);
+    }
+    match physical_frame_in(numbers, indexes, s) {
         Physical::Refused(_) => Held::Bad,
         Physical::Good(frame) => Held::Frame(frame),
     }

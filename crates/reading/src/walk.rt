@@ -4,6 +4,7 @@ use head_reader::head_readers::Columns;
 use head_reader::head_readers::Head;
 use head_reader::head_readers::head_of_kind;
 use head_reader::head_readers::node_kind;
+use node_rows::numbers::put_node;
 use terms::refusals::Refusal;
 ghost use mathlib.Core.Path.{_≡_};
 ghost use Prim.Native.Nat.{_≤_, max};
@@ -12,8 +13,9 @@ ghost use Rattle.definitions.specs.Decode as decode;
 ghost use Rattle.definitions.specs.Decode.{repeatExprs};
 ghost use Rattle.definitions.specs.Good.{depth};
 ghost use Rattle.head_reader.specs.Heads.{columnsOf, depthAbove};
-ghost use Rattle.reading.specs.Nodes.{WalkedIs, Counted};
-ghost use Rattle.reading.specs.Places.{ExpressionIs};
+ghost use Rattle.node_rows.specs.Rows.{Collected, CollectedAll};
+ghost use Rattle.reading.specs.Nodes.{WalkedIs, Counted, NodeHead, Lent};
+ghost use Rattle.reading.specs.Places.{ExpressionIs, ExpressionIn};
 
 // The place after nodes, how many nodes there were up to it, and the depth of what was read.
 pub enum Walked {
@@ -32,34 +34,77 @@ fn deeper(a: usize, b: usize) -> usize
     if a < b { b } else { a }
 }
 
-// A node and all below it, with this many levels left.
-fn node(s: &[u8], at: usize, levels: usize, count: usize, columns: Columns) -> Walked
+// A node's kind and fields, with this many levels left and so many nodes counted before it.
+fn node_head(s: &[u8], at: usize, levels: usize, count: usize, columns: Columns) -> Head
     requires { ⌜ at ≤ length (now s) ⌝ }
-    ensures read { λ r. ⌜ WalkedIs (now (s .entry)) at count r (decode.node (columnsOf columns) levels) depth ⌝ }
-    ensures counted { λ r. ⌜ Counted count 0 r ⌝ }
+    ensures { λ r. ⌜ NodeHead (now (s .entry)) at levels count (columnsOf columns) r ⌝ }
 {
     match node_kind(s, at, columns) {
-        Field::Refused(why) => Walked::Refused(why),
+        Field::Refused(why) => Head::Refused(why),
         Field::Value(kind, fields) => {
             if levels == 0 {
-                return Walked::Refused(Refusal::TooManyOrTooDeep);
+                return Head::Refused(Refusal::TooManyOrTooDeep);
             }
             if 1024 <= count {
-                return Walked::Refused(Refusal::TooManyOrTooDeep);
+                return Head::Refused(Refusal::TooManyOrTooDeep);
             }
-            match head_of_kind(s, fields, kind, columns) {
-                Head::Refused(why) => {
+            head_of_kind(s, fields, kind, columns)
+        }
+    }
+}
+
+// A node and all below it, with this many levels left. Its number and the index of the node after it go into the rows at `count`, where
+// these are so long.
+fn node(
+    numbers: &mut [u32],
+    indexes: &mut [u16],
+    s: &[u8],
+    at: usize,
+    levels: usize,
+    count: usize,
+    columns: Columns,
+) -> Walked
+    requires { ⌜ (at ≤ length (now s)) × Lent (now s) (now numbers) (now indexes) ⌝ }
+    ensures read { λ r. ⌜ WalkedIs (now (s .entry)) at count r (decode.node (columnsOf columns) levels) depth
+        (length (now (numbers .entry)))
+        (Collected at count (now (numbers .entry)) (now (indexes .entry)) (now (numbers .exit)) (now (indexes .exit))) ⌝ }
+    ensures counted { λ r. ⌜ Counted count 0 r ⌝ }
+{
+    match node_head(s, at, levels, count, columns) {
+        Head::Refused(why) => Walked::Refused(why),
+        Head::Children(first, many) => {
+            if many == 0 {
+                put_node(numbers, indexes, count, s[at], at, first, count + 1);
+                return Walked::To {
+                    next: first,
+                    count: count + 1,
+                    depth: 1,
+                };
+            }
+            match nodes(
+                numbers,
+                indexes,
+                s,
+                first,
+                levels - 1,
+                count + 1,
+                columns,
+                many,
+            ) {
+                Walked::Refused(why) => {
                     return Walked::Refused(why);
                 }
-                Head::Children(first, many) => {
-                    if many == 0 {
-                        return Walked::To {
-                            next: first,
-                            count: count + 1,
-                            depth: 1,
-                        };
-                    }
-                    return nodes(s, first, levels - 1, count + 1, columns, many);
+                Walked::To {
+                    next,
+                    count: total,
+                    depth,
+                } => {
+                    put_node(numbers, indexes, count, s[at], at, next, total);
+                    return Walked::To {
+                        next,
+                        count: total,
+                        depth,
+                    };
                 }
             }
         }
@@ -67,9 +112,20 @@ fn node(s: &[u8], at: usize, levels: usize, count: usize, columns: Columns) -> W
 }
 
 // So many nodes, one after the other, each with this many levels left; the depth is that of the node above them.
-fn nodes(s: &[u8], at: usize, levels: usize, count: usize, columns: Columns, many: u64) -> Walked
-    requires { ⌜ (at ≤ length (now s)) × (count ≤ 1024) ⌝ }
-    ensures read { λ r. ⌜ WalkedIs (now (s .entry)) at count r (repeatExprs many (decode.node (columnsOf columns) levels)) depthAbove ⌝ }
+fn nodes(
+    numbers: &mut [u32],
+    indexes: &mut [u16],
+    s: &[u8],
+    at: usize,
+    levels: usize,
+    count: usize,
+    columns: Columns,
+    many: u64,
+) -> Walked
+    requires { ⌜ (at ≤ length (now s)) × (count ≤ 1024) × Lent (now s) (now numbers) (now indexes) ⌝ }
+    ensures read { λ r. ⌜ WalkedIs (now (s .entry)) at count r (repeatExprs many (decode.node (columnsOf columns) levels)) depthAbove
+        (length (now (numbers .entry)))
+        (CollectedAll at count (now (numbers .entry)) (now (indexes .entry)) (now (numbers .exit)) (now (indexes .exit))) ⌝ }
     ensures counted { λ r. ⌜ Counted count 1 r ⌝ }
 {
     let mut next = at;
@@ -77,7 +133,7 @@ fn nodes(s: &[u8], at: usize, levels: usize, count: usize, columns: Columns, man
     let mut deepest = 0;
     let mut left = many;
     while 0 < left {
-        match node(s, next, levels, total, columns) {
+        match node(numbers, indexes, s, next, levels, total, columns) {
             Walked::Refused(why) => {
                 return Walked::Refused(why);
             }
@@ -100,10 +156,27 @@ fn nodes(s: &[u8], at: usize, levels: usize, count: usize, columns: Columns, man
     }
 }
 
+// An expression of depth at most 64, whose nodes go into the rows from `count` on, where these are so long.
+pub fn expression_in(
+    numbers: &mut [u32],
+    indexes: &mut [u16],
+    s: &[u8],
+    at: usize,
+    count: usize,
+    columns: Columns,
+) -> Walked
+    requires { ⌜ (at ≤ length (now s)) × Lent (now s) (now numbers) (now indexes) ⌝ }
+    ensures { λ r. ⌜ ExpressionIn (now (s .entry)) at count r (columnsOf columns) (now (numbers .exit)) (now (indexes .exit)) ⌝ }
+{
+    node(numbers, indexes, s, at, 64, count, columns)
+}
+
 // An expression of depth at most 64.
 pub fn expression(s: &[u8], at: usize, count: usize, columns: Columns) -> Walked
     requires { ⌜ at ≤ length (now s) ⌝ }
     ensures { λ r. ⌜ ExpressionIs (now (s .entry)) at count r (columnsOf columns) ⌝ }
 {
-    node(s, at, 64, count, columns)
+    let mut numbers = [0u32; 0];
+    let mut indexes = [0u16; 0];
+    expression_in(&mut numbers, &mut indexes, s, at, count, columns)
 }

@@ -1,83 +1,76 @@
--- `extract_lent`: a row of the table's numbers has those of as many records as the frame has nodes.
-use Prim.Native.Nat.{_*_, _≤_}
-use native.Mathlib.Omega.{arith}
-use mathlib.Core.Logic.{⊎-elim}
-use lib.ListN.{length}
+-- `extract_lent`: without a held frame the table does not matter.
 use borrow.Author.Needs.{needs}
-use borrow.Author.Tests.{ltb-true, ltb-false}
-use Rattle.reading.proofs.Standing.{all-bytes}
-use Rattle.call_extract.proofs.Collecting.{few-nodes, small-nodes}
-use Rattle.call_extract.proofs.Tables.{row-begins, row-long, short-refused}
+use mathlib.Core.Path.{refl, sym, _∙_}
+use Rattle.definitions.specs.Calls.{newAfterExtractBy, tableFits}
+use Rattle.join_filter.proofs.Keeping.{held-is, plan-length}
+use Rattle.join_filter.proofs.Refusing.{extract-call, no-plan, empty-plan, extracted-before}
+use Rattle.call_extract.proofs.Collecting.{frame-indexed}
+use Rattle.call_extract.proofs.Tables.{unheld}
 use Rattle.call_extract.proofs.by_table.extract_lent.Statement.{statement}
 use Rattle.call_extract.proofs.by_table.extract_lent.Tie as tie
 
--- A good frame has few nodes.
-few : (c : tie.After-slice-known) → c .before .args .f .nodes ≤ 1024
-few c =
-    let a = c .before .args in few-nodes (a .n) (a .plan .now) (c .before .pre) (all-bytes (a .plan .now) (c .slice-known .given))
+extract-compared-requires : tie.Need-extract-compared-requires
+extract-compared-requires c κs =
+    let call = c .before .before .before .before .before .before .before .before .before .before .before in
+    let start = call .before .before .before .before .before .before .before .before .before in
+    let good = rw (c .before .before .before .before .before .f .given .1) at (call .held-plan-in .ensures) in (
+      record { frame = good .0; fits = start .pre .0; stands = good .1; is = good .2 },
+      frame-indexed (start .args .n) (start .args .plan .now) (good .1) (good .3),
+    )
 
-small : (c : tie.After-slice-known) → 3 * c .before .args .f .nodes ≤ c .before .args .n
-small c =
-    let a = c .before .args in small-nodes (a .n) (a .plan .now) (c .before .pre) (all-bytes (a .plan .now) (c .slice-known .given))
+bad : tie.Need-returns
+unfolding tableFits
+bad c = λ table of.
+    let none = rw (c .enum-told .given .1) at (c .before .before .before .before .before .before .held-plan-in .ensures) in
+    let start = c .before .before .before .before .before .before .before .before .before .before .before .before .before .before .before in
+    let a = start .args in
+    unheld (a .n) (a .plan .now) (a .scratch .now) table (held-is (a .n) (a .plan .now) (start .pre .0) (none .1)) refl
+    ∙ no-plan extract-call (a .n) (a .plan .now) (a .scratch .now) (start .pre .0) (none .0) (none .1)
 
--- The table is shorter than that; a row of its numbers alone never is.
-returns : tie.Need-returns
-returns c = λ table of.
-    let known = c .before .before .before .before in
-    let a = known .before .args in
-    ⊎-elim
-    (λ w. short-refused (a .n) (a .plan .now) (known .before .pre) (all-bytes (a .plan .now) (known .slice-known .given)) (a .scratch .now)
-    (a .row .now) (a .places) table (w .taken) of)
-    (λ w. absurd (omega (
-      arith,
-      row-long (a .n) (a .f .nodes) (a .places) (a .row .now) table (w .0 .left) (few known) (small known) of,
-      ltb-true (length (a .row .now)) (a .f .nodes) (w .2 .taken),
-    )))
-    (c .if1 .came)
+empty : tie.Need-returns-2
+unfolding tableFits
+empty c = λ table of.
+    let none = rw (c .enum-told2 .given .1) at (c .before .before .before .before .before .before .held-plan-in .ensures) in
+    let start = c .before .before .before .before .before .before .before .before .before .before .before .before .before .before .before in
+    let a = start .args in
+    unheld (a .n) (a .plan .now) (a .scratch .now) table (held-is (a .n) (a .plan .now) (start .pre .0) none) refl
+    ∙ empty-plan extract-call (a .n) (a .plan .now) (a .scratch .now) (start .pre .0) none
 
--- A table that is as long lends its row.
-lent : (c : tie.Else2) → c .before .before .before .before .before .before .before .args .f .nodes ≤ length
-    (c .before .before .before .before .before .before .before .args .row .now)
-lent c = let a = c .before .before .before .before .before .before .before .args in
-    ltb-false (length (a .row .now)) (a .f .nodes) (c .if2 .left)
-
-returns-2 : tie.Need-returns-2
-returns-2 c = λ table of.
-    let tested = c .before .before .before .before .before .before .before .before .before .before .before in
-    let known = tested .before .before .before .before in
-    let a = known .before .args in
-    c .before .before .before .before .compare-few .ensures table (row-begins (a .n) (a .f .nodes) (a .places) (a .row .now) table
-    (tested .if1 .left) (few known) (small known) of)
-
-returns-3 : tie.Need-returns-3
-returns-3 c = λ table of.
-    let tested = c .before .before .before .before .before .before .before .before .before .before .before in
-    let known = tested .before .before .before .before in
-    let a = known .before .args in
-    c .before .before .before .before .compare-many .ensures table (row-begins (a .n) (a .f .nodes) (a .places) (a .row .now) table
-    (tested .if1 .left) (few known) (small known) of)
+extracted : tie.Need-returns-3
+unfolding tableFits newAfterExtractBy
+extracted c = λ table of.
+    let good = rw (c .enum-told3 .given .1) at (c .before .before .before .before .before .before .held-plan-in .ensures) in
+    let start = c .before .before .before .before .before .before .before .before .before .before .before .before .before .before .before in
+    let a = start .args in
+    unheld (a .n) (a .plan .now) (a .scratch .now) table (held-is (a .n) (a .plan .now) (start .pre .0) (good .2)) refl
+    ∙ extracted-before extract-call (a .n) (a .plan .now) (a .scratch .now) (start .pre .0) (λ X. refl) (good .0) (good .2)
 
 pub extract-lent-spec : {M : Type 1} → statement M
 extract-lent-spec =
     tie.close
     (tie.spec
-    returns
-    (λ c κs. (
-      (
-        c .before .before .before .before .before .before .before .before .before .before .before .pre,
-        lent
-            (c .before .before .before .before),
-      ),
-      c .before .before .if3 .taken,
-    ))
-    (search needs)
-    (search needs)
-    returns-2
-    (λ c κs. (
-      c .before .before .before .before .before .before .before .before .before .before .before .pre,
-      lent
-          (c .before .before .before .before),
-    ))
-    (search needs)
-    (search needs)
-    returns-3)
+    (λ c. search needs)
+    (λ c. let start = c .before .before .before .before .before .before .before .before in sym (plan-length (start .args .n) (start .args .plan .now) (start .pre .0)))
+    (λ c κs. c .before .before .before .before .before .before .before .before .pre .1)
+    (λ c. search needs)
+    (λ c. search needs)
+    (λ c. search needs)
+    (λ c. search needs)
+    extract-compared-requires
+    (λ c. search needs)
+    (λ c. search needs)
+    (λ c. search needs)
+    bad
+    (λ c. search needs)
+    (λ c. search needs)
+    (λ c. search needs)
+    empty
+    (λ c. search needs)
+    (λ c. search needs)
+    (λ c. search needs)
+    extracted
+    (λ c. search needs)
+    (λ c. search needs)
+    (λ c. search needs)
+    (λ c. search needs)
+    (λ c. c .before .before .before .before .extract-compared .ensures))

@@ -2,7 +2,7 @@
 use mathlib.Core.Path.{refl, _∙_}
 use Rattle.definitions.specs.Expression.{call}
 use Rattle.definitions.specs.Decode.{callNode}
-use Rattle.definitions.specs.Good.{depth}
+use Rattle.expression.specs.Nodes.{childrenOf}
 use Rattle.theorems.proofs.ReaderLaws.{after, halts}
 use borrow.Author.Needs.{needs}
 use Rattle.head_reader.proofs.head_readers.call_head.Statement.{statement}
@@ -39,7 +39,7 @@ returns-3 c child n =
     after _ (size .1 n) ∙ after _ (name .2 n) ∙ halts _ (stop n)
 
 returns-4 : tie.Need-returns-4
-unfolding callNode depth
+unfolding callNode childrenOf
 returns-4 c =
     let at-many = c .before in
     let at-arguments = at-many .before .before .before .before in

@@ -5,7 +5,7 @@ use borrow.Author.Tests.{lt-ltb, le-ltb}
 use Rattle.definitions.specs.Expression.{column}
 use Rattle.definitions.specs.Readers.{number}
 use Rattle.definitions.specs.Decode.{repeatExprs, columnNode}
-use Rattle.definitions.specs.Good.{depth}
+use Rattle.expression.specs.Nodes.{childrenOf}
 use Rattle.theorems.proofs.ReaderLaws.{after, passes, fails}
 use Rattle.field_reader.proofs.Reading.{stops-in-two}
 use Rattle.head_reader.proofs.Children.{alone}
@@ -13,7 +13,7 @@ use Rattle.head_reader.proofs.head_readers.column_head.Statement.{state
 use Rattle.head_reader.proofs.head_readers.column_head.Tie as tie
 
 returns-2 : tie.Need-returns-2
-unfolding repeatExprs columnNode depth
+unfolding repeatExprs columnNode childrenOf
 returns-2 c =
     let p = c .before .before in
     let two = rw (p .index .given .1) at (p .before .before .two-fields .ensures) in

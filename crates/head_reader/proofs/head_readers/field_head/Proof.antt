@@ -4,7 +4,7 @@ use mathlib.Core.Path.{refl, _∙_}
 use Rattle.definitions.specs.Expression.{field}
 use Rattle.definitions.specs.Readers.{byteUpTo, number}
 use Rattle.definitions.specs.Decode.{repeatExprs, fieldNode}
-use Rattle.definitions.specs.Good.{depth}
+use Rattle.expression.specs.Nodes.{childrenOf}
 use Rattle.theorems.proofs.ReaderLaws.{after}
 use Rattle.field_reader.proofs.Reading.{stops-in-two}
 use Rattle.head_reader.proofs.Children.{alone}
@@ -12,7 +12,7 @@ use Rattle.head_reader.proofs.head_readers.field_head.Statement.{statem
 use Rattle.head_reader.proofs.head_readers.field_head.Tie as tie
 
 returns-2 : tie.Need-returns-2
-unfolding repeatExprs fieldNode depth
+unfolding repeatExprs fieldNode childrenOf
 returns-2 c =
     let p = c .before in
     let two = rw (p .end .given .1) at (p .before .before .two-fields .ensures) in

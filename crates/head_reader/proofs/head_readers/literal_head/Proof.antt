@@ -4,7 +4,7 @@ use mathlib.Core.Path.{refl, sym, _∙_}
 use Rattle.definitions.specs.Expression.{literal}
 use Rattle.definitions.specs.Readers.{byteUpTo, number}
 use Rattle.definitions.specs.Decode.{repeatExprs, literalNode}
-use Rattle.definitions.specs.Good.{depth}
+use Rattle.expression.specs.Nodes.{childrenOf}
 use Rattle.theorems.proofs.ReaderLaws.{after, passes, fails}
 use Rattle.field_reader.proofs.Reading.{stops-in-two}
 use Rattle.head_reader.proofs.Children.{alone}
@@ -12,7 +12,7 @@ use Rattle.head_reader.proofs.head_readers.literal_head.Statement.{stat
 use Rattle.head_reader.proofs.head_readers.literal_head.Tie as tie
 
 returns-2 : tie.Need-returns-2
-unfolding repeatExprs literalNode depth
+unfolding repeatExprs literalNode childrenOf
 returns-2 c =
     let p = c .before .before .before in
     let two = rw (p .kind .given .1) at (p .before .before .two-fields .ensures) in

@@ -4,14 +4,14 @@ use mathlib.Core.Path.{refl, _∙_}
 use Rattle.definitions.specs.Expression.{other}
 use Rattle.definitions.specs.Readers.{byteUpTo, number}
 use Rattle.definitions.specs.Decode.{otherNode}
-use Rattle.definitions.specs.Good.{depth}
+use Rattle.expression.specs.Nodes.{childrenOf}
 use Rattle.theorems.proofs.ReaderLaws.{after}
 use Rattle.field_reader.proofs.Reading.{stops-in-two}
 use Rattle.head_reader.proofs.head_readers.other_head.Statement.{statement}
 use Rattle.head_reader.proofs.head_readers.other_head.Tie as tie
 
 returns-2 : tie.Need-returns-2
-unfolding otherNode depth
+unfolding otherNode childrenOf
 returns-2 c =
     let p = c .before in
     let two = rw (p .many .given .1) at (p .before .before .two-fields .ensures) in
