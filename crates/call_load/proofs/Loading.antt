@@ -1,9 +1,9 @@
 -- What a load is, once the frame's answer and the lengths of buffer and table are known.
 use Prim.Native.Nat.{ℕ, _≤_, _<_}
 use native.Mathlib.Omega.{arith}
-use mathlib.Core.Path.{_≡_, refl, ap, ap₂, _∙_}
+use mathlib.Core.Path.{_≡_, refl, sym, ap, ap₂, _∙_}
 use mathlib.Core.Bool.{Bool, true, false}
-use mathlib.Core.List.{List, [], _++_}
+use mathlib.Core.List.{List, [], _++_, map}
 use lib.ListN.{length, take, drop}
 use lib.Seq.{take-length}
 use lib.Dec.{leb}
@@ -22,6 +22,12 @@ use Rattle.terms.specs.Refusals.{numberOf}
 use Rattle.terms.specs.declared.refusals.Refusal.{Refusal}
 use Rattle.terms.specs.declared.refusals.Refusal.the-variants.{BufferTooShort, TableTooShort}
 use Rattle.expression.specs.Filling.{Records, nothing, filled}
+use Rattle.expression.proofs.Placed.{fits}
+use Rattle.writing.proofs.Written.{taken}
+use Rattle.node_rows.specs.Numbers.{number, numbersFrom}
+use Rattle.node_rows.specs.Rows.{Tabled, RowHas}
+use Rattle.node_rows.proofs.RowLaws.{nodes-below, numbers-length}
+use Rattle.node_rows.proofs.OneTree.{of-tree}
 use Rattle.frame_reader.specs.Frames.{FrameAt}
 use Rattle.frame_reader.specs.declared.frames.Frame as places
 use Rattle.frame_reader.proofs.Standing.{expr-stands}
@@ -89,3 +95,28 @@ module _ (frame before : List ℕ) (held : ℕ) where
               (le-leb (nodes (F .expr)) (length table) (omega (arith, stands .sized, enough, size))))
               ∙ rw (w, take-length frame, table-nests-by F .0, ← (stands .sized), table-there) refl,
         )
+
+-- ---- the row
+
+-- Of no record it has all.
+pub none-has : (s row : List ℕ) → RowHas s 0 0 row
+none-has s row = (omega arith, all)
+  where
+    all : (records : List NodeRecord) → Records s 0 0 records → take 0 row ≡ map number records
+    all records (nothing e) = refl
+    all records (filled {t = t} stands size few short) = absurd (omega (arith, nodes-below t))
+
+-- Of a frame's records it has those that reading put there.
+module _ {s row indexes : List ℕ} {f : places.Frame} {end : ℕ} {F : Frame} (stands : FrameAt s f end F)
+    (own : Tabled row indexes (f .root) 0 (F .expr)) where
+  its-numbers : take (f .nodes) row ≡ numbersFrom (f .root) (F .expr)
+  its-numbers =
+      ap (λ (k : ℕ). take k row) (stands .sized ∙ sym (numbers-length (f .root) (F .expr))) ∙ taken (own .numbered)
+
+  all-has : (records : List NodeRecord) → Records s (f .root) (f .nodes) records → take (f .nodes) row ≡ map number records
+  all-has records (nothing e) = absurd (omega (arith, stands .sized, nodes-below (F .expr)))
+  all-has records (filled {c} {t} there size few short) =
+      of-tree (λ t. take (f .nodes) row ≡ numbersFrom (f .root) t) (expr-stands (stands .expr)) its-numbers c t there
+
+  pub frame-has : RowHas s (f .root) (f .nodes) row
+  frame-has = (omega (arith, fits (own .numbered), numbers-length (f .root) (F .expr), stands .sized), all-has)

@@ -108,6 +108,11 @@ abbrev pub RowIs : List ℕ → (root count : ℕ) → (before after : List ℕ)
 RowIs s root count before after =
     (records : List NodeRecord) → Records s root count records → after ≡ map number records ++ drop count before
 
+-- Their numbers are the row's first.
+abbrev pub RowHas : List ℕ → (root count : ℕ) → (row : List ℕ) → Type 0
+RowHas s root count row =
+    (count ≤ length row) × ((records : List NodeRecord) → Records s root count records → take count row ≡ map number records)
+
 -- ---- rows that are compared
 
 -- Whether the first `count` of both are equal.

@@ -8,12 +8,13 @@ use lib.Seq.{take-at}
 use Rattle.definitions.specs.NodeTable.{NodeRecord, nodesFrom}
 use Rattle.node_rows.specs.Numbers.{number}
 use Rattle.expression.specs.Filling.{Records, nothing, filled}
-use Rattle.node_rows.specs.Rows.{RowIs}
+use Rattle.node_rows.specs.Rows.{RowIs, RowHas}
 use Rattle.node_rows.proofs.RowLaws.{numbers-length}
 use Rattle.node_rows.proofs.TableLaws.{nodes-told}
 use Rattle.node_table.specs.Numbers.{numbered}
 use Rattle.node_table.specs.Records.{FilledIs}
 use Rattle.node_table.proofs.NumberLaws.{numbered-numbers}
+use Rattle.node_table.proofs.Filling.{map-take}
 
 -- not more than a frame may have
 pub few-stand : {s : List ℕ} {root count : ℕ} {records : List NodeRecord} → Records s root count records → count ≤ 1024
@@ -38,3 +39,9 @@ filled-table s root count before row table put is e records so =
     ∙ take-at (map numbered (map number records)) (map numbered (drop count before)) count
     (length-map (map number records) numbered ∙ length-map records number ∙ records-count so)
     ∙ numbers-back so)
+
+pub filled-first : (s : List ℕ) (root count : ℕ) (row : List ℕ) (table put : List NodeRecord)
+    → RowHas s root count row → put ≡ take count (map numbered row) ++ drop count table → FilledIs s root count table put
+filled-first s root count row table put is e records so =
+    e ∙ ap (λ (l : List NodeRecord). l ++ drop count table)
+    (sym (map-take numbered count row) ∙ ap (map numbered) (is .1 records so) ∙ numbers-back so)

@@ -12,7 +12,9 @@ use Rattle.node_table.proofs.Filling.{map-take}
 use Rattle.node_table.specs.Records.{nodeOf, nodesOf, FilledIs}
 use Rattle.node_table.specs.declared.NodeRecord.{NodeRecord}
 use Rattle.definitions.specs.Merge.{merge}
-use Rattle.node_rows.specs.Rows.{Filling}
+use Rattle.node_rows.specs.Rows.{Filling, RowHas}
+use Rattle.node_table.specs.Numbers.{numbered}
+use Rattle.node_table.proofs.FillLaws.{filled-first}
 use Rattle.spatialjoin_c.specs.Hosted.{Left, LoadLeft, LoadHosted, MergeLeft, MergeHosted}
 use Rattle.spatialjoin_c.specs.declared.cores.Loaded.{Loaded}
 
@@ -30,12 +32,18 @@ module _ (table put : List NodeRecord) (r : Loaded) where
       → (r .count ≤ length table) × Filling frame (r .root) (r .count)
   load-asks frame plan after is = left-asks frame (r .root) (r .count) table _ (is 0 (nodesOf table) (length-map table nodeOf) .2)
 
-  pub load-is : (frame plan after : List ℕ) → LoadLeft frame plan (length table) after r
+  load-is : (frame plan after : List ℕ) → LoadLeft frame plan (length table) after r
       → FilledIs frame (r .root) (r .count) (nodesOf table) (nodesOf put)
       → LoadHosted frame plan (nodesOf table) after (nodesOf put) (r .answer)
   load-is frame plan after is filled n =
       let so = is n (nodesOf table) (length-map table nodeOf) in
       (so .0, so .1, left-done frame (r .root) (r .count) (nodesOf table) _ (nodesOf put) (so .2) filled)
+
+  pub load-fills : (frame plan after row : List ℕ) → LoadLeft frame plan (length table) after r → RowHas frame (r .root) (r .count) row
+      → nodesOf put ≡ take (r .count) (map numbered row) ++ drop (r .count) (nodesOf table)
+      → LoadHosted frame plan (nodesOf table) after (nodesOf put) (r .answer)
+  load-fills frame plan after row is has e =
+      load-is frame plan after is (filled-first frame (r .root) (r .count) row (nodesOf table) (nodesOf put) has e)
 
   module _ (frame : List ℕ) (n : ℕ) (plan scratch after scratched : List ℕ)
       (is : MergeLeft frame n plan scratch (length table) after scratched r) where

@@ -1,10 +1,12 @@
 // All of a call but the table, with the answer as a host gets it: what has no lent table needs no proof by hand.
 use call_extract::by_table::extract_by_table;
-use call_load::load;
+use call_load::load_row;
 use call_merge::merge;
 use host_answers::answer_number;
 ghost use mathlib.Core.Path.{_≡_};
 ghost use Prim.Native.Nat.{min};
+ghost use lib.ListN.{length};
+ghost use Rattle.node_rows.specs.Rows.{RowHas};
 ghost use Rattle.call_extract.specs.ExtractByTable.{lentCount};
 ghost use Rattle.spatialjoin_c.specs.Hosted.{LoadLeft, MergeLeft, Lent, ExtractBy};
 
@@ -15,10 +17,13 @@ pub struct Loaded {
     pub count: usize,
 }
 
-pub fn load_core(frame: &[u8], plan: &mut [u8], held: usize) -> Loaded
-    ensures { λ r. ⌜ LoadLeft (now (frame .entry)) (now (plan .entry)) held (now (plan .exit)) r ⌝ }
+// The numbers of these nodes are then the row's first.
+pub fn load_core(row: &mut [u32], frame: &[u8], plan: &mut [u8], held: usize) -> Loaded
+    requires { ⌜ length (now row) ≡ 1024 ⌝ }
+    ensures { λ r. ⌜ LoadLeft (now (frame .entry)) (now (plan .entry)) held (now (plan .exit)) r
+        × RowHas (now (frame .entry)) (r .root) (r .count) (now (row .exit)) ⌝ }
 {
-    let loaded = load(plan, frame, held);
+    let loaded = load_row(row, plan, frame, held);
     let answer = loaded.answer;
     let root = loaded.root;
     let count = loaded.count;

@@ -14,6 +14,7 @@ use host_answers::answer_number;
 use host_answers::minus_refusal;
 use node_table::NodeRecord;
 use node_table::fill_table;
+use node_table::put_nodes;
 use node_table::take_nodes;
 use query_side::knn_query_side::query_side_number;
 ghost use mathlib.Core.Path.{_≡_};
@@ -30,8 +31,9 @@ pub extern "C" fn spatialjoin_load(frame: &[u8], plan: &mut [u8], table: &mut [N
     ensures { λ r. ⌜ LoadHosted (now (frame .entry)) (now (plan .entry)) (nodesOf (now (table .entry))) (now (plan .exit))
         (nodesOf (now (table .exit))) r ⌝ }
 {
-    let loaded = load_core(frame, plan, table.len());
-    fill_table(table, frame, loaded.root, loaded.count);
+    let mut row = [0; 1024];
+    let loaded = load_core(&mut row, frame, plan, table.len());
+    put_nodes(table, &row, loaded.count);
     loaded.answer
 }
 

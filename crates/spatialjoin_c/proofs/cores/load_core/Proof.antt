@@ -8,14 +8,17 @@ use Rattle.spatialjoin_c.proofs.cores.load_core.Tie as tie
 
 answer-number-requires : tie.Need-answer-number-requires
 answer-number-requires c κs =
-    let call = c .before .before .load in
-    let known = c .before .before .before .before .before in
-    load-short _ _ _ _ (call .result) (call .ensures) (all-bytes (known .before .args .frame .now) (known .shared-slice-known .given))
+    let call = c .before .before .before .before .load-row in
+    let known = c .before .before .before .before .before .before .before .before in
+    load-short _ _ _ _ (call .result) (call .ensures .0) (all-bytes (known .before .before .args .frame .now) (known .shared-slice-known .given))
 
 returns : tie.Need-returns
 returns c =
-    let call = c .before .before .before .load in
-    load-left _ _ _ _ (call .result) (call .ensures) _ (given-back _ _ (c .answer-number .ok) (c .answer-number .ensures))
+    let call = c .before .before .before .before .before .load-row in (
+      load-left _ _ _ _ (call .result) (call .ensures .0) _ (given-back _ _ (c .answer-number .ok) (c .answer-number .ensures)),
+      call .ensures .1,
+    )
 
 pub load-core-spec : {M : Type 1} → statement M
-load-core-spec = tie.close (tie.spec (λ c κs. search needs) answer-number-requires (λ c. search needs) returns)
+load-core-spec =
+    tie.close (tie.spec (λ c κs. search needs) answer-number-requires (λ c. search needs) (λ c. search needs) returns)
