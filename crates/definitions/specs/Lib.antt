@@ -38,6 +38,7 @@ pub mod Program
 pub mod Printed
 pub mod Merge
 pub mod History
+pub mod Project
 pub mod Hosts
 pub mod Claims
 pub mod AnyMatcher

@@ -52,3 +52,7 @@ eightBytes = 18446744073709551616
 -- A line of the program has at most 32,768 digits.
 abbrev pub mostDigits : ℕ
 mostDigits = 32768
+
+-- A list of child indices has at most 4,096 items (request 7).
+abbrev pub mostItems : ℕ
+mostItems = 4096

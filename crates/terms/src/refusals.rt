@@ -21,6 +21,9 @@ pub enum Refusal {
     TextBufferTooShort,
     MergedTooLarge,
     TableTooShort,
+    NotExtracted,
+    ListTooLong,
+    NoSuchChild,
 }
 
 // The number of a refusal.
@@ -45,5 +48,8 @@ pub fn refusal_number(why: Refusal) -> u8
         Refusal::TextBufferTooShort => 15,
         Refusal::MergedTooLarge => 16,
         Refusal::TableTooShort => 17,
+        Refusal::NotExtracted => 18,
+        Refusal::ListTooLong => 19,
+        Refusal::NoSuchChild => 20,
     }
 }
