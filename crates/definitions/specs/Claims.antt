@@ -27,6 +27,8 @@ use Rattle.definitions.specs.Meaning.{Valuation, Meaning, Fair, andValue
 use Rattle.definitions.specs.Logical.{spatialNames, mask, distinct, logical}
 use Rattle.definitions.specs.Printed.{print}
 use Rattle.definitions.specs.Merge.{merge}
+use Rattle.definitions.specs.Project.{project}
+pub use Rattle.definitions.specs.OddMachine.{extractedPlan}
 
 -- ---- exchange
 
@@ -81,6 +83,8 @@ LengthsShort =
     → load frame n buffer table .answer ≡ ok m → m ≤ mostBytes)
     × ((kind : Kind) (n : ℕ) (buffer scratch : List ℕ) (table : List NodeRecord) (m : ℕ) → AllBytes buffer
     → make kind n buffer scratch table .answer ≡ ok m → m ≤ mostBytes)
+    × ((n : ℕ) (buffer scratch ofLeft ofRight : List ℕ) (m : ℕ) → AllBytes buffer
+    → project n buffer scratch ofLeft ofRight .answer ≡ ok m → m ≤ mostBytes)
 
 -- ---- demand 1: what a call changes, and the numbers of its refusals
 
@@ -128,7 +132,7 @@ AcceptedWrites =
     × ((kind : Kind) (n : ℕ) (buffer scratch : List ℕ) (table : List NodeRecord) → AllBytes buffer
     → accepted (make kind n buffer scratch table .answer) ≡ true → CallWrote n buffer scratch (make kind n buffer scratch table))
 
--- The refusals of each call, in the order of 01 and 02; print is request 1's, merge request 2's, 17 request 6's.
+-- The refusals of each call, in the order of 01 and 02; print is request 1's, merge request 2's, 17 request 6's, project request 7's.
 unfoldable pub loadRefusals : List ℕ
 loadRefusals = 1 ∷ 2 ∷ 3 ∷ 4 ∷ 5 ∷ 6 ∷ 7 ∷ 8 ∷ 9 ∷ 17 ∷ []
 
@@ -147,6 +151,9 @@ printRefusals = 1 ∷ 2 ∷ 3 ∷ 4 ∷ 5 ∷ 6 ∷ 7 ∷ 8 ∷ 15 ∷ []
 unfoldable pub mergeRefusals : List ℕ
 mergeRefusals = 1 ∷ 2 ∷ 3 ∷ 4 ∷ 5 ∷ 6 ∷ 7 ∷ 8 ∷ 10 ∷ 11 ∷ 12 ∷ 16 ∷ 9 ∷ 17 ∷ []
 
+unfoldable pub projectRefusals : List ℕ
+projectRefusals = 10 ∷ 11 ∷ 18 ∷ 19 ∷ 9 ∷ 20 ∷ []
+
 -- A value, or a refusal with one of these numbers.
 abbrev pub RefusedBy : {A : Type 0} → (numbers : List ℕ) → Result A → Type 0
 RefusedBy numbers (ok a) = Unit {0}
@@ -162,6 +169,7 @@ RefusalsOfCalls =
     × ((frame buffer : List ℕ) → RefusedBy printRefusals (print frame buffer .answer))
     × ((frame : List ℕ) (n : ℕ) (buffer scratch : List ℕ) (table : List NodeRecord)
     → RefusedBy mergeRefusals (merge frame n buffer scratch table .answer))
+    × ((n : ℕ) (buffer scratch ofLeft ofRight : List ℕ) → RefusedBy projectRefusals (project n buffer scratch ofLeft ofRight .answer))
 
 -- ---- demand 3: lists of calls
 
@@ -275,10 +283,6 @@ abbrev pub RestOfLeaves : Type 0
 RestOfLeaves =
     (e r : Expr) (position : ℕ) → position < length (leaves e) → without position e ≡ some r
     → leaves r ≡ take position (leaves e) ++ drop (suc position) (leaves e)
-
--- The plan after a list in which an extract was accepted: the extraction, exchanged where accepted exchanges are odd in number.
-abbrev pub extractedPlan : Extraction → (odd : Bool) → Plan
-extractedPlan X odd = if odd then extracted (exchangeExtraction X) else extracted X
 
 -- After a list in which an extract was accepted, the plan is the extraction of the leaf that `Took` describes.
 abbrev pub ExtractTakes : Type 0

@@ -37,8 +37,9 @@ pub mod Logical
 pub mod Program
 pub mod Printed
 pub mod Merge
-pub mod History
 pub mod Project
+pub mod OddMachine
+pub mod History
 pub mod Hosts
 pub mod Claims
 pub mod AnyMatcher
@@ -54,4 +55,5 @@ pub mod MergeClaims
 pub mod MergeRows
 pub mod TableClaims
 pub mod TableRows
+pub mod ProjectClaims
 pub mod PruningClaims

@@ -33,7 +33,7 @@ either-bit x true true = refl
 either-bit x true false = refl
 either-bit x false e′ = refl
 
-flipped-bit : (x f f′ : Bool)
+pub flipped-bit : (x f f′ : Bool)
     → (if f′ then not (if f then not x else x) else if f then not x else x) ≡ (if (if f then not f′ else f′) then not x else x)
 flipped-bit true true true = refl
 flipped-bit false true true = refl

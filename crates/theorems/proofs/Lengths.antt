@@ -6,6 +6,7 @@ use mathlib.Core.List.{List, [], _∷_}
 use mathlib.Core.Option.{Option, none, some}
 use lib.ListN.{length, take}
 use lib.Dec.{leb}
+use borrow.Author.Tests.{leb-true}
 use Rattle.definitions.specs.Basics.{if_then_else_, Result, ok, refused}
 use Rattle.definitions.specs.Expression.{Record, Frame, Extraction, Plan, empty, held, extracted}
 use Rattle.definitions.specs.Encode.{planBytes}
@@ -84,6 +85,15 @@ held-good n buffer bytes = held-if (leb n (length buffer)) where
   held-if : (b : Bool) → Good (if b then planOf (take n buffer) else refused 10)
   held-if true = plan-good (take n buffer) (planOf (take n buffer)) (bytes-up-to n buffer bytes) refl
   held-if false = tt
+
+-- A plan that is held lies in the plan buffer, and is read from its first n bytes.
+pub held-is : (n : ℕ) (buffer : List ℕ) (p : Plan) → heldPlan n buffer ≡ ok p → (n ≤ length buffer) × (planOf (take n buffer) ≡ ok p)
+unfolding heldPlan
+held-is n buffer p e = by-room (leb n (length buffer)) refl e where
+  by-room : (b : Bool) → leb n (length buffer) ≡ b → (if b then planOf (take n buffer) else refused 10) ≡ ok p
+      → (n ≤ length buffer) × (planOf (take n buffer) ≡ ok p)
+  by-room true t q = (leb-true n (length buffer) t, q)
+  by-room false t q = absurd (refused-not-ok 10 p q)
 
 extracted-short : (F : Frame) (x : Option Extraction) → GoodExtraction F x → Short (matchedBytes x)
 unfolding matchedBytes

@@ -45,4 +45,11 @@ pub mod MergeCall
 pub mod TablesRoom
 pub mod Histories
 pub mod Pruned
+pub mod Places
+pub mod Projected
+pub mod ProjectedGood
+pub mod ProjectCall
+pub mod OddMachines
+pub mod ProjectLists
+pub mod AnyMatchers
 pub mod Proved

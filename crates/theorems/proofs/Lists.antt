@@ -22,6 +22,7 @@ use Rattle.definitions.specs.Sessions.{Made, fed, makeBy, ListOutcome, callsRun
 use Rattle.definitions.specs.Good.{GoodPlan}
 use Rattle.definitions.specs.Meaning.{Meaning}
 use Rattle.definitions.specs.Matchers.{Lawful}
+use Rattle.definitions.specs.OddMachine.{extractedPlan}
 use Rattle.theorems.proofs.Exchange.{plan-twice}
 use Rattle.theorems.proofs.ExtractExchange.{exchanged-by}
 use Rattle.theorems.proofs.ExchangeGood.{plan-as-long, exchange-good}
@@ -44,7 +45,7 @@ unfolding extractionOr
 base-good F none g h = g
 base-good F (some X) g h = h .0
 
-abbrev NotEmpty : Plan → Type 0
+abbrev pub NotEmpty : Plan → Type 0
 NotEmpty empty = ⊥
 NotEmpty (held F) = Unit {0}
 NotEmpty (extracted X) = Unit {0}
@@ -60,12 +61,19 @@ exchange-not-empty empty h = h
 exchange-not-empty (held F) h = tt
 exchange-not-empty (extracted X) h = tt
 
-exchange-bytes : (n room : ℕ) (p : Plan) → NotEmpty p
+pub exchange-bytes : (n room : ℕ) (p : Plan) → NotEmpty p
     → newAfterExchange n room (ok p) ≡ (if leb n room then ok (planBytes (exchangePlan p)) else refused 9)
 unfolding newAfterExchange
 exchange-bytes n room empty h = absurd h
 exchange-bytes n room (held F) h = refl
 exchange-bytes n room (extracted X) h = refl
+
+-- An extracted plan is refused with 12.
+pub extract-again : (match : Matcher) (n room : ℕ) (X : Extraction) (o : Bool)
+    → newAfterExtractBy match n room (ok (extractedPlan X o)) ≡ refused 12
+unfolding newAfterExtractBy
+extract-again match n room X true = refl
+extract-again match n room X false = refl
 
 -- ---- with a lawful matcher
 
@@ -178,13 +186,6 @@ module _ {match : Matcher} {Asks : Meaning → List Record → Type 0} (laws : L
 
   -- ---- extract
 
-  -- An extracted plan is refused with 12.
-  extract-again : (n room : ℕ) (X : Extraction) (o : Bool)
-      → newAfterExtractBy match n room (ok (if o then extracted (exchangeExtraction X) else extracted X)) ≡ refused 12
-  unfolding newAfterExtractBy
-  extract-again n room X true = refl
-  extract-again n room X false = refl
-
   swapped-extraction : (F : Frame) (o : Bool) → Option Extraction
   swapped-extraction F o = if o then Option·map exchangeExtraction (extractionBy match F) else extractionBy match F
 
@@ -230,7 +231,7 @@ module _ {match : Matcher} {Asks : Meaning → List Record → Type 0} (laws : L
       rw (
         held-plan F true o n buffer g h,
         plan-extracted F (h .reached .0) o (h .reached .1),
-        extract-again n (length scratch) (h .reached .0) o,
+        extract-again match n (length scratch) (h .reached .0) o,
       )
       (refuses F (bits true o) n buffer scratch 12 h)
   extract-step F false o n buffer scratch g h =

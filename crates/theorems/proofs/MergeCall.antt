@@ -4,13 +4,13 @@ use native.Mathlib.Omega.{arith}
 use mathlib.Core.Path.{_≡_, refl, sym, ap₂, _∙_, subst}
 use mathlib.Core.Bool.{Bool, true, false, _&&_, not, false≢true}
 use mathlib.Core.List.{List}
-use lib.ListN.{length, take}
+use lib.ListN.{length}
 use lib.Dec.{leb}
 use borrow.Author.Tests.{leb-true}
 use Rattle.definitions.specs.Basics.{if_then_else_, Result, ok, refused, mapResult}
 use Rattle.definitions.specs.Expression.{Record, Frame, Extraction, Plan, empty, held, extracted}
 use Rattle.definitions.specs.Encode.{frameBytes}
-use Rattle.definitions.specs.Plans.{frameOf, planOf}
+use Rattle.definitions.specs.Plans.{frameOf}
 use Rattle.definitions.specs.Extract.{Matcher}
 use Rattle.definitions.specs.Calls.{tabled, filledBy, finish, heldPlan}
 use Rattle.definitions.specs.Exchange.{exchangeFrame, exchangeExtraction, exchangePlan}
@@ -25,8 +25,8 @@ use Rattle.definitions.specs.Merge.{mergeFrames, overLimits, mergedFrame, newAf
 use Rattle.definitions.specs.History.{heldNow}
 use Rattle.definitions.specs.MergeClaims.{MergeAccepted, MergeWrote, MergeWrites, MergeKeeps, LeftBy, MergeHolds, mergeAfter, ListAfterMergeBy}
 use Rattle.theorems.proofs.Tools.{and-both}
-use Rattle.theorems.proofs.InverseFrame.{refused-not-ok, same-ok, frame-back}
-use Rattle.theorems.proofs.Lengths.{Good, held-good}
+use Rattle.theorems.proofs.InverseFrame.{same-ok, frame-back}
+use Rattle.theorems.proofs.Lengths.{Good, held-good, held-is}
 use Rattle.theorems.proofs.Changes.{over-first, fills, finish-wrote}
 use Rattle.theorems.proofs.Lists.{Reached, Holds, bits, plan-extracted, held-plan, plan-good}
 use Rattle.theorems.proofs.ListTheorem.{written-held, after-all, list-agrees}
@@ -112,21 +112,13 @@ module _ (n : ℕ) (buffer scratch : List ℕ) (table : List NodeRecord) where
         (leb (nodes (mergeFrames old new .expr)) (length table)) refl refl refl a,
   )
 
--- The old plan lies in the plan buffer.
-held-fits : (n : ℕ) (buffer : List ℕ) (p : Plan) → heldPlan n buffer ≡ ok p → n ≤ length buffer
-unfolding heldPlan
-held-fits n buffer p e = by-room (leb n (length buffer)) refl e where
-  by-room : (b : Bool) → leb n (length buffer) ≡ b → (if b then planOf (take n buffer) else refused 10) ≡ ok p → n ≤ length buffer
-  by-room true t q = leb-true n (length buffer) t
-  by-room false t q = absurd (refused-not-ok 10 p q)
-
 pub merge-wrote : MergeWrites
 unfolding merge withTable finish accepted
 merge-wrote frame n buffer scratch table a =
     let (old, new, j) = joins n buffer scratch table (frameOf frame) (heldPlan n buffer) a in
     let bytes : List ℕ = frameBytes (mergeFrames old new) in
     let wrote : CallWrote n buffer scratch (finish n buffer scratch (ok bytes)) =
-    finish-wrote n buffer scratch (ok bytes) (j .fits, j .kept, held-fits n buffer (held old) (j .found)) refl in (
+    finish-wrote n buffer scratch (ok bytes) (j .fits, j .kept, held-is n buffer (held old) (j .found) .0) refl in (
       old,
       new,
       j .found,

@@ -1,17 +1,12 @@
 -- Each claim of specs/Claims.antt and of the tables beside it, proved.
-use mathlib.Core.Path.{_≡_, ap, _∙_, subst}
+use mathlib.Core.Path.{_∙_}
 use mathlib.Core.List.{List, [], _∷_, _++_}
-use Rattle.definitions.specs.Basics.{ok}
-use Rattle.definitions.specs.Expression.{Record, Frame}
-use Rattle.definitions.specs.Plans.{planOf}
+use Rattle.definitions.specs.Expression.{Record}
 use Rattle.definitions.specs.Match.{matchLeaf}
-use Rattle.definitions.specs.Extract.{Matcher}
-use Rattle.definitions.specs.Machine.{Bits, machinePlan}
 use Rattle.definitions.specs.Good.{NoMarks}
-use Rattle.definitions.specs.Sessions.{Made, SessionBy, planAfter, oddIn}
-use Rattle.definitions.specs.Meaning.{Valuation, Meaning, frameValue}
-use Rattle.definitions.specs.Matchers.{Lawful, Symmetric, LeafAsks}
-use Rattle.definitions.specs.Claims.{ExchangeTwice, ExtractExchanged, ExpressionReadBack, PlanReadBack, PlanOfBytes, AnyPosition, ExtractionGood, ExchangeGood, LengthsShort, RefusedKeeps, AcceptedWrites, RefusalsOfCalls, LoadAccepted, LoadHolds, ListOfCalls, AnswersInPlace, SamePlan, ExchangeAccepted, ExtractAccepted, PickExactly, RestOfLeaves, ExtractTakes, PositionInBytes, PriceLineOfCalls, PriceLineStays, PriceLineExchanged, MachinesAgree, AndAssociative, AndCommutative, ExchangeValue, ExtractionValue, valuesWhen, HasValue, ListValue, FairMeaning, FairByArguments, MarksDiffer, NamesAreOnes, NamesOnce}
+use Rattle.definitions.specs.Sessions.{oddIn}
+use Rattle.definitions.specs.Matchers.{LeafAsks}
+use Rattle.definitions.specs.Claims.{ExchangeTwice, ExtractExchanged, ExpressionReadBack, PlanReadBack, PlanOfBytes, AnyPosition, ExtractionGood, ExchangeGood, LengthsShort, RefusedKeeps, AcceptedWrites, RefusalsOfCalls, LoadAccepted, LoadHolds, ListOfCalls, AnswersInPlace, SamePlan, ExchangeAccepted, ExtractAccepted, PickExactly, RestOfLeaves, ExtractTakes, PositionInBytes, PriceLineOfCalls, PriceLineStays, PriceLineExchanged, MachinesAgree, AndAssociative, AndCommutative, ExchangeValue, ExtractionValue, valuesWhen, ListValue, FairMeaning, FairByArguments, MarksDiffer, NamesAreOnes, NamesOnce}
 use Rattle.definitions.specs.AnyMatcher.{Extracts, OneCall, Lists, AnyMatcher}
 use Rattle.definitions.specs.TenRows.{TenRows}
 use Rattle.definitions.specs.FurtherRows.{FurtherRows}
@@ -27,25 +22,21 @@ use Rattle.definitions.specs.MergeRows.{MergeRows}
 use Rattle.definitions.specs.TableClaims.{TableNests, TableExchanged, BeginsExactly, TableStays, ExtractFilled, ExtractUnfilled, ExtractTwice, NeverTooShort}
 use Rattle.definitions.specs.TableRows.{TableRows}
 use Rattle.definitions.specs.PruningClaims.{KeptByHeldIndexes}
+use Rattle.definitions.specs.ProjectClaims.{PlaceExactly, NewColumnsThere, ProjectionValue, ProjectionExchanged, ProjectionGood, ProjectedExactly, ProjectWrites, ProjectKeeps, ListAfterProjection, AnyMatcherProjects, ListProjectedValue}
 use Rattle.theorems.proofs.Exchange.{plan-twice}
-use Rattle.theorems.proofs.ExtractExchange.{exchanged-by}
 use Rattle.theorems.proofs.RoundTripPlan.{expr-reads, plan-reads}
 use Rattle.theorems.proofs.InversePlan.{plan-back}
 use Rattle.theorems.proofs.Taken.{rest-of-leaves-are}
-use Rattle.theorems.proofs.ExtractGood.{GoodExtraction, good-by}
 use Rattle.theorems.proofs.ExchangeGood.{exchange-good, plan-as-long, moved-good}
-use Rattle.theorems.proofs.Lists.{plan-good}
-use Rattle.theorems.proofs.ListTheorem.{load-accepts, load-held, list-agrees, stays}
-use Rattle.theorems.proofs.Lengths.{load-is-short, make-short}
-use Rattle.theorems.proofs.Changes.{load-keeps, make-keeps, load-wrote, make-wrote}
-use Rattle.theorems.proofs.RefusalNumbers.{load-refusals, extract-refusals, exchange-refusals, logical-refusals, print-refusals, merge-refusals}
+use Rattle.theorems.proofs.ListTheorem.{load-accepts, stays}
+use Rattle.theorems.proofs.Lengths.{load-is-short}
+use Rattle.theorems.proofs.Changes.{load-keeps, load-wrote}
+use Rattle.theorems.proofs.RefusalNumbers.{load-refusals, exchange-refusals, logical-refusals, print-refusals, merge-refusals, project-refusals}
 use Rattle.theorems.proofs.TablesRoom.{never-too-short-by}
-use Rattle.theorems.proofs.Answers.{told, plan-told, in-place, plans-same, exchange-among, extract-among}
 use Rattle.theorems.proofs.MatchLaws.{match-laws}
-use Rattle.theorems.proofs.Pick.{takes-by, none-by}
-use Rattle.theorems.proofs.Machines.{extract-took, names-leaf, line-of-calls, line-stays, price-exchanged, same-leaf, same-refusal, never-mixed}
-use Rattle.theorems.proofs.Truth.{fair-symmetric, plan-exchange-value, SameValue, value-by, machine-value}
+use Rattle.theorems.proofs.Truth.{fair-symmetric, plan-exchange-value}
 use Rattle.theorems.proofs.Values.{and-value-assoc, and-value-comm}
+use Rattle.theorems.proofs.AnyMatchers.{any-matcher-is}
 use Rattle.theorems.proofs.FairExample.{fair-points, marks-apart}
 use Rattle.theorems.proofs.FairCounting.{fair-counting}
 use Rattle.definitions.proofs.Names.{each-once, names-ones, tables-hold}
@@ -66,57 +57,16 @@ use Rattle.definitions.proofs.TabledRows.{table-rows-hold}
 use Rattle.theorems.proofs.NodeTables.{table-nests-by, table-exchanged-by, begins-exactly-by}
 use Rattle.theorems.proofs.TablesFit.{extract-filled-by, extract-unfilled-by, extract-twice-by}
 use Rattle.theorems.proofs.Pruned.{kept-by-held}
+use Rattle.theorems.proofs.Places.{place-exactly-is}
+use Rattle.theorems.proofs.Projected.{new-columns, projection-value, projection-exchange}
+use Rattle.theorems.proofs.ProjectedGood.{projection-good}
+use Rattle.theorems.proofs.ProjectCall.{projected-exactly-then, project-wrote, project-keeps-all, project-is-short}
+use Rattle.theorems.proofs.ProjectLists.{list-after-project, list-projected}
 
 -- ---- with every lawful matcher
 
-module _ {match : Matcher} {Asks : Meaning → List Record → Type 0} (laws : Lawful match Asks) where
-  extracts : Extracts match Asks
-  extracts = record {
-    takes = takes-by match;
-    untaken = none-by match;
-    exchanged = exchanged-by laws;
-    good = λ F X g e. subst (GoodExtraction F) e (good-by laws F g);
-    value = λ M v F X asked g e. subst (SameValue M v F) e (value-by laws M v F asked (g .readable .expr .inRange));
-  }
-
-  one-call : OneCall match
-  one-call = record {
-    short = make-short laws;
-    keeps = make-keeps match;
-    writes = λ kind n buffer scratch table. make-wrote n buffer scratch laws kind table;
-    refusals = extract-refusals match;
-  }
-
-  list-value : (M : Meaning) → Symmetric M → (v : Valuation) (F : Frame) (s : SessionBy match F) → Asks M (F .records) → (calls : List Made)
-      → HasValue M v (planAfter s calls) (frameValue M (valuesWhen (oddIn s calls) v) F)
-  list-value M turns v F s asked calls =
-      let b : Bits = told s calls in
-      let reads : planOf (planAfter s calls) ≡ ok (machinePlan match F b) =
-      ap planOf (plan-told laws s calls) ∙ plan-reads _ (plan-good laws F (b .isExtracted) (b .isOdd) (s .good)) in
-      let range = s .good .readable .expr .inRange in
-      (machinePlan match F b, reads, machine-value laws M turns v F asked range (b .isExtracted) (b .isOdd))
-
-  lists : Lists match Asks
-  lists = record {
-    loads = load-held match;
-    machine = λ F. list-agrees laws;
-    inPlace = λ F s. in-place match (s .n) (s .buffer) (s .table);
-    samePlan = λ F. plans-same laws;
-    exchangeAccepted = λ F. exchange-among laws;
-    extractAccepted = λ F. extract-among laws;
-    takes = λ F. extract-took laws;
-    position = λ F. names-leaf laws;
-    line = λ F. line-of-calls laws;
-    lineStays = λ F. line-stays laws;
-    lineExchanged = price-exchanged laws;
-    sameLeaf = λ F. same-leaf laws;
-    sameRefusal = λ F. same-refusal laws;
-    neverMixed = λ F. never-mixed laws;
-    value = list-value;
-  }
-
 pub any-matcher : AnyMatcher
-any-matcher = (λ match Asks laws. (extracts laws, one-call laws, lists laws), match-laws)
+any-matcher = any-matcher-is
 
 -- So with 01's.
 by-leaf : Extracts matchLeaf LeafAsks × OneCall matchLeaf × Lists matchLeaf LeafAsks
@@ -149,7 +99,7 @@ pub exchange-is-good : ExchangeGood
 exchange-is-good p g = (exchange-good p g, plan-as-long p)
 
 pub lengths-short : LengthsShort
-lengths-short = (load-is-short, by-leaf .1 .short)
+lengths-short = (load-is-short, by-leaf .1 .short, project-is-short)
 
 pub refused-keeps : RefusedKeeps
 refused-keeps = (load-keeps, by-leaf .1 .keeps)
@@ -158,7 +108,8 @@ pub accepted-writes : AcceptedWrites
 accepted-writes = (load-wrote, by-leaf .1 .writes)
 
 pub refusals-of-calls : RefusalsOfCalls
-refusals-of-calls = (load-refusals, by-leaf .1 .refusals, exchange-refusals, logical-refusals, print-refusals, merge-refusals)
+refusals-of-calls =
+    (load-refusals, by-leaf .1 .refusals, exchange-refusals, logical-refusals, print-refusals, merge-refusals, project-refusals)
 
 pub load-accepted : LoadAccepted
 load-accepted = load-accepts
@@ -358,3 +309,39 @@ never-too-short = never-too-short-by
 
 pub table-rows : TableRows
 table-rows = table-rows-hold
+
+-- ---- request 7
+
+pub place-exactly : PlaceExactly
+place-exactly = place-exactly-is
+
+pub new-columns-there : NewColumnsThere
+new-columns-there = new-columns
+
+pub projection-has-value : ProjectionValue
+projection-has-value = projection-value
+
+pub projection-exchanged : ProjectionExchanged
+projection-exchanged = projection-exchange
+
+pub projection-is-good : ProjectionGood
+projection-is-good = projection-good
+
+pub projected-exactly : ProjectedExactly
+projected-exactly = projected-exactly-then
+
+pub project-writes : ProjectWrites
+project-writes = project-wrote
+
+pub project-keeps : ProjectKeeps
+project-keeps = project-keeps-all
+
+pub list-after-projection : ListAfterProjection
+list-after-projection = list-after-project
+
+pub any-matcher-projects : AnyMatcherProjects
+any-matcher-projects match Asks laws = list-projected laws
+
+pub list-projected-has-value : ListProjectedValue
+list-projected-has-value M fair v w F s m =
+    any-matcher-projects matchLeaf LeafAsks match-laws M (fair-symmetric M fair) v w F s (fair, m)

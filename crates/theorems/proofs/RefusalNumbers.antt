@@ -22,7 +22,8 @@ use Rattle.definitions.specs.NodeTable.{NodeRecord}
 use Rattle.definitions.specs.Logical.{logicalAnswer, logical}
 use Rattle.definitions.specs.Printed.{printed, textOf, finishPrint, print}
 use Rattle.definitions.specs.Merge.{mergeFrames, overLimits, mergedFrame, newAfterMerge, withTable, merge}
-use Rattle.definitions.specs.Claims.{loadRefusals, extractRefusals, exchangeRefusals, logicalRefusals, printRefusals, mergeRefusals, RefusedBy}
+use Rattle.definitions.specs.Project.{Lists, projection, shortLists, projectedBytes, newAfterProject, project}
+use Rattle.definitions.specs.Claims.{loadRefusals, extractRefusals, exchangeRefusals, logicalRefusals, printRefusals, mergeRefusals, projectRefusals, RefusedBy}
 use Rattle.theorems.proofs.Tools.{by-test}
 use Rattle.theorems.proofs.Changes.{extract-writes}
 
@@ -300,6 +301,21 @@ module _ (P : ℕ → Type 0) where
       merge-only (ok new) h (ok (extracted X)) = p12
       merge-only (ok new) h (ok (held old)) = merged-only (mergeFrames old new)
 
+    module _ (p18 : P 18) (p19 : P 19) (p20 : P 20) (lists : Lists) where
+      placed-only : (x : Option Extraction) → Refuses (projectedBytes x)
+      unfolding projectedBytes
+      placed-only none = p20
+      placed-only (some X) = tt
+
+      project-only : (r : Result Plan) → Refuses (newAfterProject lists n room r)
+      unfolding newAfterProject
+      project-only (refused number) = p10
+      project-only (ok empty) = p11
+      project-only (ok (held F)) = p18
+      project-only (ok (extracted X)) =
+          if-only 19 (shortLists lists) _
+          (if-only 9 (leb n room) (projectedBytes (projection lists X)) (placed-only (projection lists X)) p9) p19
+
 -- The numbers of a list.
 abbrev In : List ℕ → ℕ → Type 0
 In numbers number = any (eqb number) numbers ≡ true
@@ -364,3 +380,12 @@ merge-refusals frame n buffer scratch table =
     refused-by mergeRefusals (merge frame n buffer scratch table .answer)
     (finish-only (In mergeRefusals) n buffer scratch _ (map-only (In mergeRefusals) frameBytes
     (newAfterMerge n (length scratch) (length buffer) (length table) (frameOf frame) (heldPlan n buffer)) given))
+
+pub project-refusals : (n : ℕ) (buffer scratch ofLeft ofRight : List ℕ)
+    → RefusedBy projectRefusals (project n buffer scratch ofLeft ofRight .answer)
+unfolding project projectRefusals any
+project-refusals n buffer scratch ofLeft ofRight =
+    let lists : Lists = record { ofLeft = ofLeft; ofRight = ofRight } in
+    refused-by projectRefusals (project n buffer scratch ofLeft ofRight .answer)
+    (finish-only (In projectRefusals) n buffer scratch (newAfterProject lists n (length scratch) (heldPlan n buffer))
+    (project-only (In projectRefusals) refl refl refl n (length scratch) refl refl refl lists (heldPlan n buffer)))
