@@ -23,6 +23,8 @@ use Rattle.definitions.specs.Printed as Printed
 use Rattle.definitions.specs.Good as Good
 use Rattle.definitions.specs.Merge as Merge
 use Rattle.definitions.specs.NodeTable as NodeTable
+use Rattle.definitions.specs.Project as Project
+use Rattle.definitions.specs.OddMachine as OddMachine
 
 unfoldable pub basics : ℕ
 unfolding Basics.ascii Basics.sameName Basics.bigEndian Basics.any Basics.all Basics.keep
@@ -134,7 +136,14 @@ unfolding Good.nodes Good.depth Merge.raised Merge.mergeFrames Merge.overLimits 
     Merge.withTable Merge.merge
 merging = 0
 
+unfoldable pub projecting : ℕ
+unfolding Project.placeIn Project.placeOf Project.isPlace Project.orZero Project.newPlace Project.hasPlace Project.projectExpr
+    Project.placedExpr Project.projectPredicate Project.placedPredicate Project.projectRecord Project.placedRecord Project.projectFrame
+    Project.placedRemainder Project.projectExtraction Project.placed Project.projection Project.shortLists Project.projectedBytes
+    Project.newAfterProject Project.project OddMachine.oddLength OddMachine.oddStep OddMachine.oddRun
+projecting = 0
+
 unfoldable pub everything : ℕ
 unfolding basics expression literals encode leaves readers decode plans references match extract exchange tables calls machine sessions meaning
-    logical program printing merging
+    logical program printing merging projecting
 everything = 0

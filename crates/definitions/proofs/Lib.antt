@@ -9,3 +9,4 @@ pub mod Refusals
 pub mod ConsoleLines
 pub mod FilterRows
 pub mod TabledRows
+pub mod NarrowedRows

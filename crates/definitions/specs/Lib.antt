@@ -56,4 +56,5 @@ pub mod MergeRows
 pub mod TableClaims
 pub mod TableRows
 pub mod ProjectClaims
+pub mod ProjectRows
 pub mod PruningClaims

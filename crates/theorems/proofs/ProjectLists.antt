@@ -1,5 +1,5 @@
--- A projection leaves an extraction of the same length, so any list after it is the machine's with the odd bit alone; each exchange exchanges
--- the new columns' values, and before the projection the plan had the frame's.
+-- A projection leaves an extraction as long as before, so any list after it is the machine's with the odd bit alone; each exchange
+-- exchanges the values of the new columns, and before the projection the plan had the frame's value.
 use Prim.Native.Nat.{ℕ}
 use native.Mathlib.Omega.{arith}
 use mathlib.Core.Path.{_≡_, refl, sym, ap, _∙_, subst, fun-ext}

@@ -149,7 +149,8 @@ module _ (lists : Lists) where
 
   -- Both geometries, whichever is asked about first, and what else is asked.
   two-have : (l r : Expr) (more : Bool)
-      → (placedExpr swapped left r && (placedExpr swapped right l && more)) ≡ (placedExpr lists left l && (placedExpr lists right r && more))
+      → (placedExpr swapped left r && (placedExpr swapped right l && more))
+      ≡ (placedExpr lists left l && (placedExpr lists right r && more))
   unfolding negate
   two-have l r more =
       rw (has-swapped right r, has-swapped left l) (three (placedExpr lists right r) (placedExpr lists left l)) where

@@ -22,6 +22,7 @@ use Rattle.definitions.specs.MergeRows.{MergeRows}
 use Rattle.definitions.specs.TableClaims.{TableNests, TableExchanged, BeginsExactly, TableStays, ExtractFilled, ExtractUnfilled, ExtractTwice, NeverTooShort}
 use Rattle.definitions.specs.TableRows.{TableRows}
 use Rattle.definitions.specs.PruningClaims.{KeptByHeldIndexes}
+use Rattle.definitions.specs.ProjectRows.{ProjectRows}
 use Rattle.definitions.specs.ProjectClaims.{PlaceExactly, NewColumnsThere, ProjectionValue, ProjectionExchanged, ProjectionGood, ProjectedExactly, ProjectWrites, ProjectKeeps, ListAfterProjection, AnyMatcherProjects, ListProjectedValue}
 use Rattle.theorems.proofs.Exchange.{plan-twice}
 use Rattle.theorems.proofs.RoundTripPlan.{expr-reads, plan-reads}
@@ -62,6 +63,7 @@ use Rattle.theorems.proofs.Projected.{new-columns, projection-value, pr
 use Rattle.theorems.proofs.ProjectedGood.{projection-good}
 use Rattle.theorems.proofs.ProjectCall.{projected-exactly-then, project-wrote, project-keeps-all, project-is-short}
 use Rattle.theorems.proofs.ProjectLists.{list-after-project, list-projected}
+use Rattle.definitions.proofs.NarrowedRows.{project-rows-hold}
 
 -- ---- with every lawful matcher
 
@@ -345,3 +347,6 @@ any-matcher-projects match Asks laws = list-projected laws
 pub list-projected-has-value : ListProjectedValue
 list-projected-has-value M fair v w F s m =
     any-matcher-projects matchLeaf LeafAsks match-laws M (fair-symmetric M fair) v w F s (fair, m)
+
+pub project-rows : ProjectRows
+project-rows = project-rows-hold
