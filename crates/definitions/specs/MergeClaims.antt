@@ -132,8 +132,8 @@ ValueAfterMerge =
     → HasValue M v (planAfter s calls)
     (andValue (frameValue M (valuesWhen (oddIn s calls) v) old) (frameValue M (valuesWhen (oddIn s calls) v) new))
 
--- Every list of load, extract, exchange and merge, from an empty plan and any table, gives the machine's answers, and leaves the machine's
--- plan and its length in a plan buffer as long as before, and a table as long as before that fits what is held.
+-- Every list of load, extract, exchange, merge and project (request 7), from an empty plan and any table, gives the machine's answers, and
+-- leaves the machine's plan and its length in a plan buffer as long as before, and a table as long as before that fits what is held.
 abbrev pub HistoryOfCallsBy : Matcher → Type 0
 HistoryOfCallsBy match =
     (buffer : List ℕ) (table : List NodeRecord) (calls : List Call) → FramesAreBytes calls

@@ -1,4 +1,4 @@
--- Every list of load, extract, exchange and merge gives the machine's answers and leaves the machine's plan.
+-- Every list of load, extract, exchange, merge and project gives the machine's answers and leaves the machine's plan.
 use Prim.Native.Nat.{ℕ, _≤_}
 use native.Mathlib.Omega.{arith}
 use mathlib.Core.Path.{_≡_, refl, sym, ap, ap₂, _∙_, subst}
@@ -9,31 +9,35 @@ use lib.ListN.{length, take}
 use lib.Dec.{leb}
 use borrow.Author.Tests.{leb-true, le-leb}
 use Rattle.definitions.specs.Basics.{if_then_else_, Result, ok, refused, mapResult}
-use Rattle.definitions.specs.Expression.{Record, Frame, Extraction, empty, held, extracted}
+use Rattle.definitions.specs.Expression.{Record, Frame, Extraction, Plan, empty, held, extracted}
 use Rattle.definitions.specs.Encode.{planBytes, frameBytes}
 use Rattle.definitions.specs.Plans.{frameOf, planOf}
 use Rattle.definitions.specs.Extract.{Matcher, extractionBy}
-use Rattle.definitions.specs.Exchange.{exchangeFrame, exchangeExtraction, exchangePlan}
 use Rattle.definitions.specs.Calls.{LoadOutcome, writtenOver, tabled, filledBy, tableFits, newAfterLoad, finishLoad, load, Outcome, finish, heldPlan, newAfterExchange, exchange, newAfterExtractBy, extractFilledBy}
 use Rattle.definitions.specs.Machine.{Kind, extractCall, exchangeCall, Bits, fresh, extractionOr, machinePlan, machineLength, machineStep}
-use Rattle.definitions.specs.Good.{AllBytes, nodes, GoodPlan}
+use Rattle.definitions.specs.Good.{AllBytes, nodes, planNodes, GoodPlan}
 use Rattle.definitions.specs.NodeTable.{NodeRecord, nodeTable}
 use Rattle.definitions.specs.Sessions.{Made, makeBy}
 use Rattle.definitions.specs.Meaning.{Meaning}
 use Rattle.definitions.specs.Matchers.{Lawful}
 use Rattle.definitions.specs.Merge.{mergeFrames, overLimits, mergedFrame, newAfterMerge, withTable, merge}
-use Rattle.definitions.specs.History.{Call, loading, making, merging, State, nothing, started, statePlan, Answered, refuseCall, startAt, startIn, loadCall, makeCall, heldNow, mergedCall, mergeCall, machineCall, History, machineHistory, butScratch, mergedBut, oneCallBy, HistoryOutcome, historyBy, FrameIsBytes, FramesAreBytes}
+use Rattle.definitions.specs.Project.{Lists, projectExtraction, placed, projection, shortLists, projectedBytes, newAfterProject, project}
+use Rattle.definitions.specs.OddMachine.{oddLength, oddStep}
+use Rattle.definitions.specs.History.{Call, loading, making, merging, projecting, State, nothing, started, projected, statePlan, Answered, refuseCall, startAt, startIn, loadCall, makeCall, mergedCall, mergeCall, projectedCall, projectCall, machineCall, History, machineHistory, butScratch, mergedBut, oneCallBy, HistoryOutcome, historyBy, FrameIsBytes, FramesAreBytes}
 use Rattle.definitions.specs.MergeClaims.{HistoryOfCallsBy}
 use Rattle.theorems.proofs.Tools.{and-both}
 use Rattle.theorems.proofs.InverseFrame.{frame-back}
 use Rattle.theorems.proofs.ExtractGood.{GoodExtraction, good-by}
-use Rattle.theorems.proofs.ExchangeGood.{exchange-good, plan-as-long}
+use Rattle.theorems.proofs.ExchangeGood.{plan-as-long}
 use Rattle.theorems.proofs.NodeTables.{table-nests-by}
 use Rattle.theorems.proofs.TablesFit.{extract-filled-by}
 use Rattle.theorems.proofs.Changes.{over-same, extract-writes}
-use Rattle.theorems.proofs.Lists.{Holds, Tabled, bits, plan-extracted, plan-held, held-plan, fits-machine, Agrees, step-agrees}
+use Rattle.theorems.proofs.Lists.{Holds, Tabled, bits, plan-good, held-plan, fits-machine, Agrees, step-agrees}
 use Rattle.theorems.proofs.ListTheorem.{written-held, session-holds}
 use Rattle.theorems.proofs.Merged.{good-merged}
+use Rattle.theorems.proofs.ProjectedGood.{projected-length, projected-good}
+use Rattle.theorems.proofs.ProjectCall.{both-short}
+use Rattle.theorems.proofs.OddMachines.{OddHolds, OddAgrees, odd-good, fits-odd, held-odd, as-long-odd, odd-written, odd-step}
 
 -- ---- whatever the matcher
 
@@ -52,24 +56,6 @@ base-short : (F : Frame) (x : Option Extraction) → GoodExtraction F x
 unfolding extractionOr planBytes
 base-short F none h = omega arith
 base-short F (some X) h = h .1
-
-merge-again : (n scratch room places : ℕ) (new : Frame) (X : Extraction) (o : Bool)
-    → newAfterMerge n scratch room places (ok new) (ok (if o then extracted (exchangeExtraction X) else extracted X)) ≡ refused 12
-unfolding newAfterMerge
-merge-again n scratch room places new X true = refl
-merge-again n scratch room places new X false = refl
-
-merge-into : (n scratch room places : ℕ) (new F : Frame) (o : Bool)
-    → newAfterMerge n scratch room places (ok new) (ok (if o then held (exchangeFrame F) else held F))
-    ≡ mergedFrame n scratch room places (mergeFrames (heldNow F o) new)
-unfolding newAfterMerge
-merge-into n scratch room places new F true = refl
-merge-into n scratch room places new F false = refl
-
-held-now-good : (F : Frame) (o : Bool) → GoodPlan (held F) → GoodPlan (held (heldNow F o))
-unfolding exchangePlan
-held-now-good F true g = exchange-good (held F) g
-held-now-good F false g = g
 
 -- What a merge leaves but for the scratch, by the frame that it made.
 abbrev mergedTo : (n : ℕ) → (buffer scratch : List ℕ) → (table : List NodeRecord) → Result Frame → LoadOutcome
@@ -110,10 +96,38 @@ module _ {match : Matcher} {Asks : Meaning → List Record → Type 0} (laws : L
     HoldsState nothing n buffer table = (n ≡ 0) × Sized buffer table
     HoldsState (started F b) n buffer table =
         GoodPlan (held F) × Holds laws F b n buffer × Sized buffer table × (length (frameBytes F) ≤ room) × Tabled laws F table
+    HoldsState (projected X o) n buffer table = GoodPlan (extracted X) × OddHolds X o n buffer × Sized buffer table
 
     sized : (s : State) (n : ℕ) (buffer : List ℕ) (table : List NodeRecord) → HoldsState s n buffer table → Sized buffer table
     sized nothing n buffer table h = h .1
     sized (started F b) n buffer table h = h .2
+    sized (projected X o) n buffer table h = h .2
+
+    -- The plan that a state's buffer holds, and the table that fits it.
+    state-left : (s : State) (n : ℕ) (buffer : List ℕ) (table : List NodeRecord) → HoldsState s n buffer table
+        → (take n buffer ≡ planBytes (statePlan match s)) × (n ≡ length (planBytes (statePlan match s)))
+        × Sized buffer table × (tableFits table (ok (statePlan match s)) ≡ true)
+    unfolding statePlan planBytes machineLength
+    state-left nothing n buffer table h = (ap (λ (k : ℕ). take k buffer) (h .0), h .0, h .1, unfold tableFits in refl)
+    state-left (started F b) n buffer table h =
+        (h .1 .bytes, h .1 .size, h .2, fits-machine laws F (b .isExtracted) (b .isOdd) table (h .4))
+    state-left (projected X o) n buffer table h = (h .1 .bytes, unfold oddLength in h .1 .size, h .2, fits-odd table X o)
+
+    -- It is read from there, and good.
+    state-held : (s : State) (n : ℕ) (buffer : List ℕ) (table : List NodeRecord) → HoldsState s n buffer table
+        → (heldPlan n buffer ≡ ok (statePlan match s)) × GoodPlan (statePlan match s) × (n ≤ length buffer)
+    unfolding statePlan planNodes planBytes
+    state-held nothing n buffer table h = (
+      ap (λ (k : ℕ). heldPlan k buffer) (h .0) ∙ empty-held buffer,
+      record { readable = tt; fewNodes = omega arith; fewBytes = omega arith },
+      omega (arith, h .0),
+    )
+    state-held (started F b) n buffer table h = (
+      held-plan laws F (b .isExtracted) (b .isOdd) n buffer (h .0) (h .1),
+      plan-good laws F (b .isExtracted) (b .isOdd) (h .0),
+      h .1 .fits,
+    )
+    state-held (projected X o) n buffer table h = (held-odd X o n buffer (h .0) (h .1), odd-good X o (h .0), h .1 .fits)
 
     -- What one call must give.
     record CallAgrees (a : Answered) (o : LoadOutcome) : Type 0 where
@@ -196,13 +210,6 @@ module _ {match : Matcher} {Asks : Meaning → List Record → Type 0} (laws : L
         (unfold extractFilledBy finish in rw (empty-held buffer) (refuses nothing 0 buffer table 11 (refl, e)))
     make-nothing exchangeCall buffer scratch table e = unfold finish in rw (empty-held buffer) (refuses nothing 0 buffer table 11 (refl, e))
 
-    merge-nothing : (buffer scratch : List ℕ) (table : List NodeRecord) → Sized buffer table → (r : Result Frame)
-        → CallAgrees (mergeCall match (length scratch) room places nothing r)
-        (mergedTo 0 buffer scratch table (newAfterMerge 0 (length scratch) (length buffer) (length table) r (heldPlan 0 buffer)))
-    unfolding mergeCall newAfterMerge
-    merge-nothing buffer scratch table e (refused number) = refuses-too nothing 0 buffer scratch table number (refl, e)
-    merge-nothing buffer scratch table e (ok new) = rw (empty-held buffer) (refuses-too nothing 0 buffer scratch table 11 (refl, e))
-
     -- ---- extract and exchange
 
     make-started : (F : Frame) (b : Bits) (n : ℕ) (buffer : List ℕ) (table : List NodeRecord) (c : Made)
@@ -223,73 +230,112 @@ module _ {match : Matcher} {Asks : Meaning → List Record → Type 0} (laws : L
 
     -- ---- merge
 
-    module _ (F : Frame) (o : Bool) (n : ℕ) (buffer scratch : List ℕ) (table : List NodeRecord)
-        (h : HoldsState (started F (bits false o)) n buffer table) (new : Frame) (k : GoodPlan (held new)) where
-      abbrev M : Frame
-      M = mergeFrames (heldNow F o) new
-
-      abbrev now : State
-      now = started F (bits false o)
-
-      merged-by : (over t u : Bool) → overLimits M ≡ over
+    module _ (s : State) (n : ℕ) (buffer scratch : List ℕ) (table : List NodeRecord) (h : HoldsState s n buffer table) where
+      merged-by : (M : Frame) → (overLimits M ≡ false → GoodPlan (held M)) → (over t u : Bool) → overLimits M ≡ over
           → (leb n (length scratch) && leb (length (frameBytes M)) (length buffer)) ≡ t → leb (nodes (M .expr)) (length table) ≡ u
-          → CallAgrees
-          (if over then refuseCall now 16 else if t then (if u then startAt M else refuseCall now 17) else refuseCall now 9)
-          (mergedTo n buffer scratch table
-          (if over then refused 16 else if t then (if u then ok M else refused 17) else refused 9))
+          → CallAgrees (if over then refuseCall s 16 else if t then (if u then startAt M else refuseCall s 17) else refuseCall s 9)
+          (mergedTo n buffer scratch table (if over then refused 16 else if t then (if u then ok M else refused 17) else refused 9))
       unfolding withTable finish
-      merged-by true t u e f v = refuses-too now n buffer scratch table 16 h
-      merged-by false false u e f v = refuses-too now n buffer scratch table 9 h
-      merged-by false true false e f v = refuses-too now n buffer scratch table 17 h
-      merged-by false true true e f v =
-          starts M buffer table (good-merged (heldNow F o) new (held-now-good F o (h .0)) k e)
-          (leb-true _ _ (and-both (leb n (length scratch)) (leb (length (frameBytes M)) (length buffer)) f .1)) (leb-true _ _ v) (h .2)
+      merged-by M good true t u e f v = refuses-too s n buffer scratch table 16 h
+      merged-by M good false false u e f v = refuses-too s n buffer scratch table 9 h
+      merged-by M good false true false e f v = refuses-too s n buffer scratch table 17 h
+      merged-by M good false true true e f v =
+          starts M buffer table (good e)
+          (leb-true _ _ (and-both (leb n (length scratch)) (leb (length (frameBytes M)) (length buffer)) f .1)) (leb-true _ _ v)
+          (sized s n buffer table h)
 
-      merged-agrees : CallAgrees (mergedCall (machineLength match F (bits false o)) (length scratch) room places now M)
-          (mergedTo n buffer scratch table (mergedFrame n (length scratch) (length buffer) (length table) M))
-      unfolding mergedCall startIn mergedFrame tabled
-      merged-agrees =
-          rw (← (h .1 .size), h .2 .0, h .2 .1)
-          (merged-by (overLimits M) (leb n (length scratch) && leb (length (frameBytes M)) room) (leb (nodes (M .expr)) places) refl
-          (ap (λ (k : ℕ). leb n (length scratch) && leb (length (frameBytes M)) k) (h .2 .0)) (ap (leb (nodes (M .expr))) (h .2 .1)))
+      merge-agrees : (frame : List ℕ) → AllBytes frame → (p : Plan) → GoodPlan p → (r : Result Frame) → frameOf frame ≡ r
+          → CallAgrees (mergeCall n (length scratch) room places s p r)
+          (mergedTo n buffer scratch table (newAfterMerge n (length scratch) (length buffer) (length table) r (ok p)))
+      unfolding mergeCall newAfterMerge mergedCall startIn mergedFrame tabled
+      merge-agrees frame bytes p g (refused number) e = refuses-too s n buffer scratch table number h
+      merge-agrees frame bytes empty g (ok new) e = refuses-too s n buffer scratch table 11 h
+      merge-agrees frame bytes (extracted X) g (ok new) e = refuses-too s n buffer scratch table 12 h
+      merge-agrees frame bytes (held old) g (ok new) e =
+          let M : Frame = mergeFrames old new in
+          let size = sized s n buffer table h in
+          rw (size .0, size .1)
+          (merged-by M (good-merged old new g (frame-back frame new bytes e .1)) (overLimits M)
+          (leb n (length scratch) && leb (length (frameBytes M)) room) (leb (nodes (M .expr)) places) refl
+          (ap (λ (k : ℕ). leb n (length scratch) && leb (length (frameBytes M)) k) (size .0)) (ap (leb (nodes (M .expr))) (size .1)))
 
-    merge-started : (F : Frame) (e o : Bool) (n : ℕ) (buffer frame scratch : List ℕ) (table : List NodeRecord) → AllBytes frame
-        → HoldsState (started F (bits e o)) n buffer table → (r : Result Frame) → frameOf frame ≡ r
-        → CallAgrees (mergeCall match (length scratch) room places (started F (bits e o)) r)
-        (mergedTo n buffer scratch table (newAfterMerge n (length scratch) (length buffer) (length table) r (heldPlan n buffer)))
-    unfolding mergeCall newAfterMerge
-    merge-started F e o n buffer frame scratch table bytes h (refused number) q =
-        refuses-too (started F (bits e o)) n buffer scratch table number h
-    merge-started F true o n buffer frame scratch table bytes h (ok new) q =
-        rw (
-          held-plan laws F true o n buffer (h .0) (h .1),
-          plan-extracted laws F (h .1 .reached .0) o (h .1 .reached .1),
-          merge-again n (length scratch) (length buffer) (length table) new (h .1 .reached .0) o,
-        )
-        (refuses-too (started F (bits true o)) n buffer scratch table 12 h)
-    merge-started F false o n buffer frame scratch table bytes h (ok new) q =
-        rw (
-          held-plan laws F false o n buffer (h .0) (h .1),
-          plan-held laws F o,
-          merge-into n (length scratch) (length buffer) (length table) new F o,
-        )
-        (merged-agrees F o n buffer scratch table h new (frame-back frame new bytes q .1))
+    -- ---- after a projection
+
+    make-projected : (X : Extraction) (o : Bool) (n : ℕ) (buffer : List ℕ) (table : List NodeRecord) (c : Made)
+        → HoldsState (projected X o) n buffer table
+        → CallAgrees (makeCall match (projected X o) c) (butScratch (makeBy match (c .kind) n buffer (c .scratch) table) table)
+    unfolding makeCall
+    make-projected X o n buffer table c h =
+        let a : OddAgrees X (oddStep X o (c .kind) (length (c .scratch))) (makeBy match (c .kind) n buffer (c .scratch) table) =
+        odd-step match X (h .0) o (c .kind) n buffer (c .scratch) table (h .1) in
+        let o′ : Bool = oddStep X o (c .kind) (length (c .scratch)) .isOdd in
+        let fits : makeBy match (c .kind) n buffer (c .scratch) table .n ≤ length buffer =
+        omega (arith, a .holds .size, as-long-odd X o′, as-long-odd X o, h .1 .size, h .1 .fits) in
+        record {
+          answer = a .answer;
+          holds = (h .0, a .holds, (make-length (c .kind) n buffer (c .scratch) table fits ∙ h .2 .0, h .2 .1));
+        }
+
+    -- ---- project
+
+    module _ (lists : Lists) (s : State) (n : ℕ) (buffer scratch : List ℕ) (table : List NodeRecord) (h : HoldsState s n buffer table) where
+      refuses-project : (number : ℕ) → CallAgrees (refuseCall s number) (butScratch (finish n buffer scratch (refused number)) table)
+      unfolding finish
+      refuses-project number = refuses s n buffer table number h
+
+      projected-by : (X : Extraction) → GoodPlan (extracted X) → n ≡ length (planBytes (extracted X)) → n ≤ length buffer
+          → (a b c : Bool) → shortLists lists ≡ a
+          → let Y : Option Extraction = if c then some (projectExtraction lists X) else none in
+          CallAgrees (if a then (if b then projectedCall s Y else refuseCall s 9) else refuseCall s 19)
+          (butScratch (finish n buffer scratch (if a then (if b then projectedBytes Y else refused 9) else refused 19)) table)
+      unfolding projectedCall projectedBytes finish oddLength
+      projected-by X g size fits false b c e = refuses-project 19
+      projected-by X g size fits true false c e = refuses-project 9
+      projected-by X g size fits true true false e = refuses-project 20
+      projected-by X g size fits true true true e =
+          let Y : Extraction = projectExtraction lists X in
+          let short = both-short lists e in
+          let room : oddLength Y false ≤ length buffer =
+          omega (arith, as-long-odd Y false, projected-length lists X, size, fits) in
+          let size = sized s n buffer table h in
+          record {
+            answer = refl;
+            holds = (
+              projected-good lists X (short .0) (short .1) g,
+              odd-written Y false n buffer scratch room,
+              (finish-length n buffer scratch (ok (planBytes (extracted Y))) room ∙ size .0, size .1),
+            );
+          }
+
+      project-by : (p : Plan) → GoodPlan p → n ≡ length (planBytes p) → n ≤ length buffer
+          → CallAgrees (projectCall lists n (length scratch) s p)
+          (butScratch (finish n buffer scratch (newAfterProject lists n (length scratch) (ok p))) table)
+      unfolding projectCall newAfterProject projection
+      project-by empty g size fits = refuses-project 11
+      project-by (held F) g size fits = refuses-project 18
+      project-by (extracted X) g size fits =
+          projected-by X g size fits (shortLists lists) (leb n (length scratch)) (placed lists X) refl
 
     -- ---- lists
 
     call-agrees : (s : State) (n : ℕ) (buffer : List ℕ) (table : List NodeRecord) (c : Call) → FrameIsBytes c → HoldsState s n buffer table
         → CallAgrees (machineCall match room places s c) (oneCallBy match n buffer table c)
-    unfolding machineCall oneCallBy load merge makeCall
+    unfolding machineCall oneCallBy load merge project makeCall
     call-agrees s n buffer table (loading frame) bytes h = load-agrees s n buffer table frame bytes h (frameOf frame) refl
     call-agrees nothing n buffer table (making c) bytes h =
         subst (λ (k : ℕ). CallAgrees (refuseCall nothing 11) (butScratch (makeBy match (c .kind) k buffer (c .scratch) table) table))
         (sym (h .0)) (make-nothing (c .kind) buffer (c .scratch) table (h .1))
     call-agrees (started F b) n buffer table (making c) bytes h = make-started F b n buffer table c h
-    call-agrees nothing n buffer table (merging frame scratch) bytes h =
-        subst (λ (k : ℕ). CallAgrees (mergeCall match (length scratch) room places nothing (frameOf frame))
-        (mergedBut (merge frame k buffer scratch table))) (sym (h .0)) (merge-nothing buffer scratch table (h .1) (frameOf frame))
-    call-agrees (started F b) n buffer table (merging frame scratch) bytes h =
-        merge-started F (b .isExtracted) (b .isOdd) n buffer frame scratch table bytes h (frameOf frame) refl
+    call-agrees (projected X o) n buffer table (making c) bytes h = make-projected X o n buffer table c h
+    call-agrees s n buffer table (merging frame scratch) bytes h =
+        let l = state-left s n buffer table h in
+        let k = state-held s n buffer table h in
+        rw (k .0, ← (l .1)) (merge-agrees s n buffer scratch table h frame bytes (statePlan match s) (k .1) (frameOf frame) refl)
+    call-agrees s n buffer table (projecting scratch ofLeft ofRight) bytes h =
+        let lists : Lists = record { ofLeft = ofLeft; ofRight = ofRight } in
+        let l = state-left s n buffer table h in
+        let k = state-held s n buffer table h in
+        rw (k .0, ← (l .1)) (project-by lists s n buffer scratch table h (statePlan match s) (k .1) (l .1) (k .2))
 
     record AllAgree (m : History) (c : HistoryOutcome) : Type 0 where
       answers : c .answers ≡ m .answers
@@ -305,15 +351,6 @@ module _ {match : Matcher} {Asks : Meaning → List Record → Type 0} (laws : L
         let after : AllAgree (machineHistory match room places (machineCall match room places s c .state) cs) _ =
         history-agrees cs _ _ _ _ (bytes .1) (one .holds) in
         record { answers = ap₂ (λ (a : Result ℕ) (l : List (Result ℕ)). a ∷ l) (one .answer) (after .answers); holds = after .holds }
-
-    -- The plan that a state's buffer holds, and the table that fits it.
-    state-left : (s : State) (n : ℕ) (buffer : List ℕ) (table : List NodeRecord) → HoldsState s n buffer table
-        → (take n buffer ≡ planBytes (statePlan match s)) × (n ≡ length (planBytes (statePlan match s)))
-        × Sized buffer table × (tableFits table (ok (statePlan match s)) ≡ true)
-    unfolding statePlan planBytes machineLength
-    state-left nothing n buffer table h = (ap (λ (k : ℕ). take k buffer) (h .0), h .0, h .1, unfold tableFits in refl)
-    state-left (started F b) n buffer table h =
-        (h .1 .bytes, h .1 .size, h .2, fits-machine laws F (b .isExtracted) (b .isOdd) table (h .4))
 
   pub history-of : HistoryOfCallsBy match
   history-of buffer table calls bytes =

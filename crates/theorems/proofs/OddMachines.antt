@@ -79,10 +79,11 @@ odd-written X o n buffer scratch f =
     let new : List ℕ = planBytes (extractedPlan X o) in
     record { size = refl; bytes = take-append-seam new (drop (length new) buffer); fits = simp length-append (omega arith) }
 
-odd-lengths : (X : Extraction) (o : Bool) → oddLength X (not o) ≡ oddLength X o
+-- Exchanged or not, it is as long.
+pub as-long-odd : (X : Extraction) (o : Bool) → oddLength X o ≡ length (planBytes (extracted X))
 unfolding oddLength exchangePlan
-odd-lengths X true = sym (plan-as-long (extracted X))
-odd-lengths X false = plan-as-long (extracted X)
+as-long-odd X true = plan-as-long (extracted X)
+as-long-odd X false = refl
 
 by-room : (X : Extraction) (o : Bool) (n : ℕ) (buffer scratch : List ℕ) (t : Bool) → OddHolds X o n buffer
     → oddLength X (not o) ≤ length buffer
@@ -113,7 +114,7 @@ module _ (match : Matcher) (X : Extraction) (g : GoodPlan (extracted X)) where
         exchanged-plan X o,
         ← (h .size),
       )
-      (by-room X o n buffer scratch (leb n (length scratch)) h (omega (arith, odd-lengths X o, h .size, h .fits)))
+      (by-room X o n buffer scratch (leb n (length scratch)) h (omega (arith, as-long-odd X o, as-long-odd X (not o), h .size, h .fits)))
 
   -- ---- lists of calls
 

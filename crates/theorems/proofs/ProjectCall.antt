@@ -24,6 +24,13 @@ use Rattle.theorems.proofs.Lengths.{bytes-up-to, held-is}
 use Rattle.theorems.proofs.Changes.{over-first, finish-keeps, finish-wrote}
 use Rattle.theorems.proofs.ProjectedGood.{projected-length}
 
+-- Neither list has over 4,096 items.
+pub both-short : (lists : Lists) → shortLists lists ≡ true → (length (lists .ofLeft) ≤ 4096) × (length (lists .ofRight) ≤ 4096)
+unfolding shortLists
+both-short lists e =
+    let both : (leb (length (lists .ofLeft)) 4096 ≡ true) × (leb (length (lists .ofRight)) 4096 ≡ true) = and-both _ _ e in
+    (leb-true (length (lists .ofLeft)) 4096 (both .0), leb-true (length (lists .ofRight)) 4096 (both .1))
+
 -- ---- exactly when
 
 module _ (lists : Lists) (n : ℕ) (buffer scratch : List ℕ) where
@@ -42,19 +49,19 @@ module _ (lists : Lists) (n : ℕ) (buffer scratch : List ℕ) where
 
   projects-by : (r : Result Plan) → heldPlan n buffer ≡ r → Answered (newAfterProject lists n (length scratch) r)
       → (X : Extraction) × Projects lists n buffer scratch X
-  unfolding newAfterProject finish accepted projection shortLists
+  unfolding newAfterProject finish accepted projection
   projects-by (refused number) e h = absurd (false≢true h)
   projects-by (ok empty) e h = absurd (false≢true h)
   projects-by (ok (held F)) e h = absurd (false≢true h)
   projects-by (ok (extracted X)) e h =
       let all : (shortLists lists ≡ true) × (leb n (length scratch) ≡ true) × (placed lists X ≡ true) =
       tests (shortLists lists) (leb n (length scratch)) (placed lists X) (projectExtraction lists X) h in
-      let short : (leb (length (lists .ofLeft)) 4096 ≡ true) × (leb (length (lists .ofRight)) 4096 ≡ true) = and-both _ _ (all .0) in (
+      let short : (length (lists .ofLeft) ≤ 4096) × (length (lists .ofRight) ≤ 4096) = both-short lists (all .0) in (
         X,
         record {
           holds = e;
-          shortLeft = leb-true (length (lists .ofLeft)) 4096 (short .0);
-          shortRight = leb-true (length (lists .ofRight)) 4096 (short .1);
+          shortLeft = short .0;
+          shortRight = short .1;
           room = leb-true n (length scratch) (all .1);
           found = all .2;
         },
