@@ -152,14 +152,14 @@ ListAfterProjection =
 abbrev pub projectAfter : {match : Matcher} {F : Frame} → SessionBy match F → (before : List Made) → Lists → (scratch : List ℕ) → Outcome
 projectAfter s before lists scratch = projectBy lists (after s before .n) (after s before .buffer) scratch
 
--- From a held frame: after any list of calls, an accepted projection and any list after it the plan has over the new columns the value
--- that the frame had over its own; the columns that are projected are the frame's, exchanged when odd before.
+-- From a held frame: after any list of calls, an accepted projection and any list after it, with any table, the plan has over the new
+-- columns the value that the frame had over its own; the columns that are projected are the frame's, exchanged when odd before.
 abbrev pub ListProjectedBy : Matcher → (Asks : Meaning → List Record → Type 0) → Type 0
 ListProjectedBy match Asks =
     (M : Meaning) → Symmetric M → (v w : Valuation) (F : Frame) (s : SessionBy match F) → Asks M (F .records)
-    → (before : List Made) (lists : Lists) (scratch : List ℕ) (later : List Made)
+    → (before : List Made) (lists : Lists) (scratch : List ℕ) (table : List NodeRecord) (later : List Made)
     → let o : Outcome = projectAfter s before lists scratch in
-    accepted (o .answer) ≡ true → ValueFrom match o (s .table) later lists M (valuesWhen (oddIn s before) v) w (frameValue M v F)
+    accepted (o .answer) ≡ true → ValueFrom match o table later lists M (valuesWhen (oddIn s before) v) w (frameValue M v F)
 
 -- It does with any lawful matcher,
 abbrev pub AnyMatcherProjects : Type 1
@@ -170,6 +170,6 @@ AnyMatcherProjects =
 abbrev pub ListProjectedValue : Type 0
 ListProjectedValue =
     (M : Meaning) → Fair M → (v w : Valuation) (F : Frame) (s : Session F) → NoMarks (F .records)
-    → (before : List Made) (lists : Lists) (scratch : List ℕ) (later : List Made)
+    → (before : List Made) (lists : Lists) (scratch : List ℕ) (table : List NodeRecord) (later : List Made)
     → let o : Outcome = projectAfter s before lists scratch in
-    accepted (o .answer) ≡ true → ValueFrom matchLeaf o (s .table) later lists M (valuesWhen (oddIn s before) v) w (frameValue M v F)
+    accepted (o .answer) ≡ true → ValueFrom matchLeaf o table later lists M (valuesWhen (oddIn s before) v) w (frameValue M v F)

@@ -1,33 +1,37 @@
 -- Calls that meet their contracts are the definitions' calls, so a list of them is a session's list, of which all of demand 3 holds.
 use Prim.Native.Nat.{ℕ}
 use mathlib.Core.Path.{_≡_, refl, sym, ap, ap₂, _∙_, subst}
-use mathlib.Core.Bool.{true, _&&_, not}
+use mathlib.Core.Bool.{true, false, _&&_, not}
 use mathlib.Core.List.{List, [], _∷_, map}
 use mathlib.Core.Option.{some}
 use lib.ListN.{length, take}
 use lib.Seq.{length-take-le}
 use lib.Dec.{leb}
 use Rattle.definitions.specs.Basics.{ok}
-use Rattle.definitions.specs.Expression.{Frame, Extraction, held}
+use Rattle.definitions.specs.Expression.{Frame, Extraction, held, extracted as holding}
 use Rattle.definitions.specs.Encode.{frameBytes, planBytes}
 use Rattle.definitions.specs.Plans.{frameOf}
 use Rattle.definitions.specs.Extract.{Matcher, matchesOf}
 use Rattle.definitions.specs.Match.{matchLeaf}
 use Rattle.definitions.specs.Calls.{LoadOutcome, load, Outcome, heldPlan}
 use Rattle.definitions.specs.Machine.{extractCall, exchangeCall}
-use Rattle.definitions.specs.Good.{AllBytes}
-use Rattle.definitions.specs.Sessions.{Made, makeBy, make, ListOutcome, callsRunBy, callsRun, machineAfter, accepted, extractAccepted, exchangesOdd, Session, after, planLeft}
-use Rattle.definitions.specs.Meaning.{frameValue}
+use Rattle.definitions.specs.Good.{AllBytes, NoMarks}
+use Rattle.definitions.specs.Sessions.{Made, fed, makeBy, make, ListOutcome, callsRunBy, callsRun, machineAfter, accepted, extractAccepted, exchangesOdd, Session, after, planLeft}
+use Rattle.definitions.specs.Meaning.{Valuation, Meaning, Fair, frameValue, extractionValue}
 use Rattle.definitions.specs.Claims.{LeavesSession, Agree, someLeafMatches, Took, extractedPlan, NamesLeaf, priceLine, valuesWhen, HasValue}
 use Rattle.definitions.specs.Merge.{mergeFrames, MergeOutcome, merge}
 use Rattle.definitions.specs.NodeTable.{NodeRecord}
 use Rattle.definitions.specs.MergeClaims.{LeftBy}
-use Rattle.definitions.specs.History.{Call, loading, making, merging, oneCallBy, HistoryOutcome, historyBy}
+use Rattle.definitions.specs.Project.{projection, Lists as ChildLists}
+use Rattle.definitions.specs.OddMachine.{oddRun}
+use Rattle.definitions.specs.ProjectClaims.{NewColumns, projectBy, OddAgree, callsFrom, ValueFrom}
+use Rattle.definitions.specs.History.{Call, loading, making, merging, projecting, oneCallBy, HistoryOutcome, historyBy}
 use Rattle.theorems.proofs.InverseFrame.{same-ok}
 use Rattle.theorems.proofs.MergeCall.{same-held}
-use Rattle.theorems.proofs.Proved.{load-holds, list-of-calls, same-plan, exchange-accepted, extract-accepted, extract-takes, position-in-bytes, price-line-stays, list-has-value, merge-holds, history-of-calls}
+use Rattle.theorems.proofs.Truth.{fair-symmetric}
+use Rattle.theorems.proofs.Proved.{load-holds, list-of-calls, same-plan, exchange-accepted, extract-accepted, extract-takes, position-in-bytes, price-line-stays, list-has-value, merge-holds, history-of-calls, list-after-projection, list-projected-has-value}
 use Rattle.join_filter.specs.Outcomes.{answerOf, LoadIs, MergeIs}
-use Rattle.join_filter.specs.Lists.{Lent, CallIs, Ran, noCall, called, Starts, byLoad, byMerge, CodeRun, outcome, plan, extracted, odd, DemandThree, CodeMeetsDemandThree}
+use Rattle.join_filter.specs.Lists.{Lent, CallIs, Ran, noCall, called, ranTo, ProjectIs, Starts, byLoad, byMerge, CodeRun, outcome, plan, extracted, odd, DemandThree, AfterProjection, CodeMeetsDemandThree}
 use Rattle.join_filter.specs.declared.answers.Answer.{Answer}
 use Rattle.join_filter.specs.declared.answers.Answer.the-variants.{Length}
 
@@ -42,6 +46,8 @@ one-is b (making c) a r is =
     ap (λ (o : Outcome). record { answer = o .answer; n = o .n; buffer = o .buffer; table = b .table }) (is .1) ∙ rw (is .2, is .3) refl
 one-is b (merging frame scratch) a r is =
     ap (λ (o : MergeOutcome). record { answer = o .answer; n = o .n; buffer = o .buffer; table = o .table }) (is .1) ∙ rw (is .2) refl
+one-is b (projecting scratch ofLeft ofRight) a r is =
+    ap (λ (o : Outcome). record { answer = o .answer; n = o .n; buffer = o .buffer; table = b .table }) (is .1) ∙ rw (is .2, is .3) refl
 
 history-is : {b last : Lent} {calls : List Call} {answers : List Answer} → Ran b calls answers last
     → historyBy matchLeaf (b .n) (b .buffer) (b .table) calls
@@ -67,6 +73,24 @@ made-is match n buffer table (c ∷ calls) =
 made-table : (calls : List Made) {b last : Lent} {answers : List Answer} → Ran b (map making calls) answers last → last .table ≡ b .table
 made-table [] noCall = refl
 made-table (c ∷ calls) (called e more) = made-table calls more ∙ e .3
+
+made-ran : (calls : List Made) {a last : Lent} {answers : List Answer} → Ran a (map making calls) answers last
+    → callsRun (a .n) (a .buffer) (a .table) calls ≡ ranTo answers last
+made-ran calls {a} ran =
+    made-is matchLeaf (a .n) (a .buffer) (a .table) calls
+    ∙ ap (λ (o : HistoryOutcome). record { answers = o .answers; n = o .n; buffer = o .buffer }) (history-is ran)
+
+-- After a projection too.
+from-projected : (lists : ChildLists) (b : Lent) (scratch kept : List ℕ) (a : Lent) → ProjectIs lists b scratch kept a
+    → (calls : List Made) {last : Lent} {answers : List Answer} → Ran a (map making calls) answers last
+    → callsFrom matchLeaf (projectBy lists (b .n) (b .buffer) scratch) (a .table) calls ≡ ranTo answers last
+from-projected lists b scratch kept a is calls ran =
+    ap (λ (o : Outcome). callsFrom matchLeaf o (a .table) calls) is ∙ made-ran calls ran
+
+projects : (lists : ChildLists) (b : Lent) (scratch kept : List ℕ) (a : Lent) → ProjectIs lists b scratch kept a
+    → accepted (projectBy lists (b .n) (b .buffer) scratch .answer) ≡ true
+unfolding accepted
+projects lists b scratch kept a is = ap (λ (o : Outcome). accepted (o .answer)) is
 
 -- ---- where it starts
 
@@ -114,8 +138,7 @@ module _ (F : Frame) where
       let (s, n, buffer, table) = started (r .start) (r .starts) in
       let same : after s calls ≡ callsRun (r .start .n) (r .start .buffer) (r .start .table) calls = rw (n, buffer, table) refl in (
         s,
-        same ∙ made-is matchLeaf (r .start .n) (r .start .buffer) (r .start .table) calls
-            ∙ ap (λ (o : HistoryOutcome). record { answers = o .answers; n = o .n; buffer = o .buffer }) (history-is (r .ran)),
+        same ∙ made-ran calls (r .ran),
         table ∙ sym (made-table calls (r .ran)),
       )
 
@@ -140,6 +163,21 @@ module _ (F : Frame) where
       (ap (λ (x : ListOutcome). exchangesOdd calls (x .answers)) is ∙ o
       ∙ sym (ap (λ (x : ListOutcome). exchangesOdd calls′ (x .answers)) is′))
       ∙ ap planLeft is′
+
+  value-projected : (M : Meaning) → Fair M → (v w : Valuation) → NoMarks (F .records) → (calls : List Made) (r : CodeRun F calls)
+      (lists : ChildLists) (scratch kept : List ℕ) (a : Lent) → ProjectIs lists (r .last) scratch kept a
+      → (later : List Made) (answers : List Answer) (last : Lent) → Ran a (map making later) answers last
+      → NewColumns lists (valuesWhen (odd r) v) (valuesWhen (exchangesOdd later (map answerOf answers)) w)
+      → HasValue M w (planLeft (ranTo answers last)) (frameValue M v F)
+  value-projected M fair v w marks calls r lists scratch kept a is later answers last ran =
+      subst (λ (x : ListOutcome). NewColumns lists (valuesWhen (odd r) v) (valuesWhen (exchangesOdd later (x .answers)) w)
+      → HasValue M w (planLeft x) (frameValue M v F)) (from-projected lists (r .last) scratch kept a is later ran)
+      (told
+      (λ (x : ListOutcome). accepted (projectBy lists (x .n) (x .buffer) scratch .answer) ≡ true
+      → ValueFrom matchLeaf (projectBy lists (x .n) (x .buffer) scratch) (a .table) later lists M
+      (valuesWhen (exchangesOdd calls (x .answers)) v) w (frameValue M v F))
+      (λ s. list-projected-has-value M fair v w F s marks calls lists scratch (a .table) later) r
+      (projects lists (r .last) scratch kept a is))
 
   demand-three : DemandThree F
   demand-three = record {
@@ -172,7 +210,33 @@ module _ (F : Frame) where
         (λ (x : ListOutcome). extractAccepted calls (x .answers) ≡ true
         → (line : ℕ) × (priceLine F ≡ some line) × (take 1 (planLeft x) ≡ line ∷ []))
         (λ s. price-line-stays F s calls);
+    projected = value-projected;
   }
+
+-- ---- after a projection
+
+after-projection : (lists : ChildLists) (b : Lent) (scratch kept : List ℕ) (a : Lent) → AllBytes (b .buffer)
+    → ProjectIs lists b scratch kept a
+    → (X : Extraction) × (Y : Extraction) × (heldPlan (b .n) (b .buffer) ≡ ok (holding X)) × (projection lists X ≡ some Y)
+    × (a .n ≡ b .n) × AfterProjection lists X Y a
+after-projection lists b scratch kept a bytes is =
+    let (X, Y, found, new, size, agree, has) =
+    list-after-projection matchLeaf lists (b .n) (b .buffer) scratch (a .table) bytes (projects lists b scratch kept a is) in (
+      X,
+      Y,
+      found,
+      new,
+      same-ok _ _ (sym (ap (λ (o : Outcome). o .answer) is) ∙ size),
+      record {
+        machine = λ calls answers last ran.
+            subst (λ (x : ListOutcome). OddAgree Y x (oddRun Y false (map fed calls))) (from-projected lists b scratch kept a is calls ran)
+            (agree calls);
+        truth = λ M fair v w calls answers last ran new.
+            subst (λ (x : ListOutcome). NewColumns lists v (valuesWhen (exchangesOdd calls (x .answers)) w)
+            → HasValue M w (planLeft x) (extractionValue M v X)) (from-projected lists b scratch kept a is calls ran)
+            (has M (fair-symmetric M fair) v w calls) new;
+      },
+    )
 
 pub code-meets-demand-three : CodeMeetsDemandThree
 code-meets-demand-three = record {
@@ -187,6 +251,7 @@ code-meets-demand-three = record {
         byMerge frame n before scratch kept table old new bytes plan-bytes given found refl is,
         demand-three (mergeFrames old new),
       );
+  afterProjection = after-projection;
   history = λ buffer table calls answers last bytes ran.
       let h = history-of-calls buffer table calls bytes in
       rw (history-is ran) at h;

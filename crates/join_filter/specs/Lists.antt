@@ -1,13 +1,13 @@
--- Lists of calls of the code, by the contracts of load, extract, exchange and merge alone: demand 3, clause by clause.
+-- Lists of calls of the code, by the contracts of load, extract, exchange, merge and project alone: demand 3, clause by clause.
 use Prim.Native.Nat.{ℕ}
 use mathlib.Core.Path.{_≡_}
-use mathlib.Core.Bool.{Bool, true, _&&_, not}
+use mathlib.Core.Bool.{Bool, true, false, _&&_, not}
 use mathlib.Core.List.{List, [], _∷_, map}
 use mathlib.Core.Option.{some}
 use lib.ListN.{length, take}
 use lib.Dec.{leb}
 use Rattle.definitions.specs.Basics.{ok}
-use Rattle.definitions.specs.Expression.{Frame, Extraction, held}
+use Rattle.definitions.specs.Expression.{Frame, Extraction, held, extracted as holding}
 use Rattle.definitions.specs.Encode.{frameBytes, planBytes}
 use Rattle.definitions.specs.Plans.{frameOf}
 use Rattle.definitions.specs.Match.{matchLeaf}
@@ -16,11 +16,14 @@ use Rattle.definitions.specs.Calls.{tableFits, heldPlan}
 use Rattle.definitions.specs.NodeTable.{NodeRecord}
 use Rattle.definitions.specs.Machine.{extractCall, exchangeCall}
 use Rattle.definitions.specs.Good.{AllBytes, NoMarks}
-use Rattle.definitions.specs.Sessions.{Made, make, ListOutcome, machineAfter, accepted, extractAccepted, exchangesOdd, planLeft}
-use Rattle.definitions.specs.Meaning.{Valuation, Meaning, Fair, frameValue}
+use Rattle.definitions.specs.Sessions.{Made, fed, make, ListOutcome, machineAfter, accepted, extractAccepted, exchangesOdd, planLeft}
+use Rattle.definitions.specs.Meaning.{Valuation, Meaning, Fair, frameValue, extractionValue}
 use Rattle.definitions.specs.Claims.{Agree, someLeafMatches, Took, extractedPlan, NamesLeaf, priceLine, valuesWhen, HasValue}
 use Rattle.definitions.specs.Merge.{mergeFrames, merge}
-use Rattle.definitions.specs.History.{Call, loading, making, merging, nothing, statePlan, History, machineHistory, FramesAreBytes}
+use Rattle.definitions.specs.Project.{projection, project, Lists as ChildLists}
+use Rattle.definitions.specs.OddMachine.{oddRun}
+use Rattle.definitions.specs.ProjectClaims.{NewColumns, projectBy, OddAgree}
+use Rattle.definitions.specs.History.{Call, loading, making, merging, projecting, nothing, statePlan, History, machineHistory, FramesAreBytes}
 use Rattle.join_filter.specs.Outcomes.{answerOf, nAfter, LoadIs, OutcomeIs, MergeIs}
 use Rattle.join_filter.specs.declared.answers.Answer.{Answer}
 use Rattle.join_filter.specs.declared.answers.Answer.the-variants.{Length}
@@ -42,6 +45,9 @@ CallIs b (making c) a r =
 CallIs b (merging frame scratch) a r =
     (kept : List ℕ) × MergeIs (merge frame (b .n) (b .buffer) scratch (b .table)) (b .n) (a .buffer) kept (a .table) r
     × (a .n ≡ nAfter (b .n) r)
+CallIs b (projecting scratch ofLeft ofRight) a r =
+    (kept : List ℕ) × OutcomeIs (project (b .n) (b .buffer) scratch ofLeft ofRight) (b .n) (a .buffer) kept r
+    × (a .n ≡ nAfter (b .n) r) × (a .table ≡ b .table)
 
 -- A list of calls was made: each met its contract, was given what the one before left, and gave its answer.
 pub data Ran : Lent → List Call → List Answer → Lent → Type 0 where
@@ -49,7 +55,15 @@ pub data Ran : Lent → List Call → List Answer → Lent → Type 0 where
   called : {b a last : Lent} {c : Call} {calls : List Call} {r : Answer} {answers : List Answer}
       → CallIs b c a r → Ran a calls answers last → Ran b (c ∷ calls) (r ∷ answers) last
 
+-- What such a list answered and left.
+abbrev pub ranTo : List Answer → Lent → ListOutcome
+ranTo answers last = record { answers = map answerOf answers; n = last .n; buffer = last .buffer }
+
 -- ---- from a frame: demand 3
+
+-- A projection by these lists that met its contract, given what was left as the first, gave a length and left the last.
+abbrev pub ProjectIs : ChildLists → Lent → (scratch kept : List ℕ) → Lent → Type 0
+ProjectIs lists b scratch kept a = OutcomeIs (projectBy lists (b .n) (b .buffer) scratch) (b .n) (a .buffer) kept (Length (a .n))
 
 -- A call that met its contract and gave a length left the frame F: a load of it, or a merge that joined two frames to it.
 pub data Starts (F : Frame) (a : Lent) : Type 0 where
@@ -69,7 +83,7 @@ pub record CodeRun (F : Frame) (calls : List Made) : Type 0 where
 
 -- What the list answered and left.
 abbrev pub outcome : {F : Frame} {calls : List Made} → CodeRun F calls → ListOutcome
-outcome r = record { answers = map answerOf (r .answers); n = r .last .n; buffer = r .last .buffer }
+outcome r = ranTo (r .answers) (r .last)
 
 -- The plan that it left.
 abbrev pub plan : {F : Frame} {calls : List Made} → CodeRun F calls → List ℕ
@@ -111,6 +125,25 @@ pub record DemandThree (F : Frame) : Type 0 where
   -- Whatever was exchanged, the plan then is on the frame's price line.
   pub line : (calls : List Made) (r : CodeRun F calls) → extracted r ≡ true
       → (line : ℕ) × (priceLine F ≡ some line) × (take 1 (plan r) ≡ line ∷ [])
+  -- A projection after the list (request 7), and any list after it: the plan has over the new columns, exchanged when odd, the truth value
+  -- that the frame has over its own; the columns that are projected are the frame's, exchanged when odd.
+  pub projected : (M : Meaning) → Fair M → (v w : Valuation) → NoMarks (F .records) → (calls : List Made) (r : CodeRun F calls)
+      (lists : ChildLists) (scratch kept : List ℕ) (a : Lent) → ProjectIs lists (r .last) scratch kept a
+      → (later : List Made) (answers : List Answer) (last : Lent) → Ran a (map making later) answers last
+      → NewColumns lists (valuesWhen (odd r) v) (valuesWhen (exchangesOdd later (map answerOf answers)) w)
+      → HasValue M w (planLeft (ranTo answers last)) (frameValue M v F)
+
+-- ---- from an extraction that was projected (request 7)
+
+-- Extracts and exchanges after a projection of X to Y that left this.
+pub record AfterProjection (lists : ChildLists) (X Y : Extraction) (a : Lent) : Type 0 where
+  -- Plan, n and every answer are those of the machine with the odd bit alone.
+  pub machine : (calls : List Made) (answers : List Answer) (last : Lent) → Ran a (map making calls) answers last
+      → OddAgree Y (ranTo answers last) (oddRun Y false (map fed calls))
+  -- The plan has over the new columns, exchanged when odd, the truth value that X had over the old ones.
+  pub truth : (M : Meaning) → Fair M → (v w : Valuation) (calls : List Made) (answers : List Answer) (last : Lent)
+      → Ran a (map making calls) answers last → NewColumns lists v (valuesWhen (exchangesOdd calls (map answerOf answers)) w)
+      → HasValue M w (planLeft (ranTo answers last)) (extractionValue M v X)
 
 -- ---- whole
 
@@ -124,8 +157,13 @@ pub record CodeMeetsDemandThree : Type 0 where
       → AllBytes before → MergeIs (merge frame n before scratch table) n (a .buffer) kept (a .table) (Length (a .n))
       → (old : Frame) × (new : Frame) × (heldPlan n before ≡ ok (held old)) × (frameOf frame ≡ ok new)
       × Starts (mergeFrames old new) a × DemandThree (mergeFrames old new)
-  -- Every list of load, extract, exchange and merge, from an empty plan and any table, gives the machine's answers, and leaves its plan,
-  -- that plan's length, a plan buffer and a table as long as before, and a table that fits what is held.
+  -- A projection that met its contract and gave a length is of an extraction that is held, as long, and all of this holds after it.
+  pub afterProjection : (lists : ChildLists) (b : Lent) (scratch kept : List ℕ) (a : Lent) → AllBytes (b .buffer)
+      → ProjectIs lists b scratch kept a
+      → (X : Extraction) × (Y : Extraction) × (heldPlan (b .n) (b .buffer) ≡ ok (holding X)) × (projection lists X ≡ some Y)
+      × (a .n ≡ b .n) × AfterProjection lists X Y a
+  -- Every list of load, extract, exchange, merge and project, from an empty plan and any table, gives the machine's answers, and leaves its
+  -- plan, that plan's length, a plan buffer and a table as long as before, and a table that fits what is held.
   pub history : (buffer : List ℕ) (table : List NodeRecord) (calls : List Call) (answers : List Answer) (last : Lent) → FramesAreBytes calls
       → Ran (record { n = 0; buffer = buffer; table = table }) calls answers last
       → let m : History = machineHistory matchLeaf (length buffer) (length table) nothing calls in

@@ -152,8 +152,8 @@ module _ {match : Matcher} {Asks : Meaning → List Record → Type 0} (laws : L
         from-held X p (same-ok _ _ (sym (held-plan laws F (b .isExtracted) (b .isOdd) n buffer good h) ∙ p .holds))
 
   pub list-projected : ListProjectedBy match Asks
-  list-projected M turns v w F s asked before lists scratch later a new =
+  list-projected M turns v w F s asked before lists scratch table later a new =
       let now : ListOutcome = after s before in
       from-machine M turns v w F asked (s .good) (told s before) (now .n) (now .buffer)
       (subst (λ (x : Bits). Holds laws F x (now .n) (now .buffer)) (bits-told laws s before) (after-all laws s before .holds))
-      lists scratch (s .table) later a new
+      lists scratch table later a new
