@@ -1,0 +1,2 @@
+// Where a child index stands first in a list of them. Public for the crate `row_places`.
+pub mod places;
