@@ -173,6 +173,7 @@ module _ {items heads nexts : List ℕ} {k : ℕ} (c : Chained items heads nexts
     chained-new = record {
       chains = simp length-set (c .chains);
       room = simp length-set (c .room);
-      low = λ chain. either-way chain (x % 1024) (λ h. omega (arith, head-new chain h)) (λ h. omega (arith, head-other chain h, c .low chain));
+      low = λ chain. either-way chain (x % 1024) (λ h. omega (arith, head-new chain h))
+          (λ h. omega (arith, head-other chain h, c .low chain));
       walks = walk-new;
     }

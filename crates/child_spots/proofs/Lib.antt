@@ -1,0 +1,4 @@
+-- Laws that several proofs use.
+pub mod SpotLaws
+pub mod SpotWalk
+pub mod RecordLoop
