@@ -1,15 +1,16 @@
 -- Laws of chains: a step along one, a list of no items, and one item more, which is put before its chain if the chain lacks it.
-use Prim.Native.Nat.{ℕ, suc, _+_, _-_, _%_, _≤_, _<_}
+use Prim.Native.Nat.{ℕ, zero, suc, _+_, _-_, _%_, _≤_, _<_}
 use native.Mathlib.Omega.{arith}
 use native.Mathlib.Numerals.{add-one}
 use mathlib.Core.Path.{_≡_, refl, sym, ap, _∙_, subst}
 use mathlib.Core.Bool.{Bool, true, false}
 use mathlib.Core.List.{List}
 use mathlib.Core.Option.{Option, none, some}
-use lib.ListN.{length, take, getD, set, length-set}
+use lib.ListN.{length, take, getD, set, replicate, length-set, length-replicate}
 use lib.Seq.{getD-set-same, getD-set-other}
 use lib.Dec.{eqb}
 use borrow.Author.Tests.{eqb-true, eqb-false}
+use Rattle.definitions.specs.Limits.{mostItems}
 use Rattle.definitions.specs.Project.{placeIn}
 use Rattle.child_places.specs.Chains.{linkOf, Walk, ends, here, further, Chain, Chained, Unfilled}
 use Rattle.child_places.proofs.PlaceLaws.{place-passed, place-stays, place-new}
@@ -177,3 +178,20 @@ module _ {items heads nexts : List ℕ} {k : ℕ} (c : Chained items heads nexts
           (λ h. omega (arith, head-other chain h, c .low chain));
       walks = walk-new;
     }
+
+-- ---- before any item
+
+zeros : (n chain : ℕ) → getD {A = ℕ} (replicate n 0) chain 0 ≡ 0
+zeros zero chain = refl
+zeros (suc n) zero = refl
+zeros (suc n) (suc chain) = zeros n chain
+
+-- Rows of nothing but 0 have no chain.
+pub zeros-unfilled : (items : List ℕ) (n m : ℕ) → n ≡ 1024 → length items ≤ m → length items ≤ mostItems
+    → Unfilled items (replicate n 0) (replicate m 0)
+zeros-unfilled items n m size room few = record {
+  chains = length-replicate n 0 ∙ size;
+  room = omega (arith, length-replicate {A = ℕ} m 0);
+  few = few;
+  none = zeros n;
+}

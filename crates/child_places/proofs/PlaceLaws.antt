@@ -92,3 +92,22 @@ place-found items k item inside e same =
     let y : List ℕ = drop (k + 1) items in
     ap (λ (l : List ℕ). placeIn l item) (sym (take-append-drop (k + 1) items))
     ∙ subst (λ (p : Option ℕ). Kept p (placeIn (x ++ y) item)) (place-new items k item inside e same) (kept x y item)
+
+-- ---- a place is one of the list
+
+abbrev Within : (size : ℕ) → Option ℕ → Type 0
+Within size none = Unit {0}
+Within size (some place) = place < size
+
+within-by : (t : Bool) (size : ℕ) (p : Option ℕ) → Within size p → Within (suc size) (if t then some 0 else Option·map suc p)
+within-by true size p h = omega arith
+within-by false size none h = tt
+within-by false size (some place) h = omega arith
+
+within : (items : List ℕ) (item : ℕ) → Within (length items) (placeIn items item)
+unfolding placeIn
+within [] item = tt
+within (b ∷ items) item = within-by (eqb b item) (length items) (placeIn items item) (within items item)
+
+pub place-within : (items : List ℕ) (item place : ℕ) → some place ≡ placeIn items item → place < length items
+place-within items item place e = subst (Within (length items)) (sym e) (within items item)
