@@ -24,7 +24,7 @@ use Rattle.child_spots.proofs.SpotLaws.{no-own-spots}
 
 -- ---- one walk after another
 
-collected-both : {at size more i : ℕ} {x y : List Spot} {before middle after : List ℕ} {p r : Passed} → i ≤ length before
+pub collected-both : {at size more i : ℕ} {x y : List Spot} {before middle after : List ℕ} {p r : Passed} → i ≤ length before
     → Collected at size i x before middle p → Collected (p .end) more (p .index) y middle after r
     → Collected at (size + more) i (x ++ y) before after r
 collected-both {i = i} {x} {y} {before} {middle} {after} {p} {r} room a b = record {
@@ -33,7 +33,7 @@ collected-both {i = i} {x} {y} {before} {middle} {after} {p} {r} room a b = reco
 }
 
 -- The index after a walk.
-index-after : {at size i : ℕ} {x : List Spot} {before after : List ℕ} {r : Passed} → Collected at size i x before after r
+pub index-after : {at size i : ℕ} {x : List Spot} {before after : List ℕ} {r : Passed} → Collected at size i x before after r
     → r .index ≡ i + length x
 index-after {i = i} {x} c = c .put .ends ∙ ap (λ (n : ℕ). i + n) (length-map x spotNumber)
 

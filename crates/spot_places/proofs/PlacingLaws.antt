@@ -98,7 +98,8 @@ module _ {side : ℕ} {items : List ℕ} {count : ℕ} {before row : List ℕ} {
         record {
           below = omega arith;
           room = inv .room;
-          has = below-more (λ j. hasNumber side items (getD before j 0) ≡ true) k (inv .has) (ap (hasNumber side items) (sym number-is) ∙ has);
+          has = below-more (λ j. hasNumber side items (getD before j 0) ≡ true) k (inv .has)
+              (ap (hasNumber side items) (sym number-is) ∙ has);
           is = ap (set row k) value
               ∙ write-more (map f before) before row k (omega (arith, length-map before f, inv .room)) (omega (arith, inv .room))
               (inv .is);

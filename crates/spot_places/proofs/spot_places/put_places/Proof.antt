@@ -55,7 +55,8 @@ put-places-spec =
     omega (arith, low c, known .slice-known2 .given (loop .k)))
     (λ c.
     let turn = c .before .before .before .before .before .before in
-    omega (arith, inside turn, placing-length (turn .before .loop .inv), turn .before .before .before .before .before .before .before .good))
+    let start = turn .before .before .before .before .before .before .before in
+    omega (arith, inside turn, placing-length (turn .before .loop .inv), start .good))
     (λ c. inside (c .before .before .before .before .before .before))
     (λ c. search needs)
     (λ c. placing-length (c .before .before .before .before .before .before .loop .inv))

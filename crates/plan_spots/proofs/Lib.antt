@@ -1,0 +1,4 @@
+-- Laws that several proofs use.
+pub mod BothLaws
+pub mod PredicateLaws
+pub mod ExtractionLaws
