@@ -53,4 +53,5 @@ both-collected {s} {at} one two before middle after p r first second x y there =
     let b : Collected (p .end) (length (exprBytes y)) (p .index) (columnSpots two (p .end) y) middle after r =
     second y (subst (λ (q : ℕ). Stands (indexBelow twoBytes) s q y) (sym (a .ends)) (there .second)) in
     let size : ℕ = length (exprBytes x) + length (exprBytes y) in
-    subst (λ (q : ℕ). Collected at size 0 (columnSpots one at x ++ columnSpots two q y) before after r) (a .ends) (collected-both (omega arith) a b)
+    let all = collected-both (omega arith) a b in
+    subst (λ (q : ℕ). Collected at size 0 (columnSpots one at x ++ columnSpots two q y) before after r) (a .ends) all

@@ -1,0 +1,2 @@
+// The projection of a held extraction: first all places are found, and only then is the plan changed. Public for the crate `call_project`.
+pub mod projecting;
