@@ -5,3 +5,4 @@ pub mod PlacedPlans
 pub mod PatchLaws
 pub mod Moving
 pub mod ProjectionLaws
+pub mod ProjectedBytes

@@ -142,7 +142,8 @@ module _ (lists : Lists) where
       subst (λ (n : ℕ). Moves (recordSpots (at + 3) rs) at (frameBytes F)
       (1 ∷ (bigEndian 2 n ++ (recordsBytes rs′ ++ exprBytes (F .expr)))))
       (sym (length-map rs (projectRecord lists)))
-      (after (1 ∷ []) (after (bigEndian 2 (length rs)) (before (exprBytes (F .expr)) (elsewhere _ (omega arith) (records-move (at + 3) rs)))))
+      (after (1 ∷ [])
+      (after (bigEndian 2 (length rs)) (before (exprBytes (F .expr)) (elsewhere _ (omega arith) (records-move (at + 3) rs)))))
 
   same-kind : (P : Predicate) → predicateKind (projectPredicate lists P) ≡ predicateKind P
   unfolding predicateKind projectPredicate

@@ -2,7 +2,7 @@
 -- none is lacking exactly if the projection has them all.
 use Prim.Native.Nat.{ℕ, zero, suc, _+_, _-_, _*_, _%_, _≤_, _<_}
 use native.Mathlib.Omega.{arith}
-use mathlib.Core.Path.{_≡_, refl, sym, ap, ap₂, _∙_}
+use mathlib.Core.Path.{_≡_, refl, sym, ap, ap₂, _∙_, subst}
 use mathlib.Core.Bool.{Bool, true, false, _&&_}
 use mathlib.Core.List.{List, [], _∷_, map}
 use mathlib.Core.Option.{Option, none, some}
@@ -17,7 +17,7 @@ use Rattle.definitions.specs.Project.{placeIn, Lists, placeOf, isPlace, orZero,
 use Rattle.child_places.proofs.PlaceLaws.{place-within}
 use Rattle.child_spots.specs.Spots.{Spot, spotNumber}
 use Rattle.spot_places.specs.Placing.{goesBy, hasNumber, placedNumber, PlacedIs}
-use Rattle.plan_projection.specs.Projected.{moved}
+use Rattle.plan_projection.specs.Projected.{ListsFit, moved}
 use Rattle.plan_projection.proofs.SoundSpots.{AllSound, nothing, also, number-side, number-child}
 
 -- ---- one child index
@@ -157,3 +157,10 @@ module _ (side : Side) (items : List ℕ) {end count : ℕ} {es : List Spot} (be
 
   pub found-not : PlacedIs (sideNumber side) items count before after false → all (hasBy side items) es ≡ false
   found-not h = sym (numbers-have side items sound) ∙ ap (all (hasNumber (sideNumber side) items)) (sym are) ∙ h
+
+-- Once all are places, they are short still.
+pub moved-sound : {ofLeft ofRight : List ℕ} {end : ℕ} {es : List Spot} → ListsFit ofLeft ofRight → AllSound end es
+    → AllSound end (map (moved (record { ofLeft = ofLeft; ofRight = ofRight })) es)
+moved-sound {ofLeft} {ofRight} {end} {es} fit sound =
+    subst (AllSound end) (all-moved (record { ofLeft = ofLeft; ofRight = ofRight }) es)
+    (still-sound right ofRight (fit .second) (still-sound left ofLeft (fit .first) sound))

@@ -2,3 +2,4 @@
 pub mod BothLaws
 pub mod PredicateLaws
 pub mod ExtractionLaws
+pub mod FewSpots
