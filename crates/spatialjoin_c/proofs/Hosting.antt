@@ -13,6 +13,7 @@ use Rattle.definitions.specs.Machine.{extractCall, exchangeCall}
 use Rattle.definitions.specs.Sessions.{makeBy, accepted}
 use Rattle.definitions.specs.Printed.{printed, PrintOutcome}
 use Rattle.definitions.specs.Merge.{MergeOutcome, merge}
+use Rattle.definitions.specs.Project.{project}
 use Rattle.definitions.specs.Good.{AllBytes}
 use Rattle.theorems.proofs.InverseFrame.{same-ok, frame-back}
 use Rattle.theorems.proofs.Proved.{lengths-short, text-is-short, print-given, merge-writes}
@@ -20,6 +21,7 @@ use Rattle.join_filter.specs.Outcomes.{answerOf, nAfter, LoadIs, OutcomeIs, Mer
 use Rattle.join_filter.specs.declared.answers.Loaded.{Loaded}
 use Rattle.call_load.specs.Loads.{LoadedIs}
 use Rattle.call_merge.specs.Merges.{MergedIs}
+use Rattle.call_project.proofs.ProjectShort.{project-short}
 use Rattle.join_filter.specs.declared.answers.Answer.{Answer}
 use Rattle.join_filter.specs.declared.answers.Answer.the-variants.{Length, Refused}
 use Rattle.spatialjoin_c.specs.Hosted.{LoadLeft, CallHosted, MergeLeft, PrintHosted}
@@ -76,6 +78,12 @@ unfolding makeBy
 exchange-short n before scratch after kept (Length m) is bytes =
     omega (arith, lengths-short .1 exchangeCall n before scratch [] m bytes (ap (λ (o : Outcome). o .answer) is))
 exchange-short n before scratch after kept (Refused why) is bytes = tt
+
+pub projected-short : (n : ℕ) (before scratch ofLeft ofRight after kept : List ℕ) (r : Answer)
+    → OutcomeIs (project n before scratch ofLeft ofRight) n after kept r → AllBytes before → Short r
+projected-short n before scratch ofLeft ofRight after kept (Length m) is bytes =
+    omega (arith, project-short n before scratch ofLeft ofRight m bytes (ap (λ (o : Outcome). o .answer) is))
+projected-short n before scratch ofLeft ofRight after kept (Refused why) is bytes = tt
 
 module _ (frame : List ℕ) (n : ℕ) (before scratch after kept : List ℕ) (held : ℕ) (r : Loaded)
     (is : MergedIs frame n before scratch after kept held r) where

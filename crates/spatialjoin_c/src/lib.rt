@@ -6,6 +6,7 @@ use call_exchange::exchange;
 use call_logical::Names;
 use call_logical::logical;
 use call_print::print;
+use call_project::project;
 use cores::extract_core;
 use cores::load_core;
 use cores::merge_core;
@@ -22,6 +23,7 @@ ghost use Rattle.definitions.specs.Calls as definitions;
 ghost use Rattle.definitions.specs.Hosts.{hostedNames};
 ghost use Rattle.definitions.specs.Logical as logicals;
 ghost use Rattle.definitions.specs.Merge as merges;
+ghost use Rattle.definitions.specs.Project as projects;
 ghost use Rattle.node_table.specs.Records.{nodesOf};
 ghost use Rattle.spatialjoin_c.specs.Hosted.{LoadHosted, CallHosted, MergeHosted, PrintHosted};
 
@@ -103,4 +105,19 @@ pub extern "C" fn spatialjoin_merge(
     let merged = merge_core(frame, plan, n, scratch, table.len());
     fill_table(table, plan, merged.root, merged.count);
     merged.answer
+}
+
+// Puts the plan's extraction, in the first n bytes, on children narrowed to lists of their columns.
+#[no_mangle]
+pub extern "C" fn spatialjoin_project(
+    plan: &mut [u8],
+    n: usize,
+    scratch: &mut [u8],
+    left: &[u16],
+    right: &[u16],
+) -> i64
+    ensures { λ r. ⌜ CallHosted (projects.project n (now (plan .entry)) (now (scratch .entry)) (now (left .entry)) (now (right .entry)))
+        (now (plan .exit)) (now (scratch .exit)) r ⌝ }
+{
+    answer_number(project(plan, n, scratch, left, right))
 }

@@ -14,7 +14,9 @@ returns c =
     no-room-for-n (project-call (a .left .now) (a .right .now)) (a .n) (a .plan .now) (a .scratch .now) (c .if1 .taken)
 
 slice-aggregate-held-plan : tie.Need-slice-aggregate-held-plan
-slice-aggregate-held-plan c = let a = c .before .before .before .before .before .before .args in sym (plan-length (a .n) (a .plan .now) (c .before .if1 .left))
+slice-aggregate-held-plan c =
+    let a = c .before .before .before .before .before .before .args in
+    sym (plan-length (a .n) (a .plan .now) (c .before .if1 .left))
 
 returns-2 : tie.Need-returns-2
 returns-2 c =

@@ -9,7 +9,9 @@ use Rattle.call_project.proofs.project_by.Tie as tie
 
 slice-aggregate-project-spots : tie.Need-slice-aggregate-project-spots
 slice-aggregate-project-spots c =
-    let start = c .before .before .before .before .before .before .before in sym (plan-length (start .args .n) (start .args .plan .now) (start .pre .holds .fits))
+    let start = c .before .before .before .before .before .before .before in
+    let a = start .args in
+    sym (plan-length (a .n) (a .plan .now) (start .pre .holds .fits))
 
 put-indexes-requires : tie.Need-put-indexes-requires
 put-indexes-requires c κs =

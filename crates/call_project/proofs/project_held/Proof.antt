@@ -26,11 +26,12 @@ returns-3 c =
 
 project-by-requires-2 : tie.Need-project-by-requires-2
 project-by-requires-2 c κs =
-    let start = c .before .before .before .before .before .before .before .before .before .before .before in
+    let fits = c .before .before .before .before in
+    let start = fits .before .before .before .before .before .before .before in
     record {
       holds = start .pre;
-      lists = record { first = c .before .before .before .before .before .before .if1 .left; second = c .before .before .before .before .before .if2 .left };
-      scratched = c .before .before .before .before .if3 .left;
+      lists = record { first = fits .before .before .if1 .left; second = fits .before .if2 .left };
+      scratched = fits .if3 .left;
       room = omega (arith, held-short (start .pre));
     }
 

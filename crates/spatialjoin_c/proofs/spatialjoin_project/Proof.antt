@@ -1,0 +1,23 @@
+-- `spatialjoin_project`: the projection's answer as one number.
+use borrow.Author.Needs.{needs}
+use Rattle.reading.proofs.Standing.{all-bytes}
+use Rattle.host_answers.proofs.Numbers.{given-back}
+use Rattle.spatialjoin_c.proofs.Hosting.{projected-short, call-hosted}
+use Rattle.spatialjoin_c.proofs.spatialjoin_project.Statement.{statement}
+use Rattle.spatialjoin_c.proofs.spatialjoin_project.Tie as tie
+
+answer-number-requires : tie.Need-answer-number-requires
+answer-number-requires c κs =
+    let called = c .before .before .before .before in
+    let known = called .before .before .before .before .before .before in
+    projected-short _ _ _ _ _ _ _ (called .project .result) (called .project .ensures)
+    (all-bytes (known .before .args .plan .now) (known .slice-known .given))
+
+returns : tie.Need-returns
+returns c =
+    let call = c .before .before .before .before .before .project in
+    call-hosted _ _ _ _ (call .result) (call .ensures) _ (given-back _ _ (c .answer-number .ok) (c .answer-number .ensures))
+
+pub spatialjoin-project-spec : {M : Type 1} → statement M
+spatialjoin-project-spec =
+    tie.close (tie.spec (λ c κs. search needs) answer-number-requires (λ c. search needs) (λ c. search needs) returns)
