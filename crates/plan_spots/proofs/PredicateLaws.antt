@@ -64,10 +64,10 @@ relation-two {s} {q} {P} t =
       spots = ap predicateSpots (a .is);
     }
 
-pub knn-two : {s : List ℕ} {q : KNNPredicate} {P : Predicate} → PredicateThere s (KNearestNeighbors q) P
-    → OfTwo s P (joinSide (q .«probe_side»)) (negate (joinSide (q .«probe_side»))) 7
+pub knn-two : {s : List ℕ} {q : KNNPredicate} {P : Predicate} → PredicateThere s (KNearestNeighbors q) P → (other : Side)
+    → other ≡ negate (joinSide (q .«probe_side»)) → OfTwo s P (joinSide (q .«probe_side»)) other 7
 unfolding predicateFields predicateSpots bigEndian
-knn-two {s} {q} {P} t =
+knn-two {s} {q} {P} t other e =
     let a = t .read in
     let fields = rw (a .is) at (t .fields) in
     let readable = rw (a .is) at (t .readable) in
@@ -77,7 +77,7 @@ knn-two {s} {q} {P} t =
       r = a .r;
       there = both-there (next (next (next flags 8 refl) 9 refl) 10 refl) (readable .4) (readable .5);
       size = ap (λ (P : Predicate). length (predicateFields P)) (a .is) ∙ simp length-append (omega arith);
-      spots = ap predicateSpots (a .is);
+      spots = ap predicateSpots (a .is) ∙ ap (λ (side : Side). bothSpots (joinSide (q .«probe_side»)) side 10 (a .l) (a .r)) (sym e);
     }
 
 module _ {s : List ℕ} {one two : Side} {skipped : ℕ} where

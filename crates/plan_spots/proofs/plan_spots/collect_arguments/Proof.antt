@@ -26,7 +26,7 @@ collect-arguments-spec =
     (λ c κs.
     let told = c .before .before .before in
     let fits = rw (told .p2 .given .1) at (told .before .before .before .before .pre) in
-    rw (c .before .negate .ensures) (two-fit fits (knn-two (fits .there))))
+    two-fit fits (knn-two (fits .there) _ (c .before .negate .ensures)))
     (search needs)
     (λ c P there.
     let call = c .before .before .collect-both in
@@ -45,4 +45,4 @@ collect-arguments-spec =
     let call = c .before .before .collect-both3 in
     let told = c .before .before .before .before .before .before in
     two-collected (told .before .before .before .before .args .row .now) (call .last .0) (call .result)
-    (rw (c .before .before .before .before .negate .ensures) at (call .ensures)) (knn-two (rw (told .p2 .given .1) at there))))
+    (call .ensures) (knn-two (rw (told .p2 .given .1) at there) _ (c .before .before .before .before .negate .ensures))))
