@@ -12,7 +12,8 @@ use child_places::places::place_in;
 use terms::sides::JoinSide;
 use terms::sides::side_number;
 
-// In each of the row's first numbers that is of the side; answers whether the list has them all.
+// In each of the row's first numbers that is of the side; answers whether the list has them all. Where it lacks one, what the row then has
+// is of no use.
 fn put_places(
     row: &mut [u32],
     count: usize,
