@@ -14,12 +14,13 @@
  * ANSWERS. An answer of at least 0 is a length (of spatialjoin_logical: see there). A negative one is a refusal: one of
  * enum spatialjoin_refusal.
  *
- * BUFFERS. Each pointer is to as many bytes (of a table: records) as the length after it says, bytes with any alignment. No buffer of a
- * call may overlap with another of the same call: that is undefined behaviour, as `restrict` says. A buffer of length 0 may be NULL.
+ * BUFFERS. Each pointer is to as many bytes (of a table: records, of a list: items) as the length after it says, bytes with any
+ * alignment. No buffer of a call may overlap with another of the same call: that is undefined behaviour, as `restrict` says; only the two
+ * lists of a spatialjoin_project may be one. A buffer of length 0 may be NULL.
  *
  * THREADS. The library has no state, allocates nothing and calls nothing but C's memory functions. Any number of threads may call
- * it at once, each with buffers that no other uses in the meantime. A frame, and the table of an extract, which are only read, may be
- * lent to several calls at once.
+ * it at once, each with buffers that no other uses in the meantime. A frame, the table of an extract and a list, which are only read,
+ * may be lent to several calls at once.
  *
  * STACK. A call needs at most SPATIALJOIN_STACK_BYTES of stack, which is measured (hosts/c/stack.c) and not proved.
  *
@@ -31,9 +32,9 @@
 #include <stddef.h>
 #include <stdint.h>
 
-#define SPATIALJOIN_VERSION "0.6.0"
+#define SPATIALJOIN_VERSION "0.7.0"
 #define SPATIALJOIN_VERSION_MAJOR 0
-#define SPATIALJOIN_VERSION_MINOR 6
+#define SPATIALJOIN_VERSION_MINOR 7
 #define SPATIALJOIN_VERSION_PATCH 0
 
 /* The most bytes of a frame or plan. */
@@ -44,6 +45,9 @@
 
 /* The most nodes of a frame or of both expressions that are merged: a table of so many records is never too short. */
 #define SPATIALJOIN_MOST_NODES 1024
+
+/* The most items of a list of spatialjoin_project. */
+#define SPATIALJOIN_MOST_ITEMS 4096
 
 /* The most bytes of stack that a call needs. */
 #define SPATIALJOIN_STACK_BYTES 131072
@@ -77,7 +81,10 @@ enum spatialjoin_refusal {
     SPATIALJOIN_NO_MATCH = -13,          /* no conjunct matches: the join stays filtered */
     SPATIALJOIN_TEXT_TOO_SHORT = -15,    /* the text buffer is shorter than the text; -14 is no call's, but of the program's lines */
     SPATIALJOIN_MERGED_TOO_LARGE = -16,  /* merged, over SPATIALJOIN_MOST_BYTES, 1,024 nodes, 64 levels or 256 records */
-    SPATIALJOIN_TABLE_TOO_SHORT = -17    /* the table has fewer records than the new plan has nodes (load, merge) */
+    SPATIALJOIN_TABLE_TOO_SHORT = -17,   /* the table has fewer records than the new plan has nodes (load, merge) */
+    SPATIALJOIN_NOT_EXTRACTED = -18,     /* the plan is no extraction but a frame (project) */
+    SPATIALJOIN_LIST_TOO_LONG = -19,     /* a list has over SPATIALJOIN_MOST_ITEMS items (project) */
+    SPATIALJOIN_NOT_IN_LIST = -20        /* the plan has a child index that the list of its side lacks (project) */
 };
 
 /* A node of a frame. */
@@ -96,7 +103,7 @@ enum spatialjoin_plan {
 };
 
 /* Of a plan that is an extraction: the position, from 0, of the conjunct that was taken among those of the filter as it was loaded or
- * merged. Exchanging keeps it. */
+ * merged. Exchanging and projecting keep it. */
 #define SPATIALJOIN_POSITION_OF(plan) ((unsigned)(plan)[1] * 256 + (unsigned)(plan)[2])
 
 /* The names in the mask of spatialjoin_logical. */
@@ -168,6 +175,16 @@ int64_t spatialjoin_merge(const uint8_t *SPATIALJOIN_RESTRICT frame, size_t fram
                           uint8_t *SPATIALJOIN_RESTRICT plan, size_t plan_len, size_t n,
                           uint8_t *SPATIALJOIN_RESTRICT scratch, size_t scratch_len,
                           spatialjoin_node *SPATIALJOIN_RESTRICT table, size_t table_len);
+
+/* Has the held extraction follow its children, each of which was narrowed to a list of its columns: the new plan's length, which is n,
+ * or -10, -11, -18, -19, -9, -20 in this order. `left` and `right` have the child indexes of the columns that stay, in their new order. A
+ * child index of the plan becomes the position, from 0, of the first equal item in the list of its side: in the geometries, in the bound
+ * of a distance by the bound's side, and in every record of the remainder, referenced or not. A bound of side SPATIALJOIN_NO_SIDE and mark
+ * columns stay as they are, and so do the plan's first three bytes. The old plan is copied to the scratch's first n bytes. */
+int64_t spatialjoin_project(uint8_t *SPATIALJOIN_RESTRICT plan, size_t plan_len, size_t n,
+                            uint8_t *SPATIALJOIN_RESTRICT scratch, size_t scratch_len,
+                            const uint16_t *SPATIALJOIN_RESTRICT left, size_t left_len,
+                            const uint16_t *SPATIALJOIN_RESTRICT right, size_t right_len);
 
 #ifdef __cplusplus
 }

@@ -1,5 +1,5 @@
 /* Tests of the library as a C host sees it: every refusal by its constant, the names of the mask, texts, merged filters, tables of
- * nodes, NULL with length 0. Ends with 1 where a call answers otherwise. `../check` builds and runs it. */
+ * nodes, projections, NULL with length 0. Ends with 1 where a call answers otherwise. `../check` builds and runs it. */
 #include <stdio.h>
 #include <string.h>
 
@@ -10,7 +10,8 @@
 #define RIGHT "\x00\x00\x01\x00\x00"
 #define GOOD RECORDS "\x03\x09" "st_within" "\x02" LEFT RIGHT
 #define UNMATCHED RECORDS LEFT
-#define ALONE "\x01\x00\x00" "\x04\x00\x00\x00" /* no record, a node without fields */
+#define NODE "\x04\x00\x00\x00"
+#define ALONE "\x01\x00\x00" NODE /* no record, a node without fields */
 
 static uint8_t plan[SPATIALJOIN_MOST_BYTES];
 static uint8_t scratch[SPATIALJOIN_MOST_BYTES];
@@ -270,6 +271,78 @@ static void tables_of_nodes(void)
     expect("extract again, no table", spatialjoin_extract(plan, sizeof plan, n, scratch, 0, NULL, 0) < 0, 1);
 }
 
+#define AT(index) "\x00\x00" index "\x00\x00" /* a column of a child, its index one byte */
+#define RELATION "\x11\x01\x02\x03"
+#define DISTANCE(side) "\x12\x00\x00\x04" side
+#define KNN(probe) "\x13\x00\x00" "\x00\x00\x00\x05" "\x01" probe "\x02"
+#define PAIR AT("\x05") AT("\x06")
+#define PLACED RELATION PAIR "\x00"
+#define HOLD(bytes) (memcpy(plan, bytes, sizeof(bytes) - 1), sizeof(bytes) - 1)
+
+/* Of the left child 9, 5 and 6 become 0, 1 and 3, of the right one 6, 7 and 5 become 0 to 2; an item stands on either side of each. */
+static uint16_t lefts[] = {5, 9, 5, 5, 6, 5};
+static uint16_t rights[] = {5, 6, 7, 5, 5};
+#define LISTS lefts + 1, 4, rights + 1, 3
+#define LONG items, SPATIALJOIN_MOST_ITEMS
+#define TOO_LONG items, SPATIALJOIN_MOST_ITEMS + 1
+
+/* A held extraction, first with a byte of scratch too few, and what becomes of it; the bytes after both buffers are kept. */
+static void expect_projected(const char *what, const char *held, const char *projected, size_t n)
+{
+    memset(plan, 7, n + 1);
+    memset(scratch, 7, n + 1);
+    memcpy(plan, held, n);
+    expect(what, spatialjoin_project(plan, n, n, scratch, n - 1, LISTS), SPATIALJOIN_TOO_SHORT);
+    expect(what, memcmp(plan, held, n) == 0 && scratch[0] == 7, 1);
+    expect(what, spatialjoin_project(plan, n, n, scratch, n, LISTS), (int64_t)n);
+    expect(what, memcmp(plan, projected, n) == 0 && memcmp(scratch, held, n) == 0 && plan[n] == 7 && scratch[n] == 7, 1);
+}
+
+#define EXPECT_PROJECTED(what, head, before, after) expect_projected(what, head before, head after, sizeof(head before) - 1)
+static void projections(void)
+{
+    static const uint16_t lists[] = {5, 9, 5, 5, 6, 5, 5, 6, 7, 5, 5};
+    EXPECT_PROJECTED("project a relation", RELATION, PAIR "\x00", AT("\x01") AT("\x00") "\x00");
+    EXPECT_PROJECTED("project, a left bound", DISTANCE("\x00"), PAIR AT("\x05") "\x00", AT("\x01") AT("\x00") AT("\x01") "\x00");
+    EXPECT_PROJECTED("project, a right bound", DISTANCE("\x01"), PAIR AT("\x05") "\x00", AT("\x01") AT("\x00") AT("\x02") "\x00");
+    EXPECT_PROJECTED("project, no side", DISTANCE("\x02"), PAIR AT("\x05") "\x00", AT("\x01") AT("\x00") AT("\x05") "\x00");
+    EXPECT_PROJECTED("project, a left query", KNN("\x00"), PAIR "\x00", AT("\x01") AT("\x00") "\x00");
+    EXPECT_PROJECTED("project, a right query", KNN("\x01"), PAIR "\x00", AT("\x02") AT("\x03") "\x00");
+    /* The third record is a mark column, and only the second is referenced. */
+    EXPECT_PROJECTED("project a remainder", RELATION NODE NODE,
+                     "\x01\x00\x04" "\x00\x00\x06\x00\x06" "\x01\x00\x05\x00\x05" "\x02\x00\x05\x00\x05" "\x00\x00\x05\x00\x06" RIGHT,
+                     "\x01\x00\x04" "\x00\x00\x03\x00\x06" "\x01\x00\x02\x00\x05" "\x02\x00\x05\x00\x05" "\x00\x00\x01\x00\x06" RIGHT);
+    expect("the lists", memcmp(lists, lefts, sizeof lefts) == 0 && memcmp(lists + 6, rights, sizeof rights) == 0, 1);
+}
+
+/* A state with the faults of those after it; refused, a projection writes nothing. */
+static void refusals_of_projections(void)
+{
+    static uint16_t items[SPATIALJOIN_MOST_ITEMS + 1];
+    size_t n = HOLD(GOOD), i;
+    memset(scratch, 7, sizeof scratch);
+    expect("project, n past the end", spatialjoin_project(plan, n - 1, n, scratch, 0, TOO_LONG, TOO_LONG), SPATIALJOIN_NO_GOOD_PLAN);
+    expect("project, n = 0", spatialjoin_project(plan, n, 0, scratch, 0, TOO_LONG, TOO_LONG), SPATIALJOIN_PLAN_EMPTY);
+    expect("project a frame", spatialjoin_project(plan, n, n, scratch, 0, TOO_LONG, TOO_LONG), SPATIALJOIN_NOT_EXTRACTED);
+    n = HOLD(PLACED);
+    expect("project, cut", spatialjoin_project(plan, n, n - 1, scratch, 0, TOO_LONG, TOO_LONG), SPATIALJOIN_NO_GOOD_PLAN);
+    expect("project, left too long", spatialjoin_project(plan, n, n, scratch, 0, TOO_LONG, LONG), SPATIALJOIN_LIST_TOO_LONG);
+    expect("project, right too long", spatialjoin_project(plan, n, n, scratch, 0, LONG, TOO_LONG), SPATIALJOIN_LIST_TOO_LONG);
+    expect("project, scratch too short", spatialjoin_project(plan, n, n, scratch, n - 1, LONG, LONG), SPATIALJOIN_TOO_SHORT);
+    expect("project, no 5", spatialjoin_project(plan, n, n, scratch, n, LONG, rights, 4), SPATIALJOIN_NOT_IN_LIST);
+    expect("project, no 6", spatialjoin_project(plan, n, n, scratch, n, lefts, 4, LONG), SPATIALJOIN_NOT_IN_LIST);
+    expect("the held plan", memcmp(plan, PLACED, n) == 0 && scratch[0] == 7, 1);
+    for (i = 0; i < SPATIALJOIN_MOST_ITEMS; i++) {
+        items[i] = (uint16_t)(SPATIALJOIN_MOST_ITEMS + 4 - i);
+    }
+    expect("project, one list for both", spatialjoin_project(plan, n, n, scratch, n, LONG, LONG), (int64_t)n);
+    expect("the last places", memcmp(plan, RELATION "\x00\x0f\xff\x00\x00" "\x00\x0f\xfe\x00\x00" "\x00", n) == 0, 1);
+    expect("exchange", spatialjoin_exchange(plan, n, n, scratch, n), (int64_t)n);
+    expect("extract again", spatialjoin_extract(plan, n, n, scratch, n, NULL, 0), SPATIALJOIN_ALREADY_EXTRACTED);
+    expect("project again", spatialjoin_project(plan, n, n, scratch, n, LONG, LONG), (int64_t)n);
+    expect("the first places", memcmp(plan + 4, AT("\x06") AT("\x05") "\x00", n - 4) == 0, 1);
+}
+
 static void null_buffers(void)
 {
     size_t n;
@@ -297,6 +370,14 @@ static void null_buffers(void)
     expect("load with no table", spatialjoin_load((const uint8_t *)GOOD, sizeof(GOOD) - 1, plan, sizeof plan, NULL, 0),
            SPATIALJOIN_TABLE_TOO_SHORT);
     expect("exchange with NULL", spatialjoin_exchange(plan, sizeof plan, n, NULL, 0), SPATIALJOIN_TOO_SHORT);
+    expect("project in NULL", spatialjoin_project(NULL, 0, 0, NULL, 0, NULL, 0, NULL, 0), SPATIALJOIN_PLAN_EMPTY);
+    expect("project in NULL, n = 1", spatialjoin_project(NULL, 0, 1, NULL, 0, NULL, 0, NULL, 0), SPATIALJOIN_NO_GOOD_PLAN);
+    expect("project a frame with NULL", spatialjoin_project(plan, n, n, NULL, 0, NULL, 0, NULL, 0), SPATIALJOIN_NOT_EXTRACTED);
+    n = HOLD(RELATION NODE NODE "\x00");
+    expect("project with NULL", spatialjoin_project(plan, n, n, NULL, 0, NULL, 0, NULL, 0), SPATIALJOIN_TOO_SHORT);
+    expect("project by NULL", spatialjoin_project(plan, n, n, scratch, n, NULL, 0, NULL, 0), (int64_t)n);
+    n = HOLD(PLACED);
+    expect("project by a NULL", spatialjoin_project(plan, n, n, scratch, n, NULL, 0, rights, 4), SPATIALJOIN_NOT_IN_LIST);
 }
 
 int main(void)
@@ -310,6 +391,8 @@ int main(void)
     merged_filters();
     refusals_of_merges();
     tables_of_nodes();
+    projections();
+    refusals_of_projections();
     null_buffers();
     printf("%d answers, %d wrong\n", tried, failed);
     return failed > 0;

@@ -1,5 +1,5 @@
 /* A C host: the worked run's filter as text, then the run, its answers printed as the program spatialjoin prints them; then the
- * filter with a row policy. `../check` builds and runs it. */
+ * filter with a row policy, and its extraction over narrowed children. `../check` builds and runs it. */
 #include <inttypes.h>
 #include <stdio.h>
 
@@ -26,6 +26,10 @@ static const uint8_t policy[] = {
     0x03, 0x06, 'r', 'e', 'g', 'i', 'o', 'n', 0x01,                      /* region of one argument: */
     0x00, 0x00, 0x00, 0x00, 0x09,                                        /*   column 0, name tag 9 */
 };
+
+/* What stays of each child: of the left one its columns 4 and 0, in this order, of the right one its column 3. */
+static const uint16_t left[] = {4, 0};
+static const uint16_t right[] = {3};
 
 /* The host lends the buffers and the table, and keeps n, the length of the plan. */
 static uint8_t text[SPATIALJOIN_MOST_TEXT];
@@ -57,6 +61,12 @@ static void take(int64_t answer)
     printf("\n");
 }
 
+static int64_t project(void)
+{
+    return spatialjoin_project(plan, sizeof plan, n, scratch, sizeof scratch, left, sizeof left / sizeof *left, right,
+                               sizeof right / sizeof *right);
+}
+
 /* The text ends where the answer says: no 0 stands after it. */
 static void show(int64_t answer)
 {
@@ -77,5 +87,11 @@ int main(void)
     take(spatialjoin_merge(policy, sizeof policy, plan, sizeof plan, n, scratch, sizeof scratch, table, SPATIALJOIN_MOST_NODES));
     show(spatialjoin_print(plan, n, text, sizeof text));
     take(spatialjoin_extract(plan, sizeof plan, n, scratch, sizeof scratch, table, SPATIALJOIN_MOST_NODES));
+
+    take(spatialjoin_load(frame, sizeof frame, plan, sizeof plan, table, SPATIALJOIN_MOST_NODES));
+    take(spatialjoin_extract(plan, sizeof plan, n, scratch, sizeof scratch, table, SPATIALJOIN_MOST_NODES));
+    take(project());
+    take(spatialjoin_exchange(plan, sizeof plan, n, scratch, sizeof scratch));
+    take(project()); /* Refused: the plan has the new columns now, and the list of the right child has no 1. */
     return 0;
 }

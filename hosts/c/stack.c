@@ -1,6 +1,7 @@
 /* Measures the stack that the library's calls need: makes them on a stack of its own that was filled with a pattern, and looks how
  * far down the pattern is gone. The frames are 64 levels deep, the deepest that there are, in every shape that the calls walk by
- * calling themselves. Ends with 1 where a call needs more than SPATIALJOIN_STACK_BYTES. `../check` builds and runs it. */
+ * calling themselves; so are the arguments of extractions that no frame made. Ends with 1 where a call needs more than
+ * SPATIALJOIN_STACK_BYTES. `../check` builds and runs it. */
 #define _XOPEN_SOURCE 700
 #include <stdio.h>
 #include <string.h>
@@ -11,10 +12,11 @@
 #define DEPTH 64
 #define PATTERN 0xa5
 #define NODES SPATIALJOIN_MOST_NODES
+#define ITEMS SPATIALJOIN_MOST_ITEMS
 #define STACK_SIZE (4 * SPATIALJOIN_STACK_BYTES)
 
-enum call { LOAD, EXTRACT, EXCHANGE, LOGICAL, PRINT, MERGE, CALLS };
-static const char *const call_names[CALLS] = {"load", "extract", "exchange", "logical", "print", "merge"};
+enum call { LOAD, EXTRACT, EXCHANGE, LOGICAL, PRINT, MERGE, PROJECT, CALLS };
+static const char *const call_names[CALLS] = {"load", "extract", "exchange", "logical", "print", "merge", "project"};
 
 /* How a node holds the deeper one below it. */
 enum shape { AND_LEFT, AND_RIGHT, OR_LEFT, OR_RIGHT, FUNCTION_ONE, FUNCTION_LAST, OTHER_ONE, OTHER_LAST, SHAPES };
@@ -32,6 +34,7 @@ static uint8_t plan[SPATIALJOIN_MOST_BYTES];
 static uint8_t scratch[SPATIALJOIN_MOST_BYTES];
 static uint8_t text[SPATIALJOIN_MOST_TEXT];
 static spatialjoin_node table[SPATIALJOIN_MOST_NODES];
+static uint16_t items[SPATIALJOIN_MOST_ITEMS];
 static size_t n;
 
 static uint8_t stack[STACK_SIZE];
@@ -196,6 +199,7 @@ static void make_call(void)
     case LOGICAL: answer = spatialjoin_logical(frame, frame_len); break;
     case PRINT: answer = spatialjoin_print(frame, frame_len, text, sizeof text); break;
     case MERGE: answer = spatialjoin_merge(frame, frame_len, plan, sizeof plan, n, scratch, sizeof scratch, table, NODES); break;
+    case PROJECT: answer = spatialjoin_project(plan, sizeof plan, n, scratch, sizeof scratch, items, ITEMS, items, ITEMS); break;
     case CALLS: break;
     }
 }
@@ -234,6 +238,28 @@ static void measure_frame(void)
         measure(EXCHANGE);
         measure(EXTRACT);
         measure(EXCHANGE);
+        measure(PROJECT);
+    }
+}
+
+/* An extraction that no frame made: arguments as deep as a frame may be, and no remainder. */
+static void measure_extraction(const uint8_t *head, size_t head_len, int arguments)
+{
+    unsigned deep, shape;
+    size_t i;
+    for (deep = 0; deep < (unsigned)arguments; deep++) {
+        for (shape = 0; shape < SHAPES; shape++) {
+            frame_len = 0;
+            for (i = 0; i < head_len; i++) {
+                put(head[i]);
+            }
+            put_arguments(arguments, (int)deep, (enum shape)shape, DEPTH);
+            put(0);
+            memcpy(plan, frame, frame_len);
+            n = frame_len;
+            measure(EXCHANGE);
+            measure(PROJECT);
+        }
     }
 }
 
@@ -275,8 +301,17 @@ static void measure_leaves(enum shape ands, int levels)
 int main(void)
 {
     static const int and_levels[] = {0, 1, 30, 60, 61, 62};
+    static const uint8_t relation[] = {0x11, 0, 0, 0};
+    static const uint8_t distance[] = {0x12, 0, 0, 0, 0};
+    static const uint8_t knn[] = {0x13, 0, 0, 0, 0, 0, 5, 0, 0, 2};
     unsigned i;
     int failed = 0;
+    for (i = 0; i < ITEMS; i++) {
+        items[i] = (uint16_t)i;
+    }
+    measure_extraction(relation, sizeof relation, 2);
+    measure_extraction(distance, sizeof distance, 3);
+    measure_extraction(knn, sizeof knn, 2);
     for (logical_frame = 0; logical_frame < 2; logical_frame++) {
         for (i = 0; i < sizeof and_levels / sizeof *and_levels; i++) {
             measure_leaves(AND_LEFT, and_levels[i]);

@@ -1,5 +1,6 @@
 //! A Rust host: the worked run's filter as text, then the run, its answers printed as the program
-//! spatialjoin prints them; then the filter with a row policy.
+//! spatialjoin prints them; then the filter with a row policy, and its extraction over narrowed
+//! children.
 
 use spatialjoin::{MOST_BYTES, MOST_NODES, MOST_TEXT, Node, Refusal};
 
@@ -10,6 +11,11 @@ const FRAME: &[u8] = b"\x01\0\x02\x01\0\x03\0\x07\0\0\0\0\x08\
 
 /// `region(column 0)`, a row policy; column 0 is column 1 of the left child.
 const POLICY: &[u8] = b"\x01\0\x01\0\0\x01\0\x09\x03\x06region\x01\0\0\0\0\x09";
+
+/// What stays of each child: of the left one its columns 4 and 0, in this order, of the right one its
+/// column 3.
+const LEFT: [u16; 2] = [4, 0];
+const RIGHT: [u16; 1] = [3];
 
 /// The host lends both buffers and the table, and keeps `n`, the length of the plan.
 struct Host {
@@ -39,6 +45,12 @@ impl Host {
     fn merge(&mut self, frame: &[u8]) {
         let (plan, scratch) = (&mut self.plan, &mut self.scratch);
         let answer = spatialjoin::merge(frame, plan, self.n, scratch, &mut self.table);
+        self.take(answer);
+    }
+
+    fn project(&mut self) {
+        let (plan, scratch) = (&mut self.plan, &mut self.scratch);
+        let answer = spatialjoin::project(plan, self.n, scratch, &LEFT, &RIGHT);
         self.take(answer);
     }
 
@@ -83,4 +95,11 @@ fn main() {
     host.merge(POLICY);
     show(&host.plan[..host.n]);
     host.extract();
+
+    host.load(FRAME);
+    host.extract();
+    host.project();
+    host.exchange();
+    // Refused: the plan has the new columns now, and the list of the right child has no 1.
+    host.project();
 }

@@ -27,6 +27,9 @@ pub const MOST_TEXT: usize = 26_620;
 /// The most nodes of a frame.
 pub const MOST_NODES: usize = 1_024;
 
+/// The most items of a list of [`project`].
+pub const MOST_ITEMS: usize = 4_096;
+
 /// A node of a frame.
 #[repr(C)]
 #[derive(Clone, Copy, Debug, Default, PartialEq, Eq)]
@@ -172,6 +175,26 @@ pub fn merge(
     table: &mut [Node],
 ) -> Result<usize, Refusal> {
     length(numbers::merge(frame, plan, n, scratch, table))
+}
+
+/// Has the extraction in the plan's first `n` bytes follow its children, each of which was narrowed
+/// to a list of its columns, and gives the new plan's length, which is `n`. The lists have the child
+/// indexes of the columns that stay, in their new order, [`MOST_ITEMS`] at most. A child index of the
+/// plan becomes the position, from 0, of the first equal item in the list of its side, in every record
+/// of the remainder too. A bound of neither side and mark columns stay as they are. The old plan is
+/// copied to the scratch's first `n` bytes.
+///
+/// # Errors
+///
+/// Refusals 9 to 11 and 18 to 20.
+pub fn project(
+    plan: &mut [u8],
+    n: usize,
+    scratch: &mut [u8],
+    left: &[u16],
+    right: &[u16],
+) -> Result<usize, Refusal> {
+    length(numbers::project(plan, n, scratch, left, right))
 }
 
 fn length(answer: i64) -> Result<usize, Refusal> {

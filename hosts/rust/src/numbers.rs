@@ -49,6 +49,17 @@ mod c {
             table: *mut Node,
             table_len: usize,
         ) -> i64;
+        pub fn spatialjoin_project(
+            plan: *mut u8,
+            plan_len: usize,
+            n: usize,
+            scratch: *mut u8,
+            scratch_len: usize,
+            left: *const u16,
+            left_len: usize,
+            right: *const u16,
+            right_len: usize,
+        ) -> i64;
     }
 }
 
@@ -104,6 +115,26 @@ pub fn merge(
             scratch_len,
             table,
             table_len,
+        )
+    }
+}
+
+pub fn project(plan: &mut [u8], n: usize, scratch: &mut [u8], left: &[u16], right: &[u16]) -> i64 {
+    let (plan, plan_len) = (plan.as_mut_ptr(), plan.len());
+    let (scratch, scratch_len) = (scratch.as_mut_ptr(), scratch.len());
+    let (left, left_len) = (left.as_ptr(), left.len());
+    let (right, right_len) = (right.as_ptr(), right.len());
+    unsafe {
+        c::spatialjoin_project(
+            plan,
+            plan_len,
+            n,
+            scratch,
+            scratch_len,
+            left,
+            left_len,
+            right,
+            right_len,
         )
     }
 }

@@ -37,11 +37,17 @@ pub enum Refusal {
     MergedTooLarge = 16,
     /// 17: the table is shorter than the frame's node count.
     TableTooShort = 17,
+    /// 18: the plan is no extraction but a frame.
+    NotExtracted = 18,
+    /// 19: a list has over 4,096 items.
+    ListTooLong = 19,
+    /// 20: the plan has a child index that the list of its side lacks.
+    NotInList = 20,
 }
 
 impl Refusal {
     /// All of them, by number.
-    pub const ALL: [Refusal; 16] = [
+    pub const ALL: [Refusal; 19] = [
         Refusal::FrameLength,
         Refusal::FirstByte,
         Refusal::FrameEnds,
@@ -58,9 +64,12 @@ impl Refusal {
         Refusal::TextTooShort,
         Refusal::MergedTooLarge,
         Refusal::TableTooShort,
+        Refusal::NotExtracted,
+        Refusal::ListTooLong,
+        Refusal::NotInList,
     ];
 
-    /// 1 to 13, or 15 to 17.
+    /// 1 to 13, or 15 to 20.
     pub fn number(self) -> u8 {
         self as u8
     }
@@ -88,6 +97,9 @@ impl Refusal {
             Refusal::TextTooShort => "text buffer shorter than the text",
             Refusal::MergedTooLarge => "merged frame over a limit",
             Refusal::TableTooShort => "table shorter than the node count",
+            Refusal::NotExtracted => "plan not extracted",
+            Refusal::ListTooLong => "a list of over 4,096 items",
+            Refusal::NotInList => "a list lacks an index",
         }
     }
 }

@@ -1,7 +1,7 @@
 //! The worked run, every refusal of every call, the names of the mask and the query side, texts,
-//! merged filters, tables of nodes.
+//! merged filters, tables of nodes. `projections.rs` has the projections.
 
-use spatialjoin::{MOST_BYTES, MOST_NODES, MOST_TEXT, STACK_BYTES};
+use spatialjoin::{MOST_BYTES, MOST_ITEMS, MOST_NODES, MOST_TEXT, STACK_BYTES};
 use spatialjoin::{NAMES, Names, Node, Refusal, Side};
 use spatialjoin::{exchange, extract, load, logical, merge, position, print};
 
@@ -473,7 +473,8 @@ fn query_sides() {
 
 #[test]
 fn every_refusal_has_its_number_and_text() {
-    let numbers = (1..=13).chain([15, 16]);
+    let numbers: Vec<u8> = (1..=13).chain(15..=20).collect();
+    assert_eq!(Refusal::ALL.len(), numbers.len());
     for (refusal, number) in Refusal::ALL.into_iter().zip(numbers) {
         assert_eq!(refusal.number(), number);
         let text = refusal.to_string();
@@ -491,6 +492,8 @@ fn the_header_has_the_same_limits_and_version() {
     };
     defines("MOST_BYTES", MOST_BYTES.to_string());
     defines("MOST_TEXT", MOST_TEXT.to_string());
+    defines("MOST_NODES", MOST_NODES.to_string());
+    defines("MOST_ITEMS", MOST_ITEMS.to_string());
     defines("STACK_BYTES", STACK_BYTES.to_string());
     defines("VERSION", format!("{:?}", env!("CARGO_PKG_VERSION")));
     defines("VERSION_MAJOR", env!("CARGO_PKG_VERSION_MAJOR").to_owned());
