@@ -4,6 +4,7 @@
 use crate::frame::Plan;
 use crate::merge::{merged, within_limits};
 use crate::nodes::{self, Node};
+use crate::project::{self as projection, Lists};
 use crate::refusal::Refusal;
 use crate::{decode, encode, logical as logical_half, physical, print as console};
 
@@ -85,6 +86,26 @@ pub fn merge(
     }
     nodes::fill(table, &nodes::table(&merged)).ok_or(Refusal::TableRoom)?;
     Ok(replace(&Plan::Frame(merged), n, buffer, scratch))
+}
+
+/// Request 7 of document 02: the held extraction over narrowed children.
+pub fn project(
+    n: &mut usize,
+    buffer: &mut [u8],
+    scratch: &mut [u8],
+    lists: Lists<'_>,
+) -> Result<usize, Refusal> {
+    let Plan::Extraction(extraction) = held(*n, buffer)? else {
+        return Err(Refusal::NotExtracted);
+    };
+    if !lists.within_limit() {
+        return Err(Refusal::ListLength);
+    }
+    if scratch.len() < *n {
+        return Err(Refusal::NoRoom);
+    }
+    let projected = projection::project(&extraction, lists).ok_or(Refusal::NotInList)?;
+    Ok(replace(&Plan::Extraction(projected), n, buffer, scratch))
 }
 
 /// Refusals 10 and 11.

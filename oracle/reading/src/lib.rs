@@ -12,4 +12,5 @@ pub mod nodes;
 pub mod physical;
 pub mod print;
 pub mod program;
+pub mod project;
 pub mod refusal;

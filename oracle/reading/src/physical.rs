@@ -60,7 +60,7 @@ fn side_of(expr: &Expr, records: &[Record]) -> Option<Side> {
     sides.iter().all(|other| *other == side).then_some(side)
 }
 
-fn collect_columns(expr: &Expr, found: &mut impl FnMut(u16)) {
+pub(crate) fn collect_columns(expr: &Expr, found: &mut impl FnMut(u16)) {
     if let Expr::Column { index, .. } = expr {
         found(*index);
     }

@@ -35,6 +35,12 @@ pub enum Refusal {
     MergedLimit = 16,
     /// Table shorter than the node count.
     TableRoom = 17,
+    /// Plan not extracted.
+    NotExtracted = 18,
+    /// A list over 4,096 items.
+    ListLength = 19,
+    /// An index that its list lacks.
+    NotInList = 20,
 }
 
 impl Refusal {

@@ -1,4 +1,5 @@
-//! Frames in few words.
+//! Frames in few words. Each test takes of them what it needs.
+#![allow(dead_code)]
 
 use reading::encode;
 use reading::frame::{Expr, Frame, Record, Side, operator};
