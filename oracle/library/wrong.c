@@ -1,4 +1,5 @@
-/* The library with one fault, chosen by WRONG. Its own functions are renamed to right_.. before (library-mutants). */
+/* The library with one fault, chosen by WRONG; wrong_project.c has those of project. Its own functions are renamed to right_.. before
+ * (library-mutants). */
 #include <stddef.h>
 #include <stdint.h>
 #include <string.h>

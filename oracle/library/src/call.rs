@@ -5,6 +5,7 @@ use std::fmt;
 use driver::rng::Rng;
 use reading::calls;
 use reading::program::hex;
+use reading::project::Lists;
 use reading::refusal::Refusal;
 use spatialjoin::{Node, numbers};
 
@@ -19,20 +20,24 @@ pub enum Kind {
     Logical,
     Print,
     Merge,
+    Project,
 }
 
+/// What a call is not given is empty.
 pub struct Call {
     pub kind: Kind,
     /// Of a load, of a logical call, of a print and of a merge.
     pub frame: Vec<u8>,
     pub n: usize,
     pub plan: Vec<u8>,
-    /// Of an extract, of an exchange and of a merge.
+    /// Of an extract, of an exchange, of a merge and of a projection.
     pub scratch: Vec<u8>,
     /// Of a print.
     pub text: Vec<u8>,
     /// Of a load, of an extract and of a merge.
     pub table: Vec<Node>,
+    /// Of a projection: the left one and the right one.
+    pub lists: [Vec<u16>; 2],
 }
 
 /// An answer, and the buffers and the table after it.
@@ -48,11 +53,25 @@ pub struct Outcome {
 /// The library's outcome, and whether it left alone what wasn't its to write.
 pub struct Given {
     outcome: Outcome,
-    frame_holds: bool,
+    /// The frame and the lists are as they were.
+    read_only_holds: bool,
     guards_hold: bool,
 }
 
 impl Call {
+    pub fn new(kind: Kind) -> Self {
+        Call {
+            kind,
+            frame: Vec::new(),
+            n: 0,
+            plan: Vec::new(),
+            scratch: Vec::new(),
+            text: Vec::new(),
+            table: Vec::new(),
+            lists: [Vec::new(), Vec::new()],
+        }
+    }
+
     pub fn expected(&self) -> Outcome {
         let (mut n, mut plan, mut scratch) = (self.n, self.plan.clone(), self.scratch.clone());
         let mut text = self.text.clone();
@@ -70,6 +89,11 @@ impl Call {
                 let (plan, scratch) = (&mut plan, &mut scratch);
                 length(calls::merge(&self.frame, &mut n, plan, scratch, &mut table))
             }
+            Kind::Project => {
+                let [left, right] = &self.lists;
+                let lists = Lists { left, right };
+                length(calls::project(&mut n, &mut plan, &mut scratch, lists))
+            }
         };
         Outcome {
             answer: answer.unwrap_or_else(|refusal| -i64::from(refusal.number())),
@@ -86,6 +110,7 @@ impl Call {
         let mut scratch = Lent::bytes(rng, &self.scratch);
         let mut text = Lent::bytes(rng, &self.text);
         let mut table = Lent::records(rng, &self.table);
+        let lists = self.lists.each_ref().map(|list| Lent::list(rng, list));
         let n = self.n;
         let answer = match self.kind {
             Kind::Load => numbers::load(frame.items(), plan.items_mut(), table.items_mut()),
@@ -99,6 +124,10 @@ impl Call {
                 let (plan, scratch) = (plan.items_mut(), scratch.items_mut());
                 numbers::merge(frame.items(), plan, n, scratch, table.items_mut())
             }
+            Kind::Project => {
+                let [left, right] = lists.each_ref().map(Lent::items);
+                numbers::project(plan.items_mut(), n, scratch.items_mut(), left, right)
+            }
         };
         Given {
             outcome: Outcome {
@@ -108,9 +137,11 @@ impl Call {
                 text: text.items().to_vec(),
                 table: table.items().to_vec(),
             },
-            frame_holds: frame.items() == self.frame,
+            read_only_holds: frame.items() == self.frame
+                && lists.each_ref().map(Lent::items) == self.lists.each_ref().map(Vec::as_slice),
             guards_hold: [frame, plan, scratch, text].iter().all(Lent::guards_hold)
-                && table.guards_hold(),
+                && table.guards_hold()
+                && lists.iter().all(Lent::guards_hold),
         }
     }
 }
@@ -135,8 +166,8 @@ impl Given {
         if self.outcome.table != expected.table {
             faults.push(format!("the table, {}", records(&self.outcome.table)));
         }
-        if !self.frame_holds {
-            faults.push("the frame was written to".to_owned());
+        if !self.read_only_holds {
+            faults.push("the frame or a list, which was written to".to_owned());
         }
         if !self.guards_hold {
             faults.push("bytes outside the buffers, which were written to".to_owned());
@@ -151,6 +182,11 @@ fn records(table: &[Node]) -> String {
     format!("{} records: {}", table.len(), records.join(" "))
 }
 
+fn items(list: &[u16]) -> String {
+    let items: Vec<String> = list.iter().map(u16::to_string).collect();
+    format!("{} items: {}", list.len(), items.join(" "))
+}
+
 fn shown(bytes: &[u8]) -> String {
     let digits = String::from_utf8_lossy(&hex(bytes)).into_owned();
     format!("{} bytes: {digits}", bytes.len())
@@ -163,6 +199,8 @@ impl fmt::Display for Call {
         writeln!(f, "  plan     {}", shown(&self.plan))?;
         writeln!(f, "  scratch  {}", shown(&self.scratch))?;
         writeln!(f, "  text     {}", shown(&self.text))?;
+        writeln!(f, "  left     {}", items(&self.lists[0]))?;
+        writeln!(f, "  right    {}", items(&self.lists[1]))?;
         write!(f, "  table    {}", records(&self.table))
     }
 }

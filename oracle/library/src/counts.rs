@@ -4,7 +4,7 @@ use std::fmt;
 use crate::call::Kind;
 
 /// The calls, with the refusals that documents 01 and 02 give each of them.
-const ANSWERS: [(Kind, &[i64]); 6] = [
+const ANSWERS: [(Kind, &[i64]); 7] = [
     (Kind::Load, &[1, 2, 3, 4, 5, 6, 7, 8, 9, 17]),
     (Kind::Extract, &[9, 10, 11, 12, 13]),
     (Kind::Exchange, &[9, 10, 11]),
@@ -14,6 +14,7 @@ const ANSWERS: [(Kind, &[i64]); 6] = [
         Kind::Merge,
         &[1, 2, 3, 4, 5, 6, 7, 8, 9, 10, 11, 12, 16, 17],
     ),
+    (Kind::Project, &[9, 10, 11, 18, 19, 20]),
 ];
 
 /// How many calls there were of each kind, by what they answered.

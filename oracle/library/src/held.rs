@@ -2,6 +2,7 @@
 
 use driver::make::damage::{damage, likely_bytes};
 use driver::make::extractions::extraction;
+use driver::make::lists::lists;
 use driver::rng::Rng;
 use reading::frame::MAX_BYTES;
 use spatialjoin::Node;
@@ -33,6 +34,20 @@ impl Held {
         Held { n: 0, plan, table }
     }
 
+    /// These bytes, in a buffer with others after them.
+    pub fn holding(rng: &mut Rng, bytes: &[u8]) -> Self {
+        let after = rng.below(64);
+        let plan = [bytes, &any_bytes(rng, after)].concat();
+        let n = bytes.len();
+        let table = Vec::new();
+        Held { n, plan, table }
+    }
+
+    /// The held bytes; none where n is past the end.
+    pub fn plan(&self) -> &[u8] {
+        self.plan.get(..self.n).unwrap_or_default()
+    }
+
     /// What an accepted call left.
     pub fn left_by(outcome: Outcome) -> Option<Self> {
         let n = usize::try_from(outcome.answer).ok()?;
@@ -52,13 +67,11 @@ impl Held {
             self.table = tables::to_fill(rng, tables::nodes_of(&frame).len());
         }
         Call {
-            kind,
             frame,
             n: self.n,
             plan: self.plan.clone(),
-            scratch: Vec::new(),
-            text: Vec::new(),
             table: self.table.clone(),
+            ..Call::new(kind)
         }
     }
 
@@ -75,19 +88,23 @@ impl Held {
             _ => n,
         };
         Call {
-            kind,
-            frame: Vec::new(),
             n: self.n,
             plan: self.plan.clone(),
             scratch: any_bytes(rng, length),
-            text: Vec::new(),
             table: self.table.clone(),
+            ..Call::new(kind)
         }
     }
 
     pub fn with_both(&self, kind: Kind, frame: Vec<u8>, rng: &mut Rng) -> Call {
         let call = self.with_scratch(kind, rng);
         Call { frame, ..call }
+    }
+
+    pub fn with_lists(&self, rng: &mut Rng) -> Call {
+        let lists = lists(rng, self.plan());
+        let call = self.with_scratch(Kind::Project, rng);
+        Call { lists, ..call }
     }
 
     /// Takes over what a call left: its answer is the new length, if it is one.
@@ -105,7 +122,7 @@ impl Held {
     /// made, at times with its own table.
     pub fn disturb(&mut self, rng: &mut Rng) {
         self.disturb_plan(rng);
-        let held = self.plan.get(..self.n).unwrap_or_default();
+        let held = self.plan();
         match rng.below(24) {
             0 => {
                 let nodes = tables::nodes_of(held);
@@ -125,7 +142,7 @@ impl Held {
             0 => self.n = self.past_the_end(rng),
             1 => self.n = rng.below(self.plan.len() + 1),
             2 => {
-                let mut bytes = self.plan.get(..self.n).unwrap_or_default().to_vec();
+                let mut bytes = self.plan().to_vec();
                 damage(rng, &mut bytes);
                 self.hold(&bytes);
             }

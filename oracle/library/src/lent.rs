@@ -9,6 +9,9 @@ const GUARD: usize = 64;
 /// Records on either side of a lent table.
 const GUARD_RECORDS: usize = 6;
 
+/// Items on either side of a lent list.
+const GUARD_ITEMS: usize = 32;
+
 /// A buffer or table to lend, with guards on both sides.
 pub struct Lent<T> {
     memory: Vec<T>,
@@ -33,6 +36,17 @@ impl Lent<Node> {
         let mut before: Vec<Node> = (0..2 * GUARD_RECORDS).map(guard).collect();
         let after = before.split_off(GUARD_RECORDS);
         Lent::between(before, records, after)
+    }
+}
+
+impl Lent<u16> {
+    /// Beside it stand indices that a plan may well have, and the list lack.
+    pub fn list(rng: &mut Rng, items: &[u16]) -> Self {
+        let start = GUARD_ITEMS + rng.below(8);
+        let guard = |_| rng.below(10) as u16;
+        let mut before: Vec<u16> = (0..start + GUARD_ITEMS).map(guard).collect();
+        let after = before.split_off(start);
+        Lent::between(before, items, after)
     }
 }
 

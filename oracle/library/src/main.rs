@@ -5,6 +5,7 @@ mod counts;
 mod held;
 mod lent;
 mod merges;
+mod projections;
 mod tables;
 mod texts;
 
@@ -66,7 +67,9 @@ fn options(words: &[String]) -> Option<(u64, u64)> {
     Some((frames, seed))
 }
 
-/// All calls of a case, on one plan; then prints and merges of its frames, and merges of a pair.
+/// All calls of a case, on one plan, with projections of what is held after each; then prints and
+/// merges of its frames, merges of a pair, and projections of an extraction that no frame need have
+/// made.
 fn run(rng: &mut Rng, case: &Case, counts: &mut Counts) -> Result<(), String> {
     let asked: Vec<Asked> = case.lines.iter().map(|line| asked(rng, line)).collect();
     let mut held = Held::new(rng, longest(&asked));
@@ -83,6 +86,7 @@ fn run(rng: &mut Rng, case: &Case, counts: &mut Counts) -> Result<(), String> {
         };
         let outcome = compare(rng, &call, counts)?;
         held.after(call.kind, outcome);
+        projections::run(rng, &held, counts)?;
     }
     for asked in &asked {
         if let Asked::OfFrame(frame) = asked {
@@ -95,7 +99,8 @@ fn run(rng: &mut Rng, case: &Case, counts: &mut Counts) -> Result<(), String> {
         }
     }
     let pair = pairs::pair(rng);
-    merges::run(rng, &pair, counts)
+    merges::run(rng, &pair, counts)?;
+    projections::run_alone(rng, counts)
 }
 
 /// The difference on a print of a filter that is part of this one, the smallest found.

@@ -82,13 +82,12 @@ fn calls(rng: &mut Rng, plan: &[u8], frame: &[u8]) -> Vec<Call> {
     }
     let nodes = 1 + tables::nodes_of(plan).len() + tables::nodes_of(frame).len();
     let call = |(scratch, room)| Call {
-        kind: Kind::Merge,
         frame: frame.to_vec(),
         n,
         plan: in_buffer(rng, plan, room),
         scratch: any_bytes(rng, scratch),
-        text: Vec::new(),
         table: tables::to_fill(rng, nodes),
+        ..Call::new(Kind::Merge)
     };
     pairs.into_iter().map(call).collect()
 }

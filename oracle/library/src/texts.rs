@@ -35,13 +35,9 @@ pub fn prints_of(rng: &mut Rng, frame: &[u8]) -> Vec<Call> {
         rooms.push(MOST_TEXT);
     }
     let print = |room| Call {
-        kind: Kind::Print,
         frame: frame.to_vec(),
-        n: 0,
-        plan: Vec::new(),
-        scratch: Vec::new(),
         text: any_bytes(rng, room),
-        table: Vec::new(),
+        ..Call::new(Kind::Print)
     };
     rooms.into_iter().map(print).collect()
 }

@@ -4,6 +4,7 @@ pub mod damage;
 pub mod extractions;
 mod filter;
 mod limits;
+pub mod lists;
 mod literals;
 mod logical;
 mod names;
