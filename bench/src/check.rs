@@ -1,7 +1,8 @@
 //! Before anything is timed: ours, the original and the reading give the same bytes, and plain Rust
-//! where it is timed. Of print and merge, which the original has not, all but the original.
+//! where it is timed. Of print, merge and project, which the original has not, all but the original.
 
 use reading::frame::{MAX_BYTES, MAX_NODES, Plan};
+use reading::project::{Lists, MAX_ITEMS};
 use reading::refusal::Refusal;
 use reading::{calls, decode, encode, nodes};
 use spatialjoin::{MOST_TEXT, Node};
@@ -11,6 +12,7 @@ use crate::operations::{
 };
 use crate::ours::{self, Console, Ours};
 use crate::plain;
+use crate::projections::Projections;
 
 /// An extraction's bytes without its position, which the original does not have.
 fn without_position(plan: &[u8]) -> Vec<u8> {
@@ -269,6 +271,72 @@ fn read_merged(held: &[u8], new: &[u8]) -> Vec<u8> {
         .expect("the frames are within the limits");
     plan.truncate(n);
     plan
+}
+
+/// A projection by plain Rust and by the reading, on the same buffers: both leave the same.
+fn projected_alike(plan: &[u8], n: usize, scratch: usize, left: &[u16], right: &[u16]) -> bool {
+    let mut plain = (plan.to_vec(), vec![0; scratch]);
+    let mut read = plain.clone();
+    let answer = plain::project(&mut plain.0, n, &mut plain.1, left, right);
+    let lists = Lists { left, right };
+    let expected = calls::project(&mut { n }, &mut read.0, &mut read.1, lists);
+    answer == expected.map_err(Refusal::number) && plain == read
+}
+
+/// Accepted, and refused by the plan, the lists or the room.
+fn plain_project(plan: &[u8], [left, right]: &[Vec<u16>; 2]) -> bool {
+    let n = plan.len();
+    let long = vec![0; MAX_ITEMS + 1];
+    let frame = [1, 0, 0, 4, 0, 0, 0];
+    [
+        projected_alike(&lent(plan, MAX_BYTES), n, MAX_BYTES, left, right),
+        projected_alike(plan, n, n, left, right),
+        projected_alike(plan, n, n - 1, left, right),
+        projected_alike(plan, n - 1, n, left, right),
+        projected_alike(&lent(plan, n + 1), n + 1, n + 1, left, right),
+        projected_alike(plan, 0, n, left, right),
+        projected_alike(plan, n + 1, n, left, right),
+        projected_alike(&frame, frame.len(), n, left, right),
+        projected_alike(plan, n, 0, &long, right),
+        projected_alike(plan, n, 0, left, &long),
+        projected_alike(plan, n, n, &left[1..], right),
+        projected_alike(plan, n, n, left, &right[1..]),
+        projected_alike(plan, n, n, right, left),
+        projected_alike(plan, n, n, &[], &[]),
+    ]
+    .into_iter()
+    .all(|alike| alike)
+}
+
+/// Ours and plain Rust's, whose refusals are tried too.
+pub fn project(projections: &Projections) -> Result<(), String> {
+    let name = projections.name;
+    for (plan, lists) in projections.plans.iter().zip(&projections.lists) {
+        if !plain_project(plan, lists) {
+            return Err(format!("{name}: plain Rust differs from the reading"));
+        }
+        let (mut read, mut scratch) = (plan.clone(), vec![0; plan.len()]);
+        let [left, right] = lists;
+        let answer = calls::project(
+            &mut plan.len(),
+            &mut read,
+            &mut scratch,
+            Lists { left, right },
+        );
+        answer.expect("the lists have all columns");
+        let mut ours = Ours::new();
+        ours.hold(plan);
+        ours.project(lists);
+        if ours.plan() != read {
+            return Err(format!("{name}: ours differs from the reading"));
+        }
+        ours.hold(plan);
+        ours.project_and_return(lists);
+        if ours.plan() != plan {
+            return Err(format!("{name}: the extraction is not in the scratch"));
+        }
+    }
+    Ok(())
 }
 
 pub fn logical(logical: &Logical) -> Result<(), String> {

@@ -9,6 +9,7 @@ mod original;
 mod ours;
 mod parts;
 mod plain;
+mod projections;
 mod table;
 
 use std::env;
@@ -18,7 +19,8 @@ use frames::Group;
 use measure::{Row, Task, measure};
 use operations::{Logical, Merges, Physical};
 use ours::{Console, Ours};
-use table::{BOTH, Column, ORIGINAL, Table, YARDSTICK};
+use projections::{Length, Projections};
+use table::{BESIDE_EXCHANGE, BOTH, Column, ORIGINAL, Table, YARDSTICK};
 
 const USAGE: &str = "bench [--rounds N | --repeat GROUP]";
 
@@ -58,8 +60,8 @@ fn asked(words: &[String]) -> Option<Asked> {
     }
 }
 
-/// Ours loads, extracts and prints the frames of a group over and over, and merges the pairs of
-/// that name, for a program that counts instructions.
+/// Ours loads, extracts and prints the frames of a group over and over, projects their extractions,
+/// and merges the pairs of that name, for a program that counts instructions.
 fn repeat(name: &str) -> Result<(), String> {
     let groups = frames::physical().into_iter().filter(|g| g.name == name);
     let pairs = frames::merges().into_iter().filter(|p| p.name == name);
@@ -74,6 +76,15 @@ fn repeat(name: &str) -> Result<(), String> {
         ours.load(&held);
         ours.merge(&new);
         done += 1;
+    }
+    for length in [Length::Short, Length::Long] {
+        let groups = Projections::all(length).into_iter();
+        for group in groups.filter(|group| group.name == name) {
+            for (plan, lists) in group.plans.iter().zip(&group.lists).cycle().take(800) {
+                ours.hold(plan);
+                ours.project(lists);
+            }
+        }
     }
     match done {
         0 => Err(format!("no group {name}")),
@@ -93,8 +104,10 @@ fn run(rounds: usize) -> Result<(), String> {
     let merges: Vec<Merges> = frames::merges().into_iter().map(Merges::new).collect();
     merges.iter().try_for_each(check::merge)?;
     logical.iter().try_for_each(check::logical)?;
+    let projections = [Length::Short, Length::Long].map(Projections::all);
+    projections.iter().flatten().try_for_each(check::project)?;
 
-    print_tables(&physical, &texts, &logical, &merges, rounds);
+    print_tables(&physical, &texts, &logical, &merges, &projections, rounds);
     Ok(())
 }
 
@@ -103,6 +116,7 @@ fn print_tables(
     texts: &[Physical],
     logical: &[Logical],
     merges: &[Merges],
+    [short, long]: &[Vec<Projections>; 2],
     rounds: usize,
 ) {
     println!("Nanoseconds a frame: median, ± half the distance between the quartiles.\n");
@@ -110,6 +124,10 @@ fn print_tables(
     let timed = |title, tasks| shown(title, ORIGINAL, measure(tasks, rounds));
     let ours_alone = |title, tasks| shown(title, YARDSTICK, measure(tasks, rounds));
     let each = |task: fn(&Physical) -> Task<'_>| physical.iter().map(task).collect();
+    let projected = |title, groups: &[Projections]| {
+        let tasks = groups.iter().map(Projections::project).collect();
+        shown(title, BESIDE_EXCHANGE, measure(tasks, rounds))
+    };
     let tables = [
         beside_both("Load", each(Physical::load)),
         beside_both("Load and extract", each(Physical::load_and_extract)),
@@ -128,10 +146,24 @@ fn print_tables(
             "Merge, a frame held (the original has no such call)",
             merges.iter().map(Merges::merge).collect(),
         ),
+        projected(
+            "Project by lists of the plan's own columns (the original has no such call)",
+            short,
+        ),
+        projected("Project by lists of 4,096 columns", long),
     ];
     table::print_growth(&tables);
-    let [load, load_and_extract, extract, .., print, merge] = &tables;
-    table::print_goals(load, load_and_extract, [print, merge]);
+    let [
+        load,
+        load_and_extract,
+        extract,
+        ..,
+        print,
+        merge,
+        project,
+        _,
+    ] = &tables;
+    table::print_goals(load, load_and_extract, [print, merge, project]);
     table::print_record_goals(load, load_and_extract, extract);
 }
 

@@ -19,6 +19,8 @@ pub enum Contender {
     PlainRust,
     /// Ours, beside our print or merge.
     Load,
+    /// Ours, beside our projection.
+    Exchange,
     Copy,
 }
 

@@ -9,16 +9,16 @@ use driver::original::{Extracted, exchange_filter, names_and_side};
 use reading::frame::MAX_BYTES;
 use reading::merge::merged;
 use reading::{decode, encode};
-use spatialjoin::{MOST_NODES, MOST_TEXT, Node};
+use spatialjoin::MOST_TEXT;
 
 use crate::frames::{Group, Pairs};
 use crate::measure::{Contender, Task, Work, Works};
 use crate::original::{self, Functions};
 use crate::ours::{self, Console, Ours};
-use crate::plain;
+use crate::plain::{self, Plain, plans};
 
 /// Does the work on one frame after the other, from the first again after the last.
-fn in_turn<'a>(count: usize, mut one: impl FnMut(usize) + 'a) -> Work<'a> {
+pub fn in_turn<'a>(count: usize, mut one: impl FnMut(usize) + 'a) -> Work<'a> {
     let mut next = 0;
     Box::new(move |times| {
         for _ in 0..times {
@@ -31,7 +31,7 @@ fn in_turn<'a>(count: usize, mut one: impl FnMut(usize) + 'a) -> Work<'a> {
     })
 }
 
-fn copy(frames: &[Vec<u8>]) -> Work<'_> {
+pub fn copy(frames: &[Vec<u8>]) -> Work<'_> {
     let mut buffer = vec![0; MAX_BYTES];
     in_turn(frames.len(), move |i| {
         let frame = black_box(&frames[i]);
@@ -40,55 +40,8 @@ fn copy(frames: &[Vec<u8>]) -> Work<'_> {
     })
 }
 
-/// Buffers of plain Rust that hold a frame, and its table.
-struct Plain {
-    n: usize,
-    plan: Vec<u8>,
-    scratch: Vec<u8>,
-    table: Vec<Node>,
-}
-
-impl Plain {
-    fn new() -> Self {
-        Plain {
-            n: 0,
-            plan: vec![0; MAX_BYTES],
-            scratch: vec![0; MAX_BYTES],
-            table: vec![Node::default(); MOST_NODES],
-        }
-    }
-
-    fn load(&mut self, frame: &[u8]) {
-        self.n = plain::load(frame, &mut self.plan, &mut self.table).unwrap_or(0);
-    }
-
-    fn extract(&mut self) {
-        let (plan, scratch) = (&mut self.plan, &mut self.scratch);
-        let _ = black_box(plain::extract(plan, self.n, scratch, &self.table));
-    }
-
-    fn merge(&mut self, frame: &[u8]) {
-        let (plan, scratch) = (&mut self.plan, &mut self.scratch);
-        let _ = black_box(plain::merge(frame, plan, self.n, scratch, &mut self.table));
-    }
-
-    /// The old plan is in the scratch: it is held again.
-    fn go_back(&mut self) {
-        std::mem::swap(&mut self.plan, &mut self.scratch);
-    }
-}
-
-fn plans(frames: &[Vec<u8>]) -> Vec<Plain> {
-    let held = |frame: &Vec<u8>| {
-        let mut held = Plain::new();
-        held.load(frame);
-        held
-    };
-    frames.iter().map(held).collect()
-}
-
 /// What is done with a group, on its frames or on plans made of them.
-fn task<'a>(name: &'static str, bytes: &[Vec<u8>], works: Works<'a>) -> Task<'a> {
+pub fn task<'a>(name: &'static str, bytes: &[Vec<u8>], works: Works<'a>) -> Task<'a> {
     let total: usize = bytes.iter().map(Vec::len).sum();
     Task {
         name,

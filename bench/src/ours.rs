@@ -53,6 +53,24 @@ impl Ours {
         std::mem::swap(&mut self.plan, &mut self.scratch);
     }
 
+    /// These bytes as they are, by no call.
+    pub fn hold(&mut self, plan: &[u8]) {
+        self.plan[..plan.len()].copy_from_slice(plan);
+        self.n = plan.len();
+    }
+
+    pub fn project(&mut self, [left, right]: &[Vec<u16>; 2]) {
+        let (plan, scratch) = (&mut self.plan, &mut self.scratch);
+        let answer = numbers::project(plan, self.n, scratch, left, right);
+        self.keep(answer);
+    }
+
+    /// Likewise.
+    pub fn project_and_return(&mut self, [left, right]: &[Vec<u16>; 2]) {
+        numbers::project(&mut self.plan, self.n, &mut self.scratch, left, right);
+        std::mem::swap(&mut self.plan, &mut self.scratch);
+    }
+
     pub fn exchange(&mut self) {
         let answer = numbers::exchange(&mut self.plan, self.n, &mut self.scratch);
         self.keep(answer);

@@ -147,6 +147,25 @@ pub const YARDSTICK: &[Column] = &[
     OURS_TO_COPY,
 ];
 
+/// Beside plain Rust and our exchange of the same plan, where the original has no such call.
+pub const BESIDE_EXCHANGE: &[Column] = &[
+    FRAMES,
+    BYTES,
+    PLAIN_TO_OURS,
+    ("ours / our exchange", |row| {
+        shown(row.ratio(&[Contender::Exchange]).map(f64::recip))
+    }),
+    OURS,
+    OURS_A_BYTE,
+    PLAIN,
+    ("plain Rust, a byte", |row| {
+        shown(row.per_byte(Contender::PlainRust))
+    }),
+    ("our exchange", |row| row.time(Contender::Exchange)),
+    COPY,
+    OURS_TO_COPY,
+];
+
 const NONE: &str = "–";
 
 fn shown(value: Option<f64>) -> String {
@@ -239,7 +258,7 @@ pub fn print_growth(tables: &[Table]) {
 }
 
 /// The goals beside what was measured. Nothing is tested: the times are this machine's.
-pub fn print_goals(load: &Table, load_and_extract: &Table, others: [&Table; 2]) {
+pub fn print_goals(load: &Table, load_and_extract: &Table, others: [&Table; 3]) {
     println!("## Goals\n");
     println!("| goal | measured | reached |");
     println!("|---|---|---|");

@@ -50,6 +50,12 @@ pub fn held(plan: &[u8], n: usize) -> Result<Checked, u8> {
     }
 }
 
+/// That an extraction is held; refusals 10, 11 and 18.
+pub fn extracted(plan: &[u8], n: usize) -> Result<(), u8> {
+    let refused = held(plan, n).map_or_else(|number| number, |_| 18);
+    if refused == 12 { Ok(()) } else { Err(refused) }
+}
+
 fn is_extraction(plan: &[u8]) -> bool {
     plan.len() <= MAX_BYTES && Checker::<false>::new(plan, 0).extraction().is_ok()
 }

@@ -3,13 +3,17 @@
 
 mod check;
 mod extract;
+mod held;
 mod load;
 mod merge;
 mod nodes;
 mod pick;
 mod print;
+mod project;
 
 pub use extract::extract;
+pub use held::{Plain, plans};
 pub use load::load;
 pub use merge::merge;
 pub use print::print;
+pub use project::project;

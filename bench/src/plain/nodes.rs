@@ -54,7 +54,7 @@ pub fn columns(nodes: &[u8], mut column: impl FnMut(u16)) {
 }
 
 /// Each of these nodes that is a column gets another index.
-pub fn renumber(nodes: &mut [u8], new: impl Fn(u16) -> u16) {
+pub fn renumber(nodes: &mut [u8], mut new: impl FnMut(u16) -> u16) {
     let mut at = 0;
     while at < nodes.len() {
         if nodes[at] == COLUMN {
