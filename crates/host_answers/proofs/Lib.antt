@@ -1,2 +1,3 @@
 -- Laws that the proofs use.
 pub mod Numbers
+pub mod Hosting

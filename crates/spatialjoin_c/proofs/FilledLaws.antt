@@ -15,8 +15,9 @@ use Rattle.definitions.specs.Merge.{merge}
 use Rattle.node_rows.specs.Rows.{Filling, RowHas}
 use Rattle.node_table.specs.Numbers.{numbered}
 use Rattle.node_table.proofs.FillLaws.{filled-first}
-use Rattle.spatialjoin_c.specs.Hosted.{Left, LoadLeft, LoadHosted, MergeLeft, MergeHosted}
-use Rattle.spatialjoin_c.specs.declared.cores.Loaded.{Loaded}
+use Rattle.host_answers.specs.Hosted.{LoadHosted, MergeHosted}
+use Rattle.host_cores.specs.Cores.{Left, LoadLeft, MergeLeft}
+use Rattle.host_cores.specs.declared.Loaded.{Loaded}
 
 -- the records that are left to put stand there, and the table has room for them
 pub left-asks : (s : List ℕ) (root count : ℕ) (table : List NodeRecord) (filled : List nodes.NodeRecord)

@@ -1,23 +1,17 @@
 // What C and Rust hosts call; include/spatialjoin.h declares it. Each answer is a number of 64 bits; the buffers are as the
 // definitions' calls leave them.
-pub mod cores;
-
-use call_exchange::exchange;
-use call_logical::Names;
-use call_logical::logical;
-use call_print::print;
-use call_project::project;
-use cores::extract_core;
-use cores::load_core;
-use cores::merge_core;
-use cores::taken_count;
-use host_answers::answer_number;
-use host_answers::minus_refusal;
+use host_calls::exchange_number;
+use host_calls::logical_number;
+use host_calls::print_number;
+use host_calls::project_number;
+use host_cores::extract_core;
+use host_cores::load_core;
+use host_cores::merge_core;
+use host_cores::taken_count;
 use node_table::NodeRecord;
 use node_table::fill_table;
 use node_table::put_nodes;
 use node_table::take_nodes;
-use query_side::knn_query_side::query_side_number;
 ghost use mathlib.Core.Path.{_≡_};
 ghost use Rattle.definitions.specs.Calls as definitions;
 ghost use Rattle.definitions.specs.Hosts.{hostedNames};
@@ -25,7 +19,7 @@ ghost use Rattle.definitions.specs.Logical as logicals;
 ghost use Rattle.definitions.specs.Merge as merges;
 ghost use Rattle.definitions.specs.Project as projects;
 ghost use Rattle.node_table.specs.Records.{nodesOf};
-ghost use Rattle.spatialjoin_c.specs.Hosted.{LoadHosted, CallHosted, MergeHosted, PrintHosted};
+ghost use Rattle.host_answers.specs.Hosted.{LoadHosted, CallHosted, MergeHosted, PrintHosted};
 
 // Loads a frame as the new plan and fills the table with its nodes; reads nothing of what both held.
 #[no_mangle]
@@ -62,7 +56,7 @@ pub extern "C" fn spatialjoin_exchange(plan: &mut [u8], n: usize, scratch: &mut 
     ensures { λ r. ⌜ CallHosted (definitions.exchange n (now (plan .entry)) (now (scratch .entry))) (now (plan .exit))
         (now (scratch .exit)) r ⌝ }
 {
-    answer_number(exchange(plan, n, scratch))
+    exchange_number(plan, n, scratch)
 }
 
 // The spatial names of a logical frame, how many they are, and its KNN query side.
@@ -70,15 +64,7 @@ pub extern "C" fn spatialjoin_exchange(plan: &mut [u8], n: usize, scratch: &mut 
 pub extern "C" fn spatialjoin_logical(frame: &[u8]) -> i64
     ensures { λ r. ⌜ r ≡ hostedNames (logicals.logical (now (frame .entry))) ⌝ }
 {
-    match logical(frame) {
-        Names::Refused(why) => minus_refusal(why),
-        Names::Found(found, side) => {
-            let mask = found.mask as u64;
-            let names = found.names as u64;
-            let side = query_side_number(side) as u64;
-            (mask * 65536 + names * 256 + side) as i64
-        }
-    }
+    logical_number(frame)
 }
 
 // Writes the expression of a frame as text.
@@ -86,8 +72,7 @@ pub extern "C" fn spatialjoin_logical(frame: &[u8]) -> i64
 pub extern "C" fn spatialjoin_print(frame: &[u8], text: &mut [u8]) -> i64
     ensures { λ r. ⌜ PrintHosted (now (frame .entry)) (now (text .entry)) (now (text .exit)) r ⌝ }
 {
-    let printed = print(text, frame);
-    answer_number(printed)
+    print_number(frame, text)
 }
 
 // Joins a frame's filter to that of the plan in the first n bytes, and fills the table with the new plan's nodes.
@@ -119,5 +104,5 @@ pub extern "C" fn spatialjoin_project(
     ensures { λ r. ⌜ CallHosted (projects.project n (now (plan .entry)) (now (scratch .entry)) (now (left .entry)) (now (right .entry)))
         (now (plan .exit)) (now (scratch .exit)) r ⌝ }
 {
-    answer_number(project(plan, n, scratch, left, right))
+    project_number(plan, n, scratch, left, right)
 }

@@ -49,20 +49,21 @@ use Rattle.node_table.proofs.NodeRecord as T
 use Rattle.node_table.proofs.LocalRow.{Row, value, big-lit, none-is, typed-row, called, sliced, LentMut, LentShr, lends-mut, mut-back, lends-shr, shr-back}
 use Rattle.definitions.specs.Calls.{extract}
 use Rattle.call_extract.specs.ExtractByTable.{lentCount}
-use Rattle.spatialjoin_c.specs.Hosted.{CallHosted, Lent, ExtractBy}
+use Rattle.host_answers.specs.Hosted.{CallHosted}
+use Rattle.host_cores.specs.Cores.{Lent, ExtractBy}
 use Rattle.spatialjoin_c.proofs.FilledLaws.{row-of}
-use Rattle.spatialjoin_c.proofs.cores.taken_count as g₁
-use Rattle.spatialjoin_c.proofs.cores.taken_count.Symbol as g₁-def
-use Rattle.spatialjoin_c.proofs.cores.taken_count.Symbol.{name as #taken-count}
-use Rattle.spatialjoin_c.proofs.cores.taken_count.Met as g₁-thm
+use Rattle.host_cores.proofs.taken_count as g₁
+use Rattle.host_cores.proofs.taken_count.Symbol as g₁-def
+use Rattle.host_cores.proofs.taken_count.Symbol.{name as #taken-count}
+use Rattle.host_cores.proofs.taken_count.Met as g₁-thm
 use Rattle.node_table.proofs.take_nodes as g₂
 use Rattle.node_table.proofs.take_nodes.Symbol as g₂-def
 use Rattle.node_table.proofs.take_nodes.Symbol.{name as #take-nodes}
 use Rattle.node_table.proofs.take_nodes.Met as g₂-thm
-use Rattle.spatialjoin_c.proofs.cores.extract_core as g₃
-use Rattle.spatialjoin_c.proofs.cores.extract_core.Symbol as g₃-def
-use Rattle.spatialjoin_c.proofs.cores.extract_core.Symbol.{name as #extract-core}
-use Rattle.spatialjoin_c.proofs.cores.extract_core.Met as g₃-thm
+use Rattle.host_cores.proofs.extract_core as g₃
+use Rattle.host_cores.proofs.extract_core.Symbol as g₃-def
+use Rattle.host_cores.proofs.extract_core.Symbol.{name as #extract-core}
+use Rattle.host_cores.proofs.extract_core.Met as g₃-thm
 use Rattle.spatialjoin_c.proofs.spatialjoin_extract.Key.{name as #extract}
 use Rattle.spatialjoin_c.proofs.spatialjoin_extract as f
 use Rattle.spatialjoin_c.proofs.spatialjoin_extract.Statement as stated
@@ -394,9 +395,9 @@ spatialjoin-extract-spec 𝓤 H 𝓜 𝓖 𝓡 =
     entered 𝓤 H (tripleOf 𝓤 H (𝓖 .A) f.signature (f.spec 𝓤 H (𝓖 .A) (𝓜 .mem) (𝓡 .run)))
     (tables 𝓤 H 𝓜 𝓡 code.env .C) (tables 𝓤 H 𝓜 𝓡 code.env .Λ) #extract code.function (code.unfolded 𝓤 H 𝓜 𝓡)
     (extract-meets 𝓤 H (𝓖 .A) (givenOf 𝓤 H 𝓜 𝓖) (𝓜 .mem) (𝓡 .run) (tablesOf 𝓤 H 𝓜 (tables 𝓤 H 𝓜 𝓡 code.env))
-    (cited 𝓤 H (TakenCount 𝓤 H (𝓖 .A) (𝓜 .mem) (𝓡 .run)) 𝓜 𝓡 code.env #taken-count g₁-def.routine code.calls-spatialjoin-c·cores·taken-count
+    (cited 𝓤 H (TakenCount 𝓤 H (𝓖 .A) (𝓜 .mem) (𝓡 .run)) 𝓜 𝓡 code.env #taken-count g₁-def.routine code.calls-host-cores·taken-count
     (g₁-thm.met 𝓤 H 𝓜 𝓖 𝓡))
     (cited 𝓤 H (TakeNodes 𝓤 H (𝓖 .A) (𝓜 .mem) (𝓡 .run)) 𝓜 𝓡 code.env #take-nodes g₂-def.routine code.calls-node-table·take-nodes
     (g₂-thm.met 𝓤 H 𝓜 𝓖 𝓡))
     (cited 𝓤 H (ExtractCore 𝓤 H (𝓖 .A) (𝓜 .mem) (𝓡 .run)) 𝓜 𝓡 code.env #extract-core g₃-def.routine
-    code.calls-spatialjoin-c·cores·extract-core (g₃-thm.met 𝓤 H 𝓜 𝓖 𝓡)))
+    code.calls-host-cores·extract-core (g₃-thm.met 𝓤 H 𝓜 𝓖 𝓡)))

@@ -48,16 +48,17 @@ use Rattle.node_table.specs.declared.NodeRecord.{NodeRecord}
 use Rattle.node_table.proofs.NodeRecord as T
 use Rattle.node_table.proofs.LocalRow.{Row, value, big-lit, none-is, typed-row, called, sliced, LentMut, LentShr, lends-mut, mut-back, lends-shr, shr-back}
 use Rattle.node_rows.specs.Rows.{RowHas}
-use Rattle.spatialjoin_c.specs.Hosted.{LoadLeft, LoadHosted}
-use Rattle.spatialjoin_c.specs.declared.cores.Loaded.{Loaded}
+use Rattle.host_answers.specs.Hosted.{LoadHosted}
+use Rattle.host_cores.specs.Cores.{LoadLeft}
+use Rattle.host_cores.specs.declared.Loaded.{Loaded}
 use Rattle.spatialjoin_c.proofs.LoadedFields.{fields}
 use Rattle.spatialjoin_c.proofs.FilledLaws.{load-asks, load-fills}
-use Rattle.spatialjoin_c.proofs.cores.Loaded as L
-use Rattle.spatialjoin_c.proofs.cores.Loaded.Laws as L′
-use Rattle.spatialjoin_c.proofs.cores.load_core as g₁
-use Rattle.spatialjoin_c.proofs.cores.load_core.Symbol as g₁-def
-use Rattle.spatialjoin_c.proofs.cores.load_core.Symbol.{name as #load-core}
-use Rattle.spatialjoin_c.proofs.cores.load_core.Met as g₁-thm
+use Rattle.host_cores.proofs.Loaded as L
+use Rattle.host_cores.proofs.Loaded.Laws as L′
+use Rattle.host_cores.proofs.load_core as g₁
+use Rattle.host_cores.proofs.load_core.Symbol as g₁-def
+use Rattle.host_cores.proofs.load_core.Symbol.{name as #load-core}
+use Rattle.host_cores.proofs.load_core.Met as g₁-thm
 use Rattle.node_table.proofs.put_nodes as g₂
 use Rattle.node_table.proofs.put_nodes.Symbol as g₂-def
 use Rattle.node_table.proofs.put_nodes.Symbol.{name as #put-nodes}
@@ -352,7 +353,7 @@ spatialjoin-load-spec 𝓤 H 𝓜 𝓖 𝓡 =
     entered 𝓤 H (tripleOf 𝓤 H (𝓖 .A) f.signature (f.spec 𝓤 H (𝓖 .A) (𝓜 .mem) (𝓡 .run)))
     (tables 𝓤 H 𝓜 𝓡 code.env .C) (tables 𝓤 H 𝓜 𝓡 code.env .Λ) #load code.function (code.unfolded 𝓤 H 𝓜 𝓡)
     (load-meets 𝓤 H (𝓖 .A) (givenOf 𝓤 H 𝓜 𝓖) (𝓜 .mem) (𝓡 .run) (tablesOf 𝓤 H 𝓜 (tables 𝓤 H 𝓜 𝓡 code.env))
-    (cited 𝓤 H (LoadCore 𝓤 H (𝓖 .A) (𝓜 .mem) (𝓡 .run)) 𝓜 𝓡 code.env #load-core g₁-def.routine code.calls-spatialjoin-c·cores·load-core
+    (cited 𝓤 H (LoadCore 𝓤 H (𝓖 .A) (𝓜 .mem) (𝓡 .run)) 𝓜 𝓡 code.env #load-core g₁-def.routine code.calls-host-cores·load-core
     (g₁-thm.met 𝓤 H 𝓜 𝓖 𝓡))
     (cited 𝓤 H (PutNodes 𝓤 H (𝓖 .A) (𝓜 .mem) (𝓡 .run)) 𝓜 𝓡 code.env #put-nodes g₂-def.routine code.calls-node-table·put-nodes
     (g₂-thm.met 𝓤 H 𝓜 𝓖 𝓡)))

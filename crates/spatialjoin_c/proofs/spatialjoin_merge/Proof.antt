@@ -46,18 +46,19 @@ use Rattle.node_table.specs.declared.NodeRecord.{NodeRecord}
 use Rattle.node_table.proofs.NodeRecord as T
 use Rattle.definitions.specs.Merge.{merge}
 use Rattle.node_rows.specs.Rows.{Filling}
-use Rattle.spatialjoin_c.specs.Hosted.{MergeLeft, MergeHosted}
-use Rattle.spatialjoin_c.specs.declared.cores.Loaded.{Loaded}
+use Rattle.host_answers.specs.Hosted.{MergeHosted}
+use Rattle.host_cores.specs.Cores.{MergeLeft}
+use Rattle.host_cores.specs.declared.Loaded.{Loaded}
 use Rattle.spatialjoin_c.proofs.LoadedFields.{fields}
 use Rattle.spatialjoin_c.proofs.FilledLaws.{merge-asks, merge-is}
 use Rattle.spatialjoin_c.proofs.Again.{LentAgain, lends-again, comes-back}
 use Rattle.spatialjoin_c.proofs.Reshared.{Kept, reshares, unshares}
-use Rattle.spatialjoin_c.proofs.cores.Loaded as L
-use Rattle.spatialjoin_c.proofs.cores.Loaded.Laws as L′
-use Rattle.spatialjoin_c.proofs.cores.merge_core as g₁
-use Rattle.spatialjoin_c.proofs.cores.merge_core.Symbol as g₁-def
-use Rattle.spatialjoin_c.proofs.cores.merge_core.Symbol.{name as #merge-core}
-use Rattle.spatialjoin_c.proofs.cores.merge_core.Met as g₁-thm
+use Rattle.host_cores.proofs.Loaded as L
+use Rattle.host_cores.proofs.Loaded.Laws as L′
+use Rattle.host_cores.proofs.merge_core as g₁
+use Rattle.host_cores.proofs.merge_core.Symbol as g₁-def
+use Rattle.host_cores.proofs.merge_core.Symbol.{name as #merge-core}
+use Rattle.host_cores.proofs.merge_core.Met as g₁-thm
 use Rattle.node_table.proofs.fill_table as g₂
 use Rattle.node_table.proofs.fill_table.Symbol as g₂-def
 use Rattle.node_table.proofs.fill_table.Symbol.{name as #fill-table}
@@ -394,7 +395,7 @@ spatialjoin-merge-spec 𝓤 H 𝓜 𝓖 𝓡 =
     entered 𝓤 H (tripleOf 𝓤 H (𝓖 .A) f.signature (f.spec 𝓤 H (𝓖 .A) (𝓜 .mem) (𝓡 .run)))
     (tables 𝓤 H 𝓜 𝓡 code.env .C) (tables 𝓤 H 𝓜 𝓡 code.env .Λ) #merge code.function (code.unfolded 𝓤 H 𝓜 𝓡)
     (merge-meets 𝓤 H (𝓖 .A) (givenOf 𝓤 H 𝓜 𝓖) (𝓜 .mem) (𝓡 .run) (tablesOf 𝓤 H 𝓜 (tables 𝓤 H 𝓜 𝓡 code.env))
-    (cited 𝓤 H (MergeCore 𝓤 H (𝓖 .A) (𝓜 .mem) (𝓡 .run)) 𝓜 𝓡 code.env #merge-core g₁-def.routine code.calls-spatialjoin-c·cores·merge-core
+    (cited 𝓤 H (MergeCore 𝓤 H (𝓖 .A) (𝓜 .mem) (𝓡 .run)) 𝓜 𝓡 code.env #merge-core g₁-def.routine code.calls-host-cores·merge-core
     (g₁-thm.met 𝓤 H 𝓜 𝓖 𝓡))
     (cited 𝓤 H (FillTable 𝓤 H (𝓖 .A) (𝓜 .mem) (𝓡 .run)) 𝓜 𝓡 code.env #fill-table g₂-def.routine code.calls-node-table·fill-table
     (g₂-thm.met 𝓤 H 𝓜 𝓖 𝓡)))
