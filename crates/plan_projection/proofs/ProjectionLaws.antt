@@ -3,11 +3,11 @@ use Prim.Native.Nat.{ℕ, _+_, _/_, _%_, _≤_, _<_}
 use native.Mathlib.Omega.{arith}
 use native.Mathlib.Numerals.{add-one}
 use mathlib.Core.Path.{_≡_, refl, sym, ap, ap₂, _∙_}
-use mathlib.Core.Bool.{true, false, _&&_}
+use mathlib.Core.Bool.{Bool, true, false, _&&_}
 use mathlib.Core.List.{List, [], _∷_, map}
 use lib.ListN.{length, take, getD, length-append}
 use lib.Seq.{take-at, take-suc}
-use Rattle.definitions.specs.Basics.{bigEndian, all}
+use Rattle.definitions.specs.Basics.{if_then_else_, bigEndian, all}
 use Rattle.definitions.specs.Expression as tree
 use Rattle.definitions.specs.Expression.{left, right}
 use Rattle.definitions.specs.Encode.{sideNumber, planBytes}
@@ -20,7 +20,7 @@ use Rattle.plan_spots.specs.PlanSpots.{extractionSpots}
 use Rattle.plan_spots.specs.Extractions.{ExtractionThere}
 use Rattle.plan_projection.specs.Patches.{putAt, patched, Within}
 use Rattle.plan_projection.specs.Projected.{ListsFit, PlacesAre}
-use Rattle.plan_projection.specs.declared.projecting.Projected.the-variants.{Indexes}
+use Rattle.plan_projection.specs.declared.projecting.Projected.the-variants.{Indexes, Missing}
 use Rattle.plan_projection.proofs.SoundSpots.{AllSound, extraction-sound}
 use Rattle.plan_projection.proofs.PlacedSpots.{movedBy, hasBy, still-sound, all-moved, all-have, found-all, found-not}
 use Rattle.plan_projection.proofs.PlacedPlans.{extraction-have}
@@ -64,18 +64,17 @@ module _ (lists : Lists) {s : List ℕ} {x : Extraction} (X : tree.Extraction) (
     left-sound : AllSound (length (planBytes (tree.extracted X))) (map (movedBy left (lists .ofLeft)) es)
     left-sound = still-sound left (lists .ofLeft) (fit .first) sound
 
-    pub right-lacks : (after : List ℕ) → PlacedIs (sideNumber right) (lists .ofRight) count middle after false → placed lists X ≡ false
-    right-lacks after h =
-        by-sides ∙ ap₂ _&&_ (found .0) (found-not right (lists .ofRight) middle after left-sound room (found .1) h)
-
-    pub all-found : (after : List ℕ) → length after ≡ length middle → PlacedIs (sideNumber right) (lists .ofRight) count middle after true
-        → PlacesAre lists X after (Indexes count)
-    all-found after alike h =
+    -- So the right ones decide.
+    pub right-decides : (after : List ℕ) → length after ≡ length middle → (b : Bool)
+        → PlacedIs (sideNumber right) (lists .ofRight) count middle after b → PlacesAre lists X after (if b then Indexes count else Missing)
+    right-decides after alike true h =
         let second = found-all right (lists .ofRight) middle after left-sound room (found .1) h in (
           by-sides ∙ ap₂ _&&_ (found .0) (second .0),
           omega (arith, room),
           second .1 ∙ ap (map spotNumber) (all-moved lists es),
         )
+    right-decides after alike false h =
+        by-sides ∙ ap₂ _&&_ (found .0) (found-not right (lists .ofRight) middle after left-sound room (found .1) h)
 
 -- ---- into the plan
 
