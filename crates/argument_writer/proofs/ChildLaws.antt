@@ -6,7 +6,8 @@ use mathlib.Core.List.{List}
 use lib.ListN.{length, getD}
 use Rattle.definitions.specs.Expression.{Side, left, right, noSide, Expr, Record, Predicate, relation, distance, knn}
 use Rattle.definitions.specs.Decode.{indexBelow}
-use Rattle.definitions.specs.Match.{onChild, boundOn}
+use Rattle.definitions.specs.Match.{onChild}
+use Rattle.sedona_query_planner.specs.Predicates.{boundOn}
 use Rattle.definitions.specs.Good.{InRange}
 use Rattle.definitions.specs.Exchange.{negate}
 use Rattle.terms.specs.Sides.{joinSide}

@@ -74,7 +74,7 @@ references = 0
 unfoldable pub match : ℕ
 unfolding Match.relationRequest Match.dwithinRequest Match.literalU32 Match.literalK Match.literalBool Match.knnLiterals
     Match.knnRequest Match.callRequest Match.distanceRequest Match.comparisonRequest Match.request Match.commonSide Match.sideOf Match.isSide Match.orderOf
-    Match.onChild Match.matchRelation Match.boundOn Match.storeDistance Match.matchDistance Match.matchKnn Match.matchRequest
+    Match.onChild Match.matchRelation Match.storeDistance Match.matchDistance Match.matchKnn Match.matchRequest
     Match.matchLeaf
 match = 0
 

@@ -1,11 +1,10 @@
 -- Merged frames, and the answers of merge on both sides of each limit, hold by computation.
 use mathlib.Core.Path.{refl}
-use Rattle.definitions.specs.Claims.{markedFrame}
 use Rattle.definitions.specs.MergeRows.{MergeRows}
 use Rattle.definitions.proofs.Everything.{everything}
 
 pub merge-rows-hold : MergeRows
-unfolding everything markedFrame
+unfolding everything
 merge-rows-hold = record {
   merged = refl;
   written = refl;
@@ -26,6 +25,4 @@ merge-rows-hold = record {
   bytes-at = refl;
   bytes-within = refl;
   bytes-over = refl;
-  marked = refl;
-  marked-merged = refl;
 }

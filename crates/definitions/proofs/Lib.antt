@@ -4,6 +4,7 @@ pub mod Table
 pub mod OurRows
 pub mod PlacedRows
 pub mod Nearest
+pub mod Bounds
 pub mod Names
 pub mod Refusals
 pub mod ConsoleLines

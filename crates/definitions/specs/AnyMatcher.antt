@@ -8,7 +8,7 @@ use lib.ListN.{length, take}
 use lib.Dec.{leb}
 use Rattle.definitions.specs.Limits.{mostBytes}
 use Rattle.definitions.specs.Basics.{Result, ok, refused}
-use Rattle.definitions.specs.Expression.{Record, Frame, Extraction, held, extracted}
+use Rattle.definitions.specs.Expression.{Frame, Extraction, held, extracted}
 use Rattle.definitions.specs.Encode.{frameBytes, extractionBytes, planBytes}
 use Rattle.definitions.specs.Match.{matchLeaf}
 use Rattle.definitions.specs.Extract.{Matcher, matchesBy, extractionBy}
@@ -18,12 +18,12 @@ use Rattle.definitions.specs.Machine.{Kind}
 use Rattle.definitions.specs.Good.{AllBytes, GoodPlan}
 use Rattle.definitions.specs.NodeTable.{NodeRecord}
 use Rattle.definitions.specs.Sessions.{Made, extractWith, exchangeWith, makeBy, machineAfterBy, accepted, SessionBy, after, lengthAfter, planAfter, extractedIn, oddIn, answerAfter}
-use Rattle.definitions.specs.Meaning.{Valuation, Meaning, frameValue, extractionValue}
-use Rattle.definitions.specs.Matchers.{Lawful, Symmetric, LeafAsks}
+use Rattle.definitions.specs.Meaning.{Valuation, Meaning, Fair, frameValue, extractionValue}
+use Rattle.definitions.specs.Matchers.{Lawful, Symmetric}
 use Rattle.definitions.specs.Claims.{CallWrote, extractRefusals, RefusedBy, LoadHoldsBy, AgreeBy, someLeafMatchesBy, matchAt, TookAmong, extractedPlan, NamesLeaf, priceLineBy, OnLine, valuesWhen, HasValue}
 
--- The extractions with a matcher; `Asks` is what their values ask of a meaning and of the records.
-pub record Extracts (match : Matcher) (Asks : Meaning → List Record → Type 0) : Type 0 where
+-- The extractions with a matcher; `Asks` is what their values ask of a meaning.
+pub record Extracts (match : Matcher) (Asks : Meaning → Type 0) : Type 0 where
   -- Each takes the first KNN match, failing that the first match,
   pub takes : (F : Frame) (X : Extraction) → extractionBy match F ≡ some X → TookAmong (matchesBy match F) F X
   -- and where there is none no leaf matches.
@@ -34,7 +34,7 @@ pub record Extracts (match : Matcher) (Asks : Meaning → List Record → Type 0
   pub good : (F : Frame) (X : Extraction) → GoodPlan (held F) → extractionBy match F ≡ some X
       → GoodPlan (extracted X) × (length (extractionBytes X) ≤ length (frameBytes F))
   -- It has the frame's value.
-  pub value : (M : Meaning) (v : Valuation) (F : Frame) (X : Extraction) → Asks M (F .records) → GoodPlan (held F)
+  pub value : (M : Meaning) (v : Valuation) (F : Frame) (X : Extraction) → Asks M → GoodPlan (held F)
       → extractionBy match F ≡ some X → extractionValue M v X ≡ frameValue M v F
 
 -- A call with a matcher.
@@ -56,7 +56,7 @@ pub record OneCall (match : Matcher) : Type 0 where
       → RefusedBy extractRefusals (extractBy match n buffer scratch table .answer)
 
 -- Lists of calls with a matcher, from a held frame.
-pub record Lists (match : Matcher) (Asks : Meaning → List Record → Type 0) : Type 0 where
+pub record Lists (match : Matcher) (Asks : Meaning → Type 0) : Type 0 where
   -- An accepted load leaves a session of its frame.
   pub loads : LoadHoldsBy match
   -- Every list gives what the two-bit machine gives.
@@ -104,12 +104,12 @@ pub record Lists (match : Matcher) (Asks : Meaning → List Record → Type 0) :
   pub neverMixed : (F : Frame) (s t : SessionBy match F) (before : List Made) (scratch : List ℕ) (calls : List Made)
       → answerAfter s before (extractWith scratch) ≡ refused 13 → extractedIn t calls ≡ false
   -- The plan has the frame's value, the values of left and right exchanged when odd.
-  pub value : (M : Meaning) → Symmetric M → (v : Valuation) (F : Frame) (s : SessionBy match F) → Asks M (F .records) → (calls : List Made)
+  pub value : (M : Meaning) → Symmetric M → (v : Valuation) (F : Frame) (s : SessionBy match F) → Asks M → (calls : List Made)
       → HasValue M v (planAfter s calls) (frameValue M (valuesWhen (oddIn s calls) v) F)
 
 -- All of it holds of every lawful matcher, and 01's is one.
 abbrev pub AnyMatcher : Type 1
 AnyMatcher =
-    ((match : Matcher) (Asks : Meaning → List Record → Type 0) → Lawful match Asks
+    ((match : Matcher) (Asks : Meaning → Type 0) → Lawful match Asks
     → Extracts match Asks × OneCall match × Lists match Asks)
-    × Lawful matchLeaf LeafAsks
+    × Lawful matchLeaf Fair

@@ -9,7 +9,7 @@ use lib.Dec.{leb, eqb}
 use lib.Count.{ones}
 use Rattle.definitions.specs.Limits.{mostBytes, mostNodes}
 use Rattle.definitions.specs.Basics.{if_then_else_, Result, ok, refused, ascii, sameName, any}
-use Rattle.definitions.specs.Expression.{left, right, noSide, within, Expr, column, call, nil, cons, Frame, Predicate, Extraction, Plan, held, extracted}
+use Rattle.definitions.specs.Expression.{left, right, noSide, within, Expr, column, call, nil, cons, Frame, Predicate, distance, Extraction, Plan, held, extracted}
 use Rattle.definitions.specs.Encode.{exprBytes, frameBytes, predicateKind, extractionBytes, planBytes}
 use Rattle.definitions.specs.Leaves.{leaves}
 use Rattle.definitions.specs.Readers.{read}
@@ -21,9 +21,9 @@ use Rattle.definitions.specs.Exchange.{exchangeFrame, exchangeExtraction
 use Rattle.definitions.specs.Calls.{LoadOutcome, load, Outcome, extract, exchange}
 use Rattle.definitions.specs.NodeTable.{NodeRecord, nodeTable}
 use Rattle.definitions.specs.Machine.{Kind, machinePlan, machineLength, Run}
-use Rattle.definitions.specs.Good.{AllBytes, nodes, Short, Readable, GoodPlan, NoMarks}
+use Rattle.definitions.specs.Good.{AllBytes, nodes, Short, Readable, GoodPlan}
 use Rattle.definitions.specs.Sessions.{Made, extractWith, exchangeWith, make, ListOutcome, machineAfter, accepted, SessionBy, Session, after, lengthAfter, planLeft, planAfter, extractedIn, oddIn, answerAfter}
-use Rattle.definitions.specs.Meaning.{Valuation, Meaning, Fair, andValue, frameValue, extractionValue, planValue, exchangedValues}
+use Rattle.definitions.specs.Meaning.{Valuation, Meaning, Fair, andValue, frameValue, predicateValue, extractionValue, planValue, exchangedValues}
 use Rattle.definitions.specs.Logical.{spatialNames, mask, distinct, logical}
 use Rattle.definitions.specs.Printed.{print}
 use Rattle.definitions.specs.Merge.{merge}
@@ -381,11 +381,11 @@ AndCommutative = (a b : ℕ) → andValue a b ≡ andValue b a
 abbrev pub ExchangeValue : Type 0
 ExchangeValue = (M : Meaning) → Fair M → (v : Valuation) (p : Plan) → planValue M v (exchangePlan p) ≡ planValue M (exchangedValues v) p
 
--- The extraction of a good frame without mark columns has the frame's value.
+-- The extraction of a good frame has the frame's value, mark columns or not (request 8).
 abbrev pub ExtractionValue : Type 0
 ExtractionValue =
     (M : Meaning) → Fair M → (v : Valuation) (F : Frame) (X : Extraction)
-    → NoMarks (F .records) → GoodPlan (held F) → extraction F ≡ some X → extractionValue M v X ≡ frameValue M v F
+    → GoodPlan (held F) → extraction F ≡ some X → extractionValue M v X ≡ frameValue M v F
 
 -- The values that a plan is read with: those of left and right exchanged when accepted exchanges are odd in number.
 abbrev pub valuesWhen : (odd : Bool) → Valuation → Valuation
@@ -398,8 +398,8 @@ HasValue M v plan truth = (p : Plan) × (planOf plan ≡ ok p) × (planValue M v
 -- After any list of calls the plan has the frame's value, the values of left and right exchanged when odd.
 abbrev pub ListValue : Type 0
 ListValue =
-    (M : Meaning) → Fair M → (v : Valuation) (F : Frame) (s : Session F) → NoMarks (F .records)
-    → (calls : List Made) → HasValue M v (planAfter s calls) (frameValue M (valuesWhen (oddIn s calls) v) F)
+    (M : Meaning) → Fair M → (v : Valuation) (F : Frame) (s : Session F) (calls : List Made)
+    → HasValue M v (planAfter s calls) (frameValue M (valuesWhen (oddIn s calls) v) F)
 
 -- A fair meaning exists, and one in which a relation, a distance and KNN hold of some arguments and not of others.
 abbrev pub FairMeaning : Type 0
@@ -426,12 +426,16 @@ markedFrame = record {
   expr = call (ascii "st_dwithin") (cons (column 0 0) (cons (column 1 0) (cons (column 2 0) nil)));
 }
 
--- Why mark columns are left out: in a fair meaning that frame can be true and its extraction, which copies the bound's own column number,
--- false.
-abbrev pub MarksDiffer : Type 0
-MarksDiffer =
-    (M : Meaning) × Fair M × (v : Valuation)
-    × (frameValue M v markedFrame ≡ 1) × (Option·map (extractionValue M v) (extraction markedFrame) ≡ some 0)
+-- The predicate that the Rust takes from it: the bound is copied with the filter's own column number.
+unfoldable pub markCopied : Predicate
+markCopied = distance 0 noSide (column 5 0) (column 0 0) (column 2 0)
+
+-- Why a bound of mark columns does not match (request 8): in a fair meaning that frame can be true and the copied predicate false. So it
+-- has no extraction.
+abbrev pub MarksStay : Type 0
+MarksStay =
+    (extraction markedFrame ≡ none)
+    × ((M : Meaning) × Fair M × (v : Valuation) × (frameValue M v markedFrame ≡ 1) × (predicateValue M v markCopied ≡ 0))
 
 -- ---- the logical call
 

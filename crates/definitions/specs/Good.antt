@@ -154,8 +154,3 @@ pub record GoodPlan (p : Plan) : Type 0 where
   pub readable : ReadablePlan p
   pub fewNodes : planNodes p ≤ mostNodes
   pub fewBytes : length (planBytes p) ≤ mostBytes
-
--- No record is a mark column.
-abbrev pub NoMarks : List Record → Type 0
-NoMarks [] = Unit {0}
-NoMarks (r ∷ rs) = (r .side ≡ noSide → ⊥) × NoMarks rs

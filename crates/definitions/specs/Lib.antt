@@ -58,3 +58,4 @@ pub mod TableRows
 pub mod ProjectClaims
 pub mod ProjectRows
 pub mod PruningClaims
+pub mod BoundRows

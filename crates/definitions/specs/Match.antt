@@ -134,22 +134,18 @@ matchRelation type a b leftRight = some (relation type a b)
 matchRelation type a b rightLeft = some (relation (invert type) b a)
 matchRelation type a b noOrder = none
 
--- A distance's bound on its child; one of side none is copied.
-unfoldable pub boundOn : List Record → Side → (bound : Expr) → Expr
-boundOn records left bound = onChild records bound
-boundOn records right bound = onChild records bound
-boundOn records noSide bound = bound
-
 -- The left geometry is stored first.
 unfoldable pub storeDistance : (form : ℕ) → Side → (first second bound : Expr) → Order → Option Predicate
 storeDistance form side a b bound leftRight = some (distance form side a b bound)
 storeDistance form side a b bound rightLeft = some (distance form side b a bound)
 storeDistance form side a b bound noOrder = none
 
--- A distance needs also a defined side of its bound; one without columns has side none.
+-- A distance with at least one column needs side left or right (request 8); one without columns has side none and is copied.
 unfoldable pub matchDistance : List Record → (form : ℕ) → (first second bound : Expr) → ArgumentSide → Order → Option Predicate
 matchDistance records form a b bound noColumns order = storeDistance form noSide a b bound order
-matchDistance records form a b bound (allOn side) order = storeDistance form side a b (boundOn records side bound) order
+matchDistance records form a b bound (allOn left) order = storeDistance form left a b (onChild records bound) order
+matchDistance records form a b bound (allOn right) order = storeDistance form right a b (onChild records bound) order
+matchDistance records form a b bound (allOn noSide) order = none
 matchDistance records form a b bound mixed order = none
 
 -- KNN stores its first argument first, with its side as probe side.

@@ -9,8 +9,8 @@ use Rattle.definitions.specs.Encode.{exprBytes, predicateFields}
 use Rattle.definitions.specs.Decode.{indexBelow}
 use Rattle.definitions.specs.Extract.{Matcher}
 use Rattle.definitions.specs.Exchange.{exchangeRecord, exchangePredicate}
-use Rattle.definitions.specs.Good.{nodes, InRange, Readable, RecordsInRange, ReadablePredicate, predicateNodes, NoMarks}
-use Rattle.definitions.specs.Meaning.{Valuation, Meaning, value, frameColumns, predicateValue, exchangedValues, Fair}
+use Rattle.definitions.specs.Good.{nodes, InRange, Readable, RecordsInRange, ReadablePredicate, predicateNodes}
+use Rattle.definitions.specs.Meaning.{Valuation, Meaning, value, frameColumns, predicateValue, exchangedValues}
 
 -- A match in range, with its first byte of at most so many bytes, and of at most so many nodes.
 abbrev pub Fits : (room size : ℕ) → Option Predicate → Type 0
@@ -22,8 +22,8 @@ abbrev pub Valued : Meaning → Valuation → (truth : ℕ) → Option Predicate
 Valued M v truth none = Unit {0}
 Valued M v truth (some p) = truth ≡ predicateValue M v p
 
--- The laws of a matcher; `Asks` is what its values ask of a meaning and of the records.
-pub record Lawful (match : Matcher) (Asks : Meaning → List Record → Type 0) : Type 0 where
+-- The laws of a matcher; `Asks` is what its values ask of a meaning.
+pub record Lawful (match : Matcher) (Asks : Meaning → Type 0) : Type 0 where
   -- Exchange respects it: over exchanged records the match of a leaf is the exchanged match.
   pub turns : (records : List Record) (leaf : Expr)
       → match (map exchangeRecord records) leaf ≡ Option·map exchangePredicate (match records leaf)
@@ -31,13 +31,9 @@ pub record Lawful (match : Matcher) (Asks : Meaning → List Record → Type 0) 
   pub fits : (records : List Record) (leaf : Expr) → RecordsInRange records → Readable (indexBelow (length records)) leaf
       → Fits (length (exprBytes leaf)) (nodes leaf) (match records leaf)
   -- Meaning respects it: the match of a leaf in range has the leaf's value.
-  pub means : (M : Meaning) (v : Valuation) (records : List Record) (leaf : Expr) → Asks M records
+  pub means : (M : Meaning) (v : Valuation) (records : List Record) (leaf : Expr) → Asks M
       → InRange (indexBelow (length records)) leaf → Valued M v (value M (frameColumns v records) leaf) (match records leaf)
 
 -- A meaning that exchange respects: an exchanged predicate has the predicate's value, those of left and right columns exchanged.
 abbrev pub Symmetric : Meaning → Type 0
 Symmetric M = (v : Valuation) (p : Predicate) → predicateValue M v (exchangePredicate p) ≡ predicateValue M (exchangedValues v) p
-
--- What `matchLeaf` asks: a fair meaning, and no mark column among the records.
-abbrev pub LeafAsks : Meaning → List Record → Type 0
-LeafAsks M records = Fair M × NoMarks records

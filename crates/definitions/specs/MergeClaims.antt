@@ -7,14 +7,14 @@ use lib.ListN.{length, take}
 use lib.Dec.{leb}
 use Rattle.definitions.specs.Limits.{mostBytes}
 use Rattle.definitions.specs.Basics.{ok}
-use Rattle.definitions.specs.Expression.{Record, Frame, held}
+use Rattle.definitions.specs.Expression.{Frame, held}
 use Rattle.definitions.specs.Encode.{frameBytes, planBytes}
 use Rattle.definitions.specs.Leaves.{leaves}
 use Rattle.definitions.specs.Plans.{frameOf}
 use Rattle.definitions.specs.Match.{matchLeaf}
 use Rattle.definitions.specs.Extract.{Matcher, matchesOf}
 use Rattle.definitions.specs.Calls.{tableFits, Outcome, heldPlan}
-use Rattle.definitions.specs.Good.{AllBytes, nodes, GoodPlan, NoMarks}
+use Rattle.definitions.specs.Good.{AllBytes, nodes, GoodPlan}
 use Rattle.definitions.specs.NodeTable.{NodeRecord}
 use Rattle.definitions.specs.Sessions.{Made, callsRunBy, machineAfterBy, accepted, SessionBy, Session, after, planAfter, extractedIn, oddIn}
 use Rattle.definitions.specs.Meaning.{Valuation, Meaning, Fair, andValue, frameValue}
@@ -38,12 +38,12 @@ MergedValue =
     (M : Meaning) (v : Valuation) (old new : Frame) → GoodPlan (held old)
     → frameValue M v (mergeFrames old new) ≡ andValue (frameValue M v old) (frameValue M v new)
 
--- Its AND-leaves are the held ones and then the new ones; without mark columns in the new frame each matches as it did in its own.
+-- Its AND-leaves are the held ones and then the new ones, and each matches as it did in its own frame.
 abbrev pub MergedLeaves : Type 0
 MergedLeaves =
     (old new : Frame) → GoodPlan (held old) → GoodPlan (held new)
     → (leaves (mergeFrames old new .expr) ≡ leaves (old .expr) ++ map (raised (length (old .records))) (leaves (new .expr)))
-    × (NoMarks (new .records) → matchesOf (mergeFrames old new) ≡ matchesOf old ++ matchesOf new)
+    × (matchesOf (mergeFrames old new) ≡ matchesOf old ++ matchesOf new)
 
 -- ---- the call
 
@@ -128,7 +128,7 @@ ListAfterMerge = ListAfterMergeBy matchLeaf
 abbrev pub ValueAfterMerge : Type 0
 ValueAfterMerge =
     (M : Meaning) → Fair M → (v : Valuation) (old new : Frame) (s : Session (mergeFrames old new)) → GoodPlan (held old)
-    → NoMarks (old .records) → NoMarks (new .records) → (calls : List Made)
+    → (calls : List Made)
     → HasValue M v (planAfter s calls)
     (andValue (frameValue M (valuesWhen (oddIn s calls) v) old) (frameValue M (valuesWhen (oddIn s calls) v) new))
 
@@ -150,4 +150,4 @@ HistoryOfCalls = HistoryOfCallsBy matchLeaf
 -- Both hold with any lawful matcher.
 abbrev pub AnyMatcherMerges : Type 1
 AnyMatcherMerges =
-    (match : Matcher) (Asks : Meaning → List Record → Type 0) → Lawful match Asks → ListAfterMergeBy match × HistoryOfCallsBy match
+    (match : Matcher) (Asks : Meaning → Type 0) → Lawful match Asks → ListAfterMergeBy match × HistoryOfCallsBy match

@@ -3,15 +3,12 @@ use Prim.Native.Nat.{ℕ, zero, suc}
 use mathlib.Core.Path.{_≡_}
 use mathlib.Core.Bool.{true, false}
 use mathlib.Core.List.{List, [], _∷_, _++_}
-use mathlib.Core.Option.{none, some}
 use lib.ListN.{length, take, replicate}
 use Rattle.definitions.specs.Basics.{Result, ok, refused, ascii}
-use Rattle.definitions.specs.Expression.{left, noSide, Expr, column, and, call, other, Exprs, nil, cons, Frame, distance}
+use Rattle.definitions.specs.Expression.{left, Expr, column, and, call, other, Exprs, nil, cons, Frame}
 use Rattle.definitions.specs.Encode.{frameBytes}
-use Rattle.definitions.specs.Extract.{matchesOf}
 use Rattle.definitions.specs.Calls.{Outcome, extract}
 use Rattle.definitions.specs.NodeTable.{nodeTable, blank}
-use Rattle.definitions.specs.Claims.{markedFrame}
 use Rattle.definitions.specs.Merge.{mergeFrames, overLimits, MergeOutcome, merge}
 use Rattle.definitions.specs.RefusalTable.{ands, tree, over, matchingFrame, matching}
 
@@ -94,7 +91,3 @@ pub record MergeRows : Type 0 where
   pub bytes-at : length (frameBytes (mergeFrames large (larger 12))) ≡ 16384
   pub bytes-within : overLimits (mergeFrames large (larger 12)) ≡ false
   pub bytes-over : overLimits (mergeFrames large (larger 13)) ≡ true
-  -- why mark columns are left out of `MergedLeaves`: a distance of side none is copied with the filter's own column number, here raised
-  pub marked : matchesOf markedFrame ≡ some (distance 0 noSide (column 5 0) (column 0 0) (column 2 0)) ∷ []
-  pub marked-merged : matchesOf (mergeFrames (frameOver 1 (other 0 nil)) markedFrame)
-      ≡ none ∷ some (distance 0 noSide (column 5 0) (column 0 0) (column 3 0)) ∷ []

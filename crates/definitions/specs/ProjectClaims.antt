@@ -7,13 +7,13 @@ use mathlib.Core.Option.{Option, none, some, Option·map}
 use lib.ListN.{length, take, getD}
 use Rattle.definitions.specs.Limits.{mostItems}
 use Rattle.definitions.specs.Basics.{ok}
-use Rattle.definitions.specs.Expression.{left, right, noSide, Record, Frame, Extraction, extracted}
+use Rattle.definitions.specs.Expression.{left, right, noSide, Frame, Extraction, extracted}
 use Rattle.definitions.specs.Encode.{planBytes}
 use Rattle.definitions.specs.Match.{matchLeaf}
 use Rattle.definitions.specs.Extract.{Matcher}
 use Rattle.definitions.specs.Exchange.{exchangeExtraction}
 use Rattle.definitions.specs.Calls.{Outcome, heldPlan}
-use Rattle.definitions.specs.Good.{AllBytes, GoodPlan, NoMarks}
+use Rattle.definitions.specs.Good.{AllBytes, GoodPlan}
 use Rattle.definitions.specs.NodeTable.{NodeRecord}
 use Rattle.definitions.specs.Sessions.{Made, fed, ListOutcome, callsRunBy, accepted, exchangesOdd, SessionBy, Session, after, planLeft, oddIn}
 use Rattle.definitions.specs.Meaning.{Valuation, Meaning, Fair, frameValue, extractionValue}
@@ -154,9 +154,9 @@ projectAfter s before lists scratch = projectBy lists (after s before .n) (after
 
 -- From a held frame: after any list of calls, an accepted projection and any list after it, with any table, the plan has over the new
 -- columns the value that the frame had over its own; the columns that are projected are the frame's, exchanged when odd before.
-abbrev pub ListProjectedBy : Matcher → (Asks : Meaning → List Record → Type 0) → Type 0
+abbrev pub ListProjectedBy : Matcher → (Asks : Meaning → Type 0) → Type 0
 ListProjectedBy match Asks =
-    (M : Meaning) → Symmetric M → (v w : Valuation) (F : Frame) (s : SessionBy match F) → Asks M (F .records)
+    (M : Meaning) → Symmetric M → (v w : Valuation) (F : Frame) (s : SessionBy match F) → Asks M
     → (before : List Made) (lists : Lists) (scratch : List ℕ) (table : List NodeRecord) (later : List Made)
     → let o : Outcome = projectAfter s before lists scratch in
     accepted (o .answer) ≡ true → ValueFrom match o table later lists M (valuesWhen (oddIn s before) v) w (frameValue M v F)
@@ -164,12 +164,12 @@ ListProjectedBy match Asks =
 -- It does with any lawful matcher,
 abbrev pub AnyMatcherProjects : Type 1
 AnyMatcherProjects =
-    (match : Matcher) (Asks : Meaning → List Record → Type 0) → Lawful match Asks → ListProjectedBy match Asks
+    (match : Matcher) (Asks : Meaning → Type 0) → Lawful match Asks → ListProjectedBy match Asks
 
--- and with `matchLeaf` in every fair meaning, for frames without mark columns.
+-- and with `matchLeaf` in every fair meaning.
 abbrev pub ListProjectedValue : Type 0
 ListProjectedValue =
-    (M : Meaning) → Fair M → (v w : Valuation) (F : Frame) (s : Session F) → NoMarks (F .records)
+    (M : Meaning) → Fair M → (v w : Valuation) (F : Frame) (s : Session F)
     → (before : List Made) (lists : Lists) (scratch : List ℕ) (table : List NodeRecord) (later : List Made)
     → let o : Outcome = projectAfter s before lists scratch in
     accepted (o .answer) ≡ true → ValueFrom matchLeaf o table later lists M (valuesWhen (oddIn s before) v) w (frameValue M v F)

@@ -6,7 +6,7 @@ use mathlib.Core.List.{List, [], _∷_, _++_}
 use lib.ListN.{length, take}
 use Rattle.definitions.specs.Limits.{mostNodes}
 use Rattle.definitions.specs.Basics.{ok, refused}
-use Rattle.definitions.specs.Expression.{Record, Frame, Extraction, held, extracted}
+use Rattle.definitions.specs.Expression.{Frame, Extraction, held, extracted}
 use Rattle.definitions.specs.Encode.{frameBytes}
 use Rattle.definitions.specs.Exchange.{exchangeFrame}
 use Rattle.definitions.specs.Extract.{Matcher}
@@ -55,7 +55,7 @@ BeginsExactly =
 -- From a held frame, after any list of calls with a lawful matcher, the table fits what is held then, for exchange moves no node.
 abbrev pub TableStays : Type 1
 TableStays =
-    (match : Matcher) (Asks : Meaning → List Record → Type 0) → Lawful match Asks
+    (match : Matcher) (Asks : Meaning → Type 0) → Lawful match Asks
     → (F : Frame) (s : SessionBy match F) (calls : List Made)
     → tableFits (s .table) (heldPlan (after s calls .n) (after s calls .buffer)) ≡ true
 

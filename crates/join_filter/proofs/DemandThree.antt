@@ -15,7 +15,7 @@ use Rattle.definitions.specs.Extract.{Matcher, matchesOf}
 use Rattle.definitions.specs.Match.{matchLeaf}
 use Rattle.definitions.specs.Calls.{LoadOutcome, load, Outcome, heldPlan}
 use Rattle.definitions.specs.Machine.{extractCall, exchangeCall}
-use Rattle.definitions.specs.Good.{AllBytes, NoMarks}
+use Rattle.definitions.specs.Good.{AllBytes}
 use Rattle.definitions.specs.Sessions.{Made, fed, makeBy, make, ListOutcome, callsRunBy, callsRun, machineAfter, accepted, extractAccepted, exchangesOdd, Session, after, planLeft}
 use Rattle.definitions.specs.Meaning.{Valuation, Meaning, Fair, frameValue, extractionValue}
 use Rattle.definitions.specs.Claims.{LeavesSession, Agree, someLeafMatches, Took, extractedPlan, NamesLeaf, priceLine, valuesWhen, HasValue}
@@ -164,19 +164,19 @@ module _ (F : Frame) where
       ∙ sym (ap (λ (x : ListOutcome). exchangesOdd calls′ (x .answers)) is′))
       ∙ ap planLeft is′
 
-  value-projected : (M : Meaning) → Fair M → (v w : Valuation) → NoMarks (F .records) → (calls : List Made) (r : CodeRun F calls)
+  value-projected : (M : Meaning) → Fair M → (v w : Valuation) (calls : List Made) (r : CodeRun F calls)
       (lists : ChildLists) (scratch kept : List ℕ) (a : Lent) → ProjectIs lists (r .last) scratch kept a
       → (later : List Made) (answers : List Answer) (last : Lent) → Ran a (map making later) answers last
       → NewColumns lists (valuesWhen (odd r) v) (valuesWhen (exchangesOdd later (map answerOf answers)) w)
       → HasValue M w (planLeft (ranTo answers last)) (frameValue M v F)
-  value-projected M fair v w marks calls r lists scratch kept a is later answers last ran =
+  value-projected M fair v w calls r lists scratch kept a is later answers last ran =
       subst (λ (x : ListOutcome). NewColumns lists (valuesWhen (odd r) v) (valuesWhen (exchangesOdd later (x .answers)) w)
       → HasValue M w (planLeft x) (frameValue M v F)) (from-projected lists (r .last) scratch kept a is later ran)
       (told
       (λ (x : ListOutcome). accepted (projectBy lists (x .n) (x .buffer) scratch .answer) ≡ true
       → ValueFrom matchLeaf (projectBy lists (x .n) (x .buffer) scratch) (a .table) later lists M
       (valuesWhen (exchangesOdd calls (x .answers)) v) w (frameValue M v F))
-      (λ s. list-projected-has-value M fair v w F s marks calls lists scratch (a .table) later) r
+      (λ s. list-projected-has-value M fair v w F s calls lists scratch (a .table) later) r
       (projects lists (r .last) scratch kept a is))
 
   demand-three : DemandThree F
@@ -184,9 +184,9 @@ module _ (F : Frame) where
     size = λ calls r. size-is (r .start) (r .starts);
     machine = λ calls. told (λ (x : ListOutcome). Agree F x (machineAfter F calls)) (λ s. list-of-calls F s calls);
     samePlan = plans-alike;
-    truth = λ M fair v marks calls.
+    truth = λ M fair v calls.
         told (λ (x : ListOutcome). HasValue M v (planLeft x) (frameValue M (valuesWhen (exchangesOdd calls (x .answers)) v) F))
-        (λ s. list-has-value M fair v F s marks calls);
+        (λ s. list-has-value M fair v F s calls);
     exchangeAccepted = λ calls r scratch buffer′ scratch′ a is.
         sym (ap (λ (x : Outcome). accepted (x .answer)) is)
         ∙ told-with

@@ -15,7 +15,7 @@ use Rattle.definitions.specs.Extract.{matchesOf}
 use Rattle.definitions.specs.Calls.{tableFits, heldPlan}
 use Rattle.definitions.specs.NodeTable.{NodeRecord}
 use Rattle.definitions.specs.Machine.{extractCall, exchangeCall}
-use Rattle.definitions.specs.Good.{AllBytes, NoMarks}
+use Rattle.definitions.specs.Good.{AllBytes}
 use Rattle.definitions.specs.Sessions.{Made, fed, make, ListOutcome, machineAfter, accepted, extractAccepted, exchangesOdd, planLeft}
 use Rattle.definitions.specs.Meaning.{Valuation, Meaning, Fair, frameValue, extractionValue}
 use Rattle.definitions.specs.Claims.{Agree, someLeafMatches, Took, extractedPlan, NamesLeaf, priceLine, valuesWhen, HasValue}
@@ -107,8 +107,8 @@ pub record DemandThree (F : Frame) : Type 0 where
   pub samePlan : (calls calls′ : List Made) (r : CodeRun F calls) (r′ : CodeRun F calls′)
       → extracted r ≡ extracted r′ → odd r ≡ odd r′ → plan r ≡ plan r′
   -- The plan has the frame's truth value, sides exchanged when odd.
-  pub truth : (M : Meaning) → Fair M → (v : Valuation) → NoMarks (F .records)
-      → (calls : List Made) (r : CodeRun F calls) → HasValue M v (plan r) (frameValue M (valuesWhen (odd r) v) F)
+  pub truth : (M : Meaning) → Fair M → (v : Valuation) (calls : List Made) (r : CodeRun F calls)
+      → HasValue M v (plan r) (frameValue M (valuesWhen (odd r) v) F)
   -- An exchange is accepted exactly when its scratch is at least as long as the plan;
   pub exchangeAccepted : (calls : List Made) (r : CodeRun F calls) (scratch buffer′ scratch′ : List ℕ) (a : Answer)
       → OutcomeIs (make exchangeCall (r .last .n) (r .last .buffer) scratch (r .last .table)) (r .last .n) buffer′ scratch′ a
@@ -127,7 +127,7 @@ pub record DemandThree (F : Frame) : Type 0 where
       → (line : ℕ) × (priceLine F ≡ some line) × (take 1 (plan r) ≡ line ∷ [])
   -- A projection after the list (request 7), and any list after it: the plan has over the new columns, exchanged when odd, the truth value
   -- that the frame has over its own; the columns that are projected are the frame's, exchanged when odd.
-  pub projected : (M : Meaning) → Fair M → (v w : Valuation) → NoMarks (F .records) → (calls : List Made) (r : CodeRun F calls)
+  pub projected : (M : Meaning) → Fair M → (v w : Valuation) (calls : List Made) (r : CodeRun F calls)
       (lists : ChildLists) (scratch kept : List ℕ) (a : Lent) → ProjectIs lists (r .last) scratch kept a
       → (later : List Made) (answers : List Answer) (last : Lent) → Ran a (map making later) answers last
       → NewColumns lists (valuesWhen (odd r) v) (valuesWhen (exchangesOdd later (map answerOf answers)) w)

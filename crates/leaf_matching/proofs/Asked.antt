@@ -7,7 +7,7 @@ use mathlib.Core.Logic.{_⊎_, inl, inr, ⊎-elim}
 use mathlib.Core.Option.{Option, none, some, Option·some-ne-none}
 use lib.Dec.{eqb}
 use Rattle.definitions.specs.Basics.{ascii, sameName}
-use Rattle.definitions.specs.Expression.{Relation, Expr, Exprs, nil, cons, call, Side, Record, Predicate, relation, distance, knn}
+use Rattle.definitions.specs.Expression.{Relation, Expr, Exprs, nil, cons, call, Side, left, right, noSide, Record, Predicate, relation, distance, knn}
 use Rattle.definitions.specs.Leaves.{relationNamed, Comparison, compares, noComparison, distanceArguments}
 use Rattle.definitions.specs.Match.{Request, askRelation, askDistance, askKnn, askNothing, relationRequest, dwithinRequest, knnLiterals, knnRequest, callRequest, distanceRequest, comparisonRequest, request, Order, leftRight, rightLeft, noOrder, ArgumentSide, noColumns, allOn, mixed, matchRelation, storeDistance, matchDistance, matchKnn, matchRequest, matchLeaf}
 use Rattle.definitions.specs.Extract.{isKnn}
@@ -44,7 +44,9 @@ module _ (kind : Predicate → Bool) (records : List Record) where
       → Lacks kind (matchDistance records form l r bound side o)
   unfolding matchDistance
   distance-lacks form l r bound noColumns o f = stored-lacks form _ l r _ o f
-  distance-lacks form l r bound (allOn side) o f = stored-lacks form _ l r _ o f
+  distance-lacks form l r bound (allOn left) o f = stored-lacks form _ l r _ o f
+  distance-lacks form l r bound (allOn right) o f = stored-lacks form _ l r _ o f
+  distance-lacks form l r bound (allOn noSide) o f = tt
   distance-lacks form l r bound mixed o f = tt
 
   knn-lacks : (k spheroid ties : ℕ) (l r : Expr) (o : Order) → ((probe : Side) → kind (knn k spheroid probe ties l r) ≡ false)

@@ -7,10 +7,10 @@ use mathlib.Core.List.{List}
 use mathlib.Core.Option.{Option, none, some}
 use lib.ListN.{length}
 use Rattle.definitions.specs.Expression.{Expr, Record, Predicate, distance}
-use Rattle.sedona_query_planner.specs.Predicates.{onChildren, ArgumentAt}
+use Rattle.sedona_query_planner.specs.Predicates.{boundOn, onChildren, ArgumentAt}
 use Rattle.definitions.specs.Decode.{indexBelow}
 use Rattle.definitions.specs.Match as definition
-use Rattle.definitions.specs.Match.{request, sideOf, orderOf, onChild, boundOn, storeDistance, matchDistance, matchRequest, matchLeaf}
+use Rattle.definitions.specs.Match.{request, sideOf, orderOf, onChild, storeDistance, matchDistance, matchRequest, matchLeaf}
 use Rattle.expression.specs.Nodes.{Spans, OfTreeIn}
 use Rattle.sedona_expr.specs.Parsed as parsed
 use Rattle.sedona_expr.specs.Parsed.{ParsedIs}
@@ -23,7 +23,7 @@ use Rattle.argument_sides.specs.Sides.{argumentSide, order, ArgumentIs}
 use Rattle.leaf_matching.specs.Distances.{distanceSide}
 use Rattle.leaf_matching.specs.Matches.{isDistance, Lacks, LeafMatching}
 use Rattle.terms.specs.declared.sides.JoinSide.{JoinSide}
-use Rattle.terms.specs.declared.sides.JoinSide.the-variants.{None}
+use Rattle.terms.specs.declared.sides.JoinSide.the-variants.{Left, Right, None}
 use Rattle.leaf_matching.specs.declared.distance.DistanceSide.{DistanceSide}
 use Rattle.leaf_matching.specs.declared.distance.DistanceSide.the-variants.{Known, Undefined}
 use Rattle.argument_sides.specs.declared.sides.Sides.{Sides}
@@ -58,7 +58,9 @@ module _ (records : List Record) (form : ℕ) (a b bound : Expr) where
       → matchDistance records form a b bound (argumentSide z) o ≡ stores side o
   unfolding matchDistance boundOn
   side-match NoColumns o side e = let same : None ≡ side = cc in ap (λ (x : JoinSide). stores x o) same
-  side-match (AllOn one) o side e = let same : one ≡ side = cc in ap (λ (x : JoinSide). stores x o) same
+  side-match (AllOn Left) o side e = let same : Left ≡ side = cc in ap (λ (x : JoinSide). stores x o) same
+  side-match (AllOn Right) o side e = let same : Right ≡ side = cc in ap (λ (x : JoinSide). stores x o) same
+  side-match (AllOn None) o side e = let z : _≡_ {A = ℕ} 0 1 = cc in absurd (omega arith)
   side-match Mixed o side e = let z : _≡_ {A = ℕ} 0 1 = cc in absurd (omega arith)
 
   -- Without one there is no match.
@@ -66,7 +68,9 @@ module _ (records : List Record) (form : ℕ) (a b bound : Expr) where
       → matchDistance records form a b bound (argumentSide z) o ≡ none
   unfolding matchDistance
   undefined-match NoColumns o e = let z : _≡_ {A = ℕ} 0 1 = cc in absurd (omega arith)
-  undefined-match (AllOn one) o e = let z : _≡_ {A = ℕ} 0 1 = cc in absurd (omega arith)
+  undefined-match (AllOn Left) o e = let z : _≡_ {A = ℕ} 0 1 = cc in absurd (omega arith)
+  undefined-match (AllOn Right) o e = let z : _≡_ {A = ℕ} 0 1 = cc in absurd (omega arith)
+  undefined-match (AllOn None) o e = refl
   undefined-match Mixed o e = refl
 
 -- ---- its arguments

@@ -7,15 +7,14 @@ use mathlib.Core.List.{List}
 use mathlib.Core.Option.{none, some}
 use Rattle.definitions.specs.Basics.{ascii, sameName}
 use Rattle.definitions.specs.Expression.{Expr, call, Exprs, nil, cons, count, Record, knn}
-use Rattle.definitions.specs.Match.{askNothing, knnRequest, callRequest, request, onChild, boundOn, matchKnn, matchRequest, matchLeaf}
+use Rattle.definitions.specs.Match.{askNothing, knnRequest, callRequest, request, onChild, matchKnn, matchRequest, matchLeaf}
 use Rattle.definitions.specs.Extract.{isKnn}
 use Rattle.definitions.specs.Exchange.{negate}
 use Rattle.expression.specs.Nodes.{OfTrees}
 use Rattle.terms.specs.Sides.{joinSide}
 use Rattle.argument_sides.specs.Sides.{order, GeometriesAre}
-use Rattle.sedona_query_planner.specs.Predicates.{flag}
+use Rattle.sedona_query_planner.specs.Predicates.{boundOn, flag, tiesNumber}
 use Rattle.leaf_matching.specs.KnnOptions.{asked, OptionsAre}
-use Rattle.sedona_query_planner.specs.Predicates.{tiesNumber}
 use Rattle.leaf_matching.specs.Matches.{Lacks, CallMatching}
 use Rattle.argument_sides.specs.Frames.{OfFrameTwo, CallOver}
 use Rattle.leaf_matching.specs.declared.matching.Matching.the-variants.{Matched, Unmatched}

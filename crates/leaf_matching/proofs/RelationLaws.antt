@@ -9,7 +9,8 @@ use Rattle.definitions.specs.Basics.{ascii, sameName, any}
 use Rattle.definitions.specs.Expression.{relations, call, Exprs, nil, cons, count, Record, relation}
 use Rattle.definitions.specs.Expression as definition
 use Rattle.definitions.specs.Leaves.{typeNamed, relationNamed}
-use Rattle.definitions.specs.Match.{relationRequest, callRequest, request, askNothing, invert, onChild, boundOn, matchRelation, matchRequest, matchLeaf}
+use Rattle.definitions.specs.Match.{relationRequest, callRequest, request, askNothing, invert, onChild, matchRelation, matchRequest, matchLeaf}
+use Rattle.sedona_query_planner.specs.Predicates.{boundOn}
 use Rattle.theorems.proofs.Requests.{same-name}
 use Rattle.expression.specs.Places.{part}
 use Rattle.expression.specs.declared.leaves.Called.{Called}

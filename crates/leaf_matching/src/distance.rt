@@ -18,19 +18,23 @@ use sedona_query_planner::spatial_predicate::DistancePredicate;
 use sedona_query_planner::spatial_predicate::SpatialPredicate;
 use terms::sides::JoinSide;
 
-// The side of a distance; undefined if its columns differ.
+// The side of a distance; undefined if its columns differ or are mark columns.
 pub enum DistanceSide {
     Known(JoinSide),
     Undefined,
 }
 
-// Without columns it is none.
+// Without columns it is none. With mark columns alone the Rust has none too, and copies their numbers in the filter.
 fn side_of_distance(of: Sides) -> DistanceSide
     ensures { λ r. ⌜ r ≡ distanceSide of ⌝ }
 {
     match of {
         Sides::NoColumns => DistanceSide::Known(JoinSide::None),
-        Sides::AllOn(side) => DistanceSide::Known(side),
+        Sides::AllOn(side) => match side {
+            JoinSide::Left => DistanceSide::Known(JoinSide::Left),
+            JoinSide::Right => DistanceSide::Known(JoinSide::Right),
+            JoinSide::None => DistanceSide::Undefined,
+        },
         Sides::Mixed => DistanceSide::Undefined,
     }
 }

@@ -10,7 +10,7 @@ use Rattle.definitions.specs.Limits.{twoBytes}
 use Rattle.definitions.specs.Expression as tree
 use Rattle.definitions.specs.Expression.{Expr, Record, Predicate, relation, distance, knn}
 use Rattle.definitions.specs.Decode.{indexBelow}
-use Rattle.definitions.specs.Match.{boundOn}
+use Rattle.definitions.specs.Match.{onChild}
 use Rattle.definitions.specs.Exchange.{negate, exchangePredicate}
 use Rattle.terms.specs.Sides.{joinSide}
 use Rattle.expression.specs.Nodes.{Spans}
@@ -49,6 +49,12 @@ pub record Change : Type 0 where
 -- It stays as it is.
 abbrev pub unchanged : Change
 unchanged = record { below = twoBytes; to = λ side t. t }
+
+-- An argument of a side on its child; one of side none is copied.
+unfoldable pub boundOn : List Record → tree.Side → Expr → Expr
+boundOn records tree.left t = onChild records t
+boundOn records tree.right t = onChild records t
+boundOn records tree.noSide t = t
 
 -- It is put on its child, or copied if its side is none.
 abbrev pub onChildren : List Record → Change

@@ -7,7 +7,7 @@ use mathlib.Core.Option.{Option, none, some}
 use lib.ListN.{length}
 use lib.Dec.{leb}
 use Rattle.definitions.specs.Basics.{if_then_else_, Result}
-use Rattle.definitions.specs.Expression.{Record, Frame, Extraction}
+use Rattle.definitions.specs.Expression.{Frame, Extraction}
 use Rattle.definitions.specs.Extract.{Matcher, extractionBy}
 use Rattle.definitions.specs.Encode.{planBytes}
 use Rattle.definitions.specs.Calls.{Outcome}
@@ -148,7 +148,7 @@ in-place match n buffer table (b ∷ bs) c later =
 abbrev pub told : {match : Matcher} {F : Frame} → SessionBy match F → List Made → Bits
 told s calls = bits (extractedIn s calls) (oddIn s calls)
 
-module _ {match : Matcher} {Asks : Meaning → List Record → Type 0} (laws : Lawful match Asks) {F : Frame} (s : SessionBy match F) where
+module _ {match : Matcher} {Asks : Meaning → Type 0} (laws : Lawful match Asks) {F : Frame} (s : SessionBy match F) where
   -- They are the machine's bits.
   pub bits-told : (calls : List Made) → machineAfterBy match F calls .bits ≡ told s calls
   bits-told calls =
@@ -183,7 +183,7 @@ module _ {match : Matcher} {Asks : Meaning → List Record → Type 0} (laws : L
       )
       (extract-accepts match F (machineAfterBy match F before .bits) (length scratch))
 
-pub plans-same : {match : Matcher} {Asks : Meaning → List Record → Type 0} (laws : Lawful match Asks) {F : Frame} (s t : SessionBy match F)
+pub plans-same : {match : Matcher} {Asks : Meaning → Type 0} (laws : Lawful match Asks) {F : Frame} (s t : SessionBy match F)
     (calls calls′ : List Made)
     → extractedIn s calls ≡ extractedIn t calls′ → oddIn s calls ≡ oddIn t calls′ → planAfter s calls ≡ planAfter t calls′
 plans-same {match} laws {F} s t calls calls′ e o =

@@ -2,7 +2,7 @@
 use mathlib.Core.Path.{_≡_, ap, _∙_, subst}
 use mathlib.Core.List.{List}
 use Rattle.definitions.specs.Basics.{ok}
-use Rattle.definitions.specs.Expression.{Record, Frame}
+use Rattle.definitions.specs.Expression.{Frame}
 use Rattle.definitions.specs.Plans.{planOf}
 use Rattle.definitions.specs.Extract.{Matcher}
 use Rattle.definitions.specs.Machine.{Bits, machinePlan}
@@ -25,7 +25,7 @@ use Rattle.theorems.proofs.Pick.{takes-by, none-by}
 use Rattle.theorems.proofs.Machines.{extract-took, names-leaf, line-of-calls, line-stays, price-exchanged, same-leaf, same-refusal, never-mixed}
 use Rattle.theorems.proofs.Truth.{SameValue, value-by, machine-value}
 
-module _ {match : Matcher} {Asks : Meaning → List Record → Type 0} (laws : Lawful match Asks) where
+module _ {match : Matcher} {Asks : Meaning → Type 0} (laws : Lawful match Asks) where
   extracts : Extracts match Asks
   extracts = record {
     takes = takes-by match;
@@ -43,7 +43,7 @@ module _ {match : Matcher} {Asks : Meaning → List Record → Type 0} (laws : L
     refusals = extract-refusals match;
   }
 
-  list-value : (M : Meaning) → Symmetric M → (v : Valuation) (F : Frame) (s : SessionBy match F) → Asks M (F .records) → (calls : List Made)
+  list-value : (M : Meaning) → Symmetric M → (v : Valuation) (F : Frame) (s : SessionBy match F) → Asks M → (calls : List Made)
       → HasValue M v (planAfter s calls) (frameValue M (valuesWhen (oddIn s calls) v) F)
   list-value M turns v F s asked calls =
       let b : Bits = told s calls in

@@ -10,7 +10,7 @@ use lib.Seq.{take-append-seam, drop-append-seam, length-take-le}
 use lib.Dec.{leb}
 use borrow.Author.Tests.{leb-true}
 use Rattle.definitions.specs.Basics.{if_then_else_, Result, ok, refused}
-use Rattle.definitions.specs.Expression.{Record, Frame, Extraction, Plan, empty, held, extracted}
+use Rattle.definitions.specs.Expression.{Frame, Extraction, Plan, empty, held, extracted}
 use Rattle.definitions.specs.Encode.{frameBytes, planBytes}
 use Rattle.definitions.specs.Plans.{frameOf, planOf}
 use Rattle.definitions.specs.Extract.{Matcher, extractionBy}
@@ -152,7 +152,7 @@ module _ (n : ℕ) (buffer scratch : List ℕ) where
     taken-fit F none g e room = tt
     taken-fit F (some X) g e room = (omega (arith, g .1, ap length e, length-take-le n buffer fits), room, fits)
 
-    extract-fit : {match : Matcher} {Asks : Meaning → List Record → Type 0} → Lawful match Asks → (p : Plan) → GoodPlan p
+    extract-fit : {match : Matcher} {Asks : Meaning → Type 0} → Lawful match Asks → (p : Plan) → GoodPlan p
         → planBytes p ≡ take n buffer → Fit (newAfterExtractBy match n (length scratch) (ok p))
     unfolding newAfterExtractBy planBytes
     extract-fit laws empty g e = tt
@@ -175,7 +175,7 @@ module _ (n : ℕ) (buffer scratch : List ℕ) where
     by-room true e = of-plan (leb-true n (length buffer) e) (planOf (take n buffer)) refl
     by-room false e = none-from 10
 
-  pub make-wrote : {match : Matcher} {Asks : Meaning → List Record → Type 0} → Lawful match Asks → (kind : Kind)
+  pub make-wrote : {match : Matcher} {Asks : Meaning → Type 0} → Lawful match Asks → (kind : Kind)
       → (table : List NodeRecord) → AllBytes buffer → accepted (makeBy match kind n buffer scratch table .answer) ≡ true
       → CallWrote n buffer scratch (makeBy match kind n buffer scratch table)
   unfolding makeBy exchange

@@ -132,7 +132,7 @@ matches-turned match turns rs [] = refl
 matches-turned match turns rs (e ∷ es) =
     ap₂ (λ (a : Option Predicate) (b : List (Option Predicate)). a ∷ b) (turns rs e) (matches-turned match turns rs es)
 
-module _ {match : Matcher} {Asks : Meaning → List Record → Type 0} (laws : Lawful match Asks) where
+module _ {match : Matcher} {Asks : Meaning → Type 0} (laws : Lawful match Asks) where
   -- The pick of the exchanged frame is the exchanged pick, at the same position.
   picked-exchanged : (F : Frame) → pick (matchesBy match (exchangeFrame F)) ≡ Option·map exchangePick (pick (matchesBy match F))
   unfolding exchangeFrame matchesBy

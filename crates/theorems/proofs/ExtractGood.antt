@@ -146,7 +146,7 @@ abbrev pub GoodExtraction : Frame → Option Extraction → Type 0
 GoodExtraction F none = Unit {0}
 GoodExtraction F (some X) = GoodPlan (extracted X) × (length (extractionBytes X) ≤ length (frameBytes F))
 
-module _ {match : Matcher} {Asks : Meaning → List Record → Type 0} (laws : Lawful match Asks) where
+module _ {match : Matcher} {Asks : Meaning → Type 0} (laws : Lawful match Asks) where
   take-good : (F : Frame) → GoodPlan (held F) → (p : Option Pick) → Picked (matchesBy match F) F p → GoodExtraction F (takePick F p)
   unfolding takePick planBytes planNodes
   take-good F g none h = tt

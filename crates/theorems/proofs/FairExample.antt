@@ -14,7 +14,7 @@ use Rattle.definitions.specs.Literals.{signed, u32, numberU32, isK, onlyK}
 use Rattle.definitions.specs.Leaves.{relationNamed}
 use Rattle.definitions.specs.Match.{literalU32, literalK, literalBool, knnLiterals, knnRequest, matchLeaf}
 use Rattle.definitions.specs.Meaning.{Valuation, Meaning, value, frameColumns, Fair}
-use Rattle.definitions.specs.Claims.{FairMeaning, markedFrame, MarksDiffer}
+use Rattle.definitions.specs.Claims.{FairMeaning, markedFrame, markCopied, MarksStay}
 use Rattle.definitions.proofs.Everything.{everything}
 use Rattle.theorems.proofs.Tools.{by-test}
 use Rattle.theorems.proofs.KnnLeaves.{Asked, Matched, leaf-matched}
@@ -208,8 +208,8 @@ fair-points = (points, points-fair, refl, refl, refl, refl, refl, refl)
 byChild : Valuation
 byChild side child = child
 
--- The frame reads the mark column's child index 9: two points 5 apart are near, and it is true. Its extraction reads the copied column
+-- The frame reads the mark column's child index 9: two points 5 apart are near, and it is true. The copied predicate reads the column
 -- number 2, and is false.
-pub marks-apart : MarksDiffer
-unfolding everything points called ofThree markedFrame byChild
-marks-apart = (points, points-fair, byChild, refl, refl)
+pub marks-left : MarksStay
+unfolding everything points called ofThree markedFrame markCopied byChild
+marks-left = (refl, (points, points-fair, byChild, refl, refl))

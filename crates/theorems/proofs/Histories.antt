@@ -9,7 +9,7 @@ use lib.ListN.{length, take}
 use lib.Dec.{leb}
 use borrow.Author.Tests.{leb-true, le-leb}
 use Rattle.definitions.specs.Basics.{if_then_else_, Result, ok, refused, mapResult}
-use Rattle.definitions.specs.Expression.{Record, Frame, Extraction, Plan, empty, held, extracted}
+use Rattle.definitions.specs.Expression.{Frame, Extraction, Plan, empty, held, extracted}
 use Rattle.definitions.specs.Encode.{planBytes, frameBytes}
 use Rattle.definitions.specs.Plans.{frameOf, planOf}
 use Rattle.definitions.specs.Extract.{Matcher, extractionBy}
@@ -63,7 +63,7 @@ mergedTo n buffer scratch table x = mergedBut (withTable (finish n buffer scratc
 
 -- ---- with a lawful matcher
 
-module _ {match : Matcher} {Asks : Meaning → List Record → Type 0} (laws : Lawful match Asks) where
+module _ {match : Matcher} {Asks : Meaning → Type 0} (laws : Lawful match Asks) where
   make-length : (k : Kind) (n : ℕ) (buffer scratch : List ℕ) (table : List NodeRecord)
       → makeBy match k n buffer scratch table .n ≤ length buffer
       → length (makeBy match k n buffer scratch table .buffer) ≡ length buffer

@@ -4,7 +4,7 @@ use mathlib.Core.Path.{_≡_}
 use mathlib.Core.List.{List}
 use mathlib.Core.Option.{Option, none, some}
 use Rattle.definitions.specs.Basics.{ascii, sameName}
-use Rattle.definitions.specs.Expression.{Side, noSide, Relation, Expr, call, Exprs, nil, cons, Record, Predicate, relation, distance, knn}
+use Rattle.definitions.specs.Expression.{Side, left, right, noSide, Relation, Expr, call, Exprs, nil, cons, Record, Predicate, relation, distance, knn}
 use Rattle.definitions.specs.Leaves.{relationNamed}
 use Rattle.definitions.specs.Match.{Order, leftRight, rightLeft, noOrder, Request, askRelation, askDistance, askKnn, askNothing, relationRequest, dwithinRequest, knnRequest, callRequest, request, ArgumentSide, noColumns, allOn, mixed, matchRelation, storeDistance, matchDistance, matchKnn, matchRequest, matchLeaf}
 use Rattle.theorems.proofs.Tools.{by-test, same-name}
@@ -39,7 +39,9 @@ module _ (Q : (k spheroid ties : ℕ) → Type 0) where
       → Matched (matchDistance rs form a b bound side o)
   unfolding matchDistance
   distance-matched rs form a b bound noColumns o = stored-matched form noSide a b bound o
-  distance-matched rs form a b bound (allOn side) o = stored-matched form side a b _ o
+  distance-matched rs form a b bound (allOn left) o = stored-matched form left a b _ o
+  distance-matched rs form a b bound (allOn right) o = stored-matched form right a b _ o
+  distance-matched rs form a b bound (allOn noSide) o = tt
   distance-matched rs form a b bound mixed o = tt
 
   knn-matched : (k spheroid ties : ℕ) (a b : Expr) (o : Order) → Q k spheroid ties → Matched (matchKnn k spheroid ties a b o)

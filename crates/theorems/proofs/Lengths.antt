@@ -8,7 +8,7 @@ use lib.ListN.{length, take}
 use lib.Dec.{leb}
 use borrow.Author.Tests.{leb-true}
 use Rattle.definitions.specs.Basics.{if_then_else_, Result, ok, refused}
-use Rattle.definitions.specs.Expression.{Record, Frame, Extraction, Plan, empty, held, extracted}
+use Rattle.definitions.specs.Expression.{Frame, Extraction, Plan, empty, held, extracted}
 use Rattle.definitions.specs.Encode.{planBytes}
 use Rattle.definitions.specs.Plans.{frameOf, planOf}
 use Rattle.definitions.specs.Extract.{Matcher, extractionBy}
@@ -109,7 +109,7 @@ exchange-short n room (ok (extracted X)) g =
     if-short (leb n room) (ok (planBytes (exchangePlan (extracted X)))) 9 (exchange-good (extracted X) g .fewBytes)
 exchange-short n room (refused number) g = tt
 
-module _ {match : Matcher} {Asks : Meaning → List Record → Type 0} (laws : Lawful match Asks) where
+module _ {match : Matcher} {Asks : Meaning → Type 0} (laws : Lawful match Asks) where
   extract-short : (n room : ℕ) (r : Result Plan) → Good r → Short (newAfterExtractBy match n room r)
   unfolding newAfterExtractBy
   extract-short n room (ok empty) g = tt

@@ -9,7 +9,7 @@ use lib.Seq.{take-append-seam, length-take-le}
 use lib.Dec.{leb}
 use borrow.Author.Tests.{leb-true}
 use Rattle.definitions.specs.Basics.{if_then_else_, Result, ok, refused}
-use Rattle.definitions.specs.Expression.{Record, Frame, held}
+use Rattle.definitions.specs.Expression.{Frame, held}
 use Rattle.definitions.specs.Encode.{planBytes, frameBytes}
 use Rattle.definitions.specs.Plans.{frameOf}
 use Rattle.definitions.specs.Extract.{Matcher}
@@ -97,7 +97,7 @@ load-held match frame n buffer table bytes a =
 
 -- ---- lists of calls
 
-module _ {match : Matcher} {Asks : Meaning → List Record → Type 0} (laws : Lawful match Asks) {F : Frame} (s : SessionBy match F) where
+module _ {match : Matcher} {Asks : Meaning → Type 0} (laws : Lawful match Asks) {F : Frame} (s : SessionBy match F) where
   session-size : s .n ≡ length (frameBytes F)
   session-size = sym (length-take-le (s .n) (s .buffer) (s .fits)) ∙ ap length (s .holds)
 

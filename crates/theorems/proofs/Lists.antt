@@ -10,7 +10,7 @@ use lib.Seq.{take-append-seam}
 use lib.Dec.{leb}
 use borrow.Author.Tests.{le-leb}
 use Rattle.definitions.specs.Basics.{if_then_else_, Result, ok, refused}
-use Rattle.definitions.specs.Expression.{Record, Frame, Extraction, Plan, empty, held, extracted}
+use Rattle.definitions.specs.Expression.{Frame, Extraction, Plan, empty, held, extracted}
 use Rattle.definitions.specs.Encode.{planBytes}
 use Rattle.definitions.specs.Plans.{planOf}
 use Rattle.definitions.specs.Extract.{Matcher, extractionBy}
@@ -77,7 +77,7 @@ extract-again match n room X false = refl
 
 -- ---- with a lawful matcher
 
-module _ {match : Matcher} {Asks : Meaning → List Record → Type 0} (laws : Lawful match Asks) where
+module _ {match : Matcher} {Asks : Meaning → Type 0} (laws : Lawful match Asks) where
   -- The extracted bit is 1 only where the frame has an extraction.
   abbrev pub Reached : Frame → Bool → Type 0
   Reached F true = (X : Extraction) × (extractionBy match F ≡ some X)

@@ -11,7 +11,7 @@ use lib.Seq.{take-take}
 use borrow.Author.Tests.{le-leb}
 use Rattle.definitions.specs.Limits.{twoBytes}
 use Rattle.definitions.specs.Basics.{if_then_else_, Result, ok, refused, bigEndian}
-use Rattle.definitions.specs.Expression.{Record, Frame, Predicate, relation, distance, knn, Extraction}
+use Rattle.definitions.specs.Expression.{Frame, Predicate, relation, distance, knn, Extraction}
 use Rattle.definitions.specs.Encode.{predicateKind, extractionBytes, planBytes}
 use Rattle.definitions.specs.Leaves.{leaves}
 use Rattle.definitions.specs.Extract.{Matcher, matchesBy, extractionBy}
@@ -102,7 +102,7 @@ extracted-last match n buffer table (b ∷ bs) scratch a =
 
 -- ---- with a lawful matcher
 
-module _ {match : Matcher} {Asks : Meaning → List Record → Type 0} (laws : Lawful match Asks) where
+module _ {match : Matcher} {Asks : Meaning → Type 0} (laws : Lawful match Asks) where
   pub price-exchanged : (F : Frame) → priceLineBy match (exchangeFrame F) ≡ priceLineBy match F
   unfolding priceLineBy
   price-exchanged F = ap (Option·map (λ X. predicateKind (X .predicate))) (exchanged-by laws F) ∙ line-exchanged (extractionBy match F)

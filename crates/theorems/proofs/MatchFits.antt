@@ -12,7 +12,7 @@ use Rattle.definitions.specs.Expression.{Side, left, right, noSide, Relation, E
 use Rattle.definitions.specs.Encode.{exprBytes, predicateFields}
 use Rattle.definitions.specs.Decode.{indexBelow}
 use Rattle.definitions.specs.References.{recordAt, columnsOf}
-use Rattle.definitions.specs.Match.{Order, leftRight, rightLeft, noOrder, Request, askRelation, askDistance, askKnn, askNothing, request, onChild, ArgumentSide, noColumns, allOn, mixed, sideOf, orderOf, boundOn, matchRelation, storeDistance, matchDistance, matchKnn, matchRequest, matchLeaf}
+use Rattle.definitions.specs.Match.{Order, leftRight, rightLeft, noOrder, Request, askRelation, askDistance, askKnn, askNothing, request, onChild, ArgumentSide, noColumns, allOn, mixed, sideOf, orderOf, matchRelation, storeDistance, matchDistance, matchKnn, matchRequest, matchLeaf}
 use Rattle.definitions.specs.Good.{OneOfTwo, nodes, depth, Short, InRange, Readable, RecordsInRange, predicateNodes}
 use Rattle.definitions.specs.Matchers.{Fits}
 use Rattle.theorems.proofs.Columns.{all-every, Fits as FitsIn, map-length, map-nodes, map-depth, map-in-range, widen}
@@ -39,32 +39,27 @@ on-child-readable rs b e h r d =
       shallow = rw map-depth d;
     }
 
-bound-readable : (rs : List Record) (s : Side) (b : ℕ) (e : Expr) → RecordsInRange rs → InRange (indexBelow b) e → depth e ≤ 64
-    → Readable (indexBelow 65536) (boundOn rs s e)
-unfolding boundOn
-bound-readable rs left b e h r d = on-child-readable rs b e h r d
-bound-readable rs right b e h r d = on-child-readable rs b e h r d
-bound-readable rs noSide b e h r d = record { inRange = widen b e r; shallow = d }
-
 on-child-bytes : (rs : List Record) (e : Expr) → length (exprBytes (onChild rs e)) ≡ length (exprBytes e)
 unfolding onChild
 on-child-bytes rs e = map-length _ e
-
-bound-bytes : (rs : List Record) (s : Side) (e : Expr) → length (exprBytes (boundOn rs s e)) ≡ length (exprBytes e)
-unfolding boundOn
-bound-bytes rs left e = on-child-bytes rs e
-bound-bytes rs right e = on-child-bytes rs e
-bound-bytes rs noSide e = refl
 
 on-child-nodes : (rs : List Record) (e : Expr) → nodes (onChild rs e) ≡ nodes e
 unfolding onChild
 on-child-nodes rs e = map-nodes _ e
 
-bound-nodes : (rs : List Record) (s : Side) (e : Expr) → nodes (boundOn rs s e) ≡ nodes e
-unfolding boundOn
-bound-nodes rs left e = on-child-nodes rs e
-bound-nodes rs right e = on-child-nodes rs e
-bound-nodes rs noSide e = refl
+-- What is stored for a bound, on its child or copied, can be read without a bound on its columns and is as large.
+record Stored (d z : Expr) : Type 0 where
+  readable : Readable (indexBelow 65536) z
+  bytes : length (exprBytes z) ≡ length (exprBytes d)
+  size : nodes z ≡ nodes d
+
+on-child-stored : (rs : List Record) (b : ℕ) (e : Expr) → RecordsInRange rs → InRange (indexBelow b) e → depth e ≤ 64
+    → Stored e (onChild rs e)
+on-child-stored rs b e h r d =
+    record { readable = on-child-readable rs b e h r d; bytes = on-child-bytes rs e; size = on-child-nodes rs e }
+
+copied-stored : (b : ℕ) (e : Expr) → InRange (indexBelow b) e → depth e ≤ 64 → Stored e e
+copied-stored b e r d = record { readable = record { inRange = widen b e r; shallow = d }; bytes = refl; size = refl }
 
 -- ---- a match is readable and no larger than its leaf
 
@@ -86,33 +81,37 @@ module _ (rs : List Record) (b room size levels : ℕ) (rr : RecordsInRange rs) 
       relation-fits (invert t) y x (h .1, h .0, omega (arith, h .2), omega (arith, h .3), h .5, h .4)
   relation-sized t x y h noOrder = tt
 
-  distance-fits : (form : ℕ) (s : Side) (x y d : Expr) → Within (indexBelow b) room size levels (askDistance form x y d)
-      → Fits room size (some (distance form s (onChild rs x) (onChild rs y) (boundOn rs s d)))
+  distance-fits : (form : ℕ) (s : Side) (x y d z : Expr) → Within (indexBelow b) room size levels (askDistance form x y d) → Stored d z
+      → Fits room size (some (distance form s (onChild rs x) (onChild rs y) z))
   unfolding predicateFields predicateNodes
-  distance-fits form s x y d h = (
+  distance-fits form s x y d z h stored = (
     (
       h .0,
       on-child-readable rs b x rr (h .1) (omega (arith, h .6)),
       on-child-readable rs b y rr (h .2) (omega (arith, h .7)),
-      bound-readable rs s b d rr (h .3) (omega (arith, h .8)),
+      stored .readable,
     ),
-    simp (length-append, on-child-bytes, bound-bytes) (omega (arith, h .4)),
-    simp (on-child-nodes, bound-nodes) (omega (arith, h .5)),
+    simp (length-append, on-child-bytes) (omega (arith, h .4, stored .bytes)),
+    simp on-child-nodes (omega (arith, h .5, stored .size)),
   )
 
-  stored-sized : (form : ℕ) (s : Side) (x y d : Expr) → Within (indexBelow b) room size levels (askDistance form x y d)
-      → (o : Order) → Fits room size (storeDistance form s (onChild rs x) (onChild rs y) (boundOn rs s d) o)
+  stored-sized : (form : ℕ) (s : Side) (x y d z : Expr) → Within (indexBelow b) room size levels (askDistance form x y d) → Stored d z
+      → (o : Order) → Fits room size (storeDistance form s (onChild rs x) (onChild rs y) z o)
   unfolding storeDistance
-  stored-sized form s x y d h leftRight = distance-fits form s x y d h
-  stored-sized form s x y d h rightLeft =
-      distance-fits form s y x d (h .0, h .2, h .1, h .3, omega (arith, h .4), omega (arith, h .5), h .7, h .6, h .8)
-  stored-sized form s x y d h noOrder = tt
+  stored-sized form s x y d z h stored leftRight = distance-fits form s x y d z h stored
+  stored-sized form s x y d z h stored rightLeft =
+      distance-fits form s y x d z (h .0, h .2, h .1, h .3, omega (arith, h .4), omega (arith, h .5), h .7, h .6, h .8) stored
+  stored-sized form s x y d z h stored noOrder = tt
 
   distance-sized : (form : ℕ) (x y d : Expr) → Within (indexBelow b) room size levels (askDistance form x y d)
       → (s : ArgumentSide) (o : Order) → Fits room size (matchDistance rs form (onChild rs x) (onChild rs y) d s o)
-  unfolding matchDistance boundOn
-  distance-sized form x y d h noColumns o = stored-sized form noSide x y d h o
-  distance-sized form x y d h (allOn s) o = stored-sized form s x y d h o
+  unfolding matchDistance
+  distance-sized form x y d h noColumns o = stored-sized form noSide x y d d h (copied-stored b d (h .3) (omega (arith, h .8))) o
+  distance-sized form x y d h (allOn left) o =
+      stored-sized form left x y d (onChild rs d) h (on-child-stored rs b d rr (h .3) (omega (arith, h .8))) o
+  distance-sized form x y d h (allOn right) o =
+      stored-sized form right x y d (onChild rs d) h (on-child-stored rs b d rr (h .3) (omega (arith, h .8))) o
+  distance-sized form x y d h (allOn noSide) o = tt
   distance-sized form x y d h mixed o = tt
 
   knn-fits : (k sp t : ℕ) (probe : Side) → OneOfTwo probe → (x y : Expr) → Within (indexBelow b) room size levels (askKnn k sp t x y)

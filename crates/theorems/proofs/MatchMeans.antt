@@ -1,24 +1,19 @@
 -- The sides that let a leaf match say which columns its arguments read: so its match has the value of what it asks for.
-use Prim.Native.Nat.{ℕ, zero, suc, _<_}
-use native.Mathlib.Nat.{not-suc-le-zero, le-of-suc-le-suc}
+use Prim.Native.Nat.{ℕ}
 use native.Mathlib.Omega.{arith}
 use mathlib.Core.Path.{_≡_, refl, sym, ap, ap₂, _∙_, subst}
 use mathlib.Core.Bool.{Bool, true, false, false≢true}
 use mathlib.Core.List.{List, [], _∷_, map}
 use lib.ListN.{length}
-use lib.Dec.{ltb}
-use borrow.Author.Tests.{ltb-true}
 use Rattle.definitions.specs.Basics.{if_then_else_, all}
 use Rattle.definitions.specs.Expression.{Side, left, right, noSide, Relation, Expr, Record}
 use Rattle.definitions.specs.Decode.{indexBelow}
 use Rattle.definitions.specs.References.{columnsOf, recordAt, sameSide}
-use Rattle.definitions.specs.Match.{ArgumentSide, noColumns, allOn, mixed, commonSide, sideOf, isSide, Order, leftRight, rightLeft, noOrder, orderOf, onChild, boundOn, Request, askRelation, askDistance, askKnn, askNothing, request, matchRelation, storeDistance, matchDistance, matchKnn, matchRequest, matchLeaf}
+use Rattle.definitions.specs.Match.{ArgumentSide, noColumns, allOn, mixed, commonSide, sideOf, isSide, Order, leftRight, rightLeft, noOrder, orderOf, onChild, Request, askRelation, askDistance, askKnn, askNothing, request, matchRelation, storeDistance, matchDistance, matchKnn, matchRequest, matchLeaf}
 use Rattle.definitions.specs.Exchange.{negate}
-use Rattle.definitions.specs.Good.{All, InRange, NoMarks}
+use Rattle.definitions.specs.Good.{All, InRange}
 use Rattle.definitions.specs.Meaning.{Valuation, Meaning, value, frameColumns, predicateValue, Fair}
-use Rattle.theorems.proofs.Columns.{all-both, columns-below}
 use Rattle.theorems.proofs.Tools.{and-both}
-use Rattle.theorems.proofs.Requests.{Within, request-within}
 use Rattle.definitions.specs.Matchers.{Valued}
 use Rattle.theorems.proofs.Values.{map-value, same-value, form-symmetric}
 use Rattle.theorems.proofs.MatchAsks.{MeansSame, request-means}
@@ -83,27 +78,6 @@ argument-value M v rs e s h =
     (map-all (λ i. recordAt rs i .side ≡ s) (λ i. frameColumns v rs i ≡ v s (recordAt rs i .child))
     (λ i p. ap (λ (t : Side). v t (recordAt rs i .child)) p) (columnsOf e) (side-is rs e s h))
 
--- ---- frames without mark columns
-
-pub no-mark-at : (rs : List Record) (i : ℕ) → NoMarks rs → i < length rs → recordAt rs i .side ≡ noSide → ⊥
-unfolding recordAt
-no-mark-at [] i m h e = not-suc-le-zero h
-no-mark-at (r ∷ rs) zero m h e = m .0 e
-no-mark-at (r ∷ rs) (suc i) m h e = no-mark-at rs i (m .1) (le-of-suc-le-suc h) e
-
--- The bound of a distance on one side; without mark columns that is left or right.
-bound-value : (M : Meaning) (v : Valuation) (rs : List Record) (e : Expr) (s : Side) → NoMarks rs → InRange (indexBelow (length rs)) e
-    → sideOf rs e ≡ allOn s
-    → value M (frameColumns v rs) e ≡ value M (v s) (boundOn rs s e)
-unfolding boundOn
-bound-value M v rs e left m r h = argument-value M v rs e left h
-bound-value M v rs e right m r h = argument-value M v rs e right h
-bound-value M v rs e noSide m r h =
-    same-value M (frameColumns v rs) (v noSide) e
-    (all-both (λ i. ltb i (length rs) ≡ true) (λ i. recordAt rs i .side ≡ noSide) (λ i. frameColumns v rs i ≡ v noSide i)
-    (λ i b p. absurd (no-mark-at rs i m (ltb-true i (length rs) b) p)) (columnsOf e) (columns-below (length rs) e r)
-    (side-is rs e noSide h))
-
 -- One without columns has the same value whatever columns are worth.
 copied-value : (M : Meaning) (v : Valuation) (rs : List Record) (e : Expr) → sideOf rs e ≡ noColumns
     → value M (frameColumns v rs) e ≡ value M (v noSide) e
@@ -156,13 +130,15 @@ module _ (M : Meaning) (fair : Fair M) (v : Valuation) (rs : List Record) (x : �
       rw (← (argument-value M v rs a right (s .0)), ← (argument-value M v rs b left (s .1)), ← e) (h ∙ form-symmetric M fair form _ _ _)
   stored-match form a b d h side bound e noOrder s = tt
 
-  distance-match : (form : ℕ) (a b d : Expr) → NoMarks rs → InRange (indexBelow (length rs)) d → MeansSame M v rs x (askDistance form a b d)
+  distance-match : (form : ℕ) (a b d : Expr) → MeansSame M v rs x (askDistance form a b d)
       → (z : ArgumentSide) → sideOf rs d ≡ z → (o : Order) → OrderIs (sideOf rs a) (sideOf rs b) o
       → Valued M v x (matchDistance rs form (onChild rs a) (onChild rs b) d z o)
   unfolding matchDistance
-  distance-match form a b d m r h noColumns e o s = stored-match form a b d h noSide d (copied-value M v rs d e) o s
-  distance-match form a b d m r h (allOn z) e o s = stored-match form a b d h z (boundOn rs z d) (bound-value M v rs d z m r e) o s
-  distance-match form a b d m r h mixed e o s = tt
+  distance-match form a b d h noColumns e o s = stored-match form a b d h noSide d (copied-value M v rs d e) o s
+  distance-match form a b d h (allOn left) e o s = stored-match form a b d h left (onChild rs d) (argument-value M v rs d left e) o s
+  distance-match form a b d h (allOn right) e o s = stored-match form a b d h right (onChild rs d) (argument-value M v rs d right e) o s
+  distance-match form a b d h (allOn noSide) e o s = tt
+  distance-match form a b d h mixed e o s = tt
 
   knn-match : (k sp t : ℕ) (a b : Expr) → MeansSame M v rs x (askKnn k sp t a b) → (o : Order) → orderOf (sideOf rs a) (sideOf rs b) ≡ o
       → OrderIs (sideOf rs a) (sideOf rs b) o → Valued M v x (matchKnn k sp t (onChild rs a) (onChild rs b) o)
@@ -175,32 +151,17 @@ module _ (M : Meaning) (fair : Fair M) (v : Valuation) (rs : List Record) (x : �
       ∙ ap₂ (λ (p q : ℕ). M .knnValue p q k sp t) (argument-value M v rs a right (s .0)) (argument-value M v rs b left (s .1))
   knn-match k sp t a b h noOrder e s = tt
 
--- The bound of a distance is in range where the leaf is.
-abbrev BoundInRange : ℕ → Request → Type 0
-BoundInRange n (askRelation t a b) = Unit {0}
-BoundInRange n (askDistance form a b d) = InRange (indexBelow n) d
-BoundInRange n (askKnn k s t a b) = Unit {0}
-BoundInRange n askNothing = Unit {0}
-
-within-bound : (n room size levels : ℕ) (q : Request) → Within (indexBelow n) room size levels q → BoundInRange n q
-within-bound n room size levels (askRelation t a b) h = tt
-within-bound n room size levels (askDistance form a b d) h = h .3
-within-bound n room size levels (askKnn k s t a b) h = tt
-within-bound n room size levels askNothing h = tt
-
-request-match : (M : Meaning) → Fair M → (v : Valuation) (rs : List Record) (x : ℕ) (q : Request) → NoMarks rs → BoundInRange (length rs) q
+request-match : (M : Meaning) → Fair M → (v : Valuation) (rs : List Record) (x : ℕ) (q : Request)
     → MeansSame M v rs x q → Valued M v x (matchRequest rs q)
 unfolding matchRequest
-request-match M fair v rs x (askRelation t a b) m r h = relation-match M fair v rs x t a b h _ (order-is (sideOf rs a) (sideOf rs b))
-request-match M fair v rs x (askDistance form a b d) m r h =
-    distance-match M fair v rs x form a b d m r h (sideOf rs d) refl _ (order-is (sideOf rs a) (sideOf rs b))
-request-match M fair v rs x (askKnn k s t a b) m r h = knn-match M fair v rs x k s t a b h _ refl (order-is (sideOf rs a) (sideOf rs b))
-request-match M fair v rs x askNothing m r h = tt
+request-match M fair v rs x (askRelation t a b) h = relation-match M fair v rs x t a b h _ (order-is (sideOf rs a) (sideOf rs b))
+request-match M fair v rs x (askDistance form a b d) h =
+    distance-match M fair v rs x form a b d h (sideOf rs d) refl _ (order-is (sideOf rs a) (sideOf rs b))
+request-match M fair v rs x (askKnn k s t a b) h = knn-match M fair v rs x k s t a b h _ refl (order-is (sideOf rs a) (sideOf rs b))
+request-match M fair v rs x askNothing h = tt
 
-pub leaf-match : (M : Meaning) → Fair M → (v : Valuation) (rs : List Record) (e : Expr) → NoMarks rs → InRange (indexBelow (length rs)) e
+pub leaf-match : (M : Meaning) → Fair M → (v : Valuation) (rs : List Record) (e : Expr) → InRange (indexBelow (length rs)) e
     → Valued M v (value M (frameColumns v rs) e) (matchLeaf rs e)
 unfolding matchLeaf
-leaf-match M fair v rs e m r =
-    request-match M fair v rs (value M (frameColumns v rs) e) (request e) m
-    (within-bound (length rs) _ _ _ (request e) (request-within (indexBelow (length rs)) e r))
-    (request-means M fair v rs e r)
+leaf-match M fair v rs e r =
+    request-match M fair v rs (value M (frameColumns v rs) e) (request e) (request-means M fair v rs e r)

@@ -7,7 +7,7 @@ use mathlib.Core.Option.{Option, Option·map}
 use Rattle.definitions.specs.Basics.{if_then_else_, all}
 use Rattle.definitions.specs.Expression.{Side, left, right, noSide, Relation, Expr, Record, Predicate}
 use Rattle.definitions.specs.References.{recordAt, mapColumns, columnsOf, sameSide}
-use Rattle.definitions.specs.Match.{Order, leftRight, rightLeft, noOrder, Request, askRelation, askDistance, askKnn, askNothing, request, onChild, ArgumentSide, noColumns, allOn, mixed, commonSide, sideOf, isSide, orderOf, boundOn, matchRelation, storeDistance, matchDistance, matchKnn, matchRequest, matchLeaf}
+use Rattle.definitions.specs.Match.{Order, leftRight, rightLeft, noOrder, Request, askRelation, askDistance, askKnn, askNothing, request, onChild, ArgumentSide, noColumns, allOn, mixed, commonSide, sideOf, isSide, orderOf, matchRelation, storeDistance, matchDistance, matchKnn, matchRequest, matchLeaf}
 use Rattle.definitions.specs.Exchange.{negate, exchangePredicate}
 use Rattle.theorems.proofs.Exchange.{invert-invert, swapped, child-at, side-at, same-negated}
 
@@ -80,12 +80,6 @@ relation-flipped t a b leftRight = refl
 relation-flipped t a b rightLeft = rw invert-invert
 relation-flipped t a b noOrder = refl
 
-bound-negated : (rs : List Record) (s : Side) (e : Expr) → boundOn (swapped rs) (negate s) e ≡ boundOn rs s e
-unfolding boundOn negate
-bound-negated rs left e = on-child rs e
-bound-negated rs right e = on-child rs e
-bound-negated rs noSide e = refl
-
 stored-flipped : (form : ℕ) (side : Side) (a b bound : Expr) (o : Order)
     → storeDistance form (negate side) a b bound (flip o) ≡ exchanged (storeDistance form side a b bound o)
 unfolding storeDistance flip exchangePredicate
@@ -97,7 +91,9 @@ distance-flipped : (rs : List Record) (form : ℕ) (a b bound : Expr) (s : Argum
     → matchDistance (swapped rs) form a b bound (turned s) (flip o) ≡ exchanged (matchDistance rs form a b bound s o)
 unfolding matchDistance negate
 distance-flipped rs form a b bound noColumns o = stored-flipped form noSide a b bound o
-distance-flipped rs form a b bound (allOn s) o = rw bound-negated (stored-flipped form s a b (boundOn rs s bound) o)
+distance-flipped rs form a b bound (allOn left) o = rw on-child (stored-flipped form left a b (onChild rs bound) o)
+distance-flipped rs form a b bound (allOn right) o = rw on-child (stored-flipped form right a b (onChild rs bound) o)
+distance-flipped rs form a b bound (allOn noSide) o = refl
 distance-flipped rs form a b bound mixed o = refl
 
 knn-flipped : (k spheroid ties : ℕ) (a b : Expr) (o : Order)

@@ -8,7 +8,7 @@ use lib.ListN.{length}
 use lib.Dec.{leb}
 use borrow.Author.Tests.{leb-true}
 use Rattle.definitions.specs.Basics.{if_then_else_, Result, ok, refused, mapResult}
-use Rattle.definitions.specs.Expression.{Record, Frame, Extraction, Plan, empty, held, extracted}
+use Rattle.definitions.specs.Expression.{Frame, Extraction, Plan, empty, held, extracted}
 use Rattle.definitions.specs.Encode.{frameBytes}
 use Rattle.definitions.specs.Plans.{frameOf}
 use Rattle.definitions.specs.Extract.{Matcher}
@@ -174,7 +174,7 @@ held-not-extracted : (F : Frame) (X : Extraction) (o : Bool) → held F ≡ (if 
 held-not-extracted F X true e = let z : _≡_ {A = ℕ} 0 1 = cc in absurd (omega arith)
 held-not-extracted F X false e = let z : _≡_ {A = ℕ} 0 1 = cc in absurd (omega arith)
 
-module _ {match : Matcher} {Asks : Meaning → List Record → Type 0} (laws : Lawful match Asks) where
+module _ {match : Matcher} {Asks : Meaning → Type 0} (laws : Lawful match Asks) where
   -- A machine that holds a frame has not extracted, and holds its own, exchanged or not.
   machine-holds : (F old : Frame) (e o : Bool) → Reached laws F e → machinePlan match F (bits e o) ≡ held old
       → (e ≡ false) × (old ≡ heldNow F o)

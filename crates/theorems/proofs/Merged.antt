@@ -16,7 +16,7 @@ use Rattle.definitions.specs.Decode.{indexBelow}
 use Rattle.definitions.specs.References.{columnsOf, mapColumns, recordAt}
 use Rattle.definitions.specs.Match.{matchLeaf}
 use Rattle.definitions.specs.Extract.{matchesBy, matchesOf}
-use Rattle.definitions.specs.Good.{nodes, depth, InRange, RecordsInRange, ReadableFrame, planNodes, GoodPlan, NoMarks}
+use Rattle.definitions.specs.Good.{nodes, depth, InRange, RecordsInRange, ReadableFrame, planNodes, GoodPlan}
 use Rattle.definitions.specs.Meaning.{andValue, value, frameColumns, frameValue}
 use Rattle.definitions.specs.Merge.{raised, mergeFrames, overLimits}
 use Rattle.definitions.specs.MergeClaims.{MergedGood, MergedValue, MergedLeaves}
@@ -24,7 +24,7 @@ use Rattle.theorems.proofs.Columns.{all-every, all-both, Fits, map-leng
 use Rattle.theorems.proofs.Taken.{arity-and}
 use Rattle.theorems.proofs.ExchangeGood.{frame-length}
 use Rattle.theorems.proofs.Values.{map-value, same-value}
-use Rattle.theorems.proofs.Moved.{map-kept, unmarked-kept, leaves-moved}
+use Rattle.theorems.proofs.Moved.{map-kept, leaves-moved}
 
 -- ---- records of the merged frame
 
@@ -200,18 +200,18 @@ old-leaves : (rs rs′ : List Record) (e : Expr) → InRange (indexBelow (length
     → map (matchLeaf (rs ++ rs′)) (leaves e) ≡ map (matchLeaf rs) (leaves e)
 old-leaves rs rs′ e h =
     ap (λ (x : Expr). map (matchLeaf (rs ++ rs′)) (leaves x)) (sym (map-kept e))
-    ∙ leaves-moved rs (rs ++ rs′) (λ i. i) (length rs) (λ i k. old-record rs rs′ i k) (λ x _ _. map-kept x) e h
+    ∙ leaves-moved rs (rs ++ rs′) (λ i. i) (length rs) (λ i k. old-record rs rs′ i k) e h
 
-matches-merged : (old new : Frame) → GoodPlan (held old) → GoodPlan (held new) → NoMarks (new .records)
+matches-merged : (old new : Frame) → GoodPlan (held old) → GoodPlan (held new)
     → matchesOf (mergeFrames old new) ≡ matchesOf old ++ matchesOf new
 unfolding matchesBy mergeFrames raised leaves
-matches-merged old new g k m =
+matches-merged old new g k =
     let rs : List Record = old .records in
     let rs′ : List Record = new .records in
     map-append (matchLeaf (rs ++ rs′)) (leaves (old .expr)) (leaves (mapColumns (λ i. length rs + i) (new .expr)))
     ∙ ap₂ _++_ (old-leaves rs rs′ (old .expr) (g .readable .expr .inRange))
     (leaves-moved rs′ (rs ++ rs′) (λ i. length rs + i) (length rs′) (λ i _. new-record rs rs′ i)
-    (λ x h s. unmarked-kept (λ i. length rs + i) rs′ m x h s) (new .expr) (k .readable .expr .inRange))
+    (new .expr) (k .readable .expr .inRange))
 
 leaves-merged : (old new : Frame)
     → leaves (mergeFrames old new .expr) ≡ leaves (old .expr) ++ map (raised (length (old .records))) (leaves (new .expr))

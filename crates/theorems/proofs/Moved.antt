@@ -4,7 +4,6 @@ use mathlib.Core.Path.{_≡_, refl, sym, ap, ap₂, _∙_}
 use mathlib.Core.Bool.{Bool, true, false}
 use mathlib.Core.List.{List, [], _∷_, _++_, map, map-append}
 use mathlib.Core.Option.{Option, none, some, Option·map}
-use lib.ListN.{length}
 use lib.Dec.{ltb}
 use borrow.Author.Tests.{ltb-true}
 use Rattle.definitions.specs.Basics.{if_then_else_, ascii, sameName}
@@ -12,11 +11,11 @@ use Rattle.definitions.specs.Expression.{Side, left, right, noSide, Relation, E
 use Rattle.definitions.specs.Leaves.{leaves, relationNamed, Comparison, compares, noComparison, comparison, distanceArguments}
 use Rattle.definitions.specs.Decode.{indexBelow}
 use Rattle.definitions.specs.References.{columnsOf, columnsOfAll, mapColumns, mapColumnsAll, recordAt}
-use Rattle.definitions.specs.Match.{ArgumentSide, noColumns, allOn, mixed, commonSide, sideOf, onChild, boundOn, Order, literalU32, literalK, literalBool, Request, askRelation, askDistance, askKnn, askNothing, relationRequest, dwithinRequest, knnLiterals, knnRequest, callRequest, distanceRequest, comparisonRequest, request, storeDistance, matchDistance, matchRequest, matchLeaf}
-use Rattle.definitions.specs.Good.{All, InRange, NoMarks}
+use Rattle.definitions.specs.Match.{ArgumentSide, noColumns, allOn, mixed, commonSide, sideOf, onChild, Order, literalU32, literalK, literalBool, Request, askRelation, askDistance, askKnn, askNothing, relationRequest, dwithinRequest, knnLiterals, knnRequest, callRequest, distanceRequest, comparisonRequest, request, storeDistance, matchDistance, matchRequest, matchLeaf}
+use Rattle.definitions.specs.Good.{All, InRange}
 use Rattle.theorems.proofs.Columns.{all-left, all-right, all-both, columns-below, mapComparison, comparison-mapped}
 use Rattle.theorems.proofs.Requests.{Within, request-within}
-use Rattle.theorems.proofs.MatchMeans.{side-is, no-columns, no-mark-at}
+use Rattle.theorems.proofs.MatchMeans.{no-columns}
 
 -- ---- column indexes changed
 
@@ -226,21 +225,10 @@ unfolding sideOf
 none-changed f rs e s =
     map-same f (λ i. i) e (no-columns (λ i. f i ≡ i) (λ i. recordAt rs i .side) (columnsOf e) s) ∙ map-kept e
 
--- Without mark columns no expression has columns of side none.
-pub unmarked-kept : (f : ℕ → ℕ) (rs : List Record) → NoMarks rs → (e : Expr) → InRange (indexBelow (length rs)) e
-    → sideOf rs e ≡ allOn noSide → mapColumns f e ≡ e
-unmarked-kept f rs m e h s =
-    map-same f (λ i. i) e
-    (all-both (λ i. recordAt rs i .side ≡ noSide) (λ i. ltb i (length rs) ≡ true) (λ i. f i ≡ i)
-    (λ i p q. absurd (no-mark-at rs i m (ltb-true i (length rs) q) p)) (columnsOf e) (side-is rs e noSide s)
-    (columns-below (length rs) e h))
-    ∙ map-kept e
-
 -- ---- matching
 
--- Columns below a bound are renumbered, their records stay the same, and mark columns keep their numbers.
-module _ (rs rs′ : List Record) (f : ℕ → ℕ) (b : ℕ) (same : (i : ℕ) → i < b → recordAt rs′ (f i) ≡ recordAt rs i)
-    (marks : (e : Expr) → InRange (indexBelow b) e → sideOf rs e ≡ allOn noSide → mapColumns f e ≡ e) where
+-- Columns below a bound are renumbered, and their records stay the same.
+module _ (rs rs′ : List Record) (f : ℕ → ℕ) (b : ℕ) (same : (i : ℕ) → i < b → recordAt rs′ (f i) ≡ recordAt rs i) where
   read-moved : {A : Type 0} (g : Record → A) (e : Expr) → InRange (indexBelow b) e
       → All (λ i. g (recordAt rs′ (f i)) ≡ g (recordAt rs i)) (columnsOf e)
   read-moved g e h =
@@ -260,11 +248,11 @@ module _ (rs rs′ : List Record) (f : ℕ → ℕ) (b : ℕ) (same : (i : ℕ) 
 
   distance-moved : (form : ℕ) (x y bound : Expr) (s : ArgumentSide) (o : Order) → InRange (indexBelow b) bound → sideOf rs bound ≡ s
       → matchDistance rs′ form x y (mapColumns f bound) s o ≡ matchDistance rs form x y bound s o
-  unfolding matchDistance boundOn
+  unfolding matchDistance
   distance-moved form x y bound noColumns o h e = ap (λ (d : Expr). storeDistance form noSide x y d o) (none-changed f rs bound e)
   distance-moved form x y bound (allOn left) o h e = ap (λ (d : Expr). storeDistance form left x y d o) (child-moved bound h)
   distance-moved form x y bound (allOn right) o h e = ap (λ (d : Expr). storeDistance form right x y d o) (child-moved bound h)
-  distance-moved form x y bound (allOn noSide) o h e = ap (λ (d : Expr). storeDistance form noSide x y d o) (marks bound h e)
+  distance-moved form x y bound (allOn noSide) o h e = refl
   distance-moved form x y bound mixed o h e = refl
 
   request-moved : (room size levels : ℕ) (q : Request) → Within (indexBelow b) room size levels q

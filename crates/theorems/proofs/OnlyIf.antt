@@ -2,16 +2,15 @@
 use Prim.Native.Nat.{ℕ}
 use mathlib.Core.Path.{_≡_, refl, ap, _∙_}
 use mathlib.Core.Bool.{Bool, true, false, _&&_}
-use mathlib.Core.List.{List}
 use mathlib.Core.Option.{Option, none, some, Option·map}
 use lib.Dec.{leb}
 use Rattle.definitions.specs.Basics.{if_then_else_}
-use Rattle.definitions.specs.Expression.{Record, Predicate, relation, distance, knn}
+use Rattle.definitions.specs.Expression.{Predicate, relation, distance, knn}
 use Rattle.definitions.specs.Match.{matchLeaf}
 use Rattle.definitions.specs.Extract.{Matcher}
 use Rattle.definitions.specs.Exchange.{exchangePredicate}
-use Rattle.definitions.specs.Meaning.{Meaning}
-use Rattle.definitions.specs.Matchers.{Fits, Valued, Lawful, LeafAsks}
+use Rattle.definitions.specs.Meaning.{Fair, Meaning}
+use Rattle.definitions.specs.Matchers.{Fits, Valued, Lawful}
 use Rattle.theorems.proofs.Tools.{by-test}
 use Rattle.theorems.proofs.MatchLaws.{match-laws}
 
@@ -47,7 +46,7 @@ module _ (test : Predicate → Bool) where
   passing-turned same (some p) =
       ap (λ (b : Bool). if b then some (exchangePredicate p) else none) (same p) ∙ if-turned (test p) p
 
-  pub only-laws : {match : Matcher} {Asks : Meaning → List Record → Type 0} → Unturned test → Lawful match Asks
+  pub only-laws : {match : Matcher} {Asks : Meaning → Type 0} → Unturned test → Lawful match Asks
       → Lawful (onlyIf test match) Asks
   unfolding onlyIf
   only-laws {match} same laws = record {
@@ -69,5 +68,5 @@ k-unturned least greatest (relation type l r) = refl
 k-unturned least greatest (distance form side l r bound) = refl
 k-unturned least greatest (knn k spheroid probe ties l r) = refl
 
-pub k-between-laws : (least greatest : ℕ) → Lawful (onlyIf (kBetween least greatest) matchLeaf) LeafAsks
+pub k-between-laws : (least greatest : ℕ) → Lawful (onlyIf (kBetween least greatest) matchLeaf) Fair
 k-between-laws least greatest = only-laws (kBetween least greatest) (k-unturned least greatest) match-laws

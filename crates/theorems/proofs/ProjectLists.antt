@@ -7,7 +7,7 @@ use mathlib.Core.Bool.{Bool, true, false}
 use mathlib.Core.List.{List, map}
 use mathlib.Core.Option.{none, some}
 use Rattle.definitions.specs.Basics.{if_then_else_, Result, ok}
-use Rattle.definitions.specs.Expression.{Side, Record, Frame, Extraction, held, extracted}
+use Rattle.definitions.specs.Expression.{Side, Frame, Extraction, held, extracted}
 use Rattle.definitions.specs.Encode.{planBytes}
 use Rattle.definitions.specs.Plans.{planOf}
 use Rattle.definitions.specs.Extract.{Matcher}
@@ -117,9 +117,9 @@ values-back : (o : Bool) (v : Valuation) → valuesWhen o (valuesWhen o v) ≡ v
 values-back true v = exchanged-twice v
 values-back false v = refl
 
-module _ {match : Matcher} {Asks : Meaning → List Record → Type 0} (laws : Lawful match Asks) where
+module _ {match : Matcher} {Asks : Meaning → Type 0} (laws : Lawful match Asks) where
   -- What the plan had before the projection.
-  old-value : (M : Meaning) → Symmetric M → (v : Valuation) (F : Frame) (b : Bits) (X : Extraction) → Asks M (F .records)
+  old-value : (M : Meaning) → Symmetric M → (v : Valuation) (F : Frame) (b : Bits) (X : Extraction) → Asks M
       → GoodPlan (held F) → machinePlan match F b ≡ extracted X
       → extractionValue M (valuesWhen (b .isOdd) v) X ≡ frameValue M v F
   unfolding planValue
@@ -129,7 +129,7 @@ module _ {match : Matcher} {Asks : Meaning → List Record → Type 0} (laws : L
       ∙ ap (λ (u : Valuation). frameValue M u F) (values-back (b .isOdd) v)
 
   -- With the machine's plan before the projection known.
-  module _ (M : Meaning) (turns : Symmetric M) (v w : Valuation) (F : Frame) (asked : Asks M (F .records)) (good : GoodPlan (held F))
+  module _ (M : Meaning) (turns : Symmetric M) (v w : Valuation) (F : Frame) (asked : Asks M) (good : GoodPlan (held F))
       (b : Bits) (n : ℕ) (buffer : List ℕ) (h : Holds laws F b n buffer) (lists : Lists) (scratch : List ℕ) (table : List NodeRecord)
       (later : List Made) where
     from-held : (X : Extraction) → Projects lists n buffer scratch X → machinePlan match F b ≡ extracted X

@@ -1,17 +1,15 @@
 -- Each claim of specs/Claims.antt and of the tables beside it, proved.
 use mathlib.Core.Path.{_∙_}
-use mathlib.Core.List.{List, [], _∷_, _++_}
-use Rattle.definitions.specs.Expression.{Record}
 use Rattle.definitions.specs.Match.{matchLeaf}
-use Rattle.definitions.specs.Good.{NoMarks}
 use Rattle.definitions.specs.Sessions.{oddIn}
-use Rattle.definitions.specs.Matchers.{LeafAsks}
-use Rattle.definitions.specs.Claims.{ExchangeTwice, ExtractExchanged, ExpressionReadBack, PlanReadBack, PlanOfBytes, AnyPosition, ExtractionGood, ExchangeGood, LengthsShort, RefusedKeeps, AcceptedWrites, RefusalsOfCalls, LoadAccepted, LoadHolds, ListOfCalls, AnswersInPlace, SamePlan, ExchangeAccepted, ExtractAccepted, PickExactly, RestOfLeaves, ExtractTakes, PositionInBytes, PriceLineOfCalls, PriceLineStays, PriceLineExchanged, MachinesAgree, AndAssociative, AndCommutative, ExchangeValue, ExtractionValue, valuesWhen, ListValue, FairMeaning, FairByArguments, MarksDiffer, NamesAreOnes, NamesOnce}
+use Rattle.definitions.specs.Meaning.{Fair}
+use Rattle.definitions.specs.Claims.{ExchangeTwice, ExtractExchanged, ExpressionReadBack, PlanReadBack, PlanOfBytes, AnyPosition, ExtractionGood, ExchangeGood, LengthsShort, RefusedKeeps, AcceptedWrites, RefusalsOfCalls, LoadAccepted, LoadHolds, ListOfCalls, AnswersInPlace, SamePlan, ExchangeAccepted, ExtractAccepted, PickExactly, RestOfLeaves, ExtractTakes, PositionInBytes, PriceLineOfCalls, PriceLineStays, PriceLineExchanged, MachinesAgree, AndAssociative, AndCommutative, ExchangeValue, ExtractionValue, valuesWhen, ListValue, FairMeaning, FairByArguments, MarksStay, NamesAreOnes, NamesOnce}
 use Rattle.definitions.specs.AnyMatcher.{Extracts, OneCall, Lists, AnyMatcher}
 use Rattle.definitions.specs.TenRows.{TenRows}
 use Rattle.definitions.specs.FurtherRows.{FurtherRows}
 use Rattle.definitions.specs.PositionRows.{PositionRows}
 use Rattle.definitions.specs.NearestRows.{NearestRows}
+use Rattle.definitions.specs.BoundRows.{BoundRows}
 use Rattle.definitions.specs.RefusalTable.{RefusalTable}
 use Rattle.definitions.specs.NameTables.{NameTables}
 use Rattle.definitions.specs.PrintClaims.{PrintsApart, PrintsNeverAlike, TextShort, TextPrintable, NoLeadingZero, PrintAccepted, PrintGiven, PrintRefused}
@@ -38,13 +36,14 @@ use Rattle.theorems.proofs.MatchLaws.{match-laws}
 use Rattle.theorems.proofs.Truth.{fair-symmetric, plan-exchange-value}
 use Rattle.theorems.proofs.Values.{and-value-assoc, and-value-comm}
 use Rattle.theorems.proofs.AnyMatchers.{any-matcher-is}
-use Rattle.theorems.proofs.FairExample.{fair-points, marks-apart}
+use Rattle.theorems.proofs.FairExample.{fair-points, marks-left}
 use Rattle.theorems.proofs.FairCounting.{fair-counting}
 use Rattle.definitions.proofs.Names.{each-once, names-ones, tables-hold}
 use Rattle.definitions.proofs.Table.{ten-rows-hold}
 use Rattle.definitions.proofs.OurRows.{further-rows-hold}
 use Rattle.definitions.proofs.PlacedRows.{position-rows-hold}
 use Rattle.definitions.proofs.Nearest.{nearest-rows-hold}
+use Rattle.definitions.proofs.Bounds.{bound-rows-hold}
 use Rattle.definitions.proofs.Refusals.{refusals-hold}
 use Rattle.theorems.proofs.PrintsApart.{told-apart}
 use Rattle.theorems.proofs.TextLength.{text-short}
@@ -71,8 +70,8 @@ pub any-matcher : AnyMatcher
 any-matcher = any-matcher-is
 
 -- So with 01's.
-by-leaf : Extracts matchLeaf LeafAsks × OneCall matchLeaf × Lists matchLeaf LeafAsks
-by-leaf = any-matcher .0 matchLeaf LeafAsks (any-matcher .1)
+by-leaf : Extracts matchLeaf Fair × OneCall matchLeaf × Lists matchLeaf Fair
+by-leaf = any-matcher .0 matchLeaf Fair (any-matcher .1)
 
 -- ---- the claims
 
@@ -168,10 +167,10 @@ pub exchange-has-value : ExchangeValue
 exchange-has-value M fair = plan-exchange-value M (fair-symmetric M fair)
 
 pub extraction-has-value : ExtractionValue
-extraction-has-value M fair v F X m = by-leaf .0 .value M v F X (fair, m)
+extraction-has-value M fair v F X = by-leaf .0 .value M v F X fair
 
 pub list-has-value : ListValue
-list-has-value M fair v F s m = by-leaf .2 .value M (fair-symmetric M fair) v F s (fair, m)
+list-has-value M fair v F s = by-leaf .2 .value M (fair-symmetric M fair) v F s fair
 
 pub fair-meaning : FairMeaning
 fair-meaning = fair-points
@@ -179,8 +178,8 @@ fair-meaning = fair-points
 pub fair-by-arguments : FairByArguments
 fair-by-arguments = fair-counting
 
-pub marks-differ : MarksDiffer
-marks-differ = marks-apart
+pub marks-stay : MarksStay
+marks-stay = marks-left
 
 pub names-are-ones : NamesAreOnes
 names-are-ones = names-ones
@@ -202,6 +201,9 @@ position-rows = position-rows-hold
 
 pub nearest-rows : NearestRows
 nearest-rows = nearest-rows-hold
+
+pub bound-rows : BoundRows
+bound-rows = bound-rows-hold
 
 pub refusals : RefusalTable
 refusals = refusals-hold
@@ -262,19 +264,15 @@ pub any-matcher-merges : AnyMatcherMerges
 any-matcher-merges match Asks laws = (list-after laws, history-of laws)
 
 pub list-after-merge : ListAfterMerge
-list-after-merge = any-matcher-merges matchLeaf LeafAsks match-laws .0
+list-after-merge = any-matcher-merges matchLeaf Fair match-laws .0
 
 pub history-of-calls : HistoryOfCalls
-history-of-calls = any-matcher-merges matchLeaf LeafAsks match-laws .1
-
-no-marks : (rs rs′ : List Record) → NoMarks rs → NoMarks rs′ → NoMarks (rs ++ rs′)
-no-marks [] rs′ h k = k
-no-marks (r ∷ rs) rs′ h k = (h .0, no-marks rs rs′ (h .1) k)
+history-of-calls = any-matcher-merges matchLeaf Fair match-laws .1
 
 pub value-after-merge : ValueAfterMerge
 unfolding mergeFrames
-value-after-merge M fair v old new s g h k calls =
-    let l = list-has-value M fair v (mergeFrames old new) s (no-marks (old .records) (new .records) h k) calls in
+value-after-merge M fair v old new s g calls =
+    let l = list-has-value M fair v (mergeFrames old new) s calls in
     (l .0, l .1, l .2 ∙ merged-value M (valuesWhen (oddIn s calls) v) old new g)
 
 pub merge-rows : MergeRows
@@ -345,8 +343,7 @@ pub any-matcher-projects : AnyMatcherProjects
 any-matcher-projects match Asks laws = list-projected laws
 
 pub list-projected-has-value : ListProjectedValue
-list-projected-has-value M fair v w F s m =
-    any-matcher-projects matchLeaf LeafAsks match-laws M (fair-symmetric M fair) v w F s (fair, m)
+list-projected-has-value M fair v w F s = any-matcher-projects matchLeaf Fair match-laws M (fair-symmetric M fair) v w F s fair
 
 pub project-rows : ProjectRows
 project-rows = project-rows-hold

@@ -67,8 +67,8 @@ abbrev pub SameValue : Meaning → Valuation → Frame → Option Extraction →
 SameValue M v F none = Unit {0}
 SameValue M v F (some X) = extractionValue M v X ≡ frameValue M v F
 
-module _ {match : Matcher} {Asks : Meaning → List Record → Type 0} (laws : Lawful match Asks) (M : Meaning) (v : Valuation) (F : Frame)
-    (asked : Asks M (F .records)) (range : InRange (indexBelow (length (F .records))) (F .expr)) where
+module _ {match : Matcher} {Asks : Meaning → Type 0} (laws : Lawful match Asks) (M : Meaning) (v : Valuation) (F : Frame)
+    (asked : Asks M) (range : InRange (indexBelow (length (F .records))) (F .expr)) where
   take-value : (p : Option Pick) → Picked (matchesBy match F) F p → SameValue M v F (takePick F p)
   unfolding takePick extractionValue frameValue
   take-value none h = tt
@@ -133,8 +133,8 @@ base-value M v F none h = refl
 base-value M v F (some X) h = h
 
 -- Whatever the list of calls, the plan has the frame's value; odd, with the values of left and right exchanged.
-module _ {match : Matcher} {Asks : Meaning → List Record → Type 0} (laws : Lawful match Asks) (M : Meaning) (turns : Symmetric M)
-    (v : Valuation) (F : Frame) (asked : Asks M (F .records)) (range : InRange (indexBelow (length (F .records))) (F .expr)) where
+module _ {match : Matcher} {Asks : Meaning → Type 0} (laws : Lawful match Asks) (M : Meaning) (turns : Symmetric M)
+    (v : Valuation) (F : Frame) (asked : Asks M) (range : InRange (indexBelow (length (F .records))) (F .expr)) where
   pub machine-value : (e o : Bool)
       → planValue M v (machinePlan match F (record { isExtracted = e; isOdd = o })) ≡ frameValue M (if o then exchangedValues v else v) F
   unfolding machinePlan planValue
