@@ -25,6 +25,10 @@ withMarks e = record { records = on left 5 ∷ on right 0 ∷ on noSide 9 ∷ on
 abbrev pub near : (bound : Expr) → Frame
 near bound = withMarks (call (ascii "st_dwithin") (cons (column 0 0) (cons (column 1 0) (cons bound nil))))
 
+-- `st_distance` of both, compared with this bound by Lt.
+abbrev pub below : (bound : Expr) → Frame
+below bound = withMarks (binary 1 (call (ascii "st_distance") (cons (column 0 0) (cons (column 1 0) nil))) bound)
+
 -- A bound of two columns.
 abbrev pub both : (one two : ℕ) → Expr
 both one two = binary 5 (column one 0) (column two 0)
@@ -49,9 +53,8 @@ pub record BoundRows : Type 0 where
   pub of-two : map (λ bound. matchesOf (near bound)) (both 0 2 ∷ both 2 1 ∷ both 0 1 ∷ [])
       ≡ (none ∷ []) ∷ (none ∷ []) ∷ (none ∷ []) ∷ []
   -- a comparison likewise
-  pub compared : matchesOf (withMarks (binary 1 (call (ascii "st_distance") (cons (column 0 0) (cons (column 1 0) nil))) (column 3 0)))
-      ≡ none ∷ []
-  pub compared-none : matchesOf (withMarks (binary 1 (call (ascii "st_distance") (cons (column 0 0) (cons (column 1 0) nil))) (other 7 nil)))
+  pub compared : matchesOf (below (column 3 0)) ≡ none ∷ []
+  pub compared-none : matchesOf (below (other 7 nil))
       ≡ some (distance 1 noSide (column 5 0) (column 0 0) (other 7 nil)) ∷ []
   -- merged or not
   pub merged : matchesOf (mergeFrames (withMarks (other 0 nil)) markedFrame) ≡ none ∷ none ∷ []
