@@ -1,6 +1,6 @@
 -- Which distances match, by the columns of their bound: by computation.
 use mathlib.Core.Path.{refl}
-use Rattle.definitions.specs.Claims.{markedFrame}
+use Rattle.definitions.specs.ValueClaims.{markedFrame}
 use Rattle.definitions.specs.BoundRows.{BoundRows}
 use Rattle.definitions.proofs.Everything.{everything}
 

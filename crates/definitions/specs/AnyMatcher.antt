@@ -20,7 +20,8 @@ use Rattle.definitions.specs.NodeTable.{NodeRecord}
 use Rattle.definitions.specs.Sessions.{Made, extractWith, exchangeWith, makeBy, machineAfterBy, accepted, SessionBy, after, lengthAfter, planAfter, extractedIn, oddIn, answerAfter}
 use Rattle.definitions.specs.Meaning.{Valuation, Meaning, Fair, frameValue, extractionValue}
 use Rattle.definitions.specs.Matchers.{Lawful, Symmetric}
-use Rattle.definitions.specs.Claims.{CallWrote, extractRefusals, RefusedBy, LoadHoldsBy, AgreeBy, someLeafMatchesBy, matchAt, TookAmong, extractedPlan, NamesLeaf, priceLineBy, OnLine, valuesWhen, HasValue}
+use Rattle.definitions.specs.Claims.{CallWrote, extractRefusals, RefusedBy, LoadHoldsBy, AgreeBy, someLeafMatchesBy, matchAt, TookAmong, extractedPlan, NamesLeaf, priceLineBy, OnLine}
+use Rattle.definitions.specs.ValueClaims.{valuesWhen, HasValue}
 
 -- The extractions with a matcher; `Asks` is what their values ask of a meaning.
 pub record Extracts (match : Matcher) (Asks : Meaning → Type 0) : Type 0 where

@@ -11,7 +11,7 @@ use Rattle.definitions.specs.Calls.{exchange}
 use Rattle.definitions.specs.Extract.{matchesOf}
 use Rattle.definitions.specs.Merge.{mergeFrames}
 use Rattle.definitions.specs.Project.{project}
-use Rattle.definitions.specs.Claims.{markedFrame}
+use Rattle.definitions.specs.ValueClaims.{markedFrame}
 
 -- A record of this side and child index.
 abbrev pub on : Side → (child : ℕ) → Record

@@ -42,6 +42,7 @@ pub mod OddMachine
 pub mod History
 pub mod Hosts
 pub mod Claims
+pub mod ValueClaims
 pub mod AnyMatcher
 pub mod TenRows
 pub mod FurtherRows

@@ -19,7 +19,8 @@ use Rattle.definitions.specs.NodeTable.{NodeRecord}
 use Rattle.definitions.specs.Sessions.{Made, callsRunBy, machineAfterBy, accepted, SessionBy, Session, after, planAfter, extractedIn, oddIn}
 use Rattle.definitions.specs.Meaning.{Valuation, Meaning, Fair, andValue, frameValue}
 use Rattle.definitions.specs.Matchers.{Lawful}
-use Rattle.definitions.specs.Claims.{Filled, CallWrote, LeavesSession, AgreeBy, valuesWhen, HasValue}
+use Rattle.definitions.specs.Claims.{Filled, CallWrote, LeavesSession, AgreeBy}
+use Rattle.definitions.specs.ValueClaims.{valuesWhen, HasValue}
 use Rattle.definitions.specs.Merge.{raised, mergeFrames, overLimits, MergeOutcome, merge}
 use Rattle.definitions.specs.History.{Call, nothing, statePlan, heldNow, History, machineHistory, HistoryOutcome, historyBy, FramesAreBytes}
 

@@ -20,7 +20,8 @@ use Rattle.definitions.specs.Meaning.{Valuation, Meaning, Fair, frameVal
 use Rattle.definitions.specs.Matchers.{Lawful, Symmetric}
 use Rattle.definitions.specs.Project.{placeIn, Lists, placed, projectExtraction, projection, project}
 use Rattle.definitions.specs.OddMachine.{extractedPlan, oddLength, OddRun, oddRun}
-use Rattle.definitions.specs.Claims.{CallWrote, valuesWhen, HasValue}
+use Rattle.definitions.specs.Claims.{CallWrote}
+use Rattle.definitions.specs.ValueClaims.{valuesWhen, HasValue}
 
 -- ---- places
 

@@ -18,7 +18,8 @@ use Rattle.definitions.specs.Machine.{extractCall, exchangeCall}
 use Rattle.definitions.specs.Good.{AllBytes}
 use Rattle.definitions.specs.Sessions.{Made, fed, makeBy, make, ListOutcome, callsRunBy, callsRun, machineAfter, accepted, extractAccepted, exchangesOdd, Session, after, planLeft}
 use Rattle.definitions.specs.Meaning.{Valuation, Meaning, Fair, frameValue, extractionValue}
-use Rattle.definitions.specs.Claims.{LeavesSession, Agree, someLeafMatches, Took, extractedPlan, NamesLeaf, priceLine, valuesWhen, HasValue}
+use Rattle.definitions.specs.Claims.{LeavesSession, Agree, someLeafMatches, Took, extractedPlan, NamesLeaf, priceLine}
+use Rattle.definitions.specs.ValueClaims.{valuesWhen, HasValue}
 use Rattle.definitions.specs.Merge.{mergeFrames, MergeOutcome, merge}
 use Rattle.definitions.specs.NodeTable.{NodeRecord}
 use Rattle.definitions.specs.MergeClaims.{LeftBy}

@@ -18,7 +18,8 @@ use Rattle.definitions.specs.Machine.{extractCall, exchangeCall}
 use Rattle.definitions.specs.Good.{AllBytes}
 use Rattle.definitions.specs.Sessions.{Made, fed, make, ListOutcome, machineAfter, accepted, extractAccepted, exchangesOdd, planLeft}
 use Rattle.definitions.specs.Meaning.{Valuation, Meaning, Fair, frameValue, extractionValue}
-use Rattle.definitions.specs.Claims.{Agree, someLeafMatches, Took, extractedPlan, NamesLeaf, priceLine, valuesWhen, HasValue}
+use Rattle.definitions.specs.Claims.{Agree, someLeafMatches, Took, extractedPlan, NamesLeaf, priceLine}
+use Rattle.definitions.specs.ValueClaims.{valuesWhen, HasValue}
 use Rattle.definitions.specs.Merge.{mergeFrames, merge}
 use Rattle.definitions.specs.Project.{projection, project, Lists as ChildLists}
 use Rattle.definitions.specs.OddMachine.{oddRun}

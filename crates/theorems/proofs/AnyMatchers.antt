@@ -9,7 +9,7 @@ use Rattle.definitions.specs.Machine.{Bits, machinePlan}
 use Rattle.definitions.specs.Sessions.{Made, SessionBy, planAfter, oddIn}
 use Rattle.definitions.specs.Meaning.{Valuation, Meaning, frameValue}
 use Rattle.definitions.specs.Matchers.{Lawful, Symmetric}
-use Rattle.definitions.specs.Claims.{valuesWhen, HasValue}
+use Rattle.definitions.specs.ValueClaims.{valuesWhen, HasValue}
 use Rattle.definitions.specs.AnyMatcher.{Extracts, OneCall, Lists, AnyMatcher}
 use Rattle.theorems.proofs.ExtractExchange.{exchanged-by}
 use Rattle.theorems.proofs.RoundTripPlan.{plan-reads}

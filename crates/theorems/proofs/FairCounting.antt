@@ -16,7 +16,7 @@ use Rattle.definitions.specs.Match.{literalK, literalBool, knnLiterals, knnRequ
 use Rattle.definitions.specs.Decode.{Columns, indexBelow}
 use Rattle.definitions.specs.Good.{InRange, InRangeAll}
 use Rattle.definitions.specs.Meaning.{Valuation, Meaning, value, values, frameColumns, Fair}
-use Rattle.definitions.specs.Claims.{FairByArguments}
+use Rattle.definitions.specs.ValueClaims.{FairByArguments}
 use Rattle.definitions.proofs.Everything.{everything}
 use Rattle.theorems.proofs.Tools.{same-name}
 use Rattle.theorems.proofs.KnnLeaves.{Asked, Matched, leaf-matched}

@@ -14,7 +14,7 @@ use Rattle.definitions.specs.Literals.{signed, u32, numberU32, isK, onlyK}
 use Rattle.definitions.specs.Leaves.{relationNamed}
 use Rattle.definitions.specs.Match.{literalU32, literalK, literalBool, knnLiterals, knnRequest, matchLeaf}
 use Rattle.definitions.specs.Meaning.{Valuation, Meaning, value, frameColumns, Fair}
-use Rattle.definitions.specs.Claims.{FairMeaning, markedFrame, markCopied, MarksStay}
+use Rattle.definitions.specs.ValueClaims.{FairMeaning, markedFrame, markCopied, MarksStay}
 use Rattle.definitions.proofs.Everything.{everything}
 use Rattle.theorems.proofs.Tools.{by-test}
 use Rattle.theorems.proofs.KnnLeaves.{Asked, Matched, leaf-matched}

@@ -19,7 +19,7 @@ use Rattle.definitions.specs.NodeTable.{NodeRecord}
 use Rattle.definitions.specs.Sessions.{Made, fed, ListOutcome, accepted, exchangesOdd, after, planLeft}
 use Rattle.definitions.specs.Meaning.{Valuation, Meaning, frameValue, extractionValue, planValue, exchangedValues}
 use Rattle.definitions.specs.Matchers.{Lawful, Symmetric}
-use Rattle.definitions.specs.Claims.{valuesWhen}
+use Rattle.definitions.specs.ValueClaims.{valuesWhen}
 use Rattle.definitions.specs.Project.{Lists, projectExtraction, projection}
 use Rattle.definitions.specs.OddMachine.{extractedPlan, oddLength, oddRun}
 use Rattle.definitions.specs.ProjectClaims.{Projects, projectBy, OddAgree, callsFrom, oddFrom, ValueFrom, ListAfterProjection, ListProjectedBy}

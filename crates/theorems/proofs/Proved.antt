@@ -3,7 +3,8 @@ use mathlib.Core.Path.{_∙_}
 use Rattle.definitions.specs.Match.{matchLeaf}
 use Rattle.definitions.specs.Sessions.{oddIn}
 use Rattle.definitions.specs.Meaning.{Fair}
-use Rattle.definitions.specs.Claims.{ExchangeTwice, ExtractExchanged, ExpressionReadBack, PlanReadBack, PlanOfBytes, AnyPosition, ExtractionGood, ExchangeGood, LengthsShort, RefusedKeeps, AcceptedWrites, RefusalsOfCalls, LoadAccepted, LoadHolds, ListOfCalls, AnswersInPlace, SamePlan, ExchangeAccepted, ExtractAccepted, PickExactly, RestOfLeaves, ExtractTakes, PositionInBytes, PriceLineOfCalls, PriceLineStays, PriceLineExchanged, MachinesAgree, AndAssociative, AndCommutative, ExchangeValue, ExtractionValue, valuesWhen, ListValue, FairMeaning, FairByArguments, MarksStay, NamesAreOnes, NamesOnce}
+use Rattle.definitions.specs.Claims.{ExchangeTwice, ExtractExchanged, ExpressionReadBack, PlanReadBack, PlanOfBytes, AnyPosition, ExtractionGood, ExchangeGood, LengthsShort, RefusedKeeps, AcceptedWrites, RefusalsOfCalls, LoadAccepted, LoadHolds, ListOfCalls, AnswersInPlace, SamePlan, ExchangeAccepted, ExtractAccepted, PickExactly, RestOfLeaves, ExtractTakes, PositionInBytes, PriceLineOfCalls, PriceLineStays, PriceLineExchanged, MachinesAgree, NamesAreOnes, NamesOnce}
+use Rattle.definitions.specs.ValueClaims.{AndAssociative, AndCommutative, ExchangeValue, ExtractionValue, valuesWhen, ListValue, FairMeaning, FairByArguments, MarksStay}
 use Rattle.definitions.specs.AnyMatcher.{Extracts, OneCall, Lists, AnyMatcher}
 use Rattle.definitions.specs.TenRows.{TenRows}
 use Rattle.definitions.specs.FurtherRows.{FurtherRows}
