@@ -144,6 +144,10 @@ fn put_opaque(opaque: &Opaque, out: &mut Vec<u8>) {
         }
         Meaning::Operator(number) => out.extend([2, number]),
         Meaning::ZeroK(kind) => out.extend([1, kind, 0, 0, 0, 0, 0, 0, 0, 0]),
+        Meaning::MarkedDwithin => {
+            out.extend(b"\x03\x0ast_dwithin");
+            out.push(opaque.children.len() as u8);
+        }
     }
 }
 
@@ -152,7 +156,7 @@ mod tests {
     use reading::{decode, program};
 
     use super::put_filter;
-    use crate::host::{ZeroK, join_filter};
+    use crate::host::{Hidden, join_filter};
     use crate::make;
 
     /// Nothing of a frame is lost in the join filter that is made from it.
@@ -162,9 +166,9 @@ mod tests {
             for line in make::case(3, number).lines {
                 let bytes = program::parse(&line).unwrap_or_default();
                 if let Ok(frame) = decode::physical(&bytes) {
-                    for zero_k in [ZeroK::Literal, ZeroK::NoLiteral] {
+                    for hidden in [Hidden::NOTHING, Hidden::ALL] {
                         let mut out = Vec::new();
-                        put_filter(&join_filter(&frame, zero_k), &mut out);
+                        put_filter(&join_filter(&frame, hidden), &mut out);
                         assert_eq!(out, bytes);
                     }
                 }

@@ -6,7 +6,7 @@ use std::{io, iter};
 use reading::program::Program;
 
 use crate::make::{self, Case};
-use crate::original::{Nearest, Original, try_refused};
+use crate::original::{AsItIs, Original, try_refused};
 use crate::planner::Planner;
 use crate::progress::Progress;
 use crate::report::Report;
@@ -33,7 +33,9 @@ pub struct Expected {
     /// What the original's line is held to: the reading's, an extraction without its position.
     held_to: Vec<u8>,
     /// What the original does with a k of 0, for an extract of a frame that has one (request 5).
-    pub nearest: Option<Nearest>,
+    pub nearest: Option<AsItIs>,
+    /// Likewise with a bound of mark columns (request 8).
+    pub marked: Option<AsItIs>,
 }
 
 /// Reading and original, each with its own plan.
@@ -59,12 +61,13 @@ impl Expected {
 impl References {
     pub fn expect(&mut self, line: &[u8]) -> Expected {
         let reading = self.reading.answer(line);
-        let nearest = match line {
-            b"21" => self.original.nearest(),
-            _ => None,
+        let (nearest, marked) = match line {
+            b"21" => (self.original.nearest(), self.original.marked()),
+            _ => (None, None),
         };
         Expected {
             nearest,
+            marked,
             original: self.original.answer(line),
             held_to: without_position(line, &reading),
             reading,
@@ -188,9 +191,7 @@ fn hold(
         {
             report.count_tried(&compared.expected.reading, tried);
         }
-        if let Some(nearest) = &compared.expected.nearest {
-            report.count_nearest(&compared.expected.reading, nearest);
-        }
+        report.count_as_it_is(&compared.expected);
         if !compared.agrees() {
             differences += 1;
             if differences == 1 && report.shown.len() < show {

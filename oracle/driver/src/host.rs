@@ -34,11 +34,25 @@ pub fn tag_and_leaf(name: &str) -> (u16, u16) {
     ((number >> 16) as u16, number as u16)
 }
 
-/// What the original is given for a k of 0 in an AND-leaf: the literal, or a node that it doesn't know.
+/// Which AND-leaves the original gets with a node that it doesn't know, so that they do not match: those
+/// that document 02 says do not, and the original takes.
 #[derive(Clone, Copy)]
-pub enum ZeroK {
-    Literal,
-    NoLiteral,
+pub struct Hidden {
+    /// A k of 0 (request 5).
+    pub zero_k: bool,
+    /// A distance whose bound has mark columns only (request 8).
+    pub marks: bool,
+}
+
+impl Hidden {
+    pub const ALL: Hidden = Hidden {
+        zero_k: true,
+        marks: true,
+    };
+    pub const NOTHING: Hidden = Hidden {
+        zero_k: false,
+        marks: false,
+    };
 }
 
 /// The type of the literal 0 that stands for k in a leaf.
@@ -56,7 +70,32 @@ pub fn zero_k(leaf: &Expr) -> Option<u8> {
     }
 }
 
-pub fn join_filter(frame: &Frame, zero_k: ZeroK) -> JoinFilter {
+/// Whether a leaf is a distance whose bound has columns, all of them mark columns.
+pub fn marked_bound(leaf: &Expr, records: &[Record]) -> bool {
+    let bound = match leaf {
+        Expr::Function { name, args } if name == b"st_dwithin" => args.get(2),
+        _ => match leaf.compared() {
+            Some((Expr::Function { name, .. }, bound)) if name == b"st_distance" => Some(bound),
+            _ => None,
+        },
+    };
+    let mut sides = Vec::new();
+    if let Some(bound) = bound {
+        collect_sides(bound, records, &mut sides);
+    }
+    !sides.is_empty() && sides.iter().all(|side| *side == Side::None)
+}
+
+fn collect_sides(expr: &Expr, records: &[Record], sides: &mut Vec<Side>) {
+    if let Expr::Column { index, .. } = expr {
+        sides.push(records[usize::from(*index)].side);
+    }
+    for child in expr.children() {
+        collect_sides(child, records, sides);
+    }
+}
+
+pub fn join_filter(frame: &Frame, hidden: Hidden) -> JoinFilter {
     let field = |record: &Record| Field::new(record.tag.to_string(), DataType::Null, true);
     let fields: Vec<Field> = frame.records.iter().map(field).collect();
     let index = |record: &Record| ColumnIndex {
@@ -64,7 +103,7 @@ pub fn join_filter(frame: &Frame, zero_k: ZeroK) -> JoinFilter {
         side: join_side(record.side),
     };
     JoinFilter::new(
-        and_tree(&frame.expr, zero_k, &mut 0),
+        and_tree(&frame.expr, &frame.records, hidden, &mut 0),
         frame.records.iter().map(index).collect(),
         Arc::new(Schema::new(fields)),
     )
@@ -79,31 +118,54 @@ pub fn join_side(side: Side) -> JoinSide {
 }
 
 /// The expression, its AND-leaves counted on the way.
-fn and_tree(expr: &Expr, zero_k: ZeroK, leaf: &mut u16) -> Arc<dyn PhysicalExpr> {
+fn and_tree(
+    expr: &Expr,
+    records: &[Record],
+    hidden: Hidden,
+    leaf: &mut u16,
+) -> Arc<dyn PhysicalExpr> {
     match expr {
         Expr::Binary { op, left, right } if *op == operator::AND => {
-            let left = and_tree(left, zero_k, leaf);
-            binary(*op, left, and_tree(right, zero_k, leaf))
+            let left = and_tree(left, records, hidden, leaf);
+            binary(*op, left, and_tree(right, records, hidden, leaf))
         }
         _ => {
             *leaf += 1;
-            and_leaf(expr, zero_k, *leaf - 1)
+            let leaf = *leaf - 1;
+            match zero_k(expr) {
+                Some(kind) if hidden.zero_k => without_k(expr, kind, leaf),
+                _ if hidden.marks && marked_bound(expr, records) => without_match(expr, leaf),
+                _ => physical(expr, leaf),
+            }
         }
     }
 }
 
-fn and_leaf(expr: &Expr, given: ZeroK, leaf: u16) -> Arc<dyn PhysicalExpr> {
-    match (expr, given, zero_k(expr)) {
-        (Expr::Function { name, args }, ZeroK::NoLiteral, Some(kind)) => {
-            let mut args: Vec<_> = args.iter().map(|arg| physical(arg, leaf)).collect();
-            args[2] = Arc::new(Opaque {
-                meaning: Meaning::ZeroK(kind),
-                children: Vec::new(),
-            });
-            function(name, args)
-        }
-        _ => physical(expr, leaf),
-    }
+/// The leaf with a node in the place of its k.
+fn without_k(expr: &Expr, kind: u8, leaf: u16) -> Arc<dyn PhysicalExpr> {
+    let Expr::Function { name, args } = expr else {
+        panic!("only a call has a k");
+    };
+    let mut args: Vec<_> = args.iter().map(|arg| physical(arg, leaf)).collect();
+    args[2] = opaque(Meaning::ZeroK(kind), Vec::new());
+    function(name, args)
+}
+
+/// The distance as a node over its arguments, or over the two sides of its comparison.
+fn without_match(expr: &Expr, leaf: u16) -> Arc<dyn PhysicalExpr> {
+    let meaning = match expr {
+        Expr::Binary { op, .. } => Meaning::Operator(*op),
+        _ => Meaning::MarkedDwithin,
+    };
+    let children = expr.children().into_iter();
+    opaque(
+        meaning,
+        children.map(|child| physical(child, leaf)).collect(),
+    )
+}
+
+fn opaque(meaning: Meaning, children: Vec<Arc<dyn PhysicalExpr>>) -> Arc<dyn PhysicalExpr> {
+    Arc::new(Opaque { meaning, children })
 }
 
 fn physical(expr: &Expr, leaf: u16) -> Arc<dyn PhysicalExpr> {
@@ -117,10 +179,7 @@ fn physical(expr: &Expr, leaf: u16) -> Arc<dyn PhysicalExpr> {
             binary(*op, physical(left, leaf), physical(right, leaf))
         }
         Expr::Function { name, args } => function(name, all(args)),
-        Expr::Other { tag, children } => Arc::new(Opaque {
-            meaning: Meaning::Other(*tag),
-            children: all(children),
-        }),
+        Expr::Other { tag, children } => opaque(Meaning::Other(*tag), all(children)),
         Expr::LogicalColumn { .. } => panic!("a physical frame has no logical column"),
     }
 }
@@ -132,10 +191,7 @@ pub fn binary(
 ) -> Arc<dyn PhysicalExpr> {
     match scalars::operator(op) {
         Some(operator) => Arc::new(BinaryExpr::new(left, operator, right)),
-        None => Arc::new(Opaque {
-            meaning: Meaning::Operator(op),
-            children: vec![left, right],
-        }),
+        None => opaque(Meaning::Operator(op), vec![left, right]),
     }
 }
 

@@ -9,6 +9,7 @@ pub mod opaque;
 pub mod original;
 mod planner;
 pub mod progress;
+mod projected;
 pub mod report;
 pub mod rng;
 pub mod sample;

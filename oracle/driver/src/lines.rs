@@ -3,7 +3,7 @@
 use std::io::{self, BufRead, Write};
 
 use crate::compare::{Expected, References};
-use crate::original::{Nearest, Tried, try_refused};
+use crate::original::{AsItIs, Tried, try_refused};
 
 /// Answers every line of the input, and says whether reading and original agreed on all of them.
 /// It is an error if there is none.
@@ -47,13 +47,19 @@ fn nonetheless(line: &[u8], expected: &Expected) -> &'static str {
     }
 }
 
-/// What the original does with a k of 0 that it gets as a literal.
-fn as_it_is(expected: &Expected) -> &'static str {
-    match expected.nearest {
-        Some(Nearest::Panics) => ", with its k of 0 it panics",
-        Some(Nearest::TakesZero) => ", with its k of 0 it takes that",
-        Some(Nearest::TakesAnother) | Some(Nearest::FindsNothing) | None => "",
-    }
+/// What the original does with a k of 0 that it gets as a literal, and with a bound of mark columns that
+/// it gets as it is, where it does anything else.
+fn as_it_is(expected: &Expected) -> String {
+    let cases = [
+        ("k of 0", &expected.nearest),
+        ("bound of mark columns", &expected.marked),
+    ];
+    let said = |(what, as_it_is): (&str, &Option<AsItIs>)| match as_it_is {
+        Some(AsItIs::Panics) => format!(", with its {what} it panics"),
+        Some(AsItIs::TakesIt) => format!(", with its {what} it takes that"),
+        Some(AsItIs::TakesAnother | AsItIs::FindsNothing) | None => String::new(),
+    };
+    cases.map(said).concat()
 }
 
 #[cfg(test)]
@@ -98,6 +104,25 @@ mod tests {
         assert_eq!(
             told[3],
             "original 00130000000000010000020000000000000000000000"
+        );
+    }
+
+    #[test]
+    fn a_bound_of_mark_columns_is_none_and_is_given_to_the_original_nonetheless() {
+        let mut output = Vec::new();
+        let columns = "01000300000500000100000000020009000003";
+        let near = "0a73745f6477697468696e0300000000000000010000";
+        let run = format!("{columns}{near}0000020000\n21\n{columns}{near}0000000000\n21");
+        assert!(lines(run.as_bytes(), &mut output).unwrap());
+        let text = String::from_utf8(output).unwrap();
+        let told: Vec<&str> = text.lines().collect();
+        assert_eq!(
+            told[1],
+            "original 0d, with its bound of mark columns it takes that"
+        );
+        assert_eq!(
+            told[3],
+            "original 00120000000000000500000000000000000005000000"
         );
     }
 

@@ -18,6 +18,9 @@ pub enum Meaning {
     Operator(u8),
     /// A literal 0 of this type in place of k, which is no literal k (request 5 of document 02).
     ZeroK(u8),
+    /// An `st_dwithin` whose bound has mark columns only, which does not match (request 8). A comparison
+    /// with such a bound is an operator.
+    MarkedDwithin,
 }
 
 /// A node of a type that the original does not know, as most node types are to it.

@@ -3,15 +3,12 @@
 
 use std::cell::Cell;
 use std::panic::{self, AssertUnwindSafe};
-use std::sync::Arc;
 
 use datafusion_common::{DFSchema, JoinSide};
 use datafusion_expr::Expr as LogicalExpr;
-use datafusion_physical_expr::expressions::Column;
 use datafusion_physical_plan::joins::utils::{ColumnIndex, JoinFilter};
-use datafusion_physical_plan::projection::ProjectionExpr;
 use reading::decode;
-use reading::frame::{Expr, Frame, LOGICAL, PHYSICAL};
+use reading::frame::{Expr, Frame, LOGICAL, PHYSICAL, Record};
 use reading::physical::exchange_frame;
 use reading::program::{hex, parse};
 use reading::refusal::Refusal;
@@ -23,7 +20,7 @@ use sedona_query_planner::spatial_predicate::{
 };
 
 use crate::answer::{put_extraction, side_number, taken_leaf};
-use crate::host::{ZeroK, join_filter, logical_join, zero_k};
+use crate::host::{Hidden, join_filter, logical_join, marked_bound, zero_k};
 
 /// The names in the order in which the original's `collect_spatial_predicate_names` lists them,
 /// which gives them their bits.
@@ -73,10 +70,12 @@ pub enum Tried {
     FindsNothing,
 }
 
-/// What the original does with a filter that has a k of 0 in an AND-leaf, given as it is.
-pub enum Nearest {
+/// What the original does with a filter that is given as it is, where document 02 says that a leaf does
+/// not match.
+pub enum AsItIs {
     Panics,
-    TakesZero,
+    /// Such a leaf.
+    TakesIt,
     TakesAnother,
     FindsNothing,
 }
@@ -104,12 +103,54 @@ impl Original {
         }
     }
 
-    /// What it does with the held frame as it is, if that has a k of 0.
-    pub fn nearest(&self) -> Option<Nearest> {
-        match &self.held {
-            Held::Frame(frame) if has_zero_k(frame) => Some(try_zero_k(frame)),
-            _ => None,
+    /// What it does with a k of 0 in the held frame, if there is one (request 5 of document 02).
+    pub fn nearest(&self) -> Option<AsItIs> {
+        let hidden = Hidden {
+            zero_k: false,
+            ..Hidden::ALL
+        };
+        self.as_it_is(
+            |leaf, _| zero_k(leaf).is_some(),
+            hidden,
+            |taken| matches!(taken, SpatialPredicate::KNearestNeighbors(knn) if knn.k == 0),
+        )
+    }
+
+    /// What it does with a bound of mark columns in the held frame, if there is one (request 8).
+    pub fn marked(&self) -> Option<AsItIs> {
+        let hidden = Hidden {
+            marks: false,
+            ..Hidden::ALL
+        };
+        self.as_it_is(marked_bound, hidden, |taken| match taken {
+            SpatialPredicate::Distance(taken) => {
+                taken.distance_side == JoinSide::None && taken_leaf(&taken.distance).is_some()
+            }
+            _ => false,
+        })
+    }
+
+    /// Nothing where no AND-leaf of the held frame is such a one.
+    fn as_it_is(
+        &self,
+        is_such: fn(&Expr, &[Record]) -> bool,
+        hidden: Hidden,
+        took_such: fn(&SpatialPredicate) -> bool,
+    ) -> Option<AsItIs> {
+        let Held::Frame(frame) = &self.held else {
+            return None;
+        };
+        let leaves = frame.expr.and_leaves();
+        if !leaves.into_iter().any(|leaf| is_such(leaf, &frame.records)) {
+            return None;
         }
+        let filter = join_filter(frame, hidden);
+        Some(match guarded(|| transform_join_filter(&filter)) {
+            None => AsItIs::Panics,
+            Some(Some((taken, _))) if took_such(&taken) => AsItIs::TakesIt,
+            Some(Some(_)) => AsItIs::TakesAnother,
+            Some(None) => AsItIs::FindsNothing,
+        })
     }
 
     fn extract(&mut self) -> Option<Vec<u8>> {
@@ -161,50 +202,6 @@ impl Extracted {
         self.predicate = self.predicate.swap_for_swapped_children();
         self.remainder = self.remainder.as_ref().map(exchange_filter);
     }
-
-    /// Over narrowed children; `None` where a list lacks an index. The predicate is projected by the
-    /// original, but for what becomes of a column (request 7 of document 02).
-    pub fn project(&self, lists: &[Vec<u16>; 2]) -> Option<Self> {
-        let [left, right] = lists.each_ref().map(|list| projected_exprs(list));
-        let predicate = self.predicate.update_for_child_projections(&left, &right);
-        let remainder = match &self.remainder {
-            Some(filter) => Some(project_filter(filter, lists)?),
-            None => None,
-        };
-        Some(Extracted {
-            predicate: predicate.expect("a probe side is left or right")?,
-            form: self.form,
-            remainder,
-        })
-    }
-}
-
-/// A child's columns that stay, as the original is told of them.
-fn projected_exprs(list: &[u16]) -> Vec<ProjectionExpr> {
-    let item = |index: &u16| ProjectionExpr {
-        expr: Arc::new(Column::new("", usize::from(*index))),
-        alias: String::new(),
-    };
-    list.iter().map(item).collect()
-}
-
-/// The join filter's own projection isn't among the files: request 7 of document 02 gives its rule.
-fn project_filter(filter: &JoinFilter, lists: &[Vec<u16>; 2]) -> Option<JoinFilter> {
-    let place = |column: &ColumnIndex| {
-        let list = match column.side {
-            JoinSide::Left => &lists[0],
-            JoinSide::Right => &lists[1],
-            JoinSide::None => return Some(column.clone()),
-        };
-        let index = list
-            .iter()
-            .position(|item| usize::from(*item) == column.index)?;
-        let side = column.side;
-        Some(ColumnIndex { index, side })
-    };
-    let columns: Option<Vec<ColumnIndex>> = filter.column_indices().iter().map(place).collect();
-    let (expression, schema) = (filter.expression().clone(), filter.schema().clone());
-    Some(JoinFilter::new(expression, columns?, schema))
 }
 
 /// The join filter's own swap isn't among the files: document 01 gives its rule.
@@ -224,9 +221,10 @@ fn accepted(bytes: &[u8]) -> Vec<u8> {
     hex(&[&[0], bytes].concat())
 }
 
-/// As request 5 of document 02 has it: the original gets a k of 0 as no literal.
-fn transform(frame: &Frame) -> Option<Extracted> {
-    let (predicate, remainder) = transform_join_filter(&join_filter(frame, ZeroK::NoLiteral))?;
+/// As requests 5 and 8 of document 02 have it: a k of 0 is no literal, and a distance with a bound of
+/// mark columns is none to the original.
+pub fn transform(frame: &Frame) -> Option<Extracted> {
+    let (predicate, remainder) = transform_join_filter(&join_filter(frame, Hidden::ALL))?;
     let form = match &predicate {
         SpatialPredicate::Distance(distance) => form(frame, distance),
         _ => NO_FORM,
@@ -274,29 +272,12 @@ pub fn names_and_side(filter: &LogicalExpr, left: &DFSchema, right: &DFSchema) -
 pub fn try_refused(line: &[u8]) -> Option<Tried> {
     let bytes = parse(line).ok()?;
     let frame = decode::physical_shape(&bytes).ok()?;
-    let filter = join_filter(&frame, ZeroK::Literal);
+    let filter = join_filter(&frame, Hidden::NOTHING);
     Some(match guarded(|| transform_join_filter(&filter)) {
         None => Tried::Panics,
         Some(Some(_)) => Tried::Extracts,
         Some(None) => Tried::FindsNothing,
     })
-}
-
-fn has_zero_k(frame: &Frame) -> bool {
-    let leaves = frame.expr.and_leaves();
-    leaves.into_iter().any(|leaf| zero_k(leaf).is_some())
-}
-
-fn try_zero_k(frame: &Frame) -> Nearest {
-    let filter = join_filter(frame, ZeroK::Literal);
-    match guarded(|| transform_join_filter(&filter)) {
-        None => Nearest::Panics,
-        Some(Some((SpatialPredicate::KNearestNeighbors(knn), _))) if knn.k == 0 => {
-            Nearest::TakesZero
-        }
-        Some(Some(_)) => Nearest::TakesAnother,
-        Some(None) => Nearest::FindsNothing,
-    }
 }
 
 thread_local! {
@@ -319,56 +300,4 @@ pub fn keep_guarded_panics_quiet() {
             print(info);
         }
     }));
-}
-
-#[cfg(test)]
-mod tests {
-    use reading::frame::{Frame, Plan};
-    use reading::project::{Lists, project};
-    use reading::{decode, encode, physical, program};
-
-    use super::transform;
-    use crate::make::{self, lists::lists};
-    use crate::rng::Rng;
-
-    /// The reading's projection of a frame's extraction, exchanged or not, is the original's but for the
-    /// position; the first bytes of those that are accepted.
-    fn projected(frame: &Frame, rng: &mut Rng) -> Option<u8> {
-        let (mut extracted, read) = (transform(frame)?, physical::extract(frame)?);
-        let mut plan = Plan::Extraction(read);
-        if rng.one_in(2) {
-            extracted.exchange();
-            plan = physical::exchange(&plan);
-        }
-        let lists = lists(rng, &encode::plan(&plan));
-        let [left, right] = &lists;
-        let Plan::Extraction(read) = plan else {
-            panic!("it was extracted");
-        };
-        let read = project(&read, Lists { left, right });
-        let expected = read.map(|read| encode::plan(&Plan::Extraction(read)));
-        let mut out = None;
-        if let Some(projected) = extracted.project(&lists) {
-            projected.put(out.insert(Vec::new()));
-        }
-        let without_position = |plan: Vec<u8>| [&plan[..1], &plan[3..]].concat();
-        assert_eq!(out, expected.map(without_position));
-        out.map(|plan| plan[0])
-    }
-
-    #[test]
-    fn projections_are_the_originals() {
-        let mut counts = [0; 3];
-        for number in 0..8_000 {
-            let mut rng = Rng::new(7, number);
-            let line = make::case(7, number).lines.swap_remove(0);
-            let bytes = program::parse(&line).unwrap_or_default();
-            if let Ok(frame) = decode::physical(&bytes)
-                && let Some(first) = projected(&frame, &mut rng)
-            {
-                counts[usize::from(first - 0x11)] += 1;
-            }
-        }
-        assert!(counts.iter().all(|count| *count > 200), "{counts:?}");
-    }
 }

@@ -6,9 +6,9 @@ use std::process::ExitStatus;
 
 use reading::program::parse;
 
-use crate::compare::Compared;
+use crate::compare::{Compared, Expected};
 use crate::make::Case;
-use crate::original::{Nearest, Tried};
+use crate::original::{AsItIs, Tried};
 
 #[derive(Default)]
 struct ClassCount {
@@ -30,10 +30,13 @@ struct TriedCount {
     nothing: u64,
 }
 
+/// What the original did as it is, by our answer.
+type AsItIsCounts = BTreeMap<&'static str, AsItIsCount>;
+
 #[derive(Default)]
-struct NearestCount {
+struct AsItIsCount {
     panics: u64,
-    zero: u64,
+    takes: u64,
     another: u64,
     nothing: u64,
 }
@@ -52,7 +55,8 @@ pub struct Report {
     classes: BTreeMap<&'static str, ClassCount>,
     answers: BTreeMap<&'static str, AnswerCount>,
     tried: BTreeMap<String, TriedCount>,
-    nearest: BTreeMap<&'static str, NearestCount>,
+    nearest: AsItIsCounts,
+    marked: AsItIsCounts,
     runs: u64,
     /// Lines that the planner wrote.
     pub written: u64,
@@ -79,14 +83,23 @@ impl Report {
         }
     }
 
-    /// An extract of a frame with a k of 0, by our answer.
-    pub fn count_nearest(&mut self, answer: &[u8], nearest: &Nearest) {
-        let count = self.nearest.entry(kind(b"21", answer)).or_default();
-        match nearest {
-            Nearest::Panics => count.panics += 1,
-            Nearest::TakesZero => count.zero += 1,
-            Nearest::TakesAnother => count.another += 1,
-            Nearest::FindsNothing => count.nothing += 1,
+    /// An extract of a frame with a k of 0 or a bound of mark columns.
+    pub fn count_as_it_is(&mut self, expected: &Expected) {
+        let cases = [
+            (&expected.nearest, &mut self.nearest),
+            (&expected.marked, &mut self.marked),
+        ];
+        for (as_it_is, counts) in cases {
+            let Some(as_it_is) = as_it_is else {
+                continue;
+            };
+            let count = counts.entry(kind(b"21", &expected.reading)).or_default();
+            match as_it_is {
+                AsItIs::Panics => count.panics += 1,
+                AsItIs::TakesIt => count.takes += 1,
+                AsItIs::TakesAnother => count.another += 1,
+                AsItIs::FindsNothing => count.nothing += 1,
+            }
         }
     }
 
@@ -227,23 +240,22 @@ impl Report {
     }
 }
 
-impl Report {
-    fn write_nearest(&self, f: &mut fmt::Formatter<'_>) -> fmt::Result {
-        let (zero, another, nothing, panics) = ("takes it", "another", "finds none", "panics");
+fn write_as_it_is(f: &mut fmt::Formatter<'_>, what: &str, counts: &AsItIsCounts) -> fmt::Result {
+    let head = format!("{what}; the original, as it is");
+    let (takes, another, nothing, panics) = ("takes it", "another", "finds none", "panics");
+    writeln!(
+        f,
+        "\n{head:<40}{takes:>10}{another:>10}{nothing:>12}{panics:>8}"
+    )?;
+    for (answer, count) in counts {
+        let (takes, another, nothing) = (count.takes, count.another, count.nothing);
+        let panics = count.panics;
         writeln!(
             f,
-            "\na k of 0; the original, as it is{zero:>10}{another:>10}{nothing:>12}{panics:>8}"
+            "{answer:<40}{takes:>10}{another:>10}{nothing:>12}{panics:>8}"
         )?;
-        for (answer, count) in &self.nearest {
-            let (zero, another, nothing) = (count.zero, count.another, count.nothing);
-            let panics = count.panics;
-            writeln!(
-                f,
-                "{answer:<32}{zero:>10}{another:>10}{nothing:>12}{panics:>8}"
-            )?;
-        }
-        Ok(())
     }
+    Ok(())
 }
 
 impl fmt::Display for Report {
@@ -251,7 +263,8 @@ impl fmt::Display for Report {
         self.write_classes(f)?;
         self.write_answers(f)?;
         self.write_tried(f)?;
-        self.write_nearest(f)?;
+        write_as_it_is(f, "a k of 0", &self.nearest)?;
+        write_as_it_is(f, "a bound of marks", &self.marked)?;
         for difference in &self.shown {
             write!(f, "\n{difference}")?;
         }

@@ -154,7 +154,7 @@ fn match_distance(leaf: &Expr, records: &[Record]) -> Option<Predicate> {
         _ => return None,
     };
     let found = geometries(args.first()?, args.get(1)?, records)?;
-    let side = side_of(bound, records)?;
+    let side = bound_side(bound, records)?;
     Some(Predicate::Distance {
         form,
         side,
@@ -162,6 +162,14 @@ fn match_distance(leaf: &Expr, records: &[Record]) -> Option<Predicate> {
         right: found.right,
         distance: stored(bound, side, records),
     })
+}
+
+/// Request 8 of document 02: a distance with at least one column needs side left or right.
+fn bound_side(bound: &Expr, records: &[Record]) -> Option<Side> {
+    let side = side_of(bound, records)?;
+    let mut columns = 0;
+    collect_columns(bound, &mut |_| columns += 1);
+    (columns == 0 || side != Side::None).then_some(side)
 }
 
 fn match_knn(leaf: &Expr, records: &[Record]) -> Option<Predicate> {

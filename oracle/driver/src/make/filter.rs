@@ -177,7 +177,6 @@ impl<'r> Filter<'r> {
         Expr::Function { name, args }
     }
 
-    /// Any of the five forms; at times `st_distance` stands where it isn't read.
     pub fn distance(&mut self) -> Expr {
         let bound = match self.rng.below(4) {
             0 => self.argument(),
@@ -187,6 +186,26 @@ impl<'r> Filter<'r> {
                 self.of_side(side, 2)
             }
         };
+        self.distance_to(bound)
+    }
+
+    /// A bound of mark columns, one or more; of one beside a left or a right column; without columns.
+    pub fn bound_beside_marks(&mut self) -> Expr {
+        let other = self.rng.pick(&[Side::Left, Side::Right, Side::None]);
+        match self.rng.below(6) {
+            0 => self.column(Side::None),
+            1 => self.of_side(Side::None, 2),
+            2 => self.columnless(),
+            _ => {
+                let mut children = vec![self.of_side(Side::None, 1), self.column(other)];
+                self.rng.shuffle(&mut children);
+                self.node(children)
+            }
+        }
+    }
+
+    /// Any of the five forms with this bound; at times `st_distance` stands where it isn't read.
+    pub fn distance_to(&mut self, bound: Expr) -> Expr {
         let mut args = self.pair();
         let op = self.rng.below(5) as u8;
         if op == operator::AND {

@@ -22,7 +22,7 @@ pub struct Class {
     lines: fn(&mut Rng) -> Vec<Vec<u8>>,
 }
 
-pub const CLASSES: [Class; 18] = [
+pub const CLASSES: [Class; 19] = [
     class("relation", 12, |rng| loaded(rng, physical::relation)),
     class("distance", 12, |rng| loaded(rng, physical::distance)),
     class("knn", 14, |rng| loaded(rng, physical::knn)),
@@ -53,6 +53,7 @@ pub const CLASSES: [Class; 18] = [
     class("likely bytes", 4, |rng| loaded(rng, damage::likely_bytes)),
     class("call lists", 4, call_list_lines),
     class("wide tables", 2, |rng| loaded(rng, physical::wide_tables)),
+    class("mark bounds", 6, |rng| loaded(rng, physical::mark_bounds)),
 ];
 
 pub const LIMITS: &str = "limits";

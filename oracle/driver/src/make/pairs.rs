@@ -31,12 +31,13 @@ pub fn pair(rng: &mut Rng) -> Pair {
 
 /// A physical frame that is most often good.
 pub fn frame(rng: &mut Rng) -> Vec<u8> {
-    const MAKERS: [fn(&mut Rng) -> Vec<u8>; 10] = [
+    const MAKERS: [fn(&mut Rng) -> Vec<u8>; 11] = [
         physical::relation,
         physical::distance,
         physical::knn,
         physical::conjunctions,
         physical::mark_columns,
+        physical::mark_bounds,
         physical::equal_records,
         physical::mixed_sides,
         physical::dropped_arguments,

@@ -89,6 +89,23 @@ pub fn mark_columns(rng: &mut Rng) -> Vec<u8> {
     filter.frame(expr)
 }
 
+/// Distances whose bound has mark columns, alone or among leaves that may match too.
+pub fn mark_bounds(rng: &mut Rng) -> Vec<u8> {
+    let counts = [1 + rng.below(2), 1 + rng.below(2), 1 + rng.below(2)];
+    let mut filter = Filter::with_counts(rng, counts, 3);
+    let mut leaves = Vec::new();
+    for _ in 0..1 + filter.rng.below(2) {
+        let bound = filter.bound_beside_marks();
+        leaves.push(filter.distance_to(bound));
+    }
+    for _ in 0..filter.rng.below(3) {
+        leaves.push(filter.leaf());
+    }
+    filter.rng.shuffle(&mut leaves);
+    let expr = filter.conjunction(leaves);
+    filter.frame(expr)
+}
+
 /// Tables in which records repeat, or differ in side or child index alone.
 pub fn equal_records(rng: &mut Rng) -> Vec<u8> {
     let counts = [1 + rng.below(5), 1 + rng.below(5), rng.below(3)];
