@@ -1,5 +1,5 @@
-/* The library with one fault, chosen by WRONG; wrong_project.c has those of project. Its own functions are renamed to right_.. before
- * (library-mutants). */
+/* The library with one fault, chosen by WRONG; wrong_project.c has those of project, wrong_marks.c those of bounds. Its own functions
+ * are renamed to right_.. before (library-mutants). */
 #include <stddef.h>
 #include <stdint.h>
 #include <string.h>
@@ -12,6 +12,8 @@ typedef struct {
 int64_t right_load(const uint8_t *frame, size_t frame_len, uint8_t *plan, size_t plan_len, node *table, size_t table_len);
 int64_t right_extract(uint8_t *plan, size_t plan_len, size_t n, uint8_t *scratch, size_t scratch_len, const node *table,
                       size_t table_len);
+int64_t extract_by_bound(uint8_t *plan, size_t plan_len, size_t n, uint8_t *scratch, size_t scratch_len, const node *table,
+                         size_t table_len);
 int64_t right_exchange(uint8_t *plan, size_t plan_len, size_t n, uint8_t *scratch, size_t scratch_len);
 int64_t right_logical(const uint8_t *frame, size_t frame_len);
 int64_t right_print(const uint8_t *frame, size_t frame_len, uint8_t *text, size_t text_len);
@@ -143,7 +145,7 @@ static int lacks_ends(const node *table, size_t table_len, size_t count)
 int64_t spatialjoin_extract(uint8_t *plan, size_t plan_len, size_t n, uint8_t *scratch, size_t scratch_len, const node *table,
                             size_t table_len)
 {
-    int64_t answer = right_extract(plan, plan_len, n, scratch, scratch_len, table, table_len);
+    int64_t answer = extract_by_bound(plan, plan_len, n, scratch, scratch_len, table, table_len);
     if ((WRONG == 32 || WRONG == 33) && answer == -13 && asks_for_none(plan, n)) {
         answer = take_none(plan, plan_len, n, scratch, scratch_len, table, table_len);
     }

@@ -49,6 +49,8 @@ pub struct Argument {
     pub start: usize,
     pub end: usize,
     pub side: u8,
+    /// Whether it has mark columns.
+    marked: bool,
 }
 
 /// The first KNN match, else the first match.
@@ -122,7 +124,18 @@ impl Picker<'_> {
             [false, false, _] => NEITHER,
             _ => return None,
         };
-        Some(Argument { start, end, side })
+        let marked = sides[usize::from(NEITHER)];
+        Some(Argument {
+            start,
+            end,
+            side,
+            marked,
+        })
+    }
+
+    /// One that a distance may have: of a child, or without columns.
+    fn bound(&self, start: usize) -> Option<Argument> {
+        self.argument(start).filter(|bound| !bound.marked)
     }
 
     /// The two that start here, if each child has one.
@@ -150,7 +163,7 @@ impl Picker<'_> {
 
     fn within(&self, start: usize) -> Option<Predicate> {
         let (first, second) = self.geometries(start)?;
-        let bound = self.argument(second.end)?;
+        let bound = self.bound(second.end)?;
         Some(distance(0, first, second, bound))
     }
 
@@ -170,7 +183,7 @@ impl Picker<'_> {
             return None;
         };
         let (first, second) = self.geometries(at)?;
-        let bound = self.argument(bound.unwrap_or_else(right))?;
+        let bound = self.bound(bound.unwrap_or_else(right))?;
         Some(distance(op, first, second, bound))
     }
 
