@@ -32,9 +32,9 @@
 #include <stddef.h>
 #include <stdint.h>
 
-#define SPATIALJOIN_VERSION "0.7.0"
+#define SPATIALJOIN_VERSION "0.8.0"
 #define SPATIALJOIN_VERSION_MAJOR 0
-#define SPATIALJOIN_VERSION_MINOR 7
+#define SPATIALJOIN_VERSION_MINOR 8
 #define SPATIALJOIN_VERSION_PATCH 0
 
 /* The most bytes of a frame or plan. */

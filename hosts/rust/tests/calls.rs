@@ -213,6 +213,32 @@ fn refusals_of_an_extract() {
     assert_eq!(refused, Err(Refusal::NoMatch));
 }
 
+/// What an extract of `st_dwithin` of a left and a right column answers with this bound; column 2 is a
+/// mark column.
+fn extracted_within(bound: &[u8]) -> Result<u8, Refusal> {
+    let records = b"\x01\0\x03\0\0\0\0\0\x01\0\0\0\0\x02\0\0\0\0";
+    let frame = [records, &call("st_dwithin", 3)[..], LEFT, RIGHT, bound].concat();
+    let (mut plan, n, table) = loaded(&frame);
+    extract(&mut plan, n, &mut vec![0; n], &table).map(|_| plan[4])
+}
+
+#[test]
+fn a_bound_with_a_mark_column_does_not_match() {
+    let mark = b"\0\0\x02\0\0";
+    let both = |first: &[u8], second: &[u8]| [b"\x02\x05", first, second].concat();
+    assert_eq!(extracted_within(b"\x04\0\0\0"), Ok(2));
+    assert_eq!(extracted_within(LEFT), Ok(0));
+    assert_eq!(extracted_within(&both(RIGHT, RIGHT)), Ok(1));
+    for bound in [
+        mark,
+        &both(mark, mark)[..],
+        &both(LEFT, mark),
+        &both(mark, RIGHT),
+    ] {
+        assert_eq!(extracted_within(bound), Err(Refusal::NoMatch));
+    }
+}
+
 #[test]
 fn refusals_of_an_exchange() {
     let (mut plan, n, _) = loaded(&good());
