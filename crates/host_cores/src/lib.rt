@@ -1,14 +1,14 @@
 // All of a call but the table, with the answer as a host gets it: what has no lent table needs no proof by hand. Public for the crate
 // `spatialjoin_c`.
-use call_extract::by_table::extract_by_table;
 use call_load::load_row;
 use call_merge::merge;
 use host_answers::answer_number;
+use table_extract::extract_by_table;
 ghost use mathlib.Core.Path.{_≡_};
 ghost use Prim.Native.Nat.{min};
 ghost use lib.ListN.{length};
 ghost use Rattle.node_rows.specs.Rows.{RowHas};
-ghost use Rattle.call_extract.specs.ExtractByTable.{lentCount};
+ghost use Rattle.table_extract.specs.ExtractByTable.{lentCount};
 ghost use Rattle.host_cores.specs.Cores.{LoadLeft, MergeLeft, Lent, ExtractBy};
 
 // The answer, and what the table is to be filled with: the nodes of the expression that begins at `root`, `count` of them, or none.

@@ -4,7 +4,7 @@ use mathlib.Core.Path.{refl, sym}
 use Rattle.definitions.specs.Calls.{newAfterExtractBy}
 use Rattle.join_filter.proofs.Keeping.{plan-length}
 use Rattle.join_filter.proofs.Refusing.{extract-call, no-plan, empty-plan, extracted-before}
-use Rattle.call_extract.proofs.Collecting.{frame-indexed}
+use Rattle.frame_extract.proofs.Collecting.{frame-indexed}
 use Rattle.call_extract.proofs.extract_held.Statement.{statement}
 use Rattle.call_extract.proofs.extract_held.Tie as tie
 

@@ -48,7 +48,7 @@ use Rattle.node_table.specs.declared.NodeRecord.{NodeRecord}
 use Rattle.node_table.proofs.NodeRecord as T
 use Rattle.node_table.proofs.LocalRow.{Row, value, big-lit, none-is, typed-row, called, sliced, LentMut, LentShr, lends-mut, mut-back, lends-shr, shr-back}
 use Rattle.definitions.specs.Calls.{extract}
-use Rattle.call_extract.specs.ExtractByTable.{lentCount}
+use Rattle.table_extract.specs.ExtractByTable.{lentCount}
 use Rattle.host_answers.specs.Hosted.{CallHosted}
 use Rattle.host_cores.specs.Cores.{Lent, ExtractBy}
 use Rattle.spatialjoin_c.proofs.FilledLaws.{row-of}

@@ -1,4 +1,0 @@
--- What the contracts cite.
-pub mod Extractions
-pub mod FrameRows
-pub mod ExtractByTable

@@ -1,0 +1,4 @@
+-- Laws that the proofs use.
+pub mod Taking
+pub mod Extracting
+pub mod Collecting

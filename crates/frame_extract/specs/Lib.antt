@@ -1,0 +1,3 @@
+-- What the contracts cite.
+pub mod Extractions
+pub mod FrameRows
