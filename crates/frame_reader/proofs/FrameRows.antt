@@ -61,7 +61,8 @@ module _ {s numbers indexes : List ℕ} (room : Roomy s numbers indexes) where
 -- The expression of a frame by its index, for the test of its arity, and what that says of it.
 module _ {s numbers indexes : List ℕ} {f : Frame} {end : ℕ} {F : tree.Frame} (stands : FrameAt s f end F)
     (tabled : Tabled numbers indexes (f .root) 0 (F .expr)) where
-  pub frame-listed : {count : ℕ} → count ≡ 0 + f .nodes → Listed s numbers indexes 0 × OfTree s (startAt numbers 0) (λ t. count ≡ 0 + nodes t)
+  pub frame-listed : {count : ℕ} → count ≡ 0 + f .nodes
+      → Listed s numbers indexes 0 × OfTree s (startAt numbers 0) (λ t. count ≡ 0 + nodes t)
   frame-listed {count} size =
       let own = indexed (expr-stands (stands .expr)) tabled in (
         ((_, F .expr, own .stands), of-tree (Tabled numbers indexes (startAt numbers 0) 0) (own .stands) (own .tabled)),

@@ -83,7 +83,8 @@ module _ {c : Columns} {s numbers indexes : List ℕ} {place i : ℕ} where
       let e : ℕ = q + length (exprBytes r) in
       let end : place + length (exprBytes (and l r)) ≡ e = simp length-append (omega arith) in
       let own : List ℕ = map number (nodesFrom p l ++ nodesFrom q r) in
-      let numbered : map number (rowFrom place (cons (and l r) ts)) ≡ number (recordOf place (and l r)) ∷ map number (rowFrom p (cons l (cons r ts))) =
+      let numbered : map number (rowFrom place (cons (and l r) ts))
+      ≡ number (recordOf place (and l r)) ∷ map number (rowFrom p (cons l (cons r ts))) =
       ap (λ (k : ℕ). map number (nodesFrom place (and l r) ++ rowFrom k ts)) end
       ∙ ap (λ (x : _). number (recordOf place (and l r)) ∷ map number x) (append-assoc (nodesFrom p l) (nodesFrom q r) (rowFrom e ts)) in
       let last : i + nodes (and l r) ≡ i + 1 + nodes l + nodes r = omega arith in

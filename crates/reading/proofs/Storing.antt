@@ -55,13 +55,17 @@ module _ {c : Columns} {s : List ℕ} {at levels count first many : ℕ} {number
   storable few = record {
     followed = omega (arith, b .lent .long, b .same, b .alike);
     fits = λ place.
-        let short : length s ≤ 16384 = b .lent .short (omega (arith, b .same)) in
-        (omega (arith, sym (kind-is (there .stands)), kind-byte itself, kind-small itself), omega (arith, has-kind), omega (arith, b .walked .0));
+        let short : length s ≤ 16384 = b .lent .short (omega (arith, b .same)) in (
+          omega (arith, sym (kind-is (there .stands)), kind-byte itself, kind-small itself),
+          omega (arith, has-kind),
+          omega (arith, b .walked .0),
+        );
     few = omega arith;
   }
 
   collected : (numbers₂ indexes₂ : List ℕ)
-      → Stored numbers₁ indexes₁ count (record { kind = getD s at 0; start = at; end = next }) total numbers₂ indexes₂ → total ≤ length numbers
+      → Stored numbers₁ indexes₁ count (record { kind = getD s at 0; start = at; end = next }) total numbers₂ indexes₂
+      → total ≤ length numbers
       → Collected at count numbers indexes numbers₂ indexes₂ (record { end = next; index = total }) itself
   unfolding below itself
   collected numbers₂ indexes₂ stored fits =

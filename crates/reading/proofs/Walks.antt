@@ -147,7 +147,8 @@ module _ (s : List ℕ) (at count room : ℕ) (child : Reader Expr) (numbers ind
         collects-cons (omega (arith, rest .own .ends, first .own .ends)) (omega (arith, rest .own .ends, first .own .ends)) first rest
 
     in-front : (many : ℕ) (r : Walked)
-        → WalkedIs s next total r (repeatExprs many child) (depthOver deeper) room (CollectedAll next total numbers₁ indexes₁ numbers₂ indexes₂)
+        → WalkedIs s next total r (repeatExprs many child) (depthOver deeper) room
+        (CollectedAll next total numbers₁ indexes₁ numbers₂ indexes₂)
         → WalkedIs s at count r (repeatExprs (suc many) child) (depthOver deepest) room
         (CollectedAll at count numbers indexes numbers₂ indexes₂)
     unfolding repeatExprs depth
@@ -185,7 +186,8 @@ pub record InRow (s : List ℕ) (at count many : ℕ) (child : Reader Expr) (num
 
 module _ (s : List ℕ) (at count many : ℕ) (child : Reader Expr) (numbers indexes : List ℕ) where
   from-none : (numbers₁ indexes₁ : List ℕ) (r : Walked)
-      → WalkedIs s at count r (repeatExprs many child) (depthOver 0) (length numbers) (CollectedAll at count numbers indexes numbers₁ indexes₁)
+      → WalkedIs s at count r (repeatExprs many child) (depthOver 0) (length numbers)
+      (CollectedAll at count numbers indexes numbers₁ indexes₁)
       → WalkedIs s at count r (repeatExprs many child) depthAbove (length numbers) (CollectedAll at count numbers indexes numbers₁ indexes₁)
   from-none numbers₁ indexes₁ (To next total levels) h = (h .0, h .1, h .2, omega (arith, h .3), h .4)
   from-none numbers₁ indexes₁ (Refused why) h = h
@@ -197,7 +199,8 @@ module _ (s : List ℕ) (at count many : ℕ) (child : Reader Expr) (numbers ind
       (inv : InRow s at count many child numbers indexes next total deepest left numbered indexed) where
     pub row-goes-on : length numbers ≤ length indexes → 0 < left → (numbers₁ indexes₁ : List ℕ) → length numbers₁ ≡ length numbered
         → length indexes₁ ≡ length indexed → (after counted levels : ℕ)
-        → WalkedIs s next total (To after counted levels) child depth (length numbered) (Collected next total numbered indexed numbers₁ indexes₁)
+        → WalkedIs s next total (To after counted levels) child depth (length numbered)
+        (Collected next total numbered indexed numbers₁ indexes₁)
         → Counted total 0 (To after counted levels) → (deeper : ℕ) → deeper ≡ max deepest levels
         → InRow s at count many child numbers indexes after counted deeper (left - 1) numbers₁ indexes₁
     row-goes-on long some numbers₁ indexes₁ same alike after counted levels one more deeper larger =

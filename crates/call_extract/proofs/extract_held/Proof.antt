@@ -44,7 +44,8 @@ extract-held-spec =
     tie.close
     (tie.spec
     (λ c. search needs)
-    (λ c. let start = c .before .before .before .before .before .before .before in sym (plan-length (start .args .n) (start .args .plan .now) (start .pre .0)))
+    (λ c. let start = c .before .before .before .before .before .before .before in
+    sym (plan-length (start .args .n) (start .args .plan .now) (start .pre .0)))
     (λ c κs. c .before .before .before .before .before .before .before .pre .1)
     (λ c. search needs)
     (λ c. search needs)

@@ -10,7 +10,8 @@ answer-number-requires : tie.Need-answer-number-requires
 answer-number-requires c κs =
     let call = c .before .before .before .before .load-row in
     let known = c .before .before .before .before .before .before .before .before in
-    load-short _ _ _ _ (call .result) (call .ensures .0) (all-bytes (known .before .before .args .frame .now) (known .shared-slice-known .given))
+    load-short _ _ _ _ (call .result) (call .ensures .0)
+    (all-bytes (known .before .before .args .frame .now) (known .shared-slice-known .given))
 
 returns : tie.Need-returns
 returns c =

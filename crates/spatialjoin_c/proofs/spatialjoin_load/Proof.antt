@@ -253,7 +253,7 @@ module _ {M : Type 1} (𝓤 : URA M) (H : Heap 𝓤) (A : Atoms 𝓤) (W : Given
         split ! $ move ! (1 ∷ []) $ heard ! (Said₁ r (zs .0) (zs .1 .1 .0)) (λ e₁. fsplit ! $ fsplit ! $ move ! (1 ∷ []) $ feqL ! (λ lr.
         move ! (1 ∷ []) $ fsplit ! $ drop ! $ fsplit ! $ fsplit ! $ move ! (1 ∷ []) $ feqL ! (λ lz.
         move ! (3 ∷ []) $ split ! $ move ! (1 ∷ []) $ facts ! L.the-row (Is L.the-row) (shows 𝓤 H A L.the-row) r (u ∷ []) (λ is.
-        -- [the tokens; the plan's last list; true; the row's; what is kept of the row; the table's token; true; the table; true; the frame; …]
+        -- [the tokens; the plan's last list; true; the row's; what is kept of the row; the table's token; true; the table; true; …]
         land ! (from ! (stop !)) (init ! 30 refl (LL.lawful L.the-type L′.the-laws 𝓤 H A W .typed r _ is .0)) $
         rewrite ! 30 (λ (z : Val). ‵ (fat fullShare L′.mir l₅ 0 z)) (ap only (L′.lowers .val-is r (u ∷ []) is)) refl $
         split ! $ lft-end ! tt $ move ! (0 ∷ 5 ∷ 4 ∷ []) $
@@ -280,7 +280,8 @@ module _ {M : Type 1} (𝓤 : URA M) (H : Heap 𝓤) (A : Atoms 𝓤) (W : Given
         (lends₂ μ ε l₄ (zs .0) (r .count) (load-asks (xs .now) (xs .now) r (s .now) (ps .now) (zs .1 .1 .0) (e₁ .0) .0, e₁ .1 .0)
         (fields r u is .1 .1 .0 .1)) $
         -- [what `put_nodes` asks; what is kept of the row; the tokens; the plan's last list; true; true; true; the frame; _15; …]
-        calls-at ! fm (PutNodes 𝓤 H A mem run) known₂ (to₂ μ ε l₄ (zs .0) (r .count)) (and-then ! (load ! (from ! (stop !)) (look ! 12 refl))
+        calls-at ! fm (PutNodes 𝓤 H A mem run) known₂ (to₂ μ ε l₄ (zs .0) (r .count))
+        (and-then ! (load ! (from ! (stop !)) (look ! 12 refl))
         (and-then ! (load ! (from ! (stop !)) (look ! 8 refl))
         (and-then ! (load ! (from ! (fld ! refl (stop !))) (look-in ! 28 (sub ! 2 refl (whole !)))) (no-more !)))) (λ u₂.
         use1 W (later (some (λ (w : Unit {0}). ((‵ (flft κ₂ q₂) ⊛ ‵ (flft (μ ∷ []) fullShare) ⊛ ‵ ftrue) ⊛ ‵ (unit .own w (u₂ ∷ [])))
@@ -297,7 +298,7 @@ module _ {M : Type 1} (𝓤 : URA M) (H : Heap 𝓤) (A : Atoms 𝓤) (W : Given
         use2 W (later (given (Is (Row 1024) (zs .0) (value (zs .0) ∷ []))
         (‵ (fat fullShare (tyArray (tyInt w32) 1024) l₄ 0 (value (zs .0))))))
         (shr-back 𝓤 H A W 1024 (μ ∷ []) l₄ (zs .0) (lr ∙ long)) $ await ! tt $ learn ! (λ _.
-        -- [the row; true; the table's token; its last list; true; the others' tokens; the plan's last list; true; true; true; the frame; _15; …]
+        -- [the row; true; the table's token; its last list; true; the others' tokens; the plan's last list; true; true; true; …]
         assigns ! (of-opd ! (load ! (from ! (fld ! refl (stop !))) (look-in ! 31 (sub ! 0 refl (whole !))))) (from ! (stop !))
         (init ! 40 refl (sint-lawful 𝓤 H A W w64 .typed (r .answer) _ (fields r u is .0) .0)) $ returns ! (look ! 40 refl) $
         forget ! 0 refl $ forget ! 11 refl $ forget ! 13 refl $ forget ! 15 refl $ forget ! 17 refl $ forget ! 19 refl $ forget ! 21 refl $
@@ -311,7 +312,8 @@ module _ {M : Type 1} (𝓤 : URA M) (H : Heap 𝓤) (A : Atoms 𝓤) (W : Given
         free1 ! $
         move ! (16 ∷ 17 ∷ []) $ free1 ! $ move ! (14 ∷ 15 ∷ []) $ free1 ! $ move ! (12 ∷ 13 ∷ []) $ free1 ! $ move ! (10 ∷ 11 ∷ []) $
         free1 ! $ free0 ! $ keep ! (1 ∷ 4 ∷ 9 ∷ 5 ∷ 2 ∷ []) $
-        by ! (exits r (zs .1 .1 .0) (ts .0) (load-fills (xs .now) (ts .0) r (s .now) (ps .now) (zs .1 .1 .0) (zs .0) (e₁ .0) (e₁ .1) e₂) lz lt
+        by ! (exits r (zs .1 .1 .0) (ts .0)
+        (load-fills (xs .now) (ts .0) r (s .now) (ps .now) (zs .1 .1 .0) (zs .0) (e₁ .0) (e₁ .1) e₂) lz lt
         (fields r u is .0)))))))))))))))))))))))))))))))))))))
       where
         fits-row : Room u32 1024

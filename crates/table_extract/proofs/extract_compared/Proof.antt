@@ -22,13 +22,19 @@ use Rattle.table_extract.proofs.extract_compared.Tie as tie
 -- A good frame has few nodes.
 module _ (c : tie.After-struct-known) where
   bytes : AllBytes (c .before .before .before .before .before .before .args .plan .now)
-  bytes = all-bytes (c .before .before .before .before .before .before .args .plan .now) (c .before .before .before .before .before .slice-known .given)
+  bytes =
+      all-bytes (c .before .before .before .before .before .before .args .plan .now)
+      (c .before .before .before .before .before .slice-known .given)
 
   few : c .before .before .before .before .before .before .args .f .nodes ≤ 1024
-  few = few-nodes (c .before .before .before .before .before .before .args .n) (c .before .before .before .before .before .before .args .plan .now) (c .before .before .before .before .before .before .pre .0) bytes
+  few =
+      few-nodes (c .before .before .before .before .before .before .args .n) (c .before .before .before .before .before .before .args .plan .now)
+      (c .before .before .before .before .before .before .pre .0) bytes
 
   small : 3 * c .before .before .before .before .before .before .args .f .nodes ≤ c .before .before .before .before .before .before .args .n
-  small = small-nodes (c .before .before .before .before .before .before .args .n) (c .before .before .before .before .before .before .args .plan .now) (c .before .before .before .before .before .before .pre .0) bytes
+  small =
+      small-nodes (c .before .before .before .before .before .before .args .n)
+      (c .before .before .before .before .before .before .args .plan .now) (c .before .before .before .before .before .before .pre .0) bytes
 
 -- The table is shorter than that; a row of its numbers alone never is.
 returns : tie.Need-returns
@@ -47,15 +53,20 @@ returns c = λ table of.
 
 -- A table that is as long lends its row.
 begins : (c : tie.Else2) (table : List NodeRecord)
-    → let a = c .before .before .before .before .before .before .before .before .before .args in RowOf (a .n) (a .row .now) (a .places) table → Begins (a .f .nodes) (a .row .now) table
+    → let a = c .before .before .before .before .before .before .before .before .before .args in
+    RowOf (a .n) (a .row .now) (a .places) table → Begins (a .f .nodes) (a .row .now) table
 begins c table of =
     let a = c .before .before .before .before .before .before .before .before .before .args in
-    row-begins (a .n) (a .f .nodes) (a .places) (a .row .now) table (c .before .before .if1 .left) (few (c .before .before .before)) (small (c .before .before .before)) of
+    row-begins (a .n) (a .f .nodes) (a .places) (a .row .now) table (c .before .before .if1 .left) (few (c .before .before .before))
+    (small (c .before .before .before)) of
 
 -- What the comparison told.
 told : (c : tie.After-same-numbers) {b : Bool} → c .same-numbers .result ≡ b
-    → let a = c .before .before .before .before .before .before .before .before .before .before .args in SameIs (a .own .now) (a .row .now) (a .f .nodes) b
-told c e = let a = c .before .before .before .before .before .before .before .before .before .before .args in subst (SameIs (a .own .now) (a .row .now) (a .f .nodes)) e (c .same-numbers .ensures)
+    → let a = c .before .before .before .before .before .before .before .before .before .before .args in
+    SameIs (a .own .now) (a .row .now) (a .f .nodes) b
+told c e =
+    let a = c .before .before .before .before .before .before .before .before .before .before .args in
+    subst (SameIs (a .own .now) (a .row .now) (a .f .nodes)) e (c .same-numbers .ensures)
 
 extract-frame-requires : tie.Need-extract-frame-requires
 extract-frame-requires c κs =
@@ -72,16 +83,18 @@ returns-2 c = λ table of.
     let compared = c .before .before .before .before .before .before .before .before in
     let start = compared .before .before .before .before .before .before .before .before .before .before in
     let a = start .args in
-    same-fits (a .n) (a .plan .now) (start .pre .0) (bytes (compared .before .before .before .before)) (start .pre .1) (a .scratch .now) (a .row .now) table
-    (begins (compared .before) table of) (told compared (c .before .before .before .before .before .before .before .if3 .taken)) ∙ c .before .before .before .before .extract-frame .ensures
+    same-fits (a .n) (a .plan .now) (start .pre .0) (bytes (compared .before .before .before .before)) (start .pre .1) (a .scratch .now)
+    (a .row .now) table (begins (compared .before) table of)
+    (told compared (c .before .before .before .before .before .before .before .if3 .taken))
+    ∙ c .before .before .before .before .extract-frame .ensures
 
 returns-3 : tie.Need-returns-3
 returns-3 c = λ table of.
     let compared = c .before in
     let start = compared .before .before .before .before .before .before .before .before .before .before in
     let a = start .args in
-    other-refused (a .n) (a .plan .now) (start .pre .0) (bytes (compared .before .before .before .before)) (start .pre .1) (a .scratch .now) (a .row .now) table
-    (begins (compared .before) table of) (told compared (c .if3 .left))
+    other-refused (a .n) (a .plan .now) (start .pre .0) (bytes (compared .before .before .before .before)) (start .pre .1)
+    (a .scratch .now) (a .row .now) table (begins (compared .before) table of) (told compared (c .if3 .left))
 
 pub extract-compared-spec : {M : Type 1} → statement M
 extract-compared-spec =

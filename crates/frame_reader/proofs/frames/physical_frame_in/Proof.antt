@@ -21,7 +21,8 @@ abbrev last : Frame → Reader Frame
 last F = require 8 (arity (F .expr)) >> give F
 
 -- The opening was read, and then the body.
-begin : (p : tie.After-at) → SkippedIs (p .before .before .before .before .before .before .args .s .now) 0 (To (p .at .given .0 .0)) (opening 1)
+begin : (p : tie.After-at)
+    → SkippedIs (p .before .before .before .before .before .before .args .s .now) 0 (To (p .at .given .0 .0)) (opening 1)
 begin p = rw (p .at .given .1) at (p .before .before .opened .ensures)
 
 body : (p : tie.After-frame)

@@ -16,7 +16,8 @@ use Rattle.leaf_arity.proofs.by_rows.node_arity.Tie as tie
 -- What the node at the index is.
 is : (c : tie.After-node-at)
     → let a = c .before .before .before .before .before .before .args in
-    OfTreeIn (a .s .now) (startAt (a .numbers .now) (a .i)) (λ d t. NodeIs d (a .s .now) (startAt (a .numbers .now) (a .i)) (c .node-at .result) t)
+    OfTreeIn (a .s .now) (startAt (a .numbers .now) (a .i))
+    (λ d t. NodeIs d (a .s .now) (startAt (a .numbers .now) (a .i)) (c .node-at .result) t)
 is c =
     let a = c .before .before .before .before .before .before .args in
     subst (λ p. OfTreeIn (a .s .now) p (λ d t. NodeIs d (a .s .now) p (c .node-at .result) t)) (c .before .start-of .ensures)

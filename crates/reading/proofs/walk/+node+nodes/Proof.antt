@@ -104,7 +104,8 @@ inner t c =
     let start = call .before .before .before .before .before .before .before .before .before .before .before in
     record {
       head = the-head t (call .before .before .before .before);
-      bytes = all-bytes (start .args .s .now) (call .before .before .before .before .before .before .before .before .shared-slice-known .given);
+      bytes = all-bytes (start .args .s .now)
+          (call .before .before .before .before .before .before .before .before .shared-slice-known .given);
       within = start .pre .1 .0;
       lent = start .pre .1 .1;
       same = call .nodes .kept .0;
