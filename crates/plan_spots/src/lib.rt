@@ -1,2 +1,2 @@
-// The child indexes of a held extraction. Public for the crate `call_project`.
+// The child indexes of a held extraction. Public for the crate `plan_projection`.
 pub mod plan_spots;
