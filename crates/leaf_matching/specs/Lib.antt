@@ -1,4 +1,2 @@
 -- What the contracts cite, in the order to read them.
-pub mod Distances
-pub mod KnnOptions
 pub mod Matches

@@ -15,10 +15,10 @@ ghost use Rattle.spatial_expr_utils.specs.Picks.{isOther, wants, FoundIs
 use expression::cuts::Cut;
 use expression::leaves::Node;
 use expression::leaves::node_at;
-use leaf_matching::distance::match_distance_predicate;
-use leaf_matching::knn::match_knn_predicate;
+use distance_matching::distance::match_distance_predicate;
+use knn_matching::knn::match_knn_predicate;
 use leaf_matching::matching::Matching;
-use leaf_matching::relation::match_relation_predicate;
+use relation_matching::relation::match_relation_predicate;
 use node_rows::numbers::end_of;
 use sedona_query_planner::spatial_predicate::SpatialPredicate;
 
