@@ -1,4 +1,3 @@
 -- What the contracts cite.
 pub mod Arguments
 pub mod Copies
-pub mod Tables

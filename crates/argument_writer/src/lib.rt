@@ -1,3 +1,2 @@
 // The arguments of predicates: the one cycle that copies expressions, and tables of column indexes. Public for the crates above.
 pub mod arguments;
-pub mod column_tables;

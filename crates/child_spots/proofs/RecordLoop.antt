@@ -15,8 +15,8 @@ use Rattle.expression.specs.Places.{shortAt}
 use Rattle.expression.proofs.Placed.{first}
 use Rattle.writing.specs.Written.{WroteAt}
 use Rattle.writing.proofs.Written.{chain, nothing-wrote, store}
-use Rattle.argument_writer.specs.Tables.{Entry, Entries}
-use Rattle.argument_writer.proofs.TableLaws.{entry-of, entry-child, child-fits}
+use Rattle.column_tables.specs.Tables.{Entry, Entries}
+use Rattle.column_tables.proofs.TableLaws.{entry-of, entry-child, child-fits}
 use Rattle.child_spots.specs.Spots.{Spot, spotNumber, recordSpots}
 use Rattle.child_spots.specs.Rows.{RecordsFit, RecordsCollected}
 use Rattle.child_spots.proofs.SpotLaws.{record-spots, spotOf, record-spot}

@@ -9,7 +9,7 @@ use Rattle.definitions.specs.Encode.{exprBytes, exprsBytes}
 use Rattle.definitions.specs.Decode.{indexBelow}
 use Rattle.expression.specs.Nodes.{Stands, Row}
 use Rattle.writing.specs.Written.{WroteAt}
-use Rattle.argument_writer.specs.Tables.{Entries}
+use Rattle.column_tables.specs.Tables.{Entries}
 use Rattle.child_spots.specs.Spots.{Spot, spotNumber, columnSpots, childSpots, recordSpots}
 use Rattle.child_spots.specs.declared.spots.Passed.{Passed}
 

@@ -7,9 +7,6 @@ pub mod HeadLaws
 pub mod LeafLaws
 pub mod AndLeaves
 pub mod EndWalk
-pub mod NameLaws
-pub mod WordLaws
 pub mod Parts
 pub mod There
-pub mod Signed
 pub mod Cycles

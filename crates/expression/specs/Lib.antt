@@ -3,6 +3,5 @@ pub mod Places
 pub mod Nodes
 pub mod Filling
 pub mod Heads
-pub mod Names
 pub mod Leaves
 pub mod Cuts

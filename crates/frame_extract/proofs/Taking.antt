@@ -15,11 +15,11 @@ use Rattle.spatial_expr_utils.specs.declared.pick.Pick.{Pick}
 use Rattle.writing.specs.Written.{Wrote}
 use Rattle.writing.specs.Writing.{Room, Puts}
 use Rattle.writing.proofs.Written.{behind, together, behind-length, then-wrote}
-use Rattle.argument_writer.specs.Tables.{Recorded, ChildTable}
+use Rattle.column_tables.specs.Tables.{Recorded, ChildTable}
 use Rattle.argument_writer.specs.Arguments.{changeOf}
 use Rattle.plan_writer.specs.Predicates.{predicateBytes}
 use Rattle.argument_writer.specs.declared.arguments.ColumnIndexes.the-variants.{FromTable}
-use Rattle.argument_writer.proofs.ChildLaws.{by-children}
+use Rattle.column_tables.proofs.ChildLaws.{by-children}
 use Rattle.pruning.specs.Remainders as remainders
 use Rattle.frame_extract.specs.Extractions.{Taking, takes, ExtractionFits, ExtractionPut}
 

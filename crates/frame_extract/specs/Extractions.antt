@@ -14,7 +14,7 @@ use Rattle.sedona_query_planner.specs.Predicates.{onChildren, PredicateAt}
 use Rattle.expression.specs.Cuts.{CutAt}
 use Rattle.spatial_expr_utils.specs.declared.pick.Pick.{Pick}
 use Rattle.writing.specs.Written.{Wrote}
-use Rattle.argument_writer.specs.Tables.{Entries}
+use Rattle.column_tables.specs.Tables.{Entries}
 
 -- The frame F stands in s, and the pick takes its leaf at the pick's position, which is the predicate q.
 pub record Taking (s : List ℕ) (f : Frame) (p : Pick) (F : tree.Frame) (q : tree.Predicate) : Type 0 where

@@ -1,6 +1,6 @@
 // Writes the extraction that takes a pick: its predicate with the pick's position, then its remainder where the predicate ended.
 use argument_writer::arguments::ColumnIndexes;
-use argument_writer::column_tables::child_indexes;
+use column_tables::column_tables::child_indexes;
 use frame_reader::frames::Frame;
 use plan_writer::put_predicate::put_predicate;
 use pruning::remainder::put_remainder;

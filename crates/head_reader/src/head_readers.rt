@@ -1,5 +1,5 @@
 // A node's head: its kind, and the fields before its children.
-use expression::literals::literal_in_range;
+use literals::literals::literal_in_range;
 use field_reader::field_readers::Field;
 use field_reader::field_readers::Skipped;
 use field_reader::field_readers::Sort;

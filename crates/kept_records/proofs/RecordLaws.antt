@@ -22,13 +22,13 @@ use Rattle.expression.specs.Places.{shortAt}
 use Rattle.expression.proofs.Placed as placed
 use Rattle.writing.specs.Written.{WroteAt}
 use Rattle.plan_writer.specs.Predicates.{frameHead}
-use Rattle.argument_writer.specs.Tables.{Entry, Table}
+use Rattle.column_tables.specs.Tables.{Entry, Table}
 use Rattle.record_keys.specs.Keys.{keyAt, AmongIs, KeyRow}
 use Rattle.kept_records.specs.Records.{stays, MarkedBy, OfMarked, Referenced, OneFits, OneKept, keptAll, RecordsKept, RecordsPut, AllFit, AllKept}
 use Rattle.theorems.proofs.ExchangeGood.{record-length}
 use Rattle.writing.proofs.Written.{behind, together, chain, copied-wrote, part-wrote, nothing-wrote, behind-length, to-start, under}
 use Rattle.writing.proofs.NumberLaws.{number-length}
-use Rattle.argument_writer.proofs.TableLaws.{entry-of, entry-child, table-none, table-more, table-whole}
+use Rattle.column_tables.proofs.TableLaws.{entry-of, entry-child, table-none, table-more, table-whole}
 
 -- ---- two records
 

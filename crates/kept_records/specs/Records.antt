@@ -12,7 +12,7 @@ use Rattle.definitions.specs.Match.{recordAt}
 use Rattle.definitions.specs.Extract.{sameColumn, newIndex}
 use Rattle.definitions.specs.Good.{All}
 use Rattle.writing.specs.Written.{WroteAt}
-use Rattle.argument_writer.specs.Tables.{Entries, Table}
+use Rattle.column_tables.specs.Tables.{Entries, Table}
 
 -- A record stays if it equals, in side and child index, one of these columns.
 abbrev pub stays : List Record → (columns : List ℕ) → Record → Bool

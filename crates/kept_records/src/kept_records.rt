@@ -3,7 +3,7 @@
 ghost use mathlib.Core.Path.{_≡_};
 ghost use Prim.Native.Nat.{_+_, _≤_, _<_};
 ghost use lib.ListN.{length};
-ghost use Rattle.argument_writer.specs.Tables.{Recorded};
+ghost use Rattle.column_tables.specs.Tables.{Recorded};
 ghost use Rattle.record_keys.specs.Keys.{KeyRow};
 ghost use Rattle.kept_records.specs.Records.{Referenced, OneFits, OneKept, AllFit, RowsFit, RecordsKept, RecordsPut};
 use plan_writer::frame_heads::put_frame_head;

@@ -13,7 +13,7 @@ use leaf_matching::matching::Matching;
 use argument_sides::sides::Order;
 use argument_sides::sides::resolve_geometries;
 use expression::leaves::Called;
-use expression::names::same_name;
+use names::names::same_name;
 use literal_arguments::literal_arguments::LiteralBool;
 use literal_arguments::literal_arguments::LiteralU32;
 use literal_arguments::literal_arguments::extract_literal_bool;

@@ -13,7 +13,7 @@ use expression::ends::end_node;
 use expression::leaves::Called;
 use expression::leaves::Node;
 use expression::leaves::node_at;
-use expression::names::same_name;
+use names::names::same_name;
 use sedona_expr::utils::Compared;
 use sedona_expr::utils::DistanceCall;
 use sedona_expr::utils::comparison;

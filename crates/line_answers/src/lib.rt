@@ -1,5 +1,5 @@
 // What a line gives, and how it is written.
-use hexadecimal::digit_lines::put_line;
+use digit_lines::digit_lines::put_line;
 use terms::refusals::Refusal;
 use terms::refusals::refusal_number;
 ghost use mathlib.Core.Path.{_≡_};

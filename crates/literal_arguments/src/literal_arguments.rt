@@ -10,7 +10,7 @@ ghost use Rattle.definitions.specs.Match.{literalU32, literalK, literalBool};
 ghost use Rattle.expression.specs.Nodes.{Tree, OfTree};
 ghost use Rattle.literal_arguments.specs.Literals.{longAt, numberIs, flagIs};
 use expression::fields::short_at;
-use expression::literals::signed;
+use literals::literals::signed;
 
 pub enum LiteralU32 {
     Value(u32),

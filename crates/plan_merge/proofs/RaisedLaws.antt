@@ -13,11 +13,11 @@ use Rattle.frame_reader.specs.declared.frames.Frame.{Frame}
 use Rattle.frame_reader.proofs.Standing.{expr-stands}
 use Rattle.writing.specs.Written.{Wrote}
 use Rattle.writing.specs.Writing.{Room, Puts}
-use Rattle.argument_writer.specs.Tables.{RaisedTable}
+use Rattle.column_tables.specs.Tables.{RaisedTable}
 use Rattle.argument_writer.specs.Copies.{copyOf, CopyFits, NodeCopied}
 use Rattle.argument_writer.specs.declared.arguments.Copied.{Copied}
 use Rattle.argument_writer.proofs.Ranges.{wider-stands}
-use Rattle.argument_writer.proofs.TableLaws.{table-whole, table-copies}
+use Rattle.column_tables.proofs.TableLaws.{table-whole, table-copies}
 use Rattle.plan_merge.specs.Merging.{raisedExpr}
 
 module _ {s : List ℕ} {f : Frame} {end : ℕ} (by : ℕ) {to : List ℕ} (wide : f .columns ≤ length to)

@@ -1,6 +1,6 @@
 // The merged frame: both tables of records one after the other, then the And of the held filter and the new one.
 use argument_writer::arguments::reproject_column_references;
-use argument_writer::column_tables::raised_indexes;
+use column_tables::column_tables::raised_indexes;
 use frame_reader::frames::Frame;
 use plan_writer::frame_heads::put_frame_head;
 use writing::copies::copy_at;

@@ -19,7 +19,7 @@ use Rattle.plan_reader.specs.declared.held_plans.Extraction.{Extraction}
 use Rattle.plan_reader.specs.declared.held_plans.Remainder.the-variants as remainder
 use Rattle.writing.specs.Written.{WroteAt}
 use Rattle.writing.proofs.Written.{chain}
-use Rattle.argument_writer.specs.Tables.{Entries}
+use Rattle.column_tables.specs.Tables.{Entries}
 use Rattle.child_spots.specs.Spots.{Spot, spotNumber, recordSpots}
 use Rattle.child_spots.specs.Rows.{Collected, RecordsFit, RecordsCollected}
 use Rattle.child_spots.specs.declared.spots.Passed.{Passed}

@@ -1,4 +1,3 @@
 -- Laws that several proofs use.
 pub mod NodeFields
 pub mod MarkLaws
-pub mod SizeLaws

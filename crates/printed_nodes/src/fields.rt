@@ -4,7 +4,7 @@ ghost use Rattle.printed_fields.specs.Marks.{Physical, OfPhysical, leadingOf};
 use expression::fields::short_at;
 
 // A column's index, a literal's type, an operator, the length of a name or a tag: what the node at a place has after its kind.
-pub(crate) fn leading_number(src: &[u8], at: usize) -> usize
+pub fn leading_number(src: &[u8], at: usize) -> usize
     requires { ⌜ Physical (now src) at ⌝ }
     ensures { λ r. ⌜ OfPhysical (now (src .entry)) at (λ t. r ≡ leadingOf t) ⌝ }
 {

@@ -1,4 +1,3 @@
-// A node's own characters in a printed expression: before its children, between them and after them, and how many they are.
-mod fields;
+// The characters that a node has of its own in a printed expression: before its children, between them and after them.
+pub mod fields;
 pub mod marks;
-pub mod sizes;

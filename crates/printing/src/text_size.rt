@@ -4,7 +4,7 @@ ghost use lib.ListN.{length};
 ghost use Rattle.definitions.specs.Printed.{printed};
 ghost use Rattle.printing.specs.Texts.{TextThere, OfText};
 use expression::heads::head_at;
-use printed_nodes::sizes::own_size;
+use printed_sizes::sizes::own_size;
 
 // How many characters the expression has that stands from a place up to the end: those of its nodes, one after another.
 pub fn text_size(src: &[u8], at: usize) -> usize

@@ -23,7 +23,7 @@ use Rattle.expression.specs.declared.cuts.Cut.{Cut}
 use Rattle.argument_writer.specs.declared.arguments.Copied.{Copied}
 use Rattle.writing.proofs.Written.{behind, together, behind-length, part-wrote, to-start, chain, store}
 use Rattle.argument_writer.proofs.Ranges.{wider-stands}
-use Rattle.argument_writer.proofs.TableLaws.{table-copies}
+use Rattle.column_tables.proofs.TableLaws.{table-copies}
 use Rattle.column_references.proofs.AroundLaws.{at-leaf, not-leaf}
 use Rattle.pruning.proofs.CutLaws.{Joins, Remains, cut-ends, what-is-left, nothing-left}
 use Rattle.pruning.proofs.FlagLaws.{held-marks, held-flags, no-flag}

@@ -10,7 +10,7 @@ use Rattle.definitions.specs.Decode.{indexBelow}
 use Rattle.definitions.specs.Extract.{without, prune}
 use Rattle.expression.specs.Nodes.{Stands, Row}
 use Rattle.writing.specs.Written.{Wrote}
-use Rattle.argument_writer.specs.Tables.{Entries}
+use Rattle.column_tables.specs.Tables.{Entries}
 use Rattle.argument_writer.specs.Copies.{copyOf, CopyIs}
 use Rattle.column_references.specs.Around.{unless, around, Ends}
 use Rattle.expression.specs.Cuts.{CutAt}

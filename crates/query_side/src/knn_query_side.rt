@@ -12,7 +12,7 @@ use expression::ends::end_children;
 use expression::heads::head_at;
 use expression::leaves::Node;
 use expression::leaves::node_at;
-use expression::names::same_name_ignore_case;
+use names::names::same_name_ignore_case;
 
 // The first `st_knn` call: where its arguments begin, and how many there are; or where the walk ended without one.
 pub enum KnnCall {

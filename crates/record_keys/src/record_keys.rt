@@ -2,7 +2,7 @@
 ghost use mathlib.Core.Path.{_≡_};
 ghost use Prim.Native.Nat.{_+_, _≤_};
 ghost use lib.ListN.{length};
-ghost use Rattle.argument_writer.specs.Tables.{Recorded};
+ghost use Rattle.column_tables.specs.Tables.{Recorded};
 ghost use Rattle.record_keys.specs.Keys.{keyAt, KeyRow, AmongIs};
 use expression::fields::short_at;
 

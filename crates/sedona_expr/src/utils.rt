@@ -12,7 +12,7 @@ ghost use Rattle.sedona_expr.specs.Parsed.{compared, DistanceIs, ParsedI
 use expression::leaves::Called;
 use expression::leaves::Node;
 use expression::leaves::node_at;
-use expression::names::same_name;
+use names::names::same_name;
 use node_rows::numbers::end_of;
 use node_rows::numbers::start_of;
 use node_rows::pairs::two_at;

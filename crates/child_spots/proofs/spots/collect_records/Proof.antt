@@ -5,7 +5,7 @@ use borrow.Author.Needs.{needs}
 use lib.ListN.{length}
 use mir.Facts.{fits-8-64}
 use Rattle.terms.specs.Sides.{joinSide}
-use Rattle.argument_writer.proofs.TableLaws.{records-within}
+use Rattle.column_tables.proofs.TableLaws.{records-within}
 use Rattle.child_spots.proofs.RecordLoop.{Filling, filling-begins, short-child, filling-goes-on, filling-ends}
 use Rattle.child_spots.proofs.spots.collect_records.Statement.{statement}
 use Rattle.child_spots.proofs.spots.collect_records.Tie as tie

@@ -3,7 +3,7 @@ use Prim.Native.Nat.{_+_, _*_, _≤_}
 use native.Mathlib.Omega.{arith}
 use mathlib.Core.Path.{subst}
 use lib.ListN.{length}
-use Rattle.argument_writer.proofs.TableLaws.{records-within}
+use Rattle.column_tables.proofs.TableLaws.{records-within}
 use Rattle.record_keys.specs.Keys.{AmongIs}
 use Rattle.kept_records.proofs.RecordLaws.{marked-stays, among-stays}
 use Rattle.kept_records.proofs.kept_records.is_referenced.Statement.{statement}

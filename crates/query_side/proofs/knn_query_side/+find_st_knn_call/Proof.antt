@@ -13,7 +13,7 @@ use Rattle.query_side.proofs.knn_query_side.find_st_knn_call.Kinds as k
 use Rattle.query_side.proofs.knn_query_side.+find_st_knn_call.Lts-find_st_knn_call as lts
 use Rattle.expression.proofs.ends.end_children.Reads as end-children
 use Rattle.expression.proofs.leaves.node_at.Reads as node-at
-use Rattle.expression.proofs.names.same_name_ignore_case.Reads as same-name-ignore-case
+use Rattle.names.proofs.names.same_name_ignore_case.Reads as same-name-ignore-case
 use Rattle.query_side.proofs.knn_query_side.+find_st_knn_call.{
   statement,
 }

@@ -3,7 +3,7 @@ use Prim.Native.Nat.{_+_, _-_, _*_, _≤_, _<_}
 use native.Mathlib.Omega.{arith}
 use mathlib.Core.Logic.{⊎-elim}
 use lib.ListN.{length}
-use Rattle.argument_writer.proofs.TableLaws.{records-within}
+use Rattle.column_tables.proofs.TableLaws.{records-within}
 use Rattle.record_keys.proofs.KeyLaws.{Filled, filled-none, filled-marked, filled-passed, filled-all}
 use Rattle.record_keys.proofs.record_keys.marked_keys.Statement.{statement}
 use Rattle.record_keys.proofs.record_keys.marked_keys.Tie as tie

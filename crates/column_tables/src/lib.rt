@@ -1,0 +1,2 @@
+// Tables of what each column index becomes: its index in its child, or itself raised by a count.
+pub mod column_tables;

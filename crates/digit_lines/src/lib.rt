@@ -1,0 +1,2 @@
+// The lines that the program writes.
+pub mod digit_lines;
