@@ -1,9 +1,9 @@
 // What C and Rust hosts call; include/spatialjoin.h declares it. Each answer is a number of 64 bits; the buffers are as the
 // definitions' calls leave them.
-use host_calls::exchange_number;
-use host_calls::logical_number;
-use host_calls::print_number;
-use host_calls::project_number;
+use host_exchange::exchange_number;
+use host_logical::logical_number;
+use host_print::print_number;
+use host_project::project_number;
 use host_cores::extract_core;
 use host_cores::load_core;
 use host_cores::merge_core;

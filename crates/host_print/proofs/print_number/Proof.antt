@@ -2,9 +2,9 @@
 use borrow.Author.Needs.{needs}
 use Rattle.reading.proofs.Standing.{all-bytes}
 use Rattle.host_answers.proofs.Numbers.{given-back}
-use Rattle.host_calls.proofs.Lengths.{text-short, print-hosted}
-use Rattle.host_calls.proofs.print_number.Statement.{statement}
-use Rattle.host_calls.proofs.print_number.Tie as tie
+use Rattle.host_answers.proofs.Lengths.{text-short, print-hosted}
+use Rattle.host_print.proofs.print_number.Statement.{statement}
+use Rattle.host_print.proofs.print_number.Tie as tie
 
 answer-number-requires : tie.Need-answer-number-requires
 answer-number-requires c κs =

@@ -3,9 +3,9 @@ use borrow.Author.Needs.{needs}
 use Rattle.reading.proofs.Standing.{all-bytes}
 use Rattle.host_answers.proofs.Numbers.{given-back}
 use Rattle.host_answers.proofs.Hosting.{call-hosted}
-use Rattle.host_calls.proofs.Lengths.{projected-short}
-use Rattle.host_calls.proofs.project_number.Statement.{statement}
-use Rattle.host_calls.proofs.project_number.Tie as tie
+use Rattle.host_answers.proofs.Lengths.{projected-short}
+use Rattle.host_project.proofs.project_number.Statement.{statement}
+use Rattle.host_project.proofs.project_number.Tie as tie
 
 answer-number-requires : tie.Need-answer-number-requires
 answer-number-requires c κs =

@@ -3,8 +3,8 @@ use borrow.Author.Needs.{needs}
 use native.Mathlib.Omega.{arith}
 use Rattle.definitions.specs.Hosts.{hostedNames}
 use Rattle.host_answers.proofs.Numbers.{number-is, given-back}
-use Rattle.host_calls.proofs.logical_number.Statement.{statement}
-use Rattle.host_calls.proofs.logical_number.Tie as tie
+use Rattle.host_logical.proofs.logical_number.Statement.{statement}
+use Rattle.host_logical.proofs.logical_number.Tie as tie
 
 returns : tie.Need-returns
 unfolding hostedNames
