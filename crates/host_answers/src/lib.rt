@@ -1,5 +1,5 @@
 // A call's answer as one number for a host: a length, or minus the number of the refusal. Public for the crates
-// `host_calls` and `host_cores`.
+// of the calls.
 use join_filter::answers::Answer;
 use terms::refusals::Refusal;
 use terms::refusals::refusal_number;

@@ -60,10 +60,10 @@ use Rattle.node_table.proofs.take_nodes as g₂
 use Rattle.node_table.proofs.take_nodes.Symbol as g₂-def
 use Rattle.node_table.proofs.take_nodes.Symbol.{name as #take-nodes}
 use Rattle.node_table.proofs.take_nodes.Met as g₂-thm
-use Rattle.host_cores.proofs.extract_core as g₃
-use Rattle.host_cores.proofs.extract_core.Symbol as g₃-def
-use Rattle.host_cores.proofs.extract_core.Symbol.{name as #extract-core}
-use Rattle.host_cores.proofs.extract_core.Met as g₃-thm
+use Rattle.host_extract.proofs.extract_core as g₃
+use Rattle.host_extract.proofs.extract_core.Symbol as g₃-def
+use Rattle.host_extract.proofs.extract_core.Symbol.{name as #extract-core}
+use Rattle.host_extract.proofs.extract_core.Met as g₃-thm
 use Rattle.spatialjoin_c.proofs.spatialjoin_extract.Key.{name as #extract}
 use Rattle.spatialjoin_c.proofs.spatialjoin_extract as f
 use Rattle.spatialjoin_c.proofs.spatialjoin_extract.Statement as stated

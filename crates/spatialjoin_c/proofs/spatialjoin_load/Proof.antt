@@ -55,10 +55,10 @@ use Rattle.spatialjoin_c.proofs.LoadedFields.{fields}
 use Rattle.spatialjoin_c.proofs.FilledLaws.{load-asks, load-fills}
 use Rattle.host_cores.proofs.Loaded as L
 use Rattle.host_cores.proofs.Loaded.Laws as L′
-use Rattle.host_cores.proofs.load_core as g₁
-use Rattle.host_cores.proofs.load_core.Symbol as g₁-def
-use Rattle.host_cores.proofs.load_core.Symbol.{name as #load-core}
-use Rattle.host_cores.proofs.load_core.Met as g₁-thm
+use Rattle.host_load.proofs.load_core as g₁
+use Rattle.host_load.proofs.load_core.Symbol as g₁-def
+use Rattle.host_load.proofs.load_core.Symbol.{name as #load-core}
+use Rattle.host_load.proofs.load_core.Met as g₁-thm
 use Rattle.node_table.proofs.put_nodes as g₂
 use Rattle.node_table.proofs.put_nodes.Symbol as g₂-def
 use Rattle.node_table.proofs.put_nodes.Symbol.{name as #put-nodes}

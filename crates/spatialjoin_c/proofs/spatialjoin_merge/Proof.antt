@@ -55,10 +55,10 @@ use Rattle.spatialjoin_c.proofs.Again.{LentAgain, lends-again, comes-ba
 use Rattle.spatialjoin_c.proofs.Reshared.{Kept, reshares, unshares}
 use Rattle.host_cores.proofs.Loaded as L
 use Rattle.host_cores.proofs.Loaded.Laws as L′
-use Rattle.host_cores.proofs.merge_core as g₁
-use Rattle.host_cores.proofs.merge_core.Symbol as g₁-def
-use Rattle.host_cores.proofs.merge_core.Symbol.{name as #merge-core}
-use Rattle.host_cores.proofs.merge_core.Met as g₁-thm
+use Rattle.host_merge.proofs.merge_core as g₁
+use Rattle.host_merge.proofs.merge_core.Symbol as g₁-def
+use Rattle.host_merge.proofs.merge_core.Symbol.{name as #merge-core}
+use Rattle.host_merge.proofs.merge_core.Met as g₁-thm
 use Rattle.node_table.proofs.fill_table as g₂
 use Rattle.node_table.proofs.fill_table.Symbol as g₂-def
 use Rattle.node_table.proofs.fill_table.Symbol.{name as #fill-table}

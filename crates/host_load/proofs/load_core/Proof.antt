@@ -2,9 +2,9 @@
 use borrow.Author.Needs.{needs}
 use Rattle.reading.proofs.Standing.{all-bytes}
 use Rattle.host_answers.proofs.Numbers.{given-back}
 use Rattle.host_cores.proofs.CoreLaws.{load-short, load-left}
-use Rattle.host_cores.proofs.load_core.Statement.{statement}
-use Rattle.host_cores.proofs.load_core.Tie as tie
+use Rattle.host_load.proofs.load_core.Statement.{statement}
+use Rattle.host_load.proofs.load_core.Tie as tie
 
 answer-number-requires : tie.Need-answer-number-requires
 answer-number-requires c κs =

@@ -1,9 +1,9 @@
 -- Right because it is the merge with its answer as one number.
 use borrow.Author.Needs.{needs}
 use Rattle.host_answers.proofs.Numbers.{given-back}
 use Rattle.host_cores.proofs.CoreLaws.{merge-short, merge-left}
-use Rattle.host_cores.proofs.merge_core.Statement.{statement}
-use Rattle.host_cores.proofs.merge_core.Tie as tie
+use Rattle.host_merge.proofs.merge_core.Statement.{statement}
+use Rattle.host_merge.proofs.merge_core.Tie as tie
 
 answer-number-requires : tie.Need-answer-number-requires
 answer-number-requires c κs =
