@@ -19,8 +19,8 @@ use Rattle.theorems.proofs.ExtractGood.{GoodExtraction, extraction-good}
 use Rattle.frame_reader.specs.declared.frames.Frame as places
 use Rattle.plan_reader.specs.Plans.{HoldsFrame}
 use Rattle.argument_sides.specs.Frames.{Over}
-use Rattle.spatial_expr_utils.specs.Picks.{TakenIs}
-use Rattle.spatial_expr_utils.specs.declared.pick.Pick as picks
+use Rattle.first_match.specs.Picks.{TakenIs}
+use Rattle.first_match.specs.declared.first_match.Pick as picks
 use Rattle.frame_extract.specs.Extractions.{Taking, takes, ExtractionFits, ExtractionPut}
 use Rattle.frame_reader.proofs.Standing.{between-holds, expr-stands}
 use Rattle.join_filter.proofs.Refusing.{extract-call, refuses, outcome}

@@ -11,7 +11,7 @@ use Rattle.definitions.specs.Decode.{indexBelow}
 use Rattle.expression.specs.Nodes.{Stands}
 use Rattle.frame_reader.specs.declared.frames.Frame.{Frame}
 use Rattle.sedona_query_planner.specs.Predicates.{PredicateAt}
-use Rattle.spatial_expr_utils.specs.declared.pick.Pick.{Pick}
+use Rattle.first_match.specs.declared.first_match.Pick.{Pick}
 use Rattle.writing.specs.Written.{Wrote}
 use Rattle.writing.specs.Writing.{Room, Puts}
 use Rattle.writing.proofs.Written.{behind, together, behind-length, then-wrote}

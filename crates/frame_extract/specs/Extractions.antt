@@ -12,7 +12,7 @@ use Rattle.expression.specs.Nodes.{Stands}
 use Rattle.frame_reader.specs.declared.frames.Frame.{Frame}
 use Rattle.sedona_query_planner.specs.Predicates.{onChildren, PredicateAt}
 use Rattle.expression.specs.Cuts.{CutAt}
-use Rattle.spatial_expr_utils.specs.declared.pick.Pick.{Pick}
+use Rattle.first_match.specs.declared.first_match.Pick.{Pick}
 use Rattle.writing.specs.Written.{Wrote}
 use Rattle.column_tables.specs.Tables.{Entries}
 

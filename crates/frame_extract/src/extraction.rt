@@ -1,10 +1,10 @@
 // Writes the extraction that takes a pick: its predicate with the pick's position, then its remainder where the predicate ended.
 use argument_writer::arguments::ColumnIndexes;
 use column_tables::column_tables::child_indexes;
+use first_match::first_match::Pick;
 use frame_reader::frames::Frame;
 use plan_writer::put_predicate::put_predicate;
 use pruning::remainder::put_remainder;
-use spatial_expr_utils::pick::Pick;
 ghost use Rattle.frame_extract.specs.Extractions.{ExtractionFits, ExtractionPut};
 
 // Writes the extraction of the frame in `src`; answers its length.

@@ -2,9 +2,9 @@
 mod extraction;
 
 use extraction::put_extraction;
+use first_match::first_match::Picked;
 use frame_reader::frames::Frame;
 use join_filter::answers::Answer;
-use spatial_expr_utils::pick::Picked;
 use spatial_expr_utils::pick::extract_spatial_predicate;
 use terms::refusals::Refusal;
 use writing::copies::copy_bytes;

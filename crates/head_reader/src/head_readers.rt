@@ -1,5 +1,4 @@
 // A node's head: its kind, and the fields before its children.
-use literals::literals::literal_in_range;
 use field_reader::field_readers::Field;
 use field_reader::field_readers::Skipped;
 use field_reader::field_readers::Sort;
@@ -9,6 +8,7 @@ use field_reader::field_readers::byte_between;
 use field_reader::field_readers::byte_up_to;
 use field_reader::field_readers::name_bytes;
 use field_reader::field_readers::two_fields;
+use literals::literals::literal_in_range;
 use terms::refusals::Refusal;
 ghost use mathlib.Core.Path.{_≡_};
 ghost use Prim.Native.Nat.{_≤_};

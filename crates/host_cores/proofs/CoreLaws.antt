@@ -17,7 +17,7 @@ use Rattle.theorems.proofs.Proved.{lengths-short, merge-writes}
 use Rattle.join_filter.specs.Outcomes.{answerOf, nAfter, LoadIs, OutcomeIs, MergeIs}
 use Rattle.join_filter.specs.declared.answers.Loaded.{Loaded}
 use Rattle.call_load.specs.Loads.{LoadedIs}
-use Rattle.call_merge.specs.Merges.{MergedIs}
+use Rattle.frame_merge.specs.Merges.{MergedIs}
 use Rattle.join_filter.specs.declared.answers.Answer.{Answer}
 use Rattle.join_filter.specs.declared.answers.Answer.the-variants.{Length, Refused}
 use Rattle.host_cores.proofs.TableRoom.{load-keeps, merge-keeps, has-room}

@@ -9,7 +9,7 @@ use Rattle.definitions.specs.Merge.{merge}
 use Rattle.definitions.specs.NodeTable.{NodeRecord}
 use Rattle.definitions.specs.Hosts.{hosted}
 use Rattle.expression.specs.Filling.{Records}
-use Rattle.table_extract.specs.ExtractByTable.{RowOf}
+use Rattle.compared_extract.specs.ExtractByTable.{RowOf}
 use Rattle.host_cores.specs.declared.Loaded.{Loaded}
 use Rattle.host_answers.specs.Hosted.{CallHosted}
 

@@ -2,7 +2,7 @@
 // with a table.
 ghost use mathlib.Core.Path.{_≡_};
 ghost use Prim.Native.Nat.{min};
-ghost use Rattle.table_extract.specs.ExtractByTable.{lentCount};
+ghost use Rattle.compared_extract.specs.ExtractByTable.{lentCount};
 
 // The answer, and what the table is to be filled with: the nodes of the expression that begins at `root`, `count` of them, or none.
 pub struct Loaded {

@@ -2,9 +2,9 @@
 ghost use mathlib.Core.Path.{_≡_};
 ghost use Prim.Native.Nat.{_-_};
 ghost use Rattle.printed_fields.specs.Marks.{Counted, OfCounted, ownSize};
-use printed_nodes::fields::leading_number;
 use expression::fields::short_at;
 use printed_fields::decimals::decimal_width;
+use printed_nodes::fields::leading_number;
 
 // How many commas stand between so many children.
 fn commas(children: usize) -> usize

@@ -6,7 +6,7 @@ use mathlib.Core.List.{List, map, _++_}
 use lib.ListN.{length, length-map, take, drop}
 use lib.Seq.{take-at, length-take-le}
 use Rattle.definitions.specs.NodeTable as nodes
-use Rattle.table_extract.specs.ExtractByTable.{lentCount, RowOf}
+use Rattle.compared_extract.specs.ExtractByTable.{lentCount, RowOf}
 use Rattle.node_rows.specs.Numbers.{number}
 use Rattle.node_table.proofs.Filling.{map-take}
 use Rattle.node_table.specs.Records.{nodeOf, nodesOf, FilledIs}

@@ -1,13 +1,13 @@
 // What C and Rust hosts call; include/spatialjoin.h declares it. Each answer is a number of 64 bits; the buffers are as the
 // definitions' calls leave them.
+use host_cores::taken_count;
 use host_exchange::exchange_number;
-use host_logical::logical_number;
-use host_print::print_number;
-use host_project::project_number;
 use host_extract::extract_core;
 use host_load::load_core;
+use host_logical::logical_number;
 use host_merge::merge_core;
-use host_cores::taken_count;
+use host_print::print_number;
+use host_project::project_number;
 use node_table::NodeRecord;
 use node_table::fill_table;
 use node_table::put_nodes;

@@ -1,42 +1,14 @@
 // The call extract with a lent table of nodes, of which it is given the numbers of the records. Public for the crate `host_cores`.
-use frame_extract::extract_frame;
 use frame_reader::frames::Frame;
 use join_filter::answers::Answer;
-use node_rows::numbers::same_numbers;
 use plan_reader::held_plans::Held;
 use plan_reader::held_plans::held_plan_in;
 use terms::refusals::Refusal;
 ghost use Prim.Native.Nat.{_≤_};
 ghost use lib.ListN.{length};
-ghost use Rattle.plan_reader.specs.Plans.{HoldsFrame};
-ghost use Rattle.frame_extract.specs.FrameRows.{Indexed, RoomIn};
-ghost use Rattle.table_extract.specs.ExtractByTable.{RowOf, ByTable};
-
-// A held frame whose nodes are in the rows: they are compared with the table's, and then those of the table are used. A table shorter
-// than the node count does not fit.
-fn extract_compared(
-    plan: &mut [u8],
-    n: usize,
-    scratch: &mut [u8],
-    f: Frame,
-    own: &[u32],
-    next: &[u16],
-    row: &[u32],
-    places: usize,
-) -> Answer
-    requires { ⌜ HoldsFrame n (now plan) f ⌝ }
-    requires { ⌜ Indexed n (now plan) f (now own) (now next) ⌝ }
-    ensures { λ r. ⌜ ByTable (RowOf n (now (row .entry)) places) n (now (plan .entry)) (now (scratch .entry)) (now (plan .exit))
-        (now (scratch .exit)) r ⌝ }
-{
-    if places < f.nodes || row.len() < f.nodes {
-        return Answer::Refused(Refusal::NoGoodPlan);
-    }
-    if same_numbers(own, row, f.nodes) {
-        return extract_frame(plan, n, scratch, f, row, next);
-    }
-    Answer::Refused(Refusal::NoGoodPlan)
-}
+ghost use Rattle.frame_extract.specs.FrameRows.{RoomIn};
+ghost use Rattle.compared_extract.specs.ExtractByTable.{RowOf, ByTable};
+use compared_extract::extract_compared;
 
 // The same of what is held, whose nodes go into the rows if it is a frame.
 fn extract_lent(

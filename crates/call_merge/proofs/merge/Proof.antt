@@ -1,7 +1,7 @@
 -- A frame that is refused is refused by merge; a good one is merged into what is held.
 use borrow.Author.Needs.{needs}
 use Rattle.join_filter.proofs.Refusing.{frame-refused}
-use Rattle.call_merge.proofs.Merging.{unfilled-is}
+use Rattle.frame_merge.proofs.Merging.{unfilled-is}
 use Rattle.call_merge.proofs.merge.Statement.{statement}
 use Rattle.call_merge.proofs.merge.Tie as tie
 

@@ -5,7 +5,7 @@ use Rattle.definitions.specs.Merge.{newAfterMerge}
 use Rattle.terms.specs.declared.refusals.Refusal.the-variants.{NoGoodPlan, PlanEmpty, AlreadyExtracted}
 use Rattle.join_filter.proofs.Keeping.{plan-length}
 use Rattle.join_filter.proofs.Refusing.{merge-call, no-room-for-n, no-plan, empty-plan, extracted-before}
-use Rattle.call_merge.proofs.Merging.{unfilled-is}
+use Rattle.frame_merge.proofs.Merging.{unfilled-is}
 use Rattle.call_merge.proofs.merge_good.Statement.{statement}
 use Rattle.call_merge.proofs.merge_good.Tie as tie
 

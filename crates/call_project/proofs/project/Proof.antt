@@ -4,7 +4,7 @@ use mathlib.Core.Path.{sym}
 use Rattle.reading.proofs.Standing.{all-bytes}
 use Rattle.join_filter.proofs.Keeping.{plan-length}
 use Rattle.join_filter.proofs.Refusing.{no-room-for-n, no-plan, empty-plan}
-use Rattle.call_project.proofs.ProjectCall.{project-call, frame-held, holds-of}
+use Rattle.row_project.proofs.ProjectCall.{project-call, frame-held, holds-of}
 use Rattle.call_project.proofs.project.Statement.{statement}
 use Rattle.call_project.proofs.project.Tie as tie
 

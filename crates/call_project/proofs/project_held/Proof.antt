@@ -1,7 +1,7 @@
 -- `project_held`: lists, then scratch, then the child indexes; a row of 64 entries has room for those of 320 bytes.
 use native.Mathlib.Omega.{arith}
 use borrow.Author.Needs.{needs}
-use Rattle.call_project.proofs.ProjectCall.{left-long, right-long, scratch-short, held-short}
+use Rattle.row_project.proofs.ProjectCall.{left-long, right-long, scratch-short, held-short}
 use Rattle.call_project.proofs.project_held.Statement.{statement}
 use Rattle.call_project.proofs.project_held.Tie as tie
 

@@ -48,7 +48,7 @@ use Rattle.node_table.specs.declared.NodeRecord.{NodeRecord}
 use Rattle.node_table.proofs.NodeRecord as T
 use Rattle.node_table.proofs.LocalRow.{Row, value, big-lit, none-is, typed-row, called, sliced, LentMut, LentShr, lends-mut, mut-back, lends-shr, shr-back}
 use Rattle.definitions.specs.Calls.{extract}
-use Rattle.table_extract.specs.ExtractByTable.{lentCount}
+use Rattle.compared_extract.specs.ExtractByTable.{lentCount}
 use Rattle.host_answers.specs.Hosted.{CallHosted}
 use Rattle.host_cores.specs.Cores.{Lent, ExtractBy}
 use Rattle.spatialjoin_c.proofs.FilledLaws.{row-of}
@@ -400,4 +400,4 @@ spatialjoin-extract-spec 𝓤 H 𝓜 𝓖 𝓡 =
     (cited 𝓤 H (TakeNodes 𝓤 H (𝓖 .A) (𝓜 .mem) (𝓡 .run)) 𝓜 𝓡 code.env #take-nodes g₂-def.routine code.calls-node-table·take-nodes
     (g₂-thm.met 𝓤 H 𝓜 𝓖 𝓡))
     (cited 𝓤 H (ExtractCore 𝓤 H (𝓖 .A) (𝓜 .mem) (𝓡 .run)) 𝓜 𝓡 code.env #extract-core g₃-def.routine
-    code.calls-host-cores·extract-core (g₃-thm.met 𝓤 H 𝓜 𝓖 𝓡)))
+    code.calls-host-extract·extract-core (g₃-thm.met 𝓤 H 𝓜 𝓖 𝓡)))

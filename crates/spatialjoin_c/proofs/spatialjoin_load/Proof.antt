@@ -355,7 +355,7 @@ spatialjoin-load-spec 𝓤 H 𝓜 𝓖 𝓡 =
     entered 𝓤 H (tripleOf 𝓤 H (𝓖 .A) f.signature (f.spec 𝓤 H (𝓖 .A) (𝓜 .mem) (𝓡 .run)))
     (tables 𝓤 H 𝓜 𝓡 code.env .C) (tables 𝓤 H 𝓜 𝓡 code.env .Λ) #load code.function (code.unfolded 𝓤 H 𝓜 𝓡)
     (load-meets 𝓤 H (𝓖 .A) (givenOf 𝓤 H 𝓜 𝓖) (𝓜 .mem) (𝓡 .run) (tablesOf 𝓤 H 𝓜 (tables 𝓤 H 𝓜 𝓡 code.env))
-    (cited 𝓤 H (LoadCore 𝓤 H (𝓖 .A) (𝓜 .mem) (𝓡 .run)) 𝓜 𝓡 code.env #load-core g₁-def.routine code.calls-host-cores·load-core
+    (cited 𝓤 H (LoadCore 𝓤 H (𝓖 .A) (𝓜 .mem) (𝓡 .run)) 𝓜 𝓡 code.env #load-core g₁-def.routine code.calls-host-load·load-core
     (g₁-thm.met 𝓤 H 𝓜 𝓖 𝓡))
     (cited 𝓤 H (PutNodes 𝓤 H (𝓖 .A) (𝓜 .mem) (𝓡 .run)) 𝓜 𝓡 code.env #put-nodes g₂-def.routine code.calls-node-table·put-nodes
     (g₂-thm.met 𝓤 H 𝓜 𝓖 𝓡)))

@@ -3,7 +3,7 @@ use borrow.Author.Needs.{needs}
 use mathlib.Core.Path.{refl, _∙_}
 use Rattle.definitions.specs.Calls.{tableFits}
 use Rattle.join_filter.proofs.Refusing.{extract-call, no-room-for-n}
-use Rattle.table_extract.proofs.Tables.{unheld, over-long}
+use Rattle.compared_extract.proofs.Tables.{unheld, over-long}
 use Rattle.table_extract.proofs.extract_by_table.Statement.{statement}
 use Rattle.table_extract.proofs.extract_by_table.Tie as tie
 

@@ -5,7 +5,7 @@ use Rattle.definitions.specs.Calls.{newAfterExtractBy, tableFits}
 use Rattle.join_filter.proofs.Keeping.{held-is, plan-length}
 use Rattle.join_filter.proofs.Refusing.{extract-call, no-plan, empty-plan, extracted-before}
 use Rattle.frame_extract.proofs.Collecting.{frame-indexed}
-use Rattle.table_extract.proofs.Tables.{unheld}
+use Rattle.compared_extract.proofs.Tables.{unheld}
 use Rattle.table_extract.proofs.extract_lent.Statement.{statement}
 use Rattle.table_extract.proofs.extract_lent.Tie as tie
 

@@ -1,8 +1,8 @@
 -- `extract_spatial_predicate`: the pick is the first KNN match; without one it is the first match that is not KNN.
 use mathlib.Core.Path.{_∙_}
 use Rattle.definitions.specs.Extract.{matchesBy}
-use Rattle.spatial_expr_utils.proofs.PickLaws.{pick-knn, pick-other}
-use Rattle.spatial_expr_utils.proofs.FirstLaws.{taken-is}
+use Rattle.first_match.proofs.PickLaws.{pick-knn, pick-other}
+use Rattle.first_match.proofs.FirstLaws.{taken-is}
 use borrow.Author.Needs.{needs}
 use Rattle.spatial_expr_utils.proofs.pick.extract_spatial_predicate.Statement.{statement}
 use Rattle.spatial_expr_utils.proofs.pick.extract_spatial_predicate.Tie as tie

@@ -1,3 +1,0 @@
--- Laws that the proofs use.
-pub mod Standing
-pub mod Merging

@@ -1,0 +1,62 @@
+-- `match_other`: a function of relation name is no distance, any other leaf no relation.
+use native.Mathlib.Omega.{arith}
+use Rattle.node_rows.proofs.RowLaws.{tabled-within}
+use Rattle.argument_sides.specs.Frames.{OfFrame}
+use Rattle.leaf_matching.specs.Matches.{isRelation, LeafMatching}
+use Rattle.first_match.proofs.Nodes.{no-function}
+use Rattle.first_match.proofs.LeafLaws.{call-framed, leaf-call-tabled, call-leaf, relation-matched, distance-matching}
+use borrow.Author.Needs.{needs}
+use Rattle.first_match.proofs.first_match.match_other.Statement.{statement}
+use Rattle.first_match.proofs.first_match.match_other.Tie as tie
+
+returns : tie.Need-returns
+returns c =
+    let start = c .before .before .before .before .before in
+    λ records t over. distance-matching over (c .match-distance-predicate .result)
+    (no-function (start .args .node) (start .pre .1 .1) (over .tree) (c .before .match .keys2) records .1)
+    (c .match-distance-predicate .ensures records t over)
+
+add-match-relation-predicate : tie.Need-add-match-relation-predicate
+add-match-relation-predicate c =
+    let start = c .before .before .before .before .before .before in
+    omega (arith, start .good, tabled-within (start .pre .1 .0 _ _ (start .pre .0 .2 .tree)) .0)
+
+match-relation-predicate-requires : tie.Need-match-relation-predicate-requires
+match-relation-predicate-requires c κs =
+    let start = c .before .before .before .before .before .before in
+    let told = c .before .node .given .1 in
+    (call-framed (start .pre .1 .1) told (start .pre .0), leaf-call-tabled (start .pre .1 .1) told (start .pre .0) (start .pre .1 .0))
+
+-- What `match_relation_predicate` answered, said of the leaf.
+as-relation : (c : tie.After-match-relation-predicate)
+    → let start = c .before .before .before .before .before .before .before .args in
+    OfFrame (start .s .now) (start .rec) (start .at) (LeafMatching isRelation (start .s .now) (start .rec)
+    (c .match-relation-predicate .result))
+as-relation c records t over =
+    call-leaf (c .before .before .before .before .before .before .before .pre .1 .1) (c .before .before .node .given .1) isRelation
+    (c .match-relation-predicate .result)
+    (c .match-relation-predicate .ensures) over
+
+returns-4 : tie.Need-returns-4
+returns-4 c =
+    λ records t over. distance-matching over (c .match-distance-predicate2 .result)
+    (rw (c .before .enum-told2 .given .1) at (as-relation (c .before .before .before) records t over))
+    (c .match-distance-predicate2 .ensures records t over)
+
+pub match-other-spec : {M : Type 1} → statement M
+match-other-spec =
+    tie.close
+    (tie.spec
+    (search needs)
+    (λ c κs. let start = c .before .before .before .before in (start .pre .0, start .pre .1 .0))
+    returns
+    add-match-relation-predicate
+    match-relation-predicate-requires
+    (search needs)
+    (search needs)
+    (search needs)
+    (λ c κs. let start = c .before .before .before .before .before .before .before .before .before in (start .pre .0, start .pre .1 .0))
+    (λ c records t over. relation-matched over _
+    (rw (c .before .predicate .given .1) at (as-relation (c .before .before .before) records t over)))
+    (λ c records t over. rw (c .enum-told .given .1) at (as-relation (c .before .before) records t over))
+    returns-4)

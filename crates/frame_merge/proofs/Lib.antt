@@ -1,0 +1,3 @@
+-- Laws that several proofs use.
+pub mod Merging
+pub mod Standing
