@@ -6,7 +6,7 @@ use lib.ListN.{length, take}
 use Rattle.definitions.specs.Basics.{ok}
 use Rattle.definitions.specs.Expression.{Plan}
 use Rattle.definitions.specs.Plans.{planOf}
-use Rattle.plan_reader.specs.declared.held_plans.Held.{Held}
+use Rattle.extraction_body.specs.declared.extraction_bodies.Held.{Held}
 use Rattle.plan_exchange.specs.Exchanged.{PlanAt}
 
 -- The plan's first n bytes are a good plan, a frame or an extraction, which stands there.

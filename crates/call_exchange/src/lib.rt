@@ -1,7 +1,7 @@
 // The call exchange.
+use extraction_body::extraction_bodies::Held;
 use join_filter::answers::Answer;
 use plan_exchange::exchanged_plans::exchange_plan;
-use plan_reader::held_plans::Held;
 use plan_reader::held_plans::held_plan;
 use terms::refusals::Refusal;
 use writing::copies::copy_bytes;

@@ -1,9 +1,9 @@
 // The call extract.
 // A port of `transform_join_filter` of
 // rust/sedona-query-planner/src/spatial_expr_utils.rs.
+use extraction_body::extraction_bodies::Held;
 use frame_extract::extract_frame;
 use join_filter::answers::Answer;
-use plan_reader::held_plans::Held;
 use plan_reader::held_plans::held_plan_in;
 use terms::refusals::Refusal;
 ghost use Rattle.definitions.specs.Calls as definitions;

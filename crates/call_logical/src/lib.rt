@@ -1,5 +1,5 @@
 // The call logical.
-use frame_reader::frames::Logical;
+use frame_body::frame_bodies::Logical;
 use frame_reader::frames::logical_frame;
 use logical_filter::predicate_names::PredicateNames;
 use logical_filter::predicate_names::collect_spatial_predicate_names;

@@ -1,10 +1,10 @@
 // The call merge.
-use frame_reader::frames::Frame;
-use frame_reader::frames::Physical;
+use extraction_body::extraction_bodies::Held;
+use frame_body::frame_bodies::Frame;
+use frame_body::frame_bodies::Physical;
 use frame_reader::frames::physical_frame;
 use join_filter::answers::Loaded;
 use join_filter::answers::unfilled;
-use plan_reader::held_plans::Held;
 use plan_reader::held_plans::held_plan;
 use terms::refusals::Refusal;
 ghost use Rattle.frame_merge.specs.Given.{GivenFrame};

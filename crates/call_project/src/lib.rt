@@ -1,7 +1,7 @@
 // The call project (request 7).
+use extraction_body::extraction_bodies::Extraction;
+use extraction_body::extraction_bodies::Held;
 use join_filter::answers::Answer;
-use plan_reader::held_plans::Extraction;
-use plan_reader::held_plans::Held;
 use plan_reader::held_plans::held_plan;
 use terms::refusals::Refusal;
 ghost use Rattle.definitions.specs.Project as definitions;

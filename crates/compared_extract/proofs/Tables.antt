@@ -16,10 +16,10 @@ use Rattle.definitions.specs.NodeTable.{NodeRecord, nodesFrom, nodeTable, begin
 use Rattle.definitions.specs.Calls.{tableFits, finish, heldPlan, extractBy, extractFilled, extract}
 use Rattle.theorems.proofs.ExchangeGood.{frame-length}
 use Rattle.theorems.proofs.NodeTables.{node-count, begins-exactly-by}
-use Rattle.frame_reader.specs.declared.frames.Frame.{Frame}
+use Rattle.frame_body.specs.declared.frame_bodies.Frame.{Frame}
 use Rattle.expression.proofs.Placed.{fits}
-use Rattle.frame_reader.proofs.Standing.{expr-stands}
-use Rattle.plan_reader.specs.Plans.{HoldsFrame}
+use Rattle.frame_body.proofs.Standing.{expr-stands}
+use Rattle.extraction_body.specs.Plans.{HoldsFrame}
 use Rattle.join_filter.proofs.Keeping.{held-is, plan-length, plan-size}
 use Rattle.join_filter.proofs.Refusing.{refuses}
 use Rattle.writing.proofs.Written.{taken}

@@ -1,10 +1,10 @@
 // Extract of a held frame whose nodes are compared with those of a table. Public for the crate `table_extract`.
+use frame_body::frame_bodies::Frame;
 use frame_extract::extract_frame;
-use frame_reader::frames::Frame;
 use join_filter::answers::Answer;
 use node_rows::numbers::same_numbers;
 use terms::refusals::Refusal;
-ghost use Rattle.plan_reader.specs.Plans.{HoldsFrame};
+ghost use Rattle.extraction_body.specs.Plans.{HoldsFrame};
 ghost use Rattle.frame_extract.specs.FrameRows.{Indexed};
 ghost use Rattle.compared_extract.specs.ExtractByTable.{RowOf, ByTable};
 

@@ -9,15 +9,15 @@ use Rattle.definitions.specs.Expression as tree
 use Rattle.definitions.specs.Encode.{exprBytes, frameBytes, remainderBytes, extractionBytes}
 use Rattle.definitions.specs.Exchange.{exchangeRecord, exchangeFrame, exchangePredicate, exchangeExtraction}
 use Rattle.expression.specs.Places.{Between}
-use Rattle.frame_reader.specs.Frames.{FrameAt}
-use Rattle.plan_reader.specs.Plans.{RemainderAt, ExtractionAt}
-use Rattle.frame_reader.specs.declared.frames.Frame.{Frame}
-use Rattle.plan_reader.specs.declared.held_plans.Remainder.the-variants as remainder
-use Rattle.plan_reader.specs.declared.held_plans.Extraction.{Extraction}
+use Rattle.frame_body.specs.Frames.{FrameAt}
+use Rattle.extraction_body.specs.Plans.{RemainderAt, ExtractionAt}
+use Rattle.frame_body.specs.declared.frame_bodies.Frame.{Frame}
+use Rattle.extraction_body.specs.declared.extraction_bodies.Remainder.the-variants as remainder
+use Rattle.extraction_body.specs.declared.extraction_bodies.Extraction.{Extraction}
 use Rattle.writing.specs.Writing.{Both, joined, same}
 use Rattle.sedona_query_planner.specs.Predicates.{unchanged, PredicateAt, Exchanges}
 use Rattle.sedona_query_planner.specs.declared.spatial_predicate.SpatialPredicate.{SpatialPredicate}
-use Rattle.plan_writer.specs.Predicates.{predicateBytes, frameHead}
+use Rattle.frame_heads.specs.Predicates.{predicateBytes, frameHead}
 use Rattle.frame_exchange.specs.Held.{RecordsAt}
 use Rattle.frame_exchange.specs.ExchangedBytes.{recordsExchanged, frameExchanged, remainderExchanged, extractionExchanged}
 use Rattle.writing.proofs.Sequence.{Headed}

@@ -1,12 +1,12 @@
 // Frames written with the side of each record negated.
-use frame_reader::frames::Frame;
-use plan_reader::held_plans::Remainder;
-use plan_writer::frame_heads::put_frame_head;
+use extraction_body::extraction_bodies::Remainder;
+use frame_body::frame_bodies::Frame;
+use frame_heads::frame_heads::put_frame_head;
 use terms::sides::negated_number;
 use writing::copies::copy_at;
 use writing::copies::copy_bytes;
-ghost use Rattle.frame_reader.specs.Frames.{FrameAt};
-ghost use Rattle.plan_reader.specs.Plans.{RemainderAt};
+ghost use Rattle.frame_body.specs.Frames.{FrameAt};
+ghost use Rattle.extraction_body.specs.Plans.{RemainderAt};
 ghost use Rattle.writing.specs.Writing.{Room, Puts, PutsAt};
 ghost use Rattle.frame_exchange.specs.Held.{RecordsAt};
 ghost use Rattle.frame_exchange.specs.ExchangedBytes.{recordsExchanged, frameExchanged, remainderExchanged};

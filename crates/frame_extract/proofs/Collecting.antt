@@ -8,11 +8,11 @@ use Rattle.definitions.specs.Expression as tree
 use Rattle.definitions.specs.Encode.{planBytes}
 use Rattle.definitions.specs.Good.{AllBytes, GoodPlan, planNodes}
 use Rattle.theorems.proofs.ExchangeGood.{frame-length}
-use Rattle.frame_reader.specs.declared.frames.Frame.{Frame}
-use Rattle.frame_reader.specs.Frames.{FrameAt}
-use Rattle.frame_reader.proofs.Standing.{expr-stands}
-use Rattle.frame_reader.proofs.FrameRows.{clear-roomy}
-use Rattle.plan_reader.specs.Plans.{HoldsFrame}
+use Rattle.frame_body.specs.declared.frame_bodies.Frame.{Frame}
+use Rattle.frame_body.specs.Frames.{FrameAt}
+use Rattle.frame_body.proofs.Standing.{expr-stands}
+use Rattle.frame_body.proofs.FrameRows.{clear-roomy}
+use Rattle.extraction_body.specs.Plans.{HoldsFrame}
 use Rattle.join_filter.proofs.Keeping.{plan-size, plan-length}
 use Rattle.node_rows.specs.Rows.{Tabled}
 use Rattle.node_rows.proofs.NodeBytes.{nodes-by-bytes}

@@ -16,13 +16,13 @@ use Rattle.definitions.specs.Extract.{Pick, pick, takePick, matchesOf, extracti
 use Rattle.definitions.specs.Calls.{Outcome, writtenOver, finish, heldPlan, matchedBytes, newAfterExtractBy, extractFilled}
 use Rattle.definitions.specs.Good.{AllBytes, ReadableFrame}
 use Rattle.theorems.proofs.ExtractGood.{GoodExtraction, extraction-good}
-use Rattle.frame_reader.specs.declared.frames.Frame as places
-use Rattle.plan_reader.specs.Plans.{HoldsFrame}
+use Rattle.frame_body.specs.declared.frame_bodies.Frame as places
+use Rattle.extraction_body.specs.Plans.{HoldsFrame}
 use Rattle.argument_sides.specs.Frames.{Over}
 use Rattle.first_match.specs.Picks.{TakenIs}
 use Rattle.first_match.specs.declared.first_match.Pick as picks
 use Rattle.frame_extract.specs.Extractions.{Taking, takes, ExtractionFits, ExtractionPut}
-use Rattle.frame_reader.proofs.Standing.{between-holds, expr-stands}
+use Rattle.frame_body.proofs.Standing.{between-holds, expr-stands}
 use Rattle.join_filter.proofs.Refusing.{extract-call, refuses, outcome}
 use Rattle.join_filter.proofs.Keeping.{held-is, plan-size, kept, kept-over}
 

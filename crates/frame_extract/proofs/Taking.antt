@@ -9,7 +9,7 @@ use Rattle.definitions.specs.Expression as tree
 use Rattle.definitions.specs.Encode.{remainderBytes, extractionBytes}
 use Rattle.definitions.specs.Decode.{indexBelow}
 use Rattle.expression.specs.Nodes.{Stands}
-use Rattle.frame_reader.specs.declared.frames.Frame.{Frame}
+use Rattle.frame_body.specs.declared.frame_bodies.Frame.{Frame}
 use Rattle.sedona_query_planner.specs.Predicates.{PredicateAt}
 use Rattle.first_match.specs.declared.first_match.Pick.{Pick}
 use Rattle.writing.specs.Written.{Wrote}
@@ -17,10 +17,10 @@ use Rattle.writing.specs.Writing.{Room, Puts}
 use Rattle.writing.proofs.Written.{behind, together, behind-length, then-wrote}
 use Rattle.column_tables.specs.Tables.{Recorded, ChildTable}
 use Rattle.argument_writer.specs.Arguments.{changeOf}
-use Rattle.plan_writer.specs.Predicates.{predicateBytes}
+use Rattle.frame_heads.specs.Predicates.{predicateBytes}
 use Rattle.argument_writer.specs.declared.arguments.ColumnIndexes.the-variants.{FromTable}
 use Rattle.column_tables.proofs.ChildLaws.{by-children}
-use Rattle.pruning.specs.Remainders as remainders
+use Rattle.remainder_writer.specs.Remainders as remainders
 use Rattle.frame_extract.specs.Extractions.{Taking, takes, ExtractionFits, ExtractionPut}
 
 -- ---- an extraction is its predicate with its position, and its remainder

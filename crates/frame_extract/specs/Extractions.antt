@@ -9,7 +9,7 @@ use Rattle.definitions.specs.Encode.{extractionBytes}
 use Rattle.definitions.specs.Decode.{indexBelow}
 use Rattle.definitions.specs.Extract.{without, prune}
 use Rattle.expression.specs.Nodes.{Stands}
-use Rattle.frame_reader.specs.declared.frames.Frame.{Frame}
+use Rattle.frame_body.specs.declared.frame_bodies.Frame.{Frame}
 use Rattle.sedona_query_planner.specs.Predicates.{onChildren, PredicateAt}
 use Rattle.expression.specs.Cuts.{CutAt}
 use Rattle.first_match.specs.declared.first_match.Pick.{Pick}

@@ -3,8 +3,8 @@ use Prim.Native.Nat.{ℕ, _≤_}
 use mathlib.Core.List.{List}
 use lib.ListN.{length, take}
 use Rattle.expression.specs.Nodes.{OfTree}
-use Rattle.frame_reader.specs.declared.frames.Frame.{Frame}
-use Rattle.frame_reader.specs.Frames.{Roomy}
+use Rattle.frame_body.specs.declared.frame_bodies.Frame.{Frame}
+use Rattle.frame_body.specs.Frames.{Roomy}
 use Rattle.node_rows.specs.Rows.{Tabled}
 
 -- The nodes of the frame in the plan's first n bytes are in the rows.

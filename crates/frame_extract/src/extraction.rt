@@ -2,7 +2,7 @@
 use argument_writer::arguments::ColumnIndexes;
 use column_tables::column_tables::child_indexes;
 use first_match::first_match::Pick;
-use frame_reader::frames::Frame;
+use frame_body::frame_bodies::Frame;
 use plan_writer::put_predicate::put_predicate;
 use pruning::remainder::put_remainder;
 ghost use Rattle.frame_extract.specs.Extractions.{ExtractionFits, ExtractionPut};

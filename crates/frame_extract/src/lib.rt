@@ -3,14 +3,14 @@ mod extraction;
 
 use extraction::put_extraction;
 use first_match::first_match::Picked;
-use frame_reader::frames::Frame;
+use frame_body::frame_bodies::Frame;
 use join_filter::answers::Answer;
 use spatial_expr_utils::pick::extract_spatial_predicate;
 use terms::refusals::Refusal;
 use writing::copies::copy_bytes;
 ghost use Rattle.definitions.specs.Calls as definitions;
 ghost use Rattle.join_filter.specs.Outcomes.{OutcomeIs};
-ghost use Rattle.plan_reader.specs.Plans.{HoldsFrame};
+ghost use Rattle.extraction_body.specs.Plans.{HoldsFrame};
 ghost use Rattle.frame_extract.specs.FrameRows.{Indexed};
 
 // A held frame whose nodes are in the rows: copies it to the scratch, then writes its extraction over the plan's start.

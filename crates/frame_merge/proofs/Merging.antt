@@ -18,9 +18,9 @@ use Rattle.theorems.proofs.InverseFrame.{frame-back}
 use Rattle.theorems.proofs.ExchangeGood.{frame-length}
 use Rattle.theorems.proofs.NodeTables.{table-nests-by}
 use Rattle.theorems.proofs.Merged.{merged-length, merged-nodes, merged-records, over-sums, within-limits, good-merged}
-use Rattle.frame_reader.specs.Frames.{FrameAt}
-use Rattle.frame_reader.specs.declared.frames.Frame as places
-use Rattle.plan_reader.specs.Plans.{HoldsFrame}
+use Rattle.frame_body.specs.Frames.{FrameAt}
+use Rattle.frame_body.specs.declared.frame_bodies.Frame as places
+use Rattle.extraction_body.specs.Plans.{HoldsFrame}
 use Rattle.writing.specs.Writing.{Room, Puts}
 use Rattle.plan_merge.specs.Merging.{FramesAt, mergedFrame}
 use Rattle.merge_limits.specs.Together.{Counts, overTogether}

@@ -6,8 +6,8 @@ use lib.ListN.{length}
 use Rattle.definitions.specs.Basics.{ok}
 use Rattle.definitions.specs.Expression as tree
 use Rattle.definitions.specs.Plans.{frameOf}
-use Rattle.frame_reader.specs.Frames.{FrameAt}
-use Rattle.frame_reader.specs.declared.frames.Frame.{Frame}
+use Rattle.frame_body.specs.Frames.{FrameAt}
+use Rattle.frame_body.specs.declared.frame_bodies.Frame.{Frame}
 
 -- The bytes are a good frame, which stands there.
 pub record GivenFrame (s : List ℕ) (f : Frame) : Type 0 where

@@ -1,5 +1,5 @@
 // Merge of a frame with a held one. Public for the crate `call_merge`.
-use frame_reader::frames::Frame;
+use frame_body::frame_bodies::Frame;
 use join_filter::answers::Answer;
 use join_filter::answers::Loaded;
 use join_filter::answers::unfilled;
@@ -7,7 +7,7 @@ use merge_limits::limits::over_limits;
 use plan_merge::merged_frames::put_merged;
 use terms::refusals::Refusal;
 use writing::copies::copy_bytes;
-ghost use Rattle.plan_reader.specs.Plans.{HoldsFrame};
+ghost use Rattle.extraction_body.specs.Plans.{HoldsFrame};
 ghost use Rattle.frame_merge.specs.Given.{GivenFrame};
 ghost use Rattle.frame_merge.specs.Merges.{MergedIs};
 

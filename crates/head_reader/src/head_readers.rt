@@ -1,12 +1,8 @@
 // A node's head: its kind, and the fields before its children.
 use field_reader::field_readers::Field;
-use field_reader::field_readers::Skipped;
 use field_reader::field_readers::Sort;
 use field_reader::field_readers::Two;
 use field_reader::field_readers::byte;
-use field_reader::field_readers::byte_between;
-use field_reader::field_readers::byte_up_to;
-use field_reader::field_readers::name_bytes;
 use field_reader::field_readers::two_fields;
 use literals::literals::literal_in_range;
 use terms::refusals::Refusal;
@@ -15,19 +11,10 @@ ghost use Prim.Native.Nat.{_≤_};
 ghost use lib.ListN.{length};
 ghost use Rattle.definitions.specs.Decode as decode;
 ghost use Rattle.field_reader.specs.Fields.{FieldIs};
-ghost use Rattle.head_reader.specs.Heads.{HeadIs, columnsOf};
-
-// Which columns an expression may have: those of a physical frame, below their count, or those of a logical one.
-pub enum Columns {
-    Below(u64),
-    Fields,
-}
-
-// A node's fields were read: where its children start, and how many they are.
-pub enum Head {
-    Children(usize, u64),
-    Refused(Refusal),
-}
+ghost use Rattle.call_heads.specs.Heads.{HeadIs, columnsOf};
+use call_heads::call_heads::Columns;
+use call_heads::call_heads::Head;
+use call_heads::call_heads::call_head;
 
 // Whether a node of this kind may stand in the frame.
 fn allowed_kind(kind: u64, columns: Columns) -> bool
@@ -128,23 +115,6 @@ fn binary_head(s: &[u8], at: usize) -> Head
         Field::Value(operator, end) => match operator {
             0 | 1..=4 | 5..=63 => Head::Children(end, 2),
             _ => Head::Refused(Refusal::OutOfRange),
-        },
-    }
-}
-
-// A function call: its name, and its arguments to come.
-fn call_head(s: &[u8], at: usize) -> Head
-    requires { ⌜ at ≤ length (now s) ⌝ }
-    ensures { λ r. ⌜ HeadIs (now (s .entry)) at r decode.callNode ⌝ }
-{
-    match byte_between(s, at, 1, 32) {
-        Field::Refused(why) => Head::Refused(why),
-        Field::Value(size, name) => match name_bytes(s, name, size) {
-            Skipped::Refused(why) => Head::Refused(why),
-            Skipped::To(arguments) => match byte_up_to(s, arguments, 16) {
-                Field::Refused(why) => Head::Refused(why),
-                Field::Value(many, end) => Head::Children(end, many),
-            },
         },
     }
 }

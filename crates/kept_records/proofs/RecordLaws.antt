@@ -21,7 +21,7 @@ use Rattle.theorems.proofs.Pruned.{any-found}
 use Rattle.expression.specs.Places.{shortAt}
 use Rattle.expression.proofs.Placed as placed
 use Rattle.writing.specs.Written.{WroteAt}
-use Rattle.plan_writer.specs.Predicates.{frameHead}
+use Rattle.frame_heads.specs.Predicates.{frameHead}
 use Rattle.column_tables.specs.Tables.{Entry, Table}
 use Rattle.record_keys.specs.Keys.{keyAt, AmongIs, KeyRow}
 use Rattle.kept_records.specs.Records.{stays, MarkedBy, OfMarked, Referenced, OneFits, OneKept, keptAll, RecordsKept, RecordsPut, AllFit, AllKept}

@@ -6,7 +6,7 @@ ghost use lib.ListN.{length};
 ghost use Rattle.column_tables.specs.Tables.{Recorded};
 ghost use Rattle.record_keys.specs.Keys.{KeyRow};
 ghost use Rattle.kept_records.specs.Records.{Referenced, OneFits, OneKept, AllFit, RowsFit, RecordsKept, RecordsPut};
-use plan_writer::frame_heads::put_frame_head;
+use frame_heads::frame_heads::put_frame_head;
 use record_keys::record_keys::among;
 use record_keys::record_keys::column_key;
 use record_keys::record_keys::marked_keys;

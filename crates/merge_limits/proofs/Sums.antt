@@ -5,7 +5,7 @@ use mathlib.Core.Path.{_≡_, refl}
 use mathlib.Core.Bool.{true}
 use lib.Dec.{ltb}
 use borrow.Author.Tests.{lt-ltb, le-ltb}
-use Rattle.frame_reader.specs.declared.frames.Frame.{Frame}
+use Rattle.frame_body.specs.declared.frame_bodies.Frame.{Frame}
 use Rattle.merge_limits.specs.Together.{overTogether}
 
 module _ (n m : ℕ) (f g : Frame) where

@@ -2,7 +2,7 @@
 use Prim.Native.Nat.{ℕ, suc, _+_, _≤_, max}
 use mathlib.Core.Bool.{Bool, _||_}
 use lib.Dec.{ltb}
-use Rattle.frame_reader.specs.declared.frames.Frame.{Frame}
+use Rattle.frame_body.specs.declared.frame_bodies.Frame.{Frame}
 
 -- Two frames of n and m bytes, each within the limits.
 pub record Counts (n m : ℕ) (f g : Frame) : Type 0 where

@@ -1,5 +1,5 @@
 // The limits of a merged frame, by what reading both frames counted.
-use frame_reader::frames::Frame;
+use frame_body::frame_bodies::Frame;
 ghost use mathlib.Core.Path.{_≡_};
 ghost use Rattle.merge_limits.specs.Together.{Counts, overTogether};
 

@@ -7,10 +7,10 @@ use Rattle.definitions.specs.Expression.{Frame, Extraction, Plan, held, extract
 use Rattle.definitions.specs.Encode.{planBytes}
 use Rattle.definitions.specs.Exchange.{exchangePlan}
 use Rattle.definitions.specs.Calls.{writtenOver}
-use Rattle.frame_reader.specs.Frames.{FrameAt}
-use Rattle.plan_reader.specs.Plans.{ExtractionAt}
-use Rattle.plan_reader.specs.declared.held_plans.Held.{Held}
-use Rattle.plan_reader.specs.declared.held_plans.Held.the-variants as there
+use Rattle.frame_body.specs.Frames.{FrameAt}
+use Rattle.extraction_body.specs.Plans.{ExtractionAt}
+use Rattle.extraction_body.specs.declared.extraction_bodies.Held.{Held}
+use Rattle.extraction_body.specs.declared.extraction_bodies.Held.the-variants as there
 
 -- The plan p, a frame or an extraction, stands in s up to `end`.
 abbrev pub PlanAt : List ℕ → Held → (end : ℕ) → Plan → Type 0

@@ -1,12 +1,12 @@
 // A held plan exchanged: written over the plan's start from a copy of the old plan, which ends at `end`.
 use argument_writer::arguments::ColumnIndexes;
+use extraction_body::extraction_bodies::Extraction;
+use extraction_body::extraction_bodies::Held;
 use frame_exchange::exchanged_frames::put_frame_exchanged;
 use frame_exchange::exchanged_frames::put_remainder_exchanged;
-use plan_reader::held_plans::Extraction;
-use plan_reader::held_plans::Held;
 use plan_writer::put_predicate::put_predicate;
 ghost use Rattle.writing.specs.Writing.{Room, Puts};
-ghost use Rattle.plan_reader.specs.Plans.{ExtractionAt};
+ghost use Rattle.extraction_body.specs.Plans.{ExtractionAt};
 ghost use Rattle.frame_exchange.specs.ExchangedBytes.{extractionExchanged};
 ghost use Rattle.plan_exchange.specs.Exchanged.{PlanAt, HeldPlan, ExchangedPlan};
 

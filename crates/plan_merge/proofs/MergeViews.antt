@@ -8,11 +8,11 @@ use Rattle.definitions.specs.Encode.{exprBytes, recordsBytes}
 use Rattle.definitions.specs.Merge.{mergeFrames}
 use Rattle.theorems.proofs.Merged.{merged-bytes}
 use Rattle.expression.specs.Places.{Between}
-use Rattle.frame_reader.specs.Frames.{FrameAt}
-use Rattle.frame_reader.specs.declared.frames.Frame.{Frame}
+use Rattle.frame_body.specs.Frames.{FrameAt}
+use Rattle.frame_body.specs.declared.frame_bodies.Frame.{Frame}
 use Rattle.writing.specs.Writing.{Both, joined, same}
 use Rattle.writing.proofs.Sequence.{Headed}
-use Rattle.plan_writer.specs.Predicates.{frameHead}
+use Rattle.frame_heads.specs.Predicates.{frameHead}
 use Rattle.plan_merge.specs.Merging.{FramesAt, mergedFrame, mergedTables, mergedExpr, raisedExpr}
 
 -- Head and tables, then the expression.

@@ -8,9 +8,9 @@ use Rattle.definitions.specs.Expression as tree
 use Rattle.definitions.specs.Decode.{indexBelow}
 use Rattle.definitions.specs.Merge.{raised}
 use Rattle.expression.specs.Nodes.{Stands}
-use Rattle.frame_reader.specs.Frames.{FrameAt}
-use Rattle.frame_reader.specs.declared.frames.Frame.{Frame}
-use Rattle.frame_reader.proofs.Standing.{expr-stands}
+use Rattle.frame_body.specs.Frames.{FrameAt}
+use Rattle.frame_body.specs.declared.frame_bodies.Frame.{Frame}
+use Rattle.frame_body.proofs.Standing.{expr-stands}
 use Rattle.writing.specs.Written.{Wrote}
 use Rattle.writing.specs.Writing.{Room, Puts}
 use Rattle.column_tables.specs.Tables.{RaisedTable}

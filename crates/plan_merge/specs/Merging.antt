@@ -5,10 +5,10 @@ use lib.ListN.{length}
 use Rattle.definitions.specs.Expression as tree
 use Rattle.definitions.specs.Encode.{exprBytes, recordsBytes, frameBytes}
 use Rattle.definitions.specs.Merge.{raised, mergeFrames}
-use Rattle.frame_reader.specs.Frames.{FrameAt}
-use Rattle.frame_reader.specs.declared.frames.Frame.{Frame}
+use Rattle.frame_body.specs.Frames.{FrameAt}
+use Rattle.frame_body.specs.declared.frame_bodies.Frame.{Frame}
 use Rattle.writing.specs.Writing.{Both}
-use Rattle.plan_writer.specs.Predicates.{frameHead}
+use Rattle.frame_heads.specs.Predicates.{frameHead}
 
 -- The held frame is the whole of s, the new one the whole of t.
 abbrev pub FramesAt : (s : List ℕ) → Frame → (t : List ℕ) → Frame → tree.Frame × tree.Frame → Type 0

@@ -1,12 +1,12 @@
 // The merged frame: both tables of records one after the other, then the And of the held filter and the new one.
 use argument_writer::arguments::reproject_column_references;
 use column_tables::column_tables::raised_indexes;
-use frame_reader::frames::Frame;
-use plan_writer::frame_heads::put_frame_head;
+use frame_body::frame_bodies::Frame;
+use frame_heads::frame_heads::put_frame_head;
 use writing::copies::copy_at;
 ghost use Prim.Native.Nat.{_+_, _≤_};
 ghost use lib.ListN.{length};
-ghost use Rattle.frame_reader.specs.Frames.{FrameAt};
+ghost use Rattle.frame_body.specs.Frames.{FrameAt};
 ghost use Rattle.writing.specs.Writing.{Room, Puts, PutsAt};
 ghost use Rattle.plan_merge.specs.Merging.{FramesAt, mergedFrame, mergedTables, mergedExpr, raisedExpr};
 

@@ -9,7 +9,7 @@ use lib.Seq.{getD-take, length-take-le}
 use Rattle.definitions.specs.Expression as tree
 use Rattle.definitions.specs.Encode.{planBytes}
 use Rattle.definitions.specs.Project.{Lists, projectExtraction}
-use Rattle.plan_reader.specs.declared.held_plans.Extraction.{Extraction}
+use Rattle.extraction_body.specs.declared.extraction_bodies.Extraction.{Extraction}
 use Rattle.child_spots.specs.Spots.{Spot, spotNumber}
 use Rattle.plan_spots.specs.PlanSpots.{extractionSpots}
 use Rattle.plan_spots.specs.Extractions.{ExtractionThere}

@@ -12,7 +12,7 @@ use Rattle.definitions.specs.Expression as tree
 use Rattle.definitions.specs.Expression.{left, right}
 use Rattle.definitions.specs.Encode.{sideNumber, planBytes}
 use Rattle.definitions.specs.Project.{Lists, placed}
-use Rattle.plan_reader.specs.declared.held_plans.Extraction.{Extraction}
+use Rattle.extraction_body.specs.declared.extraction_bodies.Extraction.{Extraction}
 use Rattle.writing.specs.Written.{WroteAt}
 use Rattle.child_spots.specs.Spots.{Spot, spotNumber}
 use Rattle.spot_places.specs.Placing.{PlacedIs}

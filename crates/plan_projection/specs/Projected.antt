@@ -7,7 +7,7 @@ use lib.ListN.{length, take}
 use Rattle.definitions.specs.Limits.{mostItems}
 use Rattle.definitions.specs.Expression as tree
 use Rattle.definitions.specs.Project.{Lists, newPlace, placed}
-use Rattle.plan_reader.specs.declared.held_plans.Extraction.{Extraction}
+use Rattle.extraction_body.specs.declared.extraction_bodies.Extraction.{Extraction}
 use Rattle.child_spots.specs.Spots.{Spot, spotNumber}
 use Rattle.plan_spots.specs.PlanSpots.{extractionSpots}
 use Rattle.plan_spots.specs.Extractions.{ExtractionThere}

@@ -2,7 +2,7 @@
 ghost use Rattle.plan_spots.specs.Extractions.{ExtractionFits};
 ghost use Rattle.plan_projection.specs.Patches.{Within, PatchedBy};
 ghost use Rattle.plan_projection.specs.Projected.{ListsFit, ProjectedIs};
-use plan_reader::held_plans::Extraction;
+use extraction_body::extraction_bodies::Extraction;
 use plan_spots::plan_spots::collect_extraction;
 use spot_places::spot_places::find_places;
 use terms::sides::JoinSide;

@@ -13,10 +13,10 @@ use Rattle.definitions.specs.Good.{ReadableRemainder}
 use Rattle.theorems.proofs.ExchangeGood.{records-length}
 use Rattle.expression.specs.Places.{Holds}
 use Rattle.expression.proofs.Placed.{fits, front, back, next}
-use Rattle.frame_reader.specs.declared.frames.Frame.{Frame}
-use Rattle.plan_reader.specs.Plans.{RemainderAt}
-use Rattle.plan_reader.specs.declared.held_plans.Extraction.{Extraction}
-use Rattle.plan_reader.specs.declared.held_plans.Remainder.the-variants as remainder
+use Rattle.frame_body.specs.declared.frame_bodies.Frame.{Frame}
+use Rattle.extraction_body.specs.Plans.{RemainderAt}
+use Rattle.extraction_body.specs.declared.extraction_bodies.Extraction.{Extraction}
+use Rattle.extraction_body.specs.declared.extraction_bodies.Remainder.the-variants as remainder
 use Rattle.writing.specs.Written.{WroteAt}
 use Rattle.writing.proofs.Written.{chain}
 use Rattle.column_tables.specs.Tables.{Entries}

@@ -6,8 +6,8 @@ use lib.ListN.{length}
 use Rattle.definitions.specs.Expression as tree
 use Rattle.definitions.specs.Encode.{planBytes}
 use Rattle.definitions.specs.Good.{GoodPlan}
-use Rattle.plan_reader.specs.Plans.{ExtractionAt}
-use Rattle.plan_reader.specs.declared.held_plans.Extraction.{Extraction}
+use Rattle.extraction_body.specs.Plans.{ExtractionAt}
+use Rattle.extraction_body.specs.declared.extraction_bodies.Extraction.{Extraction}
 use Rattle.writing.specs.Written.{WroteAt}
 use Rattle.child_spots.specs.Spots.{spotNumber}
 use Rattle.plan_spots.specs.PlanSpots.{extractionSpots}

@@ -6,8 +6,8 @@ ghost use Rattle.plan_spots.specs.Extractions.{ExtractionFits, Extractio
 use child_spots::spots::Passed;
 use child_spots::spots::collect_columns;
 use child_spots::spots::collect_records;
-use plan_reader::held_plans::Extraction;
-use plan_reader::held_plans::Remainder;
+use extraction_body::extraction_bodies::Extraction;
+use extraction_body::extraction_bodies::Remainder;
 use sedona_query_planner::spatial_predicate::SpatialPredicate;
 use terms::sides::JoinSide;
 

@@ -7,12 +7,12 @@ ghost use Rattle.sedona_query_planner.specs.Predicates.{RelationAt, DistanceAt,
 ghost use Rattle.writing.specs.Written.{WroteAt};
 ghost use Rattle.writing.specs.Writing.{Room, Puts};
 ghost use Rattle.argument_writer.specs.Arguments.{changeOf};
-ghost use Rattle.plan_writer.specs.Predicates.{predicateBytes, kindOf, knnHead};
-use crate::frame_heads::put_head;
+ghost use Rattle.frame_heads.specs.Predicates.{predicateBytes, kindOf, knnHead};
 use argument_writer::arguments::Argument;
 use argument_writer::arguments::ColumnIndexes;
 use argument_writer::arguments::put_both;
 use argument_writer::arguments::reproject_column_references_for_side;
+use frame_heads::frame_heads::put_head;
 use sedona_query_planner::spatial_predicate::DistancePredicate;
 use sedona_query_planner::spatial_predicate::KNNPredicate;
 use sedona_query_planner::spatial_predicate::RelationPredicate;

@@ -1,7 +1,7 @@
 // The predicate of a held extraction: which it is, and where its arguments stand.
+use call_heads::call_heads::Columns;
 use field_reader::field_readers::Field;
 use field_reader::field_readers::byte_up_to;
-use head_reader::head_readers::Columns;
 use knn_reader::knn_fields::Flagged;
 use knn_reader::knn_fields::k_field;
 use knn_reader::knn_fields::knn_flags;

@@ -1,5 +1,4 @@
 -- Laws that several proofs use.
 pub mod FlagLaws
 pub mod CutLaws
-pub mod RemainderWalk
 pub mod RemainderLaws

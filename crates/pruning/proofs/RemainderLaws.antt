@@ -18,7 +18,7 @@ use Rattle.expression.specs.Cuts.{CutAt}
 use Rattle.column_references.specs.References.{marked, FlaggedAround, RestCollected}
 use Rattle.kept_records.specs.Records.{stays, MarkedBy, keptAll, AllFit, columnsPart, RecordsPut, RowsFit}
 use Rattle.pruning.specs.HeldIndexes.{Unmarked, Marks, Unheld, HeldMarked}
-use Rattle.pruning.specs.Remainders.{andHead, copyAround, RestFits, RestCopied, FrameAt, remainderOf}
+use Rattle.remainder_writer.specs.Remainders.{andHead, copyAround, RestFits, RestCopied, FrameAt, remainderOf}
 use Rattle.expression.specs.declared.cuts.Cut.{Cut}
 use Rattle.argument_writer.specs.declared.arguments.Copied.{Copied}
 use Rattle.writing.proofs.Written.{behind, together, behind-length, part-wrote, to-start, chain, store}

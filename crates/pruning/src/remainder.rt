@@ -5,55 +5,11 @@ ghost use mathlib.Core.Path.{_≡_};
 ghost use Prim.Native.Nat.{_≤_};
 ghost use Rattle.kept_records.specs.Records.{RowsFit};
 ghost use Rattle.pruning.specs.HeldIndexes.{Unmarked, Unheld, HeldMarked};
-ghost use Rattle.pruning.specs.Remainders.{RestFits, RestCopied, SidesFit, SidesCopied, RemainderFits, RemainderPut};
-use argument_writer::arguments::Copied;
-use argument_writer::arguments::reproject_column_references;
+ghost use Rattle.remainder_writer.specs.Remainders.{RemainderFits, RemainderPut};
 use column_references::references::collect_remainder;
 use expression::cuts::Cut;
-use expression::leaves::Node;
-use expression::leaves::node_at;
 use kept_records::kept_records::put_records;
-
-// Writes the expression at a place without the leaf and its parent's head, its columns renumbered.
-fn reproject_remainder(out: &mut [u8], src: &[u8], at: usize, to: &[u16], cut: Cut) -> Copied
-    requires { ⌜ RestFits (now src) at (now to) cut (now out) ⌝ }
-    ensures { λ r. ⌜ RestCopied (now (src .entry)) at (now (to .entry)) cut (now (out .entry)) (now (out .exit)) r ⌝ }
-{
-    if at == cut.leaf {
-        return Copied {
-            read: cut.end,
-            wrote: 0,
-        };
-    }
-    let Node::And(left) = node_at(src, at) else {
-        return reproject_column_references(out, src, at, to);
-    };
-    if at == cut.parent {
-        return reproject_sides(out, src, left, to, cut);
-    }
-    out[0] = 2;
-    out[1] = 0;
-    let sides = reproject_sides(&mut out[2..], src, left, to, cut);
-    Copied {
-        read: sides.read,
-        wrote: 2 + sides.wrote,
-    }
-}
-
-// The same for both sides of an And.
-fn reproject_sides(out: &mut [u8], src: &[u8], at: usize, to: &[u16], cut: Cut) -> Copied
-    requires { ⌜ SidesFit (now src) at (now to) cut (now out) ⌝ }
-    ensures { λ r. ⌜ SidesCopied (now (src .entry)) at (now (to .entry)) cut (now (out .entry)) (now (out .exit)) r ⌝ }
-{
-    let left = reproject_remainder(out, src, at, to, cut);
-    let next = left.read;
-    let w = left.wrote;
-    let right = reproject_remainder(&mut out[w..], src, next, to, cut);
-    Copied {
-        read: right.read,
-        wrote: w + right.wrote,
-    }
-}
+use remainder_writer::reprojecting::reproject_remainder;
 
 // Marks the indexes that are held: those of the column nodes of what is left.
 fn collect_held(used: &mut [u8], src: &[u8], at: usize, cut: Cut)

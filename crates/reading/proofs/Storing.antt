@@ -10,8 +10,8 @@ use Rattle.definitions.specs.Decode.{Columns, node, repeatExprs}
 use Rattle.definitions.specs.Good.{AllBytes, depth}
 use Rattle.expression.specs.Nodes.{headBytes, childrenOf}
 use Rattle.expression.proofs.Standing.{kind-is, node-some, head-some, tree-length}
-use Rattle.head_reader.specs.Heads.{depthAbove}
-use Rattle.head_reader.specs.declared.head_readers.Head.the-variants.{Children}
+use Rattle.call_heads.specs.Heads.{depthAbove}
+use Rattle.call_heads.specs.declared.call_heads.Head.the-variants.{Children}
 use Rattle.node_rows.specs.Numbers.{number}
 use Rattle.node_rows.specs.Rows.{Collected, CollectedAll, Storable, Stored}
 use Rattle.node_rows.specs.declared.collecting.Passed.{Passed}

@@ -18,10 +18,10 @@ use Rattle.reading.specs.declared.walk.Walked.{Walked}
 use Rattle.reading.specs.declared.walk.Walked.the-variants.{To, Refused}
 use Rattle.terms.specs.Refusals.{numberOf}
 use Rattle.expression.specs.Nodes.{childrenOf}
-use Rattle.head_reader.specs.declared.head_readers.Head.{Head}
-use Rattle.head_reader.specs.declared.head_readers.Head.the-variants as head
-use Rattle.head_reader.specs.declared.head_readers.Head.the-variants.{Children}
-use Rattle.head_reader.specs.Heads.{HeadIs, depthAbove}
+use Rattle.call_heads.specs.declared.call_heads.Head.{Head}
+use Rattle.call_heads.specs.declared.call_heads.Head.the-variants as head
+use Rattle.call_heads.specs.declared.call_heads.Head.the-variants.{Children}
+use Rattle.call_heads.specs.Heads.{HeadIs, depthAbove}
 use Rattle.node_rows.specs.Rows.{Collected, CollectedAll}
 use Rattle.node_rows.specs.declared.collecting.Passed.{Passed}
 use Rattle.node_rows.proofs.CollectWalk.{collects-nil, collects-cons}

@@ -9,8 +9,8 @@ use Rattle.definitions.specs.Readers.{read, stopped, Reader, continue, give}
 use Rattle.definitions.specs.Decode.{Columns, node, repeatExprs}
 use Rattle.terms.specs.Refusals.{numberOf}
 use Rattle.expression.specs.Nodes.{childrenOf}
-use Rattle.head_reader.specs.declared.head_readers.Head.{Head}
-use Rattle.head_reader.specs.declared.head_readers.Head.the-variants as head
+use Rattle.call_heads.specs.declared.call_heads.Head.{Head}
+use Rattle.call_heads.specs.declared.call_heads.Head.the-variants as head
 use Rattle.node_rows.specs.declared.collecting.Passed.{Passed}
 use Rattle.reading.specs.declared.walk.Walked.{Walked}
 use Rattle.reading.specs.declared.walk.Walked.the-variants as walked

@@ -1,7 +1,7 @@
 // The walk over a node and the walk over its children, which call each other. Nodes left to count fall.
+use call_heads::call_heads::Columns;
+use call_heads::call_heads::Head;
 use field_reader::field_readers::Field;
-use head_reader::head_readers::Columns;
-use head_reader::head_readers::Head;
 use head_reader::head_readers::head_of_kind;
 use head_reader::head_readers::node_kind;
 use node_rows::numbers::put_node;
@@ -12,7 +12,7 @@ ghost use lib.ListN.{length};
 ghost use Rattle.definitions.specs.Decode as decode;
 ghost use Rattle.definitions.specs.Decode.{repeatExprs};
 ghost use Rattle.definitions.specs.Good.{depth};
-ghost use Rattle.head_reader.specs.Heads.{columnsOf, depthAbove};
+ghost use Rattle.call_heads.specs.Heads.{columnsOf, depthAbove};
 ghost use Rattle.node_rows.specs.Rows.{Collected, CollectedAll};
 ghost use Rattle.reading.specs.Nodes.{WalkedIs, Counted, NodeHead, Lent};
 ghost use Rattle.reading.specs.Places.{ExpressionIs, ExpressionIn};

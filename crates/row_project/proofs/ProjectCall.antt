@@ -18,9 +18,9 @@ use Rattle.definitions.specs.Good.{AllBytes}
 use Rattle.definitions.specs.Project.{placed, projectExtraction, projection, shortLists, projectedBytes, newAfterProject, project}
 use Rattle.theorems.proofs.InversePlan.{plan-back}
 use Rattle.theorems.proofs.Lengths.{bytes-up-to}
-use Rattle.plan_reader.specs.Plans.{HeldIs}
-use Rattle.plan_reader.specs.declared.held_plans.Extraction.{Extraction}
-use Rattle.plan_reader.specs.declared.held_plans.Held.the-variants as there
+use Rattle.extraction_body.specs.Plans.{HeldIs}
+use Rattle.extraction_body.specs.declared.extraction_bodies.Extraction.{Extraction}
+use Rattle.extraction_body.specs.declared.extraction_bodies.Held.the-variants as there
 use Rattle.join_filter.proofs.Keeping.{held-is, kept-over}
 use Rattle.join_filter.proofs.Refusing.{Call, refuses, outcome}
 use Rattle.plan_spots.proofs.FewSpots.{few-spots}

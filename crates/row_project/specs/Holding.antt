@@ -6,7 +6,7 @@ use lib.ListN.{length, take}
 use Rattle.definitions.specs.Basics.{ok}
 use Rattle.definitions.specs.Expression as tree
 use Rattle.definitions.specs.Plans.{planOf}
-use Rattle.plan_reader.specs.declared.held_plans.Extraction.{Extraction}
+use Rattle.extraction_body.specs.declared.extraction_bodies.Extraction.{Extraction}
 use Rattle.plan_spots.specs.Extractions.{ExtractionThere}
 use Rattle.plan_projection.specs.Projected.{ListsFit}
 

@@ -1,9 +1,9 @@
 // Project with a row for the child indexes. Public for the crate `call_project`.
+use extraction_body::extraction_bodies::Extraction;
 use join_filter::answers::Answer;
 use plan_projection::projecting::Projected;
 use plan_projection::projecting::project_spots;
 use plan_projection::projecting::put_indexes;
-use plan_reader::held_plans::Extraction;
 use terms::refusals::Refusal;
 use writing::copies::copy_bytes;
 ghost use Rattle.definitions.specs.Project as definitions;

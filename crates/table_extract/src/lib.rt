@@ -1,7 +1,7 @@
 // The call extract with a lent table of nodes, of which it is given the numbers of the records. Public for the crate `host_cores`.
-use frame_reader::frames::Frame;
+use extraction_body::extraction_bodies::Held;
+use frame_body::frame_bodies::Frame;
 use join_filter::answers::Answer;
-use plan_reader::held_plans::Held;
 use plan_reader::held_plans::held_plan_in;
 use terms::refusals::Refusal;
 ghost use Prim.Native.Nat.{_≤_};

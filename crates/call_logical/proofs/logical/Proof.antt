@@ -3,7 +3,7 @@ use borrow.Author.Needs.{needs}
 use Rattle.query_side.specs.QuerySides.{querySideIs}
 use Rattle.call_logical.proofs.logical.Statement.{statement}
 use Rattle.call_logical.proofs.logical.Tie as tie
-use Rattle.frame_reader.proofs.Standing.{expr-stands}
+use Rattle.frame_body.proofs.Standing.{expr-stands}
 use Rattle.call_logical.proofs.Naming.{logical-refuses, logical-finds}
 
 collect-spatial-predicate-names-requires : tie.Need-collect-spatial-predicate-names-requires

@@ -2,7 +2,7 @@
 use borrow.Author.Needs.{needs}
 use native.Mathlib.Omega.{arith}
 use Rattle.definitions.specs.Basics.{bigEndian}
-use Rattle.plan_writer.specs.Predicates.{frameHead}
+use Rattle.frame_heads.specs.Predicates.{frameHead}
 use Rattle.writing.specs.Writing.{same}
 use Rattle.writing.proofs.Sequence.{first-room, second-room, both-put, head-room, rest-room, headed-put}
 use Rattle.frame_exchange.proofs.FrameViews.{frame-view}

@@ -6,7 +6,7 @@ use borrow.Author.Tests.{le-leb, lt-leb}
 use Rattle.definitions.specs.Readers.{byteUpTo}
 use Rattle.definitions.specs.Decode.{binaryNode}
 use Rattle.theorems.proofs.ReaderLaws.{after, halts, passes, fails}
-use Rattle.head_reader.proofs.Children.{two}
+use Rattle.call_heads.proofs.Children.{two}
 use Rattle.head_reader.proofs.head_readers.binary_head.Statement.{statement}
 use Rattle.head_reader.proofs.head_readers.binary_head.Tie as tie
 

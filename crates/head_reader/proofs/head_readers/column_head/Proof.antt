@@ -8,7 +8,7 @@ use Rattle.definitions.specs.Decode.{repeatExprs, columnNode}
 use Rattle.expression.specs.Nodes.{childrenOf}
 use Rattle.theorems.proofs.ReaderLaws.{after, passes, fails}
 use Rattle.field_reader.proofs.Reading.{stops-in-two}
-use Rattle.head_reader.proofs.Children.{alone}
+use Rattle.call_heads.proofs.Children.{alone}
 use Rattle.head_reader.proofs.head_readers.column_head.Statement.{statement}
 use Rattle.head_reader.proofs.head_readers.column_head.Tie as tie
 

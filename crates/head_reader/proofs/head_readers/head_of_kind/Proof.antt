@@ -1,7 +1,7 @@
 -- Each kind's arm is its line of the definition.
-use Rattle.head_reader.specs.Heads.{columnsOf}
+use Rattle.call_heads.specs.Heads.{columnsOf}
 use Rattle.definitions.specs.Decode.{nodeOfKind}
-use Rattle.head_reader.proofs.Children.{column-kind}
+use Rattle.call_heads.proofs.Children.{column-kind}
 use borrow.Author.Needs.{needs}
 use Rattle.head_reader.proofs.head_readers.head_of_kind.Statement.{statement}
 use Rattle.head_reader.proofs.head_readers.head_of_kind.Tie as tie

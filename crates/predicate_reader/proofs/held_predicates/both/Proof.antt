@@ -5,7 +5,7 @@ use borrow.Author.Needs.{needs}
 use mathlib.Core.Path.{_∙_}
 use Rattle.definitions.specs.Decode.{indexBelow, argument}
 use Rattle.theorems.proofs.ReaderLaws.{after, halts}
-use Rattle.frame_reader.proofs.Standing.{expr-spans}
+use Rattle.frame_body.proofs.Standing.{expr-spans}
 use Rattle.predicate_reader.proofs.held_predicates.both.Statement.{statement}
 use Rattle.predicate_reader.proofs.held_predicates.both.Tie as tie
 

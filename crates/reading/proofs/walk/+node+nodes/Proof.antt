@@ -9,8 +9,8 @@ use lib.ListN.{length}
 use mathlib.Core.Path.{refl, _∙_}
 use Rattle.definitions.specs.Decode as decode
 use Rattle.expression.proofs.Cycles.{below}
-use Rattle.head_reader.specs.Heads.{columnsOf, depthAbove}
-use Rattle.head_reader.specs.declared.head_readers.Head.the-variants.{Children}
+use Rattle.call_heads.specs.Heads.{columnsOf, depthAbove}
+use Rattle.call_heads.specs.declared.call_heads.Head.the-variants.{Children}
 use Rattle.node_rows.specs.Rows.{CollectedAll}
 use Rattle.reading.specs.Nodes.{WalkedIs, Counted, NodeHead}
 use Rattle.reading.specs.declared.walk.Walked.the-variants.{To}

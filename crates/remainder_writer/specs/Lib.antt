@@ -1,0 +1,2 @@
+-- What the contracts cite, in the order to read them.
+pub mod Remainders
