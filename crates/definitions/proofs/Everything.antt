@@ -58,8 +58,8 @@ unfoldable pub decode : ℕ
 unfolding Decode.allowedKind Decode.columnNode Decode.fieldNode Decode.literalNode Decode.binaryExpr Decode.binaryNode Decode.repeatExprs
     Decode.callNode Decode.otherNode Decode.anyColumn Decode.nodeOfKind Decode.nodeKind Decode.node Decode.expression Decode.sideNumbered
     Decode.sideUpTo Decode.oneRecord Decode.recordCount Decode.frameBody Decode.argument Decode.relationNumbered Decode.relationPredicate
-    Decode.distancePredicate Decode.kField Decode.knnPredicate Decode.predicateOfKind Decode.someRemainder Decode.remainderOfKind Decode.remainder
-    Decode.extractionBody
+    Decode.distancePredicate Decode.kField Decode.knnPredicate Decode.predicateOfKind Decode.someRemainder Decode.remainderOfKind
+    Decode.remainder Decode.extractionBody
 decode = 0
 
 unfoldable pub plans : ℕ
@@ -72,10 +72,9 @@ unfolding References.columnsOf References.recordAt References.sameSide Reference
 references = 0
 
 unfoldable pub match : ℕ
-unfolding Match.relationRequest Match.dwithinRequest Match.literalU32 Match.literalK Match.literalBool Match.knnLiterals
-    Match.knnRequest Match.callRequest Match.distanceRequest Match.comparisonRequest Match.request Match.commonSide Match.sideOf Match.isSide Match.orderOf
-    Match.onChild Match.matchRelation Match.storeDistance Match.matchDistance Match.matchKnn Match.matchRequest
-    Match.matchLeaf
+unfolding Match.relationRequest Match.dwithinRequest Match.literalU32 Match.literalK Match.literalBool Match.knnLiterals Match.knnRequest
+    Match.callRequest Match.distanceRequest Match.comparisonRequest Match.request Match.commonSide Match.sideOf Match.isSide Match.orderOf
+    Match.onChild Match.matchRelation Match.storeDistance Match.matchDistance Match.matchKnn Match.matchRequest Match.matchLeaf
 match = 0
 
 unfoldable pub extract : ℕ
@@ -122,8 +121,8 @@ logical = 0
 
 unfoldable pub program : ℕ
 unfolding Program.digitValue Program.pairBytes Program.digitBytes Program.orRefused Program.lineBytes Program.digit Program.digits
-    Program.refusedLine Program.loadLine Program.logicalLine Program.lineCall Program.callLine Program.lineOf Program.readLine Program.lineOutcome
-    Program.writtenLine Program.intoFirst Program.linesOf Program.outputFrom Program.freshPlan Program.output
+    Program.refusedLine Program.loadLine Program.logicalLine Program.lineCall Program.callLine Program.lineOf Program.readLine
+    Program.lineOutcome Program.writtenLine Program.intoFirst Program.linesOf Program.outputFrom Program.freshPlan Program.output
 program = 0
 
 unfoldable pub printing : ℕ
@@ -144,6 +143,6 @@ unfolding Project.placeIn Project.placeOf Project.isPlace Project.orZero Project
 projecting = 0
 
 unfoldable pub everything : ℕ
-unfolding basics expression literals encode leaves readers decode plans references match extract exchange tables calls machine sessions meaning
-    logical program printing merging projecting
+unfolding basics expression literals encode leaves readers decode plans references match extract exchange tables calls machine sessions
+    meaning logical program printing merging projecting
 everything = 0

@@ -1,11 +1,11 @@
--- Merged frames, and the answers of merge on both sides of each limit, hold by computation.
+-- Merged frames, and the answers of merge in their order and over each limit, hold by computation.
 use mathlib.Core.Path.{refl}
-use Rattle.definitions.specs.MergeRows.{MergeRows}
+use Rattle.definitions.specs.MergeRows.{MergeAnswers}
 use Rattle.definitions.proofs.Everything.{everything}
 
-pub merge-rows-hold : MergeRows
+pub merge-answers-hold : MergeAnswers
 unfolding everything
-merge-rows-hold = record {
+merge-answers-hold = record {
   merged = refl;
   written = refl;
   bad-first = refl;
@@ -16,13 +16,8 @@ merge-rows-hold = record {
   short-scratch = refl;
   short-buffer = refl;
   just-enough = refl;
-  records-within = refl;
   records-over = refl;
-  depth-within = refl;
   depth-over = refl;
-  nodes-within = refl;
   nodes-over = refl;
-  bytes-at = refl;
-  bytes-within = refl;
   bytes-over = refl;
 }

@@ -1,12 +1,10 @@
--- The rows of documents 01 and 02, by computation.
+-- The rows of documents 01 and 02 that refuse edits of the definitions, by computation.
 pub mod Everything
-pub mod Table
 pub mod OurRows
 pub mod PlacedRows
 pub mod Nearest
 pub mod Bounds
 pub mod Names
-pub mod Refusals
 pub mod ConsoleLines
 pub mod FilterRows
 pub mod TabledRows

@@ -1,11 +1,11 @@
 -- Projected extractions, and the answers of project in their order, hold by computation.
 use mathlib.Core.Path.{refl}
-use Rattle.definitions.specs.ProjectRows.{ProjectRows}
+use Rattle.definitions.specs.ProjectRows.{ProjectAnswers}
 use Rattle.definitions.proofs.Everything.{everything}
 
-pub project-rows-hold : ProjectRows
+pub project-answers-hold : ProjectAnswers
 unfolding everything
-project-rows-hold = record {
+project-answers-hold = record {
   first-equal = refl;
   no-equal = refl;
   worked-run = refl;
@@ -28,7 +28,6 @@ project-rows-hold = record {
   short-scratch = refl;
   lacks-left = refl;
   lacks-right = refl;
-  longest = refl;
   calls = refl;
   machine = refl;
 }

@@ -1,5 +1,6 @@
--- Our rows beside 01's ten hold by computation.
+-- Our rows beside 01's ten hold by computation, and row 9 of the ten, which says what pruning keeps.
 use mathlib.Core.Path.{refl}
+use Rattle.definitions.specs.TenRows.{RowNine}
 use Rattle.definitions.specs.FurtherRows.{FurtherRows}
 use Rattle.definitions.proofs.Everything.{everything}
 
@@ -16,3 +17,7 @@ further-rows-hold = record {
   and-true = refl;
   and-unknown = refl;
 }
+
+pub row-nine-holds : RowNine
+unfolding everything
+row-nine-holds = refl

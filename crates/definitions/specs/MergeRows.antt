@@ -57,7 +57,8 @@ intoExtraction =
     let o : Outcome = extract (length matching) matching (replicate 64 0) (nodeTable matchingFrame) in
     merge (frameBytes small) (o .n) (o .buffer) [] []
 
-pub record MergeRows : Type 0 where
+-- Merged frames, the refusals in their order, and one over each limit.
+pub record MergeAnswers : Type 0 where
   -- the held filter on the left, three equal records kept, column 1 of the new filter raised by one held record
   pub merged : mergeFrames (frameOver 1 (column 0 7)) (frameOver 2 (column 1 8)) ≡ frameOver 3 (and (column 0 7) (column 2 8))
   -- the old plan in the scratch, the merged frame's three records in the table; bytes and records after them kept
@@ -80,14 +81,21 @@ pub record MergeRows : Type 0 where
   pub short-scratch : answerInto small small 13 6 ≡ refused 9
   pub short-buffer : answerInto small small 12 7 ≡ refused 9
   pub just-enough : answerInto small small 13 7 ≡ ok 13
-  -- 256 records and 257, 16 before 9; depth 64 and 65
-  pub records-within : answerInto (frameOver 200 (other 0 nil)) (frameOver 56 (other 0 nil)) 1293 1008 ≡ ok 1293
+  -- 257 records, 16 before 9; depth 65; 1,025 nodes; 16,385 bytes
   pub records-over : answerInto (frameOver 200 (other 0 nil)) (frameOver 57 (other 0 nil)) 1293 0 ≡ refused 16
-  pub depth-within : answerInto small (frameOver 0 (ands 62)) 1000 7 ≡ ok 763
   pub depth-over : answerInto small (frameOver 0 (ands 63)) 1000 7 ≡ refused 16
-  -- 1,024 nodes and 1,025; 16,384 bytes and 16,385
-  pub nodes-within : overLimits (mergeFrames (frameOver 0 (over (tree 8))) (frameOver 0 (tree 8))) ≡ false
   pub nodes-over : overLimits (mergeFrames (frameOver 0 (tree 9)) (frameOver 0 (other 0 nil))) ≡ true
+  pub bytes-over : overLimits (mergeFrames large (larger 13)) ≡ true
+
+-- Merges that come up to each limit: 256 records, depth 64, 1,024 nodes, 16,384 bytes.
+pub record MergeLimits : Type 0 where
+  pub records-within : answerInto (frameOver 200 (other 0 nil)) (frameOver 56 (other 0 nil)) 1293 1008 ≡ ok 1293
+  pub depth-within : answerInto small (frameOver 0 (ands 62)) 1000 7 ≡ ok 763
+  pub nodes-within : overLimits (mergeFrames (frameOver 0 (over (tree 8))) (frameOver 0 (tree 8))) ≡ false
   pub bytes-at : length (frameBytes (mergeFrames large (larger 12))) ≡ 16384
   pub bytes-within : overLimits (mergeFrames large (larger 12)) ≡ false
-  pub bytes-over : overLimits (mergeFrames large (larger 13)) ≡ true
+
+-- Both.
+pub record MergeRows : Type 0 where
+  pub answers : MergeAnswers
+  pub limits : MergeLimits

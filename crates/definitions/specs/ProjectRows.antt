@@ -57,7 +57,8 @@ answerBy ofLeft ofRight plan room = project (length plan) plan (replicate room 0
 abbrev pub long : List ℕ
 long = replicate 4097 0
 
-pub record ProjectRows : Type 0 where
+-- Projected extractions, the refusals in their order, and calls after a projection.
+pub record ProjectAnswers : Type 0 where
   -- the first of two equal items, and no item
   pub first-equal : placeIn (9 ∷ 3 ∷ 5 ∷ 3 ∷ []) 3 ≡ some 1
   pub no-equal : placeIn (9 ∷ 3 ∷ []) 4 ≡ none
@@ -103,9 +104,6 @@ pub record ProjectRows : Type 0 where
   pub short-scratch : answerBy [] [] worked 26 ≡ refused 9
   pub lacks-left : answerBy (1 ∷ []) (3 ∷ []) worked 27 ≡ refused 20
   pub lacks-right : answerBy (0 ∷ []) (0 ∷ []) worked 27 ≡ refused 20
-  -- lists of 4,096 items, and the last place of one
-  pub longest : project 27 worked (replicate 27 7) (replicate 4096 0) (replicate 4095 1 ++ (3 ∷ [])) .buffer
-      ≡ extractionBytes (workedBy 0 4095 0)
   -- any table for the calls after it: extract gives 12, exchange 9 or the length, as the machine with the odd bit alone
   pub calls :
       (let o : Outcome = project 27 worked (replicate 27 7) (5 ∷ 0 ∷ []) (9 ∷ 3 ∷ []) in
@@ -113,3 +111,10 @@ pub record ProjectRows : Type 0 where
       ≡ refused 12 ∷ refused 9 ∷ ok 27 ∷ refused 12 ∷ []
   pub machine : oddRun (workedBy 1 1 1) false (map fed (extractIn 0 ∷ exchangeIn 26 ∷ exchangeIn 27 ∷ extractIn 27 ∷ []))
       ≡ record { answers = refused 12 ∷ refused 9 ∷ ok 27 ∷ refused 12 ∷ []; isOdd = true }
+
+-- And both lists as long as they may be.
+pub record ProjectRows : Type 0 where
+  pub answers : ProjectAnswers
+  -- lists of 4,096 items, and the last place of one
+  pub longest : project 27 worked (replicate 27 7) (replicate 4096 0) (replicate 4095 1 ++ (3 ∷ [])) .buffer
+      ≡ extractionBytes (workedBy 0 4095 0)

@@ -104,6 +104,20 @@ alone p = ok (extractionBytes (record { position = 0; predicate = p; remainder =
 abbrev pub withRest : (position : ℕ) → Predicate → Frame → Result (List ℕ)
 withRest position p F = ok (extractionBytes (record { position = position; predicate = p; remainder = some F }))
 
+-- Row 9: both of two records of one column stay where an expression has the second, and it has its place among those that stay.
+abbrev pub RowNine : Type 0
+RowNine =
+    extractOf (record {
+      records =
+          record { side = left; child = 4; tag = 1 } ∷ record { side = left; child = 4; tag = 2 } ∷
+          record { side = right; child = 0; tag = 3 } ∷ [];
+      expr = and (call (ascii "st_intersects") (two (column 0 1) (column 2 3))) (column 1 2);
+    })
+    ≡ withRest 0 (relation intersects (column 4 1) (column 0 3)) (record {
+      records = record { side = left; child = 4; tag = 1 } ∷ record { side = left; child = 4; tag = 2 } ∷ [];
+      expr = column 1 2;
+    })
+
 -- The worked run and rows 1 to 10; the field names say the row.
 pub record TenRows : Type 0 where
   pub worked-run : output workedInput ≡ workedOutput
@@ -126,16 +140,7 @@ pub record TenRows : Type 0 where
   pub row8-last : extractOf (onBoth (binary 63 (call (ascii "st_intersects") (two L R)) (call (ascii "st_knn") (two L R)))) ≡ refused 13
   pub row8 : (operator : ℕ) → 5 ≤ operator → (records : List Record) (l r : Expr)
       → extraction (record { records = records; expr = binary operator l r }) ≡ none
-  pub row9 : extractOf (record {
-    records =
-        record { side = left; child = 4; tag = 1 } ∷ record { side = left; child = 4; tag = 2 } ∷
-        record { side = right; child = 0; tag = 3 } ∷ [];
-    expr = and (call (ascii "st_intersects") (two (column 0 1) (column 2 3))) (column 1 2);
-  })
-      ≡ withRest 0 (relation intersects (column 4 1) (column 0 3)) (record {
-        records = record { side = left; child = 4; tag = 1 } ∷ record { side = left; child = 4; tag = 2 } ∷ [];
-        expr = column 1 2;
-      })
+  pub row9 : RowNine
   pub row10-physical : extractOf (onBoth (call (ascii "ST_KNN") (two L R))) ≡ refused 13
   pub row10-logical : mapResult logicalBytes (logical (2 ∷ exprBytes (call (ascii "ST_KNN") (two (field 1 7) (field 2 8)))))
       ≡ ok (0x08 ∷ 0x00 ∷ 1 ∷ 0 ∷ [])

@@ -52,4 +52,7 @@ pub mod ProjectCall
 pub mod OddMachines
 pub mod ProjectLists
 pub mod AnyMatchers
+pub mod Table
+pub mod Refusals
+pub mod UpToLimits
 pub mod Proved

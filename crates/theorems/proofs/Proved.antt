@@ -40,12 +40,12 @@ use Rattle.theorems.proofs.AnyMatchers.{any-matcher-is}
 use Rattle.theorems.proofs.FairExample.{fair-points, marks-left}
 use Rattle.theorems.proofs.FairCounting.{fair-counting}
 use Rattle.definitions.proofs.Names.{each-once, names-ones, tables-hold}
-use Rattle.definitions.proofs.Table.{ten-rows-hold}
+use Rattle.theorems.proofs.Table.{ten-rows-hold}
 use Rattle.definitions.proofs.OurRows.{further-rows-hold}
 use Rattle.definitions.proofs.PlacedRows.{position-rows-hold}
 use Rattle.definitions.proofs.Nearest.{nearest-rows-hold}
 use Rattle.definitions.proofs.Bounds.{bound-rows-hold}
-use Rattle.definitions.proofs.Refusals.{refusals-hold}
+use Rattle.theorems.proofs.Refusals.{refusals-hold}
 use Rattle.theorems.proofs.PrintsApart.{told-apart}
 use Rattle.theorems.proofs.TextLength.{text-short}
 use Rattle.theorems.proofs.PrintCall.{prints-once, text-printable-by, no-leading, print-accepts, print-gives, print-refuses}
@@ -53,7 +53,7 @@ use Rattle.definitions.proofs.ConsoleLines.{print-rows-hold}
 use Rattle.theorems.proofs.Merged.{merged-good, merged-value, merged-leaves-are}
 use Rattle.theorems.proofs.MergeCall.{merge-accepts, merge-wrote, merge-keeps-all, merge-held, list-after}
 use Rattle.theorems.proofs.Histories.{history-of}
-use Rattle.definitions.proofs.FilterRows.{merge-rows-hold}
+use Rattle.theorems.proofs.UpToLimits.{merge-rows-hold, project-rows-hold}
 use Rattle.definitions.proofs.TabledRows.{table-rows-hold}
 use Rattle.theorems.proofs.NodeTables.{table-nests-by, table-exchanged-by, begins-exactly-by}
 use Rattle.theorems.proofs.TablesFit.{extract-filled-by, extract-unfilled-by, extract-twice-by}
@@ -63,7 +63,6 @@ use Rattle.theorems.proofs.Projected.{new-columns, projection-value, pr
 use Rattle.theorems.proofs.ProjectedGood.{projection-good}
 use Rattle.theorems.proofs.ProjectCall.{projected-exactly-then, project-wrote, project-keeps-all, project-is-short}
 use Rattle.theorems.proofs.ProjectLists.{list-after-project, list-projected}
-use Rattle.definitions.proofs.NarrowedRows.{project-rows-hold}
 
 -- ---- with every lawful matcher
 

@@ -1,4 +1,4 @@
--- The worked run and the ten rows hold by computation; of row 8, an operator from 5 on compares nothing.
+-- The worked run and the ten rows hold by computation, row 9 beside the definitions; of row 8, an operator from 5 on compares nothing.
 use Prim.Native.Nat.{ℕ, _≤_}
 use native.Mathlib.Omega.{arith}
 use mathlib.Core.Path.{_≡_, refl, ap}
@@ -7,12 +7,13 @@ use mathlib.Core.List.{List, [], _∷_}
 use mathlib.Core.Option.{none}
 use lib.Dec.{eqb}
 use borrow.Author.Tests.{ne-eqb}
 use Rattle.definitions.specs.Expression.{Expr, binary, Record}
 use Rattle.definitions.specs.Leaves.{leaves, comparison, Comparison, noComparison}
 use Rattle.definitions.specs.Match.{matchLeaf, matchRequest, request, comparisonRequest}
 use Rattle.definitions.specs.Extract.{matchesBy, extractionBy, extraction, pick, firstMatch, later, firstOf, takePick}
 use Rattle.definitions.specs.TenRows.{TenRows}
 use Rattle.definitions.proofs.Everything.{everything}
+use Rattle.definitions.proofs.OurRows.{row-nine-holds}
 
 -- An operator from 5 on compares nothing, so its leaf asks for nothing.
 no-comparison : (operator : ℕ) → 5 ≤ operator → (l r : Expr) → comparison operator l r ≡ noComparison
@@ -46,7 +47,7 @@ ten-rows-hold = record {
   row8-first = refl;
   row8-last = refl;
   row8 = other-operator;
-  row9 = refl;
+  row9 = row-nine-holds;
   row10-physical = refl;
   row10-logical = refl;
 }
