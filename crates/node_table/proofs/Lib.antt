@@ -4,3 +4,7 @@ pub mod NumberLaws
 pub mod RecordLaws
 pub mod LocalRow
 pub mod FillLaws
+pub mod WalkSteps
+pub mod RowSteps
+pub mod WalkSlots
+pub mod TableCall

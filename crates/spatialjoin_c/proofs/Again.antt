@@ -4,7 +4,7 @@
 --     lends-again      own (the `&κ mut [T]` ((b, o), γ, ys)) ∗ [κ]_q  ⊢ ⇛ ∃ γ₁. own (the `&κ′ mut [T]` ((b, o), γ₁, ys)) ∗ LentAgain γ₁
 --     comes-back       given `Room` and that zs is as long as ys:  [†κ′] ∗ LentAgain γ₁ ∗ finally γ₁ zs  ⊢ ⇛ (own (the `&κ mut [T]` ((b,
 --                     o), γ, zs)) ∗ [κ]_q)
-use mathlib.Core.Path.{_≡_, sym, ap, subst}
+use mathlib.Core.Path.{_≡_}
 use Prim.Native.Nat.{ℕ}
 use mathlib.Core.List.{List, [], _∷_}
 use lib.ListN.{length}
@@ -19,12 +19,13 @@ use ghost.Atoms.{Atoms, sem}
 use types.Kit.{Given, ‵, _⊛_, some, later, _$_, _∵_, !, qed, move, use1, use3, drop, split, pick, fsplit, fjoin, frame, await, updating, now as at-once, show, done}
 use types.SemTy.{cells, Arr}
 use denote.RattleType.{RattleType}
-use denote.Shadow.{pureL, pureI}
+use denote.Shadow.{pureL}
 use denote.Memory.{mem}
 use denote.Ref.{RefT}
 use denote.Slice.{sliceVal, MutSlice, heres, Room, finally, at-slice, codedHoleys}
 use denote.Lend.{Held, lends-slice, slice-back}
 use denote.Index.{row, whole-out, whole-in, opens-slice, closes-slice}
+use Rattle.node_table.proofs.WalkSteps.{slice-again}
 
 module _ (R : RattleType) (κ κ′ : Lft) (q : Share) (γ : GName) (b o : ℕ) where
   abbrev at-list : GName → List (R .Denot) → RefT (List (R .Denot))
@@ -61,6 +62,4 @@ module _ (R : RattleType) (κ κ′ : Lft) (q : Share) (γ : GName) (b o : ℕ) 
         use3 W (later (‵ (Arr (mem R) (length ys) .lies zs b o))) (slice-back 𝓤 H A W R κ′ γ₁ zs (length ys) b o) $ await ! tt $ fsplit ! $
         drop ! $ use1 W (‵ (row R fullShare zs b o)) (whole-out 𝓤 H A W R zs b o) $
         move ! (1 ∷ []) $ fsplit ! $ move ! (1 ∷ []) $ fsplit ! $ move ! (3 ∷ 2 ∷ 0 ∷ 1 ∷ []) $ closes-slice ! tt R ys zs e b o $
-        at-once ! $
-        fjoin ! $ pureI ! (at-slice R (at-list γ zs) vals) (tt, (tt, tt))
-        (ap (λ (m : ℕ). sliceVal (b, o) m ∷ []) (sym e), subst (Room R) (sym e) room) $ fjoin ! $ done !
+        at-once ! $ slice-again ! R b o ys zs e room $ done !

@@ -19,12 +19,13 @@ use types.Kit.{Given, ‵, _⊛_, some, later, _$_, _∵_, !, qed, move, use1, d
 use types.Tokens.{lent-back}
 use types.Share.{arr-parts}
 use denote.RattleType.{RattleType}
-use denote.Shadow.{pureL, pureI}
+use denote.Shadow.{pureL}
 use denote.Memory.{shares}
 use denote.Ref.{RefT}
 use denote.Slice.{sliceVal, MutSlice, ShrSlice, heres, Room, at-slice, codedHoleys}
 use denote.Lend.{Held, lends-shr-slice}
 use denote.Index.{opens-slice, closes-slice}
+use Rattle.node_table.proofs.WalkSteps.{slice-again}
 
 module _ (R : RattleType) (κ κ′ : Lft) (q : Share) (γ : GName) (b o : ℕ) (ys : List (R .Denot)) where
   abbrev at-list : GName → RefT (List (R .Denot))
@@ -59,5 +60,4 @@ module _ (R : RattleType) (κ κ′ : Lft) (q : Share) (γ : GName) (b o : ℕ) 
         qed W (‵ (fdead κ′) ∷ ‵ Kept ∷ []) ∵ updating ! $ move ! (1 ∷ []) $ fsplit ! $ move ! (2 ∷ 0 ∷ []) $ lent-back ! tt $ fsplit ! $
         drop ! $
         move ! (1 ∷ []) $ fsplit ! $ move ! (1 ∷ []) $ fsplit ! $ move ! (3 ∷ 2 ∷ 0 ∷ 1 ∷ []) $ closes-slice ! tt R ys ys refl b o $
-        at-once ! $
-        fjoin ! $ pureI ! (at-slice R (at-list γ) vals) (tt, (tt, tt)) (refl, room) $ fjoin ! $ done !
+        at-once ! $ slice-again ! R b o ys ys refl room $ done !
