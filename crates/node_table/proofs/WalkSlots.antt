@@ -34,6 +34,7 @@ use denote.Triple.Table.{entered}
 use denote.Triple.Walked.{Stay, Stays, Goes, AllGo, stay-none, stay-none-slice, stay-slice, gave-slice, goes-none, goes-none-slice, goes-slice, goes-gave-slice, walkOf, walked, walk-meets}
 use denote.Exit.{Kept, yes}
 
+-- of a parameter: what is had of it at exit, its machine values, that it has no others, and that what is had gives what is said
 pub record Passed {n : ℕ} (s : Slot n) (k : Kept) : Type 3 where
   pub stay : Stay s k
   pub vals : (κs : Lfts n) → typeAt s κs .Denot → List Val
@@ -50,23 +51,27 @@ module _ {n : ℕ} where
     goes = λ 𝓤 H A W. goes-none-slice 𝓤 H A W n (j ∷ []) ok (plain (λ _. R)) yes;
   }
 
-  abbrev pub kept-slice : (j : ℕ) (ok : AllWithin n (j ∷ [])) (R : RattleType)
+  -- a `&'j mut [T]`, of which h is had
+  abbrev mut-slice : (j : ℕ) (ok : AllWithin n (j ∷ [])) (R : RattleType) (h : Stay (mutSliceOf (j ∷ []) ok (plain (λ _. R))) yes)
+      → ((M : Type 1) (𝓤 : URA M) (H : Heap 𝓤) (A : Atoms 𝓤) (W : Given 𝓤 H A)
+      → Goes 𝓤 H A W n (mutSliceOf (j ∷ []) ok (plain (λ _. R))) yes h)
       → Passed {n = n} (mutSliceOf (j ∷ []) ok (plain (λ _. R))) yes
-  kept-slice j ok R = record {
-    stay = stay-slice (j ∷ []) ok (plain (λ _. R));
+  mut-slice j ok R h g = record {
+    stay = h;
     vals = λ κs. slice-vals;
     tells = λ κs. mut-slice-tells (nameOf (j ∷ [])) (meetAt n (j ∷ []) ok κs) R;
-    goes = λ 𝓤 H A W. goes-slice 𝓤 H A W n j ok (plain (λ _. R));
+    goes = λ 𝓤 H A W. g _ 𝓤 H A W;
   }
+
+  abbrev pub kept-slice : (j : ℕ) (ok : AllWithin n (j ∷ [])) (R : RattleType)
+      → Passed {n = n} (mutSliceOf (j ∷ []) ok (plain (λ _. R))) yes
+  kept-slice j ok R =
+      mut-slice j ok R (stay-slice (j ∷ []) ok (plain (λ _. R))) (λ M 𝓤 H A W. goes-slice 𝓤 H A W n j ok (plain (λ _. R)))
 
   abbrev pub given-slice : (j : ℕ) (ok : AllWithin n (j ∷ [])) (R : RattleType)
       → Passed {n = n} (mutSliceOf (j ∷ []) ok (plain (λ _. R))) yes
-  given-slice j ok R = record {
-    stay = gave-slice (j ∷ []) ok (plain (λ _. R));
-    vals = λ κs. slice-vals;
-    tells = λ κs. mut-slice-tells (nameOf (j ∷ [])) (meetAt n (j ∷ []) ok κs) R;
-    goes = λ 𝓤 H A W. goes-gave-slice 𝓤 H A W n j ok (plain (λ _. R));
-  }
+  given-slice j ok R =
+      mut-slice j ok R (gave-slice (j ∷ []) ok (plain (λ _. R))) (λ M 𝓤 H A W. goes-gave-slice 𝓤 H A W n j ok (plain (λ _. R)))
 
   abbrev pub copied : Passed {n = n} (plain (λ _. usize)) yes
   copied = record {
@@ -100,6 +105,7 @@ module _ {n : ℕ} where
     all-go [] ks ps = tt
     all-go (s ∷ ss) ks ps = (ps .0 .goes 𝓤 H A W, all-go ss (ks .1) (ps .1))
 
+-- what is had of a function's parameters at exit
 abbrev pub stayed : (T : Ended) → Passeds (T .signature .params) (T .kept) → Stays (T .signature .params) (T .kept)
 stayed T ps = all-stay (T .signature .params) (T .kept) ps
 

@@ -69,6 +69,7 @@ tokens-are 𝓤 H A (suc n) κs qs = monoR 𝓤 (A .lft (κs .0) (qs .0)) (token
 
 module _ {M : Type 1} {𝓤 : URA M} {H : Heap 𝓤} {A : Atoms 𝓤} {K : Type 0} {W : Given 𝓤 H A} {Γ : List (Item 𝓤)} where
   module _ {G : Goal 𝓤 H} where
+    -- what a callee's answer gives
     answered : K → Soaks G → (T : Ended) (c : Clauses 𝓤 T) (x : tripleOf 𝓤 H A (T .signature) (closing 𝓤 H A T c) .Ghost) (u : Val)
         (φ : Res (T .signature) (x .0 .0) → Lasts T (x .0 .0) (x .0 .3) → Type 0)
         → ((r : Res (T .signature) (x .0 .0)) (ws : Lasts T (x .0 .0) (x .0 .3))

@@ -58,10 +58,11 @@ use Rattle.node_table.proofs.fill_table as f
 use Rattle.node_table.proofs.fill_table.Statement as stated
 use Rattle.node_table.proofs.fill_table.Code as code
 
+-- what becomes of the parameters
 abbrev passed : Passeds (f.ended .signature .params) (f.ended .kept)
 passed = (given-slice 0 tt T.the-row, (seen-slice 1 tt u8, (copied, (copied, tt))))
 
--- the contracts that the proof cites
+-- the contract of `node_row`
 module _ {M : Type 1} (𝓤 : URA M) (H : Heap 𝓤) (A : Atoms 𝓤) (mem : Memory → SProp 𝓤) (run : Routine → Fun 𝓤) where
   abbrev NodeRow : Contract 𝓤
   NodeRow = tripleOf 𝓤 H A g₁.signature (g₁.spec 𝓤 H A mem run)

@@ -61,6 +61,7 @@ use Rattle.node_table.proofs.put_nodes.Statement as stated
 use Rattle.node_table.proofs.put_nodes.Code as code
 use Rattle.node_table.proofs.put_nodes.Code.Mir as parts
 
+-- what becomes of the parameters
 abbrev passed : Passeds (f.ended .signature .params) (f.ended .kept)
 passed = (kept-slice 0 tt T.the-row, (seen-slice 1 tt u32, (copied, tt)))
 

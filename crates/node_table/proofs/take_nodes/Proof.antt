@@ -60,6 +60,7 @@ use Rattle.node_table.proofs.take_nodes.Statement as stated
 use Rattle.node_table.proofs.take_nodes.Code as code
 use Rattle.node_table.proofs.take_nodes.Code.Mir as parts
 
+-- what becomes of the parameters
 abbrev passed : Passeds (f.ended .signature .params) (f.ended .kept)
 passed = (kept-slice 0 tt u32, (seen-slice 1 tt T.the-row, (copied, tt)))
 

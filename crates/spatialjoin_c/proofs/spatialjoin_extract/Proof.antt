@@ -67,6 +67,7 @@ use Rattle.spatialjoin_c.proofs.spatialjoin_extract as f
 use Rattle.spatialjoin_c.proofs.spatialjoin_extract.Statement as stated
 use Rattle.spatialjoin_c.proofs.spatialjoin_extract.Code as code
 
+-- what becomes of the parameters
 abbrev passed : Passeds (f.ended .signature .params) (f.ended .kept)
 passed = (given-slice 0 tt u8, (copied, (given-slice 1 tt u8, (seen-slice 2 tt T.the-row, tt))))
 

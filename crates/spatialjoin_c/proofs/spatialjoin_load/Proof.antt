@@ -65,10 +65,11 @@ use Rattle.spatialjoin_c.proofs.spatialjoin_load as f
 use Rattle.spatialjoin_c.proofs.spatialjoin_load.Statement as stated
 use Rattle.spatialjoin_c.proofs.spatialjoin_load.Code as code
 
+-- what becomes of the parameters
 abbrev passed : Passeds (f.ended .signature .params) (f.ended .kept)
 passed = (seen-slice 0 tt u8, (given-slice 1 tt u8, (given-slice 2 tt T.the-row, tt)))
 
--- the contracts that the proof cites
+-- the contract of `load_core`
 module _ {M : Type 1} (𝓤 : URA M) (H : Heap 𝓤) (A : Atoms 𝓤) (mem : Memory → SProp 𝓤) (run : Routine → Fun 𝓤) where
   abbrev LoadCore : Contract 𝓤
   LoadCore = tripleOf 𝓤 H A g₁.signature (g₁.spec 𝓤 H A mem run)

@@ -65,6 +65,7 @@ use Rattle.spatialjoin_c.proofs.spatialjoin_merge as f
 use Rattle.spatialjoin_c.proofs.spatialjoin_merge.Statement as stated
 use Rattle.spatialjoin_c.proofs.spatialjoin_merge.Code as code
 
+-- what becomes of the parameters
 abbrev passed : Passeds (f.ended .signature .params) (f.ended .kept)
 passed = (seen-slice 0 tt u8, (kept-slice 1 tt u8, (copied, (given-slice 2 tt u8, (given-slice 3 tt T.the-row, tt)))))
 
