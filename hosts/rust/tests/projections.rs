@@ -1,12 +1,10 @@
 //! Projections: the worked run's, the rule for every part of a plan, every refusal in its order.
 
+mod common;
+
+use common::bytes;
 use spatialjoin::{MOST_BYTES, MOST_ITEMS, MOST_NODES, Node, Refusal};
 use spatialjoin::{exchange, extract, load, position, project};
-
-fn bytes(line: &str) -> Vec<u8> {
-    let digits = |at| u8::from_str_radix(&line[at..at + 2], 16).expect("hexadecimal");
-    (0..line.len()).step_by(2).map(digits).collect()
-}
 
 /// A column of a child, name tag 9.
 fn column(index: u16) -> Vec<u8> {
