@@ -8,6 +8,7 @@ use Rattle.definitions.specs.Basics.{if_then_else_, all}
 use Rattle.definitions.specs.Expression.{Side, left, right, noSide}
 use Rattle.definitions.specs.Encode.{sideNumber}
 use Rattle.definitions.specs.Match.{sameSide, ArgumentSide, allOn, mixed, commonSide, isSide, leftRight, rightLeft, noOrder, orderOf}
+use Rattle.theorems.proofs.Cases.{two-sides}
 use Rattle.terms.specs.declared.sides.JoinSide.{JoinSide}
 use Rattle.terms.specs.declared.sides.JoinSide.the-variants.{Left, Right, None}
 use Rattle.argument_sides.specs.declared.sides.Sides.{Sides}
@@ -19,15 +20,7 @@ use Rattle.argument_sides.specs.Sides.{sideFor, argumentSide, see, seeAl
 
 pub same-number : (a b : Side) → eqb (sideNumber a) (sideNumber b) ≡ sameSide a b
 unfolding sideNumber sameSide
-same-number left left = refl
-same-number left right = refl
-same-number left noSide = refl
-same-number right left = refl
-same-number right right = refl
-same-number right noSide = refl
-same-number noSide left = refl
-same-number noSide right = refl
-same-number noSide noSide = refl
+same-number = two-sides (λ a b. eqb (sideNumber a) (sideNumber b) ≡ sameSide a b) refl refl refl refl refl refl refl refl refl
 
 -- ---- one column more
 

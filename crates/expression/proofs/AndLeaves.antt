@@ -1,12 +1,17 @@
 -- The AND-leaves of what `node_at` found: those of both children of an And, and any other node is its only one.
-use Prim.Native.Nat.{ℕ}
+use Prim.Native.Nat.{ℕ, _≤_}
+use native.Mathlib.Omega.{arith}
 use mathlib.Core.Path.{_≡_, refl, sym, ap, _∙_}
 use mathlib.Core.Bool.{Bool, true, false, _&&_}
 use mathlib.Core.List.{List, [], _∷_, _++_}
+use lib.ListN.{length, length-append}
 use Rattle.definitions.specs.Basics.{all}
 use Rattle.definitions.specs.Expression.{Expr, and, binary, call}
+use Rattle.definitions.specs.Encode.{exprBytes}
 use Rattle.definitions.specs.Leaves.{leaves}
 use Rattle.definitions.specs.Decode.{Columns}
+use Rattle.theorems.proofs.Pick.{leaves-most}
+use Rattle.expression.proofs.Standing.{head-some, tree-length}
 use Rattle.expression.specs.Leaves.{Both, CallIs, PlainNode, plainColumn, plainLiteral, plainOther, plainField}
 use Rattle.expression.specs.declared.leaves.Called.{Called}
 
@@ -29,6 +34,12 @@ plain-leaf plainColumn = refl
 plain-leaf plainLiteral = refl
 plain-leaf plainOther = refl
 plain-leaf plainField = refl
+
+-- An expression has no more of them than bytes.
+pub leaves-few : (t : Expr) → length (leaves t) ≤ length (exprBytes t)
+unfolding exprBytes
+leaves-few = leaves-most (λ t. length (exprBytes t)) (λ t. omega (arith, tree-length t, head-some t))
+    (λ l r. simp length-append (omega arith))
 
 -- ---- what holds of all
 

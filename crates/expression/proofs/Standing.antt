@@ -10,6 +10,7 @@ use Rattle.definitions.specs.Expression.{Expr, column, literal, and, binary, ca
 use Rattle.definitions.specs.Encode.{exprBytes, exprsBytes}
 use Rattle.definitions.specs.Decode.{Columns}
 use Rattle.definitions.specs.Good.{InRange, InRangeAll}
+use Rattle.theorems.proofs.Cases.{each}
 use Rattle.expression.specs.Places.{Holds, Between}
 use Rattle.expression.specs.Nodes.{headBytes, childrenOf, kindOf, Stands, Spans, Row}
 use Rattle.expression.proofs.Placed.{fits, byte-at, front, back}
@@ -31,23 +32,14 @@ tree-length t = ap length (head-children t) ∙ length-append (headBytes t) (exp
 
 head-first : (t : Expr) → getD (headBytes t) 0 0 ≡ kindOf t
 unfolding headBytes kindOf
-head-first (column i g) = refl
-head-first (literal y v) = refl
-head-first (and l r) = refl
-head-first (binary o l r) = refl
-head-first (call name args) = refl
-head-first (other g cs) = refl
-head-first (field b g) = refl
+head-first = each (λ t. getD (headBytes t) 0 0 ≡ kindOf t)
+    (λ i g. refl) (λ y v. refl) (λ l r. refl) (λ o l r. refl) (λ n ts. refl) (λ g ts. refl) (λ b g. refl)
 
 pub head-some : (t : Expr) → 0 < length (headBytes t)
 unfolding headBytes
-head-some (column i g) = omega arith
-head-some (literal y v) = omega arith
-head-some (and l r) = omega arith
-head-some (binary o l r) = omega arith
-head-some (call name args) = omega arith
-head-some (other g cs) = omega arith
-head-some (field b g) = omega arith
+head-some = each (λ t. 0 < length (headBytes t))
+    (λ i g. omega arith) (λ y v. omega arith) (λ l r. omega arith) (λ o l r. omega arith) (λ n ts. omega arith) (λ g ts. omega arith)
+    (λ b g. omega arith)
 
 pub children-in-range : (c : Columns) (t : Expr) → InRange c t → InRangeAll c (childrenOf t)
 unfolding childrenOf

@@ -7,13 +7,14 @@ use mathlib.Core.Bool.{Bool}
 use mathlib.Core.List.{List, [], _∷_, map, map-append}
 use mathlib.Core.Option.{none, some}
 use lib.ListN.{length, getD, length-append, length-map}
-use Rattle.definitions.specs.Expression.{Expr, column, literal, and, binary, call, other, field, Record, Predicate}
+use Rattle.definitions.specs.Expression.{Expr, and, Record, Predicate}
 use Rattle.definitions.specs.Encode.{exprBytes}
 use Rattle.definitions.specs.Leaves.{leaves}
 use Rattle.definitions.specs.Decode.{indexBelow}
 use Rattle.definitions.specs.Match.{matchLeaf}
 use Rattle.definitions.specs.Extract as definition
 use Rattle.definitions.specs.Extract.{firstMatch, firstOf, matchesBy}
+use Rattle.expression.proofs.AndLeaves.{leaves-few}
 use Rattle.expression.specs.Nodes.{leftOf, rightOf}
 use Rattle.expression.specs.Nodes.{headBytes, OfTree, OfTreeIn}
 use Rattle.expression.specs.Leaves.{Both, NodeIs}
@@ -37,16 +38,6 @@ use Rattle.first_match.specs.declared.first_match.Found.the-variants.{Le
 use Rattle.first_match.proofs.PickLaws.{at-position, moved, first-append, first-match, first-lacks}
 
 -- ---- leaves and matches of an And
-
-pub leaves-few : (t : Expr) → length (leaves t) ≤ length (exprBytes t)
-unfolding leaves exprBytes
-leaves-few (column i g) = omega arith
-leaves-few (literal y v) = omega arith
-leaves-few (and l r) = simp length-append (omega (arith, leaves-few l, leaves-few r))
-leaves-few (binary o l r) = omega arith
-leaves-few (call name args) = omega arith
-leaves-few (other g cs) = omega arith
-leaves-few (field b g) = omega arith
 
 module _ (test : Predicate → Bool) (records : List Record) (l r : Expr) where
   and-first : firstMatch test (matches records (and l r))

@@ -4,7 +4,7 @@ use native.Mathlib.Omega.{arith}
 use native.Mathlib.Numerals.{add-one}
 use mathlib.Core.Path.{_≡_, refl, sym, ap, ap₂, _∙_, subst}
 use mathlib.Core.Bool.{Bool, true, false, _&&_, _||_}
-use mathlib.Core.List.{List, [], _∷_, _++_, append-assoc, append-nil}
+use mathlib.Core.List.{List, [], _∷_, _++_, append-nil}
 use lib.ListN.{length, getD, take, drop, set, length-append, length-set, take-append-drop}
 use lib.Seq.{take-suc, take-all}
 use lib.Dec.{eqb}
@@ -18,6 +18,7 @@ use Rattle.definitions.specs.Good.{All}
 use Rattle.theorems.proofs.ExchangeGood.{records-length}
 use Rattle.theorems.proofs.ExtractGood.{same-column-refl}
 use Rattle.theorems.proofs.Pruned.{any-found}
+use Rattle.theorems.proofs.Merged.{records-both}
 use Rattle.expression.specs.Places.{shortAt}
 use Rattle.expression.proofs.Placed as placed
 use Rattle.writing.specs.Written.{WroteAt}
@@ -119,13 +120,6 @@ unfolding keep
 keep-append test [] ys = refl
 keep-append test (x ∷ xs) ys = if-cons (test x) x (keep test xs) (keep test ys) (keep-append test xs ys)
 
-records-append : (xs ys : List Record) → recordsBytes (xs ++ ys) ≡ recordsBytes xs ++ recordsBytes ys
-unfolding recordsBytes
-records-append [] ys = refl
-records-append (x ∷ xs) ys =
-    ap (λ (l : List ℕ). recordBytes x ++ l) (records-append xs ys)
-    ∙ sym (append-assoc (recordBytes x) (recordsBytes xs) (recordsBytes ys))
-
 -- Those among the first j and one more.
 kept-more : (test : Record → Bool) (records : List Record) (j : ℕ) → j < length records
     → recordsBytes (keep test (take (j + 1) records))
@@ -135,13 +129,13 @@ kept-more test records j b =
     ap (λ (n : ℕ). recordsBytes (keep test (take n records))) (add-one j)
     ∙ ap (λ (l : List Record). recordsBytes (keep test l)) (take-suc records j (record { side = noSide; child = 0; tag = 0 }) b)
     ∙ ap recordsBytes (keep-append test (take j records) (recordAt records j ∷ []))
-    ∙ records-append (keep test (take j records)) (keep test (recordAt records j ∷ []))
+    ∙ records-both (keep test (take j records)) (keep test (recordAt records j ∷ []))
 
 kept-among : (test : Record → Bool) (records : List Record) (n : ℕ)
     → length (recordsBytes (keep test (take n records))) ≤ length (recordsBytes (keep test records))
 kept-among test records n = omega (
   arith,
-  simp length-append at (ap length (records-append (keep test (take n records)) (keep test (drop n records)))),
+  simp length-append at (ap length (records-both (keep test (take n records)) (keep test (drop n records)))),
   ap (λ (l : List Record). length (recordsBytes (keep test l))) (take-append-drop n records),
   ap (λ (l : List Record). length (recordsBytes l)) (keep-append test (take n records) (drop n records)),
 )

@@ -6,11 +6,12 @@ use mathlib.Core.List.{List, [], _∷_, map, map-append}
 use lib.ListN.{length}
 use lib.Bits.{bitOr}
 use Rattle.definitions.specs.Basics.{if_then_else_, ascii, sameName, any}
-use Rattle.definitions.specs.Expression.{Expr, column, literal, and, binary, call, other, field, nil, cons}
+use Rattle.definitions.specs.Expression.{Expr, and, binary, nil, cons}
 use Rattle.definitions.specs.Encode.{exprBytes, exprsBytes}
 use Rattle.definitions.specs.Leaves.{leaves, noComparison, comparison}
 use Rattle.definitions.specs.Decode.{Columns}
 use Rattle.definitions.specs.Logical.{lowerCase, spatialNames, functionName, comparisonName, leafName, mask}
+use Rattle.theorems.proofs.Cases.{each}
 use Rattle.expression.specs.Places.{part}
 use Rattle.expression.specs.Nodes.{kindOf, OfTree, OfTrees}
 use Rattle.expression.specs.Leaves.{Both, CallIs, PlainNode, plainColumn, plainLiteral, plainOther, plainField}
@@ -26,13 +27,8 @@ use Rattle.logical_filter.proofs.NameMasks.{mask-append}
 
 no-function : (t : Expr) → (kindOf t ≡ 3 → ⊥) → functionName t ≡ []
 unfolding kindOf functionName
-no-function (column i g) k = refl
-no-function (literal y v) k = refl
-no-function (and l r) k = refl
-no-function (binary o l r) k = refl
-no-function (call name args) k = absurd (k refl)
-no-function (other g cs) k = refl
-no-function (field b g) k = refl
+no-function = each (λ t. (kindOf t ≡ 3 → ⊥) → functionName t ≡ []) (λ i g k. refl) (λ y v k. refl) (λ l r k. refl) (λ o l r k. refl)
+    (λ n ts k. absurd (k refl)) (λ g ts k. refl) (λ b g k. refl)
 
 pub no-distance : (t : Expr) → (kindOf t ≡ 3 → ⊥) → false ≡ sameName (functionName t) (ascii "st_distance")
 unfolding ascii sameName

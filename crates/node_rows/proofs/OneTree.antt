@@ -10,6 +10,7 @@ use Rattle.definitions.specs.Encode.{exprBytes, exprsBytes}
 use Rattle.definitions.specs.Readers.{read, number}
 use Rattle.definitions.specs.Decode.{Columns, indexBelow, fields}
 use Rattle.definitions.specs.Good.{Short, ColumnInRange, FieldInRange, InRange, InRangeAll}
+use Rattle.theorems.proofs.Cases.{whole, row}
 use Rattle.theorems.proofs.RoundTrip.{number-reads}
 use Rattle.expression.specs.Nodes.{kindOf, Stands, Row, OfTree, OfTrees}
 use Rattle.expression.proofs.OfKind.{a-column, a-literal, a-binary, a-call, an-other, a-field}
@@ -169,19 +170,11 @@ more-row t ts one row c c′ (cons t′ ts′) x y h h′ n e =
     let rest = row c c′ ts′ x y (h .1) (h′ .1) (omega arith) (first .1) in
     (ap₂ cons (first .0) (rest .0), rest .1)
 
-mutual
-  one : (t : Expr) → One t
-  one (column i g) = one-column i g
-  one (literal z v) = one-literal z v
-  one (and l r) = one-and l r (one l) (one r)
-  one (binary o l r) = one-binary o l r (one l) (one r)
-  one (call name ts) = one-call name ts (one-row ts)
-  one (other g ts) = one-other g ts (one-row ts)
-  one (field b g) = one-field b g
+one : (t : Expr) → One t
+one = whole One OneRow one-column one-literal one-and one-binary one-call one-other one-field no-row more-row
 
-  one-row : (ts : Exprs) → OneRow ts
-  one-row nil = no-row
-  one-row (cons t ts) = more-row t ts (one t) (one-row ts)
+one-row : (ts : Exprs) → OneRow ts
+one-row = row One OneRow one-column one-literal one-and one-binary one-call one-other one-field no-row more-row
 
 -- ---- at a place
 

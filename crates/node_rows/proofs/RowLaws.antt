@@ -9,6 +9,7 @@ use Rattle.definitions.specs.Expression.{Expr, column, literal, and, binary, ca
 use Rattle.definitions.specs.Encode.{exprBytes, exprsBytes}
 use Rattle.definitions.specs.Good.{nodes, nodesAll}
 use Rattle.definitions.specs.NodeTable.{kindByte, recordOf, nodesFrom, rowFrom}
+use Rattle.theorems.proofs.Cases.{each}
 use Rattle.theorems.proofs.NodeTables.{node-count, row-count}
 use Rattle.expression.specs.Places.{Holds}
 use Rattle.expression.specs.Nodes.{headBytes, childrenOf, kindOf}
@@ -45,33 +46,19 @@ nexts-split i (field b g) = refl
 
 pub nodes-below : (t : Expr) → nodes t ≡ suc (nodesAll (childrenOf t))
 unfolding nodes nodesAll childrenOf
-nodes-below (column j g) = refl
-nodes-below (literal y v) = refl
-nodes-below (and l r) = omega arith
-nodes-below (binary o l r) = omega arith
-nodes-below (call name args) = refl
-nodes-below (other g cs) = refl
-nodes-below (field b g) = refl
+nodes-below = each (λ t. nodes t ≡ suc (nodesAll (childrenOf t)))
+    (λ i g. refl) (λ y v. refl) (λ l r. omega arith) (λ o l r. omega arith) (λ n ts. refl) (λ g ts. refl) (λ b g. refl)
 
 pub kind-byte : (t : Expr) → kindOf t ≡ kindByte t
 unfolding kindOf kindByte
-kind-byte (column j g) = refl
-kind-byte (literal y v) = refl
-kind-byte (and l r) = refl
-kind-byte (binary o l r) = refl
-kind-byte (call name args) = refl
-kind-byte (other g cs) = refl
-kind-byte (field b g) = refl
+kind-byte = each (λ t. kindOf t ≡ kindByte t)
+    (λ i g. refl) (λ y v. refl) (λ l r. refl) (λ o l r. refl) (λ n ts. refl) (λ g ts. refl) (λ b g. refl)
 
 pub kind-small : (t : Expr) → kindByte t < 7
 unfolding kindByte
-kind-small (column j g) = omega arith
-kind-small (literal y v) = omega arith
-kind-small (and l r) = omega arith
-kind-small (binary o l r) = omega arith
-kind-small (call name args) = omega arith
-kind-small (other g cs) = omega arith
-kind-small (field b g) = omega arith
+kind-small = each (λ t. kindByte t < 7)
+    (λ i g. omega arith) (λ y v. omega arith) (λ l r. omega arith) (λ o l r. omega arith) (λ n ts. omega arith) (λ g ts. omega arith)
+    (λ b g. omega arith)
 
 -- A node within the bytes of a frame.
 pub node-told : (at : ℕ) (t : Expr) → at + length (exprBytes t) ≤ 16384 → Told (recordOf at t)

@@ -9,7 +9,7 @@ use lib.ListN.{length, drop}
 use borrow.Author.Tests.{lt-ltb, le-ltb}
 use Rattle.definitions.specs.Basics.{if_then_else_}
 use Rattle.definitions.specs.Expression as tree
-use Rattle.definitions.specs.Expression.{Expr, column, literal, and, binary, call, other, field, Exprs, nil, cons}
+use Rattle.definitions.specs.Expression.{Expr, Exprs, nil, cons}
 use Rattle.definitions.specs.Readers.{read, stopped, Reader, continue, give}
 use Rattle.definitions.specs.Decode.{repeatExprs, Columns, countNode, nodeKind, nodeOfKind, node}
 use Rattle.definitions.specs.Good.{depth, depthAll}
@@ -26,6 +26,7 @@ use Rattle.node_rows.specs.Rows.{Collected, CollectedAll}
 use Rattle.node_rows.specs.declared.collecting.Passed.{Passed}
 use Rattle.node_rows.proofs.CollectWalk.{collects-nil, collects-cons}
 use Rattle.reading.specs.Nodes.{WalkedIs, Counted, NodeHead}
+use Rattle.theorems.proofs.Cases.{each}
 use Rattle.theorems.proofs.ReaderLaws.{after, halts, step, given}
 
 counts : {B : Type 0} (n : ℕ) (s : List ℕ) (next : Bool → Reader B) → n < 1024 → continue (countNode n s) next ≡ next true (suc n) s
@@ -85,13 +86,8 @@ as-many child (suc many) n m s t es e =
 -- A node is one level above its children.
 depth-above : (t : Expr) → depth t ≡ depthAbove (childrenOf t)
 unfolding depth childrenOf
-depth-above (column i g) = refl
-depth-above (literal y v) = refl
-depth-above (and l r) = omega arith
-depth-above (binary o l r) = omega arith
-depth-above (call name args) = refl
-depth-above (other g cs) = refl
-depth-above (field b g) = refl
+depth-above = each (λ t. depth t ≡ depthAbove (childrenOf t))
+    (λ i g. refl) (λ y v. refl) (λ l r. omega arith) (λ o l r. omega arith) (λ n ts. refl) (λ g ts. refl) (λ b g. refl)
 
 -- The walk of the children is the walk of the node, in which they were counted one later.
 module _ (s : List ℕ) (at first count many : ℕ) (reader child : Reader Expr) (build : Exprs → Expr)

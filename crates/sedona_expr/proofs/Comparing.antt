@@ -1,24 +1,29 @@
 -- The side of a comparison that is read, and the arguments of `st_distance`.
 use Prim.Native.Nat.{ℕ, suc, _+_, _≤_, _<_}
 use native.Mathlib.Omega.{arith}
-use mathlib.Core.Path.{_≡_, refl, sym, ap, _∙_, subst}
+use mathlib.Core.Path.{_≡_, refl, sym, ap, _∙_, subst, subst⁻¹}
 use mathlib.Core.Bool.{Bool, true, false, _||_}
 use mathlib.Core.List.{List}
 use mathlib.Core.Option.{none, some}
-use lib.ListN.{length}
+use lib.ListN.{length, getD}
 use lib.Dec.{eqb}
 use borrow.Author.Tests.{eqb-false, eq-eqb, ne-eqb}
 use Rattle.definitions.specs.Basics.{if_then_else_, ascii, sameName}
-use Rattle.definitions.specs.Expression.{Expr, column, literal, and, binary, call, other, field, nil, cons}
+use Rattle.definitions.specs.Expression.{Expr, nil, cons}
 use Rattle.definitions.specs.Encode.{exprBytes}
 use Rattle.definitions.specs.Leaves.{compares, noComparison, comparison, distanceArguments}
 use Rattle.definitions.specs.Decode.{Columns}
+use Rattle.theorems.proofs.Cases.{each}
 use Rattle.expression.specs.Places.{part}
 use Rattle.expression.specs.Nodes.{kindOf, Stands, Row, Tree, OfTree}
-use Rattle.expression.specs.Leaves.{Pair, CallIs}
+use Rattle.expression.specs.Leaves.{Pair, OfPair, CallIs}
 use Rattle.expression.specs.declared.leaves.Called.{Called}
 use Rattle.expression.proofs.Standing.{first-stands}
 use Rattle.expression.proofs.Parts.{pair-right}
+use Rattle.node_rows.specs.Numbers.{startAt}
+use Rattle.node_rows.specs.Rows.{TabledAll}
+use Rattle.node_rows.proofs.RowLaws.{tabled-first, tabled-within}
+use Rattle.node_rows.proofs.IndexLaws.{Indexed, index-pair}
 use Rattle.sedona_expr.specs.Parsed.{compared, SidesOf, ComparedIs, BothSides, Arguments}
 use Rattle.sedona_expr.specs.declared.utils.Compared.{Compared}
 use Rattle.sedona_expr.specs.declared.utils.Compared.the-variants.{Sides, Nothing}
@@ -75,6 +80,27 @@ module _ {c : Columns} {s : List ℕ} {left : ℕ} {l r : Expr} (row : Row c s l
   pub sides-missing : answer ≡ Nothing → answer ≡ compared operator left right → comparison operator l r ≡ noComparison
   sides-missing e is = told-nothing (Stands c s) (first-stands row) (pair-right row right ends) operator e is
 
+-- The sides of two expressions that have indexes have them too.
+module _ {s numbers next : List ℕ} {i : ℕ}
+    (listed : OfPair s (startAt numbers i) (λ c l r. TabledAll numbers next (startAt numbers i) i (cons l (cons r nil)))) where
+  pub pair-within : Pair s (startAt numbers i) → i < length next
+  pair-within p = tabled-within (tabled-first (listed _ _ _ (p .3))) .1
+
+  module _ (operator : ℕ) {answer : Compared} (is : answer ≡ compared operator i (getD next i 0)) where
+    pub index-sides : {measured bound : ℕ} → answer ≡ Sides measured bound
+        → OfPair s (startAt numbers i) (λ c l r. SidesOf (Indexed c s numbers next) measured bound (comparison operator l r))
+    index-sides e c l r row =
+        let pair = index-pair row (listed c l r row) _ refl in told-sides (Indexed c s numbers next) (pair .0) (pair .1) operator e is
+
+    pub index-nothing : answer ≡ Nothing → OfPair s (startAt numbers i) (λ c l r. comparison operator l r ≡ noComparison)
+    index-nothing e c l r row =
+        let pair = index-pair row (listed c l r row) _ refl in told-nothing (Indexed c s numbers next) (pair .0) (pair .1) operator e is
+
+-- Each stands where its number says.
+pub starts : {c : Columns} {s numbers next : List ℕ} {k p : ℕ} {t : Expr} → Indexed c s numbers next k t → p ≡ startAt numbers k
+    → Stands c s p t
+starts {c} {s} {t = t} h e = subst⁻¹ (λ p. Stands c s p t) e (h .stands)
+
 -- So there is something to measure.
 pub measured-there : {s : List ℕ} {left : ℕ} (pair : Pair s left) (right : ℕ) → OfTree s left (λ t. right ≡ left + length (exprBytes t))
     → (operator : ℕ) {answer : Compared} {measured bound : ℕ} → answer ≡ Sides measured bound → answer ≡ compared operator left right
@@ -85,13 +111,8 @@ measured-there pair right ends operator e is =
 
 pub no-arguments : (t : Expr) → (kindOf t ≡ 3 → ⊥) → distanceArguments t ≡ none
 unfolding kindOf distanceArguments
-no-arguments (column i g) k = refl
-no-arguments (literal y v) k = refl
-no-arguments (and l r) k = refl
-no-arguments (binary o l r) k = refl
-no-arguments (call name args) k = absurd (k refl)
-no-arguments (other g cs) k = refl
-no-arguments (field b g) k = refl
+no-arguments = each (λ t. (kindOf t ≡ 3 → ⊥) → distanceArguments t ≡ none) (λ i g k. refl) (λ y v k. refl) (λ l r k. refl) (λ o l r k. refl)
+    (λ n ts k. absurd (k refl)) (λ g ts k. refl) (λ b g k. refl)
 
 module _ {c : Columns} {s : List ℕ} {at : ℕ} {k : Called} {t : Expr} (b : CallIs c s at k t) (same : Bool)
     (e : same ≡ sameName (part s (k .name) (k .end)) (ascii "st_distance")) where

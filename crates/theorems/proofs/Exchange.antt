@@ -7,6 +7,7 @@ use lib.ListN.{List·getD-map}
 use Rattle.definitions.specs.Expression.{Side, left, right, noSide, Relation, intersects, contains, within, covers, coveredBy, touches, crosses, overlaps, equals, Record, Frame, Predicate, relation, distance, knn, Extraction, Plan, empty, held, extracted, invert}
 use Rattle.definitions.specs.References.{recordAt, sameSide}
 use Rattle.definitions.specs.Exchange.{negate, exchangeRecord, exchangeFrame, exchangePredicate, exchangeExtraction, exchangePlan}
+use Rattle.theorems.proofs.Cases.{two-sides}
 
 -- ---- exchange twice
 
@@ -79,12 +80,4 @@ side-at rs i = ap (λ (r : Record). r .side) (record-at rs i)
 
 pub same-negated : (s t : Side) → sameSide (negate s) (negate t) ≡ sameSide s t
 unfolding sameSide negate
-same-negated left left = refl
-same-negated left right = refl
-same-negated left noSide = refl
-same-negated right left = refl
-same-negated right right = refl
-same-negated right noSide = refl
-same-negated noSide left = refl
-same-negated noSide right = refl
-same-negated noSide noSide = refl
+same-negated = two-sides (λ s t. sameSide (negate s) (negate t) ≡ sameSide s t) refl refl refl refl refl refl refl refl refl

@@ -1,5 +1,6 @@
 -- The theorems about the definitions, and the laws that they use.
 pub mod Tools
+pub mod Cases
 pub mod ReaderLaws
 pub mod Exchange
 pub mod RoundTrip

@@ -87,7 +87,7 @@ over-sums old new =
 
 -- ---- bytes
 
-records-both : (rs rs′ : List Record) → recordsBytes (rs ++ rs′) ≡ recordsBytes rs ++ recordsBytes rs′
+pub records-both : (rs rs′ : List Record) → recordsBytes (rs ++ rs′) ≡ recordsBytes rs ++ recordsBytes rs′
 unfolding recordsBytes
 records-both [] rs′ = refl
 records-both (r ∷ rs) rs′ =

@@ -13,6 +13,7 @@ use Rattle.definitions.specs.Decode.{indexBelow}
 use Rattle.definitions.specs.References.{columnsOf, columnsOfAll, mapColumns, mapColumnsAll, recordAt}
 use Rattle.definitions.specs.Match.{ArgumentSide, noColumns, allOn, mixed, commonSide, sideOf, onChild, Order, literalU32, literalK, literalBool, Request, askRelation, askDistance, askKnn, askNothing, relationRequest, dwithinRequest, knnLiterals, knnRequest, callRequest, distanceRequest, comparisonRequest, request, storeDistance, matchDistance, matchRequest, matchLeaf}
 use Rattle.definitions.specs.Good.{All, InRange}
+use Rattle.theorems.proofs.Cases.{each}
 use Rattle.theorems.proofs.Columns.{all-left, all-right, all-both, columns-below, mapComparison, comparison-mapped}
 use Rattle.theorems.proofs.Requests.{Within, request-within}
 use Rattle.theorems.proofs.MatchMeans.{no-columns}
@@ -97,23 +98,13 @@ mapRequest f askNothing = askNothing
 module _ (f : ℕ → ℕ) where
   k-mapped : (e : Expr) → literalK (mapColumns f e) ≡ literalK e
   unfolding literalK literalU32 mapColumns
-  k-mapped (column i t) = refl
-  k-mapped (literal type v) = refl
-  k-mapped (and l r) = refl
-  k-mapped (binary o l r) = refl
-  k-mapped (call name es) = refl
-  k-mapped (other tag es) = refl
-  k-mapped (field b t) = refl
+  k-mapped = each (λ e. literalK (mapColumns f e) ≡ literalK e)
+      (λ i g. refl) (λ y v. refl) (λ l r. refl) (λ o l r. refl) (λ n ts. refl) (λ g ts. refl) (λ b g. refl)
 
   bool-mapped : (e : Expr) → literalBool (mapColumns f e) ≡ literalBool e
   unfolding literalBool mapColumns
-  bool-mapped (column i t) = refl
-  bool-mapped (literal type v) = refl
-  bool-mapped (and l r) = refl
-  bool-mapped (binary o l r) = refl
-  bool-mapped (call name es) = refl
-  bool-mapped (other tag es) = refl
-  bool-mapped (field b t) = refl
+  bool-mapped = each (λ e. literalBool (mapColumns f e) ≡ literalBool e)
+      (λ i g. refl) (λ y v. refl) (λ l r. refl) (λ o l r. refl) (λ n ts. refl) (λ g ts. refl) (λ b g. refl)
 
   relation-mapped : (t : Option Relation) (es : Exprs) → relationRequest t (mapColumnsAll f es) ≡ mapRequest f (relationRequest t es)
   unfolding relationRequest mapColumns mapRequest

@@ -1,5 +1,5 @@
 -- The first match under a test is at its position, and no earlier leaf passes the test; the pick is the first of two such.
-use Prim.Native.Nat.{ℕ, zero, suc, _≤_, _<_}
+use Prim.Native.Nat.{ℕ, zero, suc, _+_, _≤_, _<_}
 use native.Mathlib.Nat.{not-suc-le-zero, le-of-suc-le-suc, zero-lt-suc}
 use native.Mathlib.Omega.{arith}
 use mathlib.Core.Path.{_≡_, refl, sym, ap, ap₂, _∙_, subst}
@@ -14,6 +14,7 @@ use Rattle.definitions.specs.Leaves.{leaves}
 use Rattle.definitions.specs.Extract.{Pick, isKnn, later, firstMatch, firstOf, pick, without, prune, takePick, Matcher, matchesBy, extractionBy}
 use Rattle.definitions.specs.Good.{nodes, Short, planNodes, GoodPlan}
 use Rattle.definitions.specs.Claims.{isMatch, someLeafMatchesBy, isKnnMatch, matchAt, TookAmong}
+use Rattle.theorems.proofs.Cases.{each}
 use Rattle.theorems.proofs.Tools.{by-test, mapped-at}
 use Rattle.theorems.proofs.Taken.{Taken, taken}
 
@@ -174,16 +175,26 @@ matched match F = take-matched (matchesBy match F) F (pick (matchesBy match F)) 
 pub leafAt : Frame → ℕ → Expr
 leafAt F i = getD (leaves (F .expr)) i (literal 0 0)
 
+-- An And has its sides' AND-leaves, any other expression is one.
+pub leaves-most : (size : Expr → ℕ) → ((e : Expr) → 0 < size e) → ((l r : Expr) → size l + size r ≤ size (and l r)) → (e : Expr)
+    → length (leaves e) ≤ size e
+unfolding leaves
+leaves-most size one sum (and l r) =
+    simp length-append (omega (arith, leaves-most size one sum l, leaves-most size one sum r, sum l r))
+leaves-most size one sum (column i g) = omega (arith, one (column i g))
+leaves-most size one sum (literal y v) = omega (arith, one (literal y v))
+leaves-most size one sum (binary o l r) = omega (arith, one (binary o l r))
+leaves-most size one sum (call n ts) = omega (arith, one (call n ts))
+leaves-most size one sum (other g ts) = omega (arith, one (other g ts))
+leaves-most size one sum (field b g) = omega (arith, one (field b g))
+
 -- Each AND-leaf is a node, so a good frame has at most 1,024 of them.
 leaves-nodes : (e : Expr) → length (leaves e) ≤ nodes e
 unfolding leaves nodes
-leaves-nodes (column i g) = omega arith
-leaves-nodes (literal y v) = omega arith
-leaves-nodes (and l r) = simp length-append (omega (arith, leaves-nodes l, leaves-nodes r))
-leaves-nodes (binary o l r) = omega arith
-leaves-nodes (call name args) = omega arith
-leaves-nodes (other g cs) = omega arith
-leaves-nodes (field b g) = omega arith
+leaves-nodes = leaves-most nodes
+    (each (λ e. 0 < nodes e) (λ i g. omega arith) (λ y v. omega arith) (λ l r. omega arith) (λ o l r. omega arith) (λ n ts. omega arith)
+    (λ g ts. omega arith) (λ b g. omega arith))
+    (λ l r. omega arith)
 
 pub few-leaves : (F : Frame) → GoodPlan (held F) → length (leaves (F .expr)) ≤ mostNodes
 unfolding planNodes
