@@ -1,41 +1,26 @@
 -- `end_node` and `end_children`: a node walk goes further on, a row walk to a node at its own place; so the measure is twice the bytes
 -- left, one more for a row.
-use Rattle.expression.proofs.Cycles.{below}
-use Prim.Native.Nat.{ℕ, _+_, _-_, _*_}
+use Prim.Native.Nat.{_+_, _-_, _*_}
 use native.Mathlib.Omega.{arith}
 use lib.ListN.{length}
 use Rattle.expression.proofs.Standing.{node-some, after-head}
 use Rattle.expression.proofs.EndWalk.{end-node, end-none, children-there, InEnds, ends-begin, ends-first, ends-go-on, ends-end}
-use borrow.Fn.PlainCycle.{Measures}
-use Rattle.expression.proofs.ends.end_children.Reads as end-children
-use Rattle.expression.proofs.ends.end_children.Kinds as end-children-kinds
-use Rattle.expression.proofs.ends.+end_children+end_node.Lts-end_children as end-children-lts
-use Rattle.expression.proofs.ends.end_node.Reads as end-node
-use Rattle.expression.proofs.ends.end_node.Kinds as end-node-kinds
-use Rattle.expression.proofs.ends.+end_children+end_node.Lts-end_node as end-node-lts
-use Rattle.expression.proofs.heads.head_at.Reads as head-at-reads
+use Rattle.expression.proofs.ends.end_children.Reads as row
+use Rattle.expression.proofs.ends.+end_children+end_node.Lts-end_children as row-lts
+use Rattle.expression.proofs.ends.end_node.Reads as node
+use Rattle.expression.proofs.ends.+end_children+end_node.Lts-end_node as node-lts
+use Rattle.expression.proofs.heads.head_at.Reads as head-at
 use Rattle.expression.proofs.ends.+end_children+end_node.{statement}
 use Rattle.expression.proofs.ends.+end_children+end_node.Tie.{close}
 
-abbrev μ-end-children : Measures 1 end-children-kinds.ps ℕ
-μ-end-children κs a = 2 * (length (a .0 .now) - a .1 .0) + 1
-
-abbrev μ-end-node : Measures 1 end-node-kinds.ps ℕ
-μ-end-node κs a = 2 * (length (a .0 .now) - a .1 .0)
-
-abbrev end-children-Inv-loop : end-children-lts.InvT-loop
-end-children-Inv-loop s at n next₀ left₀ next left = InEnds s at n next left
-
-abbrev end-children-μ-loop : end-children-lts.MeasureT-loop
-end-children-μ-loop s at n next₀ left₀ next left = left
-
 pub +end-children+end-node-spec : {M : Type 1} → statement M
-+end-children+end-node-spec = close μ-end-children μ-end-node (λ t. end-children-lts.spec (
-  below 1 end-node-kinds.ps μ-end-node end-node.Pre t,
-  end-node.Post,
-) _ end-children.Post
-    end-children-Inv-loop
-    end-children-μ-loop
++end-children+end-node-spec = close
+    (λ κs a. 2 * (length (a .0 .now) - a .1 .0) + 1)
+    (λ κs a. 2 * (length (a .0 .now) - a .1 .0))
+    (λ t. row-lts.spec
+    (_, node.Post) _ row.Post
+    (λ s at n next₀ left₀ next left. InEnds s at n next left)
+    (λ s at n next₀ left₀ next left. left)
     (λ c. ends-begin (c .before .pre .1))
     (λ c κs.
     let inv = c .before .loop .inv in
@@ -44,12 +29,8 @@ pub +end-children+end-node-spec : {M : Type 1} → statement M
     (λ c. omega arith)
     (λ c. ends-go-on (c .before .before .loop .inv) (c .before .loop-test .taken) (c .end-node .result) (c .end-node .ensures))
     (λ c. ends-end (c .before .loop .inv) (c .loop-test .left)))
-    λ t. end-node-lts.spec (
-      head-at-reads.Asked,
-      head-at-reads.Learnt,
-      below 1 end-children-kinds.ps μ-end-children end-children.Pre t,
-      end-children.Post,
-    ) _ end-node.Post
+    λ t. node-lts.spec
+    (_, head-at.Learnt, _, row.Post) _ node.Post
     (λ c κs. c .before .pre .1)
     (λ c d t stands.
     let head = c .before .head-at in
