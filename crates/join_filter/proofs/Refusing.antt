@@ -27,23 +27,22 @@ pub record Call {O A : Type 0} (call : ℕ → (before scratch : List ℕ) → O
 abbrev pub refuses : (n : ℕ) (before scratch : List ℕ) → (number : ℕ) → Outcome
 refuses n before scratch number = record { answer = refused number; n = n; buffer = before; scratch = scratch }
 
+-- A call that ends by `finish`.
+pub finishing : {call : ℕ → (before scratch : List ℕ) → Outcome} {new : (n scratch room : ℕ) → Result Plan → Result (List ℕ)}
+    → ((n : ℕ) (before scratch : List ℕ)
+    → call n before scratch ≡ finish n before scratch (new n (length scratch) (length before) (heldPlan n before)))
+    → ((n scratch room number : ℕ) → new n scratch room (refused number) ≡ refused 10)
+    → ((n scratch room : ℕ) → new n scratch room (ok empty) ≡ refused 11) → Call call finish refuses new
+unfolding finish
+finishing opens bad none = record { opens = opens; refusal = λ n before scratch number. refl; bad = bad; none = none }
+
 pub exchange-call : Call exchange finish refuses (λ n scratch room. newAfterExchange n scratch)
-unfolding exchange newAfterExchange finish
-exchange-call = record {
-  opens = λ n before scratch. refl;
-  refusal = λ n before scratch number. refl;
-  bad = λ n scratch room number. refl;
-  none = λ n scratch room. refl;
-}
+unfolding exchange newAfterExchange
+exchange-call = finishing (λ n before scratch. refl) (λ n scratch room number. refl) (λ n scratch room. refl)
 
 pub extract-call : Call extractFilled finish refuses (λ n scratch room. newAfterExtract n scratch)
-unfolding extractFilledBy newAfterExtractBy finish
-extract-call = record {
-  opens = λ n before scratch. refl;
-  refusal = λ n before scratch number. refl;
-  bad = λ n scratch room number. refl;
-  none = λ n scratch room. refl;
-}
+unfolding extractFilledBy newAfterExtractBy
+extract-call = finishing (λ n before scratch. refl) (λ n scratch room number. refl) (λ n scratch room. refl)
 
 module _ (table : List NodeRecord) where
   -- A merge that is refused keeps the table too.

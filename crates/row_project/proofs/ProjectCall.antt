@@ -22,7 +22,7 @@ use Rattle.extraction_body.specs.Plans.{HeldIs}
 use Rattle.extraction_body.specs.declared.extraction_bodies.Extraction.{Extraction}
 use Rattle.extraction_body.specs.declared.extraction_bodies.Held.the-variants as there
 use Rattle.join_filter.proofs.Keeping.{held-is, kept-over}
-use Rattle.join_filter.proofs.Refusing.{Call, refuses, outcome}
+use Rattle.join_filter.proofs.Refusing.{Call, refuses, finishing, outcome}
 use Rattle.plan_spots.proofs.FewSpots.{few-spots}
 use Rattle.plan_spots.specs.Extractions.{ExtractionFits}
 use Rattle.plan_projection.specs.Patches.{PatchedBy}
@@ -36,13 +36,8 @@ module _ (ofLeft ofRight : List ℕ) where
   projects n before scratch = project n before scratch ofLeft ofRight
 
   pub project-call : Call projects finish refuses (λ n scratch room. newAfterProject (listsOf ofLeft ofRight) n scratch)
-  unfolding project newAfterProject finish
-  project-call = record {
-    opens = λ n before scratch. refl;
-    refusal = λ n before scratch number. refl;
-    bad = λ n scratch room number. refl;
-    none = λ n scratch room. refl;
-  }
+  unfolding project newAfterProject
+  project-call = finishing (λ n before scratch. refl) (λ n scratch room number. refl) (λ n scratch room. refl)
 
 module _ (n : ℕ) (before scratch ofLeft ofRight : List ℕ) where
   -- A held frame is refused.
