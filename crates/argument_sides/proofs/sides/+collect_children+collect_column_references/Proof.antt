@@ -1,16 +1,13 @@
 -- A column's side is seen; of any other node the children are walked, one after the other. The measure is twice the bytes left.
-use Prim.Native.Nat.{ℕ, _+_, _-_, _*_}
+use Prim.Native.Nat.{_+_, _-_, _*_}
 use native.Mathlib.Omega.{arith}
 use lib.ListN.{length}
-use borrow.Fn.PlainCycle.{Measures}
 use Rattle.expression.proofs.Standing.{node-some, after-head}
 use Rattle.argument_sides.proofs.Framing.{framed-tree, entry-within, column-fits, children-framed}
 use Rattle.argument_sides.proofs.SideWalk.{side-column, side-other, sides-none, Seeing, seeing-begins, seeing-first, seeing-goes-on, seeing-ends}
 use Rattle.argument_sides.proofs.sides.collect_children.Reads as row
-use Rattle.argument_sides.proofs.sides.collect_children.Kinds as row-kinds
 use Rattle.argument_sides.proofs.sides.+collect_children+collect_column_references.Lts-collect_children as row-lts
 use Rattle.argument_sides.proofs.sides.collect_column_references.Reads as node
-use Rattle.argument_sides.proofs.sides.collect_column_references.Kinds as node-kinds
 use Rattle.argument_sides.proofs.sides.+collect_children+collect_column_references.Lts-collect_column_references as node-lts
 use Rattle.expression.proofs.heads.head_at.Reads as head-at
 use Rattle.argument_sides.proofs.sides.see_side.Reads as see-side
@@ -19,24 +16,14 @@ use Rattle.argument_sides.proofs.sides.side_at.Reads as side-at
 use Rattle.argument_sides.proofs.sides.+collect_children+collect_column_references.{statement}
 use Rattle.argument_sides.proofs.sides.+collect_children+collect_column_references.Tie.{close}
 
--- Bytes left; for a row one more.
-abbrev μ-row : Measures 1 row-kinds.ps ℕ
-μ-row κs a = 2 * (length (a .0 .now) - a .1 .1 .0) + 1
-
-abbrev μ-node : Measures 1 node-kinds.ps ℕ
-μ-node κs a = 2 * (length (a .0 .now) - a .1 .1 .0)
-
-abbrev Inv-loop : row-lts.InvT-loop
-Inv-loop s rec at n next₀ left₀ seen next left sides = Seeing s rec at n seen next left sides
-
-abbrev μ-loop : row-lts.MeasureT-loop
-μ-loop s rec at n next₀ left₀ seen next left sides = left
-
 pub +collect-children+collect-column-references-spec : {M : Type 1} → statement M
-+collect-children+collect-column-references-spec = close μ-row μ-node (λ t. row-lts.spec
++collect-children+collect-column-references-spec = close
+    (λ κs a. 2 * (length (a .0 .now) - a .1 .1 .0) + 1)
+    (λ κs a. 2 * (length (a .0 .now) - a .1 .1 .0))
+    (λ t. row-lts.spec
     (_, node.Post) _ row.Post
-    Inv-loop
-    μ-loop
+    (λ s rec at n next₀ left₀ seen next left sides. Seeing s rec at n seen next left sides)
+    (λ s rec at n next₀ left₀ seen next left sides. left)
     (λ c. seeing-begins (c .before .pre .1))
     (λ c κs.
     let loop = c .before .loop in

@@ -3,18 +3,13 @@ use Prim.Native.Nat.{ℕ, _+_, _-_, _*_}
 use native.Mathlib.Omega.{arith}
 use mathlib.Core.Path.{ap, _∙_}
 use lib.ListN.{length, length-set}
-use borrow.Fn.Kinds.{In}
-use borrow.Fn.PlainCycle.{Measures, is, and}
-use Rattle.expression.proofs.Cycles.{below}
 use Rattle.expression.proofs.Standing.{node-some, after-head}
 use Rattle.terms.specs.Sides.{joinSide}
 use Rattle.child_spots.specs.Spots.{spotNumber}
-use Rattle.child_spots.proofs.SpotWalk.{collect-column, collect-other, collects-none, columns-tree, Within, column-within, children-fit, Collecting, collecting-begins, collecting-first, collecting-goes-on, collecting-ends}
+use Rattle.child_spots.proofs.SpotWalk.{collect-column, collect-other, collects-none, columns-tree, column-within, children-fit, Collecting, collecting-begins, collecting-first, collecting-goes-on, collecting-ends}
 use Rattle.child_spots.proofs.spots.collect_children.Reads as row
-use Rattle.child_spots.proofs.spots.collect_children.Kinds as row-kinds
 use Rattle.child_spots.proofs.spots.+collect_children+collect_columns.Lts-collect_children as row-lts
 use Rattle.child_spots.proofs.spots.collect_columns.Reads as node
-use Rattle.child_spots.proofs.spots.collect_columns.Kinds as node-kinds
 use Rattle.child_spots.proofs.spots.+collect_children+collect_columns.Lts-collect_columns as node-lts
 use Rattle.child_spots.proofs.spots.spot_number.Reads as spot-number
 use Rattle.expression.proofs.fields.short_at.Reads as short-at
@@ -22,44 +17,14 @@ use Rattle.expression.proofs.heads.head_at.Reads as head-at
 use Rattle.child_spots.proofs.spots.+collect_children+collect_columns.{statement}
 use Rattle.child_spots.proofs.spots.+collect_children+collect_columns.Tie.{close}
 
--- Bytes left; for a row one more.
-abbrev μ-row : Measures 2 row-kinds.ps ℕ
-μ-row κs a = 2 * (length (a .1 .0 .now) - a .1 .1 .0) + 1
-
-abbrev μ-node : Measures 2 node-kinds.ps ℕ
-μ-node κs a = 2 * (length (a .1 .0 .now) - a .1 .1 .0)
-
-abbrev Inv-loop : row-lts.InvT-loop
-Inv-loop row₀ src at n side i end₀ index₀ left₀ row end index left = Collecting src at n (joinSide side) i row₀ end left index row
-
-abbrev μ-loop : row-lts.MeasureT-loop
-μ-loop row₀ src at n side i end₀ index₀ left₀ row end index left = left
-
-abbrev node-at : ℕ → In 2 node-kinds.ps
-node-at t = and 2 node-kinds.ps (is 2 node-kinds.ps μ-node t) node.Pre
-
-abbrev node-claims : ℕ → node-lts.Claims
-node-claims t = (
-  short-at.Asked,
-  short-at.Learnt,
-  spot-number.Asked,
-  spot-number.Learnt,
-  head-at.Asked,
-  head-at.Learnt,
-  below 2 row-kinds.ps μ-row row.Pre t,
-  row.Post,
-)
-
--- A column lies within the bytes and has its entry.
-within : (t : ℕ) (c : node-lts.Then1 (node-claims t) (node-at t) node.Post)
-    → let args = c .before .before .before .before .args in Within (args .src .now) (args .at) (args .i) (args .row .now)
-within t c = column-within (c .before .before .before .before .pre .1) (c .if1 .taken)
-
 pub +collect-children+collect-columns-spec : {M : Type 1} → statement M
-+collect-children+collect-columns-spec = close μ-row μ-node (λ t. row-lts.spec
++collect-children+collect-columns-spec = close
+    (λ κs a. 2 * (length (a .1 .0 .now) - a .1 .1 .0) + 1)
+    (λ κs a. 2 * (length (a .1 .0 .now) - a .1 .1 .0))
+    (λ t. row-lts.spec
     (_, node.Post) _ row.Post
-    Inv-loop
-    μ-loop
+    (λ row₀ src at n side i end₀ index₀ left₀ row end index left. Collecting src at n (joinSide side) i row₀ end left index row)
+    (λ row₀ src at n side i end₀ index₀ left₀ row end index left. left)
     (λ c. collecting-begins (c .before .before .args .row .now) (c .before .before .pre .1))
     (λ c κs.
     let loop = c .before .before .loop in
@@ -80,16 +45,21 @@ pub +collect-children+collect-columns-spec : {M : Type 1} → statement M
     let loop = c .before .loop in
     collecting-ends (c .before .before .before .before .args .row .now) (loop .row) (loop .inv) (c .loop-test .left)))
     λ t. node-lts.spec
-    (node-claims t) (node-at t) node.Post
+    (_, short-at.Learnt, _, spot-number.Learnt, _, head-at.Learnt, _, row.Post) _ node.Post
     (λ c. node-some (c .before .before .before .pre .1 .stands))
-    (λ c. omega (arith, within t c .limit))
-    (λ c. omega (arith, within t c .limit))
-    (λ c κs. omega (arith, within t c .bytes))
-    (λ c κs. let own = within t (c .before) in (omega (arith, own .limit), omega (arith, c .short-at .ensures, own .child)))
-    (λ c. let read = c .before .before in omega (arith, within t read .entry, read .before .before .before .before .good))
-    (λ c. within t (c .before .before) .entry)
-    (λ c. omega (arith, within t (c .before .before) .limit))
-    (λ c. let read = c .before .before in omega (arith, within t read .entry, read .before .before .before .before .good))
+    (λ c. omega (arith, column-within (c .before .before .before .before .pre .1) (c .if1 .taken) .limit))
+    (λ c. omega (arith, column-within (c .before .before .before .before .pre .1) (c .if1 .taken) .limit))
+    (λ c κs. omega (arith, column-within (c .before .before .before .before .pre .1) (c .if1 .taken) .bytes))
+    (λ c κs. let own = column-within (c .before .before .before .before .before .pre .1) (c .before .if1 .taken) in
+    (omega (arith, own .limit), omega (arith, c .short-at .ensures, own .child)))
+    (λ c.
+    let start = c .before .before .before .before .before .before in omega
+    (arith, column-within (start .pre .1) (c .before .before .if1 .taken) .entry, start .good))
+    (λ c. column-within (c .before .before .before .before .before .before .pre .1) (c .before .before .if1 .taken) .entry)
+    (λ c. omega (arith, column-within (c .before .before .before .before .before .before .pre .1) (c .before .before .if1 .taken) .limit))
+    (λ c.
+    let start = c .before .before .before .before .before .before in omega
+    (arith, column-within (start .pre .1) (c .before .before .if1 .taken) .entry, start .good))
     (λ c. simp length-set)
     (λ c u stands.
     let read = c .before .before in
@@ -98,7 +68,7 @@ pub +collect-children+collect-columns-spec : {M : Type 1} → statement M
     collect-column side (start .args .row .now) u stands (read .if1 .taken) (c .spot-number .result)
     (c .spot-number .ensures
     ∙ ap (λ (n : ℕ). spotNumber (record { side = side; at = start .args .at + 1; child = n })) (c .before .short-at .ensures))
-    (within t read .entry))
+    (column-within (start .pre .1) (read .if1 .taken) .entry))
     (λ c κs. columns-tree (c .before .before .before .before .pre .1))
     (λ c u stands.
     let head = c .before .head-at in

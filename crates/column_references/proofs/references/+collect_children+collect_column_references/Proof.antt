@@ -1,39 +1,26 @@
 -- `collect_column_references` and `collect_children`: a column is marked, of any other node the children are walked, one after the other.
-use Prim.Native.Nat.{ℕ, _+_, _-_, _*_}
+use Prim.Native.Nat.{_+_, _-_, _*_}
 use native.Mathlib.Omega.{arith}
 use lib.ListN.{length, length-set}
-use borrow.Fn.PlainCycle.{Measures}
 use Rattle.expression.proofs.Standing.{node-some, after-head}
 use Rattle.column_references.proofs.ReferenceWalk.{collect-column, collect-other, collects-none, flagged-tree, column-flag, children-flagged, Collecting, collecting-begins, collecting-first, collecting-goes-on, collecting-ends}
 use Rattle.column_references.proofs.references.collect_children.Reads as row
-use Rattle.column_references.proofs.references.collect_children.Kinds as row-kinds
 use Rattle.column_references.proofs.references.+collect_children+collect_column_references.Lts-collect_children as row-lts
 use Rattle.column_references.proofs.references.collect_column_references.Reads as node
-use Rattle.column_references.proofs.references.collect_column_references.Kinds as node-kinds
 use Rattle.column_references.proofs.references.+collect_children+collect_column_references.Lts-collect_column_references as node-lts
 use Rattle.expression.proofs.fields.short_at.Reads as short-at
 use Rattle.expression.proofs.heads.head_at.Reads as head-at
 use Rattle.column_references.proofs.references.+collect_children+collect_column_references.{statement}
 use Rattle.column_references.proofs.references.+collect_children+collect_column_references.Tie.{close}
 
--- Bytes left; for a row one more.
-abbrev μ-row : Measures 2 row-kinds.ps ℕ
-μ-row κs a = 2 * (length (a .1 .0 .now) - a .1 .1 .0) + 1
-
-abbrev μ-node : Measures 2 node-kinds.ps ℕ
-μ-node κs a = 2 * (length (a .1 .0 .now) - a .1 .1 .0)
-
-abbrev Inv-loop : row-lts.InvT-loop
-Inv-loop used₀ src at n next₀ left₀ used next left = Collecting src at n used₀ next left used
-
-abbrev μ-loop : row-lts.MeasureT-loop
-μ-loop used₀ src at n next₀ left₀ used next left = left
-
 pub +collect-children+collect-column-references-spec : {M : Type 1} → statement M
-+collect-children+collect-column-references-spec = close μ-row μ-node (λ t. row-lts.spec
++collect-children+collect-column-references-spec = close
+    (λ κs a. 2 * (length (a .1 .0 .now) - a .1 .1 .0) + 1)
+    (λ κs a. 2 * (length (a .1 .0 .now) - a .1 .1 .0))
+    (λ t. row-lts.spec
     (_, node.Post) _ row.Post
-    Inv-loop
-    μ-loop
+    (λ used₀ src at n next₀ left₀ used next left. Collecting src at n used₀ next left used)
+    (λ used₀ src at n next₀ left₀ used next left. left)
     (λ c. collecting-begins (c .before .before .args .used .now) (c .before .before .pre .1))
     (λ c κs.
     let loop = c .before .before .loop in

@@ -1,57 +1,23 @@
 -- `collect_remainder`: nothing is marked at the leaf, an And is its two sides, any other node is a whole AND-leaf.
-use Rattle.expression.proofs.Cycles.{below}
-use Prim.Native.Nat.{ℕ, _-_}
+use Prim.Native.Nat.{_-_}
 use native.Mathlib.Omega.{arith}
 use mathlib.Core.Path.{_∙_}
 use lib.ListN.{length}
 use borrow.Author.Needs.{needs}
-use borrow.Fn.Kinds.{In}
-use borrow.Fn.PlainCycle.{Measures, is, and}
 use Rattle.definitions.specs.Decode.{indexBelow}
 use Rattle.expression.proofs.Standing.{first-stands, node-some}
 use Rattle.column_references.proofs.AroundLaws.{lone-leaf, left-at, left-ends}
 use Rattle.column_references.proofs.ReferenceWalk.{rest-leaf, rest-lone, rest-and, right-flagged}
 use Rattle.column_references.proofs.references.collect_remainder.Reads as node
-use Rattle.column_references.proofs.references.collect_remainder.Kinds as node-kinds
 use Rattle.column_references.proofs.references.+collect_remainder.Lts-collect_remainder as node-lts
-use Rattle.expression.proofs.leaves.node_at.Reads as node-at-reads
-use Rattle.column_references.proofs.references.collect_column_references.Reads as columns-reads
+use Rattle.expression.proofs.leaves.node_at.Reads as node-at
+use Rattle.column_references.proofs.references.collect_column_references.Reads as columns
 use Rattle.column_references.proofs.references.+collect_remainder.{statement}
 use Rattle.column_references.proofs.references.+collect_remainder.Tie.{close}
 
--- Bytes left.
-abbrev μ-node : Measures 2 node-kinds.ps ℕ
-μ-node κs a = length (a .1 .0 .now) - a .1 .1 .0
-
-abbrev node-at : ℕ → In 2 node-kinds.ps
-node-at t = and 2 node-kinds.ps (is 2 node-kinds.ps μ-node t) node.Pre
-
-abbrev claims : ℕ → node-lts.Claims
-claims t = (
-  node-at-reads.Asked,
-  node-at-reads.Learnt,
-  columns-reads.Asked,
-  columns-reads.Learnt,
-  below 2 node-kinds.ps μ-node node.Pre t,
-  node.Post,
-)
-
-whole : (t : ℕ) → node-lts.Need-collect-column-references-requires (claims t) (node-at t) node.Post
-whole t c κs = let p = c .before .before .before .before .before .before .before .pre .1 in (p .0, p .1)
-
-left : (t : ℕ) → node-lts.Need-collect-remainder-requires (claims t) (node-at t) node.Post
-left t c κs =
-    let arm = c .before .before in
-    let start = arm .before .before .before .before .before .before .before in
-    let p = start .pre .1 in
-    let both =
-    rw (arm .left .given .1) at (arm .before .before .node-at .ensures (indexBelow (length (start .args .used .now))) (p .0) (p .1)) in (
-      omega (arith, start .pre .0, node-some (p .1), left-at both),
-      (both .l, first-stands (both .row), left-ends both (start .args .cut) (p .2)),
-    )
-
 pub +collect-remainder-spec : {M : Type 1} → statement M
-+collect-remainder-spec = close μ-node λ t. node-lts.spec (claims t) _ node.Post
++collect-remainder-spec = close (λ κs a. length (a .1 .0 .now) - a .1 .1 .0) λ t. node-lts.spec
+    (_, node-at.Learnt, _, columns.Learnt, _, node.Post) _ node.Post
     (λ c t stands ends.
     let start = c .before .before .before .before in
     rest-leaf (start .args .cut) (start .args .used .now) t (c .if1 .taken) ends)
@@ -60,7 +26,7 @@ pub +collect-remainder-spec : {M : Type 1} → statement M
     let p = start .pre .1 in
     (indexBelow (length (start .args .used .now)), p .0, p .1))
     (λ c. search needs)
-    (whole t)
+    (λ c κs. let p = c .before .before .before .before .before .before .before .pre .1 in (p .0, p .1))
     (λ c. c .before .before .collect-column-references .kept .0)
     (λ c t stands ends.
     let arm = c .before .before .before .before in
@@ -70,7 +36,15 @@ pub +collect-remainder-spec : {M : Type 1} → statement M
     rest-lone (start .args .cut) (start .args .used .now) (call .last .0) t (arm .before .before .if1 .left)
     (lone-leaf stands (node .result) (arm .match .keys2) (node .ensures (indexBelow (length (start .args .used .now))) t stands))
     (call .result) (call .ensures t stands))
-    (left t)
+    (λ c κs.
+    let arm = c .before .before in
+    let start = arm .before .before .before .before .before .before .before in
+    let p = start .pre .1 in
+    let both =
+    rw (arm .left .given .1) at (arm .before .before .node-at .ensures (indexBelow (length (start .args .used .now))) (p .0) (p .1)) in (
+      omega (arith, start .pre .0, node-some (p .1), left-at both),
+      (both .l, first-stands (both .row), left-ends both (start .args .cut) (p .2)),
+    ))
     (λ c κs.
     let arm = c .before .before .before .before .before .before in
     let start = arm .before .before .before .before .before .before .before in

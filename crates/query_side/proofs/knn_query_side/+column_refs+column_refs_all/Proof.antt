@@ -1,18 +1,15 @@
 -- `column_refs` and `column_refs_all`: a column has its bits, any other node those below it; the measure is twice the bytes left, and one
 -- more for a row.
-use Prim.Native.Nat.{ℕ, _+_, _-_, _*_}
+use Prim.Native.Nat.{_+_, _-_, _*_}
 use native.Mathlib.Omega.{arith}
 use lib.ListN.{length}
 use borrow.Author.Needs.{needs}
 use Rattle.expression.proofs.Standing.{node-some, after-head}
 use Rattle.expression.proofs.EndWalk.{children-there}
 use Rattle.query_side.proofs.QueryWalk.{bits-within, a-field-is, node-columns, Joining, joining-begins, joining-first, joining-goes-on, joining-ends}
-use borrow.Fn.PlainCycle.{Measures}
 use Rattle.query_side.proofs.knn_query_side.column_refs.Reads as column-refs
-use Rattle.query_side.proofs.knn_query_side.column_refs.Kinds as column-refs-kinds
 use Rattle.query_side.proofs.knn_query_side.+column_refs+column_refs_all.Lts-column_refs as column-refs-lts
 use Rattle.query_side.proofs.knn_query_side.column_refs_all.Reads as column-refs-all
-use Rattle.query_side.proofs.knn_query_side.column_refs_all.Kinds as column-refs-all-kinds
 use Rattle.query_side.proofs.knn_query_side.+column_refs+column_refs_all.Lts-column_refs_all as column-refs-all-lts
 use Rattle.expression.proofs.heads.head_at.Reads as head-at
 use Rattle.query_side.proofs.knn_query_side.+column_refs+column_refs_all.{
@@ -22,21 +19,12 @@ use Rattle.query_side.proofs.knn_query_side.+column_refs+column_refs_al
   close,
 }
 
-abbrev μ-column-refs : Measures 1 column-refs-kinds.ps ℕ
-μ-column-refs κs a = 2 * (length (a .0 .now) - a .1 .0)
-
-abbrev μ-column-refs-all : Measures 1 column-refs-all-kinds.ps ℕ
-μ-column-refs-all κs a = 2 * (length (a .0 .now) - a .1 .0) + 1
-
-abbrev Inv-loop : column-refs-all-lts.InvT-loop
-Inv-loop s at n next₀ left₀ right₀ more₀ next left right more = Joining s at n next left right more
-
-abbrev μ-loop : column-refs-all-lts.MeasureT-loop
-μ-loop s at n next₀ left₀ right₀ more₀ next left right more = more
-
 pub +column-refs+column-refs-all-spec : {M : Type 1} → statement M
 +column-refs+column-refs-all-spec =
-    close μ-column-refs μ-column-refs-all (λ t. column-refs-lts.spec
+    close
+    (λ κs a. 2 * (length (a .0 .now) - a .1 .0))
+    (λ κs a. 2 * (length (a .0 .now) - a .1 .0) + 1)
+    (λ t. column-refs-lts.spec
     (_, head-at.Learnt, _, column-refs-all.Post) _ column-refs.Post
     (λ c. node-some (c .before .before .pre .1 .2))
     (λ c. search needs)
@@ -57,8 +45,8 @@ pub +column-refs+column-refs-all-spec : {M : Type 1} → statement M
     (c .column-refs-all .ensures)))
     λ t. column-refs-all-lts.spec
     (_, column-refs.Post) _ column-refs-all.Post
-    Inv-loop
-    μ-loop
+    (λ s at n next₀ left₀ right₀ more₀ next left right more. Joining s at n next left right more)
+    (λ s at n next₀ left₀ right₀ more₀ next left right more. more)
     (λ c. joining-begins (c .before .pre .1))
     (λ c κs.
     let loop = c .before .loop in
