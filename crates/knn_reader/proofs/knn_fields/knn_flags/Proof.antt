@@ -6,33 +6,6 @@ use Rattle.knn_reader.proofs.Fields.{up-to, flag-stored, ties-stored}
 use Rattle.knn_reader.proofs.knn_fields.knn_flags.Statement.{statement}
 use Rattle.knn_reader.proofs.knn_fields.knn_flags.Tie as tie
 
-side-up-to-requires : tie.Need-side-up-to-requires
-side-up-to-requires c κs = (rw (c .before .spheroid .given .1) at (c .before .before .before .byte-up-to .ensures)) .0
-
-byte-up-to-requires-2 : tie.Need-byte-up-to-requires-2
-byte-up-to-requires-2 c κs = (rw (c .before .probe-side .given .1) at (c .before .before .before .side-up-to .ensures)) .0
-
-returns : tie.Need-returns
-returns c next n = halts _ ((rw (c .before .why .given .1) at (c .before .before .before .byte-up-to .ensures)) n)
-
-returns-2 : tie.Need-returns-2
-returns-2 c next n =
-    let at-why2 = c .before in
-    let at-spheroid = at-why2 .before .before .before .before in
-    let spheroid = rw (at-spheroid .spheroid .given .1) at (at-spheroid .before .before .byte-up-to .ensures) in
-    let stop = rw (at-why2 .why2 .given .1) at (at-why2 .before .before .side-up-to .ensures) in
-    after _ (spheroid .1 n) ∙ halts _ (stop n)
-
-returns-3 : tie.Need-returns-3
-returns-3 c next n =
-    let at-why3 = c .before in
-    let at-probe = at-why3 .before .before .before .before in
-    let at-spheroid = at-probe .before .before .before .before in
-    let spheroid = rw (at-spheroid .spheroid .given .1) at (at-spheroid .before .before .byte-up-to .ensures) in
-    let probe = rw (at-probe .probe-side .given .1) at (at-probe .before .before .side-up-to .ensures) in
-    let stop = rw (at-why3 .why3 .given .1) at (at-why3 .before .before .byte-up-to2 .ensures) in
-    after _ (spheroid .1 n) ∙ after _ (probe .1 n) ∙ halts _ (stop n)
-
 returns-4 : tie.Need-returns-4
 returns-4 c =
     let at-ties = c .before .before in
@@ -56,14 +29,20 @@ knn-flags-spec =
     (λ c κs. search needs)
     (λ c. search needs)
     (λ c. search needs)
-    side-up-to-requires
+    (λ c κs. (rw (c .before .spheroid .given .1) at (c .before .before .before .byte-up-to .ensures)) .0)
     (λ c. search needs)
     (λ c. search needs)
-    byte-up-to-requires-2
+    (λ c κs. (rw (c .before .probe-side .given .1) at (c .before .before .before .side-up-to .ensures)) .0)
     (λ c. search needs)
     (λ c. search needs)
     (λ c κs. search needs)
-    returns
-    returns-2
-    returns-3
+    (λ c next n. halts _ ((rw (c .before .why .given .1) at (c .before .before .before .byte-up-to .ensures)) n))
+    (λ c next n. after _ ((rw (c .before .before .before .before .before .spheroid .given .1) at
+    (c .before .before .before .before .before .before .before .byte-up-to .ensures)) .1 n)
+    ∙ halts _ ((rw (c .before .why2 .given .1) at (c .before .before .before .side-up-to .ensures)) n))
+    (λ c next n. after _ ((rw (c .before .before .before .before .before .before .before .before .before .spheroid .given .1) at
+    (c .before .before .before .before .before .before .before .before .before .before .before .byte-up-to .ensures)) .1 n)
+    ∙ after _ ((rw (c .before .before .before .before .before .probe-side .given .1) at
+    (c .before .before .before .before .before .before .before .side-up-to .ensures)) .1 n)
+    ∙ halts _ ((rw (c .before .why3 .given .1) at (c .before .before .before .byte-up-to2 .ensures)) n))
     returns-4)

@@ -7,22 +7,6 @@ use Rattle.theorems.proofs.ReaderLaws.{after, halts}
 use Rattle.predicate_reader.proofs.held_predicates.relation_predicate.Statement.{statement}
 use Rattle.predicate_reader.proofs.held_predicates.relation_predicate.Tie as tie
 
-both-requires : tie.Need-both-requires
-both-requires c κs = (rw (c .before .number .given .1) at (c .before .before .before .byte-up-to .ensures)) .0
-
-returns : tie.Need-returns
-unfolding relationPredicate
-returns c = halts _ ((rw (c .before .why .given .1) at (c .before .before .before .byte-up-to .ensures)) 0)
-
-returns-2 : tie.Need-returns-2
-unfolding relationPredicate
-returns-2 c =
-    let at-why2 = c .before in
-    let at-number = at-why2 .before .before .before .before in
-    let type = rw (at-number .number .given .1) at (at-number .before .before .byte-up-to .ensures) in
-    let stop = rw (at-why2 .why2 .given .1) at (at-why2 .before .before .both .ensures) in
-    after _ (type .1 0) ∙ stop _
-
 returns-3 : tie.Need-returns-3
 unfolding relationPredicate
 returns-3 c =
@@ -34,16 +18,19 @@ returns-3 c =
     (both .0, _, record { l = both .1; r = both .2; left = both .3; right = both .4; is = same }, after _ (type .1 0) ∙ both .5 _)
 
 pub relation-predicate-spec : {M : Type 1} → statement M
+unfolding relationPredicate
 relation-predicate-spec =
     tie.close
     (tie.spec
     (λ c κs. search needs)
     (λ c. search needs)
     (λ c. search needs)
-    both-requires
+    (λ c κs. (rw (c .before .number .given .1) at (c .before .before .before .byte-up-to .ensures)) .0)
     (λ c. search needs)
     (λ c. search needs)
     (λ c κs. search needs)
-    returns
-    returns-2
+    (λ c. halts _ ((rw (c .before .why .given .1) at (c .before .before .before .byte-up-to .ensures)) 0))
+    (λ c. after _ ((rw (c .before .before .before .before .before .number .given .1) at
+    (c .before .before .before .before .before .before .before .byte-up-to .ensures)) .1 0)
+    ∙ (rw (c .before .why2 .given .1) at (c .before .before .before .both .ensures)) _)
     returns-3)
