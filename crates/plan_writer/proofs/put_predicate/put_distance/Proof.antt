@@ -9,57 +9,34 @@ use Rattle.plan_writer.proofs.PredicateLaws.{bound, distance-view, dist
 use Rattle.plan_writer.proofs.put_predicate.put_distance.Statement.{statement}
 use Rattle.plan_writer.proofs.put_predicate.put_distance.Tie as tie
 
-slice-write-out : tie.Need-slice-write-out
-slice-write-out c =
-    let start = c .before .before .before .before in
-    let a = start .args in
-    omega (arith, distance-fits (a .indexes) (a .to .now) (a .src .now) (a .p) (start .pre))
-
-slice-write-out-2 : tie.Need-slice-write-out-2
-slice-write-out-2 c =
-    let start = c .before .before .before .before in
-    let a = start .args in
-    simp length-set (distance-fits (a .indexes) (a .to .now) (a .src .now) (a .p) (start .pre))
-
-put-both-requires : tie.Need-put-both-requires
-put-both-requires c κs =
-    let number = c .before .side-number in
-    let start = c .before .before .before .before .before in
-    let a = start .args in
-    first-room (written (a .indexes) (a .to .now) (bound (a .indexes) (a .to .now) (a .src .now) (a .p)))
-    (stored-room (distance-view (a .indexes) (a .to .now) (a .src .now) (a .p) (number .result) (number .ensures)) (start .pre))
-
-third-requires : tie.Need-reproject-column-references-for-side-requires
-third-requires c κs =
-    let both = c .before .before .before .put-both in
-    let at-number = c .before .before .before .before .before in
-    let number = at-number .side-number in
-    let start = at-number .before .before .before .before in
-    let a = start .args in
-    second-room (stored-room (distance-view (a .indexes) (a .to .now) (a .src .now) (a .p) (number .result) (number .ensures)) (start .pre))
-    (both .ensures) (both .kept .0)
-
-returns : tie.Need-returns
-returns c =
-    let both = c .before .before .before .before .before .before .put-both in
-    let at-number = c .before .before .before .before .before .before .before .before in
-    let number = at-number .side-number in
-    let start = at-number .before .before .before .before in
-    let a = start .args in
-    stored-put (distance-view (a .indexes) (a .to .now) (a .src .now) (a .p) (number .result) (number .ensures)) (start .pre)
-    (both-put (simp length-set (distance-fits (a .indexes) (a .to .now) (a .src .now) (a .p) (start .pre))) (both .ensures)
-    (c .before .before .reproject-column-references-for-side .ensures))
-
 pub put-distance-spec : {M : Type 1} → statement M
 put-distance-spec =
     tie.close
     (tie.spec
     (search needs)
-    slice-write-out
-    slice-write-out-2
-    put-both-requires
-    third-requires
+    (λ c. let a = c .before .before .before .before .args in omega
+    (arith, distance-fits (a .indexes) (a .to .now) (a .src .now) (a .p) (c .before .before .before .before .pre)))
+    (λ c. let a = c .before .before .before .before .args in simp length-set
+    (distance-fits (a .indexes) (a .to .now) (a .src .now) (a .p) (c .before .before .before .before .pre)))
+    (λ c κs.
+    let a = c .before .before .before .before .before .args in
+    first-room (written (a .indexes) (a .to .now) (bound (a .indexes) (a .to .now) (a .src .now) (a .p)))
+    (stored-room (distance-view (a .indexes) (a .to .now) (a .src .now) (a .p) (c .before .side-number .result)
+    (c .before .side-number .ensures)) (c .before .before .before .before .before .pre)))
+    (λ c κs.
+    let both = c .before .before .before .put-both in
+    let number = c .before .before .before .before .before .side-number in
+    let a = c .before .before .before .before .before .before .before .before .before .args in
+    second-room (stored-room (distance-view (a .indexes) (a .to .now) (a .src .now) (a .p) (number .result) (number .ensures))
+    (c .before .before .before .before .before .before .before .before .before .pre)) (both .ensures) (both .kept .0))
     (λ c. c .before .before .reproject-column-references-for-side .kept .0
     ∙ c .before .before .before .before .before .before .put-both .kept .0
     ∙ simp length-set)
-    returns)
+    (λ c.
+    let number = c .before .before .before .before .before .before .before .before .side-number in
+    let a = c .before .before .before .before .before .before .before .before .before .before .before .before .args in
+    let room = c .before .before .before .before .before .before .before .before .before .before .before .before .pre in
+    stored-put (distance-view (a .indexes) (a .to .now) (a .src .now) (a .p) (number .result) (number .ensures)) room
+    (both-put (simp length-set (distance-fits (a .indexes) (a .to .now) (a .src .now) (a .p) room))
+    (c .before .before .before .before .before .before .put-both .ensures)
+    (c .before .before .reproject-column-references-for-side .ensures))))

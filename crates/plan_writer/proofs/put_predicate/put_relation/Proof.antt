@@ -8,33 +8,20 @@ use Rattle.plan_writer.proofs.PredicateLaws.{relation-view, relation-fi
 use Rattle.plan_writer.proofs.put_predicate.put_relation.Statement.{statement}
 use Rattle.plan_writer.proofs.put_predicate.put_relation.Tie as tie
 
-slice-write-out : tie.Need-slice-write-out
-slice-write-out c =
-    let start = c .before .before .before .before in
-    let a = start .args in
-    omega (arith, relation-fits (a .indexes) (a .to .now) (a .src .now) (a .p) (start .pre))
-
-put-both-requires : tie.Need-put-both-requires
-put-both-requires c κs =
-    let number = c .before .relation-number in
-    let start = c .before .before .before .before .before in
-    let a = start .args in
-    stored-room (relation-view (a .indexes) (a .to .now) (a .src .now) (a .p) (number .result) (number .ensures)) (start .pre)
-
-returns : tie.Need-returns
-returns c =
-    let number = c .before .before .before .before .relation-number in
-    let start = c .before .before .before .before .before .before .before .before in
-    let a = start .args in
-    stored-put (relation-view (a .indexes) (a .to .now) (a .src .now) (a .p) (number .result) (number .ensures)) (start .pre)
-    (c .before .before .put-both .ensures)
-
 pub put-relation-spec : {M : Type 1} → statement M
 put-relation-spec =
     tie.close
     (tie.spec
     (search needs)
-    slice-write-out
-    put-both-requires
+    (λ c. let a = c .before .before .before .before .args in omega
+    (arith, relation-fits (a .indexes) (a .to .now) (a .src .now) (a .p) (c .before .before .before .before .pre)))
+    (λ c κs.
+    let a = c .before .before .before .before .before .args in
+    stored-room (relation-view (a .indexes) (a .to .now) (a .src .now) (a .p) (c .before .relation-number .result)
+    (c .before .relation-number .ensures)) (c .before .before .before .before .before .pre))
     (λ c. c .before .before .put-both .kept .0 ∙ simp length-set)
-    returns)
+    (λ c.
+    let number = c .before .before .before .before .relation-number in
+    let a = c .before .before .before .before .before .before .before .before .args in
+    stored-put (relation-view (a .indexes) (a .to .now) (a .src .now) (a .p) (number .result) (number .ensures))
+    (c .before .before .before .before .before .before .before .before .pre) (c .before .before .put-both .ensures)))
