@@ -31,10 +31,17 @@ module _ {s : List ℕ} {at : ℕ} (tree : Tree s at) {r : Node} (is : OfTreeIn 
   pub call-there : {k : Called} → r ≡ Call k → Calls s k
   call-there e = let b = rw e at (is (tree .0) (tree .1) (tree .2)) in (tree .0, b .name, b .arguments, b .stands)
 
+  -- Its name and its arguments.
+  pub name-there : {k : Called} → r ≡ Call k → (k .name ≤ k .end) × (k .end ≤ length s)
+  name-there e = let call = call-there e in (call .3 .low, call .3 .high)
+
+  pub arguments-there : {k : Called} → r ≡ Call k → Trees s (k .first) (k .count)
+  arguments-there e = let call = call-there e in (call .0, call .2, call .3 .row)
+
   pub plain-there : {head : Head} → r ≡ Plain head → Trees s (head .next) (head .children)
   plain-there e = children-there tree _ (rw e at (is (tree .0) (tree .1) (tree .2)) .1)
 
--- Two expressions in a row, a function's name and its arguments.
+-- Two expressions in a row.
 module _ {s : List ℕ} where
   pub both-there : {first : ℕ} → Pair s first → Trees s first 2
   both-there pair = (pair .0, cons (pair .1) (cons (pair .2) nil), pair .3)
@@ -44,9 +51,3 @@ module _ {s : List ℕ} where
 
   pub second-of-pair : {first : ℕ} → Pair s first → (p : ℕ) → OfTree s first (λ l. p ≡ first + length (exprBytes l)) → Tree s p
   second-of-pair pair p ends = (pair .0, pair .2, pair-right (pair .3) p ends)
-
-  pub name-there : {k : Called} → Calls s k → (k .name ≤ k .end) × (k .end ≤ length s)
-  name-there call = (call .3 .low, call .3 .high)
-
-  pub arguments-there : {k : Called} → Calls s k → Trees s (k .first) (k .count)
-  arguments-there call = (call .0, call .2, call .3 .row)

@@ -13,11 +13,13 @@ use Rattle.definitions.specs.Encode.{exprBytes, exprsBytes}
 use Rattle.definitions.specs.Leaves.{noComparison, comparison, leaves, relationNamed, relationArity, callArity, distanceArity, distanceArguments, comparisonArity, leafArity, arity}
 use Rattle.definitions.specs.Decode.{Columns}
 use Rattle.expression.specs.Places.{part}
-use Rattle.expression.specs.Nodes.{Tree, OfTree, OfTreeIn}
-use Rattle.expression.specs.Leaves.{NodeIs, Both, CallStands, CallIs, PlainNode, plainColumn, plainLiteral, plainOther, plainField}
+use Rattle.expression.specs.Nodes.{Tree, OfTree, OfTreeIn, OfTrees}
+use Rattle.expression.specs.Leaves.{NodeIs, Both, OfPair, CallStands, CallIs, OfCall, PlainNode, plainColumn, plainLiteral, plainOther, plainField}
+use Rattle.expression.specs.declared.heads.Head.{Head}
 use Rattle.expression.specs.declared.leaves.Called.{Called}
 use Rattle.expression.specs.declared.leaves.Node.{Node}
 use Rattle.expression.specs.declared.leaves.Node.the-variants as node
+use Rattle.expression.proofs.EndWalk.{end-node}
 use Rattle.expression.proofs.There.{and-left-there, and-right-there}
 use Rattle.expression.proofs.Parts.{left-stands, right-stands, both-ends, both-end, call-end}
 use Rattle.sedona_expr.specs.Parsed.{SidesOf, Arguments}
@@ -67,17 +69,17 @@ leaf-checked : (t e : Expr) (end stop : ℕ) (a : Arity) → arity t ≡ leafAri
     → ArityIs (arity t) stop a
 leaf-checked t e end stop a one same h = rw (one, ← same) h
 
-pub plain-checked : {t : Expr} → PlainNode t → (at end : ℕ) → end ≡ at + length (exprBytes t)
+plain-checked : {t : Expr} → PlainNode t → (at end : ℕ) → end ≡ at + length (exprBytes t)
     → ArityIs (arity t) (at + length (exprBytes t)) (Enough end)
 plain-checked {t} p at end e = (arity-one t (plain-leaf p) ∙ plain-needs p, e)
 
 module _ {c : Columns} {s : List ℕ} {at : ℕ} {t : Expr} where
-  pub binary-checked : {operator first : ℕ} (b : Both (binary operator) c s at first t) (a : Arity)
+  binary-checked : {operator first : ℕ} (b : Both (binary operator) c s at first t) (a : Arity)
       → ArityIs (leafArity (binary operator (b .l) (b .r))) (first + length (exprsBytes (cons (b .l) (cons (b .r) nil)))) a
       → ArityIs (arity t) (at + length (exprBytes t)) a
   binary-checked b a h = leaf-checked t _ _ _ a (arity-one t (binary-leaf b)) (both-end b _ refl) h
 
-  pub call-checked : {k : Called} (b : CallIs c s at k t) (a : Arity)
+  call-checked : {k : Called} (b : CallIs c s at k t) (a : Arity)
       → ArityIs (leafArity (call (b .name) (b .arguments))) (k .first + length (exprsBytes (b .arguments))) a
       → ArityIs (arity t) (at + length (exprBytes t)) a
   call-checked b a h = leaf-checked t _ _ _ a (arity-one t (call-leaf b)) (call-end b _ refl) h
@@ -113,6 +115,26 @@ pub record OnRight (s : List ℕ) (at next : ℕ) : Type 0 where
 module _ {s : List ℕ} {at : ℕ} where
   pub right-begins : Tree s at → OnRight s at at
   right-begins there = record { there = there; low = omega arith; rest = λ a is. is }
+
+  -- Where the node that it came to is a leaf, its answer is that of the whole.
+  module _ {next : ℕ} (inv : OnRight s at next) {r : Node} (is : OfTreeIn s next (λ c t. NodeIs c s next r t)) where
+    pub binary-last : {operator first : ℕ} → r ≡ node.Binary operator first → (a : Arity)
+        → OfPair s first (λ c l k. ArityIs (leafArity (binary operator l k)) (first + length (exprsBytes (cons l (cons k nil)))) a)
+        → OfTree s at (λ t. ArityIs (arity t) (at + length (exprBytes t)) a)
+    binary-last e a h = inv .rest a (λ d t st.
+        let pair = rw e at (is d t st) in binary-checked pair a (h d (pair .l) (pair .r) (pair .row)))
+
+    pub call-last : {k : Called} → r ≡ node.Call k → (a : Arity)
+        → OfCall s k (λ c name args. ArityIs (leafArity (call name args)) (k .first + length (exprsBytes args)) a)
+        → OfTree s at (λ t. ArityIs (arity t) (at + length (exprBytes t)) a)
+    call-last e a h = inv .rest a (λ d t st.
+        let found = rw e at (is d t st) in call-checked found a (h d (found .name) (found .arguments) (found .stands)))
+
+    pub plain-last : {head : Head} → r ≡ node.Plain head → (end : ℕ)
+        → OfTrees s (head .next) (head .children) (λ ts. end ≡ head .next + length (exprsBytes ts))
+        → OfTree s at (λ t. ArityIs (arity t) (at + length (exprBytes t)) (Enough end))
+    plain-last e end h = inv .rest (Enough end) (λ d t st.
+        let plain = rw e at (is d t st) in plain-checked (plain .0) _ _ (end-node st _ (plain .1) end h))
 
   module _ {next first : ℕ} (inv : OnRight s at next) {r : Node} (is : OfTreeIn s next (λ c t. NodeIs c s next r t))
       (e : r ≡ node.And first) where

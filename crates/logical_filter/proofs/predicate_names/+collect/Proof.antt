@@ -1,13 +1,11 @@
 -- `collect`: the names of both children of an And are put together; the measure is the bytes left.
-use Prim.Native.Nat.{ℕ, _-_}
+use Prim.Native.Nat.{_-_}
 use lib.ListN.{length}
 use borrow.Author.Needs.{needs}
 use Rattle.expression.proofs.EndWalk.{end-node}
-use Rattle.expression.proofs.There.{and-left-there, and-right-there, pair-there, call-there, plain-there, name-there, arguments-there}
+use Rattle.expression.proofs.There.{and-left-there, and-right-there, pair-there, plain-there, name-there, arguments-there}
 use Rattle.logical_filter.proofs.NameWalk.{both-names, binary-names, call-names, plain-names}
-use borrow.Fn.PlainCycle.{Measures}
 use Rattle.logical_filter.proofs.predicate_names.collect.Reads as reads
-use Rattle.logical_filter.proofs.predicate_names.collect.Kinds as kinds
 use Rattle.logical_filter.proofs.predicate_names.+collect.Lts-collect as lts
 use Rattle.expression.proofs.ends.end_children.Reads as end-children
 use Rattle.expression.proofs.leaves.node_at.Reads as node-at
@@ -16,11 +14,8 @@ use Rattle.logical_filter.proofs.predicate_names.name_bit.Reads as name
 use Rattle.logical_filter.proofs.predicate_names.+collect.{statement}
 use Rattle.logical_filter.proofs.predicate_names.+collect.Tie.{close}
 
-abbrev μ : Measures 1 kinds.ps ℕ
-μ κs a = length (a .0 .now) - a .1 .0
-
 pub +collect-spec : {M : Type 1} → statement M
-+collect-spec = close μ λ t. lts.spec
++collect-spec = close (λ κs a. length (a .0 .now) - a .1 .0) λ t. lts.spec
     (_, node-at.Learnt, _, reads.Post, _, collect-comparison.Learnt, _, name-bit.Learnt, _, end-children.Learnt) _ reads.Post
     (λ c κs. c .before .pre .1)
     (λ c. search needs)
@@ -34,21 +29,16 @@ pub +collect-spec : {M : Type 1} → statement M
     and-right-there (start .pre .1) (arm .before .before .node-at .ensures) (arm .first .given .1) (start .pre .0)
     (c .collect .result .next) (λ d l st. c .collect .ensures d l st .next))
     (λ c. search needs)
-    (λ c κs.
-    let arm = c .before in
-    pair-there (arm .before .before .before .before .pre .1) (arm .before .before .node-at .ensures) (arm .operator .given .1))
+    (λ c κs. pair-there (c .before .before .before .before .before .pre .1) (c .before .before .before .node-at .ensures)
+    (c .before .operator .given .1))
     (λ c. search needs)
-    (λ c κs.
-    let arm = c .before in
-    name-there (call-there (arm .before .before .before .before .pre .1) (arm .before .before .node-at .ensures) (arm .call .given .1)))
-    (λ c κs.
-    let arm = c .before .before in
-    arguments-there (call-there (arm .before .before .before .before .pre .1) (arm .before .before .node-at .ensures)
-    (arm .call .given .1)))
+    (λ c κs. name-there (c .before .before .before .before .before .pre .1) (c .before .before .before .node-at .ensures)
+    (c .before .call .given .1))
+    (λ c κs. arguments-there (c .before .before .before .before .before .before .pre .1)
+    (c .before .before .before .before .node-at .ensures) (c .before .before .call .given .1))
     (λ c. search needs)
-    (λ c κs.
-    let arm = c .before in
-    plain-there (arm .before .before .before .before .pre .1) (arm .before .before .node-at .ensures) (arm .head .given .1))
+    (λ c κs. plain-there (c .before .before .before .before .before .pre .1) (c .before .before .before .node-at .ensures)
+    (c .before .head .given .1))
     (λ c d t h.
     let right = c .before .before in
     let arm = right .before .before .before in

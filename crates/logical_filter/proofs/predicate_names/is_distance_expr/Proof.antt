@@ -5,24 +5,13 @@ use Prim.Native.Nat.{ℕ}
 use borrow.Author.Needs.{needs}
 use Rattle.definitions.specs.Basics.{ascii, sameName}
 use Rattle.expression.proofs.LeafLaws.{no-call}
-use Rattle.expression.proofs.There.{call-there, name-there}
+use Rattle.expression.proofs.There.{name-there}
 use Rattle.logical_filter.proofs.NameWalk.{no-distance, small-name}
 use Rattle.logical_filter.proofs.predicate_names.is_distance_expr.Statement.{statement}
 use Rattle.logical_filter.proofs.predicate_names.is_distance_expr.Tie as tie
 
-same-name-ignore-case-requires : tie.Need-same-name-ignore-case-requires
-same-name-ignore-case-requires c κs =
-    let arm = c .before .before in
-    name-there (call-there (arm .before .before .before .before .pre) (arm .before .before .node-at .ensures) (arm .call .given .1))
-
-returns-2 : tie.Need-returns-2
-unfolding ascii
-returns-2 c = λ d t h.
-    let arm = c .before .before .before in
-    let call = rw (arm .call .given .1) at (arm .before .before .node-at .ensures d t h) in
-    c .same-name-ignore-case .ensures ∙ ap (λ (n : List ℕ). sameName n (ascii "st_distance")) (small-name call)
-
 pub is-distance-expr-spec : {M : Type 1} → statement M
+unfolding ascii
 is-distance-expr-spec =
     tie.close
     (tie.spec
@@ -30,5 +19,8 @@ is-distance-expr-spec =
     (search needs)
     (λ c d t h. no-distance t (no-call h (c .before .node-at .result) (c .match .keys2) (c .before .node-at .ensures d t h)))
     (search needs)
-    same-name-ignore-case-requires
-    returns-2)
+    (λ c κs. name-there (c .before .before .before .before .before .before .pre) (c .before .before .before .before .node-at .ensures)
+    (c .before .before .call .given .1))
+    (λ c d t h.
+    let call = rw (c .before .before .before .call .given .1) at (c .before .before .before .before .before .node-at .ensures d t h) in
+    c .same-name-ignore-case .ensures ∙ ap (λ (n : List ℕ). sameName n (ascii "st_distance")) (small-name call)))

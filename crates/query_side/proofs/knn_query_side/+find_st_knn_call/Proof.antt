@@ -1,15 +1,13 @@
 -- `find_st_knn_call`: the right child of an And is searched where the left one has no such call; the measure is the bytes left.
-use Prim.Native.Nat.{ℕ, _-_}
+use Prim.Native.Nat.{_-_}
 use lib.ListN.{length}
 use borrow.Author.Needs.{needs}
 use Rattle.definitions.specs.Basics.{ascii}
 use Rattle.expression.proofs.EndWalk.{end-node}
 use Rattle.expression.proofs.Parts.{left-stands, both-end, call-end}
-use Rattle.expression.proofs.There.{and-left-there, and-right-there, pair-there, call-there, plain-there, both-there, name-there, arguments-there}
+use Rattle.expression.proofs.There.{and-left-there, and-right-there, pair-there, plain-there, both-there, name-there, arguments-there}
 use Rattle.query_side.proofs.QueryWalk.{no-plain, no-binary, is-knn, no-knn, knn-left, knn-right}
-use borrow.Fn.PlainCycle.{Measures}
 use Rattle.query_side.proofs.knn_query_side.find_st_knn_call.Reads as reads
-use Rattle.query_side.proofs.knn_query_side.find_st_knn_call.Kinds as kinds
 use Rattle.query_side.proofs.knn_query_side.+find_st_knn_call.Lts-find_st_knn_call as lts
 use Rattle.expression.proofs.ends.end_children.Reads as end-children
 use Rattle.expression.proofs.leaves.node_at.Reads as node-at
@@ -21,12 +19,9 @@ use Rattle.query_side.proofs.knn_query_side.+find_st_knn_call.Tie.{
   close,
 }
 
-abbrev μ : Measures 1 kinds.ps ℕ
-μ κs a = length (a .0 .now) - a .1 .0
-
 pub +find-st-knn-call-spec : {M : Type 1} → statement M
 unfolding ascii
-+find-st-knn-call-spec = close μ λ t. lts.spec
++find-st-knn-call-spec = close (λ κs a. length (a .0 .now) - a .1 .0) λ t. lts.spec
     (_, node-at.Learnt, _, reads.Post, _, end-children.Learnt, _, same-name-ignore-case.Learnt) _ reads.Post
     (λ c κs. c .before .pre .1)
     (λ c. search needs)
@@ -43,21 +38,17 @@ unfolding ascii
     and-right-there (start .pre .1) (arm .before .before .node-at .ensures) (arm .left .given .1) (start .pre .0) _
     (λ d l st. left d l st .1))
     (λ c. search needs)
-    (λ c κs.
-    let arm = c .before in
-    both-there (pair-there (arm .before .before .before .before .pre .1) (arm .before .before .node-at .ensures) (arm .left2 .given .1)))
+    (λ c κs. both-there
+    (pair-there (c .before .before .before .before .before .pre .1) (c .before .before .before .node-at .ensures)
+    (c .before .left2 .given .1)))
     (λ c. search needs) (λ c. search needs)
-    (λ c κs.
-    let arm = c .before .before in
-    name-there (call-there (arm .before .before .before .before .pre .1) (arm .before .before .node-at .ensures) (arm .call .given .1)))
-    (λ c κs.
-    let arm = c .before .before .before .before in
-    arguments-there (call-there (arm .before .before .before .before .pre .1) (arm .before .before .node-at .ensures)
-    (arm .call .given .1)))
+    (λ c κs. name-there (c .before .before .before .before .before .before .pre .1) (c .before .before .before .before .node-at .ensures)
+    (c .before .before .call .given .1))
+    (λ c κs. arguments-there (c .before .before .before .before .before .before .before .before .pre .1)
+    (c .before .before .before .before .before .before .node-at .ensures) (c .before .before .before .before .call .given .1))
     (λ c. search needs)
-    (λ c κs.
-    let arm = c .before in
-    plain-there (arm .before .before .before .before .pre .1) (arm .before .before .node-at .ensures) (arm .head .given .1))
+    (λ c κs. plain-there (c .before .before .before .before .before .pre .1) (c .before .before .before .node-at .ensures)
+    (c .before .head .given .1))
     (λ c d t h.
     let found = c .before in
     let arm = found .before .before .before .before in
