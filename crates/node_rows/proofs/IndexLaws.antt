@@ -8,9 +8,11 @@ use Rattle.definitions.specs.Expression.{Expr, Exprs, nil, cons, count}
 use Rattle.definitions.specs.Encode.{exprBytes}
 use Rattle.definitions.specs.Decode.{Columns}
 use Rattle.definitions.specs.Good.{nodes}
-use Rattle.expression.specs.Nodes.{headBytes, childrenOf, Stands, Spans, Row}
-use Rattle.expression.specs.Leaves.{Both, CallIs, OfPair, OfCall}
+use Rattle.expression.specs.Nodes.{headBytes, childrenOf, Stands, Spans, Row, Tree, OfTree, OfTreeIn}
+use Rattle.expression.specs.Leaves.{NodeIs, Both, CallIs, Pair, OfPair, OfCall}
 use Rattle.expression.specs.declared.leaves.Called.{Called}
+use Rattle.expression.specs.declared.leaves.Node.{Node}
+use Rattle.expression.specs.declared.leaves.Node.the-variants.{Binary}
 use Rattle.expression.proofs.Standing.{children-stand, first-stands, rest-stands}
 use Rattle.node_rows.specs.Numbers.{startAt, endAt}
 use Rattle.node_rows.specs.Rows.{Tabled, TabledAll, Begin, TwoAre}
@@ -136,3 +138,13 @@ module _ {c : Columns} {s numbers next : List ℕ} {at i : ℕ} {t : Expr} (h : 
       → OfCall s k (λ d name arguments. TabledAll numbers next (k .first) (i + 1) arguments)
   call-tabled {k} b d name arguments stands =
       of-trees (TabledAll numbers next (k .first) (i + 1)) (b .stands .row) (arguments-tabled b) d arguments (stands .row)
+
+-- Both sides of an operator that was found, by the index after it.
+pub pair-listed : {s numbers next : List ℕ} {at i : ℕ} (tree : Tree s at) → OfTree s at (Tabled numbers next at i) → {r : Node}
+    → OfTreeIn s at (λ c t. NodeIs c s at r t) → {operator first : ℕ} → r ≡ Binary operator first
+    → Pair s (startAt numbers (i + 1))
+    × OfPair s (startAt numbers (i + 1)) (λ d l r. TabledAll numbers next (startAt numbers (i + 1)) (i + 1) (cons l (cons r nil)))
+pair-listed tree tabled is e =
+    let pair = rw e at (is (tree .0) (tree .1) (tree .2)) in
+    let own = tabled (tree .0) (tree .1) (tree .2) in
+    ((tree .0, pair .l, pair .r, pair-row own pair), pair-tabled own pair)

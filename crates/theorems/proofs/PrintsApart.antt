@@ -13,6 +13,7 @@ use Rattle.definitions.specs.Decode.{indexBelow}
 use Rattle.definitions.specs.Good.{InRange, InRangeAll}
 use Rattle.definitions.specs.Printed.{decimal, digits16, printed, printedAll, printedMore}
 use Rattle.definitions.specs.PrintClaims.{isDigit, NoDigit}
+use Rattle.theorems.proofs.Cases.{whole}
 use Rattle.theorems.proofs.Figures.{first-same, rest-same, parts-same, decimals-same, literals-same}
 
 -- Texts that start with different characters are different.
@@ -228,22 +229,9 @@ other-told tag es a (call name′ es′) b b′ s s′ r r′ h h′ e = differ 
 other-told tag es a (other tag′ es′) b b′ s s′ r r′ h h′ e = other-apart tag tag′ es es′ b b′ s s′ a r r′ (rest-same e)
 other-told tag es a (field x′ t′) b b′ s s′ r r′ h h′ e = absurd r′
 
-mutual
-  unfolding printed ascii
-
-  pub told-apart : (e : Expr) → Apart e
-  told-apart (column i t) = column-told i t
-  told-apart (literal t v) = literal-told t v
-  told-apart (and x y) = and-told x y (told-apart x) (told-apart y)
-  told-apart (binary o x y) = binary-told o x y (told-apart x) (told-apart y)
-  told-apart (call name es) = call-told name es (all-apart es)
-  told-apart (other tag es) = other-told tag es (all-apart es)
-  told-apart (field x t) = λ e′ b b′ s s′ r r′ h h′ e. absurd r
-
-  all-apart : (es : Exprs) → ApartAll es
-  all-apart nil = λ es′. nothing-first es′
-  all-apart (cons e es) = λ es′. one-first e es (told-apart e) (more-apart es) es′
-
-  more-apart : (es : Exprs) → ApartMore es
-  more-apart nil = λ es′. nothing-more es′
-  more-apart (cons e es) = λ es′. one-more e es (told-apart e) (more-apart es) es′
+pub told-apart : (e : Expr) → Apart e
+unfolding printed ascii
+told-apart = whole Apart (λ es. ApartAll es × ApartMore es) column-told literal-told and-told binary-told
+    (λ name es apart. call-told name es (apart .0)) (λ tag es apart. other-told tag es (apart .0))
+    (λ x t e′ b b′ s s′ r r′ h h′ e. absurd r) (nothing-first, nothing-more)
+    (λ e es one rest. (one-first e es one (rest .1), one-more e es one (rest .1)))

@@ -8,7 +8,7 @@ use Rattle.expression.specs.Leaves.{NodeIs}
 use Rattle.expression.proofs.There.{call-there}
 use Rattle.node_rows.specs.Numbers.{startAt}
 use Rattle.node_rows.proofs.RowLaws.{tabled-within}
-use Rattle.node_rows.proofs.IndexLaws.{pair-row, pair-tabled}
+use Rattle.node_rows.proofs.IndexLaws.{pair-row, pair-listed}
 use Rattle.leaf_arity.proofs.ByRows.{and-passed, plain-passed, leaf-passed, binary-arity, call-arity-is}
 use Rattle.leaf_arity.proofs.by_rows.node_arity.Statement.{statement}
 use Rattle.leaf_arity.proofs.by_rows.node_arity.Tie as tie
@@ -22,15 +22,6 @@ is c =
     let a = c .before .before .before .before .before .before .args in
     subst (λ p. OfTreeIn (a .s .now) p (λ d t. NodeIs d (a .s .now) p (c .node-at .result) t)) (c .before .start-of .ensures)
     (c .node-at .ensures)
-
-compare-requires : tie.Need-enough-to-compare-requires
-compare-requires c κs =
-    let arm = c .before in
-    let start = c .before .before .before .before .before .before .before .before .before in
-    let tree = start .pre .0 in
-    let pair = rw (arm .operator .given .1) at (is (arm .before .before) (tree .0) (tree .1) (tree .2)) in
-    let tabled = start .pre .1 (tree .0) (tree .1) (tree .2) in
-    ((tree .0, pair .l, pair .r, pair-row tabled pair), pair-tabled tabled pair)
 
 call-requires : tie.Need-enough-arguments-requires
 call-requires c κs =
@@ -98,7 +89,9 @@ node-arity-spec =
     let start = c .before .before .before .before .before .before .before .before .before in
     let tree = start .pre .0 in
     omega (arith, start .good, tabled-within (start .pre .1 (tree .0) (tree .1) (tree .2)) .0))
-    compare-requires
+    (λ c κs. pair-listed (c .before .before .before .before .before .before .before .before .before .pre .0)
+    (c .before .before .before .before .before .before .before .before .before .pre .1) (is (c .before .before .before))
+    (c .before .operator .given .1))
     (search needs)
     call-requires
     (λ c d t h. and-passed _ (rw (c .enum-told .given .1) at (is (c .before .before) d t h)))

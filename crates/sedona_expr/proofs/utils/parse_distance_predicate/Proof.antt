@@ -3,19 +3,10 @@ use native.Mathlib.Omega.{arith}
 use borrow.Author.Needs.{needs}
 use Rattle.expression.proofs.There.{call-there}
 use Rattle.node_rows.proofs.RowLaws.{tabled-within}
-use Rattle.node_rows.proofs.IndexLaws.{pair-row, pair-tabled, call-tabled}
+use Rattle.node_rows.proofs.IndexLaws.{pair-row, pair-listed, call-tabled}
 use Rattle.sedona_expr.proofs.Distances.{plain-asks, and-asks, binary-asks, call-asks}
 use Rattle.sedona_expr.proofs.utils.parse_distance_predicate.Statement.{statement}
 use Rattle.sedona_expr.proofs.utils.parse_distance_predicate.Tie as tie
-
-parse-comparison-requires : tie.Need-parse-comparison-requires
-parse-comparison-requires c κs =
-    let arm = c .before in
-    let start = c .before .before .before .before .before .before .before in
-    let tree = start .pre .0 in
-    let pair = rw (arm .operator .given .1) at (arm .before .before .node-at .ensures (tree .0) (tree .1) (tree .2)) in
-    let tabled = start .pre .1 (tree .0) (tree .1) (tree .2) in
-    ((tree .0, pair .l, pair .r, pair-row tabled pair), pair-tabled tabled pair)
 
 parse-dwithin-requires : tie.Need-parse-dwithin-requires
 parse-dwithin-requires c κs =
@@ -50,7 +41,9 @@ parse-distance-predicate-spec =
     let start = c .before .before .before .before .before .before .before in
     let tree = start .pre .0 in
     omega (arith, start .good, tabled-within (start .pre .1 (tree .0) (tree .1) (tree .2)) .0))
-    parse-comparison-requires
+    (λ c κs. pair-listed (c .before .before .before .before .before .before .before .pre .0)
+    (c .before .before .before .before .before .before .before .pre .1) (c .before .before .before .node-at .ensures)
+    (c .before .operator .given .1))
     (search needs)
     (λ c.
     let start = c .before .before .before .before .before .before .before in

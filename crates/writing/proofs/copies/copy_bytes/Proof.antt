@@ -9,14 +9,19 @@ use Rattle.writing.proofs.Written.{write-more}
 use Rattle.writing.proofs.copies.copy_bytes.Statement.{statement}
 use Rattle.writing.proofs.copies.copy_bytes.Tie as tie
 
-abbrev Inv-loop : tie.InvT-loop
-Inv-loop out₀ src from n i₀ out i = (i ≤ n) × (length out ≡ length out₀) × (out ≡ take i (drop from src) ++ drop i out₀)
-
-abbrev μ-loop : tie.MeasureT-loop
-μ-loop out₀ src from n i₀ out i = n - i
-
-loop-again : tie.Need-loop-again Inv-loop μ-loop
-loop-again c =
+pub copy-bytes-spec : {M : Type 1} → statement M
+copy-bytes-spec =
+    tie.close
+    (tie.spec
+    (λ out₀ src from n i₀ out i. (i ≤ n) × (length out ≡ length out₀) × (out ≡ take i (drop from src) ++ drop i out₀))
+    (λ out₀ src from n i₀ out i. n - i)
+    (λ c. (omega arith, refl, refl))
+    (λ c. omega arith)
+    (λ c. omega arith)
+    (λ c. omega arith)
+    (λ c. omega arith)
+    (λ c. omega arith)
+    (λ c.
     let loop = c .before .before .loop in
     let args = c .before .before .before .args in (
       omega arith,
@@ -24,26 +29,9 @@ loop-again c =
       ap (set (loop .out) (loop .i)) (sym (getD-drop (args .from) (args .src .now) (loop .i) 0))
           ∙ write-more (drop (args .from) (args .src .now)) (args .out .now) (loop .out) (loop .i) (simp length-drop (omega arith))
           (omega arith) (loop .inv .2),
-    )
-
-returns : tie.Need-returns Inv-loop μ-loop
-returns c =
+    ))
+    (λ c. c .before .loop .inv .1)
+    (λ c.
     let args = c .before .before .args in
     let end : c .before .loop .i ≡ args .n = omega arith in
-    c .before .loop .inv .2 ∙ ap (λ (k : ℕ). take k (drop (args .from) (args .src .now)) ++ drop k (args .out .now)) end
-
-pub copy-bytes-spec : {M : Type 1} → statement M
-copy-bytes-spec =
-    tie.close
-    (tie.spec
-    Inv-loop
-    μ-loop
-    (λ c. (omega arith, refl, refl))
-    (λ c. omega arith)
-    (λ c. omega arith)
-    (λ c. omega arith)
-    (λ c. omega arith)
-    (λ c. omega arith)
-    loop-again
-    (λ c. c .before .loop .inv .1)
-    returns)
+    c .before .loop .inv .2 ∙ ap (λ (k : ℕ). take k (drop (args .from) (args .src .now)) ++ drop k (args .out .now)) end))

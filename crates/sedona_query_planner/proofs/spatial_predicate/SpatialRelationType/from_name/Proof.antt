@@ -44,28 +44,18 @@ name-index-requires c κs =
     let start = c .before .before .before .before .before .before in
     (start .pre .0, start .pre .1, refl)
 
-too-short : tie.Need-returns
-too-short c =
-    let start = c .before .before in
-    let a = start .args in
-    short-name (part (a .s .now) (a .at) (a .end))
-    (omega (arith, c .if1 .taken, part-length (a .s .now) (a .at) (a .end) (start .pre .0) (start .pre .1)))
-
-too-long : tie.Need-returns-2
-too-long c =
-    let start = c .before .before .before in
-    let a = start .args in
-    long-name (part (a .s .now) (a .at) (a .end))
-    (omega (arith, c .if2 .taken, part-length (a .s .now) (a .at) (a .end) (start .pre .0) (start .pre .1)))
-
 pub from-name-spec : {M : Type 1} → statement M
 unfolding relationTypes typesIn relations
 from-name-spec =
     tie.close
     (tie.spec
     (λ c. c .before .pre .0)
-    too-short
-    too-long
+    (λ c.
+    let start = c .before .before in
+    short-name _ (omega (arith, c .if1 .taken, part-length (start .args .s .now) _ _ (start .pre .0) (start .pre .1))))
+    (λ c.
+    let start = c .before .before .before in
+    long-name _ (omega (arith, c .if2 .taken, part-length (start .args .s .now) _ _ (start .pre .0) (start .pre .1))))
     (search needs)
     name-index-requires
     (λ c. one (c .before) (c .match .keys1))
