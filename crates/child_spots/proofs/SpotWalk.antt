@@ -179,11 +179,11 @@ pub record Collecting (s : List ℕ) (at n : ℕ) (side : Side) (i : ℕ) (befor
   pub rest : (after : List ℕ) (r : Passed) → ChildrenCollected s end left side index row after r
       → ChildrenCollected s at n side i before after r
 
-module _ {s : List ℕ} {at n i : ℕ} {side : Side} (before : List ℕ) where
+module _ {s : List ℕ} {at n i : ℕ} {side : Side} {before : List ℕ} where
   pub collecting-begins : ChildrenFit s at n side i before → Collecting s at n side i before at n i before
   collecting-begins there = record { there = there; low = omega arith; same = refl; rest = λ after r is. is }
 
-  module _ {end left index : ℕ} (row : List ℕ) (inv : Collecting s at n side i before end left index row) where
+  module _ {end left index : ℕ} {row : List ℕ} (inv : Collecting s at n side i before end left index row) where
     pub collecting-first : 0 < left → ColumnsFit s end side index row
     collecting-first some = first-fits (inv .there) (λ z. omega arith)
 

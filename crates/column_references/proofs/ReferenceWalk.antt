@@ -125,7 +125,7 @@ module _ {s : List ℕ} {at n : ℕ} (before : List ℕ) where
   pub collecting-begins : FlaggedAll s at n before → Collecting s at n before at n before
   collecting-begins there = record { there = there; low = omega arith; same = refl; rest = λ after r is. is }
 
-  module _ {next left : ℕ} (used : List ℕ) (inv : Collecting s at n before next left used) where
+  module _ {next left : ℕ} {used : List ℕ} (inv : Collecting s at n before next left used) where
     pub collecting-first : 0 < left → Flagged s next used
     collecting-first some = first-flagged used (inv .there) (λ z. omega arith)
 

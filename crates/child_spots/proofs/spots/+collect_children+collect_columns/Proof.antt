@@ -25,25 +25,21 @@ pub +collect-children+collect-columns-spec : {M : Type 1} → statement M
     (_, node.Post) _ row.Post
     (λ row₀ src at n side i end₀ index₀ left₀ row end index left. Collecting src at n (joinSide side) i row₀ end left index row)
     (λ row₀ src at n side i end₀ index₀ left₀ row end index left. left)
-    (λ c. collecting-begins (c .before .before .args .row .now) (c .before .before .pre .1))
+    (λ c. collecting-begins (c .before .before .pre .1))
     (λ c κs.
     let loop = c .before .before .loop in
     let start = c .before .before .before .before .before in (
       omega (arith, start .pre .0, loop .inv .low),
-      collecting-first (start .args .row .now) (loop .row) (loop .inv) (c .before .loop-test .taken),
+      collecting-first (loop .inv) (c .before .loop-test .taken),
     ))
     (λ c. omega arith)
     (λ c. omega arith)
     (λ c.
     let call = c .before .before .collect-columns in
     let turn = c .before .before .before .before in
-    let loop = turn .before .loop in
-    collecting-goes-on (turn .before .before .before .before .args .row .now) (loop .row) (loop .inv) (turn .loop-test .taken)
-    (call .last .0) (call .kept .0) (call .result) (call .ensures))
+    collecting-goes-on (turn .before .loop .inv) (turn .loop-test .taken) (call .last .0) (call .kept .0) (call .result) (call .ensures))
     (λ c. c .before .loop .inv .same)
-    (λ c.
-    let loop = c .before .loop in
-    collecting-ends (c .before .before .before .before .args .row .now) (loop .row) (loop .inv) (c .loop-test .left)))
+    (λ c. collecting-ends (c .before .loop .inv) (c .loop-test .left)))
     λ t. node-lts.spec
     (_, short-at.Learnt, _, spot-number.Learnt, _, head-at.Learnt, _, row.Post) _ node.Post
     (λ c. node-some (c .before .before .before .pre .1 .stands))

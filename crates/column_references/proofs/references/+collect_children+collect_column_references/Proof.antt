@@ -26,7 +26,7 @@ pub +collect-children+collect-column-references-spec : {M : Type 1} → statemen
     let loop = c .before .before .loop in
     let start = c .before .before .before .before .before in (
       omega (arith, start .pre .0, loop .inv .low),
-      collecting-first (start .args .used .now) (loop .used) (loop .inv) (c .before .loop-test .taken),
+      collecting-first (start .args .used .now) (loop .inv) (c .before .loop-test .taken),
     ))
     (λ c. omega arith)
     (λ c. omega arith)
@@ -34,12 +34,12 @@ pub +collect-children+collect-column-references-spec : {M : Type 1} → statemen
     let call = c .before .before .collect-column-references in
     let turn = c .before .before .before .before in
     let loop = turn .before .loop in
-    collecting-goes-on (turn .before .before .before .before .args .used .now) (loop .used) (loop .inv) (turn .loop-test .taken)
+    collecting-goes-on (turn .before .before .before .before .args .used .now) (loop .inv) (turn .loop-test .taken)
     (call .last .0) (call .kept .0) (call .result) (call .ensures))
     (λ c. c .before .loop .inv .same)
     (λ c.
     let loop = c .before .loop in
-    collecting-ends (c .before .before .before .before .args .used .now) (loop .used) (loop .inv) (c .loop-test .left)))
+    collecting-ends (c .before .before .before .before .args .used .now) (loop .inv) (c .loop-test .left)))
     λ t. node-lts.spec
     (_, short-at.Learnt, _, head-at.Learnt, _, row.Post) _ node.Post
     (λ c. node-some (c .before .before .before .pre .1 .1))

@@ -24,13 +24,6 @@ returns-2 c =
       alone e refl,
     )
 
-returns-3 : tie.Need-returns-3
-unfolding columnNode
-returns-3 c child n =
-    let p = c .before .before in
-    let two = rw (p .index .given .1) at (p .before .before .two-fields .ensures) in
-    after _ (two .2 n) ∙ after _ (two .3 n) ∙ fails 6 _ n _ (le-ltb _ _ (c .if1 .left))
-
 pub column-head-spec : {M : Type 1} → statement M
 unfolding columnNode
 column-head-spec =
@@ -42,4 +35,6 @@ column-head-spec =
     (λ c child n. stops-in-two (number 2 n _) (number 2) _
     ((rw (c .before .why .given .1) at (c .before .before .before .two-fields .ensures)) n))
     returns-2
-    returns-3)
+    (λ c child n.
+    let two = rw (c .before .before .index .given .1) at (c .before .before .before .before .two-fields .ensures) in
+    after _ (two .2 n) ∙ after _ (two .3 n) ∙ fails 6 _ n _ (le-ltb _ _ (c .if1 .left))))

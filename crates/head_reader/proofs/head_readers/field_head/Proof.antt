@@ -11,16 +11,8 @@ use Rattle.call_heads.proofs.Children.{alone}
 use Rattle.head_reader.proofs.head_readers.field_head.Statement.{statement}
 use Rattle.head_reader.proofs.head_readers.field_head.Tie as tie
 
-returns-2 : tie.Need-returns-2
-unfolding repeatExprs fieldNode childrenOf
-returns-2 c =
-    let p = c .before in
-    let two = rw (p .end .given .1) at (p .before .before .two-fields .ensures) in
-    let e = field (p .end .given .0 .0) (p .end .given .0 .1 .0) in
-    (two .0, (λ es. e), (λ child n. after _ (two .2 n) ∙ after _ (two .3 n)), alone e refl)
-
 pub field-head-spec : {M : Type 1} → statement M
-unfolding fieldNode
+unfolding repeatExprs fieldNode childrenOf
 field-head-spec =
     tie.close
     (tie.spec
@@ -29,4 +21,7 @@ field-head-spec =
     (search needs)
     (λ c child n. stops-in-two (byteUpTo 3 n _) (number 2) _
     ((rw (c .before .why .given .1) at (c .before .before .before .two-fields .ensures)) n))
-    returns-2)
+    (λ c.
+    let two = rw (c .before .end .given .1) at (c .before .before .before .two-fields .ensures) in
+    let e = field (c .before .end .given .0 .0) (c .before .end .given .0 .1 .0) in
+    (two .0, (λ es. e), (λ child n. after _ (two .2 n) ∙ after _ (two .3 n)), alone e refl)))
