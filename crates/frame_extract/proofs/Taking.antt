@@ -106,5 +106,7 @@ module _ {s : List ℕ} {f : Frame} {p : Pick} (to : List ℕ) (wide : 256 ≤ l
             (two .1)),
       )
 
-  pub extraction-ends : ExtractionFits s f p before → w + r ≤ length before
-  extraction-ends h = omega (arith, h .room, extraction-is (h .frame) (h .predicate) (h .taking) .0)
+-- It ends within the buffer.
+pub extraction-ends : {s : List ℕ} {f : Frame} {p : Pick} {before after : List ℕ} {r : ℕ} → ExtractionPut s f p before after r
+    → ExtractionFits s f p before → r ≤ length before
+extraction-ends put h = omega (arith, h .room, put (h .frame) (h .predicate) (h .taking) .0)

@@ -28,40 +28,8 @@ merge-held-requires c κs =
     let fits = at-old .before .before .before .before in
     (record { frame = good .0; fits = fits .if1 .left; stands = good .1; is = good .2 }, fits .before .before .before .before .pre)
 
-returns-2 : tie.Need-returns-2
-returns-2 c =
-    let bad = rw (c .before .enum-told .given .1) at (c .before .before .before .held-plan .ensures) in
-    let fits = c .before .before .before .before .before in
-    let start = fits .before .before .before .before in
-    let a = start .args in
-    rw (c .unfilled2 .ensures)
-    (unfilled-is (a .frame .now) (a .n) (a .plan .now) (a .scratch .now) (a .held) NoGoodPlan (λ table size.
-    no-plan (merge-call table (a .frame .now) _ (start .pre .is)) (a .n) (a .plan .now) (a .scratch .now) (fits .if1 .left) (bad .0)
-    (bad .1)))
-
-returns-3 : tie.Need-returns-3
-returns-3 c =
-    let none = rw (c .before .enum-told2 .given .1) at (c .before .before .before .held-plan .ensures) in
-    let fits = c .before .before .before .before .before in
-    let start = fits .before .before .before .before in
-    let a = start .args in
-    rw (c .unfilled3 .ensures)
-    (unfilled-is (a .frame .now) (a .n) (a .plan .now) (a .scratch .now) (a .held) PlanEmpty (λ table size.
-    empty-plan (merge-call table (a .frame .now) _ (start .pre .is)) (a .n) (a .plan .now) (a .scratch .now) (fits .if1 .left) none))
-
-returns-4 : tie.Need-returns-4
-unfolding newAfterMerge
-returns-4 c =
-    let good = rw (c .before .enum-told3 .given .1) at (c .before .before .before .held-plan .ensures) in
-    let fits = c .before .before .before .before .before in
-    let start = fits .before .before .before .before in
-    let a = start .args in
-    rw (c .unfilled4 .ensures)
-    (unfilled-is (a .frame .now) (a .n) (a .plan .now) (a .scratch .now) (a .held) AlreadyExtracted (λ table size.
-    extracted-before (merge-call table (a .frame .now) _ (start .pre .is)) (a .n) (a .plan .now) (a .scratch .now) (fits .if1 .left)
-    (λ X. refl) (good .0) (good .2)))
-
 pub merge-good-spec : {M : Type 1} → statement M
+unfolding newAfterMerge
 merge-good-spec =
     tie.close
     (tie.spec
@@ -79,11 +47,22 @@ merge-good-spec =
     (search needs)
     merge-held-requires
     (search needs)
-    returns-2
+    (λ c.
+    let bad = rw (c .before .enum-told .given .1) at (c .before .before .before .held-plan .ensures) in
+    rw (c .unfilled2 .ensures) (unfilled-is _ _ _ _ _ NoGoodPlan (λ table size.
+    no-plan (merge-call table _ _ (c .before .before .before .before .before .before .before .before .before .pre .is)) _ _ _
+    (c .before .before .before .before .before .if1 .left) (bad .0) (bad .1))))
     (search needs)
-    returns-3
+    (λ c. rw (c .unfilled3 .ensures) (unfilled-is _ _ _ _ _ PlanEmpty (λ table size.
+    empty-plan (merge-call table _ _ (c .before .before .before .before .before .before .before .before .before .pre .is)) _ _ _
+    (c .before .before .before .before .before .if1 .left)
+    (rw (c .before .enum-told2 .given .1) at (c .before .before .before .held-plan .ensures)))))
     (search needs)
-    returns-4
+    (λ c.
+    let good = rw (c .before .enum-told3 .given .1) at (c .before .before .before .held-plan .ensures) in
+    rw (c .unfilled4 .ensures) (unfilled-is _ _ _ _ _ AlreadyExtracted (λ table size.
+    extracted-before (merge-call table _ _ (c .before .before .before .before .before .before .before .before .before .pre .is)) _ _ _
+    (c .before .before .before .before .before .if1 .left) (λ X. refl) (good .0) (good .2))))
     (search needs)
     (search needs)
     (λ c. c .before .before .before .before .merge-held .ensures))

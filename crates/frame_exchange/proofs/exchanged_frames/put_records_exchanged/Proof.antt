@@ -15,20 +15,6 @@ Inv-loop out₀ src rec count n i₀ out i =
 abbrev μ-loop : tie.MeasureT-loop
 μ-loop out₀ src rec count n i₀ out i = count - i
 
-mul-n : tie.Need-mul-n Inv-loop μ-loop
-mul-n c =
-    let start = c .before .before in
-    omega (arith, start .good, records-fit (start .pre))
-
-copy-bytes-requires : tie.Need-copy-bytes-requires Inv-loop μ-loop
-copy-bytes-requires c κs = records-fit (c .before .before .before .pre)
-
-loop-holds : tie.Need-loop-holds Inv-loop μ-loop
-loop-holds c =
-    let copied = c .before .before .copy-bytes in
-    let start = c .before .before .before .before .before .before in
-    (omega arith, omega (arith, copied .kept .0, records-fit (start .pre)), refl, λ rs rest h e. e)
-
 loop-again : tie.Need-loop-again Inv-loop μ-loop
 loop-again c =
     let other = c .negated-number in
@@ -51,9 +37,11 @@ put-records-exchanged-spec =
     (tie.spec
     Inv-loop
     μ-loop
-    mul-n
-    copy-bytes-requires
-    loop-holds
+    (λ c. omega (arith, c .before .before .good, records-fit (c .before .before .pre)))
+    (λ c κs. records-fit (c .before .before .before .pre))
+    (λ c.
+    let kept = c .before .before .copy-bytes .kept .0 in
+    (omega arith, omega (arith, kept, records-fit (c .before .before .before .before .before .before .pre)), refl, λ rs rest h e. e))
     (λ c. omega arith)
     (λ c. omega arith)
     (search needs)

@@ -38,16 +38,6 @@ put-remainder-requires c κs =
     (table .child-indexes .ensures .0)
     (put .last .0) (put .result) (put .kept .0) (put .ensures)
 
-add-result : tie.Need-add-result
-add-result c =
-    let rest = c .before .before .put-remainder in
-    let put = c .before .before .before .before .before .before .put-predicate in
-    let table = c .before .before .before .before .before .before .before .before .before .before in
-    let start = table .before .before .before .before .before in
-    let ended = extraction-ends (table .child-indexes .last .0) (wide table) (table .child-indexes .ensures .0)
-    (start .args .out .now) (put .last .0) (rest .last .0) (put .result) (rest .result) (put .ensures) (rest .ensures) (start .pre) in
-    omega (arith, start .good, ended)
-
 returns : tie.Need-returns
 returns c =
     let rest = c .before .before .put-remainder in
@@ -69,6 +59,8 @@ put-extraction-spec =
     (λ c. omega (arith, sub-put-remainder c))
     (λ c. search needs)
     put-remainder-requires
-    add-result
+    (λ c.
+    let start = c .before .before .before .before .before .before .before .before .before .before .before .before .before .before .before in
+    omega (arith, start .good, extraction-ends (returns c) (start .pre)))
     (λ c. search needs)
     returns)

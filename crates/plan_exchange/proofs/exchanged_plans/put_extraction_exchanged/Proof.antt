@@ -1,7 +1,7 @@
 -- The exchanged predicate, written with its indexes kept, and the remainder where it ended.
 use native.Mathlib.Omega.{arith}
 use borrow.Author.Needs.{needs}
-use Rattle.writing.proofs.Sequence.{from-zero, part-room, part-put, ends-within, first-room, second-room, both-put, stored-room, stored-put}
+use Rattle.writing.proofs.Sequence.{from-zero, part-room, part-put, ends-within, part-starts, first-room, second-room, both-put, stored-room, stored-put}
 use Rattle.frame_exchange.specs.ExchangedBytes.{remainderExchanged}
 use Rattle.frame_exchange.proofs.FrameViews.{ExtractionView, extraction-view}
 use Rattle.plan_exchange.proofs.exchanged_plans.put_extraction_exchanged.Statement.{
@@ -19,11 +19,8 @@ sub-put-remainder-exchanged : tie.Need-sub-put-remainder-exchanged
 sub-put-remainder-exchanged c =
     let one = c .before .before .put-predicate in
     let p = c .before .before .before .before .before in
-    omega (
-      arith,
-      one .kept .0,
-      ends-within (first-room remainderExchanged (stored-room (view p) (p .before .before .before .pre))) (from-zero (one .ensures)),
-    )
+    part-starts (first-room remainderExchanged (stored-room (view p) (p .before .before .before .pre))) (from-zero (one .ensures))
+    (one .kept .0)
 
 add-result : tie.Need-add-result
 add-result c =

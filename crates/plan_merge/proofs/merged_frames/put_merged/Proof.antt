@@ -1,27 +1,17 @@
 -- `put_merged`: head and tables, and the And into the part where they ended.
 use native.Mathlib.Omega.{arith}
 use borrow.Author.Needs.{needs}
-use Rattle.writing.proofs.Sequence.{from-zero, part-room, part-put, ends-within, first-room, second-room, both-put, stored-room, stored-put}
+use Rattle.writing.proofs.Sequence.{from-zero, part-room, part-put, ends-within, part-starts, first-room, second-room, both-put, stored-room, stored-put}
 use Rattle.plan_merge.specs.Merging.{mergedExpr}
 use Rattle.plan_merge.proofs.MergeViews.{merged-view}
 use Rattle.plan_merge.proofs.merged_frames.put_merged.Statement.{statement}
 use Rattle.plan_merge.proofs.merged_frames.put_merged.Tie as tie
 
-put-tables-requires : tie.Need-put-tables-requires
-put-tables-requires c κs =
-    let start = c .before .before .before .before in
-    (first-room mergedExpr (stored-room (merged-view (start .args .f) (start .args .g)) (start .pre .0)), start .pre .1)
-
 sub-put-and : tie.Need-sub-put-and
 sub-put-and c =
     let tables = c .before .before .put-tables in
-    let start = c .before .before .before .before .before .before .before in
-    omega (
-      arith,
-      tables .kept .0,
-      ends-within (first-room mergedExpr (stored-room (merged-view (start .args .f) (start .args .g)) (start .pre .0)))
-          (from-zero (tables .ensures)),
-    )
+    part-starts (first-room mergedExpr (stored-room (merged-view _ _) (c .before .before .before .before .before .before .before .pre .0)))
+    (from-zero (tables .ensures)) (tables .kept .0)
 
 put-and-requires : tie.Need-put-and-requires
 put-and-requires c κs =
@@ -47,7 +37,7 @@ pub put-merged-spec : {M : Type 1} → statement M
 put-merged-spec =
     tie.close
     (tie.spec
-    put-tables-requires
+    (λ c κs. let p = c .before .before .before .before .pre in (first-room mergedExpr (stored-room (merged-view _ _) (p .0)), p .1))
     sub-put-and
     (λ c. omega (arith, sub-put-and c))
     (search needs)

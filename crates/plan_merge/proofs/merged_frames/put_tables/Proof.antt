@@ -27,9 +27,9 @@ put-tables-spec =
     second-room (rest-room (tables-view _ _) fits (head .ensures) (head .kept .0)) (held .ensures) (held .kept .0))
     (search needs)
     (λ c.
-    let head = c .before .before .before .before .before .before .before .before .before .before .put-frame-head in
-    let fits =
-    c .before .before .before .before .before .before .before .before .before .before .before .before .before .before .before .before .before .pre .0 in
+    let at-head = c .before .before .before .before .before .before .before .before .before .before in
+    let head = at-head .put-frame-head in
+    let fits = at-head .before .before .before .before .before .before .before .pre .0 in
     let room = rest-room (tables-view _ _) fits (head .ensures) (head .kept .0) .room in
     headed-put (tables-view _ _) (head .ensures)
     (both-put (omega (arith, room)) (c .before .before .before .before .before .before .copy-at .ensures)
