@@ -7,13 +7,13 @@ use mathlib.Core.List.{List, [], _∷_, map}
 use lib.ListN.{length, take, getD, length-take, length-map}
 use lib.Seq.{take-take, getD-take}
 use borrow.Author.Tests.{lt-leb}
-use Rattle.definitions.specs.Basics.{if_then_else_, Result, refused}
+use Rattle.definitions.specs.Basics.{if_then_else_, Result, ok, refused}
 use Rattle.definitions.specs.Expression as tree
 use Rattle.definitions.specs.Encode.{planBytes}
 use Rattle.definitions.specs.Plans.{planOf}
 use Rattle.definitions.specs.Good.{AllBytes}
 use Rattle.definitions.specs.NodeTable.{NodeRecord, nodesFrom, nodeTable, beginsWith}
-use Rattle.definitions.specs.Calls.{tableFits, finish, heldPlan, extractBy, extractFilled, extract}
+use Rattle.definitions.specs.Calls.{tableFits, finish, heldPlan, newAfterExtractBy, extractBy, extractFilled, extract}
 use Rattle.theorems.proofs.ExchangeGood.{frame-length}
 use Rattle.theorems.proofs.NodeTables.{node-count, begins-exactly-by}
 use Rattle.frame_body.specs.declared.frame_bodies.Frame.{Frame}
@@ -21,7 +21,7 @@ use Rattle.expression.proofs.Placed.{fits}
 use Rattle.frame_body.proofs.Standing.{expr-stands}
 use Rattle.extraction_body.specs.Plans.{HoldsFrame}
 use Rattle.join_filter.proofs.Keeping.{held-is, plan-length, plan-size}
-use Rattle.join_filter.proofs.Refusing.{refuses}
+use Rattle.join_filter.proofs.Refusing.{refuses, extract-call, no-plan, empty-plan, extracted-before}
 use Rattle.writing.proofs.Written.{taken}
 use Rattle.node_rows.specs.Numbers.{number}
 use Rattle.node_rows.specs.Rows.{Tabled, SameIs}
@@ -78,6 +78,25 @@ unfolding extractBy
 unheld n plan scratch table e fits =
     ap (λ (p : Result tree.Plan). if tableFits table p then extractFilled n plan scratch else finish n plan scratch (refused 10)) e
     ∙ ap (λ (b : Bool). if b then extractFilled n plan scratch else finish n plan scratch (refused 10)) fits
+
+-- So where what is held is no frame: it is refused as it is without a table.
+module _ (n : ℕ) (plan scratch : List ℕ) (table : List NodeRecord) (within : n ≤ length plan) where
+  unheld-in : {r : Result tree.Plan} → planOf (take n plan) ≡ r → tableFits table r ≡ true
+      → extract n plan scratch table ≡ extractFilled n plan scratch
+  unheld-in e = unheld n plan scratch table (held-is n plan within e)
+
+  pub bad-lent : (number : ℕ) → planOf (take n plan) ≡ refused number → extract n plan scratch table ≡ refuses n plan scratch 10
+  unfolding tableFits
+  bad-lent number e = unheld-in e refl ∙ no-plan extract-call n plan scratch within number e
+
+  pub empty-lent : planOf (take n plan) ≡ ok tree.empty → extract n plan scratch table ≡ refuses n plan scratch 11
+  unfolding tableFits
+  empty-lent e = unheld-in e refl ∙ empty-plan extract-call n plan scratch within e
+
+  pub extracted-lent : (X : tree.Extraction) → planOf (take n plan) ≡ ok (tree.extracted X)
+      → extract n plan scratch table ≡ refuses n plan scratch 12
+  unfolding tableFits newAfterExtractBy
+  extracted-lent X e = unheld-in e refl ∙ extracted-before extract-call n plan scratch within (λ Y. refl) X e
 
 pub over-long : (n : ℕ) (plan : List ℕ) → length plan < n → heldPlan n plan ≡ refused 10
 unfolding heldPlan

@@ -17,35 +17,13 @@ extract-frame-requires c κs =
       frame-indexed (start .args .n) (start .args .plan .now) (good .1) (good .3),
     )
 
-bad : tie.Need-returns
-bad c =
-    let none = rw (c .enum-told .given .1) at (c .before .before .before .before .before .before .held-plan-in .ensures) in
-    let start = c .before .before .before .before .before .before .before .before .before .before .before .before .before .before in
-    let a = start .args in
-    no-plan extract-call (a .n) (a .plan .now) (a .scratch .now) (start .pre .0) (none .0) (none .1)
-
-empty : tie.Need-returns-2
-empty c =
-    let none = rw (c .enum-told2 .given .1) at (c .before .before .before .before .before .before .held-plan-in .ensures) in
-    let start = c .before .before .before .before .before .before .before .before .before .before .before .before .before .before in
-    let a = start .args in
-    empty-plan extract-call (a .n) (a .plan .now) (a .scratch .now) (start .pre .0) none
-
-extracted : tie.Need-returns-3
-unfolding newAfterExtractBy
-extracted c =
-    let good = rw (c .enum-told3 .given .1) at (c .before .before .before .before .before .before .held-plan-in .ensures) in
-    let start = c .before .before .before .before .before .before .before .before .before .before .before .before .before .before in
-    let a = start .args in
-    extracted-before extract-call (a .n) (a .plan .now) (a .scratch .now) (start .pre .0) (λ X. refl) (good .0) (good .2)
-
 pub extract-held-spec : {M : Type 1} → statement M
+unfolding newAfterExtractBy
 extract-held-spec =
     tie.close
     (tie.spec
     (λ c. search needs)
-    (λ c. let start = c .before .before .before .before .before .before .before in
-    sym (plan-length (start .args .n) (start .args .plan .now) (start .pre .0)))
+    (λ c. sym (plan-length _ _ (c .before .before .before .before .before .before .before .pre .0)))
     (λ c κs. c .before .before .before .before .before .before .before .pre .1)
     (λ c. search needs)
     (λ c. search needs)
@@ -55,15 +33,23 @@ extract-held-spec =
     (λ c. search needs)
     (λ c. search needs)
     (λ c. search needs)
-    bad
+    (λ c.
+    let none = rw (c .enum-told .given .1) at (c .before .before .before .before .before .before .held-plan-in .ensures) in
+    let fits = c .before .before .before .before .before .before .before .before .before .before .before .before .before .before .pre .0 in
+    no-plan extract-call _ _ _ fits (none .0) (none .1))
     (λ c. search needs)
     (λ c. search needs)
     (λ c. search needs)
-    empty
+    (λ c. empty-plan extract-call _ _ _
+    (c .before .before .before .before .before .before .before .before .before .before .before .before .before .before .pre .0)
+    (rw (c .enum-told2 .given .1) at (c .before .before .before .before .before .before .held-plan-in .ensures)))
     (λ c. search needs)
     (λ c. search needs)
     (λ c. search needs)
-    extracted
+    (λ c.
+    let good = rw (c .enum-told3 .given .1) at (c .before .before .before .before .before .before .held-plan-in .ensures) in
+    let fits = c .before .before .before .before .before .before .before .before .before .before .before .before .before .before .pre .0 in
+    extracted-before extract-call _ _ _ fits (λ X. refl) (good .0) (good .2))
     (λ c. search needs)
     (λ c. search needs)
     (λ c. search needs)
