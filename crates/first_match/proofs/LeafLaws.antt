@@ -34,7 +34,7 @@ module _ {s : List ℕ} {rec at : ℕ} {node : Node} (is : OfTreeIn s at (λ c t
       → CallOver s rec k records (its-call over .name) (its-call over .arguments)
   call-over over = record { entries = over .entries; stands = its-call over .stands }
 
-  pub call-framed : Framed s rec at → CallFramed s rec k
+  call-framed : Framed s rec at → CallFramed s rec k
   call-framed p = (p .0, its-call (p .2) .name, its-call (p .2) .arguments, call-over (p .2))
 
   pub call-leaf : (kind : Predicate → Bool) (r : Matching) → OfCallFrame s rec k (CallMatching kind s rec r)
@@ -45,9 +45,13 @@ module _ {s : List ℕ} {rec at : ℕ} {node : Node} (is : OfTreeIn s at (λ c t
       (answer records (it .name) (it .arguments) (call-over over))
 
   -- Its arguments are in the rows after it.
-  pub leaf-call-tabled : {numbers next : List ℕ} {i : ℕ} → Framed s rec at → OfTree s at (Tabled numbers next at i)
+  leaf-call-tabled : {numbers next : List ℕ} {i : ℕ} → Framed s rec at → OfTree s at (Tabled numbers next at i)
       → OfCall s k (λ c name. TabledAll numbers next (k .first) (i + 1))
   leaf-call-tabled p tabled = call-tabled (tabled _ (p .1) (p .2 .tree)) (its-call (p .2))
+
+  pub call-given : {numbers next : List ℕ} {i : ℕ} → Framed s rec at → OfTree s at (Tabled numbers next at i)
+      → CallFramed s rec k × OfCall s k (λ c name. TabledAll numbers next (k .first) (i + 1))
+  call-given p tabled = (call-framed p, leaf-call-tabled p tabled)
 
 -- ---- kinds that are not KNN
 

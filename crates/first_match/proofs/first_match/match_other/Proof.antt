@@ -4,7 +4,7 @@ use Rattle.node_rows.proofs.RowLaws.{tabled-within}
 use Rattle.argument_sides.specs.Frames.{OfFrame}
 use Rattle.leaf_matching.specs.Matches.{isRelation, LeafMatching}
 use Rattle.first_match.proofs.Nodes.{no-function}
-use Rattle.first_match.proofs.LeafLaws.{call-framed, leaf-call-tabled, call-leaf, relation-matched, distance-matching}
+use Rattle.first_match.proofs.LeafLaws.{call-given, call-leaf, relation-matched, distance-matching}
 use borrow.Author.Needs.{needs}
 use Rattle.first_match.proofs.first_match.match_other.Statement.{statement}
 use Rattle.first_match.proofs.first_match.match_other.Tie as tie
@@ -15,17 +15,6 @@ returns c =
     λ records t over. distance-matching over (c .match-distance-predicate .result)
     (no-function (start .args .node) (start .pre .1 .1) (over .tree) (c .before .match .keys2) records .1)
     (c .match-distance-predicate .ensures records t over)
-
-add-match-relation-predicate : tie.Need-add-match-relation-predicate
-add-match-relation-predicate c =
-    let start = c .before .before .before .before .before .before in
-    omega (arith, start .good, tabled-within (start .pre .1 .0 _ _ (start .pre .0 .2 .tree)) .0)
-
-match-relation-predicate-requires : tie.Need-match-relation-predicate-requires
-match-relation-predicate-requires c κs =
-    let start = c .before .before .before .before .before .before in
-    let told = c .before .node .given .1 in
-    (call-framed (start .pre .1 .1) told (start .pre .0), leaf-call-tabled (start .pre .1 .1) told (start .pre .0) (start .pre .1 .0))
 
 -- What `match_relation_predicate` answered, said of the leaf.
 as-relation : (c : tie.After-match-relation-predicate)
@@ -50,8 +39,11 @@ match-other-spec =
     (search needs)
     (λ c κs. let start = c .before .before .before .before in (start .pre .0, start .pre .1 .0))
     returns
-    add-match-relation-predicate
-    match-relation-predicate-requires
+    (λ c.
+    let start = c .before .before .before .before .before .before in
+    omega (arith, start .good, tabled-within (start .pre .1 .0 _ _ (start .pre .0 .2 .tree)) .0))
+    (λ c κs. let p = c .before .before .before .before .before .before .pre in call-given (p .1 .1) (c .before .node .given .1) (p .0)
+    (p .1 .0))
     (search needs)
     (search needs)
     (search needs)

@@ -3,7 +3,7 @@ use native.Mathlib.Omega.{arith}
 use Rattle.definitions.specs.Extract.{isKnn}
 use Rattle.node_rows.proofs.RowLaws.{tabled-within}
 use Rattle.first_match.proofs.Nodes.{no-function}
-use Rattle.first_match.proofs.LeafLaws.{call-framed, leaf-call-tabled, call-leaf}
+use Rattle.first_match.proofs.LeafLaws.{call-given, call-leaf}
 use borrow.Author.Needs.{needs}
 use Rattle.first_match.proofs.first_match.match_wanted.Statement.{statement}
 use Rattle.first_match.proofs.first_match.match_wanted.Tie as tie
@@ -13,17 +13,6 @@ returns c =
     let start = c .before .before .before .before .before .before in
     λ records t over. rw (c .before .enum-told2 .given .1) (no-function (start .args .node) (start .pre .1 .1) (over .tree)
     (c .match2 .keys2) records .0)
-
-add-match-knn-predicate : tie.Need-add-match-knn-predicate
-add-match-knn-predicate c =
-    let start = c .before .before .before .before .before .before .before .before in
-    omega (arith, start .good, tabled-within (start .pre .1 .0 _ _ (start .pre .0 .2 .tree)) .0)
-
-match-knn-predicate-requires : tie.Need-match-knn-predicate-requires
-match-knn-predicate-requires c κs =
-    let start = c .before .before .before .before .before .before .before .before in
-    let told = c .before .node .given .1 in
-    (call-framed (start .pre .1 .1) told (start .pre .0), leaf-call-tabled (start .pre .1 .1) told (start .pre .0) (start .pre .1 .0))
 
 returns-3 : tie.Need-returns-3
 returns-3 c = λ records t over.
@@ -41,7 +30,10 @@ match-wanted-spec =
     (search needs)
     (search needs)
     returns
-    add-match-knn-predicate
-    match-knn-predicate-requires
+    (λ c.
+    let start = c .before .before .before .before .before .before .before .before in
+    omega (arith, start .good, tabled-within (start .pre .1 .0 _ _ (start .pre .0 .2 .tree)) .0))
+    (λ c κs. let p = c .before .before .before .before .before .before .before .before .pre in call-given (p .1 .1)
+    (c .before .node .given .1) (p .0) (p .1 .0))
     (λ c records t over. rw (c .before .enum-told .given .1) (c .match-other .ensures records t over))
     returns-3)

@@ -7,20 +7,6 @@ use Rattle.frame_body.proofs.Standing.{expr-spans}
 use Rattle.predicate_reader.proofs.held_predicates.both.Statement.{statement}
 use Rattle.predicate_reader.proofs.held_predicates.both.Tie as tie
 
-returns-3 : tie.Need-returns-3
-unfolding argument
-returns-3 c =
-    let left = rw (c .before .before .before .before .before .right .given .1) at
-    (c .before .before .before .before .before .before .before .argument .ensures) in
-    let right = rw (c .before .next .given .1) at (c .before .before .before .argument2 .ensures) in (
-      right .2 .bytes .within,
-      left .0,
-      right .0,
-      expr-spans (left .2),
-      expr-spans (right .2),
-      λ next. after _ (left .1) ∙ after _ (right .1),
-    )
-
 pub both-spec : {M : Type 1} → statement M
 unfolding argument
 both-spec =
@@ -36,4 +22,14 @@ both-spec =
     (λ c next. after _ ((rw (c .before .before .before .before .before .right .given .1) at
     (c .before .before .before .before .before .before .before .argument .ensures)) .1)
     ∙ halts _ (rw (c .before .why2 .given .1) at (c .before .before .before .argument2 .ensures)))
-    returns-3)
+    (λ c.
+    let left = rw (c .before .before .before .before .before .right .given .1) at
+    (c .before .before .before .before .before .before .before .argument .ensures) in
+    let right = rw (c .before .next .given .1) at (c .before .before .before .argument2 .ensures) in (
+      right .2 .bytes .within,
+      left .0,
+      right .0,
+      expr-spans (left .2),
+      expr-spans (right .2),
+      λ next. after _ (left .1) ∙ after _ (right .1),
+    )))

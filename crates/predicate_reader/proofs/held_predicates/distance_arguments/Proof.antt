@@ -7,18 +7,6 @@ use Rattle.frame_body.proofs.Standing.{expr-spans}
 use Rattle.predicate_reader.proofs.held_predicates.distance_arguments.Statement.{statement}
 use Rattle.predicate_reader.proofs.held_predicates.distance_arguments.Tie as tie
 
-returns-3 : tie.Need-returns-3
-unfolding argument
-returns-3 c =
-    let both = rw (c .before .before .before .before .before .right .given .1) at
-    (c .before .before .before .before .before .before .before .both .ensures) in
-    let bound = rw (c .before .end .given .1) at (c .before .before .before .argument .ensures) in (
-      bound .2 .bytes .within,
-      _,
-      record { l = both .1; r = both .2; bound = bound .0; left = both .3; right = both .4; limit = expr-spans (bound .2); is = refl },
-      both .5 _ ∙ after _ (bound .1),
-    )
-
 pub distance-arguments-spec : {M : Type 1} → statement M
 unfolding argument
 distance-arguments-spec =
@@ -34,4 +22,12 @@ distance-arguments-spec =
     (λ c. (rw (c .before .before .before .before .before .right .given .1) at
     (c .before .before .before .before .before .before .before .both .ensures)) .5 _
     ∙ halts _ (rw (c .before .why2 .given .1) at (c .before .before .before .argument .ensures)))
-    returns-3)
+    (λ c.
+    let both = rw (c .before .before .before .before .before .right .given .1) at
+    (c .before .before .before .before .before .before .before .both .ensures) in
+    let bound = rw (c .before .end .given .1) at (c .before .before .before .argument .ensures) in (
+      bound .2 .bytes .within,
+      _,
+      record { l = both .1; r = both .2; bound = bound .0; left = both .3; right = both .4; limit = expr-spans (bound .2); is = refl },
+      both .5 _ ∙ after _ (bound .1),
+    )))
