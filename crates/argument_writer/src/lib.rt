@@ -1,2 +1,2 @@
-// The arguments of predicates: the one cycle that copies expressions, and tables of column indexes. Public for the crates above.
+// The arguments of predicates: the one cycle that copies expressions. Public for the crates above.
 pub mod arguments;

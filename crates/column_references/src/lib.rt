@@ -1,2 +1,2 @@
-// Which columns a remainder names. Public for the crate `pruning`.
+// Which columns a remainder names. Public for the crates `remainder_writer` and `pruning`.
 pub mod references;

@@ -1,2 +1,2 @@
-// The parts of a frame: its first byte, its columns and its expression, with arguments enough. Public for the crates that read frames and plans.
+// The parts of a frame: its first byte, its records and its expression with arguments enough. Public for the crates that read frames.
 pub mod frame_bodies;

@@ -1,4 +1,4 @@
-// The extract of a held frame. Public for the crates `call_extract` and `table_extract`.
+// The extract of a held frame. Public for the crates `call_extract`, `compared_extract` and `table_extract`.
 mod extraction;
 
 use extraction::put_extraction;

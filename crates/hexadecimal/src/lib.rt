@@ -1,2 +1,2 @@
-// Hexadecimal: bytes from the digits of a line, and lines out.
+// Hexadecimal: bytes from the digits of a line, and digits of bytes.
 pub mod hex;

@@ -1,3 +1,2 @@
-// Whether a leaf matches, and the spatial predicate that it is: a port of the three matchers of
-// rust/sedona-query-planner/src/spatial_expr_utils.rs.
+// What a matcher answers of a leaf, and what is said of it. Public for the crates of the matchers and `first_match`.
 pub mod matching;

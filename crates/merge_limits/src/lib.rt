@@ -1,2 +1,2 @@
-// The limits of a merged frame. Public for the crate `call_merge`.
+// The limits of a merged frame. Public for the crate `frame_merge`.
 pub mod limits;

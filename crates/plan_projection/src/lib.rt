@@ -1,2 +1,2 @@
-// The projection of a held extraction: first all places are found, and only then is the plan changed. Public for the crate `call_project`.
+// The projection of a held extraction: first all places are found, and only then is the plan changed. Public for the crate `row_project`.
 pub mod projecting;

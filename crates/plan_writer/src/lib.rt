@@ -1,2 +1,2 @@
-// Writing the parts of plans into lent buffers: predicates, the head of a frame.
+// Writing predicates into lent buffers.
 pub mod put_predicate;

@@ -1,4 +1,4 @@
-// The call extract with a lent table of nodes, of which it is given the numbers of the records. Public for the crate `host_cores`.
+// The call extract with a lent table of nodes, of which it is given the numbers of the records. Public for the crate `host_extract`.
 use extraction_body::extraction_bodies::Held;
 use frame_body::frame_bodies::Frame;
 use join_filter::answers::Answer;
