@@ -28,8 +28,8 @@ module _ (c : tie.After-struct-known) where
 
   few : c .before .before .before .before .before .before .args .f .nodes ≤ 1024
   few =
-      few-nodes (c .before .before .before .before .before .before .args .n) (c .before .before .before .before .before .before .args .plan .now)
-      (c .before .before .before .before .before .before .pre .0) bytes
+      let start = c .before .before .before .before .before .before in
+      few-nodes (start .args .n) (start .args .plan .now) (start .pre .0) bytes
 
   small : 3 * c .before .before .before .before .before .before .args .f .nodes ≤ c .before .before .before .before .before .before .args .n
   small =

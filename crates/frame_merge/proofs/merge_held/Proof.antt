@@ -106,7 +106,9 @@ merge-held-spec =
     returns-4
     (λ c. omega (arith, roots (c .before .before .before .before .before .before .before .before .before)))
     (λ c. omega (arith, roots (c .before .before .before .before .before .before .before .before .before)))
-    (λ c κs. let tests = c .before .before .before .before in omega (arith, tests .before .before .before .before .before .before .before .before .before .before .pre .0 .fits))
+    (λ c κs.
+    let tests = c .before .before .before .before .before .before .before in
+    omega (arith, tests .before .before .before .before .before .before .before .pre .0 .fits))
     (search needs)
     (λ c. copy-length (ready (c .before .before .before .before)))
     (λ c κs. merged-room (ready (c .before .before .before .before)))
