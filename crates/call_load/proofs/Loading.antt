@@ -24,7 +24,7 @@ use Rattle.terms.specs.declared.refusals.Refusal.the-variants.{BufferTooShort, 
 use Rattle.expression.specs.Filling.{Records, nothing, filled}
 use Rattle.expression.proofs.Placed.{fits}
 use Rattle.writing.proofs.Written.{taken}
-use Rattle.node_rows.specs.Numbers.{number, numbersFrom}
+use Rattle.node_numbers.specs.Numbers.{number, numbersFrom}
 use Rattle.node_rows.specs.Rows.{Tabled, RowHas}
 use Rattle.node_rows.proofs.RowLaws.{nodes-below, numbers-length}
 use Rattle.node_rows.proofs.OneTree.{of-tree}

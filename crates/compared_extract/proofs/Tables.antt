@@ -23,8 +23,9 @@ use Rattle.extraction_body.specs.Plans.{HoldsFrame}
 use Rattle.join_filter.proofs.Keeping.{held-is, plan-length, plan-size}
 use Rattle.join_filter.proofs.Refusing.{refuses, extract-call, no-plan, empty-plan, extracted-before}
 use Rattle.writing.proofs.Written.{taken}
-use Rattle.node_rows.specs.Numbers.{number}
-use Rattle.node_rows.specs.Rows.{Tabled, SameIs}
+use Rattle.node_numbers.specs.Numbers.{number}
+use Rattle.node_rows.specs.Rows.{Tabled}
+use Rattle.node_numbers.specs.Stores.{SameIs}
 use Rattle.node_rows.proofs.RowLaws.{numbers-length}
 use Rattle.node_rows.proofs.TableLaws.{nodes-told, numbers-tell, same-tabled}
 use Rattle.node_rows.proofs.OneTree.{of-tree}

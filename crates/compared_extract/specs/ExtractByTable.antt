@@ -7,7 +7,7 @@ use Rattle.definitions.specs.NodeTable.{NodeRecord}
 use Rattle.definitions.specs.Calls.{extract}
 use Rattle.join_filter.specs.Outcomes.{OutcomeIs}
 use Rattle.join_filter.specs.declared.answers.Answer.{Answer}
-use Rattle.node_rows.specs.Numbers.{number}
+use Rattle.node_numbers.specs.Numbers.{number}
 
 -- The row has the numbers of the first `count` records of the table.
 pub record Begins (count : ℕ) (row : List ℕ) (table : List NodeRecord) : Type 0 where

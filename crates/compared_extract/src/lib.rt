@@ -2,7 +2,7 @@
 use frame_body::frame_bodies::Frame;
 use frame_extract::extract_frame;
 use join_filter::answers::Answer;
-use node_rows::numbers::same_numbers;
+use node_numbers::numbers::same_numbers;
 use terms::refusals::Refusal;
 ghost use Rattle.extraction_body.specs.Plans.{HoldsFrame};
 ghost use Rattle.frame_extract.specs.FrameRows.{Indexed};

@@ -21,7 +21,7 @@ use Rattle.expression.specs.Leaves.{Both, NodeIs}
 use Rattle.expression.specs.declared.leaves.Node.{Node}
 use Rattle.expression.specs.declared.leaves.Node.the-variants as node
 use Rattle.expression.proofs.Standing.{node-some, first-stands, rest-stands}
-use Rattle.node_rows.specs.Numbers.{endAt}
+use Rattle.node_numbers.specs.Numbers.{endAt}
 use Rattle.node_rows.specs.Rows.{Tabled}
 use Rattle.node_rows.proofs.RowLaws.{tabled-end, tabled-next, tabled-within}
 use Rattle.node_rows.proofs.IndexLaws.{left-tabled, right-tabled}

@@ -15,7 +15,7 @@ use expression::leaves::Node;
 use expression::leaves::node_at;
 use knn_matching::knn::match_knn_predicate;
 use leaf_matching::matching::Matching;
-use node_rows::numbers::end_of;
+use node_numbers::numbers::end_of;
 use relation_matching::relation::match_relation_predicate;
 use sedona_query_planner::spatial_predicate::SpatialPredicate;
 

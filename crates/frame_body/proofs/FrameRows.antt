@@ -14,12 +14,12 @@ use Rattle.definitions.specs.Basics.{Result}
 use Rattle.definitions.specs.Readers.{read, byte}
 use Rattle.expression.specs.Nodes.{OfTree}
 use Rattle.leaf_arity.specs.Arities.{Listed}
-use Rattle.node_rows.specs.Numbers.{startAt}
+use Rattle.node_numbers.specs.Numbers.{startAt}
 use Rattle.node_rows.specs.Rows.{Tabled}
 use Rattle.node_rows.proofs.IndexLaws.{indexed}
 use Rattle.node_rows.proofs.NodeBytes.{nodes-by-bytes}
 use Rattle.node_rows.proofs.OneTree.{of-tree}
-use Rattle.reading.specs.Nodes.{Lent}
+use Rattle.node_walk.specs.Nodes.{Lent}
 use Rattle.theorems.proofs.ReaderLaws.{step}
 use Rattle.theorems.proofs.InverseFrame.{opened}
 use Rattle.frame_body.specs.declared.frame_bodies.Frame.{Frame}

@@ -8,7 +8,7 @@ use Rattle.definitions.specs.Expression.{Expr}
 use Rattle.definitions.specs.Decode.{Columns, indexBelow}
 use Rattle.expression.specs.Places.{Holds}
 use Rattle.expression.specs.Nodes.{Stands, Spans, Tree}
-use Rattle.reading.specs.Places.{ExprAt}
+use Rattle.node_walk.specs.Places.{ExprAt}
 use Rattle.expression.specs.Places.{Between}
 use Rattle.frame_body.specs.Frames.{FrameAt}
 use Rattle.frame_body.specs.declared.frame_bodies.Frame.{Frame}

@@ -15,11 +15,11 @@ use Rattle.theorems.proofs.ReaderLaws.{after, halts, passes, fails}
 use Rattle.field_reader.specs.declared.field_readers.Field.{Field}
 use Rattle.field_reader.specs.declared.field_readers.Field.the-variants.{Value, Refused}
 use Rattle.field_reader.specs.Fields.{FieldIs, ReadsAt}
-use Rattle.reading.specs.Places.{ExprAt}
+use Rattle.node_walk.specs.Places.{ExprAt}
 use Rattle.frame_body.specs.Frames.{FrameAt, firstOf, opening}
 use Rattle.field_reader.proofs.Reading.{within, below, above}
 use Rattle.frame_body.proofs.Recorded.{recorded}
-use Rattle.reading.proofs.Standing.{bytes-from, between}
+use Rattle.node_walk.proofs.Standing.{bytes-from, between}
 
 -- Records and an expression that were read one after the other are a frame there.
 pub frame-stands : (s : List ℕ) (first root next columns many levels : ℕ) (rs : List Record) (x : Expr) → AllBytes s → first ≤ length s

@@ -12,7 +12,7 @@ use Rattle.definitions.specs.Readers.{read, stopped, Reader, _>>=_, _>>_, requi
 use Rattle.definitions.specs.Decode.{indexBelow, fields}
 use Rattle.definitions.specs.Good.{nodes, depth}
 use Rattle.terms.specs.Refusals.{numberOf}
-use Rattle.reading.specs.Places.{ExprAt}
+use Rattle.node_walk.specs.Places.{ExprAt}
 use Rattle.node_rows.specs.Rows.{Tabled}
 use Rattle.expression.specs.Places.{Between}
 use Rattle.frame_body.specs.declared.frame_bodies.Frame.{Frame}

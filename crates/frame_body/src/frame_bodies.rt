@@ -5,7 +5,7 @@ use field_reader::field_readers::Skipped;
 use field_reader::field_readers::byte;
 use leaf_arity::arity::Arity;
 use leaf_arity::arity::check_arity;
-use reading::walk::Walked;
+use node_walk::walk::Walked;
 use reading::walk::expression;
 use reading::walk::expression_in;
 use record_reader::column_records::record_count;
@@ -18,7 +18,7 @@ ghost use Rattle.definitions.specs.Decode as decode;
 ghost use Rattle.definitions.specs.Leaves.{arity};
 ghost use Rattle.expression.specs.Nodes.{Tree, OfTree};
 ghost use Rattle.field_reader.specs.Fields.{FieldIs, SkippedIs};
-ghost use Rattle.reading.specs.Nodes.{Lent};
+ghost use Rattle.node_walk.specs.Nodes.{Lent};
 ghost use Rattle.frame_body.specs.Frames.{BodyIs, BodyIn, firstOf, opening};
 
 // A physical frame: how many records it has, where they start, where its expression does, and how many nodes and levels that has.

@@ -2,7 +2,7 @@
 use call_heads::call_heads::Columns;
 use field_reader::field_readers::Skipped;
 use leaf_arity::by_rows::arity_by_rows;
-use reading::walk::Walked;
+use node_walk::walk::Walked;
 use reading::walk::expression;
 use terms::refusals::Refusal;
 ghost use Prim.Native.Nat.{_≤_};

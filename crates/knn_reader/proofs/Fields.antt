@@ -13,7 +13,7 @@ use Rattle.theorems.proofs.Inverse.{byte-up-to-back, number-back}
 use Rattle.theorems.proofs.InversePlan.{k-back}
 use Rattle.sedona_query_planner.specs.Predicates.{flag, tiesNumbered}
 use Rattle.field_reader.specs.Fields.{ReadsAt}
-use Rattle.reading.proofs.Standing.{bytes-from}
+use Rattle.node_walk.proofs.Standing.{bytes-from}
 
 pub up-to : (s : List ℕ) (at next value most : ℕ) → ReadsAt s at next value (byteUpTo most) → value ≤ most
 up-to s at next value most reads = byte-up-to-back most 0 0 value (drop at s) (drop next s) (reads 0) .1

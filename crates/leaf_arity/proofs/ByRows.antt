@@ -19,7 +19,7 @@ use Rattle.expression.specs.declared.leaves.Called.{Called}
 use Rattle.expression.proofs.Placed.{back}
 use Rattle.expression.proofs.Standing.{first-stands, rest-stands}
 use Rattle.expression.proofs.AndLeaves.{binary-leaf, call-leaf, plain-leaf, all-append}
-use Rattle.node_rows.specs.Numbers.{number, startAt, nextsFrom, rowNexts}
+use Rattle.node_numbers.specs.Numbers.{number, startAt, nextsFrom, rowNexts}
 use Rattle.node_rows.specs.Rows.{Tabled, TabledAll}
 use Rattle.node_rows.proofs.RowLaws.{tabled-start, tabled-next, tabled-first, tabled-rest, nodes-below}
 use Rattle.node_rows.proofs.OneTree.{of-tree}

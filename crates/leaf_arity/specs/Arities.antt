@@ -7,7 +7,7 @@ use Rattle.definitions.specs.Expression.{Expr, and}
 use Rattle.definitions.specs.Good.{nodes}
 use Rattle.definitions.specs.Leaves.{arity}
 use Rattle.expression.specs.Nodes.{Tree, OfTree}
-use Rattle.node_rows.specs.Numbers.{startAt}
+use Rattle.node_numbers.specs.Numbers.{startAt}
 use Rattle.node_rows.specs.Rows.{Tabled}
 use Rattle.leaf_arity.specs.declared.arity.Arity.{Arity}
 use Rattle.leaf_arity.specs.declared.arity.Arity.the-variants.{Enough, Short}

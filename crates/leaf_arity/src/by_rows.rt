@@ -6,7 +6,7 @@ ghost use Rattle.definitions.specs.Good.{nodes};
 ghost use Rattle.definitions.specs.Leaves.{leafArity, arity};
 ghost use Rattle.expression.specs.Nodes.{OfTree};
 ghost use Rattle.expression.specs.Leaves.{Pair, OfPair};
-ghost use Rattle.node_rows.specs.Numbers.{startAt};
+ghost use Rattle.node_numbers.specs.Numbers.{startAt};
 ghost use Rattle.node_rows.specs.Rows.{TabledAll};
 ghost use Rattle.leaf_arity.specs.Arities.{Listed, PassedIs};
 use super::arity::Arity;
@@ -14,7 +14,7 @@ use super::arity::enough_arguments;
 use super::arity::enough_to_measure;
 use expression::leaves::Node;
 use expression::leaves::node_at;
-use node_rows::numbers::start_of;
+use node_numbers::numbers::start_of;
 use sedona_expr::utils::Compared;
 use sedona_expr::utils::comparison;
 

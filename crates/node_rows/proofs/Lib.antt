@@ -1,5 +1,4 @@
 -- Laws that several proofs use.
-pub mod NumberLaws
 pub mod RowLaws
 pub mod IndexLaws
 pub mod CollectWalk

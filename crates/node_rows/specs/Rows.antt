@@ -1,9 +1,8 @@
 -- Request 6 of document 02: rows that hold the nodes of an expression. (Ours.)
-use Prim.Native.Nat.{ℕ, _+_, _≤_, _<_}
+use Prim.Native.Nat.{ℕ, _+_, _≤_}
 use mathlib.Core.Path.{_≡_}
-use mathlib.Core.Bool.{Bool, true, false}
 use mathlib.Core.List.{List, _++_, map}
-use lib.ListN.{length, take, drop, getD, set}
+use lib.ListN.{length, take, drop}
 use Rattle.definitions.specs.Expression.{Expr, Exprs, cons}
 use Rattle.definitions.specs.Encode.{exprBytes, exprsBytes}
 use Rattle.definitions.specs.Decode.{Columns}
@@ -13,7 +12,7 @@ use Rattle.expression.specs.Places.{Holds}
 use Rattle.expression.specs.Nodes.{Stands, Row}
 use Rattle.expression.specs.Filling.{Records}
 use Rattle.writing.specs.Written.{WroteAt}
-use Rattle.node_rows.specs.Numbers.{number, numbersFrom, rowNumbers, nextsFrom, rowNexts}
+use Rattle.node_numbers.specs.Numbers.{number, numbersFrom, rowNumbers, nextsFrom, rowNexts}
 use Rattle.node_rows.specs.declared.collecting.Passed.{Passed}
 use Rattle.node_rows.specs.declared.pairs.Two.{Two}
 
@@ -86,17 +85,6 @@ pub record CollectedAll (at i : ℕ) (numbers next numbered followed : List ℕ)
   pub own : WroteAt i (rowNumbers at ts) numbers numbered (r .index)
   pub after : WroteAt i (rowNexts i ts) next followed (r .index)
 
--- A node's number and the index after it fit, where the rows have its place.
-pub record Storable (numbers next : List ℕ) (i kind start end after : ℕ) : Type 0 where
-  pub followed : length numbers ≤ length next
-  pub fits : i < length numbers → (kind < 7) × (start < 16384) × (end < 32768)
-  pub few : after < 65536
-
--- They were stored there.
-abbrev pub Stored : (numbers next : List ℕ) (i : ℕ) → NodeRecord → (after : ℕ) → (numbered followed : List ℕ) → Type 0
-Stored numbers next i node after numbered followed =
-    i < length numbers → (numbered ≡ set numbers i (number node)) × (followed ≡ set next i after)
-
 -- ---- a row of its own
 
 -- Records stand there.
@@ -112,10 +100,3 @@ RowIs s root count before after =
 abbrev pub RowHas : List ℕ → (root count : ℕ) → (row : List ℕ) → Type 0
 RowHas s root count row =
     (count ≤ length row) × ((records : List NodeRecord) → Records s root count records → take count row ≡ map number records)
-
--- ---- rows that are compared
-
--- Whether the first `count` of both are equal.
-abbrev pub SameIs : (a b : List ℕ) (count : ℕ) → Bool → Type 0
-SameIs a b count true = take count a ≡ take count b
-SameIs a b count false = (k : ℕ) × (k < count) × (getD a k 0 ≡ getD b k 0 → ⊥)

@@ -5,7 +5,7 @@ use field_reader::field_readers::byte_up_to;
 use knn_reader::knn_fields::Flagged;
 use knn_reader::knn_fields::k_field;
 use knn_reader::knn_fields::knn_flags;
-use reading::walk::Walked;
+use node_walk::walk::Walked;
 use reading::walk::expression;
 use record_reader::column_records::Sided;
 use record_reader::column_records::side_up_to;
@@ -20,7 +20,7 @@ ghost use Prim.Native.Nat.{_≤_};
 ghost use lib.ListN.{length};
 ghost use Rattle.definitions.specs.Decode as decode;
 ghost use Rattle.terms.specs.Sides.{joinSide};
-ghost use Rattle.reading.specs.Places.{ExpressionIs};
+ghost use Rattle.node_walk.specs.Places.{ExpressionIs};
 ghost use Rattle.predicate_reader.specs.Predicates.{PairIs, PredicateIs, distanceArguments};
 
 // A predicate, the place after it, and how many nodes there were up to it.

@@ -7,7 +7,7 @@ use lib.ListN.{length, length-map, take, drop}
 use lib.Seq.{take-at, length-take-le}
 use Rattle.definitions.specs.NodeTable as nodes
 use Rattle.compared_extract.specs.ExtractByTable.{lentCount, RowOf}
-use Rattle.node_rows.specs.Numbers.{number}
+use Rattle.node_numbers.specs.Numbers.{number}
 use Rattle.node_table.proofs.Filling.{map-take}
 use Rattle.node_table.specs.Records.{nodeOf, nodesOf, FilledIs}
 use Rattle.node_table.specs.declared.NodeRecord.{NodeRecord}

@@ -1,6 +1,6 @@
 -- The held plan is kept in the scratch, and its exchange written from there.
 use borrow.Author.Needs.{needs}
-use Rattle.reading.proofs.Standing.{all-bytes}
+use Rattle.node_walk.proofs.Standing.{all-bytes}
 use Rattle.call_exchange.proofs.Exchanging.{scratch-short, exchanges, is-exchangeable, copy-length, still-there, held-there}
 use Rattle.call_exchange.proofs.exchange_held.Statement.{statement}
 use Rattle.call_exchange.proofs.exchange_held.Tie as tie

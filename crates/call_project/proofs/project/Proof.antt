@@ -1,7 +1,7 @@
 -- Each refusal is the definition's; a held extraction is projected.
 use borrow.Author.Needs.{needs}
 use mathlib.Core.Path.{sym}
-use Rattle.reading.proofs.Standing.{all-bytes}
+use Rattle.node_walk.proofs.Standing.{all-bytes}
 use Rattle.join_filter.proofs.Keeping.{plan-length}
 use Rattle.join_filter.proofs.Refusing.{no-room-for-n, no-plan, empty-plan}
 use Rattle.row_project.proofs.ProjectCall.{project-call, frame-held, holds-of}

@@ -11,8 +11,8 @@ use borrow.Author.Needs.{needs}
 use borrow.Author.Tests.{ltb-true, ltb-false}
 use Rattle.definitions.specs.Good.{AllBytes}
 use Rattle.definitions.specs.NodeTable.{NodeRecord}
-use Rattle.reading.proofs.Standing.{all-bytes}
-use Rattle.node_rows.specs.Rows.{SameIs}
+use Rattle.node_walk.proofs.Standing.{all-bytes}
+use Rattle.node_numbers.specs.Stores.{SameIs}
 use Rattle.compared_extract.specs.ExtractByTable.{Begins, RowOf}
 use Rattle.frame_extract.proofs.Collecting.{few-nodes, small-nodes}
 use Rattle.compared_extract.proofs.Tables.{row-begins, row-long, short-refused, own-long, same-fits, other-refused, row-indexed}

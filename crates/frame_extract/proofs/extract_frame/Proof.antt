@@ -3,7 +3,7 @@ use borrow.Author.Needs.{needs}
 use mathlib.Core.Path.{sym}
 use lib.ListN.{take}
 use Rattle.first_match.specs.Picks.{TakenIs}
-use Rattle.reading.proofs.Standing.{all-bytes}
+use Rattle.node_walk.proofs.Standing.{all-bytes}
 use Rattle.frame_extract.proofs.extract_frame.Statement.{statement}
 use Rattle.frame_extract.proofs.extract_frame.Tie as tie
 use Rattle.join_filter.proofs.Keeping.{plan-length, kept-length}

@@ -5,7 +5,7 @@ use native.Mathlib.Omega.{arith}
 use mathlib.Core.Path.{_≡_, refl, sym, _∙_}
 use mathlib.Core.Bool.{false}
 use lib.ListN.{length}
-use Rattle.reading.proofs.Standing.{all-bytes}
+use Rattle.node_walk.proofs.Standing.{all-bytes}
 use Rattle.merge_limits.specs.Together.{overTogether}
 use Rattle.frame_merge.proofs.Merging.{Both, counts, not-empty, root-bounds, too-large, scratch-short, plan-short, table-short, Ready, copy-length, merged-room, merges}
 use Rattle.frame_merge.proofs.merge_held.Statement.{statement}

@@ -1,6 +1,6 @@
 -- `exchange_number`: the exchange's answer as one number.
 use borrow.Author.Needs.{needs}
-use Rattle.reading.proofs.Standing.{all-bytes}
+use Rattle.node_walk.proofs.Standing.{all-bytes}
 use Rattle.host_answers.proofs.Numbers.{given-back}
 use Rattle.host_answers.proofs.Hosting.{call-hosted}
 use Rattle.host_answers.proofs.Lengths.{exchange-short}

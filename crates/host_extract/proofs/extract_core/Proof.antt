@@ -1,6 +1,6 @@
 -- Right because it is the extract by the table's row with its answer as one number.
 use borrow.Author.Needs.{needs}
-use Rattle.reading.proofs.Standing.{all-bytes}
+use Rattle.node_walk.proofs.Standing.{all-bytes}
 use Rattle.host_answers.proofs.Numbers.{given-back}
 use Rattle.host_answers.proofs.Hosting.{call-hosted}
 use Rattle.host_cores.proofs.CoreLaws.{extract-short}

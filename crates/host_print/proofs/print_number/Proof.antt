@@ -1,6 +1,6 @@
 -- `print_number`: the answer as one number.
 use borrow.Author.Needs.{needs}
-use Rattle.reading.proofs.Standing.{all-bytes}
+use Rattle.node_walk.proofs.Standing.{all-bytes}
 use Rattle.host_answers.proofs.Numbers.{given-back}
 use Rattle.host_answers.proofs.Lengths.{text-short, print-hosted}
 use Rattle.host_print.proofs.print_number.Statement.{statement}

@@ -37,7 +37,7 @@ use denote.Triple.Spec.{tripleOf}
 use denote.Triple.Statement.{Contract, Triple}
 use denote.Triple.Table.{cited}
 use denote.Triple.Walked.{says, walkOf, ends-at}
-use Rattle.node_rows.specs.Numbers.{number}
+use Rattle.node_numbers.specs.Numbers.{number}
 use Rattle.node_table.specs.Records.{nodesOf}
 use Rattle.node_table.specs.declared.NodeRecord.{NodeRecord}
 use Rattle.node_table.proofs.NodeRecord as T

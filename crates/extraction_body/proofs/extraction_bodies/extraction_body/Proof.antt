@@ -24,7 +24,7 @@ found : (p : tie.After-predicate)
     let a = at-position .before .before .before .before .args in
     let read = p .predicate .given .0 in
     PredicateIs (a .s .now) (at-position .position .given .0 .1 .0) (Read (read .0) (read .1 .0) (read .1 .1 .0))
-        (predicateOfKind (a .first))
+    (predicateOfKind (a .first))
 found p = rw (p .predicate .given .1) at (p .before .before .predicate-of-kind .ensures)
 
 returns-2 : tie.Need-returns-2

@@ -16,7 +16,7 @@ use Rattle.first_match.proofs.first_match.first_match.Kinds as first-ma
 use Rattle.first_match.proofs.first_match.+first_match.Lts-first_match as first-match-lts
 use Rattle.expression.proofs.leaves.node_at.Reads as node-at
 use Rattle.first_match.proofs.first_match.leaf_match.Reads as leaf-match
-use Rattle.node_rows.proofs.numbers.end_of.Reads as end-of
+use Rattle.node_numbers.proofs.numbers.end_of.Reads as end-of
 use Rattle.first_match.proofs.first_match.+first_match.{statement}
 use Rattle.first_match.proofs.first_match.+first_match.Tie.{close}
 

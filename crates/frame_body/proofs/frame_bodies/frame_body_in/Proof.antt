@@ -8,9 +8,9 @@ use native.Mathlib.Omega.{arith}
 use mathlib.Core.Path.{_∙_}
 use Rattle.definitions.specs.Decode.{indexBelow, oneRecord, recordCount, frameBody}
 use Rattle.theorems.proofs.ReaderLaws.{after, halts}
-use Rattle.reading.specs.declared.walk.Walked.the-variants as walk
-use Rattle.reading.specs.Places.{ExpressionIn}
-use Rattle.reading.proofs.Standing.{all-bytes}
+use Rattle.node_walk.specs.declared.walk.Walked.the-variants as walk
+use Rattle.node_walk.specs.Places.{ExpressionIn}
+use Rattle.node_walk.proofs.Standing.{all-bytes}
 use Rattle.frame_body.proofs.Wholes.{frame-stands}
 use Rattle.frame_body.proofs.frame_bodies.frame_body_in.Statement.{statement}
 use Rattle.frame_body.proofs.frame_bodies.frame_body_in.Tie as tie

@@ -3,7 +3,7 @@ use mathlib.Core.Path.{_∙_}
 use Rattle.definitions.specs.Decode.{kField}
 use Rattle.theorems.proofs.KLaws.{is-k, zero-no-k}
 use Rattle.theorems.proofs.ReaderLaws.{after, halts, passes, fails}
-use Rattle.reading.proofs.Standing.{all-bytes}
+use Rattle.node_walk.proofs.Standing.{all-bytes}
 use Rattle.knn_reader.proofs.Fields.{four-bytes}
 use borrow.Author.Needs.{needs}
 use Rattle.knn_reader.proofs.knn_fields.k_field.Statement.{statement}

@@ -6,7 +6,7 @@ use borrow.Author.Needs.{needs}
 use Rattle.expression.specs.Nodes.{Tree, OfTreeIn}
 use Rattle.expression.specs.Leaves.{NodeIs}
 use Rattle.expression.proofs.There.{call-there}
-use Rattle.node_rows.specs.Numbers.{startAt}
+use Rattle.node_numbers.specs.Numbers.{startAt}
 use Rattle.node_rows.proofs.RowLaws.{tabled-within}
 use Rattle.node_rows.proofs.IndexLaws.{pair-row, pair-listed}
 use Rattle.leaf_arity.proofs.ByRows.{and-passed, plain-passed, leaf-passed, binary-arity, call-arity-is}

@@ -8,7 +8,7 @@ use native.Mathlib.Omega.{arith}
 use mathlib.Core.Path.{refl, _∙_}
 use Rattle.definitions.specs.Decode.{kField, knnPredicate}
 use Rattle.theorems.proofs.ReaderLaws.{after, halts}
-use Rattle.reading.proofs.Standing.{all-bytes}
+use Rattle.node_walk.proofs.Standing.{all-bytes}
 use Rattle.knn_reader.proofs.Fields.{k-below}
 use Rattle.predicate_reader.proofs.held_predicates.knn_predicate.Statement.{statement}
 use Rattle.predicate_reader.proofs.held_predicates.knn_predicate.Tie as tie

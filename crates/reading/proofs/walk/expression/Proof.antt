@@ -1,6 +1,6 @@
 -- Rows without a place are lent, and what is said of them is left out.
 use borrow.Author.Needs.{needs}
-use Rattle.reading.proofs.Standing.{without-rows}
+use Rattle.node_walk.proofs.Standing.{without-rows}
 use Rattle.reading.proofs.walk.expression.Statement.{statement}
 use Rattle.reading.proofs.walk.expression.Tie as tie
 

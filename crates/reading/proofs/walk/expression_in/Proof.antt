@@ -1,6 +1,6 @@
 -- An expression is a node with 64 levels left, and stands where it was read.
 use borrow.Author.Needs.{needs}
-use Rattle.reading.proofs.Standing.{all-bytes, expression-stands}
+use Rattle.node_walk.proofs.Standing.{all-bytes, expression-stands}
 use Rattle.reading.proofs.walk.expression_in.Statement.{statement}
 use Rattle.reading.proofs.walk.expression_in.Tie as tie
 

@@ -12,22 +12,22 @@ use Rattle.expression.proofs.Cycles.{below}
 use Rattle.call_heads.specs.Heads.{columnsOf, depthAbove}
 use Rattle.call_heads.specs.declared.call_heads.Head.the-variants.{Children}
 use Rattle.node_rows.specs.Rows.{CollectedAll}
-use Rattle.reading.specs.Nodes.{WalkedIs, Counted, NodeHead}
-use Rattle.reading.specs.declared.walk.Walked.the-variants.{To}
-use Rattle.reading.proofs.Walks.{node-stops, InRow, row-begins, row-goes-on, row-stops, row-ends}
-use Rattle.reading.proofs.Standing.{all-bytes}
-use Rattle.reading.proofs.Storing.{Below, has-kind, storable, node-filled, lent-again}
-use Rattle.reading.proofs.walk.node.Reads as node
-use Rattle.reading.proofs.walk.node.Kinds as node-kinds
-use Rattle.reading.proofs.walk.+node+nodes.Lts-node as node-lts
-use Rattle.reading.proofs.walk.nodes.Reads as nodes
-use Rattle.reading.proofs.walk.nodes.Kinds as nodes-kinds
-use Rattle.reading.proofs.walk.+node+nodes.Lts-nodes as nodes-lts
-use Rattle.reading.proofs.walk.node_head.Reads as node-head-reads
-use Rattle.node_rows.proofs.numbers.put_node.Reads as put-node-reads
-use Rattle.reading.proofs.walk.deeper.Reads as deeper-reads
-use Rattle.reading.proofs.walk.+node+nodes.{statement}
-use Rattle.reading.proofs.walk.+node+nodes.Tie.{close}
+use Rattle.node_walk.specs.Nodes.{WalkedIs, Counted, NodeHead}
+use Rattle.node_walk.specs.declared.walk.Walked.the-variants.{To}
+use Rattle.node_walk.proofs.Walks.{node-stops, InRow, row-begins, row-goes-on, row-stops, row-ends}
+use Rattle.node_walk.proofs.Standing.{all-bytes}
+use Rattle.node_walk.proofs.Storing.{Below, has-kind, storable, node-filled, lent-again}
+use Rattle.node_walk.proofs.walk.node.Reads as node
+use Rattle.node_walk.proofs.walk.node.Kinds as node-kinds
+use Rattle.node_walk.proofs.walk.+node+nodes.Lts-node as node-lts
+use Rattle.node_walk.proofs.walk.nodes.Reads as nodes
+use Rattle.node_walk.proofs.walk.nodes.Kinds as nodes-kinds
+use Rattle.node_walk.proofs.walk.+node+nodes.Lts-nodes as nodes-lts
+use Rattle.node_walk.proofs.walk.node_head.Reads as node-head-reads
+use Rattle.node_numbers.proofs.numbers.put_node.Reads as put-node-reads
+use Rattle.node_walk.proofs.walk.deeper.Reads as deeper-reads
+use Rattle.node_walk.proofs.walk.+node+nodes.{statement}
+use Rattle.node_walk.proofs.walk.+node+nodes.Tie.{close}
 
 abbrev μ-node : Measures 3 node-kinds.ps ℕ
 μ-node κs a = 2 * (1024 - a .1 .1 .1 .1 .1 .0)

@@ -12,15 +12,16 @@ use Rattle.expression.specs.Nodes.{headBytes, childrenOf}
 use Rattle.expression.proofs.Standing.{kind-is, node-some, head-some, tree-length}
 use Rattle.call_heads.specs.Heads.{depthAbove}
 use Rattle.call_heads.specs.declared.call_heads.Head.the-variants.{Children}
-use Rattle.node_rows.specs.Numbers.{number}
-use Rattle.node_rows.specs.Rows.{Collected, CollectedAll, Storable, Stored}
+use Rattle.node_numbers.specs.Numbers.{number}
+use Rattle.node_rows.specs.Rows.{Collected, CollectedAll}
+use Rattle.node_numbers.specs.Stores.{Storable, Stored}
 use Rattle.node_rows.specs.declared.collecting.Passed.{Passed}
 use Rattle.node_rows.proofs.RowLaws.{kind-byte, kind-small, nodes-below}
 use Rattle.node_rows.proofs.CollectWalk.{collects-own}
-use Rattle.reading.specs.Nodes.{WalkedIs, NodeHead, Lent}
-use Rattle.reading.specs.declared.walk.Walked.the-variants.{To}
-use Rattle.reading.proofs.Standing.{There, node-there}
-use Rattle.reading.proofs.Walks.{its-children, node-read, node-walks}
+use Rattle.node_walk.specs.Nodes.{WalkedIs, NodeHead, Lent}
+use Rattle.node_walk.specs.declared.walk.Walked.the-variants.{To}
+use Rattle.node_walk.proofs.Standing.{There, node-there}
+use Rattle.node_walk.proofs.Walks.{its-children, node-read, node-walks}
 
 -- The children of a node were walked, and are in the rows if these have room.
 pub record Below (c : Columns) (s : List ℕ) (at levels count first many : ℕ) (numbers indexes numbers₁ indexes₁ : List ℕ)

@@ -1,9 +1,9 @@
 -- The kind, then the two limits, then the fields of that kind.
 use native.Mathlib.Omega.{arith}
 use borrow.Author.Needs.{needs}
-use Rattle.reading.proofs.Walks.{kind-stops, too-deep, too-many, below-limits}
-use Rattle.reading.proofs.walk.node_head.Statement.{statement}
-use Rattle.reading.proofs.walk.node_head.Tie as tie
+use Rattle.node_walk.proofs.Walks.{kind-stops, too-deep, too-many, below-limits}
+use Rattle.node_walk.proofs.walk.node_head.Statement.{statement}
+use Rattle.node_walk.proofs.walk.node_head.Tie as tie
 
 deep : tie.Need-returns
 deep c =

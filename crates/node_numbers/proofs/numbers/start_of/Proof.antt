@@ -1,8 +1,8 @@
 -- `start_of`: a number of 32 bits is one of 64.
 use mir.Facts.{fits-32-64}
 use borrow.Author.Needs.{needs}
-use Rattle.node_rows.proofs.numbers.start_of.Statement.{statement}
-use Rattle.node_rows.proofs.numbers.start_of.Tie as tie
+use Rattle.node_numbers.proofs.numbers.start_of.Statement.{statement}
+use Rattle.node_numbers.proofs.numbers.start_of.Tie as tie
 
 pub start-of-spec : {M : Type 1} → statement M
 start-of-spec =

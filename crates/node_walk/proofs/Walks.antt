@@ -14,8 +14,8 @@ use Rattle.definitions.specs.Readers.{read, stopped, Reader, continue, give}
 use Rattle.definitions.specs.Decode.{repeatExprs, Columns, countNode, nodeKind, nodeOfKind, node}
 use Rattle.definitions.specs.Good.{depth, depthAll}
 use Rattle.terms.specs.declared.refusals.Refusal.{Refusal}
-use Rattle.reading.specs.declared.walk.Walked.{Walked}
-use Rattle.reading.specs.declared.walk.Walked.the-variants.{To, Refused}
+use Rattle.node_walk.specs.declared.walk.Walked.{Walked}
+use Rattle.node_walk.specs.declared.walk.Walked.the-variants.{To, Refused}
 use Rattle.terms.specs.Refusals.{numberOf}
 use Rattle.expression.specs.Nodes.{childrenOf}
 use Rattle.call_heads.specs.declared.call_heads.Head.{Head}
@@ -25,7 +25,7 @@ use Rattle.call_heads.specs.Heads.{HeadIs, depthAbove}
 use Rattle.node_rows.specs.Rows.{Collected, CollectedAll}
 use Rattle.node_rows.specs.declared.collecting.Passed.{Passed}
 use Rattle.node_rows.proofs.CollectWalk.{collects-nil, collects-cons}
-use Rattle.reading.specs.Nodes.{WalkedIs, Counted, NodeHead}
+use Rattle.node_walk.specs.Nodes.{WalkedIs, Counted, NodeHead}
 use Rattle.theorems.proofs.Cases.{each}
 use Rattle.theorems.proofs.ReaderLaws.{after, halts, step, given}
 

@@ -3,8 +3,8 @@ use native.Mathlib.Omega.{arith}
 use borrow.Author.Needs.{needs}
 use mathlib.Core.Path.{refl, ap}
 use lib.ListN.{set}
-use Rattle.node_rows.proofs.numbers.put_node.Statement.{statement}
-use Rattle.node_rows.proofs.numbers.put_node.Tie as tie
+use Rattle.node_numbers.proofs.numbers.put_node.Statement.{statement}
+use Rattle.node_numbers.proofs.numbers.put_node.Tie as tie
 
 returns : tie.Need-returns
 returns c room =

@@ -1,9 +1,9 @@
 -- `node_number`: kind, start and end each have their room in it.
 use native.Mathlib.Omega.{arith}
 use borrow.Author.Needs.{needs}
-use Rattle.node_rows.proofs.NumberLaws.{number-told}
-use Rattle.node_rows.proofs.numbers.node_number.Statement.{statement}
-use Rattle.node_rows.proofs.numbers.node_number.Tie as tie
+use Rattle.node_numbers.proofs.NumberLaws.{number-told}
+use Rattle.node_numbers.proofs.numbers.node_number.Statement.{statement}
+use Rattle.node_numbers.proofs.numbers.node_number.Tie as tie
 
 returns : tie.Need-returns
 returns c =

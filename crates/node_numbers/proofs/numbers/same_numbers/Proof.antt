@@ -2,10 +2,10 @@
 use Prim.Native.Nat.{ℕ, _≤_, _-_}
 use native.Mathlib.Omega.{arith}
 use mathlib.Core.Path.{subst}
-use Rattle.node_rows.specs.Rows.{SameIs}
-use Rattle.node_rows.proofs.NumberLaws.{same-none, same-more}
-use Rattle.node_rows.proofs.numbers.same_numbers.Statement.{statement}
-use Rattle.node_rows.proofs.numbers.same_numbers.Tie as tie
+use Rattle.node_numbers.specs.Stores.{SameIs}
+use Rattle.node_numbers.proofs.NumberLaws.{same-none, same-more}
+use Rattle.node_numbers.proofs.numbers.same_numbers.Statement.{statement}
+use Rattle.node_numbers.proofs.numbers.same_numbers.Tie as tie
 
 abbrev Inv-loop : tie.InvT-loop
 Inv-loop a b count same₀ k₀ same k = (k ≤ count) × SameIs a b k same

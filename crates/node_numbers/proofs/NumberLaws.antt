@@ -10,8 +10,8 @@ use lib.Dec.{eqb}
 use native.Mathlib.Numerals.{add-one}
 use borrow.Author.Tests.{lt-ltb, eqb-true, eqb-false}
 use Rattle.definitions.specs.NodeTable.{NodeRecord}
-use Rattle.node_rows.specs.Numbers.{number}
-use Rattle.node_rows.specs.Rows.{SameIs}
+use Rattle.node_numbers.specs.Numbers.{number}
+use Rattle.node_numbers.specs.Stores.{SameIs}
 
 -- ---- one record
 

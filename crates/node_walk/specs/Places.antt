@@ -12,8 +12,8 @@ use Rattle.definitions.specs.Good.{Readable}
 use Rattle.terms.specs.Refusals.{numberOf}
 use Rattle.expression.specs.Places.{Between}
 use Rattle.node_rows.specs.Rows.{Tabled}
-use Rattle.reading.specs.declared.walk.Walked.{Walked}
-use Rattle.reading.specs.declared.walk.Walked.the-variants.{To, Refused}
+use Rattle.node_walk.specs.declared.walk.Walked.{Walked}
+use Rattle.node_walk.specs.declared.walk.Walked.the-variants.{To, Refused}
 
 -- The expression e stands from `at` up to `end`, its fields in their ranges and its depth at most 64.
 pub record ExprAt (c : Columns) (s : List ℕ) (at end : ℕ) (e : Expr) : Type 0 where

@@ -2,10 +2,10 @@
 ghost use Prim.Native.Nat.{_<_, _≤_};
 ghost use mathlib.Core.Path.{_≡_};
 ghost use lib.ListN.{length};
-ghost use Rattle.node_rows.specs.Numbers.{number, startAt, endAt};
-ghost use Rattle.node_rows.specs.Rows.{SameIs, Storable, Stored};
+ghost use Rattle.node_numbers.specs.Numbers.{number, startAt, endAt};
+ghost use Rattle.node_numbers.specs.Stores.{SameIs, Storable, Stored};
 
-pub(crate) fn node_number(kind: u8, start: usize, end: usize) -> u32
+pub fn node_number(kind: u8, start: usize, end: usize) -> u32
     requires { ⌜ (kind < 7) × (start < 16384) × (end < 32768) ⌝ }
     ensures { λ r. ⌜ r ≡ number (record { kind = kind; start = start; end = end }) ⌝ }
 {

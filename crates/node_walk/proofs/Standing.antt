@@ -12,10 +12,10 @@ use Rattle.definitions.specs.Expression.{Expr}
 use Rattle.definitions.specs.Encode.{exprBytes}
 use Rattle.definitions.specs.Readers.{read}
 use Rattle.theorems.proofs.Inverse.{NodeBack, node-back}
-use Rattle.reading.specs.declared.walk.Walked.{Walked}
-use Rattle.reading.specs.declared.walk.Walked.the-variants.{To, Refused}
-use Rattle.reading.specs.Nodes.{WalkedIs, Counted, Lent}
-use Rattle.reading.specs.Places.{ExpressionIs, ExpressionIn}
+use Rattle.node_walk.specs.declared.walk.Walked.{Walked}
+use Rattle.node_walk.specs.declared.walk.Walked.the-variants.{To, Refused}
+use Rattle.node_walk.specs.Nodes.{WalkedIs, Counted, Lent}
+use Rattle.node_walk.specs.Places.{ExpressionIs, ExpressionIn}
 use Rattle.expression.specs.Places.{Between}
 use Rattle.expression.specs.Nodes.{Stands}
 use Rattle.node_rows.specs.Rows.{Collected}

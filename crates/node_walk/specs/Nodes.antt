@@ -12,8 +12,8 @@ use Rattle.expression.specs.Nodes.{childrenOf}
 use Rattle.call_heads.specs.declared.call_heads.Head.{Head}
 use Rattle.call_heads.specs.declared.call_heads.Head.the-variants as head
 use Rattle.node_rows.specs.declared.collecting.Passed.{Passed}
-use Rattle.reading.specs.declared.walk.Walked.{Walked}
-use Rattle.reading.specs.declared.walk.Walked.the-variants as walked
+use Rattle.node_walk.specs.declared.walk.Walked.{Walked}
+use Rattle.node_walk.specs.declared.walk.Walked.the-variants as walked
 
 -- Rows that a walk over s may fill: the second is no shorter, and if there are places, the bytes are few enough for numbers.
 pub record Lent (s numbers indexes : List ℕ) : Type 0 where

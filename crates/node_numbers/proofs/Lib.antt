@@ -1,0 +1,2 @@
+-- Laws that several proofs use.
+pub mod NumberLaws
