@@ -1,7 +1,7 @@
 -- What a line gives, by its first byte and by what was decoded.
 use Prim.Native.Nat.{ℕ, zero, suc, _≤_}
 use native.Mathlib.Omega.{arith}
-use mathlib.Core.Path.{_≡_, refl, sym}
+use mathlib.Core.Path.{_≡_, refl, sym, _∙_}
 use mathlib.Core.Bool.{Bool, true, false}
 use mathlib.Core.List.{List, [], _∷_}
 use lib.ListN.{length, take, drop, getD}
@@ -14,6 +14,7 @@ use Rattle.definitions.specs.Program.{Kept, refusedLine, loadLine, logicalLine,
 use Rattle.theorems.proofs.InversePlan.{refused-not-ok}
 use Rattle.terms.specs.Refusals.{numberOf}
 use Rattle.terms.specs.declared.refusals.Refusal.{Refusal}
+use Rattle.line_answers.specs.declared.Answer.{Answer}
 use Rattle.line_answers.specs.declared.Answer.the-variants.{Refused}
 use Rattle.line_answers.specs.Answers.{keptAs, AnswerIs}
 use Rattle.line_answers.specs.Scratch.{callScratch, bytesScratch, readScratch, lineScratch}
@@ -42,19 +43,19 @@ begins (suc size) [] h k = absurd (omega arith)
 begins (suc size) (b ∷ bytes) h k = refl
 
 module _ {bytes more : List ℕ} {first : ℕ} (kept : Kept) (e : bytes ≡ first ∷ more) where
-  pub load-byte : first ≡ 1 → loadLine bytes kept ≡ lineOf bytes kept
+  load-byte : first ≡ 1 → loadLine bytes kept ≡ lineOf bytes kept
   unfolding lineOf
   load-byte is = rw (e, is)
 
-  pub logical-byte : first ≡ 2 → logicalLine bytes kept ≡ lineOf bytes kept
+  logical-byte : first ≡ 2 → logicalLine bytes kept ≡ lineOf bytes kept
   unfolding lineOf
   logical-byte is = rw (e, is)
 
-  pub extract-byte : first ≡ 0x21 → callLine extractCall (drop 1 bytes) kept ≡ lineOf bytes kept
+  extract-byte : first ≡ 0x21 → callLine extractCall (drop 1 bytes) kept ≡ lineOf bytes kept
   unfolding lineOf
   extract-byte is = rw (e, is)
 
-  pub exchange-byte : first ≡ 0x22 → callLine exchangeCall (drop 1 bytes) kept ≡ lineOf bytes kept
+  exchange-byte : first ≡ 0x22 → callLine exchangeCall (drop 1 bytes) kept ≡ lineOf bytes kept
   unfolding lineOf
   exchange-byte is = rw (e, is)
 
@@ -63,17 +64,37 @@ module _ {bytes more : List ℕ} {first : ℕ} (kept : Kept) (e : bytes ≡ firs
   other-byte a b c d = rw e (simp (ne-eqb first 1 a, ne-eqb first 2 b, ne-eqb first 0x21 c, ne-eqb first 0x22 d))
 
   -- What is left in the scratch.
-  pub extract-leaves : (s : List ℕ) → first ≡ 0x21 → callScratch extractCall (drop 1 bytes) kept s ≡ bytesScratch bytes kept s
+  extract-leaves : (s : List ℕ) → first ≡ 0x21 → callScratch extractCall (drop 1 bytes) kept s ≡ bytesScratch bytes kept s
   unfolding bytesScratch
   extract-leaves s is = rw (e, is)
 
-  pub exchange-leaves : (s : List ℕ) → first ≡ 0x22 → callScratch exchangeCall (drop 1 bytes) kept s ≡ bytesScratch bytes kept s
+  exchange-leaves : (s : List ℕ) → first ≡ 0x22 → callScratch exchangeCall (drop 1 bytes) kept s ≡ bytesScratch bytes kept s
   unfolding bytesScratch
   exchange-leaves s is = rw (e, is)
 
   pub other-leaves : (s : List ℕ) → (first ≡ 0x21 → ⊥) → (first ≡ 0x22 → ⊥) → s ≡ bytesScratch bytes kept s
   unfolding bytesScratch
   other-leaves s a b = rw e (simp (ne-eqb first 0x21 a, ne-eqb first 0x22 b))
+
+  -- Both, of a line that calls, and of one that leaves the scratch.
+  module _ (s : List ℕ) {n : ℕ} {after : List ℕ} {r : Answer} where
+    pub extract-line : {t : List ℕ} → first ≡ 0x21
+        → AnswerIs (callLine extractCall (drop 1 bytes) kept) n after r × (t ≡ callScratch extractCall (drop 1 bytes) kept s)
+        → AnswerIs (lineOf bytes kept) n after r × (t ≡ bytesScratch bytes kept s)
+    extract-line is h = (rw (← extract-byte is) (h .0), h .1 ∙ extract-leaves s is)
+
+    pub exchange-line : {t : List ℕ} → first ≡ 0x22
+        → AnswerIs (callLine exchangeCall (drop 1 bytes) kept) n after r × (t ≡ callScratch exchangeCall (drop 1 bytes) kept s)
+        → AnswerIs (lineOf bytes kept) n after r × (t ≡ bytesScratch bytes kept s)
+    exchange-line is h = (rw (← exchange-byte is) (h .0), h .1 ∙ exchange-leaves s is)
+
+    pub load-line : first ≡ 1 → AnswerIs (loadLine bytes kept) n after r
+        → AnswerIs (lineOf bytes kept) n after r × (s ≡ bytesScratch bytes kept s)
+    load-line is h = (rw (← load-byte is) h, other-leaves s (λ x. omega arith) (λ x. omega arith))
+
+    pub logical-line : first ≡ 2 → AnswerIs (logicalLine bytes kept) n after r
+        → AnswerIs (lineOf bytes kept) n after r × (s ≡ bytesScratch bytes kept s)
+    logical-line is h = (rw (← logical-byte is) h, other-leaves s (λ x. omega arith) (λ x. omega arith))
 
 -- ---- by what was decoded
 

@@ -6,39 +6,6 @@ use Rattle.call_load.proofs.load_in.Statement.{statement}
 use Rattle.call_load.proofs.load_in.Tie as tie
 use Rattle.call_load.proofs.Loading.{load-refuses, load-short, load-untabled, load-copies, none-has, frame-has}
 
-returns : tie.Need-returns
-returns c =
-    let told = c .before .before .before in
-    let call = told .before .before .before .before .before .before in
-    let good = rw (told .f .given .1) at (call .physical-frame-in .ensures) in
-    let a = call .before .before .before .before .before .before .before .args in
-    rw (c .unfilled2 .ensures) (
-      load-short (a .frame .now) (a .plan .now) (a .held) (good .0) (good .2) (c .before .if1 .taken),
-      none-has (a .frame .now) (call .physical-frame-in .last .0),
-    )
-
-returns-2 : tie.Need-returns-2
-returns-2 c =
-    let told = c .before .before .before .before in
-    let call = told .before .before .before .before .before .before in
-    let good = rw (told .f .given .1) at (call .physical-frame-in .ensures) in
-    let a = call .before .before .before .before .before .before .before .args in
-    rw (c .unfilled3 .ensures) (
-      load-untabled (a .frame .now) (a .plan .now) (a .held) (good .0) (good .2) (c .before .before .if1 .left)
-          (omega (arith, good .1 .sized, c .before .if2 .taken)),
-      none-has (a .frame .now) (call .physical-frame-in .last .0),
-    )
-
-returns-3 : tie.Need-returns-3
-returns-3 c =
-    let call = c .before .before .before .before .before .before .before .before in
-    let bad = rw (c .before .before .why .given .1) at (call .physical-frame-in .ensures) in
-    let a = call .before .before .before .before .before .before .before .args in
-    rw (c .unfilled .ensures) (
-      load-refuses (a .frame .now) (a .plan .now) (a .held) (c .before .before .why .given .0 .0) bad,
-      none-has (a .frame .now) (call .physical-frame-in .last .0),
-    )
-
 returns-4 : tie.Need-returns-4
 returns-4 c =
     let copied = c .before .before in
@@ -65,15 +32,27 @@ load-in-spec =
     (λ c κs. search needs)
     (λ c. search needs)
     (λ c. search needs)
-    returns
+    (λ c.
+    let call = c .before .before .before .before .before .before .before .before .before .physical-frame-in in
+    let good = rw (c .before .before .before .f .given .1) at (call .ensures) in
+    rw (c .unfilled2 .ensures) (load-short _ _ _ (good .0) (good .2) (c .before .if1 .taken), none-has _ (call .last .0)))
     (λ c κs. search needs)
     (λ c. search needs)
     (λ c. search needs)
-    returns-2
+    (λ c.
+    let call = c .before .before .before .before .before .before .before .before .before .before .physical-frame-in in
+    let good = rw (c .before .before .before .before .f .given .1) at (call .ensures) in
+    rw (c .unfilled3 .ensures) (
+      load-untabled _ _ _ (good .0) (good .2) (c .before .before .if1 .left) (omega (arith, good .1 .sized, c .before .if2 .taken)),
+      none-has _ (call .last .0),
+    ))
     (λ c κs. search needs)
     (λ c. search needs)
     (λ c. search needs)
-    returns-3
+    (λ c.
+    let call = c .before .before .before .before .before .before .before .before .physical-frame-in in
+    let bad = rw (c .before .before .why .given .1) at (call .ensures) in
+    rw (c .unfilled .ensures) (load-refuses _ _ _ (c .before .before .why .given .0 .0) bad, none-has _ (call .last .0)))
     (λ c. search needs)
     (λ c. search needs)
     (λ c. search needs)

@@ -49,13 +49,13 @@ pub +collect-children+collect-columns-spec : {M : Type 1} → statement M
     (λ c κs. let own = column-within (c .before .before .before .before .before .pre .1) (c .before .if1 .taken) in
     (omega (arith, own .limit), omega (arith, c .short-at .ensures, own .child)))
     (λ c.
-    let start = c .before .before .before .before .before .before in omega
-    (arith, column-within (start .pre .1) (c .before .before .if1 .taken) .entry, start .good))
+    let start = c .before .before .before .before .before .before in
+    omega (arith, column-within (start .pre .1) (c .before .before .if1 .taken) .entry, start .good))
     (λ c. column-within (c .before .before .before .before .before .before .pre .1) (c .before .before .if1 .taken) .entry)
     (λ c. omega (arith, column-within (c .before .before .before .before .before .before .pre .1) (c .before .before .if1 .taken) .limit))
     (λ c.
-    let start = c .before .before .before .before .before .before in omega
-    (arith, column-within (start .pre .1) (c .before .before .if1 .taken) .entry, start .good))
+    let start = c .before .before .before .before .before .before in
+    omega (arith, column-within (start .pre .1) (c .before .before .if1 .taken) .entry, start .good))
     (λ c. simp length-set)
     (λ c u stands.
     let read = c .before .before in

@@ -14,10 +14,12 @@ put-distance-spec =
     tie.close
     (tie.spec
     (search needs)
-    (λ c. let a = c .before .before .before .before .args in omega
-    (arith, distance-fits (a .indexes) (a .to .now) (a .src .now) (a .p) (c .before .before .before .before .pre)))
-    (λ c. let a = c .before .before .before .before .args in simp length-set
-    (distance-fits (a .indexes) (a .to .now) (a .src .now) (a .p) (c .before .before .before .before .pre)))
+    (λ c.
+    let a = c .before .before .before .before .args in
+    omega (arith, distance-fits (a .indexes) (a .to .now) (a .src .now) (a .p) (c .before .before .before .before .pre)))
+    (λ c.
+    let a = c .before .before .before .before .args in
+    simp length-set (distance-fits (a .indexes) (a .to .now) (a .src .now) (a .p) (c .before .before .before .before .pre)))
     (λ c κs.
     let a = c .before .before .before .before .before .args in
     first-room (written (a .indexes) (a .to .now) (bound (a .indexes) (a .to .now) (a .src .now) (a .p)))

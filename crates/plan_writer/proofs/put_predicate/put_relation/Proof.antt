@@ -13,8 +13,9 @@ put-relation-spec =
     tie.close
     (tie.spec
     (search needs)
-    (λ c. let a = c .before .before .before .before .args in omega
-    (arith, relation-fits (a .indexes) (a .to .now) (a .src .now) (a .p) (c .before .before .before .before .pre)))
+    (λ c.
+    let a = c .before .before .before .before .args in
+    omega (arith, relation-fits (a .indexes) (a .to .now) (a .src .now) (a .p) (c .before .before .before .before .pre)))
     (λ c κs.
     let a = c .before .before .before .before .before .args in
     stored-room (relation-view (a .indexes) (a .to .now) (a .src .now) (a .p) (c .before .relation-number .result)
