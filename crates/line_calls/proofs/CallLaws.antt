@@ -103,7 +103,7 @@ call-fits extractCall n before s (Length m) is = finish-fits (newAfterExtract n 
 call-fits exchangeCall n before s (Length m) is = finish-fits (newAfterExchange n (length s) (heldPlan n before)) n before s is
 call-fits kind n before s (CallRefused why) is = omega arith
 
-pub call-gives : (kind : Kind) (n : ℕ) (before s : List ℕ) {after t : List ℕ} (a : CallAnswer)
+call-gives : (kind : Kind) (n : ℕ) (before s : List ℕ) {after t : List ℕ} (a : CallAnswer)
     → OutcomeIs (lineCall kind n before s) n after t a → length s ≡ 16384
     → AnswerIs (callLine kind [] (keptAs n before)) n after (lineAnswer a)
 unfolding callLine
@@ -112,7 +112,7 @@ call-gives kind n before s {after} a is size =
     (answer-given a n after (call-fits kind n before s a is))
 
 -- Nothing but the scratch that it was lent is left there.
-pub call-leaves : (kind : Kind) (n : ℕ) (before s : List ℕ) {after t : List ℕ} (a : CallAnswer)
+call-leaves : (kind : Kind) (n : ℕ) (before s : List ℕ) {after t : List ℕ} (a : CallAnswer)
     → OutcomeIs (lineCall kind n before s) n after t a
     → t ≡ callScratch kind [] (keptAs n before) s
 unfolding callScratch
@@ -136,11 +136,19 @@ pub more-leave : (kind : Kind) (size : ℕ) (bytes : List ℕ) (kept : Kept) (s 
 unfolding callScratch
 more-leave kind size bytes kept s h k = rw (more-bytes size bytes h k .2) refl
 
-pub none-follow : (size : ℕ) (bytes : List ℕ) → size ≤ 1 → drop 1 (take size bytes) ≡ []
+none-follow : (size : ℕ) (bytes : List ℕ) → size ≤ 1 → drop 1 (take size bytes) ≡ []
 none-follow zero bytes h = refl
 none-follow (suc zero) [] h = refl
 none-follow (suc zero) (a ∷ bytes) h = refl
 none-follow (suc (suc size)) bytes h = absurd (omega arith)
+
+-- A line with no more bytes gives what its call answers, and leaves what it leaves.
+pub alone-gives : (kind : Kind) (size : ℕ) (bytes : List ℕ) → size ≤ 1 → (n : ℕ) (before s : List ℕ) {after t : List ℕ} (a : CallAnswer)
+    → OutcomeIs (lineCall kind n before s) n after t a → length s ≡ 16384
+    → AnswerIs (callLine kind (drop 1 (take size bytes)) (keptAs n before)) n after (lineAnswer a)
+    × (t ≡ callScratch kind (drop 1 (take size bytes)) (keptAs n before) s)
+alone-gives kind size bytes h n before s a is long =
+    rw (none-follow size bytes h) (call-gives kind n before s a is long, call-leaves kind n before s a is)
 
 -- ---- logical
 

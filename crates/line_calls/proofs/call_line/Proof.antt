@@ -1,12 +1,11 @@
 -- `call_line`: the first byte decides, as in the definition.
 use borrow.Author.Needs.{needs}
-use native.Mathlib.Omega.{arith}
-use mathlib.Core.Path.{_≡_, sym, _∙_}
+use mathlib.Core.Path.{_≡_, sym}
 use mathlib.Core.List.{_∷_}
 use lib.ListN.{take, drop, getD}
 use lib.Seq.{length-take-le}
-use Rattle.line_answers.proofs.LineLaws.{refused-line, no-bytes, begins, load-byte, logical-byte, extract-byte, exchange-byte, other-byte}
-use Rattle.line_answers.proofs.LineLaws.{none-leave, extract-leaves, exchange-leaves, other-leaves}
+use Rattle.line_answers.proofs.LineLaws.{refused-line, no-bytes, begins, other-byte, none-leave, other-leaves}
+use Rattle.line_answers.proofs.LineLaws.{load-line, logical-line, extract-line, exchange-line}
 use Rattle.line_calls.proofs.call_line.Statement.{statement}
 use Rattle.line_calls.proofs.call_line.Tie as tie
 
@@ -20,38 +19,6 @@ first c =
 
 returns : tie.Need-returns
 returns c = (rw (← no-bytes _ _ _ (c .if1 .taken)) (refused-line _ _ _), none-leave _ _ _ _ (c .if1 .taken))
-
-returns-2 : tie.Need-returns-2
-returns-2 c =
-    let at = c .before .before .before .before .before in
-    let is = at .match .keys1 in (
-      rw (← load-byte _ (first (at .before)) is) (c .before .before .load-line .ensures),
-      other-leaves _ (first (at .before)) _ (λ h. omega arith) (λ h. omega arith),
-    )
-
-returns-3 : tie.Need-returns-3
-returns-3 c =
-    let at = c .before .before in
-    let is = at .match .keys2 in (
-      rw (← logical-byte _ (first (at .before)) is) (c .logical-line .ensures _ _),
-      other-leaves _ (first (at .before)) _ (λ h. omega arith) (λ h. omega arith),
-    )
-
-returns-4 : tie.Need-returns-4
-returns-4 c =
-    let at = c .before .before .before .before .before .before .before in
-    let call = c .before .before .before .before .plan-line in (
-      rw (← extract-byte _ (first (at .before)) (at .match .keys3)) (call .ensures .0),
-      call .ensures .1 ∙ extract-leaves _ (first (at .before)) _ (at .match .keys3),
-    )
-
-returns-5 : tie.Need-returns-5
-returns-5 c =
-    let at = c .before .before .before .before .before .before .before in
-    let call = c .before .before .before .before .plan-line2 in (
-      rw (← exchange-byte _ (first (at .before)) (at .match .keys4)) (call .ensures .0),
-      call .ensures .1 ∙ exchange-leaves _ (first (at .before)) _ (at .match .keys4),
-    )
 
 returns-6 : tie.Need-returns-6
 returns-6 c =
@@ -77,13 +44,17 @@ call-line-spec =
     (λ c κs. search needs)
     (λ c. search needs)
     (λ c. search needs)
-    returns-2
+    (λ c. load-line _ (first (c .before .before .before .before .before .before)) _
+    (c .before .before .before .before .before .match .keys1)
+    (c .before .before .load-line .ensures))
     (λ c. search needs)
-    returns-3
+    (λ c. logical-line _ (first (c .before .before .before)) _ (c .before .before .match .keys2) (c .logical-line .ensures _ _))
     (λ c. search needs)
     (λ c. search needs)
-    returns-4
+    (λ c. extract-line _ (first (c .before .before .before .before .before .before .before .before)) _
+    (c .before .before .before .before .before .before .before .match .keys3) (c .before .before .before .before .plan-line .ensures))
     (λ c. search needs)
     (λ c. search needs)
-    returns-5
+    (λ c. exchange-line _ (first (c .before .before .before .before .before .before .before .before)) _
+    (c .before .before .before .before .before .before .before .match .keys4) (c .before .before .before .before .plan-line2 .ensures))
     returns-6)

@@ -4,7 +4,7 @@ use native.Mathlib.Omega.{arith}
 use Rattle.definitions.specs.Machine.{extractCall, exchangeCall}
 use Rattle.definitions.specs.Program.{lineCall}
 use Rattle.line_answers.proofs.LineLaws.{refused-line}
-use Rattle.line_calls.proofs.CallLaws.{call-gives, call-leaves, more-follow, more-leave, none-follow}
+use Rattle.line_calls.proofs.CallLaws.{alone-gives, more-follow, more-leave}
 use Rattle.line_calls.proofs.plan_line.Statement.{statement}
 use Rattle.line_calls.proofs.plan_line.Tie as tie
 
@@ -15,31 +15,8 @@ returns c =
       more-leave _ _ (a .scratch .now) _ _ (c .if1 .taken) (omega arith),
     )
 
-returns-2 : tie.Need-returns-2
-unfolding lineCall
-returns-2 c =
-    let call = c .before .before .before .before .before .extract in
-    let told = c .before .before .before .before .before .before .before .before in
-    let a = told .before .before .before .before .before .args in
-    let none = none-follow (a .size) (a .scratch .now) (told .before .before .if1 .left) in (
-      rw (c .of-call .ensures, told .enum-told .given .1, none)
-          (call-gives extractCall _ _ _ (call .result) (call .ensures) (search needs)),
-      rw (told .enum-told .given .1, none) (call-leaves extractCall _ _ _ (call .result) (call .ensures)),
-    )
-
-returns-3 : tie.Need-returns-3
-unfolding lineCall
-returns-3 c =
-    let call = c .before .before .before .before .before .exchange in
-    let told = c .before .before .before .before .before .before .before .before in
-    let a = told .before .before .before .before .before .args in
-    let none = none-follow (a .size) (a .scratch .now) (told .before .before .if1 .left) in (
-      rw (c .of-call2 .ensures, told .enum-told2 .given .1, none)
-          (call-gives exchangeCall _ _ _ (call .result) (call .ensures) (search needs)),
-      rw (told .enum-told2 .given .1, none) (call-leaves exchangeCall _ _ _ (call .result) (call .ensures)),
-    )
-
 pub plan-line-spec : {M : Type 1} → statement M
+unfolding lineCall
 plan-line-spec =
     tie.close
     (tie.spec
@@ -52,7 +29,15 @@ plan-line-spec =
     (λ c κs. search needs)
     (λ c. search needs)
     (λ c. search needs)
-    returns-2
+    (λ c.
+    rw (c .of-call .ensures, c .before .before .before .before .before .before .before .before .enum-told .given .1)
+    (alone-gives extractCall _ _ (c .before .before .before .before .before .before .before .before .before .before .if1 .left) _ _ _
+    (c .before .before .before .before .before .extract .result) (c .before .before .before .before .before .extract .ensures)
+    (search needs)))
     (λ c. search needs)
     (λ c. search needs)
-    returns-3)
+    (λ c.
+    rw (c .of-call2 .ensures, c .before .before .before .before .before .before .before .before .enum-told2 .given .1)
+    (alone-gives exchangeCall _ _ (c .before .before .before .before .before .before .before .before .before .before .if1 .left) _ _ _
+    (c .before .before .before .before .before .exchange .result) (c .before .before .before .before .before .exchange .ensures)
+    (search needs))))
