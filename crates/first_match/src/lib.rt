@@ -1,2 +1,3 @@
-// The first AND-leaf that matches, KNN alone or all kinds: part of the port of rust/sedona-query-planner/src/spatial_expr_utils.rs.
+// The first AND-leaf that matches as wanted, by KNN or by the others: part of the port of
+// rust/sedona-query-planner/src/spatial_expr_utils.rs. Public for the crate `spatial_expr_utils`.
 pub mod first_match;

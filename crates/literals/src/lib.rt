@@ -1,2 +1,2 @@
-// The literals that a frame may hold: 32 bits, their sign, and the range of each type.
+// Literals: the number that eight bytes are, and the range of each type. Public for the crates that read and match them.
 pub mod literals;
