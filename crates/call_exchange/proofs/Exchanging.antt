@@ -14,10 +14,10 @@ use Rattle.definitions.specs.Plans.{planOf}
 use Rattle.definitions.specs.Exchange.{exchangePlan}
 use Rattle.definitions.specs.Calls.{finish, newAfterExchange, exchange}
 use Rattle.definitions.specs.Good.{AllBytes}
-use Rattle.extraction_body.specs.Plans.{HeldIs}
-use Rattle.extraction_body.specs.declared.extraction_bodies.Held.{Held}
-use Rattle.extraction_body.specs.declared.extraction_bodies.Held.the-variants as there
-use Rattle.plan_exchange.specs.Exchanged.{PlanAt, HeldPlan, PlanIs}
+use Rattle.plan_reader.specs.Plans.{HeldIs}
+use Rattle.plan_reader.specs.declared.extraction_bodies.Held.{Held}
+use Rattle.plan_reader.specs.declared.extraction_bodies.Held.the-variants as there
+use Rattle.call_exchange.specs.Exchanged.{PlanAt, HeldPlan, PlanIs}
 use Rattle.call_exchange.specs.Holding.{HoldsPlan}
 use Rattle.join_filter.proofs.Refusing.{exchange-call, refuses, outcome}
 use Rattle.join_filter.proofs.Keeping.{plan-length, held-is, plan-size, kept, kept-length, kept-over}

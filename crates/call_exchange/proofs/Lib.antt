@@ -1,2 +1,5 @@
--- Laws that the proofs use.
+-- Laws.
+pub mod FrameViews
+pub mod RecordLaws
+pub mod HeldLaws
 pub mod Exchanging

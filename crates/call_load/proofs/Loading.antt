@@ -24,13 +24,13 @@ use Rattle.terms.specs.declared.refusals.Refusal.the-variants.{BufferTooShort, 
 use Rattle.expression.specs.Filling.{Records, nothing, filled}
 use Rattle.expression.proofs.Placed.{fits}
 use Rattle.writing.proofs.Written.{taken}
-use Rattle.node_numbers.specs.Numbers.{number, numbersFrom}
+use Rattle.node_rows.specs.Numbers.{number, numbersFrom}
 use Rattle.node_rows.specs.Rows.{Tabled, RowHas}
 use Rattle.node_rows.proofs.RowLaws.{nodes-below, numbers-length}
 use Rattle.node_rows.proofs.OneTree.{of-tree}
-use Rattle.frame_body.specs.Frames.{FrameAt}
-use Rattle.frame_body.specs.declared.frame_bodies.Frame as places
-use Rattle.frame_body.proofs.Standing.{expr-stands}
+use Rattle.frame_reader.specs.Frames.{FrameAt}
+use Rattle.frame_reader.specs.declared.frame_bodies.Frame as places
+use Rattle.frame_reader.proofs.Standing.{expr-stands}
 use Rattle.join_filter.specs.Outcomes.{unfilledBy}
 use Rattle.join_filter.specs.declared.answers.Answer.the-variants.{Length}
 use Rattle.call_load.specs.Loads.{LoadedIs}

@@ -1,5 +1,5 @@
 // The call load.
-use frame_body::frame_bodies::Physical;
+use frame_reader::frame_bodies::Physical;
 use frame_reader::frames::physical_frame_in;
 use join_filter::answers::Answer;
 use join_filter::answers::Loaded;
@@ -8,7 +8,7 @@ use terms::refusals::Refusal;
 use writing::copies::copy_bytes;
 ghost use mathlib.Core.Path.{_≡_};
 ghost use lib.ListN.{length};
-ghost use Rattle.frame_body.specs.Frames.{Roomy};
+ghost use Rattle.frame_reader.specs.Frames.{Roomy};
 ghost use Rattle.node_rows.specs.Rows.{RowHas};
 ghost use Rattle.call_load.specs.Loads.{LoadedIs};
 

@@ -16,12 +16,12 @@ use Rattle.definitions.specs.Printed.{printed, textOf, finishPrint, print}
 use Rattle.definitions.specs.Good.{AllBytes}
 use Rattle.theorems.proofs.InverseFrame.{frame-back}
 use Rattle.theorems.proofs.TextLength.{text-short}
-use Rattle.frame_body.specs.Frames.{FrameAt}
-use Rattle.frame_body.specs.declared.frame_bodies.Frame as places
-use Rattle.frame_body.proofs.Standing.{expr-stands}
+use Rattle.frame_reader.specs.Frames.{FrameAt}
+use Rattle.frame_reader.specs.declared.frame_bodies.Frame as places
+use Rattle.frame_reader.proofs.Standing.{expr-stands}
 use Rattle.writing.specs.Writing.{Room}
 use Rattle.writing.proofs.Written.{to-start}
-use Rattle.printed_fields.specs.Marks.{PhysicalAt}
+use Rattle.printing.specs.Marks.{PhysicalAt}
 use Rattle.printing.specs.Texts.{TextAt, TextThere, OfText, NodePrinted}
 use Rattle.printing.specs.declared.texts.Printed.{Printed}
 

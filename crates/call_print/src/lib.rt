@@ -1,5 +1,5 @@
 // The call print.
-use frame_body::frame_bodies::Physical;
+use frame_reader::frame_bodies::Physical;
 use frame_reader::frames::physical_frame;
 use join_filter::answers::Answer;
 use printing::text_size::text_size;

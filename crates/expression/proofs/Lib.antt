@@ -1,4 +1,5 @@
--- Laws that several proofs use.
+-- Laws.
+pub mod Signed
 pub mod Placed
 pub mod OfKind
 pub mod Records
@@ -10,3 +11,5 @@ pub mod EndWalk
 pub mod Parts
 pub mod There
 pub mod Cycles
+pub mod NameLaws
+pub mod WordLaws

@@ -1,7 +1,8 @@
--- What the contracts cite, in the order to read them.
+-- What the contracts cite.
 pub mod Places
 pub mod Nodes
 pub mod Filling
 pub mod Heads
 pub mod Leaves
 pub mod Cuts
+pub mod Names

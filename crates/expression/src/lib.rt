@@ -1,6 +1,8 @@
-// Walks over bytes that are known to hold an expression.
+// expression
 pub mod cuts;
 pub mod ends;
 pub mod fields;
 pub mod heads;
 pub mod leaves;
+pub mod literals;
+pub mod names;

@@ -1,19 +1,19 @@
 // Whole frames, physical and logical, the arity of AND-leaves included.
-use call_heads::call_heads::Columns;
-use field_reader::field_readers::Skipped;
-use leaf_arity::by_rows::arity_by_rows;
-use node_walk::walk::Walked;
-use reading::walk::expression;
+use super::by_rows::arity_by_rows;
+use node_reader::call_heads::Columns;
+use node_reader::expressions::expression;
+use node_reader::field_readers::Skipped;
+use node_reader::walk::Walked;
 use terms::refusals::Refusal;
 ghost use Prim.Native.Nat.{_≤_};
 ghost use lib.ListN.{length};
 ghost use Rattle.definitions.specs.Plans as plans;
-ghost use Rattle.frame_body.specs.Frames.{Roomy, PhysicalIs, PhysicalIn, LogicalIs};
-use frame_body::frame_bodies::Body;
-use frame_body::frame_bodies::Logical;
-use frame_body::frame_bodies::Physical;
-use frame_body::frame_bodies::frame_body_in;
-use frame_body::frame_bodies::opened;
+ghost use Rattle.frame_reader.specs.Frames.{Roomy, PhysicalIs, PhysicalIn, LogicalIs};
+use super::frame_bodies::Body;
+use super::frame_bodies::Logical;
+use super::frame_bodies::Physical;
+use super::frame_bodies::frame_body_in;
+use super::frame_bodies::opened;
 
 // A whole physical frame, whose nodes go into the rows.
 pub fn physical_frame_in(numbers: &mut [u32], indexes: &mut [u16], s: &[u8]) -> Physical

@@ -1,2 +1,6 @@
-// Reading whole frames, the arity of AND-leaves included: where records and expression stand, or why the frame is refused.
+// frame_reader
+pub mod arity;
+pub mod by_rows;
+pub mod column_records;
+pub mod frame_bodies;
 pub mod frames;

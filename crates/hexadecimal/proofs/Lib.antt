@@ -1,4 +1,4 @@
--- Laws that several proofs use.
+-- Laws.
 pub mod DigitLaws
 pub mod DecodeLaws
 pub mod EncodeLaws

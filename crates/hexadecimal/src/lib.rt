@@ -1,2 +1,3 @@
-// Hexadecimal: bytes from the digits of a line, and digits of bytes.
+// hexadecimal
+pub mod digit_lines;
 pub mod hex;

@@ -13,11 +13,11 @@ use Rattle.definitions.specs.Match.{sideOf, orderOf}
 use Rattle.expression.specs.Places.{part}
 use Rattle.expression.specs.Nodes.{Row, Trees}
 use Rattle.expression.specs.declared.leaves.Called.{Called}
-use Rattle.argument_sides.specs.Frames.{Over, OverAll, OverTwo, FramedTwo, OfFrameTwo, CallOver, CallFramed}
-use Rattle.argument_sides.specs.Sides.{order, GeometriesAre}
+use Rattle.leaf_matching.specs.Frames.{Over, OverAll, OverTwo, FramedTwo, OfFrameTwo, CallOver, CallFramed}
+use Rattle.leaf_matching.specs.Sides.{order, GeometriesAre}
 use Rattle.sedona_query_planner.specs.Predicates.{onChildren, ArgumentAt}
-use Rattle.argument_sides.specs.declared.sides.Geometries.{Geometries}
-use Rattle.argument_sides.proofs.Framing.{first-over, rest-over}
+use Rattle.leaf_matching.specs.declared.sides.Geometries.{Geometries}
+use Rattle.leaf_matching.proofs.Framing.{first-over, rest-over}
 use Rattle.expression.specs.Leaves.{OfCall}
 use Rattle.node_rows.specs.Rows.{TabledAll, Begin}
 use Rattle.node_rows.proofs.IndexLaws.{two-begin}

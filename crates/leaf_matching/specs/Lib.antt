@@ -1,2 +1,7 @@
--- What the contracts cite, in the order to read them.
+-- What the contracts cite.
+pub mod Literals
+pub mod Frames
+pub mod Sides
 pub mod Matches
+pub mod KnnOptions
+pub mod Distances

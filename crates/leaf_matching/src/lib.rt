@@ -1,2 +1,7 @@
-// What a matcher answers of a leaf, and what is said of it. Public for the crates of the matchers and `first_match`.
+// leaf_matching
+pub mod distance;
+pub mod knn;
+pub mod literal_arguments;
 pub mod matching;
+pub mod relation;
+pub mod sides;

@@ -1,3 +1,5 @@
--- Laws that several proofs use.
+-- Laws.
+pub mod QueryWalk
 pub mod NameMasks
 pub mod NameWalk
+pub mod Naming

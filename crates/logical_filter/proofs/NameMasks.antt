@@ -13,7 +13,7 @@ use borrow.Author.Tests.{eqb-true, eqb-false, eq-eqb, ne-eqb}
 use Rattle.definitions.specs.Basics.{if_then_else_, ascii, sameName, any}
 use Rattle.definitions.specs.Logical.{mask, spatialNames}
 use Rattle.theorems.proofs.Requests.{same-name}
-use Rattle.names.specs.Names.{position}
+use Rattle.expression.specs.Names.{position}
 
 -- ---- two lists of names
 

@@ -1,2 +1,4 @@
 -- What the contracts cite.
+pub mod QuerySides
 pub mod Logicals
+pub mod Found

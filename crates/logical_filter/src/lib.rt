@@ -1,2 +1,4 @@
-// The spatial names of a logical filter.
+// logical_filter
+pub mod call;
+pub mod knn_query_side;
 pub mod predicate_names;

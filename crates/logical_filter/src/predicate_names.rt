@@ -17,9 +17,9 @@ use expression::ends::end_children;
 use expression::ends::end_node;
 use expression::leaves::Node;
 use expression::leaves::node_at;
-use names::names::Case;
-use names::names::name_index;
-use names::names::same_name_ignore_case;
+use expression::names::Case;
+use expression::names::name_index;
+use expression::names::same_name_ignore_case;
 use sedona_expr::utils::Compared;
 use sedona_expr::utils::comparison;
 

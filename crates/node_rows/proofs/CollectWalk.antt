@@ -17,7 +17,7 @@ use Rattle.expression.specs.declared.heads.Head.{Head}
 use Rattle.expression.proofs.Standing.{tree-length, kind-is, head-some, children-stand, first-stands, rest-stands, some-children, no-children}
 use Rattle.writing.specs.Written.{WroteAt}
 use Rattle.writing.proofs.Written.{chain, nothing-wrote}
-use Rattle.node_numbers.specs.Numbers.{number, numbersFrom, rowNumbers, nextsFrom, rowNexts}
+use Rattle.node_rows.specs.Numbers.{number, numbersFrom, rowNumbers, nextsFrom, rowNexts}
 use Rattle.node_rows.specs.Rows.{Room, Fits, FitsAll, Collected, CollectedAll}
 use Rattle.node_rows.specs.declared.collecting.Passed.{Passed}
 use Rattle.node_rows.proofs.RowLaws.{nodes-split, nexts-split, nodes-below, kind-byte, kind-small, numbers-length, row-numbers-length}

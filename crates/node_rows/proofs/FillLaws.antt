@@ -6,7 +6,7 @@ use mathlib.Core.List.{List, _++_, map}
 use lib.ListN.{length, drop}
 use Rattle.definitions.specs.NodeTable.{NodeRecord}
 use Rattle.expression.specs.Nodes.{OfTree}
-use Rattle.node_numbers.specs.Numbers.{number, numbersFrom}
+use Rattle.node_rows.specs.Numbers.{number, numbersFrom}
 use Rattle.expression.specs.Filling.{Records, nothing, filled}
 use Rattle.node_rows.specs.Rows.{Fits, Collected}
 use Rattle.node_rows.specs.declared.collecting.Passed.{Passed}

@@ -14,7 +14,7 @@ use Rattle.expression.specs.declared.leaves.Called.{Called}
 use Rattle.expression.specs.declared.leaves.Node.{Node}
 use Rattle.expression.specs.declared.leaves.Node.the-variants.{Binary}
 use Rattle.expression.proofs.Standing.{children-stand, first-stands, rest-stands}
-use Rattle.node_numbers.specs.Numbers.{startAt, endAt}
+use Rattle.node_rows.specs.Numbers.{startAt, endAt}
 use Rattle.node_rows.specs.Rows.{Tabled, TabledAll, Begin, TwoAre}
 use Rattle.node_rows.specs.declared.pairs.Two.{Two}
 use Rattle.node_rows.proofs.RowLaws.{tabled-start, tabled-end, tabled-next, tabled-children, tabled-first, tabled-rest, second-tabled}

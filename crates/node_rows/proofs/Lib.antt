@@ -1,4 +1,5 @@
--- Laws that several proofs use.
+-- Laws.
+pub mod NumberLaws
 pub mod RowLaws
 pub mod IndexLaws
 pub mod CollectWalk

@@ -16,10 +16,10 @@ use Rattle.expression.specs.Nodes.{headBytes, childrenOf, kindOf}
 use Rattle.expression.proofs.Placed.{fits, first, front, back}
 use Rattle.expression.proofs.Placed as placed
 use Rattle.expression.proofs.Standing.{head-some, tree-length}
-use Rattle.node_numbers.specs.Numbers.{number, startAt, endAt, numbersFrom, rowNumbers, nextsFrom, rowNexts}
+use Rattle.node_rows.specs.Numbers.{number, startAt, endAt, numbersFrom, rowNumbers, nextsFrom, rowNexts}
 use Rattle.node_rows.specs.Rows.{Tabled, TabledAll, TwoAre}
 use Rattle.node_rows.specs.declared.pairs.Two.{Two}
-use Rattle.node_numbers.proofs.NumberLaws.{Told, number-end, number-start}
+use Rattle.node_rows.proofs.NumberLaws.{Told, number-end, number-start}
 
 -- ---- a node and its children
 

@@ -16,10 +16,10 @@ use Rattle.definitions.specs.NodeTable.{NodeRecord, nodesFrom, rowFrom}
 use Rattle.expression.specs.Places.{Holds}
 use Rattle.writing.specs.Written.{WroteAt}
 use Rattle.writing.proofs.Written.{taken}
-use Rattle.node_numbers.specs.Numbers.{number, numbersFrom}
+use Rattle.node_rows.specs.Numbers.{number, numbersFrom}
 use Rattle.node_rows.specs.Rows.{Tabled, Collected}
 use Rattle.node_rows.specs.declared.collecting.Passed.{Passed}
-use Rattle.node_numbers.proofs.NumberLaws.{Told, number-told}
+use Rattle.node_rows.proofs.NumberLaws.{Told, number-told}
 use Rattle.node_rows.proofs.RowLaws.{node-told, numbers-length}
 
 -- ---- what was collected stands in the rows

@@ -1,2 +1,4 @@
--- What the contracts cite, in the order to read them.
+-- What the contracts cite.
+pub mod Numbers
+pub mod Stores
 pub mod Rows

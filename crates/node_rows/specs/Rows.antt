@@ -12,7 +12,7 @@ use Rattle.expression.specs.Places.{Holds}
 use Rattle.expression.specs.Nodes.{Stands, Row}
 use Rattle.expression.specs.Filling.{Records}
 use Rattle.writing.specs.Written.{WroteAt}
-use Rattle.node_numbers.specs.Numbers.{number, numbersFrom, rowNumbers, nextsFrom, rowNexts}
+use Rattle.node_rows.specs.Numbers.{number, numbersFrom, rowNumbers, nextsFrom, rowNexts}
 use Rattle.node_rows.specs.declared.collecting.Passed.{Passed}
 use Rattle.node_rows.specs.declared.pairs.Two.{Two}
 

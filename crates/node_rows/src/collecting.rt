@@ -3,8 +3,8 @@ ghost use Prim.Native.Nat.{_≤_};
 ghost use lib.ListN.{length};
 ghost use Rattle.expression.specs.Nodes.{OfTree, OfTrees};
 ghost use Rattle.node_rows.specs.Rows.{Fits, FitsAll, Collected, CollectedAll, Filling, RowIs};
+use super::numbers::node_number;
 use expression::heads::head_at;
-use node_numbers::numbers::node_number;
 
 // Where a walk ended, and the index of the node that comes after it.
 pub struct Passed {

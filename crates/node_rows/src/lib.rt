@@ -1,3 +1,4 @@
-// The nodes of an expression in rows of numbers, in prefix order: each node as one number, and the index of the node after it.
+// node_rows
 pub mod collecting;
+pub mod numbers;
 pub mod pairs;

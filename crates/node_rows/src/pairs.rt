@@ -1,7 +1,7 @@
 // Two expressions in a row.
 ghost use Rattle.node_rows.specs.Rows.{TwoTabled, OfTwo, TwoAre};
-use node_numbers::numbers::end_of;
-use node_numbers::numbers::start_of;
+use super::numbers::end_of;
+use super::numbers::start_of;
 
 // Where the first starts, where it ends and the second starts, where that ends, and the index after both.
 pub struct Two {

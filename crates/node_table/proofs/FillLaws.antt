@@ -6,7 +6,7 @@ use mathlib.Core.List.{List, _++_, map, map-append}
 use lib.ListN.{length, drop, take, length-map}
 use lib.Seq.{take-at}
 use Rattle.definitions.specs.NodeTable.{NodeRecord, nodesFrom}
-use Rattle.node_numbers.specs.Numbers.{number}
+use Rattle.node_rows.specs.Numbers.{number}
 use Rattle.expression.specs.Filling.{Records, nothing, filled}
 use Rattle.node_rows.specs.Rows.{RowIs, RowHas}
 use Rattle.node_rows.proofs.RowLaws.{numbers-length}

@@ -8,8 +8,8 @@ use lib.Dec.{ltb}
 use borrow.Author.Tests.{le-ltb}
 use Rattle.definitions.specs.Basics.{if_then_else_}
 use Rattle.definitions.specs.NodeTable.{NodeRecord}
-use Rattle.node_numbers.specs.Numbers.{number}
-use Rattle.node_numbers.proofs.NumberLaws.{Told, number-told}
+use Rattle.node_rows.specs.Numbers.{number}
+use Rattle.node_rows.proofs.NumberLaws.{Told, number-told}
 use Rattle.node_rows.proofs.TableLaws.{AllTold}
 use Rattle.node_table.specs.Numbers.{numbered}
 

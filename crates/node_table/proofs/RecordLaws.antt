@@ -4,7 +4,7 @@ use Prim.Native.Nat.{ℕ}
 use mathlib.Core.List.{List, _++_, map, map-append, map-map}
 use lib.ListN.{take, drop}
 use Rattle.definitions.specs.NodeTable as definitions
-use Rattle.node_numbers.specs.Numbers.{number}
+use Rattle.node_rows.specs.Numbers.{number}
 use Rattle.node_table.specs.Numbers.{numbered}
 use Rattle.node_table.specs.Records.{nodeOf, nodesOf}
 use Rattle.node_table.specs.declared.NodeRecord.{NodeRecord}

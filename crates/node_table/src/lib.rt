@@ -5,7 +5,7 @@ ghost use mathlib.Core.Path.{_≡_};
 ghost use mathlib.Core.List.{map, _++_};
 ghost use Prim.Native.Nat.{_<_, _≤_};
 ghost use lib.ListN.{length, getD, take, drop};
-ghost use Rattle.node_numbers.specs.Numbers.{number};
+ghost use Rattle.node_rows.specs.Numbers.{number};
 ghost use Rattle.node_rows.specs.Rows.{Filling};
 ghost use Rattle.node_table.specs.Numbers.{numbered};
 ghost use Rattle.node_table.specs.Records.{nodeOf, nodesOf, FilledIs};

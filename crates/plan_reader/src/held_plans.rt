@@ -1,19 +1,19 @@
 // Held plans: nothing, a physical frame, or an extraction.
-use field_reader::field_readers::Field;
-use frame_body::frame_bodies::Frame;
-use frame_body::frame_bodies::Physical;
-use frame_body::frame_bodies::first_byte;
+use frame_reader::frame_bodies::Frame;
+use frame_reader::frame_bodies::Physical;
+use frame_reader::frame_bodies::first_byte;
 use frame_reader::frames::physical_frame;
 use frame_reader::frames::physical_frame_in;
+use node_reader::field_readers::Field;
 ghost use Rattle.definitions.specs.Basics.{mapResult};
 ghost use Rattle.definitions.specs.Expression.{extracted};
 ghost use Rattle.definitions.specs.Plans as plans;
-ghost use Rattle.frame_body.specs.Frames.{Roomy};
-ghost use Rattle.extraction_body.specs.Plans.{HeldIs, HeldIn};
-use extraction_body::extraction_bodies::Extracted;
-use extraction_body::extraction_bodies::Extraction;
-use extraction_body::extraction_bodies::Held;
-use extraction_body::extraction_bodies::extraction_body;
+ghost use Rattle.frame_reader.specs.Frames.{Roomy};
+ghost use Rattle.plan_reader.specs.Plans.{HeldIs, HeldIn};
+use super::extraction_bodies::Extracted;
+use super::extraction_bodies::Extraction;
+use super::extraction_bodies::Held;
+use super::extraction_bodies::extraction_body;
 
 // A whole extraction.
 fn whole_extraction(s: &[u8]) -> Held

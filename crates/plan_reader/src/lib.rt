@@ -1,2 +1,5 @@
-// Reading held plans: what the bytes are, and where the parts stand.
+// plan_reader
+pub mod extraction_bodies;
 pub mod held_plans;
+pub mod held_predicates;
+pub mod knn_fields;

@@ -1,2 +1,8 @@
--- Laws that several proofs use.
+-- Laws.
+pub mod Fields
+pub mod Ranges
+pub mod CopyWalk
+pub mod ArgumentLaws
+pub mod TableLaws
+pub mod ChildLaws
 pub mod PredicateLaws

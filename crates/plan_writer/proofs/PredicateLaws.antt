@@ -23,10 +23,10 @@ use Rattle.writing.specs.Written.{WroteAt}
 use Rattle.writing.specs.Writing.{Room, Both, joined}
 use Rattle.writing.proofs.Written.{chain}
 use Rattle.writing.proofs.Sequence.{stores, Headed, head-room}
-use Rattle.argument_writer.specs.Arguments.{changeOf, Stood, written, BothStood, bothWritten}
-use Rattle.frame_heads.specs.Predicates.{headOf, predicateBytes, kindOf, knnHead}
-use Rattle.argument_writer.specs.declared.arguments.ColumnIndexes.{ColumnIndexes}
-use Rattle.argument_writer.specs.declared.arguments.Argument.{Argument}
+use Rattle.plan_writer.specs.Arguments.{changeOf, Stood, written, BothStood, bothWritten}
+use Rattle.plan_writer.specs.Predicates.{headOf, predicateBytes, kindOf, knnHead}
+use Rattle.plan_writer.specs.declared.arguments.ColumnIndexes.{ColumnIndexes}
+use Rattle.plan_writer.specs.declared.arguments.Argument.{Argument}
 
 -- An argument from a place up to its end.
 abbrev argument : (start end : ℕ) → JoinSide → Argument

@@ -1,4 +1,10 @@
--- Laws that several proofs use.
+-- Laws.
+pub mod Sequences
+pub mod DecimalLaws
+pub mod NameLaws
+pub mod NodeFields
+pub mod MarkLaws
+pub mod SizeLaws
 pub mod NodeTexts
 pub mod Sizing
 pub mod PrintWalk

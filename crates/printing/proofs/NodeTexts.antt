@@ -9,7 +9,7 @@ use Rattle.definitions.specs.Expression.{Expr, column, literal, and, binary, ca
 use Rattle.definitions.specs.Printed.{decimal, printed, printedAll, printedMore}
 use Rattle.theorems.proofs.Figures.{decimal-length, digits16-length}
 use Rattle.expression.specs.Nodes.{childrenOf}
-use Rattle.printed_fields.specs.Marks.{openingOf, separatorOf, beforeOf, closingOf, ownSize}
+use Rattle.printing.specs.Marks.{openingOf, separatorOf, beforeOf, closingOf, ownSize}
 use Rattle.printing.specs.Texts.{textsFrom}
 
 -- ---- texts

@@ -16,7 +16,7 @@ use Rattle.expression.proofs.Standing.{tree-length, children-stand, first-stand
 use Rattle.writing.specs.Written.{WroteAt}
 use Rattle.writing.specs.Writing.{Room, PutsAt}
 use Rattle.writing.proofs.Written.{chain, nothing-wrote}
-use Rattle.printed_fields.specs.Marks.{openingOf, beforeOf, closingOf, PhysicalAt}
+use Rattle.printing.specs.Marks.{openingOf, beforeOf, closingOf, PhysicalAt}
 use Rattle.printing.specs.Texts.{textsFrom, PrintIs, NodePrinted, RowFits, RowPrinted}
 use Rattle.printing.specs.declared.texts.Printed.{Printed}
 use Rattle.printing.proofs.NodeTexts.{node-text}

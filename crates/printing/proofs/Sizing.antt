@@ -14,7 +14,7 @@ use Rattle.expression.specs.Nodes.{headBytes, childrenOf, Tree, OfTree}
 use Rattle.expression.specs.Heads.{HeadIs}
 use Rattle.expression.specs.declared.heads.Head.{Head}
 use Rattle.expression.proofs.Standing.{head-children, children-in-range, node-some, after-head}
-use Rattle.printed_fields.specs.Marks.{ownSize, PhysicalAt, Counted, OfCounted}
+use Rattle.printing.specs.Marks.{ownSize, PhysicalAt, Counted, OfCounted}
 use Rattle.printing.specs.Texts.{RowToEnd, TextThere, OfText}
 use Rattle.printing.proofs.NodeTexts.{sizes, node-size}
 

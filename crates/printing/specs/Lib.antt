@@ -1,2 +1,3 @@
 -- What the contracts cite.
+pub mod Marks
 pub mod Texts

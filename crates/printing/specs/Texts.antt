@@ -10,7 +10,7 @@ use Rattle.definitions.specs.Good.{InRangeAll}
 use Rattle.definitions.specs.Printed.{printed}
 use Rattle.expression.specs.Nodes.{Row}
 use Rattle.writing.specs.Written.{WroteAt}
-use Rattle.printed_fields.specs.Marks.{beforeOf, PhysicalAt}
+use Rattle.printing.specs.Marks.{beforeOf, PhysicalAt}
 use Rattle.printing.specs.declared.texts.Printed.{Printed}
 
 -- ---- the length

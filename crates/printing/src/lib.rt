@@ -1,3 +1,8 @@
-// An expression as text for the console: how long the text is, and the text.
+// printing
+pub mod decimals;
+pub mod fields;
+pub mod marks;
+pub mod openings;
+pub mod sizes;
 pub mod text_size;
 pub mod texts;

@@ -3,8 +3,8 @@ ghost use mathlib.Core.Path.{_≡_};
 ghost use lib.ListN.{length};
 ghost use Rattle.definitions.specs.Printed.{printed};
 ghost use Rattle.printing.specs.Texts.{TextThere, OfText};
+use super::sizes::own_size;
 use expression::heads::head_at;
-use printed_sizes::sizes::own_size;
 
 // How many characters the expression has that stands from a place up to the end: those of its nodes, one after another.
 pub fn text_size(src: &[u8], at: usize) -> usize

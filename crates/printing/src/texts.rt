@@ -1,12 +1,12 @@
 // The text of an expression.
 ghost use Rattle.definitions.specs.Printed as definitions;
 ghost use Rattle.writing.specs.Writing.{Room};
-ghost use Rattle.printed_fields.specs.Marks.{PhysicalAt};
+ghost use Rattle.printing.specs.Marks.{PhysicalAt};
 ghost use Rattle.printing.specs.Texts.{NodePrinted, RowFits, RowPrinted};
+use super::marks::put_before;
+use super::marks::put_closing;
+use super::marks::put_opening;
 use expression::heads::head_at;
-use printed_nodes::marks::put_before;
-use printed_nodes::marks::put_closing;
-use printed_nodes::marks::put_opening;
 
 // How far a print read and wrote.
 pub struct Printed {

@@ -20,7 +20,7 @@ use Rattle.expression.specs.Leaves.{Pair, OfPair, CallIs}
 use Rattle.expression.specs.declared.leaves.Called.{Called}
 use Rattle.expression.proofs.Standing.{first-stands}
 use Rattle.expression.proofs.Parts.{pair-right}
-use Rattle.node_numbers.specs.Numbers.{startAt}
+use Rattle.node_rows.specs.Numbers.{startAt}
 use Rattle.node_rows.specs.Rows.{TabledAll}
 use Rattle.node_rows.proofs.RowLaws.{tabled-first, tabled-within}
 use Rattle.node_rows.proofs.IndexLaws.{Indexed, index-pair}

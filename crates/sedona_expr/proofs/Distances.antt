@@ -18,7 +18,7 @@ use Rattle.expression.specs.Leaves.{Both, CallStands, CallIs, PlainNode, plainC
 use Rattle.expression.specs.declared.leaves.Called.{Called}
 use Rattle.expression.proofs.Standing.{first-stands}
 use Rattle.expression.proofs.Parts.{two-of, three-of}
-use Rattle.node_numbers.specs.Numbers.{startAt, endAt}
+use Rattle.node_rows.specs.Numbers.{startAt, endAt}
 use Rattle.node_rows.specs.Rows.{TabledAll, TwoTabled, OfTwo, TwoAre}
 use Rattle.node_rows.specs.declared.pairs.Two.{Two}
 use Rattle.node_rows.proofs.RowLaws.{tabled-end, tabled-within}

@@ -6,15 +6,15 @@ ghost use mathlib.Core.Path.{_≡_};
 ghost use Rattle.definitions.specs.Expression.{nil, cons};
 ghost use Rattle.expression.specs.Nodes.{Tree, OfTree, OfTreeIn};
 ghost use Rattle.expression.specs.Leaves.{Pair, OfPair, Calls, OfCall};
-ghost use Rattle.node_numbers.specs.Numbers.{startAt};
+ghost use Rattle.node_rows.specs.Numbers.{startAt};
 ghost use Rattle.node_rows.specs.Rows.{Tabled, TabledAll};
 ghost use Rattle.sedona_expr.specs.Parsed.{compared, DistanceIs, ParsedIs};
 use expression::leaves::Called;
 use expression::leaves::Node;
 use expression::leaves::node_at;
-use names::names::same_name;
-use node_numbers::numbers::end_of;
-use node_numbers::numbers::start_of;
+use expression::names::same_name;
+use node_rows::numbers::end_of;
+use node_rows::numbers::start_of;
 use node_rows::pairs::two_at;
 
 // The side of a comparison on which `st_distance` is looked for, and the other, its bound: each by the number that it was given.

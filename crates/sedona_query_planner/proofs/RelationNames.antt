@@ -13,8 +13,8 @@ use Rattle.definitions.specs.Basics.{if_then_else_, ascii, sameName, any, all}
 use Rattle.definitions.specs.Expression.{Relation, Named, relations}
 use Rattle.definitions.specs.Leaves.{typeNamed, relationNamed}
 use Rattle.theorems.proofs.Taken.{and-both}
-use Rattle.names.proofs.NameLaws.{and-false, unlike}
-use Rattle.names.specs.Names.{position}
+use Rattle.expression.proofs.NameLaws.{and-false, unlike}
+use Rattle.expression.specs.Names.{position}
 
 -- The names of a list of types, one after the other, and beside each its type.
 unfoldable pub namesIn : List Named → List (List ℕ)

@@ -9,8 +9,8 @@ ghost use Rattle.definitions.specs.Match as definitions;
 ghost use Rattle.expression.specs.Places.{part};
 ghost use Rattle.sedona_query_planner.specs.Relations.{relationOf, namedRelation};
 ghost use Rattle.sedona_query_planner.specs.Predicates.{flag, tiesNumber, tiesNumbered, unchanged, RelationAt, DistanceAt, KnnAt, PredicateAt, Exchanges};
-use names::names::Case;
-use names::names::name_index;
+use expression::names::Case;
+use expression::names::name_index;
 use terms::sides::JoinSide;
 
 // A predicate of two geometries and what relates them; each argument stands from its start up to its end.

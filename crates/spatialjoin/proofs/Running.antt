@@ -4,11 +4,11 @@ use mathlib.Core.Path.{_≡_}
 use mathlib.Core.List.{List, [], _++_}
 use lib.ListN.{length, take}
 use Rattle.io.specs.Counts.{clamped}
-use Rattle.pieces.specs.Pieces.{piece, freshSession}
-use Rattle.pieces.specs.Sessions.{Lent, Stands}
-use Rattle.pieces.specs.declared.states.State.{State}
-use Rattle.pieces.proofs.Whole.{piece-append}
-use Rattle.output.specs.declared.Turn.the-variants.{More}
+use Rattle.lines.specs.Pieces.{piece, freshSession}
+use Rattle.lines.specs.Sessions.{Lent, Stands}
+use Rattle.lines.specs.declared.states.State.{State}
+use Rattle.lines.proofs.Whole.{piece-append}
+use Rattle.streams.specs.declared.output.Turn.the-variants.{More}
 use Rattle.spatialjoin.specs.Runs.{ReadOn, Reached}
 
 pub reached-none : {b : Lent} {state : State} → state .filled ≡ 0 → Stands b state freshSession → Reached b state

@@ -3,12 +3,12 @@ use Prim.Native.Nat.{ℕ}
 use mathlib.Core.Path.{_≡_}
 use mathlib.Core.List.{List}
 use lib.IntN.{ℤ}
-use Rattle.pieces.specs.Pieces.{piece, freshSession}
-use Rattle.pieces.specs.Sessions.{Lent, Stands}
-use Rattle.pieces.specs.declared.states.State.{State}
-use Rattle.feeding.specs.Handing.{TakenIn}
-use Rattle.output.specs.declared.Turn.{Turn}
-use Rattle.output.specs.declared.Turn.the-variants.{More, Ended, NotRead, NotWritten}
+use Rattle.lines.specs.Pieces.{piece, freshSession}
+use Rattle.lines.specs.Sessions.{Lent, Stands}
+use Rattle.lines.specs.declared.states.State.{State}
+use Rattle.streams.specs.Handing.{TakenIn}
+use Rattle.streams.specs.declared.output.Turn.{Turn}
+use Rattle.streams.specs.declared.output.Turn.the-variants.{More, Ended, NotRead, NotWritten}
 
 -- A read gave some number, and what it gave was taken in.
 abbrev pub ReadOn : (chunk : List ℕ) (before : Lent) (state : State) (after : Lent) → Turn → Type 0

@@ -4,18 +4,18 @@
 // `lines` says what is written for a piece of the input, and `runs-write` that this is the program's output, wherever the input is cut
 // and whenever what waits is written out. `feeding` hands every character of what a read gave over once and in order, and here it is
 // proved that nothing of the state is lost between two reads. What no contract can say, and is left to be read: that `read_on` hands
-// over what its read gave, that `output::flush` writes what waits, that `run` goes on until a read gives nothing or something fails,
+// over what its read gave, that `streams::output::flush` writes what waits, that `run` goes on until a read gives nothing or something fails,
 // that `main` then ends the last line, and that `report` says what failed.
-use feeding::take_in;
-use feeding::write_last;
 use libc::STDERR_FILENO;
 use libc::STDIN_FILENO;
-use output::Turn;
-use pieces::states::State;
-use pieces::states::fresh;
+use lines::states::State;
+use lines::states::fresh;
+use streams::chunks::take_in;
+use streams::chunks::write_last;
+use streams::output::Turn;
 ghost use mathlib.Core.Path.{_≡_};
 ghost use lib.ListN.{replicate};
-ghost use Rattle.pieces.specs.Sessions.{lent};
+ghost use Rattle.lines.specs.Sessions.{lent};
 ghost use Rattle.spatialjoin.specs.Runs.{ReadOn, Ran};
 
 // Reads once, and handles what came.

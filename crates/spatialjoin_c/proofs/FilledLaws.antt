@@ -6,8 +6,8 @@ use mathlib.Core.List.{List, map, _++_}
 use lib.ListN.{length, length-map, take, drop}
 use lib.Seq.{take-at, length-take-le}
 use Rattle.definitions.specs.NodeTable as nodes
-use Rattle.compared_extract.specs.ExtractByTable.{lentCount, RowOf}
-use Rattle.node_numbers.specs.Numbers.{number}
+use Rattle.call_extract.specs.ExtractByTable.{lentCount, RowOf}
+use Rattle.node_rows.specs.Numbers.{number}
 use Rattle.node_table.proofs.Filling.{map-take}
 use Rattle.node_table.specs.Records.{nodeOf, nodesOf, FilledIs}
 use Rattle.node_table.specs.declared.NodeRecord.{NodeRecord}
@@ -15,9 +15,9 @@ use Rattle.definitions.specs.Merge.{merge}
 use Rattle.node_rows.specs.Rows.{Filling, RowHas}
 use Rattle.node_table.specs.Numbers.{numbered}
 use Rattle.node_table.proofs.FillLaws.{filled-first}
-use Rattle.host_answers.specs.Hosted.{LoadHosted, MergeHosted}
-use Rattle.host_cores.specs.Cores.{Left, LoadLeft, MergeLeft}
-use Rattle.host_cores.specs.declared.Loaded.{Loaded}
+use Rattle.host_calls.specs.Hosted.{LoadHosted, MergeHosted}
+use Rattle.host_calls.specs.Cores.{Left, LoadLeft, MergeLeft}
+use Rattle.host_calls.specs.declared.cores.Loaded.{Loaded}
 
 -- the records that are left to put stand there, and the table has room for them
 pub left-asks : (s : List ℕ) (root count : ℕ) (table : List NodeRecord) (filled : List nodes.NodeRecord)

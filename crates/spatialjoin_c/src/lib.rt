@@ -1,13 +1,13 @@
 // What C and Rust hosts call; include/spatialjoin.h declares it. Each answer is a number of 64 bits; the buffers are as the
 // definitions' calls leave them.
-use host_cores::taken_count;
-use host_exchange::exchange_number;
-use host_extract::extract_core;
-use host_load::load_core;
-use host_logical::logical_number;
-use host_merge::merge_core;
-use host_print::print_number;
-use host_project::project_number;
+use host_calls::cores::taken_count;
+use host_calls::exchange::exchange_number;
+use host_calls::extract::extract_core;
+use host_calls::load::load_core;
+use host_calls::logical::logical_number;
+use host_calls::merge::merge_core;
+use host_calls::print::print_number;
+use host_calls::project::project_number;
 use node_table::NodeRecord;
 use node_table::fill_table;
 use node_table::put_nodes;
@@ -19,7 +19,7 @@ ghost use Rattle.definitions.specs.Logical as logicals;
 ghost use Rattle.definitions.specs.Merge as merges;
 ghost use Rattle.definitions.specs.Project as projects;
 ghost use Rattle.node_table.specs.Records.{nodesOf};
-ghost use Rattle.host_answers.specs.Hosted.{LoadHosted, CallHosted, MergeHosted, PrintHosted};
+ghost use Rattle.host_calls.specs.Hosted.{LoadHosted, CallHosted, MergeHosted, PrintHosted};
 
 // Loads a frame as the new plan and fills the table with its nodes; reads nothing of what both held.
 #[no_mangle]

@@ -1,6 +1,6 @@
 -- A good frame whose text has room is written; each refusal is the frame's own, 15 for the room.
 use borrow.Author.Needs.{needs}
-use Rattle.node_walk.proofs.Standing.{all-bytes}
+use Rattle.node_reader.proofs.Standing.{all-bytes}
 use Rattle.call_print.proofs.print.Statement.{statement}
 use Rattle.call_print.proofs.print.Tie as tie
 use Rattle.call_print.proofs.Texting.{print-refuses, text-there, print-short, text-room, print-writes}

@@ -3,7 +3,7 @@ use native.Mathlib.Omega.{arith}
 use borrow.Author.Needs.{needs}
 use mathlib.Core.Path.{sym}
 use Rattle.node_table.specs.Records.{nodeOf}
-use Rattle.node_numbers.proofs.NumberLaws.{number-told}
+use Rattle.node_rows.proofs.NumberLaws.{number-told}
 use Rattle.node_table.proofs.NumberLaws.{kind-over, start-over, end-over}
 use Rattle.node_table.proofs.node_number.Statement.{statement}
 use Rattle.node_table.proofs.node_number.Tie as tie

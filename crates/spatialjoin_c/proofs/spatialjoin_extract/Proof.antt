@@ -37,7 +37,7 @@ use denote.Triple.Spec.{tripleOf}
 use denote.Triple.Statement.{Contract, Triple}
 use denote.Triple.Table.{cited}
 use denote.Triple.Walked.{says, walkOf, ends-at}
-use Rattle.node_numbers.specs.Numbers.{number}
+use Rattle.node_rows.specs.Numbers.{number}
 use Rattle.node_table.specs.Records.{nodesOf}
 use Rattle.node_table.specs.declared.NodeRecord.{NodeRecord}
 use Rattle.node_table.proofs.NodeRecord as T
@@ -46,22 +46,22 @@ use Rattle.node_table.proofs.WalkSteps.{slice, calls-with, last-list, free-at, 
 use Rattle.node_table.proofs.WalkSlots.{Passeds, seen-slice, given-slice, copied, stayed, by-walk}
 use Rattle.node_table.proofs.RowSteps.{none, long, RowMut, RowShr, borrows-row, lends-row, shares-row, row-back, row-seen}
 use Rattle.definitions.specs.Calls.{extract}
-use Rattle.compared_extract.specs.ExtractByTable.{lentCount}
-use Rattle.host_answers.specs.Hosted.{CallHosted}
-use Rattle.host_cores.specs.Cores.{Lent, ExtractBy}
+use Rattle.call_extract.specs.ExtractByTable.{lentCount}
+use Rattle.host_calls.specs.Hosted.{CallHosted}
+use Rattle.host_calls.specs.Cores.{Lent, ExtractBy}
 use Rattle.spatialjoin_c.proofs.FilledLaws.{row-of}
-use Rattle.host_cores.proofs.taken_count as g₁
-use Rattle.host_cores.proofs.taken_count.Symbol as g₁-def
-use Rattle.host_cores.proofs.taken_count.Symbol.{name as #taken-count}
-use Rattle.host_cores.proofs.taken_count.Met as g₁-thm
+use Rattle.host_calls.proofs.cores.taken_count as g₁
+use Rattle.host_calls.proofs.cores.taken_count.Symbol as g₁-def
+use Rattle.host_calls.proofs.cores.taken_count.Symbol.{name as #taken-count}
+use Rattle.host_calls.proofs.cores.taken_count.Met as g₁-thm
 use Rattle.node_table.proofs.take_nodes as g₂
 use Rattle.node_table.proofs.take_nodes.Symbol as g₂-def
 use Rattle.node_table.proofs.take_nodes.Symbol.{name as #take-nodes}
 use Rattle.node_table.proofs.take_nodes.Met as g₂-thm
-use Rattle.host_extract.proofs.extract_core as g₃
-use Rattle.host_extract.proofs.extract_core.Symbol as g₃-def
-use Rattle.host_extract.proofs.extract_core.Symbol.{name as #extract-core}
-use Rattle.host_extract.proofs.extract_core.Met as g₃-thm
+use Rattle.host_calls.proofs.extract.extract_core as g₃
+use Rattle.host_calls.proofs.extract.extract_core.Symbol as g₃-def
+use Rattle.host_calls.proofs.extract.extract_core.Symbol.{name as #extract-core}
+use Rattle.host_calls.proofs.extract.extract_core.Met as g₃-thm
 use Rattle.spatialjoin_c.proofs.spatialjoin_extract.Key.{name as #extract}
 use Rattle.spatialjoin_c.proofs.spatialjoin_extract as f
 use Rattle.spatialjoin_c.proofs.spatialjoin_extract.Statement as stated
@@ -280,9 +280,9 @@ spatialjoin-extract-spec 𝓤 H 𝓜 𝓖 𝓡 =
     (κs .0) (κs .1 .0) (κs .1 .1 .0) (qs .0) (qs .1 .0) (qs .1 .1 .0) (a .0) (a .1 .0) (a .1 .1 .0) (a .1 .1 .1 .0)
     (are .0 .0 .1) (are .1 .1 .0 .0 .1) (are .1 .1 .1 .0 .0 .1) (are .1 .0 .1)
     (tables 𝓤 H 𝓜 𝓡 code.env .C) (tables 𝓤 H 𝓜 𝓡 code.env .Λ) fm
-    (cited 𝓤 H (TakenCount 𝓤 H (𝓖 .A) (𝓜 .mem) (𝓡 .run)) 𝓜 𝓡 code.env #taken-count g₁-def.routine code.calls-host-cores·taken-count
+    (cited 𝓤 H (TakenCount 𝓤 H (𝓖 .A) (𝓜 .mem) (𝓡 .run)) 𝓜 𝓡 code.env #taken-count g₁-def.routine code.calls-host-calls·cores·taken-count
     (g₁-thm.met 𝓤 H 𝓜 𝓖 𝓡))
     (cited 𝓤 H (TakeNodes 𝓤 H (𝓖 .A) (𝓜 .mem) (𝓡 .run)) 𝓜 𝓡 code.env #take-nodes g₂-def.routine code.calls-node-table·take-nodes
     (g₂-thm.met 𝓤 H 𝓜 𝓖 𝓡))
     (cited 𝓤 H (ExtractCore 𝓤 H (𝓖 .A) (𝓜 .mem) (𝓡 .run)) 𝓜 𝓡 code.env #extract-core g₃-def.routine
-    code.calls-host-extract·extract-core (g₃-thm.met 𝓤 H 𝓜 𝓖 𝓡))))
+    code.calls-host-calls·extract·extract-core (g₃-thm.met 𝓤 H 𝓜 𝓖 𝓡))))

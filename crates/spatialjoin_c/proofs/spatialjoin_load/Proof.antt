@@ -45,17 +45,17 @@ use Rattle.node_table.proofs.WalkSlots.{Passeds, seen-slice, given-slice, staye
 use Rattle.node_table.proofs.TableCall.{PutNodes, to-put, Put, lends-table}
 use Rattle.node_table.proofs.RowSteps.{none, long, RowMut, RowShr, borrows-row, lends-row, shares-row, row-back, row-seen}
 use Rattle.node_rows.specs.Rows.{RowHas}
-use Rattle.host_answers.specs.Hosted.{LoadHosted}
-use Rattle.host_cores.specs.Cores.{LoadLeft}
-use Rattle.host_cores.specs.declared.Loaded.{Loaded}
+use Rattle.host_calls.specs.Hosted.{LoadHosted}
+use Rattle.host_calls.specs.Cores.{LoadLeft}
+use Rattle.host_calls.specs.declared.cores.Loaded.{Loaded}
 use Rattle.spatialjoin_c.proofs.LoadedFields.{fields}
 use Rattle.spatialjoin_c.proofs.FilledLaws.{load-asks, load-fills}
-use Rattle.host_cores.proofs.Loaded as L
-use Rattle.host_cores.proofs.Loaded.Laws as L′
-use Rattle.host_load.proofs.load_core as g₁
-use Rattle.host_load.proofs.load_core.Symbol as g₁-def
-use Rattle.host_load.proofs.load_core.Symbol.{name as #load-core}
-use Rattle.host_load.proofs.load_core.Met as g₁-thm
+use Rattle.host_calls.proofs.cores.Loaded as L
+use Rattle.host_calls.proofs.cores.Loaded.Laws as L′
+use Rattle.host_calls.proofs.load.load_core as g₁
+use Rattle.host_calls.proofs.load.load_core.Symbol as g₁-def
+use Rattle.host_calls.proofs.load.load_core.Symbol.{name as #load-core}
+use Rattle.host_calls.proofs.load.load_core.Met as g₁-thm
 use Rattle.node_table.proofs.put_nodes as g₂
 use Rattle.node_table.proofs.put_nodes.Symbol as g₂-def
 use Rattle.node_table.proofs.put_nodes.Symbol.{name as #put-nodes}
@@ -218,7 +218,7 @@ spatialjoin-load-spec 𝓤 H 𝓜 𝓖 𝓡 =
     (λ fm κs qs bounds a _ are. via 𝓤 _ (fst∗ 𝓤 _ (emp 𝓤)) (walk 𝓤 H (𝓖 .A) (givenOf 𝓤 H 𝓜 𝓖) (𝓜 .mem) (𝓡 .run)
     (κs .0) (κs .1 .0) (κs .1 .1 .0) (qs .0) (qs .1 .0) (qs .1 .1 .0) (a .0) (a .1 .0) (a .1 .1 .0)
     (are .0 .0 .1) (are .1 .0 .0 .1) (are .1 .1 .0 .0 .1) (tables 𝓤 H 𝓜 𝓡 code.env .C) (tables 𝓤 H 𝓜 𝓡 code.env .Λ) fm
-    (cited 𝓤 H (LoadCore 𝓤 H (𝓖 .A) (𝓜 .mem) (𝓡 .run)) 𝓜 𝓡 code.env #load-core g₁-def.routine code.calls-host-load·load-core
+    (cited 𝓤 H (LoadCore 𝓤 H (𝓖 .A) (𝓜 .mem) (𝓡 .run)) 𝓜 𝓡 code.env #load-core g₁-def.routine code.calls-host-calls·load·load-core
     (g₁-thm.met 𝓤 H 𝓜 𝓖 𝓡))
     (cited 𝓤 H (PutNodes 𝓤 H (𝓖 .A) (𝓜 .mem) (𝓡 .run)) 𝓜 𝓡 code.env #put-nodes g₂-def.routine code.calls-node-table·put-nodes
     (g₂-thm.met 𝓤 H 𝓜 𝓖 𝓡))))

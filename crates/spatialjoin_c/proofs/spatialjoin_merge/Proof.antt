@@ -43,19 +43,19 @@ use Rattle.node_table.proofs.WalkSteps.{slice, calls-with, last-list, free-at, 
 use Rattle.node_table.proofs.WalkSlots.{Passeds, seen-slice, kept-slice, given-slice, copied, stayed, by-walk}
 use Rattle.definitions.specs.Merge.{merge}
 use Rattle.node_rows.specs.Rows.{Filling}
-use Rattle.host_answers.specs.Hosted.{MergeHosted}
-use Rattle.host_cores.specs.Cores.{MergeLeft}
-use Rattle.host_cores.specs.declared.Loaded.{Loaded}
+use Rattle.host_calls.specs.Hosted.{MergeHosted}
+use Rattle.host_calls.specs.Cores.{MergeLeft}
+use Rattle.host_calls.specs.declared.cores.Loaded.{Loaded}
 use Rattle.spatialjoin_c.proofs.LoadedFields.{fields}
 use Rattle.spatialjoin_c.proofs.FilledLaws.{merge-asks, merge-is}
 use Rattle.spatialjoin_c.proofs.Again.{LentAgain, lends-again, comes-back}
 use Rattle.spatialjoin_c.proofs.Reshared.{Kept, reshares, unshares}
-use Rattle.host_cores.proofs.Loaded as L
-use Rattle.host_cores.proofs.Loaded.Laws as L′
-use Rattle.host_merge.proofs.merge_core as g₁
-use Rattle.host_merge.proofs.merge_core.Symbol as g₁-def
-use Rattle.host_merge.proofs.merge_core.Symbol.{name as #merge-core}
-use Rattle.host_merge.proofs.merge_core.Met as g₁-thm
+use Rattle.host_calls.proofs.cores.Loaded as L
+use Rattle.host_calls.proofs.cores.Loaded.Laws as L′
+use Rattle.host_calls.proofs.merge.merge_core as g₁
+use Rattle.host_calls.proofs.merge.merge_core.Symbol as g₁-def
+use Rattle.host_calls.proofs.merge.merge_core.Symbol.{name as #merge-core}
+use Rattle.host_calls.proofs.merge.merge_core.Met as g₁-thm
 use Rattle.node_table.proofs.fill_table as g₂
 use Rattle.node_table.proofs.fill_table.Symbol as g₂-def
 use Rattle.node_table.proofs.fill_table.Symbol.{name as #fill-table}
@@ -293,7 +293,7 @@ spatialjoin-merge-spec 𝓤 H 𝓜 𝓖 𝓡 =
     (a .0) (a .1 .0 .ptr .0) (a .1 .0 .ptr .1) (a .1 .0 .name) (a .1 .0 .now) (a .1 .1 .0) (a .1 .1 .1 .0) (a .1 .1 .1 .1 .0)
     (are .0 .0 .1) (are .1 .0 .0 .1) (are .1 .1 .1 .0 .0 .1) (are .1 .1 .1 .1 .0 .0 .1) (are .1 .1 .0 .1)
     (tables 𝓤 H 𝓜 𝓡 code.env .C) (tables 𝓤 H 𝓜 𝓡 code.env .Λ) fm
-    (cited 𝓤 H (MergeCore 𝓤 H (𝓖 .A) (𝓜 .mem) (𝓡 .run)) 𝓜 𝓡 code.env #merge-core g₁-def.routine code.calls-host-merge·merge-core
+    (cited 𝓤 H (MergeCore 𝓤 H (𝓖 .A) (𝓜 .mem) (𝓡 .run)) 𝓜 𝓡 code.env #merge-core g₁-def.routine code.calls-host-calls·merge·merge-core
     (g₁-thm.met 𝓤 H 𝓜 𝓖 𝓡))
     (cited 𝓤 H (FillTable 𝓤 H (𝓖 .A) (𝓜 .mem) (𝓡 .run)) 𝓜 𝓡 code.env #fill-table g₂-def.routine code.calls-node-table·fill-table
     (g₂-thm.met 𝓤 H 𝓜 𝓖 𝓡))))

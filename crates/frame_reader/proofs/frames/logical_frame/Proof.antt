@@ -1,13 +1,13 @@
 -- A frame of the sort 2 whose body is an expression with fields of the schemas; nothing is left to test.
-use Rattle.frame_body.specs.Frames.{opening}
-use Rattle.field_reader.specs.declared.field_readers.Skipped.the-variants.{To}
-use Rattle.field_reader.specs.Fields.{SkippedIs}
+use Rattle.frame_reader.specs.Frames.{opening}
+use Rattle.node_reader.specs.declared.field_readers.Skipped.the-variants.{To}
+use Rattle.node_reader.specs.Fields.{SkippedIs}
 use borrow.Author.Needs.{needs}
 use mathlib.Core.Path.{ap}
 use Rattle.definitions.specs.Readers.{give, resultOf}
 use Rattle.definitions.specs.Decode.{fields, expression}
 use Rattle.definitions.specs.Plans.{logicalFrame, logicalOf}
-use Rattle.frame_body.proofs.Wholes.{unopened, body-stops, ends, goes-on}
+use Rattle.frame_reader.proofs.Wholes.{unopened, body-stops, ends, goes-on}
 use Rattle.frame_reader.proofs.frames.logical_frame.Statement.{statement}
 use Rattle.frame_reader.proofs.frames.logical_frame.Tie as tie
 

@@ -1,7 +1,7 @@
 -- `long_frame`: no frame has more than 1,024 nodes.
 use native.Mathlib.Omega.{arith}
 use borrow.Author.Needs.{needs}
-use Rattle.frame_body.proofs.FrameRows.{clear-roomy, without-rows}
+use Rattle.frame_reader.proofs.FrameRows.{clear-roomy, without-rows}
 use Rattle.frame_reader.proofs.frames.long_frame.Statement.{statement}
 use Rattle.frame_reader.proofs.frames.long_frame.Tie as tie
 

@@ -1,7 +1,7 @@
 -- `middle_frame`: a frame of 768 bytes has at most 256 nodes.
 use native.Mathlib.Omega.{arith}
 use borrow.Author.Needs.{needs}
-use Rattle.frame_body.proofs.FrameRows.{clear-roomy, without-rows}
+use Rattle.frame_reader.proofs.FrameRows.{clear-roomy, without-rows}
 use Rattle.frame_reader.proofs.frames.middle_frame.Statement.{statement}
 use Rattle.frame_reader.proofs.frames.middle_frame.Tie as tie
 

@@ -1,8 +1,8 @@
 -- A frame of the sort 1: its body is the frame's, then comes the end, and its arity is tested last.
-use Rattle.frame_body.specs.declared.frame_bodies.Body.the-variants.{Read}
-use Rattle.frame_body.specs.Frames.{opening, BodyIn}
-use Rattle.field_reader.specs.declared.field_readers.Skipped.the-variants.{To}
-use Rattle.field_reader.specs.Fields.{SkippedIs}
+use Rattle.frame_reader.specs.declared.frame_bodies.Body.the-variants.{Read}
+use Rattle.frame_reader.specs.Frames.{opening, BodyIn}
+use Rattle.node_reader.specs.declared.field_readers.Skipped.the-variants.{To}
+use Rattle.node_reader.specs.Fields.{SkippedIs}
 use borrow.Author.Needs.{needs}
 use mathlib.Core.Path.{sym, ap, _∙_}
 use Rattle.definitions.specs.Expression.{Frame}
@@ -12,8 +12,8 @@ use Rattle.definitions.specs.Readers.{Reader, _>>_, give, require, resultOf}
 use Rattle.definitions.specs.Decode.{frameBody}
 use Rattle.definitions.specs.Plans.{physicalFrame, frameOf}
 use Rattle.theorems.proofs.ReaderLaws.{passes, fails}
-use Rattle.frame_body.proofs.FrameRows.{opened-short, roomy-lent, body-tabled, frame-listed, frame-arity, frame-up-to}
-use Rattle.frame_body.proofs.Wholes.{unopened, body-stops, ends, goes-on}
+use Rattle.frame_reader.proofs.FrameRows.{opened-short, roomy-lent, body-tabled, frame-listed, frame-arity, frame-up-to}
+use Rattle.frame_reader.proofs.Wholes.{unopened, body-stops, ends, goes-on}
 use Rattle.frame_reader.proofs.frames.physical_frame_in.Statement.{statement}
 use Rattle.frame_reader.proofs.frames.physical_frame_in.Tie as tie
 

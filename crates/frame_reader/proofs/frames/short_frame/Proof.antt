@@ -1,7 +1,7 @@
 -- `short_frame`: a frame of 96 bytes has at most 32 nodes.
 use native.Mathlib.Omega.{arith}
 use borrow.Author.Needs.{needs}
-use Rattle.frame_body.proofs.FrameRows.{clear-roomy, without-rows}
+use Rattle.frame_reader.proofs.FrameRows.{clear-roomy, without-rows}
 use Rattle.frame_reader.proofs.frames.short_frame.Statement.{statement}
 use Rattle.frame_reader.proofs.frames.short_frame.Tie as tie
 

@@ -5,7 +5,7 @@ use native.Mathlib.Omega.{arith}
 use borrow.Author.Needs.{needs}
 use Rattle.definitions.specs.Basics.{ascii}
 use Rattle.definitions.specs.Logical.{spatialNames}
-use Rattle.names.specs.Names.{words, endsFrom}
+use Rattle.expression.specs.Names.{words, endsFrom}
 use Rattle.logical_filter.proofs.NameMasks.{bit, no-bit, spatial-apart, kept}
 use Rattle.logical_filter.proofs.predicate_names.name_bit.Statement.{statement}
 use Rattle.logical_filter.proofs.predicate_names.name_bit.Tie as tie

@@ -17,7 +17,7 @@ use Rattle.node_rows.proofs.collecting.collect_nodes.Reads as node
 use Rattle.node_rows.proofs.collecting.collect_nodes.Kinds as node-kinds
 use Rattle.node_rows.proofs.collecting.+collect_children+collect_nodes.Lts-collect_nodes as node-lts
 use Rattle.expression.proofs.heads.head_at.Reads as head-at
-use Rattle.node_numbers.proofs.numbers.node_number.Reads as node-number
+use Rattle.node_rows.proofs.numbers.node_number.Reads as node-number
 use Rattle.node_rows.proofs.collecting.+collect_children+collect_nodes.{statement}
 use Rattle.node_rows.proofs.collecting.+collect_children+collect_nodes.Tie.{close}
 

@@ -4,7 +4,7 @@ use native.Mathlib.Omega.{arith}
 use mathlib.Core.Path.{ap, _∙_}
 use Rattle.definitions.specs.Basics.{mapResult}
 use Rattle.definitions.specs.Expression.{held}
-use Rattle.extraction_body.proofs.Extractions.{nothing-held, frame-held, extraction-held}
+use Rattle.plan_reader.proofs.Extractions.{nothing-held, frame-held, extraction-held}
 use Rattle.plan_reader.proofs.held_plans.held_plan.Statement.{statement}
 use Rattle.plan_reader.proofs.held_plans.held_plan.Tie as tie
 

@@ -5,7 +5,7 @@ use mathlib.Core.Path.{ap, _∙_}
 use Rattle.definitions.specs.Basics.{mapResult}
 use Rattle.definitions.specs.Expression.{held}
 use Rattle.definitions.specs.Plans.{extractionOf}
-use Rattle.extraction_body.proofs.Extractions.{nothing-held, frame-held, extraction-held, extraction-in-rows}
+use Rattle.plan_reader.proofs.Extractions.{nothing-held, frame-held, extraction-held, extraction-in-rows}
 use Rattle.plan_reader.proofs.held_plans.held_plan_in.Statement.{statement}
 use Rattle.plan_reader.proofs.held_plans.held_plan_in.Tie as tie
 

@@ -1,9 +1,9 @@
 -- An extraction after its first byte, up to the end; every refusal makes the plan bad.
-use Rattle.frame_body.specs.Frames.{firstOf}
-use Rattle.field_reader.specs.declared.field_readers.Field.the-variants.{Value}
-use Rattle.field_reader.specs.Fields.{FieldIs}
+use Rattle.frame_reader.specs.Frames.{firstOf}
+use Rattle.node_reader.specs.declared.field_readers.Field.the-variants.{Value}
+use Rattle.node_reader.specs.Fields.{FieldIs}
 use borrow.Author.Needs.{needs}
-use Rattle.extraction_body.proofs.Extractions.{unopened, body-stops, ends, goes-on}
+use Rattle.plan_reader.proofs.Extractions.{unopened, body-stops, ends, goes-on}
 use Rattle.plan_reader.proofs.held_plans.whole_extraction.Statement.{statement}
 use Rattle.plan_reader.proofs.held_plans.whole_extraction.Tie as tie
 

@@ -4,7 +4,7 @@ use borrow.Author.Needs.{needs}
 use mathlib.Core.Path.{_∙_}
 use lib.ListN.{length-set}
 use Rattle.writing.proofs.Sequence.{stored-room, stored-put, first-room, second-room, both-put}
-use Rattle.argument_writer.specs.Arguments.{written}
+use Rattle.plan_writer.specs.Arguments.{written}
 use Rattle.plan_writer.proofs.PredicateLaws.{bound, distance-view, distance-fits}
 use Rattle.plan_writer.proofs.put_predicate.put_distance.Statement.{statement}
 use Rattle.plan_writer.proofs.put_predicate.put_distance.Tie as tie

@@ -6,8 +6,8 @@ use Rattle.definitions.specs.Encode.{predicateFields}
 use Rattle.sedona_query_planner.specs.Predicates.{PredicateAt}
 use Rattle.writing.specs.Writing.{Room}
 use Rattle.writing.proofs.Sequence.{part-room, part-put, ends-within, head-room, rest-room, headed-put}
-use Rattle.argument_writer.specs.Arguments.{changeOf}
-use Rattle.frame_heads.specs.Predicates.{headOf}
+use Rattle.plan_writer.specs.Arguments.{changeOf}
+use Rattle.plan_writer.specs.Predicates.{headOf}
 use Rattle.plan_writer.proofs.PredicateLaws.{PredicateView, predicate-view}
 use Rattle.plan_writer.proofs.put_predicate.put_predicate.Statement.{statement}
 use Rattle.plan_writer.proofs.put_predicate.put_predicate.Tie as tie

@@ -11,9 +11,9 @@ use Rattle.printing.proofs.texts.+print_children+print_node.Lts-print_c
 use Rattle.printing.proofs.texts.print_node.Reads as node
 use Rattle.printing.proofs.texts.+print_children+print_node.Lts-print_node as node-lts
 use Rattle.expression.proofs.heads.head_at.Reads as head-at-reads
-use Rattle.printed_nodes.proofs.marks.put_before.Reads as put-before-reads
-use Rattle.printed_nodes.proofs.marks.put_closing.Reads as put-closing-reads
-use Rattle.printed_nodes.proofs.marks.put_opening.Reads as put-opening-reads
+use Rattle.printing.proofs.marks.put_before.Reads as put-before-reads
+use Rattle.printing.proofs.marks.put_closing.Reads as put-closing-reads
+use Rattle.printing.proofs.marks.put_opening.Reads as put-opening-reads
 use Rattle.printing.proofs.texts.+print_children+print_node.{statement}
 use Rattle.printing.proofs.texts.+print_children+print_node.Tie.{close}
 

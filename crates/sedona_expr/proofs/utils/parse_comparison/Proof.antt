@@ -4,7 +4,7 @@ use mir.Facts.{fits-16-64}
 use borrow.Author.Needs.{needs}
 use Rattle.definitions.specs.Leaves.{comparison}
 use Rattle.expression.specs.Leaves.{OfPair}
-use Rattle.node_numbers.specs.Numbers.{startAt}
+use Rattle.node_rows.specs.Numbers.{startAt}
 use Rattle.node_rows.proofs.RowLaws.{tabled-within}
 use Rattle.node_rows.proofs.IndexLaws.{Indexed}
 use Rattle.sedona_expr.specs.Parsed.{SidesOf}

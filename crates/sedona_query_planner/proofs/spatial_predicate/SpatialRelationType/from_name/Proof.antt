@@ -10,8 +10,8 @@ use Rattle.definitions.specs.Basics.{ascii}
 use Rattle.definitions.specs.Expression.{relations}
 use Rattle.definitions.specs.Leaves.{relationNamed}
 use Rattle.expression.specs.Places.{part}
-use Rattle.names.specs.Names.{words, endsFrom}
-use Rattle.names.proofs.NameLaws.{part-length}
+use Rattle.expression.specs.Names.{words, endsFrom}
+use Rattle.expression.proofs.NameLaws.{part-length}
 use Rattle.sedona_query_planner.proofs.RelationNames.{namesIn, typesIn, relationNames, relationTypes, relation-at, short-name, long-name, neighbours}
 use Rattle.sedona_query_planner.proofs.spatial_predicate.SpatialRelationType.from_name.Statement.{statement}
 use Rattle.sedona_query_planner.proofs.spatial_predicate.SpatialRelationType.from_name.Tie as tie

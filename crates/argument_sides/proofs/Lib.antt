@@ -1,4 +1,0 @@
--- Laws that several proofs use.
-pub mod Framing
-pub mod SideLaws
-pub mod SideWalk

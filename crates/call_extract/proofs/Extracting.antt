@@ -1,0 +1,95 @@
+-- What an extract is, once the held plan, the scratch's length and the pick are known.
+use Prim.Native.Nat.{ℕ, _≤_, _<_}
+use native.Mathlib.Omega.{arith}
+use mathlib.Core.Path.{_≡_, refl, sym, ap, _∙_, subst}
+use mathlib.Core.Bool.{Bool, true, false}
+use mathlib.Core.List.{List, _++_}
+use mathlib.Core.Option.{Option, none, some}
+use lib.ListN.{length, take, drop}
+use lib.Dec.{leb}
+use borrow.Author.Tests.{le-leb, lt-leb}
+use Rattle.definitions.specs.Basics.{if_then_else_, Result, ok, refused}
+use Rattle.definitions.specs.Expression.{Frame, Extraction}
+use Rattle.definitions.specs.Encode.{planBytes, extractionBytes}
+use Rattle.definitions.specs.Plans.{planOf}
+use Rattle.definitions.specs.Extract.{Pick, pick, takePick, matchesOf, extractionBy, extraction}
+use Rattle.definitions.specs.Calls.{Outcome, writtenOver, finish, heldPlan, matchedBytes, newAfterExtractBy, extractFilled}
+use Rattle.definitions.specs.Good.{AllBytes, ReadableFrame}
+use Rattle.theorems.proofs.ExtractGood.{GoodExtraction, extraction-good}
+use Rattle.frame_reader.specs.declared.frame_bodies.Frame as places
+use Rattle.plan_reader.specs.Plans.{HoldsFrame}
+use Rattle.leaf_matching.specs.Frames.{Over}
+use Rattle.leaf_pick.specs.Picks.{TakenIs}
+use Rattle.leaf_pick.specs.declared.first_match.Pick as picks
+use Rattle.call_extract.specs.Extractions.{Taking, takes, ExtractionFits, ExtractionPut}
+use Rattle.frame_reader.proofs.Standing.{between-holds, expr-stands}
+use Rattle.join_filter.proofs.Refusing.{extract-call, refuses, outcome}
+use Rattle.join_filter.proofs.Keeping.{held-is, plan-size, kept, kept-over}
+
+-- ---- a held frame
+
+module _ (n : ℕ) (before scratch : List ℕ) {f : places.Frame} (h : HoldsFrame n before f) where
+  abbrev F : Frame
+  F = h .frame
+
+  by-test : (b : Bool) → leb n (length scratch) ≡ b → (x : Option Extraction) → extraction F ≡ x
+      → extractFilled n before scratch ≡ finish n before scratch (if b then matchedBytes x else refused 9)
+  unfolding newAfterExtractBy
+  by-test b t x e =
+      outcome extract-call n before scratch (held-is n before (h .fits) (h .is))
+      (ap (λ (y : Bool). if y then matchedBytes (extraction F) else refused 9) t
+      ∙ ap (λ (y : Option Extraction). if b then matchedBytes y else refused 9) e)
+
+  pub scratch-short : length scratch < n → extractFilled n before scratch ≡ refuses n before scratch 9
+  unfolding finish
+  scratch-short short = by-test false (lt-leb n (length scratch) short) (extraction F) refl
+
+  pub no-leaf : n ≤ length scratch → pick (matchesOf F) ≡ none → extractFilled n before scratch ≡ refuses n before scratch 13
+  unfolding finish extractionBy takePick matchedBytes
+  no-leaf room e = by-test true (le-leb n (length scratch) room) none (ap (takePick F) e)
+
+  -- The frame's expression over its records, where the pick looks.
+  pub over : Over (take n before) (f .records) (f .root) (F .records) (F .expr)
+  over = record { entries = between-holds (h .stands .records); tree = expr-stands (h .stands .expr) }
+
+  module _ (bytes : AllBytes before) (p : picks.Pick) (t : TakenIs (take n before) (f .records) (f .root) p (F .records) (F .expr)) where
+    abbrev X : Extraction
+    X = takes F p (t .q)
+
+    extraction-is : extraction F ≡ some X
+    unfolding extractionBy takePick
+    extraction-is = ap (takePick F) (t .is)
+
+    -- The extraction is not longer than the frame, whose bytes the plan is.
+    room : length (extractionBytes X) ≤ length before
+    unfolding planBytes
+    room =
+        let size = plan-size n before (h .fits) bytes (h .is) in
+        let short : GoodExtraction F (some X) = subst (GoodExtraction F) extraction-is (extraction-good F (size .1)) in
+        omega (arith, short .1, size .0, h .fits)
+
+    taking : Taking (take n before) f p F (t .q)
+    taking =
+        let good : ReadableFrame F = plan-size n before (h .fits) bytes (h .is) .1 .readable in
+        record {
+          entries = record { bytes = over .entries; inRange = good .recordsInRange; counted = sym (h .stands .counted) };
+          few = omega (arith, good .few, h .stands .counted);
+          expr = over .tree;
+          predicate = t .stands;
+          cut = t .cut;
+        }
+
+    module _ (after : List ℕ) (copied : after ≡ take n (drop 0 before) ++ drop n scratch) where
+      pub taking-kept : Taking (take n after) f p F (t .q)
+      taking-kept = rw (kept n before (h .fits) scratch after copied) taking
+
+      pub extraction-fits : ExtractionFits (take n after) f p before
+      extraction-fits = record { frame = F; predicate = t .q; taking = taking-kept; room = room }
+
+      pub extracts : n ≤ length scratch → (written : List ℕ) (answer : ℕ) → ExtractionPut (take n after) f p before written answer
+          → extractFilled n before scratch ≡ record { answer = ok answer; n = answer; buffer = written; scratch = after }
+      unfolding finish matchedBytes planBytes extractionBytes writtenOver
+      extracts enough written answer put =
+          let is = put F (t .q) taking-kept in
+          by-test true (le-leb n (length scratch) enough) (some X) extraction-is
+          ∙ rw (← (is .0), ← (is .1), kept-over n before (h .fits) scratch after copied) refl

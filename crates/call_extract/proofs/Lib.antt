@@ -1,0 +1,5 @@
+-- Laws.
+pub mod Taking
+pub mod Extracting
+pub mod Collecting
+pub mod Tables

@@ -1,0 +1,4 @@
+-- What the contracts cite.
+pub mod Extractions
+pub mod FrameRows
+pub mod ExtractByTable

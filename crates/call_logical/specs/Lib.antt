@@ -1,2 +1,0 @@
--- What the contract cites.
-pub mod Found

@@ -1,0 +1,6 @@
+-- Laws.
+pub mod MergeViews
+pub mod RaisedLaws
+pub mod Sums
+pub mod Merging
+pub mod Standing

@@ -1,3 +1,0 @@
--- Laws that several proofs use.
-pub mod PlaceLaws
-pub mod ChainLaws

@@ -1,4 +1,0 @@
--- Laws that several proofs use.
-pub mod SpotLaws
-pub mod SpotWalk
-pub mod RecordLoop

@@ -1,2 +1,0 @@
--- What the contracts cite, in the order to read them.
-pub mod Distances

@@ -1,3 +1,0 @@
--- What the contracts cite, in the order to read them.
-pub mod Held
-pub mod ExchangedBytes

@@ -1,0 +1,7 @@
+-- Laws.
+pub mod ArityLaws
+pub mod ByRows
+pub mod FrameRows
+pub mod Recorded
+pub mod Standing
+pub mod Wholes

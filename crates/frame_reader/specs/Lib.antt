@@ -1,0 +1,4 @@
+-- What the contracts cite.
+pub mod Arities
+pub mod Records
+pub mod Frames

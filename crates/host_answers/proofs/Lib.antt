@@ -1,4 +1,0 @@
--- Laws that the proofs use.
-pub mod Numbers
-pub mod Hosting
-pub mod Lengths

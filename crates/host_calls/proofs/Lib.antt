@@ -1,0 +1,6 @@
+-- Laws.
+pub mod Numbers
+pub mod Hosting
+pub mod Lengths
+pub mod TableRoom
+pub mod CoreLaws

@@ -1,0 +1,4 @@
+-- What the contracts cite.
+pub mod Short
+pub mod Hosted
+pub mod Cores

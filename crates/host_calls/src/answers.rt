@@ -1,0 +1,37 @@
+// A call's answer as one number for a host: a length, or minus the number of the refusal. Public for the crates
+// of the calls.
+use join_filter::answers::Answer;
+use terms::refusals::Refusal;
+use terms::refusals::refusal_number;
+ghost use mathlib.Core.Path.{_≡_};
+ghost use Prim.Native.Nat.{_≤_};
+ghost use lib.IntN.{pos, negℤ};
+ghost use Rattle.definitions.specs.Hosts.{hosted};
+ghost use Rattle.terms.specs.Refusals.{numberOf};
+ghost use Rattle.join_filter.specs.Outcomes.{answerOf};
+ghost use Rattle.host_calls.specs.Short.{Short};
+
+fn length_number(n: usize) -> i64
+    requires { ⌜ n ≤ 26620 ⌝ }
+    ensures { λ r. ⌜ r ≡ pos n ⌝ }
+{
+    n as i64
+}
+
+pub fn minus_refusal(why: Refusal) -> i64
+    ensures { λ r. ⌜ r ≡ negℤ (pos (numberOf why)) ⌝ }
+{
+    let number = refusal_number(why);
+    0 - number as i64
+}
+
+// The length of a plan is at most 16,384, that of a text at most 26,620.
+pub fn answer_number(answer: Answer) -> i64
+    requires { ⌜ Short answer ⌝ }
+    ensures { λ r. ⌜ r ≡ hosted (answerOf answer) ⌝ }
+{
+    match answer {
+        Answer::Length(n) => length_number(n),
+        Answer::Refused(why) => minus_refusal(why),
+    }
+}

@@ -1,3 +1,0 @@
--- Laws that several proofs use.
-pub mod ArityLaws
-pub mod ByRows

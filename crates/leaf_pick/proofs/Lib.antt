@@ -1,0 +1,5 @@
+-- Laws.
+pub mod FirstLaws
+pub mod LeafLaws
+pub mod Nodes
+pub mod PickLaws

@@ -1,0 +1,64 @@
+-- Which AND-leaf is taken, and where it stands.
+use Prim.Native.Nat.{ℕ, _+_}
+use mathlib.Core.Path.{_≡_}
+use mathlib.Core.Bool.{Bool, not}
+use mathlib.Core.List.{List, map}
+use mathlib.Core.Option.{Option, none, some}
+use lib.ListN.{length}
+use Rattle.definitions.specs.Expression.{Expr, Record, Predicate}
+use Rattle.definitions.specs.Leaves.{leaves}
+use Rattle.definitions.specs.Match.{matchLeaf}
+use Rattle.definitions.specs.Extract as definition
+use Rattle.definitions.specs.Extract.{isKnn, firstMatch, matchesOf}
+use Rattle.expression.specs.Cuts.{CutAt}
+use Rattle.sedona_query_planner.specs.Predicates.{onChildren, PredicateAt}
+use Rattle.leaf_pick.specs.declared.first_match.Wanted.{Wanted}
+use Rattle.leaf_pick.specs.declared.first_match.Wanted.the-variants.{Knn, Other}
+use Rattle.leaf_pick.specs.declared.first_match.Pick.{Pick}
+use Rattle.leaf_pick.specs.declared.first_match.Found.{Found}
+use Rattle.leaf_pick.specs.declared.first_match.Found.the-variants as found
+use Rattle.leaf_pick.specs.declared.first_match.Picked.{Picked}
+use Rattle.leaf_pick.specs.declared.first_match.Picked.the-variants as picked
+
+-- ---- which matches a pass is for
+
+abbrev pub isOther : Predicate → Bool
+isOther p = not (isKnn p)
+
+abbrev pub wants : Wanted → Predicate → Bool
+wants Knn = isKnn
+wants Other = isOther
+
+-- The match of each AND-leaf.
+abbrev pub matches : List Record → Expr → List (Option Predicate)
+matches records t = map (matchLeaf records) (leaves t)
+
+-- ---- the answers
+
+-- The first match that is wanted below a node, `before` AND-leaves being before it.
+pub record FirstIs (wanted : Wanted) (s : List ℕ) (rec at before up : ℕ) (p : Pick) (records : List Record) (t : Expr) : Type 0 where
+  pub i : ℕ
+  pub q : Predicate
+  pub first : firstMatch (wants wanted) (matches records t) ≡ some (record { position = i; predicate = q })
+  pub counted : p .position ≡ before + i
+  pub stands : PredicateAt (onChildren records) s (p .predicate) q
+  pub cut : CutAt (p .cut) up t at i
+
+pub record NothingIs (wanted : Wanted) (before count : ℕ) (records : List Record) (t : Expr) : Type 0 where
+  pub first : firstMatch (wants wanted) (matches records t) ≡ none
+  pub counted : count ≡ before + length (leaves t)
+
+abbrev pub FoundIs : Wanted → (s : List ℕ) (rec at before up : ℕ) → Found → (records : List Record) → Expr → Type 0
+FoundIs wanted s rec at before up (found.Leaf p) records t = FirstIs wanted s rec at before up p records t
+FoundIs wanted s rec at before up (found.Nothing count) records t = NothingIs wanted before count records t
+
+-- The definitions' pick, with its place; the root is its own parent.
+pub record TakenIs (s : List ℕ) (rec at : ℕ) (p : Pick) (records : List Record) (t : Expr) : Type 0 where
+  pub q : Predicate
+  pub is : definition.pick (matchesOf (record { records = records; expr = t })) ≡ some (record { position = p .position; predicate = q })
+  pub stands : PredicateAt (onChildren records) s (p .predicate) q
+  pub cut : CutAt (p .cut) at t at (p .position)
+
+abbrev pub PickedIs : (s : List ℕ) (rec at : ℕ) → Picked → (records : List Record) → Expr → Type 0
+PickedIs s rec at (picked.Leaf p) records t = TakenIs s rec at p records t
+PickedIs s rec at picked.Nothing records t = definition.pick (matchesOf (record { records = records; expr = t })) ≡ none

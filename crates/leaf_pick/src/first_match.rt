@@ -1,0 +1,178 @@
+// The walk over the AND-leaves up to the first that matches as wanted.
+ghost use Prim.Native.Nat.{_≤_};
+ghost use mathlib.Core.Path.{_≡_};
+ghost use mathlib.Core.List.{[], _∷_};
+ghost use Rattle.definitions.specs.Leaves.{leaves};
+ghost use Rattle.expression.specs.Nodes.{OfTree, OfTreeIn};
+ghost use Rattle.expression.specs.Leaves.{NodeIs};
+ghost use Rattle.leaf_matching.specs.Frames.{Framed, OfFrame};
+ghost use Rattle.node_rows.specs.Rows.{Tabled};
+ghost use Rattle.leaf_matching.specs.Matches.{LeafMatching};
+ghost use Rattle.leaf_pick.specs.Picks.{isOther, wants, FoundIs};
+use expression::cuts::Cut;
+use expression::leaves::Node;
+use expression::leaves::node_at;
+use leaf_matching::distance::match_distance_predicate;
+use leaf_matching::knn::match_knn_predicate;
+use leaf_matching::matching::Matching;
+use leaf_matching::relation::match_relation_predicate;
+use node_rows::numbers::end_of;
+use sedona_query_planner::spatial_predicate::SpatialPredicate;
+
+// Which matches a pass over the AND-leaves is for: KNN, or relations and distances.
+pub enum Wanted {
+    Knn,
+    Other,
+}
+
+// An AND-leaf that is taken: its predicate, its position among the AND-leaves, and where it is cut out; the root counts as its
+// own parent.
+pub struct Pick {
+    pub predicate: SpatialPredicate,
+    pub position: usize,
+    pub cut: Cut,
+}
+
+// What a pass found below a node; if nothing, how many AND-leaves there are up to its end.
+pub enum Found {
+    Leaf(Pick),
+    Nothing(usize),
+}
+
+pub enum Picked {
+    Leaf(Pick),
+    Nothing,
+}
+
+// A leaf as a relation, else as a distance.
+pub fn match_other(
+    s: &[u8],
+    rec: usize,
+    at: usize,
+    numbers: &[u32],
+    next: &[u16],
+    i: usize,
+    node: Node,
+) -> Matching
+    requires { ⌜ Framed (now s) rec at ⌝ }
+    requires { ⌜ OfTree (now s) at (Tabled (now numbers) (now next) at i) ⌝ }
+    requires { ⌜ OfTreeIn (now s) at (λ c t. NodeIs c (now s) at node t) ⌝ }
+    ensures { λ r. ⌜ OfFrame (now (s .entry)) rec at (LeafMatching isOther (now (s .entry)) rec r) ⌝ }
+{
+    let Node::Call(called) = node else {
+        return match_distance_predicate(s, rec, at, numbers, next, i);
+    };
+    match match_relation_predicate(s, rec, called, numbers, next, i + 1) {
+        Matching::Matched(predicate) => Matching::Matched(predicate),
+        Matching::Unmatched => Matching::Unmatched,
+        Matching::NotAsked => match_distance_predicate(s, rec, at, numbers, next, i),
+    }
+}
+
+pub fn match_wanted(
+    s: &[u8],
+    rec: usize,
+    at: usize,
+    numbers: &[u32],
+    next: &[u16],
+    i: usize,
+    node: Node,
+    wanted: Wanted,
+) -> Matching
+    requires { ⌜ Framed (now s) rec at ⌝ }
+    requires { ⌜ OfTree (now s) at (Tabled (now numbers) (now next) at i) ⌝ }
+    requires { ⌜ OfTreeIn (now s) at (λ c t. NodeIs c (now s) at node t) ⌝ }
+    ensures { λ r. ⌜ OfFrame (now (s .entry)) rec at (LeafMatching (wants wanted) (now (s .entry)) rec r) ⌝ }
+{
+    match wanted {
+        Wanted::Other => match_other(s, rec, at, numbers, next, i, node),
+        Wanted::Knn => {
+            let Node::Call(called) = node else {
+                return Matching::NotAsked;
+            };
+            match_knn_predicate(s, rec, called, numbers, next, i + 1)
+        }
+    }
+}
+
+// A node that is no And, `position` AND-leaves being before it.
+pub fn leaf_match(
+    s: &[u8],
+    rec: usize,
+    at: usize,
+    numbers: &[u32],
+    next: &[u16],
+    i: usize,
+    node: Node,
+    wanted: Wanted,
+    position: usize,
+    parent: usize,
+) -> Found
+    requires { ⌜ Framed (now s) rec at ⌝ }
+    requires { ⌜ OfTree (now s) at (Tabled (now numbers) (now next) at i) ⌝ }
+    requires { ⌜ OfTreeIn (now s) at (λ c t. NodeIs c (now s) at node t) ⌝ }
+    requires { ⌜ OfFrame (now s) rec at (λ records t. leaves t ≡ t ∷ []) ⌝ }
+    requires { ⌜ position ≤ at ⌝ }
+    ensures { λ r. ⌜ OfFrame (now (s .entry)) rec at (FoundIs wanted (now (s .entry)) rec at position parent r) ⌝ }
+{
+    match match_wanted(s, rec, at, numbers, next, i, node, wanted) {
+        Matching::Matched(predicate) => {
+            let cut = Cut {
+                leaf: at,
+                end: end_of(numbers, i),
+                parent,
+            };
+            return Found::Leaf(Pick {
+                predicate,
+                position,
+                cut,
+            });
+        }
+        Matching::Unmatched => {
+            return Found::Nothing(position + 1);
+        }
+        Matching::NotAsked => {
+            return Found::Nothing(position + 1);
+        }
+    }
+}
+
+// The first match that is wanted below a node, `position` AND-leaves being before it.
+pub fn first_match(
+    s: &[u8],
+    rec: usize,
+    at: usize,
+    numbers: &[u32],
+    next: &[u16],
+    i: usize,
+    wanted: Wanted,
+    position: usize,
+    parent: usize,
+) -> Found
+    requires { ⌜ Framed (now s) rec at ⌝ }
+    requires { ⌜ OfTree (now s) at (Tabled (now numbers) (now next) at i) ⌝ }
+    requires { ⌜ position ≤ at ⌝ }
+    ensures { λ r. ⌜ OfFrame (now (s .entry)) rec at (FoundIs wanted (now (s .entry)) rec at position parent r) ⌝ }
+{
+    let mut place = at;
+    let mut index = i;
+    let mut count = position;
+    let mut up = parent;
+    loop {
+        let node = node_at(s, place);
+        let Node::And(left) = node else {
+            return leaf_match(s, rec, place, numbers, next, index, node, wanted, count, up);
+        };
+        match first_match(s, rec, left, numbers, next, index + 1, wanted, count, place) {
+            Found::Leaf(pick) => {
+                return Found::Leaf(pick);
+            }
+            Found::Nothing(counted) => {
+                up = place;
+                place = end_of(numbers, index + 1);
+                index = next[index + 1] as usize;
+                count = counted;
+            }
+        }
+    }
+}

@@ -1,0 +1,3 @@
+// leaf_pick
+pub mod first_match;
+pub mod pick;

@@ -1,2 +1,0 @@
--- Laws that the proofs of this crate and of those above it use.
-pub mod LineLaws

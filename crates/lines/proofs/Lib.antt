@@ -1,0 +1,8 @@
+-- Laws.
+pub mod LineLaws
+pub mod CallLaws
+pub mod CollectLaws
+pub mod Whole
+pub mod PieceLaws
+pub mod SessionLaws
+pub mod Runs

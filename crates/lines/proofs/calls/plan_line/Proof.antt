@@ -1,0 +1,43 @@
+-- `plan_line`: what the call answers, whatever the scratch held; 7 where more bytes follow.
+use borrow.Author.Needs.{needs}
+use native.Mathlib.Omega.{arith}
+use Rattle.definitions.specs.Machine.{extractCall, exchangeCall}
+use Rattle.definitions.specs.Program.{lineCall}
+use Rattle.lines.proofs.LineLaws.{refused-line}
+use Rattle.lines.proofs.CallLaws.{alone-gives, more-follow, more-leave}
+use Rattle.lines.proofs.calls.plan_line.Statement.{statement}
+use Rattle.lines.proofs.calls.plan_line.Tie as tie
+
+returns : tie.Need-returns
+returns c =
+    let a = c .before .before .before .args in (
+      rw (← more-follow _ _ (a .scratch .now) _ (c .if1 .taken) (omega arith)) (refused-line _ _ _),
+      more-leave _ _ (a .scratch .now) _ _ (c .if1 .taken) (omega arith),
+    )
+
+pub plan-line-spec : {M : Type 1} → statement M
+unfolding lineCall
+plan-line-spec =
+    tie.close
+    (tie.spec
+    returns
+    (λ c. search needs)
+    (λ c κs. search needs)
+    (λ c κs. search needs)
+    (λ c. search needs)
+    (λ c κs. search needs)
+    (λ c κs. search needs)
+    (λ c. search needs)
+    (λ c. search needs)
+    (λ c.
+    rw (c .of-call .ensures, c .before .before .before .before .before .before .before .before .enum-told .given .1)
+    (alone-gives extractCall _ _ (c .before .before .before .before .before .before .before .before .before .before .if1 .left) _ _ _
+    (c .before .before .before .before .before .extract .result) (c .before .before .before .before .before .extract .ensures)
+    (search needs)))
+    (λ c. search needs)
+    (λ c. search needs)
+    (λ c.
+    rw (c .of-call2 .ensures, c .before .before .before .before .before .before .before .before .enum-told2 .given .1)
+    (alone-gives exchangeCall _ _ (c .before .before .before .before .before .before .before .before .before .before .if1 .left) _ _ _
+    (c .before .before .before .before .before .exchange .result) (c .before .before .before .before .before .exchange .ensures)
+    (search needs))))

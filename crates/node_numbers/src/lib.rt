@@ -1,2 +1,0 @@
-// A node as a number in a row: its kind, start and end; rows compared. Public for the crates above.
-pub mod numbers;

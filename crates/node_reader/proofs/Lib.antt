@@ -1,0 +1,9 @@
+-- Laws.
+pub mod Reading
+pub mod Numbers
+pub mod Repeats
+pub mod NameBytes
+pub mod Children
+pub mod Walks
+pub mod Standing
+pub mod Storing

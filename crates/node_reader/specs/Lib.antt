@@ -1,0 +1,5 @@
+-- What the contracts cite.
+pub mod Fields
+pub mod Heads
+pub mod Nodes
+pub mod Places

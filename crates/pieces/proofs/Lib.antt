@@ -1,6 +1,0 @@
--- Laws that several proofs use.
-pub mod CollectLaws
-pub mod Whole
-pub mod PieceLaws
-pub mod SessionLaws
-pub mod Runs

@@ -1,0 +1,4 @@
+-- Laws.
+pub mod Fields
+pub mod Predicated
+pub mod Extractions

@@ -1,0 +1,4 @@
+-- What the contracts cite.
+pub mod Flags
+pub mod Predicates
+pub mod Plans

@@ -1,2 +1,0 @@
-// The child indexes of a held extraction. Public for the crate `plan_projection`.
-pub mod plan_spots;

@@ -1,0 +1,5 @@
+-- What the contracts cite.
+pub mod Arguments
+pub mod Copies
+pub mod Tables
+pub mod Predicates

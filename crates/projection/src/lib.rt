@@ -1,0 +1,6 @@
+// projection
+pub mod places;
+pub mod plan_spots;
+pub mod projecting;
+pub mod spot_places;
+pub mod spots;

@@ -1,4 +1,0 @@
--- Laws that several proofs use.
-pub mod FlagLaws
-pub mod CutLaws
-pub mod RemainderLaws

@@ -1,0 +1,9 @@
+-- Laws.
+pub mod KeyLaws
+pub mod RecordLaws
+pub mod AroundLaws
+pub mod ReferenceWalk
+pub mod RemainderWalk
+pub mod FlagLaws
+pub mod CutLaws
+pub mod RemainderLaws

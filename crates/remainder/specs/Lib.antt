@@ -1,0 +1,7 @@
+-- What the contracts cite.
+pub mod Keys
+pub mod Records
+pub mod Around
+pub mod References
+pub mod Remainders
+pub mod HeldIndexes

@@ -1,0 +1,3 @@
+-- Laws.
+pub mod Flushing
+pub mod Handing

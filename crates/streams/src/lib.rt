@@ -1,0 +1,3 @@
+// streams
+pub mod chunks;
+pub mod output;
