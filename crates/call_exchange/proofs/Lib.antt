@@ -1,4 +1,4 @@
--- Laws.
+-- Laws that the proofs use: exchanged plans that were written.
 pub mod FrameViews
 pub mod RecordLaws
 pub mod HeldLaws

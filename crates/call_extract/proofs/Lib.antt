@@ -1,4 +1,4 @@
--- Laws.
+-- Laws that the proofs use: the extract of a frame and by a table.
 pub mod Taking
 pub mod Extracting
 pub mod Collecting

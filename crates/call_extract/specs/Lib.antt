@@ -1,4 +1,4 @@
--- What the contracts cite.
+-- What the contracts cite: the extract of a frame and by a table.
 pub mod Extractions
 pub mod FrameRows
 pub mod ExtractByTable

@@ -1,4 +1,4 @@
-// The call extract with a lent table of nodes, of which it is given the numbers of the records. Public for the crate `host_extract`.
+// The call extract with a lent table of nodes, of which it is given the numbers of the records. Public for the crate `host_calls`.
 use frame_reader::frame_bodies::Frame;
 use join_filter::answers::Answer;
 use plan_reader::extraction_bodies::Held;

@@ -1,4 +1,4 @@
-// Extract of a held frame whose nodes are compared with those of a table. Public for the crate `table_extract`.
+// Extract of a held frame whose nodes are compared with those of a table.
 use super::held_frame::extract_frame;
 use frame_reader::frame_bodies::Frame;
 use join_filter::answers::Answer;

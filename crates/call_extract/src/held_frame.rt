@@ -1,4 +1,4 @@
-// The extract of a held frame. Public for the crates `call_extract`, `compared_extract` and `table_extract`.
+// The extract of a held frame.
 
 use super::extraction::put_extraction;
 use frame_reader::frame_bodies::Frame;

@@ -1,4 +1,4 @@
--- Laws.
+-- Laws that the proofs use: merged frames.
 pub mod MergeViews
 pub mod RaisedLaws
 pub mod Sums

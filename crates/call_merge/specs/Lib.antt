@@ -1,4 +1,4 @@
--- What the contracts cite.
+-- What the contracts cite: merged frames.
 pub mod Merging
 pub mod Together
 pub mod Given

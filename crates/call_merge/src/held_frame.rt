@@ -1,4 +1,4 @@
-// Merge of a frame with a held one. Public for the crate `call_merge`.
+// Merge of a frame with a held one.
 use super::limits::over_limits;
 use super::merged_frames::put_merged;
 use frame_reader::frame_bodies::Frame;

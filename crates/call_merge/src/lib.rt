@@ -1,4 +1,4 @@
-// call_merge
+// The call merge: the limits of a merged frame, writing it, and the call.
 pub mod call;
 pub mod held_frame;
 pub mod limits;

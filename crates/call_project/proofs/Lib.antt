@@ -1,2 +1,2 @@
--- Laws.
+-- Laws that the proofs use: what the call leaves.
 pub mod ProjectCall

@@ -1,2 +1,2 @@
--- What the contracts cite.
+-- What the contracts cite: what the call leaves.
 pub mod Holding

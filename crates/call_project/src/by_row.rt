@@ -1,4 +1,4 @@
-// Project with a row for the child indexes. Public for the crate `call_project`.
+// Project with a row for the child indexes.
 use join_filter::answers::Answer;
 use plan_reader::extraction_bodies::Extraction;
 use projection::projecting::Projected;

@@ -1,4 +1,4 @@
--- Laws.
+-- Laws that the proofs use: expressions that stand in bytes, names and literals.
 pub mod Signed
 pub mod Placed
 pub mod OfKind

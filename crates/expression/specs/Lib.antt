@@ -1,4 +1,4 @@
--- What the contracts cite.
+-- What the contracts cite: expressions that stand in bytes, names and literals.
 pub mod Places
 pub mod Nodes
 pub mod Filling

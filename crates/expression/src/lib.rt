@@ -1,4 +1,4 @@
-// expression
+// Bytes that hold an expression: heads of nodes, where they end, the AND-leaves, names and literals.
 pub mod cuts;
 pub mod ends;
 pub mod fields;

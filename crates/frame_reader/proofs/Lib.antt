@@ -1,4 +1,4 @@
--- Laws.
+-- Laws that the proofs use: records, arity and frames that were read.
 pub mod ArityLaws
 pub mod ByRows
 pub mod FrameRows

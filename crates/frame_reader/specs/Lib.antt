@@ -1,4 +1,4 @@
--- What the contracts cite.
+-- What the contracts cite: records, arity and frames that were read.
 pub mod Arities
 pub mod Records
 pub mod Frames

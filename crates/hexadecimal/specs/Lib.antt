@@ -1,2 +1,2 @@
--- What the contracts cite.
+-- What the contracts cite: digits and lines of them.
 pub mod Hex

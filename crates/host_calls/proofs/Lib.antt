@@ -1,4 +1,4 @@
--- Laws.
+-- Laws that the proofs use: answers as numbers.
 pub mod Numbers
 pub mod Hosting
 pub mod Lengths

@@ -1,4 +1,4 @@
--- What the contracts cite.
+-- What the contracts cite: answers as numbers.
 pub mod Short
 pub mod Hosted
 pub mod Cores

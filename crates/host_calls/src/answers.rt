@@ -1,5 +1,4 @@
-// A call's answer as one number for a host: a length, or minus the number of the refusal. Public for the crates
-// of the calls.
+// A call's answer as one number for a host: a length, or minus the number of the refusal.
 use join_filter::answers::Answer;
 use terms::refusals::Refusal;
 use terms::refusals::refusal_number;

@@ -1,4 +1,4 @@
-// host_calls
+// The calls for hosts: each with its answer as one number, and for calls with a table all but the table itself.
 pub mod answers;
 pub mod cores;
 pub mod exchange;

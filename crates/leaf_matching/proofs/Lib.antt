@@ -1,4 +1,4 @@
--- Laws.
+-- Laws that the proofs use: sides, literal arguments and matches.
 pub mod LiteralLaws
 pub mod Framing
 pub mod SideLaws

@@ -1,4 +1,4 @@
--- What the contracts cite.
+-- What the contracts cite: sides, literal arguments and matches.
 pub mod Literals
 pub mod Frames
 pub mod Sides

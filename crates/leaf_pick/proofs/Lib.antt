@@ -1,4 +1,4 @@
--- Laws.
+-- Laws that the proofs use: the first match and the pick.
 pub mod FirstLaws
 pub mod LeafLaws
 pub mod Nodes

@@ -1,2 +1,2 @@
--- What the contracts cite.
+-- What the contracts cite: the first match and the pick.
 pub mod Picks

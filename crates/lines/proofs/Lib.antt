@@ -1,4 +1,4 @@
--- Laws.
+-- Laws that the proofs use: lines, answers and states.
 pub mod LineLaws
 pub mod CallLaws
 pub mod CollectLaws

@@ -1,4 +1,4 @@
--- What the contracts cite.
+-- What the contracts cite: lines, answers and states.
 pub mod Answers
 pub mod Scratch
 pub mod Calling

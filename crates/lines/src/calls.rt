@@ -1,4 +1,4 @@
-// The call that a line of the program's input asks for. Public for the crate `line_ends`.
+// The call that a line of the program's input asks for.
 use super::answers::Answer;
 use call_exchange::call::exchange;
 use call_extract::call::extract;

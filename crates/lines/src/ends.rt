@@ -1,4 +1,4 @@
-// The end of a line: what it gives is written, and the state goes on. Public for the crate `lines`.
+// The end of a line: what it gives is written, and the state goes on.
 use super::answers::Answer;
 use super::answers::length_after;
 use super::answers::put_answer;

@@ -1,4 +1,4 @@
--- Laws.
+-- Laws that the proofs use: fields, heads and expressions that were read.
 pub mod Reading
 pub mod Numbers
 pub mod Repeats

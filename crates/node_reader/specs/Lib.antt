@@ -1,4 +1,4 @@
--- What the contracts cite.
+-- What the contracts cite: fields, heads and expressions that were read.
 pub mod Fields
 pub mod Heads
 pub mod Nodes

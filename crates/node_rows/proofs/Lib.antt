@@ -1,4 +1,4 @@
--- Laws.
+-- Laws that the proofs use: rows of node numbers.
 pub mod NumberLaws
 pub mod RowLaws
 pub mod IndexLaws

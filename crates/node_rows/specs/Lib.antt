@@ -1,4 +1,4 @@
--- What the contracts cite.
+-- What the contracts cite: rows of node numbers.
 pub mod Numbers
 pub mod Stores
 pub mod Rows

@@ -1,4 +1,4 @@
--- What the contracts cite.
+-- What the contracts cite: extractions and held plans that were read.
 pub mod Flags
 pub mod Predicates
 pub mod Plans

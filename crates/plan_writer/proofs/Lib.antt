@@ -1,4 +1,4 @@
--- Laws.
+-- Laws that the proofs use: arguments, heads and predicates that were written.
 pub mod Fields
 pub mod Ranges
 pub mod CopyWalk

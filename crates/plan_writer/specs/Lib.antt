@@ -1,4 +1,4 @@
--- What the contracts cite.
+-- What the contracts cite: arguments, heads and predicates that were written.
 pub mod Arguments
 pub mod Copies
 pub mod Tables

@@ -1,4 +1,4 @@
--- Laws.
+-- Laws that the proofs use: texts and their lengths.
 pub mod Sequences
 pub mod DecimalLaws
 pub mod NameLaws

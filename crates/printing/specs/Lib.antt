@@ -1,3 +1,3 @@
--- What the contracts cite.
+-- What the contracts cite: texts and their lengths.
 pub mod Marks
 pub mod Texts

@@ -1,4 +1,4 @@
--- Laws.
+-- Laws that the proofs use: places in lists, and where child indexes stand.
 pub mod PlaceLaws
 pub mod ChainLaws
 pub mod SpotLaws

@@ -1,4 +1,4 @@
--- What the contracts cite.
+-- What the contracts cite: places in lists, and where child indexes stand.
 pub mod Chains
 pub mod Spots
 pub mod Rows

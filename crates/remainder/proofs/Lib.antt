@@ -1,4 +1,4 @@
--- Laws.
+-- Laws that the proofs use: remainders and the records that stay.
 pub mod KeyLaws
 pub mod RecordLaws
 pub mod AroundLaws

@@ -1,4 +1,4 @@
--- What the contracts cite.
+-- What the contracts cite: remainders and the records that stay.
 pub mod Keys
 pub mod Records
 pub mod Around

@@ -1,4 +1,4 @@
-// remainder
+// What is left of a filter without the taken leaf: the columns that it names, the records that stay, and the frame that is written.
 pub mod kept_records;
 pub mod record_keys;
 pub mod references;

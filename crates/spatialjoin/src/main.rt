@@ -2,10 +2,10 @@
 // ends, with a line on standard error.
 //
 // `lines` says what is written for a piece of the input, and `runs-write` that this is the program's output, wherever the input is cut
-// and whenever what waits is written out. `feeding` hands every character of what a read gave over once and in order, and here it is
+// and whenever what waits is written out. `streams` hands every character of what a read gave over once and in order, and here it is
 // proved that nothing of the state is lost between two reads. What no contract can say, and is left to be read: that `read_on` hands
-// over what its read gave, that `streams::output::flush` writes what waits, that `run` goes on until a read gives nothing or something fails,
-// that `main` then ends the last line, and that `report` says what failed.
+// over what its read gave, that `streams::output::flush` writes what waits, that `run` goes on until a read gives nothing or
+// something fails, that `main` then ends the last line, and that `report` says what failed.
 use libc::STDERR_FILENO;
 use libc::STDIN_FILENO;
 use lines::states::State;

@@ -1,3 +1,3 @@
--- Laws.
+-- Laws that the proofs use: reads and writes.
 pub mod Flushing
 pub mod Handing

@@ -1,3 +1,3 @@
--- What the contracts cite.
+-- What the contracts cite: reads and writes.
 pub mod Turns
 pub mod Handing

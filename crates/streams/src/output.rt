@@ -1,4 +1,4 @@
-// What the program writes, and what follows a read. Public for the crates `feeding` and `spatialjoin`.
+// What the program writes, and what follows a read. Public for the program.
 use libc::STDOUT_FILENO;
 use lines::states::MOST_FILLED;
 use lines::states::State;
