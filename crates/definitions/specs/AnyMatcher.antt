@@ -20,7 +20,7 @@ use Rattle.definitions.specs.NodeTable.{NodeRecord}
 use Rattle.definitions.specs.Sessions.{Made, extractWith, exchangeWith, makeBy, machineAfterBy, accepted, SessionBy, after, lengthAfter, planAfter, extractedIn, oddIn, answerAfter}
 use Rattle.definitions.specs.Meaning.{Valuation, Meaning, Fair, frameValue, extractionValue}
 use Rattle.definitions.specs.Matchers.{Lawful, Symmetric}
-use Rattle.definitions.specs.Claims.{CallWrote, extractRefusals, RefusedBy, LoadHoldsBy, AgreeBy, someLeafMatchesBy, matchAt, TookAmong, extractedPlan, NamesLeaf, priceLineBy, OnLine}
+use Rattle.definitions.specs.Claims.{CallWrote, PlanWritten, extractRefusals, RefusedBy, LoadHoldsBy, AgreeBy, someLeafMatchesBy, matchAt, TookAmong, extractedPlan, NamesLeaf, priceLineBy, OnLine}
 use Rattle.definitions.specs.ValueClaims.{valuesWhen, HasValue}
 
 -- The extractions with a matcher; `Asks` is what their values ask of a meaning.
@@ -52,6 +52,7 @@ pub record OneCall (match : Matcher) : Type 0 where
   pub writes : (kind : Kind) (n : ℕ) (buffer scratch : List ℕ) (table : List NodeRecord) → AllBytes buffer
       → accepted (makeBy match kind n buffer scratch table .answer) ≡ true
       → CallWrote n buffer scratch (makeBy match kind n buffer scratch table)
+      × PlanWritten match kind n buffer (makeBy match kind n buffer scratch table)
   -- An extract's answer is a length or one of its own refusals.
   pub refusals : (n : ℕ) (buffer scratch : List ℕ) (table : List NodeRecord)
       → RefusedBy extractRefusals (extractBy match n buffer scratch table .answer)

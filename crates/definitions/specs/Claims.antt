@@ -18,9 +18,9 @@ use Rattle.definitions.specs.Plans.{frameOf, planOf}
 use Rattle.definitions.specs.Match.{matchLeaf}
 use Rattle.definitions.specs.Extract.{isKnn, without, prune, Matcher, matchesBy, matchesOf, extractionBy, extraction}
 use Rattle.definitions.specs.Exchange.{exchangeFrame, exchangeExtraction, exchangePlan}
-use Rattle.definitions.specs.Calls.{LoadOutcome, load, Outcome, extract, exchange}
+use Rattle.definitions.specs.Calls.{LoadOutcome, load, Outcome, heldPlan, extract, exchange}
 use Rattle.definitions.specs.NodeTable.{NodeRecord, nodeTable}
-use Rattle.definitions.specs.Machine.{Kind, machinePlan, machineLength, Run}
+use Rattle.definitions.specs.Machine.{Kind, extractCall, exchangeCall, machinePlan, machineLength, Run}
 use Rattle.definitions.specs.Good.{AllBytes, nodes, Short, Readable, GoodPlan}
 use Rattle.definitions.specs.Sessions.{Made, extractWith, exchangeWith, make, ListOutcome, machineAfter, accepted, SessionBy, Session, after, lengthAfter, planLeft, planAfter, extractedIn, oddIn, answerAfter}
 use Rattle.definitions.specs.Logical.{spatialNames, mask, distinct, logical}
@@ -123,13 +123,23 @@ pub record CallWrote (n : ℕ) (buffer scratch : List ℕ) (o : Outcome) : Type 
   pub others : SameFrom (o .n) buffer (o .buffer)
   pub othersOfScratch : SameFrom n scratch (o .scratch)
 
+-- An exchange wrote the bytes of the held plan exchanged, an extract those of the held frame's extraction.
+abbrev pub PlanWritten : Matcher → Kind → (n : ℕ) → (buffer : List ℕ) → Outcome → Type 0
+PlanWritten match exchangeCall n buffer o =
+    (p : Plan) × (heldPlan n buffer ≡ ok p) × (take (o .n) (o .buffer) ≡ planBytes (exchangePlan p))
+PlanWritten match extractCall n buffer o =
+    (F : Frame) × (X : Extraction) × (heldPlan n buffer ≡ ok (held F)) × (extractionBy match F ≡ some X)
+    × (take (o .n) (o .buffer) ≡ planBytes (extracted X))
+
 -- An accepted call writes what 01 says and keeps every other byte of both buffers.
 abbrev pub AcceptedWrites : Type 0
 AcceptedWrites =
     ((frame : List ℕ) (n : ℕ) (buffer : List ℕ) (table : List NodeRecord) → accepted (load frame n buffer table .answer) ≡ true
     → LoadWrote frame buffer table (load frame n buffer table))
     × ((kind : Kind) (n : ℕ) (buffer scratch : List ℕ) (table : List NodeRecord) → AllBytes buffer
-    → accepted (make kind n buffer scratch table .answer) ≡ true → CallWrote n buffer scratch (make kind n buffer scratch table))
+    → accepted (make kind n buffer scratch table .answer) ≡ true
+    → CallWrote n buffer scratch (make kind n buffer scratch table)
+    × PlanWritten matchLeaf kind n buffer (make kind n buffer scratch table))
 
 -- The refusals of each call, in the order of 01 and 02; print is request 1's, merge request 2's, 17 request 6's, project request 7's.
 unfoldable pub loadRefusals : List ℕ

@@ -60,3 +60,5 @@ pub mod ProjectClaims
 pub mod ProjectRows
 pub mod PruningClaims
 pub mod BoundRows
+pub mod ShortClaims
+pub mod DemandThree

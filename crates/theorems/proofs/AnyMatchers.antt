@@ -18,6 +18,7 @@ use Rattle.theorems.proofs.Lists.{plan-good}
 use Rattle.theorems.proofs.ListTheorem.{load-held, list-agrees}
 use Rattle.theorems.proofs.Lengths.{make-short}
 use Rattle.theorems.proofs.Changes.{make-keeps, make-wrote}
+use Rattle.theorems.proofs.WrittenPlans.{plans-written}
 use Rattle.theorems.proofs.RefusalNumbers.{extract-refusals}
 use Rattle.theorems.proofs.Answers.{told, plan-told, in-place, plans-same, exchange-among, extract-among}
 use Rattle.theorems.proofs.MatchLaws.{match-laws}
@@ -39,7 +40,8 @@ module _ {match : Matcher} {Asks : Meaning → Type 0} (laws : Lawful match Asks
   one-call = record {
     short = make-short laws;
     keeps = make-keeps match;
-    writes = λ kind n buffer scratch table. make-wrote n buffer scratch laws kind table;
+    writes = λ kind n buffer scratch table bytes a.
+        (make-wrote n buffer scratch laws kind table bytes a, plans-written match kind n buffer scratch table a);
     refusals = extract-refusals match;
   }
 

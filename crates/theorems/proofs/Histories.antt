@@ -88,11 +88,11 @@ module _ {match : Matcher} {Asks : Meaning → Type 0} (laws : Lawful match Asks
 
   module _ (room places : ℕ) where
     -- Plan buffer and table are of these lengths.
-    abbrev Sized : (buffer : List ℕ) → (table : List NodeRecord) → Type 0
+    abbrev pub Sized : (buffer : List ℕ) → (table : List NodeRecord) → Type 0
     Sized buffer table = (length buffer ≡ room) × (length table ≡ places)
 
     -- n and such a plan buffer hold the state's plan, the table is filled, and the frame that it started from fits.
-    abbrev HoldsState : State → (n : ℕ) → (buffer : List ℕ) → (table : List NodeRecord) → Type 0
+    abbrev pub HoldsState : State → (n : ℕ) → (buffer : List ℕ) → (table : List NodeRecord) → Type 0
     HoldsState nothing n buffer table = (n ≡ 0) × Sized buffer table
     HoldsState (started F b) n buffer table =
         GoodPlan (held F) × Holds laws F b n buffer × Sized buffer table × (length (frameBytes F) ≤ room) × Tabled laws F table
@@ -104,7 +104,7 @@ module _ {match : Matcher} {Asks : Meaning → Type 0} (laws : Lawful match Asks
     sized (projected X o) n buffer table h = h .2
 
     -- The plan that a state's buffer holds, and the table that fits it.
-    state-left : (s : State) (n : ℕ) (buffer : List ℕ) (table : List NodeRecord) → HoldsState s n buffer table
+    pub state-left : (s : State) (n : ℕ) (buffer : List ℕ) (table : List NodeRecord) → HoldsState s n buffer table
         → (take n buffer ≡ planBytes (statePlan match s)) × (n ≡ length (planBytes (statePlan match s)))
         × Sized buffer table × (tableFits table (ok (statePlan match s)) ≡ true)
     unfolding statePlan planBytes machineLength
@@ -114,7 +114,7 @@ module _ {match : Matcher} {Asks : Meaning → Type 0} (laws : Lawful match Asks
     state-left (projected X o) n buffer table h = (h .1 .bytes, unfold oddLength in h .1 .size, h .2, fits-odd table X o)
 
     -- It is read from there, and good.
-    state-held : (s : State) (n : ℕ) (buffer : List ℕ) (table : List NodeRecord) → HoldsState s n buffer table
+    pub state-held : (s : State) (n : ℕ) (buffer : List ℕ) (table : List NodeRecord) → HoldsState s n buffer table
         → (heldPlan n buffer ≡ ok (statePlan match s)) × GoodPlan (statePlan match s) × (n ≤ length buffer)
     unfolding statePlan planNodes planBytes
     state-held nothing n buffer table h = (
@@ -130,9 +130,9 @@ module _ {match : Matcher} {Asks : Meaning → Type 0} (laws : Lawful match Asks
     state-held (projected X o) n buffer table h = (held-odd X o n buffer (h .0) (h .1), odd-good X o (h .0), h .1 .fits)
 
     -- What one call must give.
-    record CallAgrees (a : Answered) (o : LoadOutcome) : Type 0 where
-      answer : o .answer ≡ a .answer
-      holds : HoldsState (a .state) (o .n) (o .buffer) (o .table)
+    pub record CallAgrees (a : Answered) (o : LoadOutcome) : Type 0 where
+      pub answer : o .answer ≡ a .answer
+      pub holds : HoldsState (a .state) (o .n) (o .buffer) (o .table)
 
     -- A refusal keeps everything.
     refuses : (s : State) (n : ℕ) (buffer : List ℕ) (table : List NodeRecord) (number : ℕ) → HoldsState s n buffer table
@@ -318,7 +318,7 @@ module _ {match : Matcher} {Asks : Meaning → Type 0} (laws : Lawful match Asks
 
     -- ---- lists
 
-    call-agrees : (s : State) (n : ℕ) (buffer : List ℕ) (table : List NodeRecord) (c : Call) → FrameIsBytes c → HoldsState s n buffer table
+    pub call-agrees : (s : State) (n : ℕ) (buffer : List ℕ) (table : List NodeRecord) (c : Call) → FrameIsBytes c → HoldsState s n buffer table
         → CallAgrees (machineCall match room places s c) (oneCallBy match n buffer table c)
     unfolding machineCall oneCallBy load merge project makeCall
     call-agrees s n buffer table (loading frame) bytes h = load-agrees s n buffer table frame bytes h (frameOf frame) refl

@@ -30,6 +30,7 @@ pub mod ListTheorem
 pub mod Lengths
 pub mod Answers
 pub mod Changes
+pub mod WrittenPlans
 pub mod RefusalNumbers
 pub mod Machines
 pub mod Truth
@@ -53,6 +54,8 @@ pub mod ProjectCall
 pub mod OddMachines
 pub mod ProjectLists
 pub mod AnyMatchers
+pub mod WholeDemand
+pub mod ShortClaims
 pub mod Table
 pub mod Refusals
 pub mod UpToLimits

@@ -6,6 +6,8 @@ use Rattle.definitions.specs.Meaning.{Fair}
 use Rattle.definitions.specs.Claims.{ExchangeTwice, ExtractExchanged, ExpressionReadBack, PlanReadBack, PlanOfBytes, AnyPosition, ExtractionGood, ExchangeGood, LengthsShort, RefusedKeeps, AcceptedWrites, RefusalsOfCalls, LoadAccepted, LoadHolds, ListOfCalls, AnswersInPlace, SamePlan, ExchangeAccepted, ExtractAccepted, PickExactly, RestOfLeaves, ExtractTakes, PositionInBytes, PriceLineOfCalls, PriceLineStays, PriceLineExchanged, MachinesAgree, NamesAreOnes, NamesOnce}
 use Rattle.definitions.specs.ValueClaims.{AndAssociative, AndCommutative, ExchangeValue, ExtractionValue, valuesWhen, ListValue, FairMeaning, FairByArguments, MarksStay}
 use Rattle.definitions.specs.AnyMatcher.{Extracts, OneCall, Lists, AnyMatcher}
+use Rattle.definitions.specs.DemandThree.{MeetsDemandThree}
+use Rattle.definitions.specs.ShortClaims.{ProjectionKeepsLine, ProjectKeepsLine, MergeExchanged, MergeExchangedLine, PolicyKeepsIndex, BoundWithoutColumns, SameTextSameExpression}
 use Rattle.definitions.specs.TenRows.{TenRows}
 use Rattle.definitions.specs.FurtherRows.{FurtherRows}
 use Rattle.definitions.specs.PositionRows.{PositionRows}
@@ -37,6 +39,8 @@ use Rattle.theorems.proofs.MatchLaws.{match-laws}
 use Rattle.theorems.proofs.Truth.{fair-symmetric, plan-exchange-value}
 use Rattle.theorems.proofs.Values.{and-value-assoc, and-value-comm}
 use Rattle.theorems.proofs.AnyMatchers.{any-matcher-is}
+use Rattle.theorems.proofs.WholeDemand.{meets-demand-three-by}
+use Rattle.theorems.proofs.ShortClaims as short
 use Rattle.theorems.proofs.FairExample.{fair-points, marks-left}
 use Rattle.theorems.proofs.FairCounting.{fair-counting}
 use Rattle.definitions.proofs.Names.{each-once, names-ones, tables-hold}
@@ -347,3 +351,29 @@ list-projected-has-value M fair v w F s = any-matcher-projects matchLeaf Fair ma
 
 pub project-rows : ProjectRows
 project-rows = project-rows-hold
+
+-- ---- demand 3 whole, and short claims
+
+pub meets-demand-three : MeetsDemandThree
+meets-demand-three = meets-demand-three-by (by-leaf .2)
+
+pub projection-keeps-line : ProjectionKeepsLine
+projection-keeps-line = short.projection-keeps-line
+
+pub project-keeps-line : ProjectKeepsLine
+project-keeps-line = short.project-keeps-line
+
+pub merge-exchanged : MergeExchanged
+merge-exchanged = short.merge-exchanged
+
+pub merge-exchanged-line : MergeExchangedLine
+merge-exchanged-line = short.merge-exchanged-line
+
+pub policy-keeps-index : PolicyKeepsIndex
+policy-keeps-index = short.policy-keeps-index
+
+pub bound-without-columns : BoundWithoutColumns
+bound-without-columns = short.bound-without-columns
+
+pub same-text-same-expression : SameTextSameExpression
+same-text-same-expression = short.same-text-same-expression
