@@ -180,7 +180,7 @@ module _ (F : Frame) where
       (λ s. list-projected-has-value M fair v w F s calls lists scratch (a .table) later) r
       (projects lists (r .last) scratch kept a is))
 
-  demand-three : DemandThree F
+  pub demand-three : DemandThree F
   demand-three = record {
     size = λ calls r. size-is (r .start) (r .starts);
     machine = λ calls. told (λ (x : ListOutcome). Agree F x (machineAfter F calls)) (λ s. list-of-calls F s calls);

@@ -1,0 +1,239 @@
+-- A host's run from a load or merge is the code's run, so all of demand 3 holds of it, and of any history.
+use Prim.Native.Nat.{ℕ}
+use mathlib.Core.Path.{_≡_, refl, sym, ap, _∙_, subst}
+use mathlib.Core.Bool.{true, false, _&&_, not}
+use mathlib.Core.List.{List, [], _∷_, map}
+use mathlib.Core.Option.{some}
+use lib.IntN.{ℤ, pos}
+use lib.ListN.{length, take, length-map}
+use lib.Dec.{leb}
+use Rattle.definitions.specs.Basics.{ok}
+use Rattle.definitions.specs.Expression.{Frame, Extraction}
+use Rattle.definitions.specs.Encode.{planBytes}
+use Rattle.definitions.specs.Match.{matchLeaf}
+use Rattle.definitions.specs.Extract.{matchesOf}
+use Rattle.definitions.specs.Calls.{tableFits}
+use Rattle.definitions.specs.Machine.{extractCall, exchangeCall}
+use Rattle.definitions.specs.NodeTable.{NodeRecord}
+use Rattle.definitions.specs.Sessions.{Made, fed, ListOutcome, machineAfter, accepted, extractAccepted, exchangesOdd, planLeft}
+use Rattle.definitions.specs.Meaning.{Valuation, Meaning, Fair, frameValue, extractionValue}
+use Rattle.definitions.specs.Claims.{Agree, someLeafMatches, Took, extractedPlan, NamesLeaf, priceLine}
+use Rattle.definitions.specs.ValueClaims.{valuesWhen, HasValue}
+use Rattle.definitions.specs.Merge.{mergeFrames, merge}
+use Rattle.definitions.specs.Project.{Lists as ChildLists}
+use Rattle.definitions.specs.OddMachine.{oddRun}
+use Rattle.definitions.specs.ProjectClaims.{NewColumns, projectBy, OddAgree}
+use Rattle.definitions.specs.History.{Call, making, nothing, statePlan, History, machineHistory, FramesAreBytes}
+use Rattle.definitions.specs.Hosts.{hosted}
+use Rattle.join_filter.specs.Outcomes.{answerOf, LoadIs, OutcomeIs, MergeIs}
+use Rattle.join_filter.specs.Lists.{Ran, ranTo, Starts, byLoad as code-by-load, byMerge as code-by-merge, CodeRun, outcome as code-outcome, DemandThree, AfterProjection, ProjectIs}
+use Rattle.join_filter.specs.declared.answers.Answer.{Answer}
+use Rattle.join_filter.specs.declared.answers.Answer.the-variants.{Length}
+use Rattle.join_filter.proofs.DemandThree.{code-meets-demand-three, demand-three}
+use Rattle.node_table.specs.Records.{nodesOf, nodeOf}
+use Rattle.node_table.specs.declared.NodeRecord.{NodeRecord as TableRecord}
+use Rattle.host_calls.specs.Hosted.{LoadHosted, MergeHosted}
+use Rattle.host_lists.specs.Numbers.{answered}
+use Rattle.host_lists.specs.HostLists.{Host, MadeHosted, HostRan, hostTo, HostStarts, byLoad, byMerge, HostRun, outcome, plan, extracted, odd, ProjectHosted, HostDemandThree, HostProjected, HostsMeetDemandThree}
+use Rattle.host_lists.proofs.Numbers.{known}
+use Rattle.host_lists.proofs.Ran.{lentOf, made-is, project-is, merge-is, load-is, host-ran, hosted-all, outcomes-same, length-told}
+
+-- ---- a call that gave a length
+
+load-length : (frame before : List ℕ) (table : List NodeRecord) (after : List ℕ) (filled : List NodeRecord) (m : ℕ)
+    → LoadHosted frame before table after filled (pos m) → LoadIs frame before after table filled (Length m)
+load-length frame before table after filled m h =
+    let (r, is, same) = load-is frame before table after filled (pos m) h in
+    subst (λ (r : Answer). LoadIs frame before after table filled r) (length-told m r same) is
+
+pub merge-length : (frame : List ℕ) (n : ℕ) (before scratch kept : List ℕ) (table : List NodeRecord) (after : List ℕ)
+    (filled : List NodeRecord) (m : ℕ) → MergeHosted (merge frame n before scratch table) after kept filled (pos m)
+    → MergeIs (merge frame n before scratch table) n after kept filled (Length m)
+merge-length frame n before scratch kept table after filled m h =
+    let (r, is, same) = merge-is frame n before scratch table after kept filled (pos m) h in
+    subst (λ (r : Answer). MergeIs (merge frame n before scratch table) n after kept filled r) (length-told m r same) is
+
+project-length : (lists : ChildLists) (b : Host) (scratch kept : List ℕ) (a : Host) → ProjectHosted lists b scratch kept a
+    → ProjectIs lists (lentOf b) scratch kept (lentOf a)
+project-length lists b scratch kept a h =
+    let (r, is, same) = project-is (b .n) (b .plan) scratch (lists .ofLeft) (lists .ofRight) (a .plan) kept (pos (a .n)) h in
+    subst (λ (r : Answer). OutcomeIs (projectBy lists (b .n) (b .plan) scratch) (b .n) (a .plan) kept r) (length-told (a .n) r same) is
+
+starts-is : (F : Frame) (a : Host) → HostStarts F a → Starts F (lentOf a)
+starts-is F a (byLoad frame before table bytes good is) =
+    code-by-load frame before (nodesOf table) bytes good
+    (load-length frame before (nodesOf table) (a .plan) (nodesOf (a .table)) (a .n) is)
+starts-is F a (byMerge frame n before scratch kept table old new bytes plan-bytes given found joined is) =
+    code-by-merge frame n before scratch kept (nodesOf table) old new bytes plan-bytes given found joined
+    (merge-length frame n before scratch kept (nodesOf table) (a .plan) (nodesOf (a .table)) (a .n) is)
+
+-- ---- demand 3 from a frame
+
+module _ (F : Frame) where
+  -- The code's run of a host's.
+  abbrev code-run : {calls : List Made} (r : HostRun F calls) → CodeRun F calls
+  code-run r =
+      let (answers, ran, same) = host-ran (r .ran) in record {
+        start = lentOf (r .start);
+        starts = starts-is F (r .start) (r .starts);
+        answers = answers;
+        last = lentOf (r .last);
+        ran = ran;
+      }
+
+  same-outcome : {calls : List Made} (r : HostRun F calls) → code-outcome (code-run r) ≡ outcome r
+  same-outcome r = outcomes-same (r .numbers) (host-ran (r .ran) .0) (r .last) (host-ran (r .ran) .2)
+
+  -- What is told of the code's runs by their outcome is told of a host's.
+  told : {calls : List Made} (P : ListOutcome → Type 0) → ((c : CodeRun F calls) → P (code-outcome c)) → (r : HostRun F calls)
+      → P (outcome r)
+  told P h r = subst P (same-outcome r) (h (code-run r))
+
+  code : DemandThree F
+  code = demand-three F
+
+  numbers-are : (calls : List Made) (r : HostRun F calls) → r .numbers ≡ map hosted (machineAfter F calls .answers)
+  numbers-are calls r =
+      host-ran (r .ran) .2 ∙ hosted-all (host-ran (r .ran) .0) ∙ ap (map hosted) (code .machine calls (code-run r) .answers)
+
+  plans-alike : (calls calls′ : List Made) (r : HostRun F calls) (r′ : HostRun F calls′)
+      → extracted r ≡ extracted r′ → odd r ≡ odd r′ → plan r ≡ plan r′
+  plans-alike calls calls′ r r′ =
+      subst (λ (x : ListOutcome). extractAccepted calls (x .answers) ≡ extracted r′ → exchangesOdd calls (x .answers) ≡ odd r′
+      → planLeft x ≡ plan r′) (same-outcome r)
+      (subst (λ (y : ListOutcome). extractAccepted calls (code-outcome (code-run r) .answers) ≡ extractAccepted calls′ (y .answers)
+      → exchangesOdd calls (code-outcome (code-run r) .answers) ≡ exchangesOdd calls′ (y .answers)
+      → planLeft (code-outcome (code-run r)) ≡ planLeft y) (same-outcome r′)
+      (code .samePlan calls calls′ (code-run r) (code-run r′)))
+
+  -- Whether the number is a length is whether the code's answer is.
+  accepted-by : (r : Answer) (z : ℤ) → z ≡ hosted (answerOf r) → accepted (answered z) ≡ accepted (answerOf r)
+  accepted-by r z e = ap (λ (x : ℤ). accepted (answered x)) e ∙ ap accepted (known r)
+
+  exchange-accepted : (calls : List Made) (r : HostRun F calls) (scratch after kept : List ℕ) (z : ℤ)
+      → MadeHosted exchangeCall (r .last) scratch after kept z → accepted (answered z) ≡ leb (r .last .n) (length scratch)
+  exchange-accepted calls r scratch after kept z h =
+      let (a, is, same) = made-is exchangeCall (r .last) scratch after kept z h in
+      accepted-by a z same ∙ code .exchangeAccepted calls (code-run r) scratch after kept a is
+
+  extract-accepted : (calls : List Made) (r : HostRun F calls) (scratch after kept : List ℕ) (z : ℤ)
+      → MadeHosted extractCall (r .last) scratch after kept z
+      → accepted (answered z) ≡ (leb (r .last .n) (length scratch) && (not (extracted r) && someLeafMatches F))
+  extract-accepted calls r scratch after kept z h =
+      let (a, is, same) = made-is extractCall (r .last) scratch after kept z h in
+      accepted-by a z same ∙ code .extractAccepted calls (code-run r) scratch after kept a is
+      ∙ ap (λ (x : ListOutcome). leb (r .last .n) (length scratch) && (not (extractAccepted calls (x .answers)) && someLeafMatches F))
+      (same-outcome r)
+
+  value-projected : (M : Meaning) → Fair M → (v w : Valuation) (calls : List Made) (r : HostRun F calls)
+      (lists : ChildLists) (scratch kept : List ℕ) (a : Host) → ProjectHosted lists (r .last) scratch kept a
+      → (later : List Made) (numbers : List ℤ) (last : Host) → HostRan a (map making later) numbers last
+      → NewColumns lists (valuesWhen (odd r) v) (valuesWhen (exchangesOdd later (map answered numbers)) w)
+      → HasValue M w (planLeft (hostTo numbers last)) (frameValue M v F)
+  value-projected M fair v w calls r lists scratch kept a is later numbers last ran =
+      let (answers, code-ran, same) = host-ran ran in
+      subst (λ (y : ListOutcome). NewColumns lists (valuesWhen (odd r) v) (valuesWhen (exchangesOdd later (y .answers)) w)
+      → HasValue M w (planLeft y) (frameValue M v F)) (outcomes-same numbers answers last same)
+      (subst (λ (x : ListOutcome). NewColumns lists (valuesWhen (exchangesOdd calls (x .answers)) v)
+      (valuesWhen (exchangesOdd later (map answerOf answers)) w) → HasValue M w (planLeft (ranTo answers (lentOf last))) (frameValue M v F))
+      (same-outcome r)
+      (code .projected M fair v w calls (code-run r) lists scratch kept (lentOf a) (project-length lists (r .last) scratch kept a is) later
+      answers (lentOf last) code-ran))
+
+  pub host-demand-three : HostDemandThree F
+  host-demand-three = record {
+    size = λ calls r. code .size calls (code-run r);
+    numbers = numbers-are;
+    machine = λ calls. told (λ (x : ListOutcome). Agree F x (machineAfter F calls)) (code .machine calls);
+    samePlan = plans-alike;
+    truth = λ M fair v calls.
+        told (λ (x : ListOutcome). HasValue M v (planLeft x) (frameValue M (valuesWhen (exchangesOdd calls (x .answers)) v) F))
+        (code .truth M fair v calls);
+    exchangeAccepted = exchange-accepted;
+    extractAccepted = extract-accepted;
+    pick = λ calls. told
+        (λ (x : ListOutcome). extractAccepted calls (x .answers) ≡ true
+        → (X : Extraction) × Took F X × (planLeft x ≡ planBytes (extractedPlan X (exchangesOdd calls (x .answers)))))
+        (code .pick calls);
+    position = λ calls. told
+        (λ (x : ListOutcome). extractAccepted calls (x .answers) ≡ true → NamesLeaf (matchesOf F) F (planLeft x)) (code .position calls);
+    line = λ calls. told
+        (λ (x : ListOutcome). extractAccepted calls (x .answers) ≡ true
+        → (line : ℕ) × (priceLine F ≡ some line) × (take 1 (planLeft x) ≡ line ∷ []))
+        (code .line calls);
+    projected = value-projected;
+  }
+
+-- ---- after a projection
+
+module _ (lists : ChildLists) (X Y : Extraction) (a : Host) (code : AfterProjection lists X Y (lentOf a)) where
+  projected-told : (calls : List Made) (numbers : List ℤ) (last : Host) → HostRan a (map making calls) numbers last
+      → (P : ListOutcome → Type 0)
+      → ((answers : List Answer) → Ran (lentOf a) (map making calls) answers (lentOf last) → P (ranTo answers (lentOf last)))
+      → P (hostTo numbers last)
+  projected-told calls numbers last ran P h =
+      let (answers, code-ran, same) = host-ran ran in
+      subst P (outcomes-same numbers answers last same) (h answers code-ran)
+
+  projected-numbers : (calls : List Made) (numbers : List ℤ) (last : Host) → HostRan a (map making calls) numbers last
+      → numbers ≡ map hosted (oddRun Y false (map fed calls) .answers)
+  projected-numbers calls numbers last ran =
+      let (answers, code-ran, same) = host-ran ran in
+      same ∙ hosted-all answers ∙ ap (map hosted) (code .machine calls answers (lentOf last) code-ran .answers)
+
+  host-projected : HostProjected lists X Y a
+  host-projected = record {
+    numbers = projected-numbers;
+    machine = λ calls numbers last ran.
+        projected-told calls numbers last ran (λ (x : ListOutcome). OddAgree Y x (oddRun Y false (map fed calls)))
+        (λ answers code-ran. code .machine calls answers (lentOf last) code-ran);
+    truth = λ M fair v w calls numbers last ran.
+        projected-told calls numbers last ran
+        (λ (x : ListOutcome). NewColumns lists v (valuesWhen (exchangesOdd calls (x .answers)) w)
+        → HasValue M w (planLeft x) (extractionValue M v X))
+        (λ answers code-ran. code .truth M fair v w calls answers (lentOf last) code-ran);
+  }
+
+-- ---- whole
+
+host-history : (plan : List ℕ) (table : List TableRecord) (calls : List Call) (numbers : List ℤ) (last : Host) → FramesAreBytes calls
+    → HostRan (record { plan = plan; n = 0; table = table }) calls numbers last
+    → let m : History = machineHistory matchLeaf (length plan) (length table) nothing calls in
+    (numbers ≡ map hosted (m .answers)) × (take (last .n) (last .plan) ≡ planBytes (statePlan matchLeaf (m .state)))
+    × (last .n ≡ length (planBytes (statePlan matchLeaf (m .state)))) × (length (last .plan) ≡ length plan)
+    × (length (last .table) ≡ length table) × (tableFits (nodesOf (last .table)) (ok (statePlan matchLeaf (m .state))) ≡ true)
+host-history plan table calls numbers last bytes ran =
+    let (answers, code-ran, same) = host-ran ran in
+    let h = code-meets-demand-three .history plan (nodesOf table) calls answers (lentOf last) bytes code-ran in
+    let k = rw (length-map table nodeOf) at h in (
+      same ∙ hosted-all answers ∙ ap (map hosted) (k .0),
+      k .1,
+      k .2,
+      k .3,
+      sym (length-map (last .table) nodeOf) ∙ k .4,
+      k .5,
+    )
+
+pub hosts-meet-demand-three : HostsMeetDemandThree
+hosts-meet-demand-three = record {
+  afterLoad = λ frame before table a bytes is.
+      let (F, good, starts, d) = code-meets-demand-three .afterLoad frame before (nodesOf table) (lentOf a) bytes
+      (load-length frame before (nodesOf table) (a .plan) (nodesOf (a .table)) (a .n) is) in
+      (F, good, byLoad frame before table bytes good is, host-demand-three F);
+  afterMerge = λ frame n before scratch kept table a bytes plan-bytes is.
+      let (old, new, found, given, starts, d) =
+      code-meets-demand-three .afterMerge frame n before scratch kept (nodesOf table) (lentOf a) bytes plan-bytes
+      (merge-length frame n before scratch kept (nodesOf table) (a .plan) (nodesOf (a .table)) (a .n) is) in (
+        old,
+        new,
+        found,
+        given,
+        byMerge frame n before scratch kept table old new bytes plan-bytes given found refl is,
+        host-demand-three (mergeFrames old new),
+      );
+  afterProjection = λ lists b scratch kept a bytes is.
+      let (X, Y, found, new, size, after) =
+      code-meets-demand-three .afterProjection lists (lentOf b) scratch kept (lentOf a) bytes (project-length lists b scratch kept a is) in
+      (X, Y, found, new, size, host-projected lists X Y a after);
+  history = host-history;
+}

@@ -1,0 +1,172 @@
+-- From a number the answer is known, because a refusal's number is from 1 to 20; and every call answers a short length or such a refusal.
+use Prim.Native.Nat.{ℕ, zero, suc, _≤_}
+use native.Mathlib.Omega.{arith}
+use mathlib.Core.Path.{_≡_, refl, sym, ap, _∙_, subst}
+use mathlib.Core.Bool.{Bool, true, false, _||_, false≢true}
+use mathlib.Core.List.{List, [], _∷_, map}
+use lib.IntN.{pos, negℤ}
+use lib.Dec.{eqb}
+use borrow.Author.Tests.{eqb-true}
+use Rattle.definitions.specs.Limits.{mostBytes}
+use Rattle.definitions.specs.Basics.{Result, ok, refused, any}
+use Rattle.definitions.specs.Machine.{Kind, extractCall, exchangeCall}
+use Rattle.definitions.specs.Good.{AllBytes}
+use Rattle.definitions.specs.NodeTable.{NodeRecord}
+use Rattle.definitions.specs.Sessions.{makeBy, make, accepted}
+use Rattle.definitions.specs.Merge.{merge}
+use Rattle.definitions.specs.Hosts.{hosted}
+use Rattle.definitions.specs.Claims.{loadRefusals, extractRefusals, exchangeRefusals, mergeRefusals, projectRefusals, RefusedBy}
+use Rattle.theorems.proofs.InverseFrame.{same-ok}
+use Rattle.theorems.proofs.Proved.{lengths-short, refusals-of-calls, merge-writes}
+use Rattle.terms.specs.Refusals.{numberOf}
+use Rattle.terms.specs.declared.refusals.Refusal.{Refusal}
+use Rattle.terms.specs.declared.refusals.Refusal.the-variants.{EmptyOrTooLong, WrongFirstByte, EndsInsideField, OutOfRange, TooManyOrTooDeep, NoSuchColumn, BytesAfterEnd, TooFewArguments, BufferTooShort, NoGoodPlan, PlanEmpty, AlreadyExtracted, NoLeafMatches, NotHexadecimal, TextBufferTooShort, MergedTooLarge, TableTooShort, NotExtracted, ListTooLong, NoSuchChild}
+use Rattle.join_filter.specs.Outcomes.{answerOf, nAfter}
+use Rattle.join_filter.specs.declared.answers.Answer.{Answer}
+use Rattle.join_filter.specs.declared.answers.Answer.the-variants.{Length, Refused}
+use Rattle.host_lists.specs.Numbers.{answered, nextN, IsAnswer, AnswerKnown, NumbersApart, AnswersOfCalls}
+
+-- ---- minus a refusal's number
+
+known-refusal : (k : ℕ) → 1 ≤ k → answered (negℤ (pos k)) ≡ refused k
+known-refusal zero h = absurd (omega (arith, h))
+known-refusal (suc k) h = refl
+
+same-n : (n k : ℕ) → 1 ≤ k → nextN n (negℤ (pos k)) ≡ n
+same-n n zero h = absurd (omega (arith, h))
+same-n n (suc k) h = refl
+
+pub answer-known : AnswerKnown
+unfolding hosted
+answer-known (ok m) h = refl
+answer-known (refused k) h = known-refusal k (h .0)
+
+pub numbers-apart : NumbersApart
+numbers-apart a b h k e = sym (answer-known a h) ∙ ap answered e ∙ answer-known b k
+
+-- ---- the refusals
+
+pub from-1-to-20 : (why : Refusal) → (1 ≤ numberOf why) × (numberOf why ≤ 20)
+from-1-to-20 EmptyOrTooLong = (omega arith, omega arith)
+from-1-to-20 WrongFirstByte = (omega arith, omega arith)
+from-1-to-20 EndsInsideField = (omega arith, omega arith)
+from-1-to-20 OutOfRange = (omega arith, omega arith)
+from-1-to-20 TooManyOrTooDeep = (omega arith, omega arith)
+from-1-to-20 NoSuchColumn = (omega arith, omega arith)
+from-1-to-20 BytesAfterEnd = (omega arith, omega arith)
+from-1-to-20 TooFewArguments = (omega arith, omega arith)
+from-1-to-20 BufferTooShort = (omega arith, omega arith)
+from-1-to-20 NoGoodPlan = (omega arith, omega arith)
+from-1-to-20 PlanEmpty = (omega arith, omega arith)
+from-1-to-20 AlreadyExtracted = (omega arith, omega arith)
+from-1-to-20 NoLeafMatches = (omega arith, omega arith)
+from-1-to-20 NotHexadecimal = (omega arith, omega arith)
+from-1-to-20 TextBufferTooShort = (omega arith, omega arith)
+from-1-to-20 MergedTooLarge = (omega arith, omega arith)
+from-1-to-20 TableTooShort = (omega arith, omega arith)
+from-1-to-20 NotExtracted = (omega arith, omega arith)
+from-1-to-20 ListTooLong = (omega arith, omega arith)
+from-1-to-20 NoSuchChild = (omega arith, omega arith)
+
+-- The number of an answer of the code.
+pub known : (r : Answer) → answered (hosted (answerOf r)) ≡ answerOf r
+unfolding hosted
+known (Length m) = refl
+known (Refused why) = known-refusal (numberOf why) (from-1-to-20 why .0)
+
+pub next-is : (n : ℕ) (r : Answer) → nextN n (hosted (answerOf r)) ≡ nAfter n r
+unfolding hosted
+next-is n (Length m) = refl
+next-is n (Refused why) = same-n n (numberOf why) (from-1-to-20 why .0)
+
+-- ---- each refusal of a call by its name
+
+-- The numbers of a list are those of refusals.
+abbrev pub Named : (numbers : List ℕ) → Type 0
+Named numbers = (whys : List Refusal) × (map numberOf whys ≡ numbers)
+
+first-or : (k : ℕ) (why : Refusal) (rest b : Bool) → eqb k (numberOf why) ≡ b → (b || rest) ≡ true
+    → (rest ≡ true → (why : Refusal) × (numberOf why ≡ k)) → (why : Refusal) × (numberOf why ≡ k)
+first-or k why rest true f e later = (why, sym (eqb-true k (numberOf why) f))
+first-or k why rest false f e later = later e
+
+named-in : (whys : List Refusal) (k : ℕ) → any (eqb k) (map numberOf whys) ≡ true → (why : Refusal) × (numberOf why ≡ k)
+unfolding any
+named-in [] k e = absurd (false≢true e)
+named-in (why ∷ whys) k e =
+    first-or k why (any (eqb k) (map numberOf whys)) (eqb k (numberOf why)) refl e (λ later. named-in whys k later)
+
+named-at : (numbers : List ℕ) → Named numbers → (k : ℕ) → any (eqb k) numbers ≡ true → (why : Refusal) × (numberOf why ≡ k)
+named-at numbers (whys, is) k e = named-in whys k (subst (λ (l : List ℕ). any (eqb k) l ≡ true) (sym is) e)
+
+-- A value or one of these refusals is an answer of the code.
+pub answer-from : (numbers : List ℕ) → Named numbers → (x : Result ℕ) → RefusedBy numbers x → (r : Answer) × (answerOf r ≡ x)
+answer-from numbers named (ok m) h = (Length m, refl)
+answer-from numbers named (refused k) h = let (why, e) = named-at numbers named k h in (Refused why, ap refused e)
+
+pub load-named : Named loadRefusals
+unfolding loadRefusals
+load-named = (
+  EmptyOrTooLong ∷ WrongFirstByte ∷ EndsInsideField ∷ OutOfRange ∷ TooManyOrTooDeep ∷ NoSuchColumn ∷ BytesAfterEnd ∷
+      TooFewArguments ∷ BufferTooShort ∷ TableTooShort ∷ [],
+  refl,
+)
+
+pub extract-named : Named extractRefusals
+unfolding extractRefusals
+extract-named =
+    (NoGoodPlan ∷ PlanEmpty ∷ AlreadyExtracted ∷ BufferTooShort ∷ NoLeafMatches ∷ [], refl)
+
+pub exchange-named : Named exchangeRefusals
+unfolding exchangeRefusals
+exchange-named =
+    (NoGoodPlan ∷ PlanEmpty ∷ BufferTooShort ∷ [], refl)
+
+pub merge-named : Named mergeRefusals
+unfolding mergeRefusals
+merge-named = (
+  EmptyOrTooLong ∷ WrongFirstByte ∷ EndsInsideField ∷ OutOfRange ∷ TooManyOrTooDeep ∷ NoSuchColumn ∷ BytesAfterEnd ∷
+      TooFewArguments ∷ NoGoodPlan ∷ PlanEmpty ∷ AlreadyExtracted ∷ MergedTooLarge ∷ BufferTooShort ∷ TableTooShort ∷ [],
+  refl,
+)
+
+pub project-named : Named projectRefusals
+unfolding projectRefusals
+project-named =
+    (NoGoodPlan ∷ PlanEmpty ∷ NotExtracted ∷ ListTooLong ∷ BufferTooShort ∷ NoSuchChild ∷ [], refl)
+
+-- ---- what the calls answer
+
+is-answer : (numbers : List ℕ) → Named numbers → (x : Result ℕ) → RefusedBy numbers x → ((m : ℕ) → x ≡ ok m → m ≤ mostBytes) → IsAnswer x
+is-answer numbers named (ok m) h short = short m refl
+is-answer numbers named (refused k) h short =
+    let (why, e) = named-at numbers named k h in subst (λ (k : ℕ). (1 ≤ k) × (k ≤ 20)) e (from-1-to-20 why)
+
+make-answer : (kind : Kind) (n : ℕ) (plan scratch : List ℕ) (table : List NodeRecord) → AllBytes plan
+    → IsAnswer (make kind n plan scratch table .answer)
+unfolding makeBy
+make-answer extractCall n plan scratch table bytes =
+    is-answer extractRefusals extract-named _ (refusals-of-calls .1 n plan scratch table)
+    (λ m e. lengths-short .1 extractCall n plan scratch table m bytes e)
+make-answer exchangeCall n plan scratch table bytes =
+    is-answer exchangeRefusals exchange-named _ (refusals-of-calls .2 n plan scratch)
+    (λ m e. lengths-short .1 exchangeCall n plan scratch table m bytes e)
+
+merge-short : (frame : List ℕ) (n : ℕ) (plan scratch : List ℕ) (table : List NodeRecord) (m : ℕ)
+    → merge frame n plan scratch table .answer ≡ ok m → m ≤ mostBytes
+unfolding accepted
+merge-short frame n plan scratch table m e =
+    let (old, new, found, given, wrote) = merge-writes frame n plan scratch table (ap accepted e) in
+    let size : merge frame n plan scratch table .n ≡ m = same-ok _ _ (sym (wrote .wrote .answer) ∙ e) in
+    subst (λ (k : ℕ). k ≤ mostBytes) size (wrote .short)
+
+pub answers-of-calls : AnswersOfCalls
+answers-of-calls = (
+  λ frame n plan table bytes. is-answer loadRefusals load-named _ (refusals-of-calls .0 frame n plan table)
+      (λ m e. lengths-short .0 frame n plan table m bytes e),
+  make-answer,
+  λ frame n plan scratch table. is-answer mergeRefusals merge-named _ (refusals-of-calls .5 frame n plan scratch table)
+      (merge-short frame n plan scratch table),
+  λ n plan scratch ofLeft ofRight bytes. is-answer projectRefusals project-named _ (refusals-of-calls .6 n plan scratch ofLeft ofRight)
+      (λ m e. lengths-short .2 n plan scratch ofLeft ofRight m bytes e),
+)

@@ -1,0 +1,187 @@
+-- A host's own lists of exported calls, each call by the relation that its contract cites, and demand 3 of them.
+use Prim.Native.Nat.{ℕ}
+use mathlib.Core.Path.{_≡_}
+use mathlib.Core.Bool.{Bool, true, false, _&&_, not}
+use mathlib.Core.List.{List, [], _∷_, map}
+use mathlib.Core.Option.{some}
+use lib.IntN.{ℤ, pos}
+use lib.ListN.{length, take}
+use lib.Dec.{leb}
+use Rattle.definitions.specs.Basics.{ok}
+use Rattle.definitions.specs.Expression.{Frame, Extraction, held, extracted as holding}
+use Rattle.definitions.specs.Encode.{frameBytes, planBytes}
+use Rattle.definitions.specs.Plans.{frameOf}
+use Rattle.definitions.specs.Match.{matchLeaf}
+use Rattle.definitions.specs.Extract.{matchesOf}
+use Rattle.definitions.specs.Calls.{tableFits, heldPlan, extract, exchange}
+use Rattle.definitions.specs.Machine.{Kind, extractCall, exchangeCall}
+use Rattle.definitions.specs.Good.{AllBytes}
+use Rattle.definitions.specs.Sessions.{Made, fed, ListOutcome, machineAfter, accepted, extractAccepted, exchangesOdd, planLeft}
+use Rattle.definitions.specs.Meaning.{Valuation, Meaning, Fair, frameValue, extractionValue}
+use Rattle.definitions.specs.Claims.{Agree, someLeafMatches, Took, extractedPlan, NamesLeaf, priceLine}
+use Rattle.definitions.specs.ValueClaims.{valuesWhen, HasValue}
+use Rattle.definitions.specs.Merge.{mergeFrames, merge}
+use Rattle.definitions.specs.Project.{projection, project, Lists as ChildLists}
+use Rattle.definitions.specs.OddMachine.{oddRun}
+use Rattle.definitions.specs.ProjectClaims.{NewColumns, projectBy, OddAgree}
+use Rattle.definitions.specs.History.{Call, loading, making, merging, projecting, nothing, statePlan, History, machineHistory, FramesAreBytes}
+use Rattle.definitions.specs.Hosts.{hosted}
+use Rattle.node_table.specs.Records.{nodesOf}
+use Rattle.node_table.specs.declared.NodeRecord.{NodeRecord as TableRecord}
+use Rattle.host_calls.specs.Hosted.{LoadHosted, CallHosted, MergeHosted}
+use Rattle.host_lists.specs.Numbers.{answered, nextN}
+
+-- ---- a host, and its calls
+
+-- What a host owns between two calls: the plan buffer, n, and the table. It lends a scratch buffer to each call anew.
+pub record Host : Type 0 where
+  pub plan : List ℕ
+  pub n : ℕ
+  pub table : List TableRecord
+
+-- `spatialjoin_extract` or `spatialjoin_exchange` met its contract.
+abbrev pub MadeHosted : Kind → Host → (scratch after kept : List ℕ) → ℤ → Type 0
+MadeHosted extractCall b scratch after kept z = CallHosted (extract (b .n) (b .plan) scratch (nodesOf (b .table))) after kept z
+MadeHosted exchangeCall b scratch after kept z = CallHosted (exchange (b .n) (b .plan) scratch) after kept z
+
+-- A call of `spatialjoin_load`, `_extract`, `_exchange`, `_merge` or `_project` met its contract, was given what the first host owns, gave
+-- this number, and left what the second owns. n is the host's to keep. Extract is lent the table and cannot write it; exchange and project
+-- are not lent it.
+abbrev pub HostCall : Host → Call → Host → ℤ → Type 0
+HostCall b (loading frame) a z =
+    LoadHosted frame (b .plan) (nodesOf (b .table)) (a .plan) (nodesOf (a .table)) z × (a .n ≡ nextN (b .n) z)
+HostCall b (making c) a z =
+    (kept : List ℕ) × MadeHosted (c .kind) b (c .scratch) (a .plan) kept z × (a .n ≡ nextN (b .n) z) × (a .table ≡ b .table)
+HostCall b (merging frame scratch) a z =
+    (kept : List ℕ) × MergeHosted (merge frame (b .n) (b .plan) scratch (nodesOf (b .table))) (a .plan) kept (nodesOf (a .table)) z
+    × (a .n ≡ nextN (b .n) z)
+HostCall b (projecting scratch ofLeft ofRight) a z =
+    (kept : List ℕ) × CallHosted (project (b .n) (b .plan) scratch ofLeft ofRight) (a .plan) kept z
+    × (a .n ≡ nextN (b .n) z) × (a .table ≡ b .table)
+
+-- A host made a list of calls, each with what the one before left, and was given these numbers.
+pub data HostRan : Host → List Call → List ℤ → Host → Type 0 where
+  madeNone : {b : Host} → HostRan b [] [] b
+  madeOne : {b a last : Host} {c : Call} {calls : List Call} {z : ℤ} {numbers : List ℤ}
+      → HostCall b c a z → HostRan a calls numbers last → HostRan b (c ∷ calls) (z ∷ numbers) last
+
+-- What such a list answered, read off its numbers, and what it left.
+abbrev pub hostTo : List ℤ → Host → ListOutcome
+hostTo numbers last = record { answers = map answered numbers; n = last .n; buffer = last .plan }
+
+-- ---- from a frame
+
+-- A call that met its contract gave a length, which the host has as n, and left the frame F: a load of it, or a merge of two frames to it.
+pub data HostStarts (F : Frame) (a : Host) : Type 0 where
+  byLoad : (frame before : List ℕ) (table : List TableRecord) → AllBytes frame → frameOf frame ≡ ok F
+      → LoadHosted frame before (nodesOf table) (a .plan) (nodesOf (a .table)) (pos (a .n)) → HostStarts F a
+  byMerge : (frame : List ℕ) (n : ℕ) (before scratch kept : List ℕ) (table : List TableRecord) (old new : Frame) → AllBytes frame
+      → AllBytes before → frameOf frame ≡ ok new → heldPlan n before ≡ ok (held old) → mergeFrames old new ≡ F
+      → MergeHosted (merge frame n before scratch (nodesOf table)) (a .plan) kept (nodesOf (a .table)) (pos (a .n)) → HostStarts F a
+
+-- Such a call, and after it a list of extracts and exchanges.
+pub record HostRun (F : Frame) (calls : List Made) : Type 0 where
+  pub start : Host
+  pub starts : HostStarts F start
+  pub numbers : List ℤ
+  pub last : Host
+  pub ran : HostRan start (map making calls) numbers last
+
+-- What the list answered and left.
+abbrev pub outcome : {F : Frame} {calls : List Made} → HostRun F calls → ListOutcome
+outcome r = hostTo (r .numbers) (r .last)
+
+-- The plan that it left: the first n bytes of the plan buffer.
+abbrev pub plan : {F : Frame} {calls : List Made} → HostRun F calls → List ℕ
+plan r = planLeft (outcome r)
+
+-- Whether it accepted an extract.
+abbrev pub extracted : {F : Frame} {calls : List Made} → HostRun F calls → Bool
+extracted {F} {calls} r = extractAccepted calls (outcome r .answers)
+
+-- Whether it accepted an odd number of exchanges.
+abbrev pub odd : {F : Frame} {calls : List Made} → HostRun F calls → Bool
+odd {F} {calls} r = exchangesOdd calls (outcome r .answers)
+
+-- A projection by these lists met its contract and gave n.
+abbrev pub ProjectHosted : ChildLists → Host → (scratch kept : List ℕ) → Host → Type 0
+ProjectHosted lists b scratch kept a = CallHosted (projectBy lists (b .n) (b .plan) scratch) (a .plan) kept (pos (a .n))
+
+-- Demand 3 of a host, from the frame F.
+pub record HostDemandThree (F : Frame) : Type 0 where
+  -- The load or merge gave the frame's length.
+  pub size : (calls : List Made) (r : HostRun F calls) → r .start .n ≡ length (frameBytes F)
+  -- Every number is that of the two-bit machine's answer.
+  pub numbers : (calls : List Made) (r : HostRun F calls) → r .numbers ≡ map hosted (machineAfter F calls .answers)
+  -- Plan, n and every answer are the two-bit machine's.
+  pub machine : (calls : List Made) (r : HostRun F calls) → Agree F (outcome r) (machineAfter F calls)
+  -- Two lists alike in whether an extract was accepted and in whether accepted exchanges are odd in number leave the same plan.
+  pub samePlan : (calls calls′ : List Made) (r : HostRun F calls) (r′ : HostRun F calls′)
+      → extracted r ≡ extracted r′ → odd r ≡ odd r′ → plan r ≡ plan r′
+  -- The plan has the frame's truth value, sides exchanged when odd.
+  pub truth : (M : Meaning) → Fair M → (v : Valuation) (calls : List Made) (r : HostRun F calls)
+      → HasValue M v (plan r) (frameValue M (valuesWhen (odd r) v) F)
+  -- An exchange is accepted exactly when its scratch is at least as long as the plan;
+  pub exchangeAccepted : (calls : List Made) (r : HostRun F calls) (scratch after kept : List ℕ) (z : ℤ)
+      → MadeHosted exchangeCall (r .last) scratch after kept z → accepted (answered z) ≡ leb (r .last .n) (length scratch)
+  -- an extract exactly when its scratch is too, none was accepted before it and an AND-leaf of the frame matches.
+  pub extractAccepted : (calls : List Made) (r : HostRun F calls) (scratch after kept : List ℕ) (z : ℤ)
+      → MadeHosted extractCall (r .last) scratch after kept z
+      → accepted (answered z) ≡ (leb (r .last .n) (length scratch) && (not (extracted r) && someLeafMatches F))
+  -- An accepted extract takes the first KNN match, failing that the first match.
+  pub pick : (calls : List Made) (r : HostRun F calls) → extracted r ≡ true
+      → (X : Extraction) × Took F X × (plan r ≡ planBytes (extractedPlan X (odd r)))
+  -- Bytes 1 and 2 of the plan are its leaf's position among the frame's AND-leaves (request 4).
+  pub position : (calls : List Made) (r : HostRun F calls) → extracted r ≡ true → NamesLeaf (matchesOf F) F (plan r)
+  -- Whatever was exchanged, the plan then is on the frame's price line.
+  pub line : (calls : List Made) (r : HostRun F calls) → extracted r ≡ true
+      → (line : ℕ) × (priceLine F ≡ some line) × (take 1 (plan r) ≡ line ∷ [])
+  -- A projection after the list (request 7), and any list after it: the plan has over the new columns, exchanged when odd, the truth value
+  -- that the frame has over its own; the columns that are projected are the frame's, exchanged when odd.
+  pub projected : (M : Meaning) → Fair M → (v w : Valuation) (calls : List Made) (r : HostRun F calls)
+      (lists : ChildLists) (scratch kept : List ℕ) (a : Host) → ProjectHosted lists (r .last) scratch kept a
+      → (later : List Made) (numbers : List ℤ) (last : Host) → HostRan a (map making later) numbers last
+      → NewColumns lists (valuesWhen (odd r) v) (valuesWhen (exchangesOdd later (map answered numbers)) w)
+      → HasValue M w (planLeft (hostTo numbers last)) (frameValue M v F)
+
+-- ---- from an extraction that was projected (request 7)
+
+-- Extracts and exchanges after a projection of X to Y that left this.
+pub record HostProjected (lists : ChildLists) (X Y : Extraction) (a : Host) : Type 0 where
+  -- Every number is that of the machine with the odd bit alone.
+  pub numbers : (calls : List Made) (numbers : List ℤ) (last : Host) → HostRan a (map making calls) numbers last
+      → numbers ≡ map hosted (oddRun Y false (map fed calls) .answers)
+  -- Plan, n and every answer are that machine's.
+  pub machine : (calls : List Made) (numbers : List ℤ) (last : Host) → HostRan a (map making calls) numbers last
+      → OddAgree Y (hostTo numbers last) (oddRun Y false (map fed calls))
+  -- The plan has over the new columns, exchanged when odd, the truth value that X had over the old ones.
+  pub truth : (M : Meaning) → Fair M → (v w : Valuation) (calls : List Made) (numbers : List ℤ) (last : Host)
+      → HostRan a (map making calls) numbers last → NewColumns lists v (valuesWhen (exchangesOdd calls (map answered numbers)) w)
+      → HasValue M w (planLeft (hostTo numbers last)) (extractionValue M v X)
+
+-- ---- whole
+
+pub record HostsMeetDemandThree : Type 0 where
+  -- A load that gave a length is of a good frame, for which all of this holds.
+  pub afterLoad : (frame before : List ℕ) (table : List TableRecord) (a : Host) → AllBytes frame
+      → LoadHosted frame before (nodesOf table) (a .plan) (nodesOf (a .table)) (pos (a .n))
+      → (F : Frame) × (frameOf frame ≡ ok F) × HostStarts F a × HostDemandThree F
+  -- A merge that gave a length is of a good frame into a held one; it all holds afresh for the merged frame.
+  pub afterMerge : (frame : List ℕ) (n : ℕ) (before scratch kept : List ℕ) (table : List TableRecord) (a : Host) → AllBytes frame
+      → AllBytes before
+      → MergeHosted (merge frame n before scratch (nodesOf table)) (a .plan) kept (nodesOf (a .table)) (pos (a .n))
+      → (old : Frame) × (new : Frame) × (heldPlan n before ≡ ok (held old)) × (frameOf frame ≡ ok new)
+      × HostStarts (mergeFrames old new) a × HostDemandThree (mergeFrames old new)
+  -- A projection that gave a length is of an extraction that is held, as long, and all of this holds after it.
+  pub afterProjection : (lists : ChildLists) (b : Host) (scratch kept : List ℕ) (a : Host) → AllBytes (b .plan)
+      → ProjectHosted lists b scratch kept a
+      → (X : Extraction) × (Y : Extraction) × (heldPlan (b .n) (b .plan) ≡ ok (holding X)) × (projection lists X ≡ some Y)
+      × (a .n ≡ b .n) × HostProjected lists X Y a
+  -- Every list of load, extract, exchange, merge and project, from n = 0, any plan buffer and any table, gives the machine's numbers, and
+  -- leaves its plan, that plan's length, a plan buffer and a table as long as before, and a table that fits what is held.
+  pub history : (plan : List ℕ) (table : List TableRecord) (calls : List Call) (numbers : List ℤ) (last : Host) → FramesAreBytes calls
+      → HostRan (record { plan = plan; n = 0; table = table }) calls numbers last
+      → let m : History = machineHistory matchLeaf (length plan) (length table) nothing calls in
+      (numbers ≡ map hosted (m .answers)) × (take (last .n) (last .plan) ≡ planBytes (statePlan matchLeaf (m .state)))
+      × (last .n ≡ length (planBytes (statePlan matchLeaf (m .state)))) × (length (last .plan) ≡ length plan)
+      × (length (last .table) ≡ length table) × (tableFits (nodesOf (last .table)) (ok (statePlan matchLeaf (m .state))) ≡ true)
