@@ -9,3 +9,4 @@ pub mod ConsoleLines
 pub mod FilterRows
 pub mod TabledRows
 pub mod NarrowedRows
+pub mod Sentences

@@ -50,6 +50,7 @@ pub mod PositionRows
 pub mod NearestRows
 pub mod RefusalTable
 pub mod NameTables
+pub mod GuardRows
 pub mod PrintClaims
 pub mod PrintRows
 pub mod MergeClaims

@@ -58,7 +58,7 @@ pub record MergeOutcome : Type 0 where
   pub scratch : List ℕ
   pub table : List NodeRecord
 
--- An outcome, and the table filled with the new plan's frame (request 6).
+-- An outcome and the table afterwards: filled with the new plan's nodes, on a refusal as it was (request 6).
 unfoldable pub withTable : Outcome → (table : List NodeRecord) → MergeOutcome
 withTable o table = record { answer = o .answer; n = o .n; buffer = o .buffer; scratch = o .scratch; table = table }
 

@@ -68,7 +68,8 @@ pub record LineOutcome : Type 0 where
 unfoldable pub refusedLine : (number : ℕ) → Kept → LineOutcome
 refusedLine number kept = record { answer = refused number; kept = kept }
 
--- `01..`: load, with a table of 1,024 records (request 6), which every frame's nodes fit; the answer is the plan.
+-- `01..`: load; the answer is the plan. The program lends no table: its load is that with one of 1,024 records, which the nodes of every
+-- frame fit (request 6).
 unfoldable pub loadLine : (bytes : List ℕ) → Kept → LineOutcome
 loadLine bytes kept =
     let o : LoadOutcome = load bytes (kept .n) (kept .buffer) (replicate mostNodes blank) in
@@ -78,7 +79,7 @@ loadLine bytes kept =
 unfoldable pub logicalLine : (bytes : List ℕ) → Kept → LineOutcome
 logicalLine bytes kept = record { answer = mapResult logicalBytes (logical bytes); kept = kept }
 
--- The call of a kind; the program lends extract the table as it was filled (request 6).
+-- The call of a kind; extract is that with the table as load filled it (request 6), which the program does not lend.
 unfoldable pub lineCall : Kind → (n : ℕ) → (buffer scratch : List ℕ) → Outcome
 lineCall extractCall n buffer scratch = extractFilled n buffer scratch
 lineCall exchangeCall n buffer scratch = exchange n buffer scratch

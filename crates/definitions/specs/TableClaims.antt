@@ -1,18 +1,18 @@
 -- Request 6 of document 02: what is claimed of the table of a frame's nodes; crate `theorems` proves each claim.
-use Prim.Native.Nat.{ℕ, _+_, _*_, _≤_, _<_}
+use Prim.Native.Nat.{ℕ, _+_, _*_, _-_, _≤_, _<_}
 use mathlib.Core.Path.{_≡_}
 use mathlib.Core.Bool.{true, false}
 use mathlib.Core.List.{List, [], _∷_, _++_}
-use lib.ListN.{length, take}
-use Rattle.definitions.specs.Limits.{mostNodes}
+use lib.ListN.{length, take, drop, getD}
+use Rattle.definitions.specs.Limits.{mostBytes, mostNodes}
 use Rattle.definitions.specs.Basics.{ok, refused}
-use Rattle.definitions.specs.Expression.{Frame, Extraction, held, extracted}
-use Rattle.definitions.specs.Encode.{frameBytes}
+use Rattle.definitions.specs.Expression.{Expr, column, literal, and, binary, call, other, field, Exprs, nil, cons, Frame, Extraction, held, extracted}
+use Rattle.definitions.specs.Encode.{exprBytes, frameBytes}
 use Rattle.definitions.specs.Exchange.{exchangeFrame}
 use Rattle.definitions.specs.Extract.{Matcher}
 use Rattle.definitions.specs.Calls.{load, tableFits, heldPlan, extractFilledBy, extractBy}
-use Rattle.definitions.specs.Good.{AllBytes, nodes}
-use Rattle.definitions.specs.NodeTable.{NodeRecord, nodeTable, beginsWith}
+use Rattle.definitions.specs.Good.{AllBytes, nodes, GoodPlan}
+use Rattle.definitions.specs.NodeTable.{NodeRecord, nodeTable, beginsWith, blank}
 use Rattle.definitions.specs.Sessions.{Made, SessionBy, after}
 use Rattle.definitions.specs.Meaning.{Meaning}
 use Rattle.definitions.specs.Matchers.{Lawful}
@@ -38,6 +38,37 @@ TableNests =
     → (length (nodeTable F) ≡ nodes (F .expr))
     × Nested (3 + 5 * length (F .records)) (length (frameBytes F)) (nodeTable F)
     × Rising (nodeTable F)
+
+unfoldable mutual
+  -- The nodes of an expression in prefix order, each with all below it. (Ours.)
+  pub nodesInOrder : Expr → List Expr
+  nodesInOrder (column index tag) = column index tag ∷ []
+  nodesInOrder (literal type bytes) = literal type bytes ∷ []
+  nodesInOrder (and l r) = and l r ∷ (nodesInOrder l ++ nodesInOrder r)
+  nodesInOrder (binary operator l r) = binary operator l r ∷ (nodesInOrder l ++ nodesInOrder r)
+  nodesInOrder (call name arguments) = call name arguments ∷ rowInOrder arguments
+  nodesInOrder (other tag children) = other tag children ∷ rowInOrder children
+  nodesInOrder (field bits tag) = field bits tag ∷ []
+
+  -- Those of several expressions. (Ours.)
+  pub rowInOrder : Exprs → List Expr
+  rowInOrder nil = []
+  rowInOrder (cons e es) = nodesInOrder e ++ rowInOrder es
+
+-- A record names the bytes of a node: the byte at its start is its kind, and those from start to end are the node's.
+pub record NamesNode (bytes : List ℕ) (node : Expr) (r : NodeRecord) : Type 0 where
+  pub kind : getD bytes (r .start) 0 ≡ r .kind
+  pub own : take (r .end - r .start) (drop (r .start) bytes) ≡ exprBytes node
+  pub inside : r .end ≤ length bytes
+
+-- Each record of a good frame's table names the bytes of its node in the frame, which are at most 16,384.
+abbrev pub TableNamesBytes : Type 0
+TableNamesBytes =
+    (F : Frame) → GoodPlan (held F)
+    → (length (nodesInOrder (F .expr)) ≡ length (nodeTable F))
+    × ((i : ℕ) → i < length (nodeTable F)
+    → NamesNode (frameBytes F) (getD (nodesInOrder (F .expr)) i (F .expr)) (getD (nodeTable F) i blank))
+    × (length (frameBytes F) ≤ mostBytes)
 
 -- Exchange moves no node.
 abbrev pub TableExchanged : Type 0

@@ -21,6 +21,7 @@ pub mod ExtractExchange
 pub mod Pick
 pub mod ExtractGood
 pub mod NodeTables
+pub mod TableBytes
 pub mod TablesFit
 pub mod Lists
 pub mod Inverse
@@ -56,6 +57,7 @@ pub mod ProjectLists
 pub mod AnyMatchers
 pub mod WholeDemand
 pub mod ShortClaims
+pub mod LineNumbers
 pub mod Table
 pub mod Refusals
 pub mod UpToLimits

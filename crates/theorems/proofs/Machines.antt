@@ -38,10 +38,10 @@ kind-exchanged (distance form side l r bound) = refl
 kind-exchanged (knn k spheroid probe ties l r) = refl
 
 -- The first three bytes of an extraction: the line, and the position of its leaf, exchanged or not.
-abbrev named : Extraction → List ℕ
+abbrev pub named : Extraction → List ℕ
 named X = predicateKind (X .predicate) ∷ bigEndian 2 (X .position)
 
-first-bytes : (X : Extraction) (o : Bool) → take 3 (planBytes (extractedPlan X o)) ≡ named X
+pub first-bytes : (X : Extraction) (o : Bool) → take 3 (planBytes (extractedPlan X o)) ≡ named X
 unfolding planBytes extractionBytes exchangeExtraction bigEndian
 first-bytes X true = ap {B = List ℕ} (λ b. b ∷ bigEndian 2 (X .position)) (kind-exchanged (X .predicate))
 first-bytes X false = refl

@@ -7,7 +7,7 @@ use Rattle.definitions.specs.Claims.{ExchangeTwice, ExtractExchanged, Expressio
 use Rattle.definitions.specs.ValueClaims.{AndAssociative, AndCommutative, ExchangeValue, ExtractionValue, valuesWhen, ListValue, FairMeaning, FairByArguments, MarksStay}
 use Rattle.definitions.specs.AnyMatcher.{Extracts, OneCall, Lists, AnyMatcher}
 use Rattle.definitions.specs.DemandThree.{MeetsDemandThree}
-use Rattle.definitions.specs.ShortClaims.{ProjectionKeepsLine, ProjectKeepsLine, MergeExchanged, MergeExchangedLine, PolicyKeepsIndex, BoundWithoutColumns, SameTextSameExpression}
+use Rattle.definitions.specs.ShortClaims.{ExchangedKeepsPosition, ExchangeKeepsPosition, ProjectionKeepsLine, ProjectKeepsLine, MergeExchanged, MergeExchangedLine, PolicyKeepsIndex, BoundWithoutColumns, SameTextSameExpression, LineRefusals}
 use Rattle.definitions.specs.TenRows.{TenRows}
 use Rattle.definitions.specs.FurtherRows.{FurtherRows}
 use Rattle.definitions.specs.PositionRows.{PositionRows}
@@ -15,12 +15,13 @@ use Rattle.definitions.specs.NearestRows.{NearestRows}
 use Rattle.definitions.specs.BoundRows.{BoundRows}
 use Rattle.definitions.specs.RefusalTable.{RefusalTable}
 use Rattle.definitions.specs.NameTables.{NameTables}
+use Rattle.definitions.specs.GuardRows.{GuardRows}
 use Rattle.definitions.specs.PrintClaims.{PrintsApart, PrintsNeverAlike, TextShort, TextPrintable, NoLeadingZero, PrintAccepted, PrintGiven, PrintRefused}
 use Rattle.definitions.specs.PrintRows.{PrintRows}
 use Rattle.definitions.specs.Merge.{mergeFrames}
 use Rattle.definitions.specs.MergeClaims.{MergedGood, MergedValue, MergedLeaves, MergeAccepted, MergeWrites, MergeKeeps, MergeHolds, ListAfterMerge, ValueAfterMerge, HistoryOfCalls, AnyMatcherMerges}
 use Rattle.definitions.specs.MergeRows.{MergeRows}
-use Rattle.definitions.specs.TableClaims.{TableNests, TableExchanged, BeginsExactly, TableStays, ExtractFilled, ExtractUnfilled, ExtractTwice, NeverTooShort}
+use Rattle.definitions.specs.TableClaims.{TableNests, TableNamesBytes, TableExchanged, BeginsExactly, TableStays, ExtractFilled, ExtractUnfilled, ExtractTwice, NeverTooShort}
 use Rattle.definitions.specs.TableRows.{TableRows}
 use Rattle.definitions.specs.PruningClaims.{KeptByHeldIndexes}
 use Rattle.definitions.specs.ProjectRows.{ProjectRows}
@@ -41,6 +42,7 @@ use Rattle.theorems.proofs.Values.{and-value-assoc, and-value-comm}
 use Rattle.theorems.proofs.AnyMatchers.{any-matcher-is}
 use Rattle.theorems.proofs.WholeDemand.{meets-demand-three-by}
 use Rattle.theorems.proofs.ShortClaims as short
+use Rattle.theorems.proofs.LineNumbers.{line-refusals-by}
 use Rattle.theorems.proofs.FairExample.{fair-points, marks-left}
 use Rattle.theorems.proofs.FairCounting.{fair-counting}
 use Rattle.definitions.proofs.Names.{each-once, names-ones, tables-hold}
@@ -49,6 +51,7 @@ use Rattle.definitions.proofs.OurRows.{further-rows-hold}
 use Rattle.definitions.proofs.PlacedRows.{position-rows-hold}
 use Rattle.definitions.proofs.Nearest.{nearest-rows-hold}
 use Rattle.definitions.proofs.Bounds.{bound-rows-hold}
+use Rattle.definitions.proofs.Sentences.{guard-rows-hold}
 use Rattle.theorems.proofs.Refusals.{refusals-hold}
 use Rattle.theorems.proofs.PrintsApart.{told-apart}
 use Rattle.theorems.proofs.TextLength.{text-short}
@@ -60,6 +63,7 @@ use Rattle.theorems.proofs.Histories.{history-of}
 use Rattle.theorems.proofs.UpToLimits.{merge-rows-hold, project-rows-hold}
 use Rattle.definitions.proofs.TabledRows.{table-rows-hold}
 use Rattle.theorems.proofs.NodeTables.{table-nests-by, table-exchanged-by, begins-exactly-by}
+use Rattle.theorems.proofs.TableBytes.{table-names-bytes-by}
 use Rattle.theorems.proofs.TablesFit.{extract-filled-by, extract-unfilled-by, extract-twice-by}
 use Rattle.theorems.proofs.Pruned.{kept-by-held}
 use Rattle.theorems.proofs.Places.{place-exactly-is}
@@ -209,6 +213,9 @@ nearest-rows = nearest-rows-hold
 pub bound-rows : BoundRows
 bound-rows = bound-rows-hold
 
+pub guard-rows : GuardRows
+guard-rows = guard-rows-hold
+
 pub refusals : RefusalTable
 refusals = refusals-hold
 
@@ -290,6 +297,9 @@ kept-by-held-indexes = kept-by-held
 pub table-nests : TableNests
 table-nests = table-nests-by
 
+pub table-names-bytes : TableNamesBytes
+table-names-bytes = table-names-bytes-by
+
 pub table-exchanged : TableExchanged
 table-exchanged = table-exchanged-by
 
@@ -357,6 +367,12 @@ project-rows = project-rows-hold
 pub meets-demand-three : MeetsDemandThree
 meets-demand-three = meets-demand-three-by (by-leaf .2)
 
+pub exchanged-keeps-position : ExchangedKeepsPosition
+exchanged-keeps-position = short.exchanged-keeps-position
+
+pub exchange-keeps-position : ExchangeKeepsPosition
+exchange-keeps-position = short.exchange-keeps-position
+
 pub projection-keeps-line : ProjectionKeepsLine
 projection-keeps-line = short.projection-keeps-line
 
@@ -377,3 +393,6 @@ bound-without-columns = short.bound-without-columns
 
 pub same-text-same-expression : SameTextSameExpression
 same-text-same-expression = short.same-text-same-expression
+
+pub line-refusals : LineRefusals
+line-refusals = line-refusals-by

@@ -199,7 +199,7 @@ module _ (P : ℕ → Type 0) where
           then-only (atEnd n s) _ (end-only n s) (λ _ n s.
           require-then 8 (arity (F .expr)) _ p8 (λ n s. tt) n s)))))
 
-      logical-only : Only logicalFrame
+      pub logical-only : Only logicalFrame
       unfolding logicalFrame
       logical-only n s =
           then-only (requireLength n s) _ (length-only n s) (λ _ n s.
@@ -317,10 +317,10 @@ module _ (P : ℕ → Type 0) where
           (if-only 9 (leb n room) (projectedBytes (projection lists X)) (placed-only (projection lists X)) p9) p19
 
 -- The numbers of a list.
-abbrev In : List ℕ → ℕ → Type 0
+abbrev pub In : List ℕ → ℕ → Type 0
 In numbers number = any (eqb number) numbers ≡ true
 
-refused-by : {A : Type 0} (numbers : List ℕ) (r : Result A) → Refuses (In numbers) r → RefusedBy numbers r
+pub refused-by : {A : Type 0} (numbers : List ℕ) (r : Result A) → Refuses (In numbers) r → RefusedBy numbers r
 refused-by numbers (ok a) h = tt
 refused-by numbers (refused number) h = h
 

@@ -5,15 +5,20 @@ use mathlib.Core.Path.{_≡_, refl, sym, ap, _∙_, subst}
 use mathlib.Core.Bool.{Bool, true, false, false≢true}
 use mathlib.Core.List.{List, [], _∷_, _++_, map}
 use mathlib.Core.Option.{Option, none, some, Option·map}
-use lib.ListN.{length, take, getD}
-use Rattle.definitions.specs.Basics.{if_then_else_, bigEndian, all}
-use Rattle.definitions.specs.Expression.{Side, left, right, noSide, Relation, Expr, Record, Frame, Predicate, relation, distance, knn, Extraction, held, extracted}
+use lib.ListN.{length, take, drop, getD, length-append}
+use lib.Seq.{take-append-seam}
+use lib.Dec.{leb}
+use borrow.Author.Tests.{le-leb}
+use Rattle.definitions.specs.Basics.{if_then_else_, Result, ok, refused, bigEndian, all}
+use Rattle.definitions.specs.Expression.{Side, left, right, noSide, Relation, Expr, Record, Frame, Predicate, relation, distance, knn, Extraction, Plan, held, extracted}
 use Rattle.definitions.specs.Encode.{predicateKind, extractionBytes, planBytes}
 use Rattle.definitions.specs.References.{columnsOf, sameSide, recordAt}
 use Rattle.definitions.specs.Leaves.{leaves}
 use Rattle.definitions.specs.Match.{ArgumentSide, noColumns, allOn, mixed, commonSide, sideOf, Order, leftRight, rightLeft, noOrder, Request, askRelation, askDistance, askKnn, askNothing, request, matchRelation, storeDistance, matchDistance, matchKnn, matchRequest, matchLeaf}
 use Rattle.definitions.specs.Extract.{Pick, without, prune, isKnn, later, firstMatch, firstOf, pick, takePick, matchesBy, matchesOf, extractionBy}
-use Rattle.definitions.specs.Exchange.{exchangeRecord, exchangeFrame}
+use Rattle.definitions.specs.Exchange.{exchangeRecord, exchangeFrame, exchangeExtraction, exchangePlan}
+use Rattle.definitions.specs.Plans.{planOf}
+use Rattle.definitions.specs.Calls.{writtenOver, Outcome, finish, heldPlan, newAfterExchange, exchange}
 use Rattle.definitions.specs.Good.{GoodPlan}
 use Rattle.definitions.specs.Sessions.{accepted}
 use Rattle.definitions.specs.Merge.{mergeFrames}
@@ -21,15 +26,60 @@ use Rattle.definitions.specs.Printed.{printed, print}
 use Rattle.definitions.specs.Project.{Lists, projectPredicate, projectExtraction, placed, projection}
 use Rattle.definitions.specs.Claims.{priceLine}
 use Rattle.theorems.proofs.InverseFrame.{same-ok, frame-back}
-use Rattle.theorems.proofs.Lengths.{held-is, bytes-up-to}
+use Rattle.theorems.proofs.Lengths.{Good, held-good, held-is, bytes-up-to}
+use Rattle.theorems.proofs.RoundTripPlan.{plan-reads}
+use Rattle.theorems.proofs.ExchangeGood.{exchange-good}
+use Rattle.theorems.proofs.Changes.{over-first}
 use Rattle.theorems.proofs.InversePlan.{plan-back}
 use Rattle.theorems.proofs.MatchLaws.{match-laws}
 use Rattle.theorems.proofs.Pick.{takes-by}
-use Rattle.theorems.proofs.Machines.{price-exchanged}
+use Rattle.theorems.proofs.Machines.{first-bytes, price-exchanged}
 use Rattle.theorems.proofs.PrintCall.{prints-once, print-gives}
 use Rattle.theorems.proofs.Merged.{merged-leaves-are}
 use Rattle.theorems.proofs.ProjectCall.{project-wrote}
-use Rattle.definitions.specs.ShortClaims.{ProjectionKeepsLine, ProjectKeepsLine, MergeExchanged, MergeExchangedLine, PolicyKeepsIndex, BoundWithoutColumns, SameTextSameExpression}
+use Rattle.definitions.specs.ShortClaims.{ExchangedKeepsPosition, ExchangeKeepsPosition, ProjectionKeepsLine, ProjectKeepsLine, MergeExchanged, MergeExchangedLine, PolicyKeepsIndex, BoundWithoutColumns, SameTextSameExpression}
+
+-- ---- exchange
+
+-- A good plan that is written over a plan buffer is held there.
+written-is-held : (p : Plan) (buffer : List ℕ) → GoodPlan p → heldPlan (length (planBytes p)) (writtenOver (planBytes p) buffer) ≡ ok p
+unfolding heldPlan writtenOver
+written-is-held p buffer g =
+    let new : List ℕ = planBytes p ++ drop (length (planBytes p)) buffer in
+    ap (λ (b : Bool). if b then planOf (take (length (planBytes p)) new) else refused 10)
+    (le-leb (length (planBytes p)) (length new) (simp length-append (omega arith)))
+    ∙ ap planOf (take-append-seam (planBytes p) (drop (length (planBytes p)) buffer)) ∙ plan-reads p g
+
+pub exchanged-keeps-position : ExchangedKeepsPosition
+exchanged-keeps-position X = (unfold exchangeExtraction in refl, first-bytes X true ∙ sym (first-bytes X false))
+
+-- An accepted exchange writes the exchanged plan.
+exchange-done : (n : ℕ) (buffer scratch bytes : List ℕ) (b : Bool)
+    → accepted (finish n buffer scratch (if b then ok bytes else refused 9) .answer) ≡ true
+    → finish n buffer scratch (if b then ok bytes else refused 9) ≡ finish n buffer scratch (ok bytes)
+exchange-done n buffer scratch bytes true a = refl
+exchange-done n buffer scratch bytes false a = unfold finish accepted in absurd (false≢true a)
+
+exchanges : (n : ℕ) (buffer scratch : List ℕ) (X : Extraction) → heldPlan n buffer ≡ ok (extracted X)
+    → accepted (exchange n buffer scratch .answer) ≡ true
+    → exchange n buffer scratch ≡ finish n buffer scratch (ok (planBytes (extracted (exchangeExtraction X))))
+unfolding exchange newAfterExchange exchangePlan
+exchanges n buffer scratch X holds a =
+    let same = ap (λ (r : Result Plan). finish n buffer scratch (newAfterExchange n (length scratch) r)) holds in
+    same ∙ exchange-done n buffer scratch _ (leb n (length scratch)) (subst (λ (o : Outcome). accepted (o .answer) ≡ true) same a)
+
+pub exchange-keeps-position : ExchangeKeepsPosition
+unfolding finish exchangePlan
+exchange-keeps-position n buffer scratch X bytes holds a =
+    let Y : Plan = extracted (exchangeExtraction X) in
+    let good : GoodPlan (extracted X) = subst Good holds (held-good n buffer bytes) in
+    let better : GoodPlan Y = exchange-good (extracted X) good in
+    let old : take n buffer ≡ planBytes (extracted X) =
+    plan-back (take n buffer) (extracted X) (bytes-up-to n buffer bytes) (held-is n buffer (extracted X) holds .1) .0 in
+    rw (exchanges n buffer scratch X holds a) (
+      written-is-held Y buffer better,
+      ap (take 3) (over-first (planBytes Y) buffer) ∙ exchanged-keeps-position X .1 ∙ sym (ap (take 3) old),
+    )
 
 -- ---- projections
 
