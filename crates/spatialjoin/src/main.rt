@@ -2,23 +2,25 @@
 // ends, with a line on standard error.
 //
 // `lines` says what is written for a piece of the input, and `runs-write` that this is the program's output, wherever the input is cut
-// and whenever what waits is written out. `streams` hands every character of what a read gave over once and in order, and here it is
-// proved that nothing of the state is lost between two reads. What no contract can say, and is left to be read: that `read_on` hands
-// over what its read gave, that `streams::output::flush` writes what waits, that `run` goes on until a read gives nothing or
-// something fails, that `main` then ends the last line, and that `report` says what failed.
+// and whenever what waits is written out. `streams` hands every character of what a read gave over once and in order and says which
+// bytes wait then, and here it is proved that nothing of the state is lost between two reads. What no contract can say, and is left to
+// be read: that `read_on` hands over what its read gave, that `streams::output::flush` writes what waits in the buffer that it is lent,
+// that `run` goes on until a read gives nothing or something fails, that `main` then ends the last line, and that `report` says what
+// failed.
 use libc::STDERR_FILENO;
 use libc::STDIN_FILENO;
+use lines::feeding::finish;
 use lines::states::State;
 use lines::states::fresh;
 use streams::chunks::take_in;
-use streams::chunks::write_last;
 use streams::output::Turn;
+use streams::output::flush;
 ghost use mathlib.Core.Path.{_≡_};
 ghost use lib.ListN.{replicate};
 ghost use Rattle.lines.specs.Sessions.{lent};
-ghost use Rattle.spatialjoin.specs.Runs.{ReadOn, Ran};
+ghost use Rattle.spatialjoin.specs.Runs.{ReadOn, Ran, LastIs};
 
-// Reads once, and handles what came.
+// Reads once, handles what came, and writes what waits then.
 fn read_on(
     out: &mut [u8; 65536],
     plan: &mut [u8; 16384],
@@ -33,7 +35,12 @@ fn read_on(
         (lent (now (out .exit)) (now (plan .exit)) (now (scratch .exit)) (now (line .exit))) r ⌝ }
 {
     let got = libc::read(STDIN_FILENO, chunk);
-    take_in(out, plan, scratch, line, chunk, got, state)
+    match take_in(out, plan, scratch, line, chunk, got, state) {
+        Turn::More(next) => flush(out, next),
+        Turn::Ended(last) => Turn::Ended(last),
+        Turn::NotRead => Turn::NotRead,
+        Turn::NotWritten => Turn::NotWritten,
+    }
 }
 
 // Reads up to the end of the input, or until reading or writing fails. A proved loop has to end, and nothing says that the input
@@ -68,6 +75,23 @@ fn run(
         }
     }
     Turn::More(state)
+}
+
+// Ends a last line without a line feed, and writes what waits then.
+fn write_last(
+    out: &mut [u8; 65536],
+    plan: &mut [u8; 16384],
+    scratch: &mut [u8; 16384],
+    line: &[u8; 32768],
+    state: State,
+) -> Turn
+    requires { ⌜ state .filled ≡ 0 ⌝ }
+    ensures { λ r. ⌜ LastIs
+        (lent (now (out .entry)) (now (plan .entry)) (now (scratch .entry)) (now (line .entry))) state
+        (lent (now (out .exit)) (now (plan .exit)) (now (scratch .exit)) (now (line .entry))) r ⌝ }
+{
+    let last = finish(out, plan, scratch, line, state);
+    flush(out, last)
 }
 
 // Says what failed, if anything did.

@@ -12,7 +12,7 @@ pub flushed-roomy : (state : State) (r : Turn) → mostFilled < state .filled �
 flushed-roomy state (More next) h e = rw (lt-leb (state .filled) mostFilled h) e
 flushed-roomy state (Ended next) h e = e
 flushed-roomy state NotRead h e = e
-flushed-roomy state NotWritten h e = e
+flushed-roomy state NotWritten h e = h
 
 pub roomy-kept : (state : State) → state .filled ≤ mostFilled → Roomy state (More state)
 roomy-kept state h = rw (le-leb (state .filled) mostFilled h) refl

@@ -1,17 +1,15 @@
 // What a read gave, handed to `lines` piece by piece. Public for the program.
 use super::output::Turn;
-use super::output::flush;
 use super::output::make_room;
 use lines::feeding::feed;
-use lines::feeding::finish;
 use lines::states::State;
 ghost use mathlib.Core.Path.{_≡_};
 ghost use Prim.Native.Nat.{_≤_};
 ghost use lib.ListN.{length, take};
 ghost use Rattle.lines.specs.Sessions.{lent};
-ghost use Rattle.streams.specs.Handing.{Handed, TakenIn, LastIs};
+ghost use Rattle.streams.specs.Handing.{Handed, TakenIn};
 
-// Hands over the first `size` characters of a chunk, and writes what they give.
+// Hands over the first `size` characters of a chunk. What they give waits, but for what is written where there is no room.
 fn feed_all(
     out: &mut [u8; 65536],
     plan: &mut [u8; 16384],
@@ -37,7 +35,7 @@ fn feed_all(
         at += taken;
         current = next;
     }
-    flush(out, current)
+    Turn::More(current)
 }
 
 // Handles what a read gave: as many characters of the chunk as it says, the end of the input, or that it failed.
@@ -63,21 +61,4 @@ pub fn take_in(
     }
     let size = io::count(got, chunk);
     feed_all(out, plan, scratch, line, chunk, size, state)
-}
-
-// Writes what a last line without a line feed gives.
-pub fn write_last(
-    out: &mut [u8; 65536],
-    plan: &mut [u8; 16384],
-    scratch: &mut [u8; 16384],
-    line: &[u8; 32768],
-    state: State,
-) -> Turn
-    requires { ⌜ state .filled ≡ 0 ⌝ }
-    ensures { λ r. ⌜ LastIs
-        (lent (now (out .entry)) (now (plan .entry)) (now (scratch .entry)) (now (line .entry))) state
-        (lent (now (out .exit)) (now (plan .exit)) (now (scratch .exit)) (now (line .entry))) r ⌝ }
-{
-    let last = finish(out, plan, scratch, line, state);
-    flush(out, last)
 }

@@ -2,6 +2,7 @@
 use libc::STDOUT_FILENO;
 use lines::states::MOST_FILLED;
 use lines::states::State;
+ghost use mathlib.Core.Path.{_≡_};
 ghost use Prim.Native.Nat.{_≤_};
 ghost use lib.ListN.{length};
 ghost use Rattle.streams.specs.Turns.{Flushed, Roomy};
@@ -16,7 +17,7 @@ pub enum Turn {
 
 // Writes what waits.
 pub fn flush(out: &[u8], state: State) -> Turn
-    requires { ⌜ state .filled ≤ length (now out) ⌝ }
+    requires { ⌜ (length (now out) ≡ 65536) × (state .filled ≤ 65536) ⌝ }
     ensures { λ r. ⌜ Flushed state r ⌝ }
 {
     let filled = state.filled;
@@ -33,7 +34,7 @@ pub fn flush(out: &[u8], state: State) -> Turn
 
 // Writes what waits where there is no room for what another line gives.
 pub fn make_room(out: &[u8], state: State) -> Turn
-    requires { ⌜ state .filled ≤ length (now out) ⌝ }
+    requires { ⌜ (length (now out) ≡ 65536) × (state .filled ≤ 65536) ⌝ }
     ensures { λ r. ⌜ Roomy state r ⌝ }
 {
     if MOST_FILLED < state.filled {

@@ -25,8 +25,7 @@ returns : tie.Need-returns Inv-loop μ-loop
 returns c =
     let on = c .before .before .before .read-on in
     let l = c .before .before .before .before .before .before .before .before .before .before .loop in
-    let end = rw (c .before .last .given .1) at (on .ensures) in
-    reached-end (l .inv) (end .1 .1, end .1 .2)
+    reached-end (on .last .1 .1 .1 .1 .0) (l .inv) (rw (c .before .last .given .1) at (on .ensures))
 
 pub run-spec : {M : Type 1} → statement M
 run-spec =

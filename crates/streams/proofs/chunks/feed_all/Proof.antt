@@ -6,15 +6,15 @@ use mathlib.Core.Path.{_≡_}
 use lib.ListN.{length, take, length-take, length-drop}
 use Rattle.lines.specs.Sessions.{lent, mostFilled}
 use Rattle.lines.proofs.SessionLaws.{taken-within, taken-some, fed-room}
-use Rattle.streams.specs.Handing.{After}
-use Rattle.streams.proofs.Handing.{none, taken, roomy, handed}
+use Rattle.streams.specs.Handing.{Handing, none}
+use Rattle.streams.proofs.Handing.{taken, has-room}
 use Rattle.streams.proofs.chunks.feed_all.Statement.{statement}
 use Rattle.streams.proofs.chunks.feed_all.Tie as tie
 
 abbrev Inv-loop : tie.InvT-loop
 Inv-loop out₀ plan₀ scratch₀ line₀ chunk size current₀ at₀ out plan scratch line current at =
     (at ≤ size) × (current .filled ≤ mostFilled) × (current .filled ≤ length out)
-    × After (take at chunk) (lent out₀ plan₀ scratch₀ line₀) current₀ (lent out plan scratch line) current
+    × Handing (lent out₀ plan₀ scratch₀ line₀) current₀ (take at chunk) (lent out plan scratch line) current
 
 abbrev μ-loop : tie.MeasureT-loop
 μ-loop out₀ plan₀ scratch₀ line₀ chunk size current₀ at₀ out plan scratch line current at = size - at
@@ -40,15 +40,23 @@ loop-again c =
     let l = f .before .before .before .before .before .before .before in
     let e = rw (c .before .next .given .1) at (c .before .before .before .make-room .ensures) in
     let a = l .before .before .args in
-    let on = roomy _ e (taken (a .chunk .now) (l .loop .at) (a .size) _ (within f) (l .loop .inv .3) (f .feed .ensures .makes)) in
-    (omega (arith, within f), on .0, omega (arith, on .1, room f), on .2)
+    let on = rw (← e) at (has-room (f .feed .result .state)) in (
+      omega (arith, within f),
+      on .0,
+      omega (arith, on .1, room f),
+      taken (a .chunk .now) (l .loop .at) (a .size) _ (within f) (l .loop .inv .3) (f .feed .ensures .makes) e,
+    )
+
+-- Some characters were there to be handed over.
+returns : tie.Need-returns Inv-loop μ-loop
+returns c = simp length-take (omega arith)
 
 returns-2 : tie.Need-returns-2 Inv-loop μ-loop
 returns-2 c =
-    let a = c .before .before .before .before .before .before .args in
-    let l = c .before .before .before .before .loop in
+    let a = c .before .before .before .args in
+    let l = c .before .loop in
     let e : l .at ≡ a .size = omega arith in
-    handed (take (a .size) (a .chunk .now)) _ _ _ _ (c .flush .result) (c .flush .ensures) (rw e at (l .inv .3))
+    rw e at (l .inv .3)
 
 pub feed-all-spec : {M : Type 1} → statement M
 feed-all-spec =
@@ -56,16 +64,15 @@ feed-all-spec =
     (tie.spec
     Inv-loop
     μ-loop
-    (λ c. (omega arith, omega arith, omega arith, none _ _ (c .before .args .chunk .now)))
+    (λ c. (omega arith, omega arith, omega arith, none))
     (λ c. search needs)
     (λ c. search needs)
     (λ c. search needs)
     (λ c κs. search needs)
     make-room-requires
     (λ c. search needs)
-    (λ c. search needs)
+    returns
     (λ c. omega (arith, within (c .before .before .before .before .before .before)))
     (λ c. omega (arith, some (c .before .before .before .before .before .before)))
     loop-again
-    (λ c κs. search needs)
     returns-2)

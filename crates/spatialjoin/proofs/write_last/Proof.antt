@@ -2,11 +2,11 @@
 use borrow.Author.Needs.{needs}
 use native.Mathlib.Omega.{arith}
 use Rattle.lines.proofs.SessionLaws.{finished-room}
-use Rattle.streams.proofs.chunks.write_last.Statement.{statement}
-use Rattle.streams.proofs.chunks.write_last.Tie as tie
+use Rattle.spatialjoin.proofs.write_last.Statement.{statement}
+use Rattle.spatialjoin.proofs.write_last.Tie as tie
 
 flush-requires : tie.Need-flush-requires
-flush-requires c κs = omega (arith, finished-room (c .before .before .finish .ensures) (omega arith) (omega arith))
+flush-requires c κs = (search needs, omega (arith, finished-room (c .before .before .finish .ensures) (omega arith) (omega arith)))
 
 returns : tie.Need-returns
 returns c = let end = c .before .before .before .finish in (end .result, end .ensures, c .flush .ensures)
