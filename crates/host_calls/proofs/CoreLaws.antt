@@ -41,25 +41,28 @@ module _ (frame before after : List ℕ) (held : ℕ) (r : Loaded) (is : LoadedI
         omega (arith, lengths-short .0 frame 0 before (some-table held) m bytes (ap (λ (o : LoadOutcome). o .answer) (so 0)))
     short (Refused why) so bytes = tt
 
-  pub load-left : (z : ℤ) → z ≡ hosted (answerOf (r .answer))
+  pub load-left : AllBytes frame → (z : ℤ) → z ≡ hosted (answerOf (r .answer))
       → LoadLeft frame before held after (record { answer = z; root = r .root; count = r .count })
-  load-left z e n table size =
-      let so : load frame n before table ≡ record {
-        answer = answerOf (r .answer);
-        n = nAfter n (r .answer);
-        buffer = after;
-        table = is .0 ++ drop (r .count) table;
-      } = is .2 table size n in
-      let filled : load frame n before table .table ≡ is .0 ++ drop (r .count) table = ap (λ (o : LoadOutcome). o .table) so in (
-        e ∙ ap hosted (sym (ap (λ (o : LoadOutcome). o .answer) so)),
-        sym (ap (λ (o : LoadOutcome). o .buffer) so),
-        record {
-          records = is .0;
-          standing = is .1;
-          room = has-room table (is .1) (sym (ap length filled) ∙ load-keeps frame n before table);
-          done = filled;
-        },
-      )
+  load-left bytes z e = (
+    bytes,
+    λ n table size.
+        let so : load frame n before table ≡ record {
+          answer = answerOf (r .answer);
+          n = nAfter n (r .answer);
+          buffer = after;
+          table = is .0 ++ drop (r .count) table;
+        } = is .2 table size n in
+        let filled : load frame n before table .table ≡ is .0 ++ drop (r .count) table = ap (λ (o : LoadOutcome). o .table) so in (
+          e ∙ ap hosted (sym (ap (λ (o : LoadOutcome). o .answer) so)),
+          sym (ap (λ (o : LoadOutcome). o .buffer) so),
+          record {
+            records = is .0;
+            standing = is .1;
+            room = has-room table (is .1) (sym (ap length filled) ∙ load-keeps frame n before table);
+            done = filled;
+          },
+        ),
+  )
 
 pub extract-short : (n : ℕ) (before scratch after kept : List ℕ) (table : List NodeRecord) (r : Answer)
     → OutcomeIs (extract n before scratch table) n after kept r → AllBytes before → Short r
@@ -81,18 +84,22 @@ module _ (frame : List ℕ) (n : ℕ) (before scratch after kept : List ℕ) (he
         omega (arith, wrote .short, ap (λ (o : MergeOutcome). o .n) so)
     short (Refused why) so = tt
 
-  pub merge-left : (z : ℤ) → z ≡ hosted (answerOf (r .answer))
+  pub merge-left : AllBytes frame → AllBytes before → (z : ℤ) → z ≡ hosted (answerOf (r .answer))
       → MergeLeft frame n before scratch held after kept (record { answer = z; root = r .root; count = r .count })
-  merge-left z e table size =
-      let so = is .2 table size in
-      let filled : merge frame n before scratch table .table ≡ is .0 ++ drop (r .count) table = ap (λ (o : MergeOutcome). o .table) so in (
-        e ∙ ap hosted (sym (ap (λ (o : MergeOutcome). o .answer) so)),
-        sym (ap (λ (o : MergeOutcome). o .buffer) so),
-        sym (ap (λ (o : MergeOutcome). o .scratch) so),
-        record {
-          records = is .0;
-          standing = is .1;
-          room = has-room table (is .1) (sym (ap length filled) ∙ merge-keeps frame n before scratch table);
-          done = filled;
-        },
-      )
+  merge-left bytes held-bytes z e = (
+    bytes,
+    held-bytes,
+    λ table size.
+        let so = is .2 table size in
+        let filled : merge frame n before scratch table .table ≡ is .0 ++ drop (r .count) table = ap (λ (o : MergeOutcome). o .table) so in (
+          e ∙ ap hosted (sym (ap (λ (o : MergeOutcome). o .answer) so)),
+          sym (ap (λ (o : MergeOutcome). o .buffer) so),
+          sym (ap (λ (o : MergeOutcome). o .scratch) so),
+          record {
+            records = is .0;
+            standing = is .1;
+            room = has-room table (is .1) (sym (ap length filled) ∙ merge-keeps frame n before scratch table);
+            done = filled;
+          },
+        ),
+  )

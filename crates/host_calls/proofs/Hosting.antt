@@ -4,11 +4,12 @@ use mathlib.Core.Path.{_≡_, refl}
 use mathlib.Core.List.{List}
 use lib.IntN.{ℤ}
 use Rattle.definitions.specs.Calls.{Outcome}
+use Rattle.definitions.specs.Good.{AllBytes}
 use Rattle.definitions.specs.Hosts.{hosted}
 use Rattle.join_filter.specs.Outcomes.{answerOf, OutcomeIs}
 use Rattle.join_filter.specs.declared.answers.Answer.{Answer}
 use Rattle.host_calls.specs.Hosted.{CallHosted}
 
-pub call-hosted : (o : Outcome) (n : ℕ) (after kept : List ℕ) (r : Answer) → OutcomeIs o n after kept r
-    → (z : ℤ) → z ≡ hosted (answerOf r) → CallHosted o after kept z
-call-hosted o n after kept r is z e = rw (e, is) (refl, refl, refl)
+pub call-hosted : (before : List ℕ) → AllBytes before → (o : Outcome) (n : ℕ) (after kept : List ℕ) (r : Answer) → OutcomeIs o n after kept r
+    → (z : ℤ) → z ≡ hosted (answerOf r) → CallHosted before o after kept z
+call-hosted before bytes o n after kept r is z e = rw (e, is) (bytes, refl, refl, refl)

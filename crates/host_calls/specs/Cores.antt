@@ -7,6 +7,7 @@ use lib.ListN.{length, drop}
 use Rattle.definitions.specs.Calls.{load, extract}
 use Rattle.definitions.specs.Merge.{merge}
 use Rattle.definitions.specs.NodeTable.{NodeRecord}
+use Rattle.definitions.specs.Good.{AllBytes}
 use Rattle.definitions.specs.Hosts.{hosted}
 use Rattle.expression.specs.Filling.{Records}
 use Rattle.call_extract.specs.ExtractByTable.{RowOf}
@@ -25,17 +26,19 @@ pub record Left (s : List ℕ) (root count : ℕ) (table filled : List NodeRecor
 -- The load is the definition's with every table of so many records, but that the table is left to be filled. (Ours.)
 abbrev pub LoadLeft : (frame before : List ℕ) (held : ℕ) (after : List ℕ) → Loaded → Type 0
 LoadLeft frame before held after r =
-    (n : ℕ) (table : List NodeRecord) → length table ≡ held
+    AllBytes frame
+    × ((n : ℕ) (table : List NodeRecord) → length table ≡ held
     → (r .answer ≡ hosted (load frame n before table .answer)) × (after ≡ load frame n before table .buffer)
-    × Left frame (r .root) (r .count) table (load frame n before table .table)
+    × Left frame (r .root) (r .count) table (load frame n before table .table))
 
 -- The merge likewise; the records stand in the new plan. (Ours.)
 abbrev pub MergeLeft : (frame : List ℕ) (n : ℕ) (before scratch : List ℕ) (held : ℕ) (after scratched : List ℕ) → Loaded → Type 0
 MergeLeft frame n before scratch held after scratched r =
-    (table : List NodeRecord) → length table ≡ held
+    AllBytes frame × AllBytes before
+    × ((table : List NodeRecord) → length table ≡ held
     → (r .answer ≡ hosted (merge frame n before scratch table .answer)) × (after ≡ merge frame n before scratch table .buffer)
     × (scratched ≡ merge frame n before scratch table .scratch)
-    × Left after (r .root) (r .count) table (merge frame n before scratch table .table)
+    × Left after (r .root) (r .count) table (merge frame n before scratch table .table))
 
 -- ---- an extract from the numbers of the table's records
 
@@ -46,4 +49,4 @@ Lent n row held = (table : List NodeRecord) × RowOf n row held table
 -- The extract is the definition's with every table of so many records whose first numbers are in the row. (Ours.)
 abbrev pub ExtractBy : (n : ℕ) (before scratch row : List ℕ) (held : ℕ) (after scratched : List ℕ) → ℤ → Type 0
 ExtractBy n before scratch row held after scratched r =
-    (table : List NodeRecord) → RowOf n row held table → CallHosted (extract n before scratch table) after scratched r
+    (table : List NodeRecord) → RowOf n row held table → CallHosted before (extract n before scratch table) after scratched r

@@ -1,4 +1,4 @@
--- Which definition each number is, and what the buffers and the table are.
+-- Which definition each number is, and what the buffers and the table are; and that what was lent are bytes.
 use Prim.Native.Nat.{ℕ}
 use mathlib.Core.Path.{_≡_}
 use mathlib.Core.List.{List}
@@ -7,22 +7,24 @@ use Rattle.definitions.specs.Calls.{load, Outcome}
 use Rattle.definitions.specs.Merge.{MergeOutcome}
 use Rattle.definitions.specs.NodeTable.{NodeRecord}
 use Rattle.definitions.specs.Hosts.{hosted}
+use Rattle.definitions.specs.Good.{AllBytes}
 use Rattle.definitions.specs.Printed.{print}
 
 -- The load is the definition's, whatever n the host had: answer, plan buffer and table.
 abbrev pub LoadHosted : (frame before : List ℕ) (table : List NodeRecord) (after : List ℕ) (filled : List NodeRecord) → ℤ → Type 0
 LoadHosted frame before table after filled r =
-    (n : ℕ) → (r ≡ hosted (load frame n before table .answer)) × (after ≡ load frame n before table .buffer)
-    × (filled ≡ load frame n before table .table)
+    AllBytes frame
+    × ((n : ℕ) → (r ≡ hosted (load frame n before table .answer)) × (after ≡ load frame n before table .buffer)
+    × (filled ≡ load frame n before table .table))
 
 -- The merge is the definition's: answer, both buffers and the table.
-abbrev pub MergeHosted : MergeOutcome → (after scratch : List ℕ) (filled : List NodeRecord) → ℤ → Type 0
-MergeHosted o after scratch filled r =
-    (r ≡ hosted (o .answer)) × (after ≡ o .buffer) × (scratch ≡ o .scratch) × (filled ≡ o .table)
+abbrev pub MergeHosted : (frame before : List ℕ) → MergeOutcome → (after scratch : List ℕ) (filled : List NodeRecord) → ℤ → Type 0
+MergeHosted frame before o after scratch filled r =
+    AllBytes frame × AllBytes before × (r ≡ hosted (o .answer)) × (after ≡ o .buffer) × (scratch ≡ o .scratch) × (filled ≡ o .table)
 
 -- The call is the definition's: answer and both buffers. n is the host's to keep: the length that was answered, else as it was.
-abbrev pub CallHosted : Outcome → (after scratch : List ℕ) → ℤ → Type 0
-CallHosted o after scratch r = (r ≡ hosted (o .answer)) × (after ≡ o .buffer) × (scratch ≡ o .scratch)
+abbrev pub CallHosted : (before : List ℕ) → Outcome → (after scratch : List ℕ) → ℤ → Type 0
+CallHosted before o after scratch r = AllBytes before × (r ≡ hosted (o .answer)) × (after ≡ o .buffer) × (scratch ≡ o .scratch)
 
 -- The print is the definition's: answer and text buffer.
 abbrev pub PrintHosted : (frame before after : List ℕ) → ℤ → Type 0

@@ -5,8 +5,8 @@ ghost use Rattle.definitions.specs.Calls as definitions;
 ghost use Rattle.host_calls.specs.Hosted.{CallHosted};
 
 pub fn exchange_number(plan: &mut [u8], n: usize, scratch: &mut [u8]) -> i64
-    ensures { λ r. ⌜ CallHosted (definitions.exchange n (now (plan .entry)) (now (scratch .entry))) (now (plan .exit))
-        (now (scratch .exit)) r ⌝ }
+    ensures { λ r. ⌜ CallHosted (now (plan .entry)) (definitions.exchange n (now (plan .entry)) (now (scratch .entry)))
+        (now (plan .exit)) (now (scratch .exit)) r ⌝ }
 {
     answer_number(exchange(plan, n, scratch))
 }

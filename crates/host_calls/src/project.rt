@@ -11,7 +11,8 @@ pub fn project_number(
     left: &[u16],
     right: &[u16],
 ) -> i64
-    ensures { λ r. ⌜ CallHosted (projects.project n (now (plan .entry)) (now (scratch .entry)) (now (left .entry)) (now (right .entry)))
+    ensures { λ r. ⌜ CallHosted (now (plan .entry))
+        (projects.project n (now (plan .entry)) (now (scratch .entry)) (now (left .entry)) (now (right .entry)))
         (now (plan .exit)) (now (scratch .exit)) r ⌝ }
 {
     answer_number(project(plan, n, scratch, left, right))

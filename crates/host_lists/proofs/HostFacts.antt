@@ -8,6 +8,7 @@ use Rattle.definitions.specs.Basics.{Result, ok, refused}
 use Rattle.definitions.specs.Expression.{Frame}
 use Rattle.definitions.specs.Calls.{LoadOutcome, finishLoad, load, Outcome, extract, exchange}
 use Rattle.definitions.specs.Machine.{Kind, extractCall, exchangeCall}
+use Rattle.definitions.specs.Good.{AllBytes}
 use Rattle.definitions.specs.NodeTable.{NodeRecord}
 use Rattle.definitions.specs.Sessions.{makeBy, make, accepted}
 use Rattle.definitions.specs.Merge.{MergeOutcome, merge}
@@ -20,8 +21,8 @@ use Rattle.join_filter.specs.declared.answers.Answer.{Answer}
 use Rattle.node_table.specs.Records.{nodesOf}
 use Rattle.node_table.specs.declared.NodeRecord.{NodeRecord as TableRecord}
 use Rattle.host_lists.specs.Numbers.{answered, nextN, IsAnswer}
-use Rattle.host_lists.specs.HostLists.{Host, MadeHosted, HostCall, madeNone, madeOne}
-use Rattle.host_lists.specs.HostFacts.{HostNumbers, HostKeeps, EveryListRuns}
+use Rattle.host_lists.specs.HostLists.{Host, MadeHosted}
+use Rattle.host_lists.specs.HostFacts.{HostNumbers, HostKeeps, EveryCallRuns}
 use Rattle.host_lists.proofs.Numbers.{answer-known, answers-of-calls, known}
 use Rattle.host_lists.proofs.Ran.{load-same, made-is, project-is, merge-is, load-is}
 
@@ -35,19 +36,24 @@ told x z e h =
 made-number : (kind : Kind) (b : Host) (scratch after kept : List ℕ) (z : ℤ) → MadeHosted kind b scratch after kept z
     → z ≡ hosted (make kind (b .n) (b .plan) scratch (nodesOf (b .table)) .answer)
 unfolding makeBy
-made-number extractCall b scratch after kept z is = is .0
-made-number exchangeCall b scratch after kept z is = is .0
+made-number extractCall b scratch after kept z is = is .1
+made-number exchangeCall b scratch after kept z is = is .1
+
+made-bytes : (kind : Kind) (b : Host) (scratch after kept : List ℕ) (z : ℤ) → MadeHosted kind b scratch after kept z → AllBytes (b .plan)
+made-bytes extractCall b scratch after kept z is = is .0
+made-bytes exchangeCall b scratch after kept z is = is .0
 
 pub host-numbers : HostNumbers
-host-numbers b (loading frame) a z bytes plan-bytes is =
-    told _ z (is .0 0 .0) (answers-of-calls .0 frame 0 (b .plan) (nodesOf (b .table)) bytes)
-host-numbers b (making c) a z bytes plan-bytes is =
+host-numbers b (loading frame) a z is =
+    told _ z (is .0 .1 0 .0) (answers-of-calls .0 frame 0 (b .plan) (nodesOf (b .table)) (is .0 .0))
+host-numbers b (making c) a z is =
     told _ z (made-number (c .kind) b (c .scratch) (a .plan) (is .0) z (is .1))
-    (answers-of-calls .1 (c .kind) (b .n) (b .plan) (c .scratch) (nodesOf (b .table)) plan-bytes)
-host-numbers b (merging frame scratch) a z bytes plan-bytes is =
-    told _ z (is .1 .0) (answers-of-calls .2 frame (b .n) (b .plan) scratch (nodesOf (b .table)))
-host-numbers b (projecting scratch ofLeft ofRight) a z bytes plan-bytes is =
-    told _ z (is .1 .0) (answers-of-calls .3 (b .n) (b .plan) scratch ofLeft ofRight plan-bytes)
+    (answers-of-calls .1 (c .kind) (b .n) (b .plan) (c .scratch) (nodesOf (b .table))
+    (made-bytes (c .kind) b (c .scratch) (a .plan) (is .0) z (is .1)))
+host-numbers b (merging frame scratch) a z is =
+    told _ z (is .1 .2) (answers-of-calls .2 frame (b .n) (b .plan) scratch (nodesOf (b .table)))
+host-numbers b (projecting scratch ofLeft ofRight) a z is =
+    told _ z (is .1 .1) (answers-of-calls .3 (b .n) (b .plan) scratch ofLeft ofRight (is .1 .0))
 
 -- ---- a refusal
 
@@ -67,7 +73,7 @@ host-keeps b (loading frame) a z is h =
     let (r, o, same) = load-is frame (b .plan) (nodesOf (b .table)) (a .plan) (nodesOf (a .table)) z (is .0) in
     let kept = refused-keeps .0 frame 0 (b .plan) (nodesOf (b .table))
     (refused-is _ r z same (ap (λ (x : LoadOutcome). x .answer) (o 0)) h) in
-    (is .0 0 .1 ∙ kept .1, refl, is .1 ∙ same-n (b .n) z h, is .0 0 .2 ∙ kept .2)
+    (is .0 .1 0 .1 ∙ kept .1, refl, is .1 ∙ same-n (b .n) z h, is .0 .1 0 .2 ∙ kept .2)
 host-keeps b (making c) a z is h =
     let (r, o, same) = made-is (c .kind) b (c .scratch) (a .plan) (is .0) z (is .1) in
     let kept = refused-keeps .1 (c .kind) (b .n) (b .plan) (c .scratch) (nodesOf (b .table))
@@ -82,14 +88,14 @@ host-keeps b (merging frame scratch) a z is h =
     merge-is frame (b .n) (b .plan) scratch (nodesOf (b .table)) (a .plan) (is .0) (nodesOf (a .table)) z (is .1) in
     let kept = merge-keeps frame (b .n) (b .plan) scratch (nodesOf (b .table))
     (refused-is _ r z same (ap (λ (x : MergeOutcome). x .answer) o) h) in
-    (is .1 .1 ∙ kept .1, is .1 .2 ∙ kept .2, is .2 ∙ same-n (b .n) z h, is .1 .3 ∙ kept .3)
+    (is .1 .3 ∙ kept .1, is .1 .4 ∙ kept .2, is .2 ∙ same-n (b .n) z h, is .1 .5 ∙ kept .3)
 host-keeps b (projecting scratch ofLeft ofRight) a z is h =
     let (r, o, same) = project-is (b .n) (b .plan) scratch ofLeft ofRight (a .plan) (is .0) z (is .1) in
     let lists : Lists = record { ofLeft = ofLeft; ofRight = ofRight } in
     let kept = project-keeps lists (b .n) (b .plan) scratch (refused-is _ r z same (ap (λ (x : Outcome). x .answer) o) h) in
-    (is .1 .1 ∙ kept .1, is .1 .2 ∙ kept .2, is .2 ∙ same-n (b .n) z h, ap nodesOf (is .3))
+    (is .1 .2 ∙ kept .1, is .1 .3 ∙ kept .2, is .2 ∙ same-n (b .n) z h, ap nodesOf (is .3))
 
--- ---- every list of calls runs
+-- ---- every call runs
 
 -- A table with these records.
 abbrev rawOf : NodeRecord → TableRecord
@@ -113,48 +119,44 @@ load-alike : (frame : List ℕ) (n m : ℕ) (buffer : List ℕ) (table : List No
 unfolding load
 load-alike frame n m buffer table = loaded-alike frame n m buffer table _
 
-made-runs : (kind : Kind) (b : Host) (scratch : List ℕ)
+made-runs : (kind : Kind) (b : Host) (scratch : List ℕ) → AllBytes (b .plan)
     → (after : List ℕ) × (kept : List ℕ) × (z : ℤ) × MadeHosted kind b scratch after kept z
-made-runs extractCall b scratch =
+made-runs extractCall b scratch bytes =
     let o : Outcome = extract (b .n) (b .plan) scratch (nodesOf (b .table)) in
-    (o .buffer, o .scratch, hosted (o .answer), (refl, refl, refl))
-made-runs exchangeCall b scratch =
-    let o : Outcome = exchange (b .n) (b .plan) scratch in (o .buffer, o .scratch, hosted (o .answer), (refl, refl, refl))
+    (o .buffer, o .scratch, hosted (o .answer), (bytes, refl, refl, refl))
+made-runs exchangeCall b scratch bytes =
+    let o : Outcome = exchange (b .n) (b .plan) scratch in (o .buffer, o .scratch, hosted (o .answer), (bytes, refl, refl, refl))
 
-one-runs : (b : Host) (c : Call) → (a : Host) × (z : ℤ) × HostCall b c a z
-one-runs b (loading frame) =
+pub every-call-runs : EveryCallRuns
+every-call-runs b (loading frame) plan-bytes bytes =
     let table : List NodeRecord = nodesOf (b .table) in
     let o : LoadOutcome = load frame 0 (b .plan) table in
     let z : ℤ = hosted (o .answer) in (
       record { plan = o .buffer; n = nextN (b .n) z; table = map rawOf (o .table) },
       z,
       (
-        λ n. (
-          ap hosted (load-same frame 0 n (b .plan) table),
-          load-alike frame 0 n (b .plan) table .0,
-          raw-back (o .table) ∙ load-alike frame 0 n (b .plan) table .1,
+        (
+          bytes,
+          λ n. (
+            ap hosted (load-same frame 0 n (b .plan) table),
+            load-alike frame 0 n (b .plan) table .0,
+            raw-back (o .table) ∙ load-alike frame 0 n (b .plan) table .1,
+          ),
         ),
         refl,
       ),
     )
-one-runs b (making c) =
-    let (after, kept, z, is) = made-runs (c .kind) b (c .scratch) in
+every-call-runs b (making c) plan-bytes bytes =
+    let (after, kept, z, is) = made-runs (c .kind) b (c .scratch) plan-bytes in
     (record { plan = after; n = nextN (b .n) z; table = b .table }, z, (kept, is, refl, refl))
-one-runs b (merging frame scratch) =
+every-call-runs b (merging frame scratch) plan-bytes bytes =
     let o : MergeOutcome = merge frame (b .n) (b .plan) scratch (nodesOf (b .table)) in
     let z : ℤ = hosted (o .answer) in (
       record { plan = o .buffer; n = nextN (b .n) z; table = map rawOf (o .table) },
       z,
-      (o .scratch, (refl, refl, refl, raw-back (o .table)), refl),
+      (o .scratch, (bytes, plan-bytes, refl, refl, refl, raw-back (o .table)), refl),
     )
-one-runs b (projecting scratch ofLeft ofRight) =
+every-call-runs b (projecting scratch ofLeft ofRight) plan-bytes bytes =
     let o : Outcome = project (b .n) (b .plan) scratch ofLeft ofRight in
     let z : ℤ = hosted (o .answer) in
-    (record { plan = o .buffer; n = nextN (b .n) z; table = b .table }, z, (o .scratch, (refl, refl, refl), refl, refl))
-
-pub every-list-runs : EveryListRuns
-every-list-runs b [] = ([], b, madeNone)
-every-list-runs b (c ∷ calls) =
-    let (a, z, is) = one-runs b c in
-    let (numbers, last, ran) = every-list-runs a calls in
-    (z ∷ numbers, last, madeOne is ran)
+    (record { plan = o .buffer; n = nextN (b .n) z; table = b .table }, z, (o .scratch, (plan-bytes, refl, refl, refl), refl, refl))

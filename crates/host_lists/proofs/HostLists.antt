@@ -36,7 +36,7 @@ use Rattle.host_calls.specs.Hosted.{LoadHosted, MergeHosted}
 use Rattle.host_lists.specs.Numbers.{answered}
 use Rattle.host_lists.specs.HostLists.{Host, MadeHosted, HostRan, hostTo, HostStarts, byLoad, byMerge, HostRun, outcome, plan, extracted, odd, ProjectHosted, HostDemandThree, HostProjected, HostsMeetDemandThree}
 use Rattle.host_lists.proofs.Numbers.{known}
-use Rattle.host_lists.proofs.Ran.{lentOf, made-is, project-is, merge-is, load-is, host-ran, hosted-all, outcomes-same, length-told}
+use Rattle.host_lists.proofs.Ran.{lentOf, made-is, project-is, merge-is, load-is, host-ran, frames-bytes, hosted-all, outcomes-same, length-told}
 
 -- ---- a call that gave a length
 
@@ -47,7 +47,7 @@ load-length frame before table after filled m h =
     subst (λ (r : Answer). LoadIs frame before after table filled r) (length-told m r same) is
 
 pub merge-length : (frame : List ℕ) (n : ℕ) (before scratch kept : List ℕ) (table : List NodeRecord) (after : List ℕ)
-    (filled : List NodeRecord) (m : ℕ) → MergeHosted (merge frame n before scratch table) after kept filled (pos m)
+    (filled : List NodeRecord) (m : ℕ) → MergeHosted frame before (merge frame n before scratch table) after kept filled (pos m)
     → MergeIs (merge frame n before scratch table) n after kept filled (Length m)
 merge-length frame n before scratch kept table after filled m h =
     let (r, is, same) = merge-is frame n before scratch table after kept filled (pos m) h in
@@ -60,11 +60,11 @@ project-length lists b scratch kept a h =
     subst (λ (r : Answer). OutcomeIs (projectBy lists (b .n) (b .plan) scratch) (b .n) (a .plan) kept r) (length-told (a .n) r same) is
 
 starts-is : (F : Frame) (a : Host) → HostStarts F a → Starts F (lentOf a)
-starts-is F a (byLoad frame before table bytes good is) =
-    code-by-load frame before (nodesOf table) bytes good
+starts-is F a (byLoad frame before table good is) =
+    code-by-load frame before (nodesOf table) (is .0) good
     (load-length frame before (nodesOf table) (a .plan) (nodesOf (a .table)) (a .n) is)
-starts-is F a (byMerge frame n before scratch kept table old new bytes plan-bytes given found joined is) =
-    code-by-merge frame n before scratch kept (nodesOf table) old new bytes plan-bytes given found joined
+starts-is F a (byMerge frame n before scratch kept table old new given found joined is) =
+    code-by-merge frame n before scratch kept (nodesOf table) old new (is .0) (is .1) given found joined
     (merge-length frame n before scratch kept (nodesOf table) (a .plan) (nodesOf (a .table)) (a .n) is)
 
 -- ---- demand 3 from a frame
@@ -196,15 +196,15 @@ module _ (lists : ChildLists) (X Y : Extraction) (a : Host) (code : AfterProject
 
 -- ---- whole
 
-host-history : (plan : List ℕ) (table : List TableRecord) (calls : List Call) (numbers : List ℤ) (last : Host) → FramesAreBytes calls
+host-history : (plan : List ℕ) (table : List TableRecord) (calls : List Call) (numbers : List ℤ) (last : Host)
     → HostRan (record { plan = plan; n = 0; table = table }) calls numbers last
     → let m : History = machineHistory matchLeaf (length plan) (length table) nothing calls in
     (numbers ≡ map hosted (m .answers)) × (take (last .n) (last .plan) ≡ planBytes (statePlan matchLeaf (m .state)))
     × (last .n ≡ length (planBytes (statePlan matchLeaf (m .state)))) × (length (last .plan) ≡ length plan)
     × (length (last .table) ≡ length table) × (tableFits (nodesOf (last .table)) (ok (statePlan matchLeaf (m .state))) ≡ true)
-host-history plan table calls numbers last bytes ran =
+host-history plan table calls numbers last ran =
     let (answers, code-ran, same) = host-ran ran in
-    let h = code-meets-demand-three .history plan (nodesOf table) calls answers (lentOf last) bytes code-ran in
+    let h = code-meets-demand-three .history plan (nodesOf table) calls answers (lentOf last) (frames-bytes ran) code-ran in
     let k = rw (length-map table nodeOf) at h in (
       same ∙ hosted-all answers ∙ ap (map hosted) (k .0),
       k .1,
@@ -216,24 +216,24 @@ host-history plan table calls numbers last bytes ran =
 
 pub hosts-meet-demand-three : HostsMeetDemandThree
 hosts-meet-demand-three = record {
-  afterLoad = λ frame before table a bytes is.
-      let (F, good, starts, d) = code-meets-demand-three .afterLoad frame before (nodesOf table) (lentOf a) bytes
+  afterLoad = λ frame before table a is.
+      let (F, good, starts, d) = code-meets-demand-three .afterLoad frame before (nodesOf table) (lentOf a) (is .0)
       (load-length frame before (nodesOf table) (a .plan) (nodesOf (a .table)) (a .n) is) in
-      (F, good, byLoad frame before table bytes good is, host-demand-three F);
-  afterMerge = λ frame n before scratch kept table a bytes plan-bytes is.
+      (F, good, byLoad frame before table good is, host-demand-three F);
+  afterMerge = λ frame n before scratch kept table a is.
       let (old, new, found, given, starts, d) =
-      code-meets-demand-three .afterMerge frame n before scratch kept (nodesOf table) (lentOf a) bytes plan-bytes
+      code-meets-demand-three .afterMerge frame n before scratch kept (nodesOf table) (lentOf a) (is .0) (is .1)
       (merge-length frame n before scratch kept (nodesOf table) (a .plan) (nodesOf (a .table)) (a .n) is) in (
         old,
         new,
         found,
         given,
-        byMerge frame n before scratch kept table old new bytes plan-bytes given found refl is,
+        byMerge frame n before scratch kept table old new given found refl is,
         host-demand-three (mergeFrames old new),
       );
-  afterProjection = λ lists b scratch kept a bytes is.
+  afterProjection = λ lists b scratch kept a is.
       let (X, Y, found, new, size, after) =
-      code-meets-demand-three .afterProjection lists (lentOf b) scratch kept (lentOf a) bytes (project-length lists b scratch kept a is) in
+      code-meets-demand-three .afterProjection lists (lentOf b) scratch kept (lentOf a) (is .0) (project-length lists b scratch kept a is) in
       (X, Y, found, new, size, host-projected lists X Y a after);
   history = host-history;
 }

@@ -35,12 +35,12 @@ good-session F g = written-held matchLeaf F (frameBytes F) (frameBytes F) [] ref
 
 session-for : (F : Frame) (a : Host) → HostStarts F a → Session F
 unfolding accepted
-session-for F a (byLoad frame before table bytes good is) = good-session F (frame-back frame F bytes good .1)
-session-for F a (byMerge frame n before scratch kept table old new bytes plan-bytes given found joined is) =
+session-for F a (byLoad frame before table good is) = good-session F (frame-back frame F (is .0) good .1)
+session-for F a (byMerge frame n before scratch kept table old new given found joined is) =
     let taken : accepted (merge frame n before scratch (nodesOf table) .answer) ≡ true =
     ap (λ (o : MergeOutcome). accepted (o .answer))
     (merge-length frame n before scratch kept (nodesOf table) (a .plan) (nodesOf (a .table)) (a .n) is) in
-    let (old′, new′, found′, given′, l) = merge-holds matchLeaf frame n before scratch (nodesOf table) bytes plan-bytes taken in
+    let (old′, new′, found′, given′, l) = merge-holds matchLeaf frame n before scratch (nodesOf table) (is .0) (is .1) taken in
     let one : old′ ≡ old = same-held old′ old (same-ok _ _ (sym found′ ∙ found)) in
     let two : new′ ≡ new = same-ok new′ new (sym given′ ∙ given) in
     subst Session (ap₂ mergeFrames one two ∙ joined) (l .0)

@@ -13,7 +13,7 @@ use Rattle.definitions.specs.NodeTable.{NodeRecord}
 use Rattle.definitions.specs.Sessions.{makeBy, make, accepted}
 use Rattle.definitions.specs.Merge.{MergeOutcome, withTable, merge}
 use Rattle.definitions.specs.Project.{project}
-use Rattle.definitions.specs.History.{Call, loading, making, merging, projecting}
+use Rattle.definitions.specs.History.{Call, loading, making, merging, projecting, FramesAreBytes}
 use Rattle.definitions.specs.Hosts.{hosted}
 use Rattle.definitions.specs.Claims.{loadRefusals, extractRefusals, exchangeRefusals, mergeRefusals, projectRefusals, RefusedBy}
 use Rattle.theorems.proofs.Changes.{extract-writes}
@@ -100,10 +100,10 @@ outcome-is o n after kept r e f g h = rw (e, n-told n (o .answer) (o .n) r e f, 
 
 -- A call with these refusals.
 call-is : (numbers : List ℕ) → Named numbers → (o : Outcome) (n : ℕ) (after kept : List ℕ) (z : ℤ) → RefusedBy numbers (o .answer)
-    → o .n ≡ nOf n (o .answer) → CallHosted o after kept z → (r : Answer) × OutcomeIs o n after kept r × (z ≡ hosted (answerOf r))
-call-is numbers named o n after kept z h f c =
+    → o .n ≡ nOf n (o .answer) → (before : List ℕ) → CallHosted before o after kept z → (r : Answer) × OutcomeIs o n after kept r × (z ≡ hosted (answerOf r))
+call-is numbers named o n after kept z h f before c =
     let (r, e) = answer-from numbers named (o .answer) h in
-    (r, outcome-is o n after kept r e f (c .1) (c .2), c .0 ∙ ap hosted (sym e))
+    (r, outcome-is o n after kept r e f (c .2) (c .3), c .1 ∙ ap hosted (sym e))
 
 pub made-is : (kind : Kind) (b : Host) (scratch after kept : List ℕ) (z : ℤ) → MadeHosted kind b scratch after kept z
     → (r : Answer) × OutcomeIs (make kind (b .n) (b .plan) scratch (nodesOf (b .table))) (b .n) after kept r × (z ≡ hosted (answerOf r))
@@ -111,29 +111,30 @@ unfolding makeBy
 made-is extractCall b scratch after kept z c =
     call-is extractRefusals extract-named (extract (b .n) (b .plan) scratch (nodesOf (b .table))) (b .n) after kept z
     (refusals-of-calls .1 (b .n) (b .plan) scratch (nodesOf (b .table)))
-    (make-n extractCall (b .n) (b .plan) scratch (nodesOf (b .table))) c
+    (make-n extractCall (b .n) (b .plan) scratch (nodesOf (b .table))) (b .plan) c
 made-is exchangeCall b scratch after kept z c =
     call-is exchangeRefusals exchange-named (exchange (b .n) (b .plan) scratch) (b .n) after kept z
-    (refusals-of-calls .2 (b .n) (b .plan) scratch) (make-n exchangeCall (b .n) (b .plan) scratch (nodesOf (b .table))) c
+    (refusals-of-calls .2 (b .n) (b .plan) scratch) (make-n exchangeCall (b .n) (b .plan) scratch (nodesOf (b .table)))
+    (b .plan) c
 
 pub project-is : (n : ℕ) (buffer scratch ofLeft ofRight after kept : List ℕ) (z : ℤ)
-    → CallHosted (project n buffer scratch ofLeft ofRight) after kept z
+    → CallHosted buffer (project n buffer scratch ofLeft ofRight) after kept z
     → (r : Answer) × OutcomeIs (project n buffer scratch ofLeft ofRight) n after kept r × (z ≡ hosted (answerOf r))
 project-is n buffer scratch ofLeft ofRight after kept z c =
     call-is projectRefusals project-named (project n buffer scratch ofLeft ofRight) n after kept z
-    (refusals-of-calls .6 n buffer scratch ofLeft ofRight) (project-n n buffer scratch ofLeft ofRight) c
+    (refusals-of-calls .6 n buffer scratch ofLeft ofRight) (project-n n buffer scratch ofLeft ofRight) buffer c
 
 merged-is : (o : MergeOutcome) (n : ℕ) (after kept : List ℕ) (filled : List NodeRecord) (r : Answer) → answerOf r ≡ o .answer
     → o .n ≡ nOf n (o .answer) → after ≡ o .buffer → kept ≡ o .scratch → filled ≡ o .table → MergeIs o n after kept filled r
 merged-is o n after kept filled r e f g h t = rw (e, n-told n (o .answer) (o .n) r e f, g, h, t) refl
 
 pub merge-is : (frame : List ℕ) (n : ℕ) (buffer scratch : List ℕ) (table : List NodeRecord) (after kept : List ℕ)
-    (filled : List NodeRecord) (z : ℤ) → MergeHosted (merge frame n buffer scratch table) after kept filled z
+    (filled : List NodeRecord) (z : ℤ) → MergeHosted frame buffer (merge frame n buffer scratch table) after kept filled z
     → (r : Answer) × MergeIs (merge frame n buffer scratch table) n after kept filled r × (z ≡ hosted (answerOf r))
 merge-is frame n buffer scratch table after kept filled z c =
     let o : MergeOutcome = merge frame n buffer scratch table in
     let (r, e) = answer-from mergeRefusals merge-named (o .answer) (refusals-of-calls .5 frame n buffer scratch table) in
-    (r, merged-is o n after kept filled r e (merge-n frame n buffer scratch table) (c .1) (c .2) (c .3), c .0 ∙ ap hosted (sym e))
+    (r, merged-is o n after kept filled r e (merge-n frame n buffer scratch table) (c .3) (c .4) (c .5), c .2 ∙ ap hosted (sym e))
 
 loaded-is : (o : LoadOutcome) (n : ℕ) (after : List ℕ) (filled : List NodeRecord) (r : Answer) → answerOf r ≡ o .answer
     → o .n ≡ nOf n (o .answer) → after ≡ o .buffer → filled ≡ o .table
@@ -146,8 +147,8 @@ load-is frame before table after filled z c =
     let (r, e) = answer-from loadRefusals load-named (load frame 0 before table .answer) (refusals-of-calls .0 frame 0 before table) in (
       r,
       λ n. loaded-is (load frame n before table) n after filled r (e ∙ load-same frame 0 n before table) (load-n frame n before table)
-          (c n .1) (c n .2),
-      c 0 .0 ∙ ap hosted (sym e),
+          (c .1 n .1) (c .1 n .2),
+      c .1 0 .0 ∙ ap hosted (sym e),
     )
 
 -- ---- lists
@@ -179,6 +180,14 @@ host-ran (madeOne {b} {a} {c = c} {z = z} is more) =
     let (r, one, same) = one-is b c a z is in
     let (answers, ran, all) = host-ran more in
     (r ∷ answers, called one ran, ap₂ (λ (x : ℤ) (l : List ℤ). x ∷ l) same all)
+
+-- Every frame of such a list is of bytes, since the exported load and merge were lent it.
+pub frames-bytes : {b last : Host} {calls : List Call} {numbers : List ℤ} → HostRan b calls numbers last → FramesAreBytes calls
+frames-bytes madeNone = tt
+frames-bytes (madeOne {c = loading frame} is more) = (is .0 .0, frames-bytes more)
+frames-bytes (madeOne {c = making c} is more) = (tt, frames-bytes more)
+frames-bytes (madeOne {c = merging frame scratch} is more) = (is .1 .0, frames-bytes more)
+frames-bytes (madeOne {c = projecting scratch ofLeft ofRight} is more) = (tt, frames-bytes more)
 
 -- What is read off them is what the code answered.
 pub read-off : (answers : List Answer) → map answered (numbersOf answers) ≡ map answerOf answers

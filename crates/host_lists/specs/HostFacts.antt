@@ -1,4 +1,4 @@
--- One exported call of a host: demand 1 of it, and that every list of calls runs.
+-- One exported call of a host: demand 1 of it, and that every call runs.
 use Prim.Native.Nat.{ℕ}
 use mathlib.Core.Path.{_≡_}
 use mathlib.Core.Bool.{false}
@@ -10,7 +10,7 @@ use Rattle.definitions.specs.History.{Call, loading, making, merging, projectin
 use Rattle.definitions.specs.Hosts.{hosted}
 use Rattle.node_table.specs.Records.{nodesOf}
 use Rattle.host_lists.specs.Numbers.{answered, IsAnswer}
-use Rattle.host_lists.specs.HostLists.{Host, HostCall, HostRan}
+use Rattle.host_lists.specs.HostLists.{Host, HostCall}
 
 -- The scratch that a call is lent; load has none.
 abbrev pub scratchOf : Call → List ℕ
@@ -29,7 +29,7 @@ scratchLeft b (projecting scratch ofLeft ofRight) a z is = is .0
 -- Demand 1: every number is a length of at most 16,384, or minus one of the refusals 1 to 20.
 abbrev pub HostNumbers : Type 0
 HostNumbers =
-    (b : Host) (c : Call) (a : Host) (z : ℤ) → FrameIsBytes c → AllBytes (b .plan) → HostCall b c a z
+    (b : Host) (c : Call) (a : Host) (z : ℤ) → HostCall b c a z
     → (z ≡ hosted (answered z)) × IsAnswer (answered z)
 
 -- Demand 1: a refused call changes neither plan nor scratch, nor n, nor the table's records.
@@ -38,6 +38,6 @@ HostKeeps =
     (b : Host) (c : Call) (a : Host) (z : ℤ) (is : HostCall b c a z) → accepted (answered z) ≡ false
     → (a .plan ≡ b .plan) × (scratchLeft b c a z is ≡ scratchOf c) × (a .n ≡ b .n) × (nodesOf (a .table) ≡ nodesOf (b .table))
 
--- From every host every list of calls runs: what is claimed of runs is claimed of something.
-abbrev pub EveryListRuns : Type 0
-EveryListRuns = (b : Host) (calls : List Call) → (numbers : List ℤ) × (last : Host) × HostRan b calls numbers last
+-- From every host whose plan buffer holds bytes every call with a frame of bytes runs: what is claimed of calls is claimed of something.
+abbrev pub EveryCallRuns : Type 0
+EveryCallRuns = (b : Host) (c : Call) → AllBytes (b .plan) → FrameIsBytes c → (a : Host) × (z : ℤ) × HostCall b c a z

@@ -41,8 +41,8 @@ pub record Host : Type 0 where
 
 -- `spatialjoin_extract` or `spatialjoin_exchange` met its contract.
 abbrev pub MadeHosted : Kind → Host → (scratch after kept : List ℕ) → ℤ → Type 0
-MadeHosted extractCall b scratch after kept z = CallHosted (extract (b .n) (b .plan) scratch (nodesOf (b .table))) after kept z
-MadeHosted exchangeCall b scratch after kept z = CallHosted (exchange (b .n) (b .plan) scratch) after kept z
+MadeHosted extractCall b scratch after kept z = CallHosted (b .plan) (extract (b .n) (b .plan) scratch (nodesOf (b .table))) after kept z
+MadeHosted exchangeCall b scratch after kept z = CallHosted (b .plan) (exchange (b .n) (b .plan) scratch) after kept z
 
 -- A call of `spatialjoin_load`, `_extract`, `_exchange`, `_merge` or `_project` met its contract, was given what the first host owns, gave
 -- this number, and left what the second owns. n is the host's to keep. Extract is lent the table and cannot write it; exchange and project
@@ -53,10 +53,11 @@ HostCall b (loading frame) a z =
 HostCall b (making c) a z =
     (kept : List ℕ) × MadeHosted (c .kind) b (c .scratch) (a .plan) kept z × (a .n ≡ nextN (b .n) z) × (a .table ≡ b .table)
 HostCall b (merging frame scratch) a z =
-    (kept : List ℕ) × MergeHosted (merge frame (b .n) (b .plan) scratch (nodesOf (b .table))) (a .plan) kept (nodesOf (a .table)) z
+    (kept : List ℕ)
+    × MergeHosted frame (b .plan) (merge frame (b .n) (b .plan) scratch (nodesOf (b .table))) (a .plan) kept (nodesOf (a .table)) z
     × (a .n ≡ nextN (b .n) z)
 HostCall b (projecting scratch ofLeft ofRight) a z =
-    (kept : List ℕ) × CallHosted (project (b .n) (b .plan) scratch ofLeft ofRight) (a .plan) kept z
+    (kept : List ℕ) × CallHosted (b .plan) (project (b .n) (b .plan) scratch ofLeft ofRight) (a .plan) kept z
     × (a .n ≡ nextN (b .n) z) × (a .table ≡ b .table)
 
 -- A host made a list of calls, each with what the one before left, and was given these numbers.
@@ -73,11 +74,11 @@ hostTo numbers last = record { answers = map answered numbers; n = last .n; buff
 
 -- A call that met its contract gave a length, which the host has as n, and left the frame F: a load of it, or a merge of two frames to it.
 pub data HostStarts (F : Frame) (a : Host) : Type 0 where
-  byLoad : (frame before : List ℕ) (table : List TableRecord) → AllBytes frame → frameOf frame ≡ ok F
+  byLoad : (frame before : List ℕ) (table : List TableRecord) → frameOf frame ≡ ok F
       → LoadHosted frame before (nodesOf table) (a .plan) (nodesOf (a .table)) (pos (a .n)) → HostStarts F a
-  byMerge : (frame : List ℕ) (n : ℕ) (before scratch kept : List ℕ) (table : List TableRecord) (old new : Frame) → AllBytes frame
-      → AllBytes before → frameOf frame ≡ ok new → heldPlan n before ≡ ok (held old) → mergeFrames old new ≡ F
-      → MergeHosted (merge frame n before scratch (nodesOf table)) (a .plan) kept (nodesOf (a .table)) (pos (a .n)) → HostStarts F a
+  byMerge : (frame : List ℕ) (n : ℕ) (before scratch kept : List ℕ) (table : List TableRecord) (old new : Frame) → frameOf frame ≡ ok new → heldPlan n before ≡ ok (held old) → mergeFrames old new ≡ F
+      → MergeHosted frame before (merge frame n before scratch (nodesOf table)) (a .plan) kept (nodesOf (a .table)) (pos (a .n))
+      → HostStarts F a
 
 -- Such a call, and after it a list of extracts and exchanges.
 pub record HostRun (F : Frame) (calls : List Made) : Type 0 where
@@ -105,7 +106,7 @@ odd {F} {calls} r = exchangesOdd calls (outcome r .answers)
 
 -- A projection by these lists met its contract and gave n.
 abbrev pub ProjectHosted : ChildLists → Host → (scratch kept : List ℕ) → Host → Type 0
-ProjectHosted lists b scratch kept a = CallHosted (projectBy lists (b .n) (b .plan) scratch) (a .plan) kept (pos (a .n))
+ProjectHosted lists b scratch kept a = CallHosted (b .plan) (projectBy lists (b .n) (b .plan) scratch) (a .plan) kept (pos (a .n))
 
 -- Demand 3 of a host, from the frame F.
 pub record HostDemandThree (F : Frame) : Type 0 where
@@ -163,23 +164,22 @@ pub record HostProjected (lists : ChildLists) (X Y : Extraction) (a : Host) : Ty
 
 pub record HostsMeetDemandThree : Type 0 where
   -- A load that gave a length is of a good frame, for which all of this holds.
-  pub afterLoad : (frame before : List ℕ) (table : List TableRecord) (a : Host) → AllBytes frame
+  pub afterLoad : (frame before : List ℕ) (table : List TableRecord) (a : Host)
       → LoadHosted frame before (nodesOf table) (a .plan) (nodesOf (a .table)) (pos (a .n))
       → (F : Frame) × (frameOf frame ≡ ok F) × HostStarts F a × HostDemandThree F
   -- A merge that gave a length is of a good frame into a held one; it all holds afresh for the merged frame.
-  pub afterMerge : (frame : List ℕ) (n : ℕ) (before scratch kept : List ℕ) (table : List TableRecord) (a : Host) → AllBytes frame
-      → AllBytes before
-      → MergeHosted (merge frame n before scratch (nodesOf table)) (a .plan) kept (nodesOf (a .table)) (pos (a .n))
+  pub afterMerge : (frame : List ℕ) (n : ℕ) (before scratch kept : List ℕ) (table : List TableRecord) (a : Host)
+      → MergeHosted frame before (merge frame n before scratch (nodesOf table)) (a .plan) kept (nodesOf (a .table)) (pos (a .n))
       → (old : Frame) × (new : Frame) × (heldPlan n before ≡ ok (held old)) × (frameOf frame ≡ ok new)
       × HostStarts (mergeFrames old new) a × HostDemandThree (mergeFrames old new)
   -- A projection that gave a length is of an extraction that is held, as long, and all of this holds after it.
-  pub afterProjection : (lists : ChildLists) (b : Host) (scratch kept : List ℕ) (a : Host) → AllBytes (b .plan)
+  pub afterProjection : (lists : ChildLists) (b : Host) (scratch kept : List ℕ) (a : Host)
       → ProjectHosted lists b scratch kept a
       → (X : Extraction) × (Y : Extraction) × (heldPlan (b .n) (b .plan) ≡ ok (holding X)) × (projection lists X ≡ some Y)
       × (a .n ≡ b .n) × HostProjected lists X Y a
   -- Every list of load, extract, exchange, merge and project, from n = 0, any plan buffer and any table, gives the machine's numbers, and
   -- leaves its plan, that plan's length, a plan buffer and a table as long as before, and a table that fits what is held.
-  pub history : (plan : List ℕ) (table : List TableRecord) (calls : List Call) (numbers : List ℤ) (last : Host) → FramesAreBytes calls
+  pub history : (plan : List ℕ) (table : List TableRecord) (calls : List Call) (numbers : List ℤ) (last : Host)
       → HostRan (record { plan = plan; n = 0; table = table }) calls numbers last
       → let m : History = machineHistory matchLeaf (length plan) (length table) nothing calls in
       (numbers ≡ map hosted (m .answers)) × (take (last .n) (last .plan) ≡ planBytes (statePlan matchLeaf (m .state)))

@@ -31,14 +31,17 @@ left-done s root count table filled put l is = is (l .records) (l .standing) ∙
 module _ (table put : List NodeRecord) (r : Loaded) where
   pub load-asks : (frame plan after : List ℕ) → LoadLeft frame plan (length table) after r
       → (r .count ≤ length table) × Filling frame (r .root) (r .count)
-  load-asks frame plan after is = left-asks frame (r .root) (r .count) table _ (is 0 (nodesOf table) (length-map table nodeOf) .2)
+  load-asks frame plan after is = left-asks frame (r .root) (r .count) table _ (is .1 0 (nodesOf table) (length-map table nodeOf) .2)
 
   load-is : (frame plan after : List ℕ) → LoadLeft frame plan (length table) after r
       → FilledIs frame (r .root) (r .count) (nodesOf table) (nodesOf put)
       → LoadHosted frame plan (nodesOf table) after (nodesOf put) (r .answer)
-  load-is frame plan after is filled n =
-      let so = is n (nodesOf table) (length-map table nodeOf) in
-      (so .0, so .1, left-done frame (r .root) (r .count) (nodesOf table) _ (nodesOf put) (so .2) filled)
+  load-is frame plan after is filled = (
+    is .0,
+    λ n.
+        let so = is .1 n (nodesOf table) (length-map table nodeOf) in
+        (so .0, so .1, left-done frame (r .root) (r .count) (nodesOf table) _ (nodesOf put) (so .2) filled),
+  )
 
   pub load-fills : (frame plan after row : List ℕ) → LoadLeft frame plan (length table) after r → RowHas frame (r .root) (r .count) row
       → nodesOf put ≡ take (r .count) (map numbered row) ++ drop (r .count) (nodesOf table)
@@ -49,13 +52,13 @@ module _ (table put : List NodeRecord) (r : Loaded) where
   module _ (frame : List ℕ) (n : ℕ) (plan scratch after scratched : List ℕ)
       (is : MergeLeft frame n plan scratch (length table) after scratched r) where
     pub merge-asks : (r .count ≤ length table) × Filling after (r .root) (r .count)
-    merge-asks = left-asks after (r .root) (r .count) table _ (is (nodesOf table) (length-map table nodeOf) .3)
+    merge-asks = left-asks after (r .root) (r .count) table _ (is .2 (nodesOf table) (length-map table nodeOf) .3)
 
     pub merge-is : FilledIs after (r .root) (r .count) (nodesOf table) (nodesOf put)
-        → MergeHosted (merge frame n plan scratch (nodesOf table)) after scratched (nodesOf put) (r .answer)
+        → MergeHosted frame plan (merge frame n plan scratch (nodesOf table)) after scratched (nodesOf put) (r .answer)
     merge-is filled =
-        let so = is (nodesOf table) (length-map table nodeOf) in
-        (so .0, so .1, so .2, left-done after (r .root) (r .count) (nodesOf table) _ (nodesOf put) (so .3) filled)
+        let so = is .2 (nodesOf table) (length-map table nodeOf) in
+        (is .0, is .1, so .0, so .1, so .2, left-done after (r .root) (r .count) (nodesOf table) _ (nodesOf put) (so .3) filled)
 
 -- a row that begins with the numbers of a table's first records, as many as are taken
 pub row-of : (n : ℕ) (table : List NodeRecord) (count : ℕ) (before row : List ℕ) → count ≡ lentCount n (length table)

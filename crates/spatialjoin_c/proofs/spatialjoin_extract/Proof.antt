@@ -192,7 +192,7 @@ module _ {M : Type 1} (𝓤 : URA M) (H : Heap 𝓤) (A : Atoms 𝓤) (W : Given
       ‵ (flft κ q) ∷ ‵ (flft κ₁ q₁) ∷ (‵ (flft κ₂ q₂) ⊛ ‵ ftrue) ∷ ‵ (finally u8 (ps .name) after)
       ∷ ‵ (finally u8 (cs .name) scratched) ∷ ‵ Own₂ ∷ []
 
-  exits : (z : ℤ) (u : Val) (after scratched : List ℕ) → CallHosted (extract n (ps .now) (cs .now) (nodesOf (xs .now))) after scratched z
+  exits : (z : ℤ) (u : Val) (after scratched : List ℕ) → CallHosted (ps .now) (extract n (ps .now) (cs .now) (nodesOf (xs .now))) after scratched z
       → length after ≡ length (ps .now) → length scratched ≡ length (cs .now) → Is i64 z (u ∷ [])
       → ent 𝓤 (⋆ 𝓤 H A (Had after scratched)) (Post u)
   exits z u after scratched e lz lw is =

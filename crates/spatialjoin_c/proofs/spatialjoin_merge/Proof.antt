@@ -192,7 +192,7 @@ module _ {M : Type 1} (𝓤 : URA M) (H : Heap 𝓤) (A : Atoms 𝓤) (W : Given
       ∷ ‵ (finally u8 (cs .name) ws) ∷ ‵ (finally T.the-row (xs .name) ts) ∷ []
 
   exits : (r : Loaded) (zs ws : List ℕ) (ts : List NodeRecord)
-      → MergeHosted (merge (s .now) n ps (cs .now) (nodesOf (xs .now))) zs ws (nodesOf ts) (r .answer)
+      → MergeHosted (s .now) ps (merge (s .now) n ps (cs .now) (nodesOf (xs .now))) zs ws (nodesOf ts) (r .answer)
       → length zs ≡ length ps → length ws ≡ length (cs .now) → length ts ≡ held → Is i64 (r .answer) (vint w64 (ofZ w64 (r .answer)) ∷ [])
       → ent 𝓤 (⋆ 𝓤 H A (Had zs ws ts)) (Post (vint w64 (ofZ w64 (r .answer))))
   exits r zs ws ts e lz lw lt is =

@@ -16,8 +16,10 @@ answer-number-requires c κs =
 
 returns : tie.Need-returns
 returns c =
-    let call = c .before .before .before .before .before .exchange in
-    call-hosted _ _ _ _ (call .result) (call .ensures) _ (given-back _ _ (c .answer-number .ok) (c .answer-number .ensures))
+    let called = c .before .before .before .before .before in
+    let known = called .before .before .before .before in
+    let call = called .exchange in
+    call-hosted (known .before .args .plan .now) (all-bytes (known .before .args .plan .now) (known .slice-known .given)) _ _ _ _ (call .result) (call .ensures) _ (given-back _ _ (c .answer-number .ok) (c .answer-number .ensures))
 
 pub exchange-number-spec : {M : Type 1} → statement M
 exchange-number-spec =

@@ -18,7 +18,8 @@ answer-number-requires c κs =
 returns : tie.Need-returns
 returns c =
     let call = c .before .before .before .before .before .extract-by-table in
-    λ table so. call-hosted _ _ _ _ (call .result) (call .ensures table so) _
+    let known = c .before .before .before .before .before .before .before .before .before .before in
+    λ table so. call-hosted (known .before .args .plan .now) (all-bytes (known .before .args .plan .now) (known .slice-known .given)) _ _ _ _ (call .result) (call .ensures table so) _
     (given-back _ _ (c .answer-number .ok) (c .answer-number .ensures))
 
 pub extract-core-spec : {M : Type 1} → statement M

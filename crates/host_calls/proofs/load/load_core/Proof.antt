@@ -15,8 +15,10 @@ answer-number-requires c κs =
 
 returns : tie.Need-returns
 returns c =
-    let call = c .before .before .before .before .before .load-row in (
-      load-left _ _ _ _ (call .result) (call .ensures .0) _ (given-back _ _ (c .answer-number .ok) (c .answer-number .ensures)),
+    let call = c .before .before .before .before .before .load-row in
+    let known = c .before .before .before .before .before .before .before .before .before in (
+      load-left _ _ _ _ (call .result) (call .ensures .0)
+          (all-bytes (known .before .before .args .frame .now) (known .shared-slice-known .given)) _ (given-back _ _ (c .answer-number .ok) (c .answer-number .ensures)),
       call .ensures .1,
     )
 
