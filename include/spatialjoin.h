@@ -24,6 +24,10 @@
  *
  * STACK. A call needs at most SPATIALJOIN_STACK_BYTES of stack, which is measured (hosts/c/stack.c) and not proved.
  *
+ * VERSION. A host tests SPATIALJOIN_VERSION_MATCHES() at its start, before it lends anything: an archive of another version than the
+ * header may take other arguments, fill other records and give other answers. docs/HOSTS-CHANGES.md of the repository says what each
+ * version changed.
+ *
  * MACHINE. The archive is for x86-64 Linux. The header is C89 or later with <stdint.h>, or C++98 or later.
  */
 #ifndef SPATIALJOIN_H
@@ -32,10 +36,16 @@
 #include <stddef.h>
 #include <stdint.h>
 
-#define SPATIALJOIN_VERSION "0.8.0"
+#define SPATIALJOIN_VERSION "0.8.1"
 #define SPATIALJOIN_VERSION_MAJOR 0
 #define SPATIALJOIN_VERSION_MINOR 8
-#define SPATIALJOIN_VERSION_PATCH 0
+#define SPATIALJOIN_VERSION_PATCH 1
+
+/* The header's version as spatialjoin_version gives the archive's. */
+#define SPATIALJOIN_VERSION_NUMBER (SPATIALJOIN_VERSION_MAJOR * 65536 + SPATIALJOIN_VERSION_MINOR * 256 + SPATIALJOIN_VERSION_PATCH)
+
+/* Whether the archive is of the header's version: 1 or 0. */
+#define SPATIALJOIN_VERSION_MATCHES() (spatialjoin_version() == SPATIALJOIN_VERSION_NUMBER)
 
 /* The most bytes of a frame or plan. */
 #define SPATIALJOIN_MOST_BYTES 16384
@@ -43,7 +53,8 @@
 /* The most bytes of a text that spatialjoin_print writes: no good frame has a longer one (theorem text-is-short). */
 #define SPATIALJOIN_MOST_TEXT 26620
 
-/* The most nodes of a frame or of both expressions that are merged: a table of so many records is never too short. */
+/* The most nodes of a frame, a merged one too, which has those of both filters and the And that joins them: where they are more, a merge
+ * is refused (-16). So a table of so many records is never too short. */
 #define SPATIALJOIN_MOST_NODES 1024
 
 /* The most items of a list of spatialjoin_project. */
@@ -185,6 +196,9 @@ int64_t spatialjoin_project(uint8_t *SPATIALJOIN_RESTRICT plan, size_t plan_len,
                             uint8_t *SPATIALJOIN_RESTRICT scratch, size_t scratch_len,
                             const uint16_t *SPATIALJOIN_RESTRICT left, size_t left_len,
                             const uint16_t *SPATIALJOIN_RESTRICT right, size_t right_len);
+
+/* The archive's version: major * 65536 + minor * 256 + patch. */
+int64_t spatialjoin_version(void);
 
 #ifdef __cplusplus
 }

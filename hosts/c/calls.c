@@ -1,5 +1,5 @@
-/* Tests of the library as a C host sees it: every refusal by its constant, the names of the mask, texts, merged filters, tables of
- * nodes, projections, NULL with length 0. Ends with 1 where a call answers otherwise. `../check` builds and runs it. */
+/* Tests of the library as a C host sees it: its version, every refusal by its constant, the names of the mask, texts, merged filters,
+ * tables of nodes, projections, NULL with length 0. Ends with 1 where a call answers otherwise. `../check` builds and runs it. */
 #include <stdio.h>
 #include <string.h>
 
@@ -36,6 +36,15 @@ static void expect(const char *what, int64_t answer, int64_t expected)
 #define MERGE(bytes, room, n, kept) \
     spatialjoin_merge((const uint8_t *)(bytes), sizeof(bytes) - 1, plan, room, n, scratch, kept, table, NODES)
 #define PRINT(bytes, room) spatialjoin_print((const uint8_t *)(bytes), sizeof(bytes) - 1, text, room)
+
+static void versions(void)
+{
+    char words[16];
+    sprintf(words, "%d.%d.%d", SPATIALJOIN_VERSION_MAJOR, SPATIALJOIN_VERSION_MINOR, SPATIALJOIN_VERSION_PATCH);
+    expect("the header's version", strcmp(words, SPATIALJOIN_VERSION), 0);
+    expect("the archive's version", spatialjoin_version(), SPATIALJOIN_VERSION_NUMBER);
+    expect("they match", SPATIALJOIN_VERSION_MATCHES(), 1);
+}
 
 /* A frame of this many levels: functions of one argument, the last of none. */
 static size_t levels(size_t count)
@@ -382,6 +391,7 @@ static void null_buffers(void)
 
 int main(void)
 {
+    versions();
     refusals_of_frames();
     refusals_of_plans();
     positions();

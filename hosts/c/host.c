@@ -1,5 +1,5 @@
-/* A C host: the worked run's filter as text, then the run, its answers printed as the program spatialjoin prints them; then the
- * filter with a row policy, and its extraction over narrowed children. `../check` builds and runs it. */
+/* A C host: it tests the archive's version; then the worked run's filter as text, and the run, its answers printed as the program
+ * spatialjoin prints them; then the filter with a row policy, and its extraction over narrowed children. `../check` builds and runs it. */
 #include <inttypes.h>
 #include <stdio.h>
 
@@ -77,6 +77,10 @@ static void show(int64_t answer)
 
 int main(void)
 {
+    if (!SPATIALJOIN_VERSION_MATCHES()) {
+        fprintf(stderr, "the archive is not of version " SPATIALJOIN_VERSION "\n");
+        return 1;
+    }
     show(spatialjoin_print(frame, sizeof frame, text, sizeof text));
     take(spatialjoin_load(frame, sizeof frame, plan, sizeof plan, table, SPATIALJOIN_MOST_NODES));
     take(spatialjoin_extract(plan, sizeof plan, n, scratch, sizeof scratch, table, SPATIALJOIN_MOST_NODES));

@@ -13,11 +13,13 @@ use node_table::fill_table;
 use node_table::put_nodes;
 use node_table::take_nodes;
 ghost use mathlib.Core.Path.{_≡_};
+ghost use lib.IntN.{pos};
 ghost use Rattle.definitions.specs.Calls as definitions;
 ghost use Rattle.definitions.specs.Hosts.{hostedNames};
 ghost use Rattle.definitions.specs.Logical as logicals;
 ghost use Rattle.definitions.specs.Merge as merges;
 ghost use Rattle.definitions.specs.Project as projects;
+ghost use Rattle.spatialjoin_c.specs.Version.{version};
 ghost use Rattle.node_table.specs.Records.{nodesOf};
 ghost use Rattle.host_calls.specs.Hosted.{LoadHosted, CallHosted, MergeHosted, PrintHosted};
 
@@ -41,7 +43,8 @@ pub extern "C" fn spatialjoin_extract(
     scratch: &mut [u8],
     table: &[NodeRecord],
 ) -> i64
-    ensures { λ r. ⌜ CallHosted (definitions.extract n (now (plan .entry)) (now (scratch .entry)) (nodesOf (now (table .entry))))
+    ensures { λ r. ⌜ CallHosted (now (plan .entry))
+        (definitions.extract n (now (plan .entry)) (now (scratch .entry)) (nodesOf (now (table .entry))))
         (now (plan .exit)) (now (scratch .exit)) r ⌝ }
 {
     let count = taken_count(n, table.len());
@@ -53,8 +56,8 @@ pub extern "C" fn spatialjoin_extract(
 // Exchanges the join's children in the plan in the first n bytes.
 #[no_mangle]
 pub extern "C" fn spatialjoin_exchange(plan: &mut [u8], n: usize, scratch: &mut [u8]) -> i64
-    ensures { λ r. ⌜ CallHosted (definitions.exchange n (now (plan .entry)) (now (scratch .entry))) (now (plan .exit))
-        (now (scratch .exit)) r ⌝ }
+    ensures { λ r. ⌜ CallHosted (now (plan .entry)) (definitions.exchange n (now (plan .entry)) (now (scratch .entry)))
+        (now (plan .exit)) (now (scratch .exit)) r ⌝ }
 {
     exchange_number(plan, n, scratch)
 }
@@ -84,7 +87,8 @@ pub extern "C" fn spatialjoin_merge(
     scratch: &mut [u8],
     table: &mut [NodeRecord],
 ) -> i64
-    ensures { λ r. ⌜ MergeHosted (merges.merge (now (frame .entry)) n (now (plan .entry)) (now (scratch .entry))
+    ensures { λ r. ⌜ MergeHosted (now (frame .entry)) (now (plan .entry))
+        (merges.merge (now (frame .entry)) n (now (plan .entry)) (now (scratch .entry))
         (nodesOf (now (table .entry)))) (now (plan .exit)) (now (scratch .exit)) (nodesOf (now (table .exit))) r ⌝ }
 {
     let merged = merge_core(frame, plan, n, scratch, table.len());
@@ -101,8 +105,17 @@ pub extern "C" fn spatialjoin_project(
     left: &[u16],
     right: &[u16],
 ) -> i64
-    ensures { λ r. ⌜ CallHosted (projects.project n (now (plan .entry)) (now (scratch .entry)) (now (left .entry)) (now (right .entry)))
+    ensures { λ r. ⌜ CallHosted (now (plan .entry))
+        (projects.project n (now (plan .entry)) (now (scratch .entry)) (now (left .entry)) (now (right .entry)))
         (now (plan .exit)) (now (scratch .exit)) r ⌝ }
 {
     project_number(plan, n, scratch, left, right)
+}
+
+// The version of this archive: major · 65,536 + minor · 256 + patch. The header and the cargo package have the same.
+#[no_mangle]
+pub extern "C" fn spatialjoin_version() -> i64
+    ensures { λ r. ⌜ r ≡ pos version ⌝ }
+{
+    0 * 65536 + 8 * 256 + 1
 }

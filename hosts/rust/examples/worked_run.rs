@@ -1,8 +1,8 @@
-//! A Rust host: the worked run's filter as text, then the run, its answers printed as the program
-//! spatialjoin prints them; then the filter with a row policy, and its extraction over narrowed
-//! children.
+//! A Rust host: it tests the archive's version; then the worked run's filter as text, and the run,
+//! its answers printed as the program spatialjoin prints them; then the filter with a row policy, and
+//! its extraction over narrowed children.
 
-use spatialjoin::{MOST_BYTES, MOST_NODES, MOST_TEXT, Node, Refusal};
+use spatialjoin::{MOST_BYTES, MOST_NODES, MOST_TEXT, Node, Refusal, VERSION};
 
 /// `st_within(column 0, column 1) AND column 1`; column 0 is column 3 of the right child, column 1
 /// column 0 of the left. `hosts/c/host.c` has it byte by byte.
@@ -79,6 +79,11 @@ fn show(frame: &[u8]) {
 }
 
 fn main() {
+    assert!(
+        spatialjoin::version_matches(),
+        "the archive is of version {}, the package of {VERSION}",
+        spatialjoin::version()
+    );
     show(FRAME);
     let mut host = Host {
         plan: vec![0; MOST_BYTES],

@@ -12,11 +12,16 @@
 //!
 //! The calls have no state and allocate nothing, so any number of threads may make them. A call
 //! needs at most [`STACK_BYTES`] of stack, which is measured and not proved.
+//!
+//! The archive is linked by its path, and nothing in that path says its version: a host asks
+//! [`version_matches`] at its start, before it makes a call.
 
 pub mod numbers;
 mod refusal;
+mod version;
 
 pub use refusal::Refusal;
+pub use version::{VERSION, Version, version, version_matches};
 
 /// The most bytes of a frame or plan.
 pub const MOST_BYTES: usize = 16_384;
@@ -24,7 +29,7 @@ pub const MOST_BYTES: usize = 16_384;
 /// The most bytes of a text that [`print`] writes.
 pub const MOST_TEXT: usize = 26_620;
 
-/// The most nodes of a frame.
+/// The most nodes of a frame, a merged one too: a table of so many records is never too short.
 pub const MOST_NODES: usize = 1_024;
 
 /// The most items of a list of [`project`].

@@ -60,6 +60,7 @@ mod c {
             right: *const u16,
             right_len: usize,
         ) -> i64;
+        pub fn spatialjoin_version() -> i64;
     }
 }
 
@@ -137,4 +138,9 @@ pub fn project(plan: &mut [u8], n: usize, scratch: &mut [u8], left: &[u16], righ
             right_len,
         )
     }
+}
+
+/// The archive's version: major · 65,536 + minor · 256 + patch.
+pub fn version() -> i64 {
+    unsafe { c::spatialjoin_version() }
 }
