@@ -4,7 +4,7 @@ use super::extraction::put_extraction;
 use frame_reader::frame_bodies::Frame;
 use join_filter::answers::Answer;
 use leaf_pick::first_match::Picked;
-use leaf_pick::pick::extract_spatial_predicate;
+use leaf_pick::one_walk::extract_in_one_walk;
 use terms::refusals::Refusal;
 use writing::copies::copy_bytes;
 ghost use Rattle.definitions.specs.Calls as definitions;
@@ -29,7 +29,9 @@ pub fn extract_frame(
     if scratch.len() < n {
         return Answer::Refused(Refusal::BufferTooShort);
     }
-    match extract_spatial_predicate(&plan[..n], f.records, f.root, numbers, next, 0) {
+    let walked = extract_in_one_walk(&plan[..n], f.records, f.root, numbers, next);
+    let picked = walked.picked;
+    match picked {
         Picked::Nothing => Answer::Refused(Refusal::NoLeafMatches),
         Picked::Leaf(pick) => {
             copy_bytes(scratch, plan, 0, n);

@@ -12,6 +12,7 @@ use Rattle.definitions.specs.Plans as Plans
 use Rattle.definitions.specs.References as References
 use Rattle.definitions.specs.Match as Match
 use Rattle.definitions.specs.Extract as Extract
+use Rattle.definitions.specs.OneWalk as OneWalk
 use Rattle.definitions.specs.Exchange as Exchange
 use Rattle.definitions.specs.Calls as Calls
 use Rattle.definitions.specs.Machine as Machine
@@ -78,10 +79,14 @@ unfolding Match.relationRequest Match.dwithinRequest Match.literalU32 Match.lite
 match = 0
 
 unfoldable pub extract : ℕ
-unfolding Extract.isKnn Extract.later Extract.firstMatch Extract.firstOf Extract.pick Extract.andLeft Extract.andRight Extract.without
-    Extract.sameColumn Extract.referenced Extract.newIndex Extract.prune Extract.holds Extract.takePick Extract.matchesBy
+unfolding Extract.isKnn Extract.isKnnMatch Extract.later Extract.firstMatch Extract.firstOf Extract.pick Extract.andLeft Extract.andRight
+    Extract.without Extract.sameColumn Extract.referenced Extract.newIndex Extract.prune Extract.holds Extract.takePick Extract.matchesBy
     Extract.extractionBy
 extract = 0
+
+unfoldable pub walk : ℕ
+unfolding OneWalk.readLeaf OneWalk.walkOn OneWalk.oneWalk OneWalk.remembered OneWalk.reached OneWalk.countTo OneWalk.walkLengthBy
+walk = 0
 
 unfoldable pub exchange : ℕ
 unfolding Exchange.negate Exchange.exchangeRecord Exchange.exchangeFrame Exchange.exchangePredicate Exchange.exchangeExtraction
@@ -143,6 +148,6 @@ unfolding Project.placeIn Project.placeOf Project.isPlace Project.orZero Project
 projecting = 0
 
 unfoldable pub everything : ℕ
-unfolding basics expression literals encode leaves readers decode plans references match extract exchange tables calls machine sessions
+unfolding basics expression literals encode leaves readers decode plans references match extract walk exchange tables calls machine sessions
     meaning logical program printing merging projecting
 everything = 0

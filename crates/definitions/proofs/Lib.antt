@@ -10,3 +10,4 @@ pub mod FilterRows
 pub mod TabledRows
 pub mod NarrowedRows
 pub mod Sentences
+pub mod WalkedRows

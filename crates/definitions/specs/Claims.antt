@@ -27,6 +27,7 @@ use Rattle.definitions.specs.Logical.{spatialNames, mask, distinct, logi
 use Rattle.definitions.specs.Printed.{print}
 use Rattle.definitions.specs.Merge.{merge}
 use Rattle.definitions.specs.Project.{project}
+unfoldable pub use Rattle.definitions.specs.Extract.{isKnnMatch}
 pub use Rattle.definitions.specs.OddMachine.{extractedPlan}
 
 -- ---- exchange
@@ -258,11 +259,6 @@ ExtractAccepted =
     ≡ (leb (lengthAfter s before) (length scratch) && (not (extractedIn s before) && someLeafMatches F))
 
 -- ---- the pick
-
--- Whether a leaf is a KNN match.
-unfoldable pub isKnnMatch : Option Predicate → Bool
-isKnnMatch none = false
-isKnnMatch (some p) = isKnn p
 
 -- The match of the AND-leaf at a position.
 abbrev pub matchAt : (matches : List (Option Predicate)) → (position : ℕ) → Option Predicate

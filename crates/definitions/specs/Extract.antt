@@ -24,6 +24,11 @@ isKnn (relation type l r) = false
 isKnn (distance form side l r bound) = false
 isKnn (knn k spheroid probe ties l r) = true
 
+-- Whether a leaf is a KNN match.
+unfoldable pub isKnnMatch : Option Predicate → Bool
+isKnnMatch none = false
+isKnnMatch (some p) = isKnn p
+
 -- A pick among all but the first leaf, counted from the first.
 unfoldable pub later : Option Pick → Option Pick
 later none = none

@@ -25,6 +25,7 @@ pub mod Plans
 pub mod References
 pub mod Match
 pub mod Extract
+pub mod OneWalk
 pub mod Exchange
 pub mod Good
 pub mod NodeTable
@@ -63,3 +64,5 @@ pub mod PruningClaims
 pub mod BoundRows
 pub mod ShortClaims
 pub mod DemandThree
+pub mod WalkClaims
+pub mod WalkRows

@@ -21,6 +21,7 @@ use Rattle.expression.specs.Leaves.{Both, NodeIs}
 use Rattle.expression.specs.declared.leaves.Node.{Node}
 use Rattle.expression.specs.declared.leaves.Node.the-variants as node
 use Rattle.expression.proofs.Standing.{node-some, first-stands, rest-stands}
+use Rattle.theorems.proofs.Walks.{moved}
 use Rattle.node_rows.specs.Numbers.{endAt}
 use Rattle.node_rows.specs.Rows.{Tabled}
 use Rattle.node_rows.proofs.RowLaws.{tabled-end, tabled-next, tabled-within}
@@ -35,7 +36,7 @@ use Rattle.leaf_pick.specs.declared.first_match.Wanted.{Wanted}
 use Rattle.leaf_pick.specs.declared.first_match.Pick.{Pick}
 use Rattle.leaf_pick.specs.declared.first_match.Found.{Found}
 use Rattle.leaf_pick.specs.declared.first_match.Found.the-variants.{Leaf, Nothing}
-use Rattle.leaf_pick.proofs.PickLaws.{at-position, moved, first-append, first-match, first-lacks}
+use Rattle.leaf_pick.proofs.PickLaws.{at-position, first-append, first-match, first-lacks}
 
 -- ---- leaves and matches of an And
 

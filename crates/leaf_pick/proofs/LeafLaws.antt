@@ -1,5 +1,5 @@
 -- Matching of a leaf, from that of the function that it is, and of both kinds that are not KNN from that of each.
-use Prim.Native.Nat.{ℕ, _+_}
+use Prim.Native.Nat.{ℕ, _+_, _<_}
 use mathlib.Core.Path.{_≡_, refl, sym, subst}
 use mathlib.Core.Bool.{Bool, true, false}
 use mathlib.Core.List.{List}
@@ -9,49 +9,54 @@ use Rattle.definitions.specs.Expression.{Expr, Record, Predicate, relation, dis
 use Rattle.definitions.specs.Decode.{indexBelow}
 use Rattle.definitions.specs.Match.{matchLeaf}
 use Rattle.definitions.specs.Extract.{isKnn}
-use Rattle.expression.specs.Nodes.{OfTree, OfTreeIn}
-use Rattle.expression.specs.Leaves.{NodeIs, CallIs, OfCall}
+use Rattle.expression.specs.Leaves.{CallIs, OfCall}
 use Rattle.expression.specs.declared.leaves.Called.{Called}
-use Rattle.expression.specs.declared.leaves.Node.{Node}
 use Rattle.expression.specs.declared.leaves.Node.the-variants.{Call}
-use Rattle.node_rows.specs.Rows.{Tabled, TabledAll}
+use Rattle.node_rows.specs.Rows.{TabledAll}
+use Rattle.node_rows.proofs.RowLaws.{tabled-within}
 use Rattle.node_rows.proofs.IndexLaws.{call-tabled}
-use Rattle.leaf_matching.specs.Frames.{Over, Framed, CallOver, CallFramed, OfCallFrame}
+use Rattle.leaf_matching.specs.Frames.{Over, CallOver, CallFramed, OfCallFrame}
 use Rattle.leaf_matching.specs.Matches.{isRelation, isDistance, Lacks, MatchingIs, LeafMatching, CallMatching}
-use Rattle.leaf_pick.specs.Picks.{isOther}
+use Rattle.leaf_pick.specs.Picks.{isOther, LeafThere}
+use Rattle.leaf_pick.specs.declared.first_match.Leaf.{Leaf}
 use Rattle.sedona_query_planner.specs.declared.spatial_predicate.SpatialPredicate.{SpatialPredicate}
 use Rattle.leaf_matching.specs.declared.matching.Matching.{Matching}
 use Rattle.leaf_matching.specs.declared.matching.Matching.the-variants.{Matched, Unmatched, NotAsked}
 
+-- ---- a leaf
+
+-- The rows have a place for it.
+pub leaf-within : {s numbers next : List ℕ} {rec : ℕ} {leaf : Leaf} → LeafThere s numbers next rec leaf
+    → (leaf .index < length numbers) × (leaf .index < length next)
+leaf-within there = tabled-within (there .tabled _ _ (there .framed .2 .tree))
+
 -- ---- a leaf that is a function
 
-module _ {s : List ℕ} {rec at : ℕ} {node : Node} (is : OfTreeIn s at (λ c t. NodeIs c s at node t)) {k : Called}
-    (told : node ≡ Call k) where
-  its-call : {records : List Record} {t : Expr} → Over s rec at records t → CallIs (indexBelow (length records)) s at k t
-  its-call {records} {t} over = rw told at (is (indexBelow (length records)) t (over .tree))
+module _ {s numbers next : List ℕ} {rec : ℕ} {leaf : Leaf} (there : LeafThere s numbers next rec leaf) {k : Called}
+    (told : leaf .node ≡ Call k) where
+  its-call : {records : List Record} {t : Expr} → Over s rec (leaf .at) records t
+      → CallIs (indexBelow (length records)) s (leaf .at) k t
+  its-call {records} {t} over = rw told at (there .is (indexBelow (length records)) t (over .tree))
 
-  call-over : {records : List Record} {t : Expr} → (over : Over s rec at records t)
+  call-over : {records : List Record} {t : Expr} → (over : Over s rec (leaf .at) records t)
       → CallOver s rec k records (its-call over .name) (its-call over .arguments)
   call-over over = record { entries = over .entries; stands = its-call over .stands }
 
-  call-framed : Framed s rec at → CallFramed s rec k
-  call-framed p = (p .0, its-call (p .2) .name, its-call (p .2) .arguments, call-over (p .2))
-
   pub call-leaf : (kind : Predicate → Bool) (r : Matching) → OfCallFrame s rec k (CallMatching kind s rec r)
-      → {records : List Record} {t : Expr} → Over s rec at records t → LeafMatching kind s rec r records t
+      → {records : List Record} {t : Expr} → Over s rec (leaf .at) records t → LeafMatching kind s rec r records t
   call-leaf kind r answer {records} {t} over =
-      let it : CallIs (indexBelow (length records)) s at k t = its-call over in
+      let it : CallIs (indexBelow (length records)) s (leaf .at) k t = its-call over in
       subst (λ (t : Expr). MatchingIs kind s rec records (matchLeaf records t) r) (sym (it .is))
       (answer records (it .name) (it .arguments) (call-over over))
 
-  -- Its arguments are in the rows after it.
-  leaf-call-tabled : {numbers next : List ℕ} {i : ℕ} → Framed s rec at → OfTree s at (Tabled numbers next at i)
-      → OfCall s k (λ c name. TabledAll numbers next (k .first) (i + 1))
-  leaf-call-tabled p tabled = call-tabled (tabled _ (p .1) (p .2 .tree)) (its-call (p .2))
-
-  pub call-given : {numbers next : List ℕ} {i : ℕ} → Framed s rec at → OfTree s at (Tabled numbers next at i)
-      → CallFramed s rec k × OfCall s k (λ c name. TabledAll numbers next (k .first) (i + 1))
-  call-given p tabled = (call-framed p, leaf-call-tabled p tabled)
+  -- Its arguments stand there, and are in the rows after it.
+  pub call-given : CallFramed s rec k × OfCall s k (λ c name. TabledAll numbers next (k .first) (leaf .index + 1))
+  call-given =
+      let over = there .framed .2 in
+      let it = its-call over in (
+        (there .framed .0, it .name, it .arguments, call-over over),
+        call-tabled (there .tabled _ (there .framed .1) (over .tree)) it,
+      )
 
 -- ---- kinds that are not KNN
 

@@ -1,7 +1,7 @@
 -- Laws of the first match in a list of matches, and of the pick.
-use Prim.Native.Nat.{ℕ, suc, _+_}
+use Prim.Native.Nat.{ℕ, suc}
 use native.Mathlib.Omega.{arith}
-use mathlib.Core.Path.{_≡_, refl, ap, _∙_}
+use mathlib.Core.Path.{_≡_, refl, sym, ap, _∙_}
 use mathlib.Core.Bool.{Bool, true, false, not}
 use mathlib.Core.List.{List, [], _∷_, _++_}
 use mathlib.Core.Option.{Option, none, some, Option·some-ne-none}
@@ -9,21 +9,12 @@ use lib.ListN.{length}
 use Rattle.definitions.specs.Basics.{if_then_else_}
 use Rattle.definitions.specs.Expression.{Predicate}
 use Rattle.definitions.specs.Extract.{Pick, isKnn, later, firstMatch, firstOf, pick}
+use Rattle.theorems.proofs.Walks.{moved, moved-zero}
 use Rattle.leaf_matching.specs.Matches.{Lacks}
 use Rattle.leaf_pick.specs.Picks.{isOther}
 
 abbrev pub at-position : ℕ → Predicate → Option Pick
 at-position i q = some (record { position = i; predicate = q })
-
--- A pick n leaves further on.
-unfoldable pub moved : ℕ → Option Pick → Option Pick
-moved n none = none
-moved n (some p) = at-position (n + p .position) (p .predicate)
-
-moved-zero : (p : Option Pick) → p ≡ moved 0 p
-unfolding moved
-moved-zero none = refl
-moved-zero (some p) = ap (λ (i : ℕ). at-position i (p .predicate)) (omega arith)
 
 later-moved : (n : ℕ) (p q : Option Pick) → later (firstOf p (moved n q)) ≡ firstOf (later p) (moved (suc n) q)
 unfolding later firstOf moved
@@ -41,7 +32,7 @@ module _ (test : Predicate → Bool) where
   pub first-append : (xs ys : List (Option Predicate))
       → firstMatch test (xs ++ ys) ≡ firstOf (firstMatch test xs) (moved (length xs) (firstMatch test ys))
   unfolding firstMatch firstOf
-  first-append [] ys = moved-zero (firstMatch test ys)
+  first-append [] ys = sym (moved-zero (firstMatch test ys))
   first-append (none ∷ xs) ys = ap later (first-append xs ys) ∙ later-moved (length xs) (firstMatch test xs) (firstMatch test ys)
   first-append (some p ∷ xs) ys = by-one (test p) (record { position = 0; predicate = p }) _ _ _
       (ap later (first-append xs ys) ∙ later-moved (length xs) (firstMatch test xs) (firstMatch test ys))

@@ -1,2 +1,4 @@
--- What the contracts cite: the first match and the pick.
+-- What the contracts cite: the first match, the pick, the walk and what it remembers.
 pub mod Picks
+pub mod Walks
+pub mod Engines

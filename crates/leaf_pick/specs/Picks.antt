@@ -10,10 +10,15 @@ use Rattle.definitions.specs.Leaves.{leaves}
 use Rattle.definitions.specs.Match.{matchLeaf}
 use Rattle.definitions.specs.Extract as definition
 use Rattle.definitions.specs.Extract.{isKnn, firstMatch, matchesOf}
+use Rattle.expression.specs.Nodes.{OfTree, OfTreeIn}
+use Rattle.expression.specs.Leaves.{NodeIs}
 use Rattle.expression.specs.Cuts.{CutAt}
+use Rattle.node_rows.specs.Rows.{Tabled}
+use Rattle.leaf_matching.specs.Frames.{Framed}
 use Rattle.sedona_query_planner.specs.Predicates.{onChildren, PredicateAt}
 use Rattle.leaf_pick.specs.declared.first_match.Wanted.{Wanted}
 use Rattle.leaf_pick.specs.declared.first_match.Wanted.the-variants.{Knn, Other}
+use Rattle.leaf_pick.specs.declared.first_match.Leaf.{Leaf}
 use Rattle.leaf_pick.specs.declared.first_match.Pick.{Pick}
 use Rattle.leaf_pick.specs.declared.first_match.Found.{Found}
 use Rattle.leaf_pick.specs.declared.first_match.Found.the-variants as found
@@ -32,6 +37,14 @@ wants Other = isOther
 -- The match of each AND-leaf.
 abbrev pub matches : List Record → Expr → List (Option Predicate)
 matches records t = map (matchLeaf records) (leaves t)
+
+-- ---- a leaf
+
+-- An expression stands there over its records, it is in the rows at the leaf's index, and it is what the leaf's node says.
+pub record LeafThere (s numbers next : List ℕ) (rec : ℕ) (leaf : Leaf) : Type 0 where
+  pub framed : Framed s rec (leaf .at)
+  pub tabled : OfTree s (leaf .at) (Tabled numbers next (leaf .at) (leaf .index))
+  pub is : OfTreeIn s (leaf .at) (λ c t. NodeIs c s (leaf .at) (leaf .node) t)
 
 -- ---- the answers
 

@@ -3,12 +3,12 @@ ghost use Prim.Native.Nat.{_≤_};
 ghost use mathlib.Core.Path.{_≡_};
 ghost use mathlib.Core.List.{[], _∷_};
 ghost use Rattle.definitions.specs.Leaves.{leaves};
-ghost use Rattle.expression.specs.Nodes.{OfTree, OfTreeIn};
-ghost use Rattle.expression.specs.Leaves.{NodeIs};
+ghost use Rattle.definitions.specs.Extract.{isKnn};
+ghost use Rattle.expression.specs.Nodes.{OfTree};
 ghost use Rattle.leaf_matching.specs.Frames.{Framed, OfFrame};
 ghost use Rattle.node_rows.specs.Rows.{Tabled};
 ghost use Rattle.leaf_matching.specs.Matches.{LeafMatching};
-ghost use Rattle.leaf_pick.specs.Picks.{isOther, wants, FoundIs};
+ghost use Rattle.leaf_pick.specs.Picks.{isOther, wants, LeafThere, FoundIs};
 use expression::cuts::Cut;
 use expression::leaves::Node;
 use expression::leaves::node_at;
@@ -44,82 +44,84 @@ pub enum Picked {
     Nothing,
 }
 
-// A leaf as a relation, else as a distance.
-pub fn match_other(
-    s: &[u8],
-    rec: usize,
-    at: usize,
-    numbers: &[u32],
-    next: &[u16],
-    i: usize,
-    node: Node,
-) -> Matching
-    requires { ⌜ Framed (now s) rec at ⌝ }
-    requires { ⌜ OfTree (now s) at (Tabled (now numbers) (now next) at i) ⌝ }
-    requires { ⌜ OfTreeIn (now s) at (λ c t. NodeIs c (now s) at node t) ⌝ }
-    ensures { λ r. ⌜ OfFrame (now (s .entry)) rec at (LeafMatching isOther (now (s .entry)) rec r) ⌝ }
+// An AND-leaf: where it stands, its index in the rows, its position among the AND-leaves, and what it is.
+pub struct Leaf {
+    pub at: usize,
+    pub index: usize,
+    pub position: usize,
+    pub node: Node,
+}
+
+// A leaf as KNN, which only a function is.
+pub fn match_knn(s: &[u8], rec: usize, numbers: &[u32], next: &[u16], leaf: Leaf) -> Matching
+    requires { ⌜ LeafThere (now s) (now numbers) (now next) rec leaf ⌝ }
+    ensures { λ r. ⌜ OfFrame (now (s .entry)) rec (leaf .at) (LeafMatching isKnn (now (s .entry)) rec r) ⌝ }
 {
+    let index = leaf.index;
+    let node = leaf.node;
     let Node::Call(called) = node else {
-        return match_distance_predicate(s, rec, at, numbers, next, i);
+        return Matching::NotAsked;
     };
-    match match_relation_predicate(s, rec, called, numbers, next, i + 1) {
+    match_knn_predicate(s, rec, called, numbers, next, index + 1)
+}
+
+// A leaf as a relation, else as a distance.
+pub fn match_other(s: &[u8], rec: usize, numbers: &[u32], next: &[u16], leaf: Leaf) -> Matching
+    requires { ⌜ LeafThere (now s) (now numbers) (now next) rec leaf ⌝ }
+    ensures { λ r. ⌜ OfFrame (now (s .entry)) rec (leaf .at) (LeafMatching isOther (now (s .entry)) rec r) ⌝ }
+{
+    let at = leaf.at;
+    let index = leaf.index;
+    let node = leaf.node;
+    let Node::Call(called) = node else {
+        return match_distance_predicate(s, rec, at, numbers, next, index);
+    };
+    match match_relation_predicate(s, rec, called, numbers, next, index + 1) {
         Matching::Matched(predicate) => Matching::Matched(predicate),
         Matching::Unmatched => Matching::Unmatched,
-        Matching::NotAsked => match_distance_predicate(s, rec, at, numbers, next, i),
+        Matching::NotAsked => match_distance_predicate(s, rec, at, numbers, next, index),
     }
 }
 
 pub fn match_wanted(
     s: &[u8],
     rec: usize,
-    at: usize,
     numbers: &[u32],
     next: &[u16],
-    i: usize,
-    node: Node,
+    leaf: Leaf,
     wanted: Wanted,
 ) -> Matching
-    requires { ⌜ Framed (now s) rec at ⌝ }
-    requires { ⌜ OfTree (now s) at (Tabled (now numbers) (now next) at i) ⌝ }
-    requires { ⌜ OfTreeIn (now s) at (λ c t. NodeIs c (now s) at node t) ⌝ }
-    ensures { λ r. ⌜ OfFrame (now (s .entry)) rec at (LeafMatching (wants wanted) (now (s .entry)) rec r) ⌝ }
+    requires { ⌜ LeafThere (now s) (now numbers) (now next) rec leaf ⌝ }
+    ensures { λ r. ⌜ OfFrame (now (s .entry)) rec (leaf .at) (LeafMatching (wants wanted) (now (s .entry)) rec r) ⌝ }
 {
     match wanted {
-        Wanted::Other => match_other(s, rec, at, numbers, next, i, node),
-        Wanted::Knn => {
-            let Node::Call(called) = node else {
-                return Matching::NotAsked;
-            };
-            match_knn_predicate(s, rec, called, numbers, next, i + 1)
-        }
+        Wanted::Knn => match_knn(s, rec, numbers, next, leaf),
+        Wanted::Other => match_other(s, rec, numbers, next, leaf),
     }
 }
 
-// A node that is no And, `position` AND-leaves being before it.
+// What a leaf is to a pass.
 pub fn leaf_match(
     s: &[u8],
     rec: usize,
-    at: usize,
     numbers: &[u32],
     next: &[u16],
-    i: usize,
-    node: Node,
+    leaf: Leaf,
     wanted: Wanted,
-    position: usize,
     parent: usize,
 ) -> Found
-    requires { ⌜ Framed (now s) rec at ⌝ }
-    requires { ⌜ OfTree (now s) at (Tabled (now numbers) (now next) at i) ⌝ }
-    requires { ⌜ OfTreeIn (now s) at (λ c t. NodeIs c (now s) at node t) ⌝ }
-    requires { ⌜ OfFrame (now s) rec at (λ records t. leaves t ≡ t ∷ []) ⌝ }
-    requires { ⌜ position ≤ at ⌝ }
-    ensures { λ r. ⌜ OfFrame (now (s .entry)) rec at (FoundIs wanted (now (s .entry)) rec at position parent r) ⌝ }
+    requires { ⌜ LeafThere (now s) (now numbers) (now next) rec leaf ⌝ }
+    requires { ⌜ OfFrame (now s) rec (leaf .at) (λ records t. leaves t ≡ t ∷ []) ⌝ }
+    requires { ⌜ leaf .position ≤ leaf .at ⌝ }
+    ensures { λ r. ⌜ OfFrame (now (s .entry)) rec (leaf .at) (FoundIs wanted (now (s .entry)) rec (leaf .at) (leaf .position) parent r) ⌝ }
 {
-    match match_wanted(s, rec, at, numbers, next, i, node, wanted) {
+    let index = leaf.index;
+    let position = leaf.position;
+    match match_wanted(s, rec, numbers, next, leaf, wanted) {
         Matching::Matched(predicate) => {
             let cut = Cut {
-                leaf: at,
-                end: end_of(numbers, i),
+                leaf: leaf.at,
+                end: end_of(numbers, index),
                 parent,
             };
             return Found::Leaf(Pick {
@@ -161,7 +163,13 @@ pub fn first_match(
     loop {
         let node = node_at(s, place);
         let Node::And(left) = node else {
-            return leaf_match(s, rec, place, numbers, next, index, node, wanted, count, up);
+            let leaf = Leaf {
+                at: place,
+                index,
+                position: count,
+                node,
+            };
+            return leaf_match(s, rec, numbers, next, leaf, wanted, up);
         };
         match first_match(s, rec, left, numbers, next, index + 1, wanted, count, place) {
             Found::Leaf(pick) => {

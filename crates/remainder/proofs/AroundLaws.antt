@@ -1,5 +1,5 @@
 -- A walk over And nodes: what it makes of the leaf, of another AND-leaf, and of an And by its sides.
-use Prim.Native.Nat.{ℕ, _+_, _<_}
+use Prim.Native.Nat.{ℕ, _+_}
 use native.Mathlib.Omega.{arith}
 use mathlib.Core.Path.{_≡_, refl, sym, ap, ap₂, _∙_, subst}
 use mathlib.Core.List.{List, [], _∷_, _++_}
@@ -18,26 +18,12 @@ use Rattle.expression.specs.Leaves.{Both, NodeIs, plainColumn, plainLiteral, pl
 use Rattle.expression.specs.declared.leaves.Node.{Node}
 use Rattle.expression.specs.declared.leaves.Node.the-variants.{And, Binary, Call, Plain}
 use Rattle.expression.proofs.leaves.Node.{the-type}
+use Rattle.expression.proofs.AndLeaves.{no-and}
 use Rattle.expression.proofs.Standing.{first-stands, rest-stands}
 use Rattle.remainder.specs.Around.{unless, inside, around, Ends}
 use Rattle.expression.specs.declared.cuts.Cut.{Cut}
 
 -- ---- AND-leaves
-
-pub leaves-some : (t : Expr) → 0 < length (leaves t)
-unfolding leaves
-leaves-some (column i g) = omega arith
-leaves-some (literal y v) = omega arith
-leaves-some (and l r) = simp length-append (omega (arith, leaves-some l))
-leaves-some (binary o l r) = omega arith
-leaves-some (call name ts) = omega arith
-leaves-some (other g ts) = omega arith
-leaves-some (field b g) = omega arith
-
--- What is an AND-leaf of its own is no And.
-pub no-and : (l r : Expr) {t : Expr} → leaves (and l r) ≡ t ∷ [] → ⊥
-unfolding leaves
-no-and l r e = omega (arith, leaves-some l, leaves-some r, simp length-append at (ap length e))
 
 -- Where And was not found, an AND-leaf stands.
 pub lone-leaf : {c : Columns} {s : List ℕ} {at : ℕ} {t : Expr} → Stands c s at t → (r : Node) → OneOf (1 ∷ 2 ∷ 3 ∷ []) (tagOf the-type r)

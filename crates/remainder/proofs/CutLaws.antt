@@ -20,7 +20,8 @@ use Rattle.expression.proofs.Standing.{tree-length, head-some}
 use Rattle.remainder.specs.Around.{inside, around, EndsInside, Ends}
 use Rattle.expression.specs.Cuts.{CutAt, here, inLeft, inRight}
 use Rattle.expression.specs.declared.cuts.Cut.{Cut}
-use Rattle.remainder.proofs.AroundLaws.{leaves-some, no-and, at-leaf, not-leaf, lone-around}
+use Rattle.expression.proofs.AndLeaves.{no-and, position-below}
+use Rattle.remainder.proofs.AroundLaws.{at-leaf, not-leaf, lone-around}
 
 -- An expression has bytes, an And those of its sides and two more.
 size-some : (t : Expr) → 0 < length (exprBytes t)
@@ -72,12 +73,6 @@ without-right j i l r e =
     ap (λ (b : Bool). some (if b then andLeft (without i l) r else andRight l (without (i - length (leaves l)) r)))
     (le-ltb i (length (leaves l)) (omega arith))
     ∙ ap (λ (k : ℕ). some (andRight l (without k r))) on
-
-position-below : {cut : Cut} {up : ℕ} {t : Expr} {at position : ℕ} → CutAt cut up t at position → position < length (leaves t)
-unfolding leaves
-position-below (here {t = t} lone leaf end parent) = leaves-some t
-position-below (inLeft c) = simp length-append (omega (arith, position-below c))
-position-below (inRight c) = simp length-append (omega (arith, position-below c))
 
 -- It is the definition's expression without the leaf.
 rest-without : {cut : Cut} {up : ℕ} {t : Expr} {at position : ℕ} (c : CutAt cut up t at position) → without position t ≡ rest c

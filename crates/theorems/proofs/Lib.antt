@@ -19,6 +19,7 @@ pub mod MatchLaws
 pub mod OnlyIf
 pub mod ExtractExchange
 pub mod Pick
+pub mod Walks
 pub mod ExtractGood
 pub mod NodeTables
 pub mod TableBytes

@@ -26,7 +26,11 @@ use Rattle.definitions.specs.TableRows.{TableRows}
 use Rattle.definitions.specs.PruningClaims.{KeptByHeldIndexes}
 use Rattle.definitions.specs.ProjectRows.{ProjectRows}
 use Rattle.definitions.specs.ProjectClaims.{PlaceExactly, NewColumnsThere, ProjectionValue, ProjectionExchanged, ProjectionGood, ProjectedExactly, ProjectWrites, ProjectKeeps, ListAfterProjection, AnyMatcherProjects, ListProjectedValue}
+use Rattle.definitions.specs.WalkClaims.{RemembersFirst, StopsAtKnn, OneWalkIsPick}
+use Rattle.definitions.specs.WalkRows.{WalkRows}
 use Rattle.theorems.proofs.Exchange.{plan-twice}
+use Rattle.theorems.proofs.Walks.{remembers-first-by, stops-at-knn-by, one-walk-is-pick-by}
+use Rattle.definitions.proofs.WalkedRows.{walk-rows-hold}
 use Rattle.theorems.proofs.RoundTripPlan.{expr-reads, plan-reads}
 use Rattle.theorems.proofs.InversePlan.{plan-back}
 use Rattle.theorems.proofs.Taken.{rest-of-leaves-are}
@@ -396,3 +400,17 @@ same-text-same-expression = short.same-text-same-expression
 
 pub line-refusals : LineRefusals
 line-refusals = line-refusals-by
+
+-- ---- request 9
+
+pub remembers-first : RemembersFirst
+remembers-first = remembers-first-by
+
+pub stops-at-knn : StopsAtKnn
+stops-at-knn = stops-at-knn-by
+
+pub one-walk-is-pick : OneWalkIsPick
+one-walk-is-pick = one-walk-is-pick-by
+
+pub walk-rows : WalkRows
+walk-rows = walk-rows-hold

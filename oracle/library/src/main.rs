@@ -23,7 +23,7 @@ use call::{Call, Kind, Outcome};
 use counts::Counts;
 use held::Held;
 
-const USAGE: &str = "library [--frames N] [--seed S]";
+const USAGE: &str = "library [--frames N] [--seed S] [--calls all|plan]";
 
 /// What is asked on a line of a case.
 enum Asked {
@@ -33,7 +33,12 @@ enum Asked {
 
 fn main() -> ExitCode {
     let words: Vec<String> = env::args().skip(1).collect();
-    let Some((frames, seed)) = options(&words) else {
+    let Some(Options {
+        frames,
+        seed,
+        calls,
+    }) = options(&words)
+    else {
         eprintln!("{USAGE}");
         return ExitCode::from(2);
     };
@@ -42,7 +47,12 @@ fn main() -> ExitCode {
     let mut progress = Progress::new("frames compared", frames);
     for number in 1..=frames {
         let mut rng = Rng::new(!seed, number);
-        if let Err(difference) = run(&mut rng, &make::case(seed, number), &mut counts) {
+        let case = make::case(seed, number);
+        let compared = match calls {
+            Calls::All => run(&mut rng, &case, &mut counts),
+            Calls::Plan => run_plan(&mut rng, &case, &mut counts),
+        };
+        if let Err(difference) = compared {
             println!("difference at frame {number}\n{difference}");
             return ExitCode::FAILURE;
         }
@@ -52,8 +62,20 @@ fn main() -> ExitCode {
     ExitCode::SUCCESS
 }
 
-fn options(words: &[String]) -> Option<(u64, u64)> {
-    let (mut frames, mut seed) = (200_000, 1);
+struct Options {
+    frames: u64,
+    seed: u64,
+    calls: Calls,
+}
+
+/// Which calls are made: all, or those of a case's lines on its plan.
+enum Calls {
+    All,
+    Plan,
+}
+
+fn options(words: &[String]) -> Option<Options> {
+    let (mut frames, mut seed, mut calls) = (200_000, 1, Calls::All);
     for pair in words.chunks(2) {
         let [name, value] = pair else {
             return None;
@@ -61,10 +83,48 @@ fn options(words: &[String]) -> Option<(u64, u64)> {
         match name.as_str() {
             "--frames" => frames = value.parse().ok().filter(|frames| *frames > 0)?,
             "--seed" => seed = value.parse().ok()?,
+            "--calls" if value == "all" => calls = Calls::All,
+            "--calls" if value == "plan" => calls = Calls::Plan,
             _ => return None,
         }
     }
-    Some((frames, seed))
+    Some(Options {
+        frames,
+        seed,
+        calls,
+    })
+}
+
+/// The calls of a case's lines alone, on one plan.
+fn run_plan(rng: &mut Rng, case: &Case, counts: &mut Counts) -> Result<(), String> {
+    let asked: Vec<Asked> = case.lines.iter().map(|line| asked(rng, line)).collect();
+    let mut held = Held::new(rng, longest(&asked));
+    for asked in &asked {
+        next_call(rng, asked, &mut held, counts)?;
+    }
+    Ok(())
+}
+
+/// The call that is asked for, on the plan that is held.
+fn next_call(
+    rng: &mut Rng,
+    asked: &Asked,
+    held: &mut Held,
+    counts: &mut Counts,
+) -> Result<(), String> {
+    let call = match asked {
+        Asked::OfFrame(frame) => {
+            let kind = frame_call(rng, frame);
+            held.with_frame(kind, frame.clone(), rng)
+        }
+        Asked::OfPlan(kind) => {
+            held.disturb(rng);
+            held.with_scratch(*kind, rng)
+        }
+    };
+    let outcome = compare(rng, &call, counts)?;
+    held.after(call.kind, outcome);
+    Ok(())
 }
 
 /// All calls of a case, on one plan, with projections of what is held after each; then prints and
@@ -74,18 +134,7 @@ fn run(rng: &mut Rng, case: &Case, counts: &mut Counts) -> Result<(), String> {
     let asked: Vec<Asked> = case.lines.iter().map(|line| asked(rng, line)).collect();
     let mut held = Held::new(rng, longest(&asked));
     for asked in &asked {
-        let call = match asked {
-            Asked::OfFrame(frame) => {
-                let kind = frame_call(rng, frame);
-                held.with_frame(kind, frame.clone(), rng)
-            }
-            Asked::OfPlan(kind) => {
-                held.disturb(rng);
-                held.with_scratch(*kind, rng)
-            }
-        };
-        let outcome = compare(rng, &call, counts)?;
-        held.after(call.kind, outcome);
+        next_call(rng, asked, &mut held, counts)?;
         projections::run(rng, &held, counts)?;
     }
     for asked in &asked {

@@ -10,15 +10,16 @@ use Rattle.join_filter.proofs.Keeping.{plan-length, kept-length}
 use Rattle.call_extract.proofs.Extracting.{scratch-short, no-leaf, over, extraction-fits, extracts}
 
 -- What the pick took, of the held frame.
-taken : (c : tie.After-pick)
+taken : (c : tie.After-picked)
     → let start = c .before .before .before .before .before .before .before .before .before in
     let h = start .pre .0 in
-    TakenIs (take (start .args .n) (start .args .plan .now)) (start .args .f .records) (start .args .f .root) (c .pick .given .0 .0)
+    TakenIs (take (start .args .n) (start .args .plan .now)) (start .args .f .records) (start .args .f .root) (c .picked .given .0 .0)
     (h .frame .records) (h .frame .expr)
 taken c =
     let start = c .before .before .before .before .before .before .before .before .before in
-    (rw (c .pick .given .1) at (c .before .before .extract-spatial-predicate .ensures)) _ _
-    (over (start .args .n) (start .args .plan .now) (start .args .scratch .now) (start .pre .0))
+    rw (c .picked .given .1) at
+    (c .before .before .extract-in-one-walk .ensures _ _
+    (over (start .args .n) (start .args .plan .now) (start .args .scratch .now) (start .pre .0)) .picked)
 
 pub extract-frame-spec : {M : Type 1} → statement M
 extract-frame-spec =
@@ -50,9 +51,9 @@ extract-frame-spec =
     (λ c.
     let start = c .before .before .before .before .before .before .before .before .before in
     let a = start .args in
-    let none = rw (c .enum-told .given .1) at (c .before .before .extract-spatial-predicate .ensures) in
+    let walked = c .before .before .extract-in-one-walk .ensures _ _ (over (a .n) (a .plan .now) (a .scratch .now) (start .pre .0)) in
     no-leaf (a .n) (a .plan .now) (a .scratch .now) (start .pre .0) (c .before .before .before .before .if1 .left)
-    (none _ _ (over (a .n) (a .plan .now) (a .scratch .now) (start .pre .0))))
+    (rw (c .enum-told .given .1) at (walked .picked)))
     (λ c. search needs)
     (λ c. search needs)
     (λ c.

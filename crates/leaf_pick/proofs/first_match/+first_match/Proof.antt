@@ -7,7 +7,8 @@ use lib.ListN.{length}
 use mir.Facts.{fits-16-64}
 use Rattle.leaf_matching.proofs.Framing.{framed-tree}
 use Rattle.leaf_pick.proofs.Nodes.{single-leaf}
-use Rattle.leaf_pick.proofs.FirstLaws.{Along, along-begins, along-within, along-tabled, left-within, left-there, along-left, along-less, along-right}
+use Rattle.leaf_pick.proofs.FirstLaws.{Along, along-begins, along-within, along-tabled, left-within}
+use Rattle.leaf_pick.proofs.FirstLaws.{left-there, along-left, along-less, along-right}
 use borrow.Author.Needs.{needs}
 use Prim.Native.Nat.{ℕ, _-_}
 use borrow.Fn.PlainCycle.{Measures}
@@ -41,14 +42,8 @@ pub +first-match-spec : {M : Type 1} → statement M
     (λ c κs.
     let inv = c .before .before .loop .inv in
     let node = c .before .node-at in (
-      inv .there,
-      (
-        inv .tabled,
-        (
-          node .ensures,
-          ((λ records u over. single-leaf (node .result) (node .ensures) (over .tree) (c .match .keys2)), inv .few),
-        ),
-      ),
+      record { framed = inv .there; tabled = inv .tabled; is = node .ensures },
+      ((λ records u over. single-leaf (node .result) (node .ensures) (over .tree) (c .match .keys2)), inv .few),
     ))
     (λ c. c .before .before .before .loop .inv .rest (c .leaf-match .result) (c .leaf-match .ensures))
     (λ c. let turn = c .before .before .before .before in

@@ -1,10 +1,9 @@
 -- `match_other`: a function of relation name is no distance, any other leaf no relation.
 use native.Mathlib.Omega.{arith}
-use Rattle.node_rows.proofs.RowLaws.{tabled-within}
 use Rattle.leaf_matching.specs.Frames.{OfFrame}
 use Rattle.leaf_matching.specs.Matches.{isRelation, LeafMatching}
 use Rattle.leaf_pick.proofs.Nodes.{no-function}
-use Rattle.leaf_pick.proofs.LeafLaws.{call-given, call-leaf, relation-matched, distance-matching}
+use Rattle.leaf_pick.proofs.LeafLaws.{leaf-within, call-given, call-leaf, relation-matched, distance-matching}
 use borrow.Author.Needs.{needs}
 use Rattle.leaf_pick.proofs.first_match.match_other.Statement.{statement}
 use Rattle.leaf_pick.proofs.first_match.match_other.Tie as tie
@@ -13,16 +12,16 @@ returns : tie.Need-returns
 returns c =
     let start = c .before .before .before .before .before in
     λ records t over. distance-matching over (c .match-distance-predicate .result)
-    (no-function (start .args .node) (start .pre .1 .1) (over .tree) (c .before .match .keys2) records .1)
+    (no-function (start .args .leaf .node) (start .pre .is) (over .tree) (c .before .match .keys2) records .1)
     (c .match-distance-predicate .ensures records t over)
 
 -- What `match_relation_predicate` answered, said of the leaf.
 as-relation : (c : tie.After-match-relation-predicate)
     → let start = c .before .before .before .before .before .before .before .args in
-    OfFrame (start .s .now) (start .rec) (start .at) (LeafMatching isRelation (start .s .now) (start .rec)
+    OfFrame (start .s .now) (start .rec) (start .leaf .at) (LeafMatching isRelation (start .s .now) (start .rec)
     (c .match-relation-predicate .result))
 as-relation c records t over =
-    call-leaf (c .before .before .before .before .before .before .before .pre .1 .1) (c .before .before .node .given .1) isRelation
+    call-leaf (c .before .before .before .before .before .before .before .pre) (c .before .before .node .given .1) isRelation
     (c .match-relation-predicate .result)
     (c .match-relation-predicate .ensures) over
 
@@ -37,17 +36,16 @@ match-other-spec =
     tie.close
     (tie.spec
     (search needs)
-    (λ c κs. let start = c .before .before .before .before in (start .pre .0, start .pre .1 .0))
+    (λ c κs. let there = c .before .before .before .before .pre in (there .framed, there .tabled))
     returns
     (λ c.
     let start = c .before .before .before .before .before .before in
-    omega (arith, start .good, tabled-within (start .pre .1 .0 _ _ (start .pre .0 .2 .tree)) .0))
-    (λ c κs. let p = c .before .before .before .before .before .before .pre in call-given (p .1 .1) (c .before .node .given .1) (p .0)
-    (p .1 .0))
+    omega (arith, start .good, leaf-within (start .pre) .0))
+    (λ c κs. call-given (c .before .before .before .before .before .before .pre) (c .before .node .given .1))
     (search needs)
     (search needs)
     (search needs)
-    (λ c κs. let start = c .before .before .before .before .before .before .before .before .before in (start .pre .0, start .pre .1 .0))
+    (λ c κs. let there = c .before .before .before .before .before .before .before .before .before .pre in (there .framed, there .tabled))
     (λ c records t over. relation-matched over _
     (rw (c .before .predicate .given .1) at (as-relation (c .before .before .before) records t over)))
     (λ c records t over. rw (c .enum-told .given .1) at (as-relation (c .before .before) records t over))
