@@ -1,6 +1,6 @@
 -- The archive's version as a host gets it: one number.
 use Prim.Native.Nat.{ℕ, _+_, _*_}
 
--- Major · 65,536 + minor · 256 + patch, of 0.8.1. (Ours.)
+-- Major · 65,536 + minor · 256 + patch, of 0.9.0. (Ours.)
 abbrev pub version : ℕ
-version = 0 * 65536 + 8 * 256 + 1
+version = 0 * 65536 + 9 * 256 + 0

@@ -117,5 +117,5 @@ pub extern "C" fn spatialjoin_project(
 pub extern "C" fn spatialjoin_version() -> i64
     ensures { λ r. ⌜ r ≡ pos version ⌝ }
 {
-    0 * 65536 + 8 * 256 + 1
+    0 * 65536 + 9 * 256 + 0
 }
