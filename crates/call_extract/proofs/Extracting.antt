@@ -13,7 +13,8 @@ use Rattle.definitions.specs.Expression.{Frame, Extraction}
 use Rattle.definitions.specs.Encode.{planBytes, extractionBytes}
 use Rattle.definitions.specs.Plans.{planOf}
 use Rattle.definitions.specs.Extract.{Pick, pick, takePick, matchesOf, extractionBy, extraction}
-use Rattle.definitions.specs.Calls.{Outcome, writtenOver, finish, heldPlan, matchedBytes, newAfterExtractBy, extractFilled}
+use Rattle.definitions.specs.OneWalk.{walkLength}
+use Rattle.definitions.specs.Calls.{Outcome, writtenOver, finish, heldPlan, matchedBytes, newAfterExtractBy, extractFilled, walkFilled}
 use Rattle.definitions.specs.Good.{AllBytes, ReadableFrame}
 use Rattle.theorems.proofs.ExtractGood.{GoodExtraction, extraction-good}
 use Rattle.frame_reader.specs.declared.frame_bodies.Frame as places
@@ -24,6 +25,10 @@ use Rattle.leaf_pick.specs.declared.first_match.Pick as picks
 use Rattle.call_extract.specs.Extractions.{Taking, takes, ExtractionFits, ExtractionPut}
 use Rattle.frame_reader.proofs.Standing.{between-holds, expr-stands}
 use Rattle.join_filter.proofs.Refusing.{extract-call, refuses, outcome}
+use Rattle.terms.specs.declared.refusals.Refusal.the-variants.{BufferTooShort, NoLeafMatches}
+use Rattle.join_filter.specs.Outcomes.{ExtractIs, unwalked}
+use Rattle.join_filter.specs.declared.answers.Answer.the-variants.{Length, Refused}
+use Rattle.join_filter.proofs.Walking.{walk-of-frame}
 use Rattle.join_filter.proofs.Keeping.{held-is, plan-size, kept, kept-over}
 
 -- ---- a held frame
@@ -40,13 +45,26 @@ module _ (n : ℕ) (before scratch : List ℕ) {f : places.Frame} (h : HoldsFram
       (ap (λ (y : Bool). if y then matchedBytes (extraction F) else refused 9) t
       ∙ ap (λ (y : Option Extraction). if b then matchedBytes y else refused 9) e)
 
-  pub scratch-short : length scratch < n → extractFilled n before scratch ≡ refuses n before scratch 9
-  unfolding finish
-  scratch-short short = by-test false (lt-leb n (length scratch) short) (extraction F) refl
+  -- Its walk, where the scratch is long enough.
+  walk-by-test : (b : Bool) → leb n (length scratch) ≡ b → walkFilled n before scratch ≡ (if b then walkLength F else 0)
+  walk-by-test b t = walk-of-frame n before scratch F b (held-is n before (h .fits) (h .is)) t
 
-  pub no-leaf : n ≤ length scratch → pick (matchesOf F) ≡ none → extractFilled n before scratch ≡ refuses n before scratch 13
+  pub scratch-short : length scratch < n
+      → ExtractIs (extractFilled n before scratch) (walkFilled n before scratch) n before scratch (unwalked BufferTooShort)
+  unfolding finish
+  scratch-short short = record {
+    outcome = by-test false (lt-leb n (length scratch) short) (extraction F) refl;
+    carried = sym (walk-by-test false (lt-leb n (length scratch) short));
+  }
+
+  pub no-leaf : n ≤ length scratch → pick (matchesOf F) ≡ none → (w : ℕ) → w ≡ walkLength F
+      → ExtractIs (extractFilled n before scratch) (walkFilled n before scratch) n before scratch
+      (record { answer = Refused NoLeafMatches; walk = w })
   unfolding finish extractionBy takePick matchedBytes
-  no-leaf room e = by-test true (le-leb n (length scratch) room) none (ap (takePick F) e)
+  no-leaf room e w is = record {
+    outcome = by-test true (le-leb n (length scratch) room) none (ap (takePick F) e);
+    carried = is ∙ sym (walk-by-test true (le-leb n (length scratch) room));
+  }
 
   -- The frame's expression over its records, where the pick looks.
   pub over : Over (take n before) (f .records) (f .root) (F .records) (F .expr)
@@ -87,9 +105,14 @@ module _ (n : ℕ) (before scratch : List ℕ) {f : places.Frame} (h : HoldsFram
       extraction-fits = record { frame = F; predicate = t .q; taking = taking-kept; room = room }
 
       pub extracts : n ≤ length scratch → (written : List ℕ) (answer : ℕ) → ExtractionPut (take n after) f p before written answer
-          → extractFilled n before scratch ≡ record { answer = ok answer; n = answer; buffer = written; scratch = after }
+          → (w : ℕ) → w ≡ walkLength F
+          → ExtractIs (extractFilled n before scratch) (walkFilled n before scratch) n written after
+          (record { answer = Length answer; walk = w })
       unfolding finish matchedBytes planBytes extractionBytes writtenOver
-      extracts enough written answer put =
+      extracts enough written answer put w walked =
           let is = put F (t .q) taking-kept in
-          by-test true (le-leb n (length scratch) enough) (some X) extraction-is
-          ∙ rw (← (is .0), ← (is .1), kept-over n before (h .fits) scratch after copied) refl
+          record {
+            outcome = by-test true (le-leb n (length scratch) enough) (some X) extraction-is
+                ∙ rw (← (is .0), ← (is .1), kept-over n before (h .fits) scratch after copied) refl;
+            carried = walked ∙ sym (walk-by-test true (le-leb n (length scratch) enough));
+          }

@@ -13,7 +13,7 @@ use Rattle.definitions.specs.Encode.{planBytes}
 use Rattle.definitions.specs.Plans.{planOf}
 use Rattle.definitions.specs.Good.{AllBytes}
 use Rattle.definitions.specs.NodeTable.{NodeRecord, nodesFrom, nodeTable, beginsWith}
-use Rattle.definitions.specs.Calls.{tableFits, finish, heldPlan, newAfterExtractBy, extractBy, extractFilled, extract}
+use Rattle.definitions.specs.Calls.{tableFits, finish, heldPlan, newAfterExtractBy, extractBy, extractFilled, extract, walkFilled, extractWalkBy, extractWalk}
 use Rattle.theorems.proofs.ExchangeGood.{frame-length}
 use Rattle.theorems.proofs.NodeTables.{node-count, begins-exactly-by}
 use Rattle.frame_reader.specs.declared.frame_bodies.Frame.{Frame}
@@ -21,7 +21,11 @@ use Rattle.expression.proofs.Placed.{fits}
 use Rattle.frame_reader.proofs.Standing.{expr-stands}
 use Rattle.plan_reader.specs.Plans.{HoldsFrame}
 use Rattle.join_filter.proofs.Keeping.{held-is, plan-length, plan-size}
-use Rattle.join_filter.proofs.Refusing.{refuses, extract-call, no-plan, empty-plan, extracted-before}
+use Rattle.terms.specs.declared.refusals.Refusal.{Refusal}
+use Rattle.terms.specs.declared.refusals.Refusal.the-variants.{NoGoodPlan, PlanEmpty, AlreadyExtracted}
+use Rattle.join_filter.specs.Outcomes.{ExtractIs, unwalked}
+use Rattle.join_filter.specs.declared.answers.Extracted.{Extracted}
+use Rattle.join_filter.proofs.Walking.{bad-refused, empty-refused, extracted-refused}
 use Rattle.writing.proofs.Written.{taken}
 use Rattle.node_rows.specs.Numbers.{number}
 use Rattle.node_rows.specs.Rows.{Tabled}
@@ -71,33 +75,42 @@ decided : (b : Bool) → (b ≡ true → ⊥) → b ≡ false
 decided true never = absurd (never refl)
 decided false never = refl
 
--- Where none is, the table does not matter.
+-- The extract with a table, and without one; what is true of the one is true of the other.
+abbrev pub With : (n : ℕ) (plan scratch : List ℕ) (table : List NodeRecord) (after kept : List ℕ) → Extracted → Type 0
+With n plan scratch table after kept r = ExtractIs (extract n plan scratch table) (extractWalk n plan scratch table) n after kept r
+
+abbrev pub Without : (n : ℕ) (plan scratch after kept : List ℕ) → Extracted → Type 0
+Without n plan scratch after kept r = ExtractIs (extractFilled n plan scratch) (walkFilled n plan scratch) n after kept r
+
+-- By whether the table fits.
+by-fit : (n : ℕ) (plan scratch : List ℕ) (table : List NodeRecord) {after kept : List ℕ} {r : Extracted} (b : Bool)
+    → tableFits table (heldPlan n plan) ≡ b
+    → ExtractIs (if b then extractFilled n plan scratch else finish n plan scratch (refused 10)) (if b then walkFilled n plan scratch else 0)
+    n after kept r
+    → With n plan scratch table after kept r
+unfolding extractBy extractWalkBy
+by-fit n plan scratch table b e is = rw e is
+
+-- Where no frame is held, the table does not matter.
 pub unheld : (n : ℕ) (plan scratch : List ℕ) (table : List NodeRecord) {r : Result tree.Plan} → heldPlan n plan ≡ r
-    → tableFits table r ≡ true
-    → extract n plan scratch table ≡ extractFilled n plan scratch
-unfolding extractBy
-unheld n plan scratch table e fits =
-    ap (λ (p : Result tree.Plan). if tableFits table p then extractFilled n plan scratch else finish n plan scratch (refused 10)) e
-    ∙ ap (λ (b : Bool). if b then extractFilled n plan scratch else finish n plan scratch (refused 10)) fits
+    → tableFits table r ≡ true → {after kept : List ℕ} {x : Extracted} → Without n plan scratch after kept x
+    → With n plan scratch table after kept x
+unheld n plan scratch table e fits is = by-fit n plan scratch table true (ap (tableFits table) e ∙ fits) is
 
 -- So where what is held is no frame: it is refused as it is without a table.
 module _ (n : ℕ) (plan scratch : List ℕ) (table : List NodeRecord) (within : n ≤ length plan) where
-  unheld-in : {r : Result tree.Plan} → planOf (take n plan) ≡ r → tableFits table r ≡ true
-      → extract n plan scratch table ≡ extractFilled n plan scratch
-  unheld-in e = unheld n plan scratch table (held-is n plan within e)
-
-  pub bad-lent : (number : ℕ) → planOf (take n plan) ≡ refused number → extract n plan scratch table ≡ refuses n plan scratch 10
+  pub bad-lent : (number : ℕ) → planOf (take n plan) ≡ refused number → With n plan scratch table plan scratch (unwalked NoGoodPlan)
   unfolding tableFits
-  bad-lent number e = unheld-in e refl ∙ no-plan extract-call n plan scratch within number e
+  bad-lent number e = unheld n plan scratch table (held-is n plan within e) refl (bad-refused n plan scratch within number e)
 
-  pub empty-lent : planOf (take n plan) ≡ ok tree.empty → extract n plan scratch table ≡ refuses n plan scratch 11
+  pub empty-lent : planOf (take n plan) ≡ ok tree.empty → With n plan scratch table plan scratch (unwalked PlanEmpty)
   unfolding tableFits
-  empty-lent e = unheld-in e refl ∙ empty-plan extract-call n plan scratch within e
+  empty-lent e = unheld n plan scratch table (held-is n plan within e) refl (empty-refused n plan scratch within e)
 
   pub extracted-lent : (X : tree.Extraction) → planOf (take n plan) ≡ ok (tree.extracted X)
-      → extract n plan scratch table ≡ refuses n plan scratch 12
-  unfolding tableFits newAfterExtractBy
-  extracted-lent X e = unheld-in e refl ∙ extracted-before extract-call n plan scratch within (λ Y. refl) X e
+      → With n plan scratch table plan scratch (unwalked AlreadyExtracted)
+  unfolding tableFits
+  extracted-lent X e = unheld n plan scratch table (held-is n plan within e) refl (extracted-refused n plan scratch within X e)
 
 pub over-long : (n : ℕ) (plan : List ℕ) → length plan < n → heldPlan n plan ≡ refused 10
 unfolding heldPlan
@@ -118,24 +131,22 @@ module _ (n : ℕ) (plan : List ℕ) {f : Frame} (h : HoldsFrame n plan f) (byte
   counted : length (nodeTable (h .frame)) ≡ f .nodes
   counted = ap length table-is ∙ node-count (f .root) (h .frame .expr) ∙ sym (h .stands .sized)
 
-  by-test : (scratch : List ℕ) (table : List NodeRecord) (b : Bool) → beginsWith (nodeTable (h .frame)) table ≡ b
-      → extract n plan scratch table ≡ (if b then extractFilled n plan scratch else finish n plan scratch (refused 10))
-  unfolding extractBy tableFits
-  by-test scratch table b e =
-      ap (λ (p : Result tree.Plan). if tableFits table p then extractFilled n plan scratch else finish n plan scratch (refused 10))
-      (held-is n plan (h .fits) (h .is))
-      ∙ ap (λ (x : Bool). if x then extractFilled n plan scratch else finish n plan scratch (refused 10)) e
+  fits-by : (table : List NodeRecord) (b : Bool) → beginsWith (nodeTable (h .frame)) table ≡ b → tableFits table (heldPlan n plan) ≡ b
+  unfolding tableFits
+  fits-by table b e = ap (tableFits table) (held-is n plan (h .fits) (h .is)) ∙ e
 
   -- A table that does not begin with its records is refused.
   refuted : (scratch : List ℕ) (table : List NodeRecord) → (nodeTable (h .frame) ≡ take (f .nodes) table → ⊥)
-      → extract n plan scratch table ≡ refuses n plan scratch 10
+      → With n plan scratch table plan scratch (unwalked NoGoodPlan)
   unfolding finish
-  refuted scratch table never = by-test scratch table false
+  refuted scratch table never = by-fit n plan scratch table false
+      (fits-by table false
       (decided (beginsWith (nodeTable (h .frame)) table)
-      (λ e. never (sym (begins-exactly-by (nodeTable (h .frame)) table .0 e) ∙ ap (λ (k : ℕ). take k table) counted)))
+      (λ e. never (sym (begins-exactly-by (nodeTable (h .frame)) table .0 e) ∙ ap (λ (k : ℕ). take k table) counted))))
+      (record { outcome = refl; carried = refl })
 
   pub short-refused : (scratch row : List ℕ) (places : ℕ) (table : List NodeRecord) → places < f .nodes → RowOf n row places table
-      → extract n plan scratch table ≡ refuses n plan scratch 10
+      → With n plan scratch table plan scratch (unwalked NoGoodPlan)
   short-refused scratch row places table less of =
       refuted scratch table (λ e. omega (arith, ap length e, counted, length-take (f .nodes) table, of .long))
 
@@ -153,17 +164,19 @@ module _ (n : ℕ) (plan : List ℕ) {f : Frame} (h : HoldsFrame n plan f) (byte
         ∙ taken (its-own .numbered) ∙ sym (ap (map number) table-is)
 
     module _ (scratch row : List ℕ) (table : List NodeRecord) (begins : Begins (f .nodes) row table) where
-      pub same-fits : take (f .nodes) own ≡ take (f .nodes) row → extract n plan scratch table ≡ extractFilled n plan scratch
-      same-fits same =
+      pub same-fits : take (f .nodes) own ≡ take (f .nodes) row → {after kept : List ℕ} {r : Extracted}
+          → Without n plan scratch after kept r → With n plan scratch table after kept r
+      same-fits same is =
           let alike : map number (nodesFrom (f .root) (h .frame .expr)) ≡ map number (take (f .nodes) table) =
           ap (map number) (sym table-is) ∙ sym own-numbers ∙ same ∙ begins .same in
           let records : nodesFrom (f .root) (h .frame .expr) ≡ take (f .nodes) table =
           numbers-tell (nodesFrom (f .root) (h .frame .expr)) (take (f .nodes) table)
           (nodes-told (f .root) (h .frame .expr) (its-own .short)) alike in
-          by-test scratch table true (begins-exactly-by (nodeTable (h .frame)) table .1
-          (sym (table-is ∙ records ∙ ap (λ (k : ℕ). take k table) (sym counted))))
+          by-fit n plan scratch table true
+          (fits-by table true
+          (begins-exactly-by (nodeTable (h .frame)) table .1 (sym (table-is ∙ records ∙ ap (λ (k : ℕ). take k table) (sym counted))))) is
 
-      pub other-refused : SameIs own row (f .nodes) false → extract n plan scratch table ≡ refuses n plan scratch 10
+      pub other-refused : SameIs own row (f .nodes) false → With n plan scratch table plan scratch (unwalked NoGoodPlan)
       other-refused differ = refuted scratch table
           (λ e.
           let same : take (f .nodes) own ≡ take (f .nodes) row = own-numbers ∙ ap (map number) e ∙ sym (begins .same) in

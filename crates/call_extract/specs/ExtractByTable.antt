@@ -4,9 +4,9 @@ use mathlib.Core.Path.{_≡_}
 use mathlib.Core.List.{List, map}
 use lib.ListN.{length, take}
 use Rattle.definitions.specs.NodeTable.{NodeRecord}
-use Rattle.definitions.specs.Calls.{extract}
-use Rattle.join_filter.specs.Outcomes.{OutcomeIs}
-use Rattle.join_filter.specs.declared.answers.Answer.{Answer}
+use Rattle.definitions.specs.Calls.{extract, extractWalk}
+use Rattle.join_filter.specs.Outcomes.{ExtractIs}
+use Rattle.join_filter.specs.declared.answers.Extracted.{Extracted}
 use Rattle.node_rows.specs.Numbers.{number}
 
 -- The row has the numbers of the first `count` records of the table.
@@ -24,6 +24,7 @@ pub record RowOf (n : ℕ) (row : List ℕ) (places : ℕ) (table : List NodeRec
   pub same : take (lentCount n places) row ≡ map number (take (lentCount n places) table)
 
 -- For every such table the call is the definition's.
-abbrev pub ByTable : (Lent : List NodeRecord → Type 0) (n : ℕ) (before scratch after kept : List ℕ) → Answer → Type 0
+abbrev pub ByTable : (Lent : List NodeRecord → Type 0) (n : ℕ) (before scratch after kept : List ℕ) → Extracted → Type 0
 ByTable Lent n before scratch after kept r =
-    (table : List NodeRecord) → Lent table → OutcomeIs (extract n before scratch table) n after kept r
+    (table : List NodeRecord) → Lent table
+    → ExtractIs (extract n before scratch table) (extractWalk n before scratch table) n after kept r

@@ -1,6 +1,7 @@
 // The call extract with a lent table of nodes, of which it is given the numbers of the records. Public for the crate `host_calls`.
 use frame_reader::frame_bodies::Frame;
 use join_filter::answers::Answer;
+use join_filter::answers::Extracted;
 use plan_reader::extraction_bodies::Held;
 use plan_reader::held_plans::held_plan_in;
 use terms::refusals::Refusal;
@@ -19,15 +20,24 @@ fn extract_lent(
     scratch: &mut [u8],
     row: &[u32],
     places: usize,
-) -> Answer
+) -> Extracted
     requires { ⌜ RoomIn n (now plan) (now own) (now next) ⌝ }
     ensures { λ r. ⌜ ByTable (RowOf n (now (row .entry)) places) n (now (plan .entry)) (now (scratch .entry)) (now (plan .exit))
         (now (scratch .exit)) r ⌝ }
 {
     match held_plan_in(own, next, &plan[..n]) {
-        Held::Bad => Answer::Refused(Refusal::NoGoodPlan),
-        Held::Empty => Answer::Refused(Refusal::PlanEmpty),
-        Held::Extraction(_) => Answer::Refused(Refusal::AlreadyExtracted),
+        Held::Bad => Extracted {
+            answer: Answer::Refused(Refusal::NoGoodPlan),
+            walk: 0,
+        },
+        Held::Empty => Extracted {
+            answer: Answer::Refused(Refusal::PlanEmpty),
+            walk: 0,
+        },
+        Held::Extraction(_) => Extracted {
+            answer: Answer::Refused(Refusal::AlreadyExtracted),
+            walk: 0,
+        },
         Held::Frame(f) => extract_compared(plan, n, scratch, f, own, next, row, places),
     }
 }
@@ -39,7 +49,7 @@ fn extract_short(
     scratch: &mut [u8],
     row: &[u32],
     places: usize,
-) -> Answer
+) -> Extracted
     requires { ⌜ (n ≤ length (now plan)) × (n ≤ 96) ⌝ }
     ensures { λ r. ⌜ ByTable (RowOf n (now (row .entry)) places) n (now (plan .entry)) (now (scratch .entry)) (now (plan .exit))
         (now (scratch .exit)) r ⌝ }
@@ -56,7 +66,7 @@ fn extract_middle(
     scratch: &mut [u8],
     row: &[u32],
     places: usize,
-) -> Answer
+) -> Extracted
     requires { ⌜ (n ≤ length (now plan)) × (n ≤ 768) ⌝ }
     ensures { λ r. ⌜ ByTable (RowOf n (now (row .entry)) places) n (now (plan .entry)) (now (scratch .entry)) (now (plan .exit))
         (now (scratch .exit)) r ⌝ }
@@ -67,7 +77,13 @@ fn extract_middle(
 }
 
 // Of any length.
-fn extract_long(plan: &mut [u8], n: usize, scratch: &mut [u8], row: &[u32], places: usize) -> Answer
+fn extract_long(
+    plan: &mut [u8],
+    n: usize,
+    scratch: &mut [u8],
+    row: &[u32],
+    places: usize,
+) -> Extracted
     requires { ⌜ n ≤ length (now plan) ⌝ }
     ensures { λ r. ⌜ ByTable (RowOf n (now (row .entry)) places) n (now (plan .entry)) (now (scratch .entry)) (now (plan .exit))
         (now (scratch .exit)) r ⌝ }
@@ -84,12 +100,15 @@ pub fn extract_by_table(
     scratch: &mut [u8],
     row: &[u32],
     places: usize,
-) -> Answer
+) -> Extracted
     ensures { λ r. ⌜ ByTable (RowOf n (now (row .entry)) places) n (now (plan .entry)) (now (scratch .entry)) (now (plan .exit))
         (now (scratch .exit)) r ⌝ }
 {
     if plan.len() < n {
-        return Answer::Refused(Refusal::NoGoodPlan);
+        return Extracted {
+            answer: Answer::Refused(Refusal::NoGoodPlan),
+            walk: 0,
+        };
     }
     if n <= 96 {
         return extract_short(plan, n, scratch, row, places);

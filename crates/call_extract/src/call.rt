@@ -3,11 +3,12 @@
 // rust/sedona-query-planner/src/spatial_expr_utils.rs.
 use super::held_frame::extract_frame;
 use join_filter::answers::Answer;
+use join_filter::answers::Extracted;
 use plan_reader::extraction_bodies::Held;
 use plan_reader::held_plans::held_plan_in;
 use terms::refusals::Refusal;
 ghost use Rattle.definitions.specs.Calls as definitions;
-ghost use Rattle.join_filter.specs.Outcomes.{OutcomeIs};
+ghost use Rattle.join_filter.specs.Outcomes.{ExtractIs};
 ghost use Rattle.call_extract.specs.FrameRows.{RoomIn};
 
 // What is held, whose nodes go into the rows if it is a frame.
@@ -17,25 +18,37 @@ fn extract_held(
     plan: &mut [u8],
     n: usize,
     scratch: &mut [u8],
-) -> Answer
+) -> Extracted
     requires { ⌜ RoomIn n (now plan) (now numbers) (now next) ⌝ }
-    ensures { λ r. ⌜ OutcomeIs (definitions.extractFilled n (now (plan .entry)) (now (scratch .entry))) n (now (plan .exit))
-        (now (scratch .exit)) r ⌝ }
+    ensures { λ r. ⌜ ExtractIs (definitions.extractFilled n (now (plan .entry)) (now (scratch .entry)))
+        (definitions.walkFilled n (now (plan .entry)) (now (scratch .entry))) n (now (plan .exit)) (now (scratch .exit)) r ⌝ }
 {
     match held_plan_in(numbers, next, &plan[..n]) {
-        Held::Bad => Answer::Refused(Refusal::NoGoodPlan),
-        Held::Empty => Answer::Refused(Refusal::PlanEmpty),
-        Held::Extraction(_) => Answer::Refused(Refusal::AlreadyExtracted),
+        Held::Bad => Extracted {
+            answer: Answer::Refused(Refusal::NoGoodPlan),
+            walk: 0,
+        },
+        Held::Empty => Extracted {
+            answer: Answer::Refused(Refusal::PlanEmpty),
+            walk: 0,
+        },
+        Held::Extraction(_) => Extracted {
+            answer: Answer::Refused(Refusal::AlreadyExtracted),
+            walk: 0,
+        },
         Held::Frame(f) => extract_frame(plan, n, scratch, f, numbers, next),
     }
 }
 
-pub fn extract(plan: &mut [u8], n: usize, scratch: &mut [u8]) -> Answer
-    ensures { λ r. ⌜ OutcomeIs (definitions.extractFilled n (now (plan .entry)) (now (scratch .entry))) n (now (plan .exit))
-        (now (scratch .exit)) r ⌝ }
+pub fn extract(plan: &mut [u8], n: usize, scratch: &mut [u8]) -> Extracted
+    ensures { λ r. ⌜ ExtractIs (definitions.extractFilled n (now (plan .entry)) (now (scratch .entry)))
+        (definitions.walkFilled n (now (plan .entry)) (now (scratch .entry))) n (now (plan .exit)) (now (scratch .exit)) r ⌝ }
 {
     if plan.len() < n {
-        return Answer::Refused(Refusal::NoGoodPlan);
+        return Extracted {
+            answer: Answer::Refused(Refusal::NoGoodPlan),
+            walk: 0,
+        };
     }
     let mut numbers = [0u32; 1024];
     let mut next = [0u16; 1024];

@@ -2,6 +2,7 @@
 use super::held_frame::extract_frame;
 use frame_reader::frame_bodies::Frame;
 use join_filter::answers::Answer;
+use join_filter::answers::Extracted;
 use node_rows::numbers::same_numbers;
 use terms::refusals::Refusal;
 ghost use Rattle.plan_reader.specs.Plans.{HoldsFrame};
@@ -19,17 +20,23 @@ pub fn extract_compared(
     next: &[u16],
     row: &[u32],
     places: usize,
-) -> Answer
+) -> Extracted
     requires { ⌜ HoldsFrame n (now plan) f ⌝ }
     requires { ⌜ Indexed n (now plan) f (now own) (now next) ⌝ }
     ensures { λ r. ⌜ ByTable (RowOf n (now (row .entry)) places) n (now (plan .entry)) (now (scratch .entry)) (now (plan .exit))
         (now (scratch .exit)) r ⌝ }
 {
     if places < f.nodes || row.len() < f.nodes {
-        return Answer::Refused(Refusal::NoGoodPlan);
+        return Extracted {
+            answer: Answer::Refused(Refusal::NoGoodPlan),
+            walk: 0,
+        };
     }
     if same_numbers(own, row, f.nodes) {
         return extract_frame(plan, n, scratch, f, row, next);
     }
-    Answer::Refused(Refusal::NoGoodPlan)
+    Extracted {
+        answer: Answer::Refused(Refusal::NoGoodPlan),
+        walk: 0,
+    }
 }

@@ -101,6 +101,7 @@ tables = 0
 unfoldable pub calls : ℕ
 unfolding Calls.writtenOver Calls.tabled Calls.filledBy Calls.tableFits Calls.newAfterLoad Calls.finishLoad Calls.load Calls.finish
     Calls.heldPlan Calls.newAfterExchange Calls.exchange Calls.matchedBytes Calls.newAfterExtractBy Calls.extractFilledBy Calls.extractBy
+    Calls.walkedBy Calls.walkFilledBy Calls.extractWalkBy
 calls = 0
 
 unfoldable pub machine : ℕ
@@ -109,7 +110,7 @@ unfolding Machine.extractionOr Machine.machinePlan Machine.machineLength Machine
 machine = 0
 
 unfoldable pub sessions : ℕ
-unfolding Sessions.makeBy Sessions.callsRunBy Sessions.fed Sessions.accepted Sessions.isExtract Sessions.extractAccepted
+unfolding Sessions.makeBy Sessions.walkBy Sessions.callsRunBy Sessions.fed Sessions.accepted Sessions.isExtract Sessions.extractAccepted
     Sessions.exchangesOdd
 sessions = 0
 

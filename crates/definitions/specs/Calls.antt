@@ -11,6 +11,7 @@ use Rattle.definitions.specs.Encode.{planBytes}
 use Rattle.definitions.specs.Plans.{frameOf, planOf}
 use Rattle.definitions.specs.Match.{matchLeaf}
 use Rattle.definitions.specs.Extract.{Matcher, extractionBy}
+use Rattle.definitions.specs.OneWalk.{walkLengthBy}
 use Rattle.definitions.specs.Exchange.{exchangePlan}
 use Rattle.definitions.specs.Good.{nodes}
 use Rattle.definitions.specs.NodeTable.{NodeRecord, nodeTable, beginsWith}
@@ -132,3 +133,28 @@ extractBy match n buffer scratch table =
 -- 01's, with `matchLeaf`.
 abbrev pub extract : (n : ℕ) → (buffer scratch : List ℕ) → (table : List NodeRecord) → Outcome
 extract = extractBy matchLeaf
+
+-- ---- the walk that an extract carries (request 10)
+
+-- That of the held frame, with an extraction and with 13; every other refusal carries 0.
+unfoldable pub walkedBy : Matcher → (n room : ℕ) → Result Plan → ℕ
+walkedBy match n room (refused number) = 0
+walkedBy match n room (ok empty) = 0
+walkedBy match n room (ok (extracted X)) = 0
+walkedBy match n room (ok (held F)) = if leb n room then walkLengthBy match F else 0
+
+-- With a table that fits.
+unfoldable pub walkFilledBy : Matcher → (n : ℕ) → (buffer scratch : List ℕ) → ℕ
+walkFilledBy match n buffer scratch = walkedBy match n (length scratch) (heldPlan n buffer)
+
+-- 01's, with `matchLeaf`.
+abbrev pub walkFilled : (n : ℕ) → (buffer scratch : List ℕ) → ℕ
+walkFilled = walkFilledBy matchLeaf
+
+-- With any table.
+unfoldable pub extractWalkBy : Matcher → (n : ℕ) → (buffer scratch : List ℕ) → (table : List NodeRecord) → ℕ
+extractWalkBy match n buffer scratch table = if tableFits table (heldPlan n buffer) then walkFilledBy match n buffer scratch else 0
+
+-- 01's, with `matchLeaf`.
+abbrev pub extractWalk : (n : ℕ) → (buffer scratch : List ℕ) → (table : List NodeRecord) → ℕ
+extractWalk = extractWalkBy matchLeaf

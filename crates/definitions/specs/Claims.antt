@@ -206,9 +206,10 @@ LoadHoldsBy match =
 abbrev pub LoadHolds : Type 0
 LoadHolds = LoadHoldsBy matchLeaf
 
--- The calls give the machine's answers, and leave the machine's plan and its length.
+-- The calls give the machine's answers and walks, and leave the machine's plan and its length.
 pub record AgreeBy (match : Matcher) (F : Frame) (o : ListOutcome) (m : Run) : Type 0 where
   pub answers : o .answers ≡ m .answers
+  pub walks : o .walks ≡ m .walks
   pub plan : planLeft o ≡ planBytes (machinePlan match F (m .bits))
   pub size : o .n ≡ machineLength match F (m .bits)
 

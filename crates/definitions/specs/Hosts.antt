@@ -10,6 +10,11 @@ unfoldable pub hosted : Result ℕ → ℤ
 hosted (ok length) = pos length
 hosted (refused number) = negℤ (pos number)
 
+-- Extract's, with the walk that it carries (request 10): walk · 65,536 + length, or minus (walk · 256 + the refusal's number). (Ours.)
+unfoldable pub hostedWalk : (walk : ℕ) → Result ℕ → ℤ
+hostedWalk walk (ok length) = pos (walk * 65536 + length)
+hostedWalk walk (refused number) = negℤ (pos (walk * 256 + number))
+
 -- The logical call's: mask · 65,536 + names · 256 + side, or minus the refusal's number. (Ours.)
 unfoldable pub hostedNames : Result LogicalAnswer → ℤ
 hostedNames (ok a) = pos (a .mask * 65536 + a .names * 256 + sideNumber (a .side))

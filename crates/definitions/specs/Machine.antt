@@ -9,6 +9,7 @@ use Rattle.definitions.specs.Basics.{if_then_else_, Result, ok, refused}
 use Rattle.definitions.specs.Expression.{Frame, Extraction, Plan, held, extracted}
 use Rattle.definitions.specs.Encode.{planBytes}
 use Rattle.definitions.specs.Extract.{Matcher, extractionBy}
+use Rattle.definitions.specs.OneWalk.{walkLengthBy}
 use Rattle.definitions.specs.Exchange.{exchangePlan}
 
 -- The calls of a list: extract and exchange.
@@ -40,25 +41,31 @@ machinePlan match F bits =
 unfoldable pub machineLength : Matcher → Frame → Bits → ℕ
 machineLength match F bits = length (planBytes (machinePlan match F bits))
 
--- The machine's answer, and its bits afterwards.
+-- The machine's answer, the walk that it carries (request 10), and its bits afterwards.
 pub record Step : Type 0 where
   pub answer : Result ℕ
+  pub walk : ℕ
   pub bits : Bits
 
 -- A refused call gives its number and changes neither bit.
 unfoldable pub refuseStep : Bits → ℕ → Step
-refuseStep bits number = record { answer = refused number; bits = bits }
+refuseStep bits number = record { answer = refused number; walk = 0; bits = bits }
 
 -- An accepted call gives the length of the machine's new plan.
 unfoldable pub acceptStep : Matcher → Frame → Bits → Step
-acceptStep match F bits = record { answer = ok (machineLength match F bits); bits = bits }
+acceptStep match F bits = record { answer = ok (machineLength match F bits); walk = 0; bits = bits }
+
+-- A step that carries a walk.
+abbrev pub withWalk : ℕ → Step → Step
+withWalk walk step = record { answer = step .answer; walk = walk; bits = step .bits }
 
 -- 13 if no AND-leaf of F matches, else the extracted bit becomes 1.
 unfoldable pub takeStep : Matcher → Frame → Bits → Option Extraction → Step
 takeStep match F bits none = refuseStep bits 13
 takeStep match F bits (some X) = acceptStep match F (record { isExtracted = true; isOdd = bits .isOdd })
 
--- Exchange: 9, else the odd bit flips. Extract: 12, 9, 13, else the extracted bit becomes 1.
+-- Exchange: 9, else the odd bit flips. Extract: 12, 9, 13, else the extracted bit becomes 1; once it has read the leaves it carries their
+-- walk.
 unfoldable pub machineStep : Matcher → Frame → Bits → Kind → (room : ℕ) → Step
 machineStep match F bits exchangeCall room =
     if leb (machineLength match F bits) room
@@ -66,21 +73,22 @@ machineStep match F bits exchangeCall room =
     else refuseStep bits 9
 machineStep match F bits extractCall room =
     if bits .isExtracted then refuseStep bits 12 else
-    if leb (machineLength match F bits) room then takeStep match F bits (extractionBy match F) else
+    if leb (machineLength match F bits) room then withWalk (walkLengthBy match F) (takeStep match F bits (extractionBy match F)) else
     refuseStep bits 9
 
--- The answers of a list of calls, and the bits at its end.
+-- The answers of a list of calls, the walks that they carry, and the bits at its end.
 pub record Run : Type 0 where
   pub answers : List (Result ℕ)
+  pub walks : List ℕ
   pub bits : Bits
 
 -- The machine fed a list of calls.
 unfoldable pub machineRun : Matcher → Frame → Bits → List Fed → Run
-machineRun match F bits [] = record { answers = []; bits = bits }
+machineRun match F bits [] = record { answers = []; walks = []; bits = bits }
 machineRun match F bits (c ∷ cs) =
     let step : Step = machineStep match F bits (c .kind) (c .room) in
     let after : Run = machineRun match F (step .bits) cs in
-    record { answers = step .answer ∷ after .answers; bits = after .bits }
+    record { answers = step .answer ∷ after .answers; walks = step .walk ∷ after .walks; bits = after .bits }
 
 -- Both bits are 0 at the start.
 unfoldable pub fresh : Bits

@@ -9,7 +9,7 @@ use Rattle.definitions.specs.Expression.{Frame, held}
 use Rattle.definitions.specs.Encode.{frameBytes}
 use Rattle.definitions.specs.Match.{matchLeaf}
 use Rattle.definitions.specs.Extract.{Matcher}
-use Rattle.definitions.specs.Calls.{Outcome, extractBy, exchange}
+use Rattle.definitions.specs.Calls.{Outcome, extractBy, exchange, extractWalkBy}
 use Rattle.definitions.specs.Machine.{Kind, extractCall, exchangeCall, Fed, Run, machineRun, fresh}
 use Rattle.definitions.specs.Good.{GoodPlan}
 use Rattle.definitions.specs.NodeTable.{NodeRecord, nodeTable, beginsWith}
@@ -38,19 +38,30 @@ makeBy match exchangeCall n buffer scratch table = exchange n buffer scratch
 abbrev pub make : Kind → (n : ℕ) → (buffer scratch : List ℕ) → (table : List NodeRecord) → Outcome
 make = makeBy matchLeaf
 
--- The answers of a list of calls, and n and the plan buffer at its end.
+-- The walk that the call of a kind carries (request 10); an exchange has none.
+unfoldable pub walkBy : Matcher → Kind → (n : ℕ) → (buffer scratch : List ℕ) → (table : List NodeRecord) → ℕ
+walkBy match extractCall n buffer scratch table = extractWalkBy match n buffer scratch table
+walkBy match exchangeCall n buffer scratch table = 0
+
+-- 01's, with `matchLeaf`.
+abbrev pub walk : Kind → (n : ℕ) → (buffer scratch : List ℕ) → (table : List NodeRecord) → ℕ
+walk = walkBy matchLeaf
+
+-- The answers of a list of calls, the walks that they carry, and n and the plan buffer at its end.
 pub record ListOutcome : Type 0 where
   pub answers : List (Result ℕ)
+  pub walks : List ℕ
   pub n : ℕ
   pub buffer : List ℕ
 
 -- A list of calls, each given the last n and the plan buffer as it was left, and one and the same table, which none of them writes.
 unfoldable pub callsRunBy : Matcher → (n : ℕ) → (buffer : List ℕ) → (table : List NodeRecord) → List Made → ListOutcome
-callsRunBy match n buffer table [] = record { answers = []; n = n; buffer = buffer }
+callsRunBy match n buffer table [] = record { answers = []; walks = []; n = n; buffer = buffer }
 callsRunBy match n buffer table (c ∷ cs) =
     let one : Outcome = makeBy match (c .kind) n buffer (c .scratch) table in
     let after : ListOutcome = callsRunBy match (one .n) (one .buffer) table cs in
-    record { answers = one .answer ∷ after .answers; n = after .n; buffer = after .buffer }
+    let carried : ℕ = walkBy match (c .kind) n buffer (c .scratch) table in
+    record { answers = one .answer ∷ after .answers; walks = carried ∷ after .walks; n = after .n; buffer = after .buffer }
 
 -- 01's, with `matchLeaf`.
 abbrev pub callsRun : (n : ℕ) → (buffer : List ℕ) → (table : List NodeRecord) → List Made → ListOutcome
@@ -137,3 +148,7 @@ oddIn s calls = exchangesOdd calls (after s calls .answers)
 -- The answer of a call that is made after a list of calls.
 abbrev pub answerAfter : {match : Matcher} {F : Frame} → SessionBy match F → (before : List Made) → Made → Result ℕ
 answerAfter {match} s before c = makeBy match (c .kind) (after s before .n) (after s before .buffer) (c .scratch) (s .table) .answer
+
+-- The walk that it carries.
+abbrev pub walkAfter : {match : Matcher} {F : Frame} → SessionBy match F → (before : List Made) → Made → ℕ
+walkAfter {match} s before c = walkBy match (c .kind) (after s before .n) (after s before .buffer) (c .scratch) (s .table)

@@ -70,6 +70,15 @@ TableNamesBytes =
     → NamesNode (frameBytes F) (getD (nodesInOrder (F .expr)) i (F .expr)) (getD (nodeTable F) i blank))
     × (length (frameBytes F) ≤ mostBytes)
 
+-- Starts and ends of records, each at most this.
+abbrev pub Within : (most : ℕ) → List NodeRecord → Type 0
+Within most [] = Unit {0}
+Within most (r ∷ more) = (r .start ≤ most) × (r .end ≤ most) × Within most more
+
+-- Those of a good frame are at most 16,384.
+abbrev pub PositionsFit : Type 0
+PositionsFit = (F : Frame) → GoodPlan (held F) → Within mostBytes (nodeTable F)
+
 -- Exchange moves no node.
 abbrev pub TableExchanged : Type 0
 TableExchanged = (F : Frame) → nodeTable (exchangeFrame F) ≡ nodeTable F

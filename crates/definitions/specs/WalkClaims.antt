@@ -1,14 +1,26 @@
--- What is claimed of request 9 of document 02; crate `theorems` proves each claim.
-use Prim.Native.Nat.{ℕ}
+-- What is claimed of requests 9 and 10 of document 02; crate `theorems` proves each claim.
+use Prim.Native.Nat.{ℕ, _*_, _-_, _≤_}
 use mathlib.Core.Path.{_≡_}
 use mathlib.Core.Bool.{true, false, not}
 use mathlib.Core.List.{List, _∷_, _++_}
-use mathlib.Core.Option.{Option, some}
+use mathlib.Core.Option.{Option, none, some}
 use lib.ListN.{length, take}
-use Rattle.definitions.specs.Basics.{any}
-use Rattle.definitions.specs.Expression.{Predicate}
-use Rattle.definitions.specs.Extract.{isKnn, isKnnMatch, firstMatch, pick}
-use Rattle.definitions.specs.OneWalk.{reading, stopped, oneWalk, remembered}
+use lib.Dec.{eqb}
+use Rattle.definitions.specs.Limits.{mostNodes}
+use Rattle.definitions.specs.Basics.{refused, any, ok}
+use Rattle.definitions.specs.Expression.{Frame, Predicate, held}
+use Rattle.definitions.specs.Leaves.{leaves}
+use Rattle.definitions.specs.Extract.{isKnn, isKnnMatch, firstMatch, pick, Matcher, matchesBy, extractionBy}
+use Rattle.definitions.specs.OneWalk.{reading, stopped, oneWalk, remembered, walkLengthBy}
+use Rattle.definitions.specs.Exchange.{exchangeFrame}
+use Rattle.definitions.specs.Calls.{heldPlan, extractBy, extractWalkBy}
+use Rattle.definitions.specs.Good.{AllBytes}
+use Rattle.definitions.specs.NodeTable.{NodeRecord}
+use Rattle.definitions.specs.Sessions.{accepted}
+use Rattle.definitions.specs.Meaning.{Meaning}
+use Rattle.definitions.specs.Matchers.{Lawful}
+
+-- ---- request 9
 
 -- After any number of leaves without a KNN match the walk remembers the first other match among them, or nothing if there is none.
 abbrev pub RemembersFirst : Type 0
@@ -25,3 +37,43 @@ StopsAtKnn =
 -- Its pick is the two passes' pick.
 abbrev pub OneWalkIsPick : Type 0
 OneWalkIsPick = (matches : List (Option Predicate)) → remembered (oneWalk matches) ≡ pick matches
+
+-- ---- request 10
+
+-- A walk is at most twice the number of AND-leaves, less one,
+abbrev pub WalkBounded : Type 0
+WalkBounded = (match : Matcher) (F : Frame) → walkLengthBy match F ≤ 2 * length (leaves (F .expr)) - 1
+
+-- and so many where no leaf is a KNN match,
+abbrev pub WalkWhole : Type 0
+WalkWhole =
+    (match : Matcher) (F : Frame) → any isKnnMatch (matchesBy match F) ≡ false
+    → walkLengthBy match F ≡ 2 * length (leaves (F .expr)) - 1
+
+-- so that a 13 carries so many.
+abbrev pub WalkUnmatched : Type 0
+WalkUnmatched =
+    (match : Matcher) (F : Frame) → extractionBy match F ≡ none → walkLengthBy match F ≡ 2 * length (leaves (F .expr)) - 1
+
+-- An exchanged frame has the same walk: both machines bill the same effort.
+abbrev pub WalkExchanged : Type 1
+WalkExchanged =
+    (match : Matcher) (Asks : Meaning → Type 0) → Lawful match Asks
+    → (F : Frame) → walkLengthBy match (exchangeFrame F) ≡ walkLengthBy match F
+
+-- An accepted extract, and one that is refused with 13, carries the walk of the frame that is held;
+abbrev pub WalkCarried : Type 0
+WalkCarried =
+    (match : Matcher) (n : ℕ) (buffer scratch : List ℕ) (table : List NodeRecord)
+    → ((accepted (extractBy match n buffer scratch table .answer) ≡ true)
+    → (F : Frame) × (heldPlan n buffer ≡ ok (held F)) × (extractWalkBy match n buffer scratch table ≡ walkLengthBy match F))
+    × ((extractBy match n buffer scratch table .answer ≡ refused 13)
+    → (F : Frame) × (heldPlan n buffer ≡ ok (held F)) × (extractWalkBy match n buffer scratch table ≡ walkLengthBy match F))
+    × ((number : ℕ) → extractBy match n buffer scratch table .answer ≡ refused number → eqb number 13 ≡ false
+    → extractWalkBy match n buffer scratch table ≡ 0)
+
+-- What a call carries is at most 2,047.
+abbrev pub WalkShort : Type 0
+WalkShort =
+    (match : Matcher) (n : ℕ) (buffer scratch : List ℕ) (table : List NodeRecord) → AllBytes buffer
+    → extractWalkBy match n buffer scratch table ≤ 2 * mostNodes - 1

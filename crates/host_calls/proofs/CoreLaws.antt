@@ -7,21 +7,23 @@ use mathlib.Core.List.{List, _++_}
 use lib.IntN.{ℤ}
 use lib.ListN.{length, drop, replicate, length-replicate}
 use Rattle.definitions.specs.NodeTable.{NodeRecord, blank}
-use Rattle.definitions.specs.Calls.{LoadOutcome, load, Outcome, extract}
+use Rattle.definitions.specs.Calls.{LoadOutcome, load, Outcome, extract, extractWalk}
 use Rattle.definitions.specs.Hosts.{hosted}
+use Rattle.definitions.specs.Match.{matchLeaf}
 use Rattle.definitions.specs.Machine.{extractCall}
 use Rattle.definitions.specs.Sessions.{makeBy, accepted}
 use Rattle.definitions.specs.Merge.{MergeOutcome, merge}
 use Rattle.definitions.specs.Good.{AllBytes}
-use Rattle.theorems.proofs.Proved.{lengths-short, merge-writes}
-use Rattle.join_filter.specs.Outcomes.{answerOf, nAfter, LoadIs, OutcomeIs, MergeIs}
+use Rattle.theorems.proofs.Proved.{lengths-short, merge-writes, walk-short}
+use Rattle.join_filter.specs.Outcomes.{answerOf, nAfter, LoadIs, OutcomeIs, ExtractIs, MergeIs}
 use Rattle.join_filter.specs.declared.answers.Loaded.{Loaded}
 use Rattle.call_load.specs.Loads.{LoadedIs}
 use Rattle.call_merge.specs.Merges.{MergedIs}
+use Rattle.join_filter.specs.declared.answers.Extracted.{Extracted}
 use Rattle.join_filter.specs.declared.answers.Answer.{Answer}
 use Rattle.join_filter.specs.declared.answers.Answer.the-variants.{Length, Refused}
 use Rattle.host_calls.proofs.TableRoom.{load-keeps, merge-keeps, has-room}
-use Rattle.host_calls.specs.Short.{Short}
+use Rattle.host_calls.specs.Short.{Short, ShortWalk}
 use Rattle.host_calls.specs.Cores.{LoadLeft, MergeLeft}
 
 -- A table of so many records.
@@ -64,12 +66,16 @@ module _ (frame before after : List ℕ) (held : ℕ) (r : Loaded) (is : LoadedI
         ),
   )
 
-pub extract-short : (n : ℕ) (before scratch after kept : List ℕ) (table : List NodeRecord) (r : Answer)
-    → OutcomeIs (extract n before scratch table) n after kept r → AllBytes before → Short r
+pub extract-short : (n : ℕ) (before scratch after kept : List ℕ) (table : List NodeRecord) (r : Extracted)
+    → ExtractIs (extract n before scratch table) (extractWalk n before scratch table) n after kept r → AllBytes before → ShortWalk r
 unfolding makeBy
-extract-short n before scratch after kept table (Length m) is bytes =
-    omega (arith, lengths-short .1 extractCall n before scratch table m bytes (ap (λ (o : Outcome). o .answer) is))
-extract-short n before scratch after kept table (Refused why) is bytes = tt
+extract-short n before scratch after kept table r is bytes =
+    (short (r .answer) (is .outcome), omega (arith, is .carried, walk-short matchLeaf n before scratch table bytes))
+  where
+    short : (a : Answer) → OutcomeIs (extract n before scratch table) n after kept a → Short a
+    short (Length m) so =
+        omega (arith, lengths-short .1 extractCall n before scratch table m bytes (ap (λ (o : Outcome). o .answer) so))
+    short (Refused why) so = tt
 
 module _ (frame : List ℕ) (n : ℕ) (before scratch after kept : List ℕ) (held : ℕ) (r : Loaded)
     (is : MergedIs frame n before scratch after kept held r) where

@@ -12,10 +12,10 @@ use mir.ValLaws.{toZ-pos}
 pub number-is : (n : ℕ) → n < 2 ^ 63 → toZ w64 n ≡ pos n
 number-is n few = toZ-pos w64 n few
 
-pub minus-is : (k : ℕ) → k < 256 → pos 0 -ℤ toZ w64 k ≡ negℤ (pos k)
+pub minus-is : (k : ℕ) → k < 4294967296 → pos 0 -ℤ toZ w64 k ≡ negℤ (pos k)
 minus-is k few = rw (number-is k (omega arith)) (+ℤ-idl (negℤ (pos k)))
 
-pub minus-fits : (k : ℕ) → k < 256 → SFits w64 (negℤ (pos k))
+pub minus-fits : (k : ℕ) → k < 4294967296 → SFits w64 (negℤ (pos k))
 minus-fits zero few = record { sfits = omega arith }
 minus-fits (suc k) few = record { sfits = omega arith }
 

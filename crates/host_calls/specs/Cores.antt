@@ -4,7 +4,7 @@ use mathlib.Core.Path.{_≡_}
 use mathlib.Core.List.{List, _++_}
 use lib.IntN.{ℤ}
 use lib.ListN.{length, drop}
-use Rattle.definitions.specs.Calls.{load, extract}
+use Rattle.definitions.specs.Calls.{load, extract, extractWalk}
 use Rattle.definitions.specs.Merge.{merge}
 use Rattle.definitions.specs.NodeTable.{NodeRecord}
 use Rattle.definitions.specs.Good.{AllBytes}
@@ -12,7 +12,7 @@ use Rattle.definitions.specs.Hosts.{hosted}
 use Rattle.expression.specs.Filling.{Records}
 use Rattle.call_extract.specs.ExtractByTable.{RowOf}
 use Rattle.host_calls.specs.declared.cores.Loaded.{Loaded}
-use Rattle.host_calls.specs.Hosted.{CallHosted}
+use Rattle.host_calls.specs.Hosted.{ExtractHosted}
 
 -- ---- a call that leaves the table to be filled
 
@@ -49,4 +49,5 @@ Lent n row held = (table : List NodeRecord) × RowOf n row held table
 -- The extract is the definition's with every table of so many records whose first numbers are in the row. (Ours.)
 abbrev pub ExtractBy : (n : ℕ) (before scratch row : List ℕ) (held : ℕ) (after scratched : List ℕ) → ℤ → Type 0
 ExtractBy n before scratch row held after scratched r =
-    (table : List NodeRecord) → RowOf n row held table → CallHosted before (extract n before scratch table) after scratched r
+    (table : List NodeRecord) → RowOf n row held table
+    → ExtractHosted before (extract n before scratch table) (extractWalk n before scratch table) after scratched r

@@ -6,8 +6,8 @@ use lib.IntN.{ℤ}
 use Rattle.definitions.specs.Calls.{load, Outcome}
 use Rattle.definitions.specs.Merge.{MergeOutcome}
 use Rattle.definitions.specs.NodeTable.{NodeRecord}
-use Rattle.definitions.specs.Hosts.{hosted}
 use Rattle.definitions.specs.Good.{AllBytes}
+use Rattle.definitions.specs.Hosts.{hosted, hostedWalk}
 use Rattle.definitions.specs.Printed.{print}
 
 -- The load is the definition's, whatever n the host had: answer, plan buffer and table.
@@ -25,6 +25,10 @@ MergeHosted frame before o after scratch filled r =
 -- The call is the definition's: answer and both buffers. n is the host's to keep: the length that was answered, else as it was.
 abbrev pub CallHosted : (before : List ℕ) → Outcome → (after scratch : List ℕ) → ℤ → Type 0
 CallHosted before o after scratch r = AllBytes before × (r ≡ hosted (o .answer)) × (after ≡ o .buffer) × (scratch ≡ o .scratch)
+
+-- The extract is the definition's: answer and walk, and both buffers (request 10).
+abbrev pub ExtractHosted : (before : List ℕ) → Outcome → (walk : ℕ) → (after scratch : List ℕ) → ℤ → Type 0
+ExtractHosted before o walk after scratch r = AllBytes before × (r ≡ hostedWalk walk (o .answer)) × (after ≡ o .buffer) × (scratch ≡ o .scratch)
 
 -- The print is the definition's: answer and text buffer.
 abbrev pub PrintHosted : (frame before after : List ℕ) → ℤ → Type 0

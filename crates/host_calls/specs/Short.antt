@@ -1,5 +1,6 @@
 -- What a length may be.
 use Prim.Native.Nat.{_≤_}
+use Rattle.join_filter.specs.declared.answers.Extracted.{Extracted}
 use Rattle.join_filter.specs.declared.answers.Answer.{Answer}
 use Rattle.join_filter.specs.declared.answers.Answer.the-variants.{Length, Refused}
 
@@ -7,3 +8,7 @@ use Rattle.join_filter.specs.declared.answers.Answer.the-variants.{Length, Refu
 abbrev pub Short : Answer → Type 0
 Short (Length n) = n ≤ 26620
 Short (Refused why) = Unit {0}
+
+-- So is an extract's, and its walk at most 2,047.
+abbrev pub ShortWalk : Extracted → Type 0
+ShortWalk r = Short (r .answer) × (r .walk ≤ 2047)

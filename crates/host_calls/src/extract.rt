@@ -1,5 +1,5 @@
 // All of extract but the table, the answer as a host gets it: what has no lent table needs no proof by hand. Public for `spatialjoin_c`.
-use super::answers::answer_number;
+use super::answers::walk_number;
 use call_extract::by_table::extract_by_table;
 ghost use Rattle.host_calls.specs.Cores.{Lent, ExtractBy};
 
@@ -9,5 +9,5 @@ pub fn extract_core(plan: &mut [u8], n: usize, scratch: &mut [u8], row: &[u32], 
     ensures { λ r. ⌜ ExtractBy n (now (plan .entry)) (now (scratch .entry)) (now (row .entry)) held (now (plan .exit))
         (now (scratch .exit)) r ⌝ }
 {
-    answer_number(extract_by_table(plan, n, scratch, row, held))
+    walk_number(extract_by_table(plan, n, scratch, row, held))
 }

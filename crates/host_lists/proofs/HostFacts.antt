@@ -1,67 +1,83 @@
--- One exported call of a host: its number, what a refusal keeps, and that there is one for every host.
-use Prim.Native.Nat.{ℕ}
-use mathlib.Core.Path.{_≡_, refl, sym, ap, _∙_, subst}
+-- One exported call of a host: its number, what a refusal keeps, the walk of an extract, and that there is one for every host.
+use Prim.Native.Nat.{ℕ, _*_, _-_, _≤_}
+use native.Mathlib.Omega.{arith}
+use mathlib.Core.Path.{_≡_, refl, sym, ap, ap₂, _∙_, subst}
 use mathlib.Core.Bool.{false, false≢true}
 use mathlib.Core.List.{List, [], _∷_, map}
-use lib.IntN.{ℤ, pos, negsuc}
+use lib.IntN.{ℤ}
+use Rattle.definitions.specs.Limits.{mostNodes}
 use Rattle.definitions.specs.Basics.{Result, ok, refused}
 use Rattle.definitions.specs.Expression.{Frame}
-use Rattle.definitions.specs.Calls.{LoadOutcome, finishLoad, load, Outcome, extract, exchange}
+use Rattle.definitions.specs.Match.{matchLeaf}
+use Rattle.definitions.specs.Calls.{LoadOutcome, finishLoad, load, Outcome, extract, exchange, extractWalk}
 use Rattle.definitions.specs.Machine.{Kind, extractCall, exchangeCall}
 use Rattle.definitions.specs.Good.{AllBytes}
 use Rattle.definitions.specs.NodeTable.{NodeRecord}
-use Rattle.definitions.specs.Sessions.{makeBy, make, accepted}
+use Rattle.definitions.specs.Sessions.{makeBy, walkBy, walk, accepted}
 use Rattle.definitions.specs.Merge.{MergeOutcome, merge}
 use Rattle.definitions.specs.Project.{Lists, project}
 use Rattle.definitions.specs.History.{Call, loading, making, merging, projecting}
-use Rattle.definitions.specs.Hosts.{hosted}
-use Rattle.theorems.proofs.Proved.{refused-keeps, merge-keeps, project-keeps}
+use Rattle.definitions.specs.Hosts.{hosted, hostedWalk}
+use Rattle.theorems.proofs.Proved.{refused-keeps, merge-keeps, project-keeps, walk-carried, walk-short}
 use Rattle.join_filter.specs.Outcomes.{answerOf}
 use Rattle.join_filter.specs.declared.answers.Answer.{Answer}
 use Rattle.node_table.specs.Records.{nodesOf}
 use Rattle.node_table.specs.declared.NodeRecord.{NodeRecord as TableRecord}
-use Rattle.host_lists.specs.Numbers.{answered, nextN, IsAnswer}
-use Rattle.host_lists.specs.HostLists.{Host, MadeHosted}
-use Rattle.host_lists.specs.HostFacts.{HostNumbers, HostKeeps, EveryCallRuns}
-use Rattle.host_lists.proofs.Numbers.{answer-known, answers-of-calls, known}
-use Rattle.host_lists.proofs.Ran.{load-same, made-is, project-is, merge-is, load-is}
+use Rattle.host_lists.specs.Numbers.{answered, walkAnswered, walkCarried, nextN, answeredBy, carriedBy, numberBy, IsAnswer}
+use Rattle.host_lists.specs.HostLists.{Host, MadeHosted, HostCall}
+use Rattle.host_lists.specs.HostFacts.{HostNumbers, HostKeeps, HostWalks, EveryCallRuns}
+use Rattle.host_lists.proofs.Numbers.{answers-of-calls, known}
+use Rattle.host_lists.proofs.Ran.{load-same, MadeIs, made-is, project-is, merge-is, load-is, OneIs, one-is}
 
 -- ---- the number
 
-told : (x : Result ℕ) (z : ℤ) → z ≡ hosted x → IsAnswer x → (z ≡ hosted (answered z)) × IsAnswer (answered z)
-told x z e h =
-    let same : answered z ≡ x = ap answered e ∙ answer-known x h in
-    (e ∙ ap hosted (sym same), subst IsAnswer (sym same) h)
-
-made-number : (kind : Kind) (b : Host) (scratch after kept : List ℕ) (z : ℤ) → MadeHosted kind b scratch after kept z
-    → z ≡ hosted (make kind (b .n) (b .plan) scratch (nodesOf (b .table)) .answer)
-unfolding makeBy
-made-number extractCall b scratch after kept z is = is .1
-made-number exchangeCall b scratch after kept z is = is .1
+-- The number by what is read off it, with its bounds.
+told : (b : Host) (c : Call) (a : Host) (z : ℤ) → HostCall b c a z → (x : Result ℕ) → IsAnswer x → answeredBy c z ≡ x
+    → carriedBy c z ≤ 2 * mostNodes - 1
+    → (z ≡ numberBy c (carriedBy c z) (answeredBy c z)) × IsAnswer (answeredBy c z) × (carriedBy c z ≤ 2 * mostNodes - 1)
+told b c a z is x h same few =
+    let one : OneIs b c a z = one-is b c a z is in
+    (one .number ∙ sym (ap₂ (numberBy c) (one .carries) (one .read)), subst IsAnswer (sym same) h, few)
 
 made-bytes : (kind : Kind) (b : Host) (scratch after kept : List ℕ) (z : ℤ) → MadeHosted kind b scratch after kept z → AllBytes (b .plan)
 made-bytes extractCall b scratch after kept z is = is .0
 made-bytes exchangeCall b scratch after kept z is = is .0
 
+-- A walk is at most 2,047.
+walk-few : (kind : Kind) (n : ℕ) (plan scratch : List ℕ) (table : List NodeRecord) → AllBytes plan
+    → walk kind n plan scratch table ≤ 2 * mostNodes - 1
+unfolding walkBy
+walk-few extractCall n plan scratch table bytes = walk-short matchLeaf n plan scratch table bytes
+walk-few exchangeCall n plan scratch table bytes = omega arith
+
 pub host-numbers : HostNumbers
 host-numbers b (loading frame) a z is =
-    told _ z (is .0 .1 0 .0) (answers-of-calls .0 frame 0 (b .plan) (nodesOf (b .table)) (is .0 .0))
+    let (r, o, same) = load-is frame (b .plan) (nodesOf (b .table)) (a .plan) (nodesOf (a .table)) z (is .0) in
+    told b (loading frame) a z is _ (answers-of-calls .0 frame 0 (b .plan) (nodesOf (b .table)) (is .0 .0))
+    (ap answered same ∙ known r ∙ sym (ap (λ (x : LoadOutcome). x .answer) (o 0))) (omega arith)
 host-numbers b (making c) a z is =
-    told _ z (made-number (c .kind) b (c .scratch) (a .plan) (is .0) z (is .1))
-    (answers-of-calls .1 (c .kind) (b .n) (b .plan) (c .scratch) (nodesOf (b .table))
-    (made-bytes (c .kind) b (c .scratch) (a .plan) (is .0) z (is .1)))
+    let m : MadeIs (c .kind) b (c .scratch) (a .plan) (is .0) z = made-is (c .kind) b (c .scratch) (a .plan) (is .0) z (is .1) in
+    let bytes : AllBytes (b .plan) = made-bytes (c .kind) b (c .scratch) (a .plan) (is .0) z (is .1) in
+    told b (making c) a z is _ (answers-of-calls .1 (c .kind) (b .n) (b .plan) (c .scratch) (nodesOf (b .table)) bytes)
+    (m .read ∙ sym (ap (λ (x : Outcome). x .answer) (m .is)))
+    (omega (arith, m .carries, walk-few (c .kind) (b .n) (b .plan) (c .scratch) (nodesOf (b .table)) bytes))
 host-numbers b (merging frame scratch) a z is =
-    told _ z (is .1 .2) (answers-of-calls .2 frame (b .n) (b .plan) scratch (nodesOf (b .table)))
+    let (r, o, same) =
+    merge-is frame (b .n) (b .plan) scratch (nodesOf (b .table)) (a .plan) (is .0) (nodesOf (a .table)) z (is .1) in
+    told b (merging frame scratch) a z is _ (answers-of-calls .2 frame (b .n) (b .plan) scratch (nodesOf (b .table)))
+    (ap answered same ∙ known r ∙ sym (ap (λ (x : MergeOutcome). x .answer) o)) (omega arith)
 host-numbers b (projecting scratch ofLeft ofRight) a z is =
-    told _ z (is .1 .1) (answers-of-calls .3 (b .n) (b .plan) scratch ofLeft ofRight (is .1 .0))
+    let (r, o, same) = project-is (b .n) (b .plan) scratch ofLeft ofRight (a .plan) (is .0) z (is .1) in
+    told b (projecting scratch ofLeft ofRight) a z is _ (answers-of-calls .3 (b .n) (b .plan) scratch ofLeft ofRight (is .1 .0))
+    (ap answered same ∙ known r ∙ sym (ap (λ (x : Outcome). x .answer) o)) (omega arith)
 
 -- ---- a refusal
 
--- n is kept by a number that is no length.
-same-n : (n : ℕ) (z : ℤ) → accepted (answered z) ≡ false → nextN n z ≡ n
+-- n is kept by an answer that is no length.
+same-n : (n : ℕ) (x : Result ℕ) → accepted x ≡ false → nextN n x ≡ n
 unfolding accepted
-same-n n (pos m) e = absurd (false≢true (sym e))
-same-n n (negsuc less) e = refl
+same-n n (ok m) e = absurd (false≢true (sym e))
+same-n n (refused number) e = refl
 
 -- The definition's answer is a refusal then.
 refused-is : (x : Result ℕ) (r : Answer) (z : ℤ) → z ≡ hosted (answerOf r) → x ≡ answerOf r → accepted (answered z) ≡ false
@@ -73,14 +89,14 @@ host-keeps b (loading frame) a z is h =
     let (r, o, same) = load-is frame (b .plan) (nodesOf (b .table)) (a .plan) (nodesOf (a .table)) z (is .0) in
     let kept = refused-keeps .0 frame 0 (b .plan) (nodesOf (b .table))
     (refused-is _ r z same (ap (λ (x : LoadOutcome). x .answer) (o 0)) h) in
-    (is .0 .1 0 .1 ∙ kept .1, refl, is .1 ∙ same-n (b .n) z h, is .0 .1 0 .2 ∙ kept .2)
+    (is .0 .1 0 .1 ∙ kept .1, refl, is .1 ∙ same-n (b .n) (answered z) h, is .0 .1 0 .2 ∙ kept .2)
 host-keeps b (making c) a z is h =
-    let (r, o, same) = made-is (c .kind) b (c .scratch) (a .plan) (is .0) z (is .1) in
+    let m : MadeIs (c .kind) b (c .scratch) (a .plan) (is .0) z = made-is (c .kind) b (c .scratch) (a .plan) (is .0) z (is .1) in
     let kept = refused-keeps .1 (c .kind) (b .n) (b .plan) (c .scratch) (nodesOf (b .table))
-    (refused-is _ r z same (ap (λ (x : Outcome). x .answer) o) h) in (
-      sym (ap (λ (x : Outcome). x .buffer) o) ∙ kept .1,
-      sym (ap (λ (x : Outcome). x .scratch) o) ∙ kept .2,
-      is .2 ∙ same-n (b .n) z h,
+    (ap accepted (ap (λ (x : Outcome). x .answer) (m .is) ∙ sym (m .read)) ∙ h) in (
+      sym (ap (λ (x : Outcome). x .buffer) (m .is)) ∙ kept .1,
+      sym (ap (λ (x : Outcome). x .scratch) (m .is)) ∙ kept .2,
+      is .2 ∙ same-n (b .n) (answeredBy (making c) z) h,
       ap nodesOf (is .3),
     )
 host-keeps b (merging frame scratch) a z is h =
@@ -88,12 +104,24 @@ host-keeps b (merging frame scratch) a z is h =
     merge-is frame (b .n) (b .plan) scratch (nodesOf (b .table)) (a .plan) (is .0) (nodesOf (a .table)) z (is .1) in
     let kept = merge-keeps frame (b .n) (b .plan) scratch (nodesOf (b .table))
     (refused-is _ r z same (ap (λ (x : MergeOutcome). x .answer) o) h) in
-    (is .1 .3 ∙ kept .1, is .1 .4 ∙ kept .2, is .2 ∙ same-n (b .n) z h, is .1 .5 ∙ kept .3)
+    (is .1 .3 ∙ kept .1, is .1 .4 ∙ kept .2, is .2 ∙ same-n (b .n) (answered z) h, is .1 .5 ∙ kept .3)
 host-keeps b (projecting scratch ofLeft ofRight) a z is h =
     let (r, o, same) = project-is (b .n) (b .plan) scratch ofLeft ofRight (a .plan) (is .0) z (is .1) in
     let lists : Lists = record { ofLeft = ofLeft; ofRight = ofRight } in
     let kept = project-keeps lists (b .n) (b .plan) scratch (refused-is _ r z same (ap (λ (x : Outcome). x .answer) o) h) in
-    (is .1 .2 ∙ kept .1, is .1 .3 ∙ kept .2, is .2 ∙ same-n (b .n) z h, ap nodesOf (is .3))
+    (is .1 .2 ∙ kept .1, is .1 .3 ∙ kept .2, is .2 ∙ same-n (b .n) (answered z) h, ap nodesOf (is .3))
+
+-- ---- the walk of an extract
+
+pub host-walks : HostWalks
+unfolding makeBy walkBy
+host-walks b scratch after kept z h =
+    let m : MadeIs extractCall b scratch after kept z = made-is extractCall b scratch after kept z h in
+    let o : Outcome = extract (b .n) (b .plan) scratch (nodesOf (b .table)) in
+    let answer : o .answer ≡ walkAnswered z = ap (λ (x : Outcome). x .answer) (m .is) ∙ sym (m .read) in
+    let walk : extractWalk (b .n) (b .plan) scratch (nodesOf (b .table)) ≡ walkCarried z = sym (m .carries) in
+    let known = walk-carried matchLeaf (b .n) (b .plan) scratch (nodesOf (b .table)) in
+    rw (answer, walk) at known
 
 -- ---- every call runs
 
@@ -123,7 +151,8 @@ made-runs : (kind : Kind) (b : Host) (scratch : List ℕ) → AllBytes (b .plan)
     → (after : List ℕ) × (kept : List ℕ) × (z : ℤ) × MadeHosted kind b scratch after kept z
 made-runs extractCall b scratch bytes =
     let o : Outcome = extract (b .n) (b .plan) scratch (nodesOf (b .table)) in
-    (o .buffer, o .scratch, hosted (o .answer), (bytes, refl, refl, refl))
+    let w : ℕ = extractWalk (b .n) (b .plan) scratch (nodesOf (b .table)) in
+    (o .buffer, o .scratch, hostedWalk w (o .answer), (bytes, refl, refl, refl))
 made-runs exchangeCall b scratch bytes =
     let o : Outcome = exchange (b .n) (b .plan) scratch in (o .buffer, o .scratch, hosted (o .answer), (bytes, refl, refl, refl))
 
@@ -132,7 +161,7 @@ every-call-runs b (loading frame) plan-bytes bytes =
     let table : List NodeRecord = nodesOf (b .table) in
     let o : LoadOutcome = load frame 0 (b .plan) table in
     let z : ℤ = hosted (o .answer) in (
-      record { plan = o .buffer; n = nextN (b .n) z; table = map rawOf (o .table) },
+      record { plan = o .buffer; n = nextN (b .n) (answered z); table = map rawOf (o .table) },
       z,
       (
         (
@@ -148,15 +177,18 @@ every-call-runs b (loading frame) plan-bytes bytes =
     )
 every-call-runs b (making c) plan-bytes bytes =
     let (after, kept, z, is) = made-runs (c .kind) b (c .scratch) plan-bytes in
-    (record { plan = after; n = nextN (b .n) z; table = b .table }, z, (kept, is, refl, refl))
+    (record { plan = after; n = nextN (b .n) (answeredBy (making c) z); table = b .table }, z, (kept, is, refl, refl))
 every-call-runs b (merging frame scratch) plan-bytes bytes =
     let o : MergeOutcome = merge frame (b .n) (b .plan) scratch (nodesOf (b .table)) in
     let z : ℤ = hosted (o .answer) in (
-      record { plan = o .buffer; n = nextN (b .n) z; table = map rawOf (o .table) },
+      record { plan = o .buffer; n = nextN (b .n) (answered z); table = map rawOf (o .table) },
       z,
       (o .scratch, (bytes, plan-bytes, refl, refl, refl, raw-back (o .table)), refl),
     )
 every-call-runs b (projecting scratch ofLeft ofRight) plan-bytes bytes =
     let o : Outcome = project (b .n) (b .plan) scratch ofLeft ofRight in
-    let z : ℤ = hosted (o .answer) in
-    (record { plan = o .buffer; n = nextN (b .n) z; table = b .table }, z, (o .scratch, (plan-bytes, refl, refl, refl), refl, refl))
+    let z : ℤ = hosted (o .answer) in (
+      record { plan = o .buffer; n = nextN (b .n) (answered z); table = b .table },
+      z,
+      (o .scratch, (plan-bytes, refl, refl, refl), refl, refl),
+    )

@@ -1,6 +1,6 @@
 -- A host's run from a load or merge is the code's run, so all of demand 3 holds of it, and of any history.
 use Prim.Native.Nat.{ℕ}
-use mathlib.Core.Path.{_≡_, refl, sym, ap, _∙_, subst}
+use mathlib.Core.Path.{_≡_, refl, sym, ap, ap₂, _∙_, subst}
 use mathlib.Core.Bool.{true, false, _&&_, not}
 use mathlib.Core.List.{List, [], _∷_, map}
 use mathlib.Core.Option.{some}
@@ -23,20 +23,21 @@ use Rattle.definitions.specs.Merge.{mergeFrames, merge}
 use Rattle.definitions.specs.Project.{Lists as ChildLists}
 use Rattle.definitions.specs.OddMachine.{oddRun}
 use Rattle.definitions.specs.ProjectClaims.{NewColumns, projectBy, OddAgree}
-use Rattle.definitions.specs.History.{Call, making, nothing, statePlan, History, machineHistory, FramesAreBytes}
+use Rattle.definitions.specs.History.{Call, making, nothing, statePlan, History, machineHistory}
 use Rattle.definitions.specs.Hosts.{hosted}
-use Rattle.join_filter.specs.Outcomes.{answerOf, LoadIs, OutcomeIs, MergeIs}
-use Rattle.join_filter.specs.Lists.{Ran, ranTo, Starts, byLoad as code-by-load, byMerge as code-by-merge, CodeRun, outcome as code-outcome, DemandThree, AfterProjection, ProjectIs}
+use Rattle.join_filter.specs.Outcomes.{LoadIs, OutcomeIs, MergeIs}
+use Rattle.join_filter.specs.Lists.{Ran, given, carried, ranTo, Starts, byLoad as code-by-load, byMerge as code-by-merge, CodeRun, outcome as code-outcome, DemandThree, AfterProjection, ProjectIs}
 use Rattle.join_filter.specs.declared.answers.Answer.{Answer}
 use Rattle.join_filter.specs.declared.answers.Answer.the-variants.{Length}
+use Rattle.join_filter.specs.declared.answers.Extracted.{Extracted}
 use Rattle.join_filter.proofs.DemandThree.{code-meets-demand-three, demand-three}
 use Rattle.node_table.specs.Records.{nodesOf, nodeOf}
 use Rattle.node_table.specs.declared.NodeRecord.{NodeRecord as TableRecord}
 use Rattle.host_calls.specs.Hosted.{LoadHosted, MergeHosted}
-use Rattle.host_lists.specs.Numbers.{answered}
-use Rattle.host_lists.specs.HostLists.{Host, MadeHosted, HostRan, hostTo, HostStarts, byLoad, byMerge, HostRun, outcome, plan, extracted, odd, ProjectHosted, HostDemandThree, HostProjected, HostsMeetDemandThree}
-use Rattle.host_lists.proofs.Numbers.{known}
-use Rattle.host_lists.proofs.Ran.{lentOf, made-is, project-is, merge-is, load-is, host-ran, frames-bytes, hosted-all, outcomes-same, length-told}
+use Rattle.host_lists.specs.Numbers.{answered, walkAnswered, numbersBy}
+use Rattle.host_lists.specs.HostLists.{Host, MadeHosted, HostRan, hostTo, madeTo, HostStarts, byLoad, byMerge, HostRun, outcome, plan, extracted, odd, ProjectHosted, HostDemandThree, HostProjected, machineWalks, HostsMeetDemandThree}
+use Rattle.host_lists.proofs.Ran.{lentOf, MadeIs, made-is, project-is, merge-is, load-is, RanAs, host-ran, frames-bytes, outcomes-same, length-told}
+use Rattle.host_lists.proofs.Walked.{none-carried, numbers-alone, Told, history-told}
 
 -- ---- a call that gave a length
 
@@ -72,17 +73,16 @@ starts-is F a (byMerge frame n before scratch kept table old new given found joi
 module _ (F : Frame) where
   -- The code's run of a host's.
   abbrev code-run : {calls : List Made} (r : HostRun F calls) → CodeRun F calls
-  code-run r =
-      let (answers, ran, same) = host-ran (r .ran) in record {
-        start = lentOf (r .start);
-        starts = starts-is F (r .start) (r .starts);
-        answers = answers;
-        last = lentOf (r .last);
-        ran = ran;
-      }
+  code-run r = record {
+    start = lentOf (r .start);
+    starts = starts-is F (r .start) (r .starts);
+    answers = host-ran (r .ran) .answers;
+    last = lentOf (r .last);
+    ran = host-ran (r .ran) .ran;
+  }
 
   same-outcome : {calls : List Made} (r : HostRun F calls) → code-outcome (code-run r) ≡ outcome r
-  same-outcome r = outcomes-same (r .numbers) (host-ran (r .ran) .0) (r .last) (host-ran (r .ran) .2)
+  same-outcome r = outcomes-same (host-ran (r .ran))
 
   -- What is told of the code's runs by their outcome is told of a host's.
   told : {calls : List Made} (P : ListOutcome → Type 0) → ((c : CodeRun F calls) → P (code-outcome c)) → (r : HostRun F calls)
@@ -92,9 +92,11 @@ module _ (F : Frame) where
   code : DemandThree F
   code = demand-three F
 
-  numbers-are : (calls : List Made) (r : HostRun F calls) → r .numbers ≡ map hosted (machineAfter F calls .answers)
+  numbers-are : (calls : List Made) (r : HostRun F calls)
+      → r .numbers ≡ numbersBy (map making calls) (machineAfter F calls .walks) (machineAfter F calls .answers)
   numbers-are calls r =
-      host-ran (r .ran) .2 ∙ hosted-all (host-ran (r .ran) .0) ∙ ap (map hosted) (code .machine calls (code-run r) .answers)
+      let agrees : Agree F (code-outcome (code-run r)) (machineAfter F calls) = code .machine calls (code-run r) in
+      host-ran (r .ran) .numbered ∙ ap₂ (numbersBy (map making calls)) (agrees .walks) (agrees .answers)
 
   plans-alike : (calls calls′ : List Made) (r : HostRun F calls) (r′ : HostRun F calls′)
       → extracted r ≡ extracted r′ → odd r ≡ odd r′ → plan r ≡ plan r′
@@ -106,39 +108,36 @@ module _ (F : Frame) where
       → planLeft (code-outcome (code-run r)) ≡ planLeft y) (same-outcome r′)
       (code .samePlan calls calls′ (code-run r) (code-run r′)))
 
-  -- Whether the number is a length is whether the code's answer is.
-  accepted-by : (r : Answer) (z : ℤ) → z ≡ hosted (answerOf r) → accepted (answered z) ≡ accepted (answerOf r)
-  accepted-by r z e = ap (λ (x : ℤ). accepted (answered x)) e ∙ ap accepted (known r)
-
   exchange-accepted : (calls : List Made) (r : HostRun F calls) (scratch after kept : List ℕ) (z : ℤ)
       → MadeHosted exchangeCall (r .last) scratch after kept z → accepted (answered z) ≡ leb (r .last .n) (length scratch)
   exchange-accepted calls r scratch after kept z h =
-      let (a, is, same) = made-is exchangeCall (r .last) scratch after kept z h in
-      accepted-by a z same ∙ code .exchangeAccepted calls (code-run r) scratch after kept a is
+      let m : MadeIs exchangeCall (r .last) scratch after kept z = made-is exchangeCall (r .last) scratch after kept z h in
+      ap accepted (m .read) ∙ code .exchangeAccepted calls (code-run r) scratch after kept (m .answer) (m .is)
 
   extract-accepted : (calls : List Made) (r : HostRun F calls) (scratch after kept : List ℕ) (z : ℤ)
       → MadeHosted extractCall (r .last) scratch after kept z
-      → accepted (answered z) ≡ (leb (r .last .n) (length scratch) && (not (extracted r) && someLeafMatches F))
+      → accepted (walkAnswered z) ≡ (leb (r .last .n) (length scratch) && (not (extracted r) && someLeafMatches F))
   extract-accepted calls r scratch after kept z h =
-      let (a, is, same) = made-is extractCall (r .last) scratch after kept z h in
-      accepted-by a z same ∙ code .extractAccepted calls (code-run r) scratch after kept a is
+      let m : MadeIs extractCall (r .last) scratch after kept z = made-is extractCall (r .last) scratch after kept z h in
+      ap accepted (m .read) ∙ code .extractAccepted calls (code-run r) scratch after kept (m .answer) (m .is)
       ∙ ap (λ (x : ListOutcome). leb (r .last .n) (length scratch) && (not (extractAccepted calls (x .answers)) && someLeafMatches F))
       (same-outcome r)
 
   value-projected : (M : Meaning) → Fair M → (v w : Valuation) (calls : List Made) (r : HostRun F calls)
       (lists : ChildLists) (scratch kept : List ℕ) (a : Host) → ProjectHosted lists (r .last) scratch kept a
       → (later : List Made) (numbers : List ℤ) (last : Host) → HostRan a (map making later) numbers last
-      → NewColumns lists (valuesWhen (odd r) v) (valuesWhen (exchangesOdd later (map answered numbers)) w)
-      → HasValue M w (planLeft (hostTo numbers last)) (frameValue M v F)
+      → NewColumns lists (valuesWhen (odd r) v) (valuesWhen (exchangesOdd later (madeTo later numbers last .answers)) w)
+      → HasValue M w (planLeft (madeTo later numbers last)) (frameValue M v F)
   value-projected M fair v w calls r lists scratch kept a is later numbers last ran =
-      let (answers, code-ran, same) = host-ran ran in
+      let code-ran : RanAs a (map making later) numbers last = host-ran ran in
       subst (λ (y : ListOutcome). NewColumns lists (valuesWhen (odd r) v) (valuesWhen (exchangesOdd later (y .answers)) w)
-      → HasValue M w (planLeft y) (frameValue M v F)) (outcomes-same numbers answers last same)
+      → HasValue M w (planLeft y) (frameValue M v F)) (outcomes-same code-ran)
       (subst (λ (x : ListOutcome). NewColumns lists (valuesWhen (exchangesOdd calls (x .answers)) v)
-      (valuesWhen (exchangesOdd later (map answerOf answers)) w) → HasValue M w (planLeft (ranTo answers (lentOf last))) (frameValue M v F))
+      (valuesWhen (exchangesOdd later (given (code-ran .answers))) w) → HasValue M w (planLeft (ranTo (code-ran .answers) (lentOf last)))
+      (frameValue M v F))
       (same-outcome r)
       (code .projected M fair v w calls (code-run r) lists scratch kept (lentOf a) (project-length lists (r .last) scratch kept a is) later
-      answers (lentOf last) code-ran))
+      (code-ran .answers) (lentOf last) (code-ran .ran)))
 
   pub host-demand-three : HostDemandThree F
   host-demand-three = record {
@@ -167,19 +166,27 @@ module _ (F : Frame) where
 -- ---- after a projection
 
 module _ (lists : ChildLists) (X Y : Extraction) (a : Host) (code : AfterProjection lists X Y (lentOf a)) where
-  projected-told : (calls : List Made) (numbers : List ℤ) (last : Host) → HostRan a (map making calls) numbers last
-      → (P : ListOutcome → Type 0)
-      → ((answers : List Answer) → Ran (lentOf a) (map making calls) answers (lentOf last) → P (ranTo answers (lentOf last)))
-      → P (hostTo numbers last)
-  projected-told calls numbers last ran P h =
-      let (answers, code-ran, same) = host-ran ran in
-      subst P (outcomes-same numbers answers last same) (h answers code-ran)
+  module _ (calls : List Made) (numbers : List ℤ) (last : Host) (ran : HostRan a (map making calls) numbers last) where
+    code-ran : RanAs a (map making calls) numbers last
+    code-ran = host-ran ran
 
-  projected-numbers : (calls : List Made) (numbers : List ℤ) (last : Host) → HostRan a (map making calls) numbers last
-      → numbers ≡ map hosted (oddRun Y false (map fed calls) .answers)
-  projected-numbers calls numbers last ran =
-      let (answers, code-ran, same) = host-ran ran in
-      same ∙ hosted-all answers ∙ ap (map hosted) (code .machine calls answers (lentOf last) code-ran .answers)
+    projected-told : (P : ListOutcome → Type 0)
+        → ((answers : List Extracted) → Ran (lentOf a) (map making calls) answers (lentOf last) → P (ranTo answers (lentOf last)))
+        → P (madeTo calls numbers last)
+    projected-told P h = subst P (outcomes-same code-ran) (h (code-ran .answers) (code-ran .ran))
+
+    answers-are : given (code-ran .answers) ≡ oddRun Y false (map fed calls) .answers
+    answers-are = code .machine calls (code-ran .answers) (lentOf last) (code-ran .ran) .answers
+
+    walks-are : carried (code-ran .answers) ≡ map (λ c. 0) calls
+    walks-are = none-carried Y calls false (code-ran .ran) answers-are
+
+    projected-numbers : numbers ≡ map hosted (oddRun Y false (map fed calls) .answers)
+    projected-numbers =
+        code-ran .numbered ∙ ap₂ (numbersBy (map making calls)) walks-are answers-are ∙ numbers-alone Y calls false
+
+    projected-walks : madeTo calls numbers last .walks ≡ map (λ c. 0) calls
+    projected-walks = code-ran .carries ∙ walks-are
 
   host-projected : HostProjected lists X Y a
   host-projected = record {
@@ -187,6 +194,7 @@ module _ (lists : ChildLists) (X Y : Extraction) (a : Host) (code : AfterProject
     machine = λ calls numbers last ran.
         projected-told calls numbers last ran (λ (x : ListOutcome). OddAgree Y x (oddRun Y false (map fed calls)))
         (λ answers code-ran. code .machine calls answers (lentOf last) code-ran);
+    walks = projected-walks;
     truth = λ M fair v w calls numbers last ran.
         projected-told calls numbers last ran
         (λ (x : ListOutcome). NewColumns lists v (valuesWhen (exchangesOdd calls (x .answers)) w)
@@ -199,14 +207,21 @@ module _ (lists : ChildLists) (X Y : Extraction) (a : Host) (code : AfterProject
 host-history : (plan : List ℕ) (table : List TableRecord) (calls : List Call) (numbers : List ℤ) (last : Host)
     → HostRan (record { plan = plan; n = 0; table = table }) calls numbers last
     → let m : History = machineHistory matchLeaf (length plan) (length table) nothing calls in
-    (numbers ≡ map hosted (m .answers)) × (take (last .n) (last .plan) ≡ planBytes (statePlan matchLeaf (m .state)))
+    let walks : List ℕ = machineWalks (length plan) (length table) nothing calls in
+    (numbers ≡ numbersBy calls walks (m .answers)) × (hostTo calls numbers last .answers ≡ m .answers)
+    × (hostTo calls numbers last .walks ≡ walks) × (take (last .n) (last .plan) ≡ planBytes (statePlan matchLeaf (m .state)))
     × (last .n ≡ length (planBytes (statePlan matchLeaf (m .state)))) × (length (last .plan) ≡ length plan)
     × (length (last .table) ≡ length table) × (tableFits (nodesOf (last .table)) (ok (statePlan matchLeaf (m .state))) ≡ true)
 host-history plan table calls numbers last ran =
-    let (answers, code-ran, same) = host-ran ran in
-    let h = code-meets-demand-three .history plan (nodesOf table) calls answers (lentOf last) (frames-bytes ran) code-ran in
-    let k = rw (length-map table nodeOf) at h in (
-      same ∙ hosted-all answers ∙ ap (map hosted) (k .0),
+    let code-ran = host-ran ran in
+    let bytes = frames-bytes ran in
+    let h = code-meets-demand-three .history plan (nodesOf table) calls (code-ran .answers) (lentOf last) bytes (code-ran .ran) in
+    let k = rw (length-map table nodeOf) at h in
+    let t : Told (length plan) (length table) nothing calls numbers =
+    history-told (length plan) (length table) ran bytes nothing (refl, (refl, length-map table nodeOf)) in (
+      t .numbered,
+      code-ran .read ∙ k .0,
+      t .carries,
       k .1,
       k .2,
       k .3,
@@ -233,7 +248,8 @@ hosts-meet-demand-three = record {
       );
   afterProjection = λ lists b scratch kept a is.
       let (X, Y, found, new, size, after) =
-      code-meets-demand-three .afterProjection lists (lentOf b) scratch kept (lentOf a) (is .0) (project-length lists b scratch kept a is) in
+      code-meets-demand-three .afterProjection lists (lentOf b) scratch kept (lentOf a) (is .0)
+      (project-length lists b scratch kept a is) in
       (X, Y, found, new, size, host-projected lists X Y a after);
   history = host-history;
 }

@@ -23,7 +23,7 @@ use Rattle.theorems.proofs.ListTheorem.{written-held}
 use Rattle.theorems.proofs.MergeCall.{same-held}
 use Rattle.theorems.proofs.Proved.{list-of-calls, machines-agree, merge-holds}
 use Rattle.node_table.specs.Records.{nodesOf}
-use Rattle.host_lists.specs.Numbers.{answered}
+use Rattle.host_lists.specs.Numbers.{walkAnswered}
 use Rattle.host_lists.specs.HostLists.{Host, MadeHosted, HostStarts, byLoad, byMerge, HostRun, outcome, plan, extracted, odd}
 use Rattle.host_lists.specs.HostsAgree.{HostsAgree}
 use Rattle.host_lists.proofs.HostLists.{merge-length, host-demand-three}
@@ -97,7 +97,7 @@ and-true false = refl
 
 never-mixed : (F : Frame) (calls calls′ : List Made) (r : HostRun F calls) (r′ : HostRun F calls′)
     → extracted r ≡ true → extracted r′ ≡ false → (scratch after kept : List ℕ) (z : ℤ)
-    → MadeHosted extractCall (r′ .last) scratch after kept z → accepted (answered z) ≡ leb (r′ .last .n) (length scratch)
+    → MadeHosted extractCall (r′ .last) scratch after kept z → accepted (walkAnswered z) ≡ leb (r′ .last .n) (length scratch)
 never-mixed F calls calls′ r r′ e e′ scratch after kept z is =
     let (X, took, holds) = host-demand-three F .pick calls r e in
     host-demand-three F .extractAccepted calls′ r′ scratch after kept z is

@@ -27,7 +27,8 @@ use Rattle.theorems.proofs.Histories.{HoldsState, CallAgrees, state-left, state
 use Rattle.hexadecimal.proofs.DigitLaws.{value-below}
 use Rattle.lines.specs.Answers.{lengthAfter, keptAs}
 use Rattle.host_lists.specs.LineLists.{MachineLine, refuseLine, lineOfCall, programCall, machineCallLine, machineLineOf, machineReads, machineLine, MachineLines, machineLines, written, ProgramIsMachine, LinesRan, noLine, oneLine, LinesMeetDemandThree}
-use Rattle.host_lists.proofs.Ran.{nOf, load-n, make-n}
+use Rattle.host_lists.specs.Numbers.{nextN}
+use Rattle.host_lists.proofs.Ran.{load-n, make-n}
 
 -- ---- a line's digits are bytes
 
@@ -84,13 +85,13 @@ unfolding refusedLine
 refusal-agrees number s k h = record { answer = refl; stands = h }
 
 -- The bytes that are answered are the machine's plan.
-plan-out : (x : Result ℕ) (n m : ℕ) (buffer plan : List ℕ) → m ≡ nOf n x → take m buffer ≡ plan
+plan-out : (x : Result ℕ) (n m : ℕ) (buffer plan : List ℕ) → m ≡ nextN n x → take m buffer ≡ plan
     → mapResult (λ k. take k buffer) x ≡ mapResult (λ k. plan) x
 plan-out (ok k) n m buffer plan e f = ap ok (subst (λ (j : ℕ). take j buffer ≡ plan) e f)
 plan-out (refused number) n m buffer plan e f = refl
 
 -- An outcome that agrees with the machine's call.
-call-line : (a : Answered) (n : ℕ) (o : LoadOutcome) → CallAgrees match-laws mostBytes mostNodes a o → o .n ≡ nOf n (o .answer)
+call-line : (a : Answered) (n : ℕ) (o : LoadOutcome) → CallAgrees match-laws mostBytes mostNodes a o → o .n ≡ nextN n (o .answer)
     → LineAgrees (lineOfCall a) (record {
       answer = mapResult (λ k. take k (o .buffer)) (o .answer);
       kept = record { n = o .n; buffer = o .buffer };

@@ -1,5 +1,6 @@
--- From a number the answer is known, because a refusal's number is from 1 to 20; and every call answers a short length or such a refusal.
-use Prim.Native.Nat.{ℕ, zero, suc, _≤_}
+-- From a number the answer is known, and with extract the walk, because a refusal's number is from 1 to 20 and a length short; and every
+-- call answers a short length or such a refusal.
+use Prim.Native.Nat.{ℕ, zero, suc, _+_, _*_, _/_, _%_, _≤_}
 use native.Mathlib.Omega.{arith}
 use mathlib.Core.Path.{_≡_, refl, sym, ap, _∙_, subst}
 use mathlib.Core.Bool.{Bool, true, false, _||_, false≢true}
@@ -14,27 +15,23 @@ use Rattle.definitions.specs.Good.{AllBytes}
 use Rattle.definitions.specs.NodeTable.{NodeRecord}
 use Rattle.definitions.specs.Sessions.{makeBy, make, accepted}
 use Rattle.definitions.specs.Merge.{merge}
-use Rattle.definitions.specs.Hosts.{hosted}
+use Rattle.definitions.specs.Hosts.{hosted, hostedWalk}
 use Rattle.definitions.specs.Claims.{loadRefusals, extractRefusals, exchangeRefusals, mergeRefusals, projectRefusals, RefusedBy}
 use Rattle.theorems.proofs.InverseFrame.{same-ok}
 use Rattle.theorems.proofs.Proved.{lengths-short, refusals-of-calls, merge-writes}
 use Rattle.terms.specs.Refusals.{numberOf}
 use Rattle.terms.specs.declared.refusals.Refusal.{Refusal}
 use Rattle.terms.specs.declared.refusals.Refusal.the-variants.{EmptyOrTooLong, WrongFirstByte, EndsInsideField, OutOfRange, TooManyOrTooDeep, NoSuchColumn, BytesAfterEnd, TooFewArguments, BufferTooShort, NoGoodPlan, PlanEmpty, AlreadyExtracted, NoLeafMatches, NotHexadecimal, TextBufferTooShort, MergedTooLarge, TableTooShort, NotExtracted, ListTooLong, NoSuchChild}
-use Rattle.join_filter.specs.Outcomes.{answerOf, nAfter}
+use Rattle.join_filter.specs.Outcomes.{answerOf}
 use Rattle.join_filter.specs.declared.answers.Answer.{Answer}
 use Rattle.join_filter.specs.declared.answers.Answer.the-variants.{Length, Refused}
-use Rattle.host_lists.specs.Numbers.{answered, nextN, IsAnswer, AnswerKnown, NumbersApart, AnswersOfCalls}
+use Rattle.host_lists.specs.Numbers.{answered, walkAnswered, walkCarried, IsAnswer, AnswerKnown, NumbersApart, WalkKnown, WalkNumbersApart, WithoutWalk, AnswersOfCalls}
 
 -- ---- minus a refusal's number
 
 known-refusal : (k : ℕ) → 1 ≤ k → answered (negℤ (pos k)) ≡ refused k
 known-refusal zero h = absurd (omega (arith, h))
 known-refusal (suc k) h = refl
-
-same-n : (n k : ℕ) → 1 ≤ k → nextN n (negℤ (pos k)) ≡ n
-same-n n zero h = absurd (omega (arith, h))
-same-n n (suc k) h = refl
 
 pub answer-known : AnswerKnown
 unfolding hosted
@@ -43,6 +40,30 @@ answer-known (refused k) h = known-refusal k (h .0)
 
 pub numbers-apart : NumbersApart
 numbers-apart a b h k e = sym (answer-known a h) ∙ ap answered e ∙ answer-known b k
+
+-- ---- extract's number
+
+walk-refusal : (k : ℕ) → 1 ≤ k → (walkAnswered (negℤ (pos k)) ≡ refused (k % 256)) × (walkCarried (negℤ (pos k)) ≡ k / 256)
+walk-refusal zero h = absurd (omega (arith, h))
+walk-refusal (suc k) h = (refl, refl)
+
+pub walk-known : WalkKnown
+unfolding hostedWalk
+walk-known w (ok m) h = (ap ok (omega arith), omega arith)
+walk-known w (refused k) h =
+    let (a, c) = walk-refusal (w * 256 + k) (omega arith) in
+    (a ∙ ap refused (omega arith), c ∙ omega arith)
+
+pub walk-numbers-apart : WalkNumbersApart
+walk-numbers-apart w w′ a b h k e =
+    let one = walk-known w a h in
+    let two = walk-known w′ b k in
+    (sym (one .1) ∙ ap walkCarried e ∙ two .1, sym (one .0) ∙ ap walkAnswered e ∙ two .0)
+
+pub without-walk : WithoutWalk
+unfolding hosted hostedWalk
+without-walk (ok m) = ap pos (omega arith)
+without-walk (refused k) = let same : 0 * 256 + k ≡ k = omega arith in ap (λ (j : ℕ). negℤ (pos j)) same
 
 -- ---- the refusals
 
@@ -73,11 +94,6 @@ pub known : (r : Answer) → answered (hosted (answerOf r)) ≡ answerOf r
 unfolding hosted
 known (Length m) = refl
 known (Refused why) = known-refusal (numberOf why) (from-1-to-20 why .0)
-
-pub next-is : (n : ℕ) (r : Answer) → nextN n (hosted (answerOf r)) ≡ nAfter n r
-unfolding hosted
-next-is n (Length m) = refl
-next-is n (Refused why) = same-n n (numberOf why) (from-1-to-20 why .0)
 
 -- ---- each refusal of a call by its name
 

@@ -1,16 +1,22 @@
 -- One exported call of a host: demand 1 of it, and that every call runs.
-use Prim.Native.Nat.{ℕ}
+use Prim.Native.Nat.{ℕ, _*_, _-_, _≤_}
 use mathlib.Core.Path.{_≡_}
-use mathlib.Core.Bool.{false}
+use mathlib.Core.Bool.{true, false}
 use mathlib.Core.List.{List, []}
 use lib.IntN.{ℤ}
+use lib.Dec.{eqb}
+use Rattle.definitions.specs.Limits.{mostNodes}
+use Rattle.definitions.specs.Basics.{ok, refused}
+use Rattle.definitions.specs.Expression.{Frame, held}
+use Rattle.definitions.specs.OneWalk.{walkLength}
+use Rattle.definitions.specs.Calls.{heldPlan}
+use Rattle.definitions.specs.Machine.{extractCall}
 use Rattle.definitions.specs.Good.{AllBytes}
 use Rattle.definitions.specs.Sessions.{accepted}
 use Rattle.definitions.specs.History.{Call, loading, making, merging, projecting, FrameIsBytes}
-use Rattle.definitions.specs.Hosts.{hosted}
 use Rattle.node_table.specs.Records.{nodesOf}
-use Rattle.host_lists.specs.Numbers.{answered, IsAnswer}
-use Rattle.host_lists.specs.HostLists.{Host, HostCall}
+use Rattle.host_lists.specs.Numbers.{walkAnswered, walkCarried, answeredBy, carriedBy, numberBy, IsAnswer}
+use Rattle.host_lists.specs.HostLists.{Host, MadeHosted, HostCall}
 
 -- The scratch that a call is lent; load has none.
 abbrev pub scratchOf : Call → List ℕ
@@ -26,17 +32,25 @@ scratchLeft b (making c) a z is = is .0
 scratchLeft b (merging frame scratch) a z is = is .0
 scratchLeft b (projecting scratch ofLeft ofRight) a z is = is .0
 
--- Demand 1: every number is a length of at most 16,384, or minus one of the refusals 1 to 20.
+-- Demand 1: every number is that of a length of at most 16,384 or of one of the refusals 1 to 20, extract's with a walk of at most 2,047.
 abbrev pub HostNumbers : Type 0
 HostNumbers =
     (b : Host) (c : Call) (a : Host) (z : ℤ) → HostCall b c a z
-    → (z ≡ hosted (answered z)) × IsAnswer (answered z)
+    → (z ≡ numberBy c (carriedBy c z) (answeredBy c z)) × IsAnswer (answeredBy c z) × (carriedBy c z ≤ 2 * mostNodes - 1)
 
 -- Demand 1: a refused call changes neither plan nor scratch, nor n, nor the table's records.
 abbrev pub HostKeeps : Type 0
 HostKeeps =
-    (b : Host) (c : Call) (a : Host) (z : ℤ) (is : HostCall b c a z) → accepted (answered z) ≡ false
+    (b : Host) (c : Call) (a : Host) (z : ℤ) (is : HostCall b c a z) → accepted (answeredBy c z) ≡ false
     → (a .plan ≡ b .plan) × (scratchLeft b c a z is ≡ scratchOf c) × (a .n ≡ b .n) × (nodesOf (a .table) ≡ nodesOf (b .table))
+
+-- Request 10: the walk that is read off an extract's number is that of the frame that is held, with a length and with 13, else 0.
+abbrev pub HostWalks : Type 0
+HostWalks =
+    (b : Host) (scratch after kept : List ℕ) (z : ℤ) → MadeHosted extractCall b scratch after kept z
+    → (accepted (walkAnswered z) ≡ true → (F : Frame) × (heldPlan (b .n) (b .plan) ≡ ok (held F)) × (walkCarried z ≡ walkLength F))
+    × (walkAnswered z ≡ refused 13 → (F : Frame) × (heldPlan (b .n) (b .plan) ≡ ok (held F)) × (walkCarried z ≡ walkLength F))
+    × ((number : ℕ) → walkAnswered z ≡ refused number → eqb number 13 ≡ false → walkCarried z ≡ 0)
 
 -- From every host whose plan buffer holds bytes every call with a frame of bytes runs: what is claimed of calls is claimed of something.
 abbrev pub EveryCallRuns : Type 0

@@ -13,9 +13,8 @@ use Rattle.definitions.specs.Encode.{frameBytes, planBytes}
 use Rattle.definitions.specs.Plans.{frameOf}
 use Rattle.definitions.specs.Match.{matchLeaf}
 use Rattle.definitions.specs.Extract.{matchesOf}
-use Rattle.definitions.specs.Calls.{tableFits, heldPlan, extract, exchange}
-use Rattle.definitions.specs.Machine.{Kind, extractCall, exchangeCall}
-use Rattle.definitions.specs.Good.{AllBytes}
+use Rattle.definitions.specs.Calls.{tableFits, heldPlan, extract, exchange, extractWalk}
+use Rattle.definitions.specs.Machine.{Kind, extractCall, exchangeCall, machineStep}
 use Rattle.definitions.specs.Sessions.{Made, fed, ListOutcome, machineAfter, accepted, extractAccepted, exchangesOdd, planLeft}
 use Rattle.definitions.specs.Meaning.{Valuation, Meaning, Fair, frameValue, extractionValue}
 use Rattle.definitions.specs.Claims.{Agree, someLeafMatches, Took, extractedPlan, NamesLeaf, priceLine}
@@ -24,12 +23,12 @@ use Rattle.definitions.specs.Merge.{mergeFrames, merge}
 use Rattle.definitions.specs.Project.{projection, project, Lists as ChildLists}
 use Rattle.definitions.specs.OddMachine.{oddRun}
 use Rattle.definitions.specs.ProjectClaims.{NewColumns, projectBy, OddAgree}
-use Rattle.definitions.specs.History.{Call, loading, making, merging, projecting, nothing, statePlan, History, machineHistory, FramesAreBytes}
+use Rattle.definitions.specs.History.{Call, loading, making, merging, projecting, State, nothing, started, projected, statePlan, machineCall, History, machineHistory}
 use Rattle.definitions.specs.Hosts.{hosted}
 use Rattle.node_table.specs.Records.{nodesOf}
 use Rattle.node_table.specs.declared.NodeRecord.{NodeRecord as TableRecord}
-use Rattle.host_calls.specs.Hosted.{LoadHosted, CallHosted, MergeHosted}
-use Rattle.host_lists.specs.Numbers.{answered, nextN}
+use Rattle.host_calls.specs.Hosted.{LoadHosted, CallHosted, ExtractHosted, MergeHosted}
+use Rattle.host_lists.specs.Numbers.{answered, walkAnswered, nextN, answeredBy, answersBy, walksBy, numbersBy}
 
 -- ---- a host, and its calls
 
@@ -41,24 +40,28 @@ pub record Host : Type 0 where
 
 -- `spatialjoin_extract` or `spatialjoin_exchange` met its contract.
 abbrev pub MadeHosted : Kind → Host → (scratch after kept : List ℕ) → ℤ → Type 0
-MadeHosted extractCall b scratch after kept z = CallHosted (b .plan) (extract (b .n) (b .plan) scratch (nodesOf (b .table))) after kept z
+MadeHosted extractCall b scratch after kept z =
+    ExtractHosted (b .plan) (extract (b .n) (b .plan) scratch (nodesOf (b .table)))
+    (extractWalk (b .n) (b .plan) scratch (nodesOf (b .table))) after kept z
 MadeHosted exchangeCall b scratch after kept z = CallHosted (b .plan) (exchange (b .n) (b .plan) scratch) after kept z
 
 -- A call of `spatialjoin_load`, `_extract`, `_exchange`, `_merge` or `_project` met its contract, was given what the first host owns, gave
--- this number, and left what the second owns. n is the host's to keep. Extract is lent the table and cannot write it; exchange and project
--- are not lent it.
+-- this number, and left what the second owns. n is the host's to keep, by the answer that it reads off the number. Extract is lent the
+-- table and cannot write it; exchange and project are not lent it.
 abbrev pub HostCall : Host → Call → Host → ℤ → Type 0
 HostCall b (loading frame) a z =
-    LoadHosted frame (b .plan) (nodesOf (b .table)) (a .plan) (nodesOf (a .table)) z × (a .n ≡ nextN (b .n) z)
+    LoadHosted frame (b .plan) (nodesOf (b .table)) (a .plan) (nodesOf (a .table)) z
+    × (a .n ≡ nextN (b .n) (answeredBy (loading frame) z))
 HostCall b (making c) a z =
-    (kept : List ℕ) × MadeHosted (c .kind) b (c .scratch) (a .plan) kept z × (a .n ≡ nextN (b .n) z) × (a .table ≡ b .table)
+    (kept : List ℕ) × MadeHosted (c .kind) b (c .scratch) (a .plan) kept z
+    × (a .n ≡ nextN (b .n) (answeredBy (making c) z)) × (a .table ≡ b .table)
 HostCall b (merging frame scratch) a z =
     (kept : List ℕ)
     × MergeHosted frame (b .plan) (merge frame (b .n) (b .plan) scratch (nodesOf (b .table))) (a .plan) kept (nodesOf (a .table)) z
-    × (a .n ≡ nextN (b .n) z)
+    × (a .n ≡ nextN (b .n) (answeredBy (merging frame scratch) z))
 HostCall b (projecting scratch ofLeft ofRight) a z =
     (kept : List ℕ) × CallHosted (b .plan) (project (b .n) (b .plan) scratch ofLeft ofRight) (a .plan) kept z
-    × (a .n ≡ nextN (b .n) z) × (a .table ≡ b .table)
+    × (a .n ≡ nextN (b .n) (answeredBy (projecting scratch ofLeft ofRight) z)) × (a .table ≡ b .table)
 
 -- A host made a list of calls, each with what the one before left, and was given these numbers.
 pub data HostRan : Host → List Call → List ℤ → Host → Type 0 where
@@ -66,9 +69,14 @@ pub data HostRan : Host → List Call → List ℤ → Host → Type 0 where
   madeOne : {b a last : Host} {c : Call} {calls : List Call} {z : ℤ} {numbers : List ℤ}
       → HostCall b c a z → HostRan a calls numbers last → HostRan b (c ∷ calls) (z ∷ numbers) last
 
--- What such a list answered, read off its numbers, and what it left.
-abbrev pub hostTo : List ℤ → Host → ListOutcome
-hostTo numbers last = record { answers = map answered numbers; n = last .n; buffer = last .plan }
+-- What such a list answered and the walks that it carried, read off its numbers, and what it left.
+abbrev pub hostTo : List Call → List ℤ → Host → ListOutcome
+hostTo calls numbers last =
+    record { answers = answersBy calls numbers; walks = walksBy calls numbers; n = last .n; buffer = last .plan }
+
+-- Those of a list of extracts and exchanges.
+abbrev pub madeTo : List Made → List ℤ → Host → ListOutcome
+madeTo calls numbers last = hostTo (map making calls) numbers last
 
 -- ---- from a frame
 
@@ -76,7 +84,8 @@ hostTo numbers last = record { answers = map answered numbers; n = last .n; buff
 pub data HostStarts (F : Frame) (a : Host) : Type 0 where
   byLoad : (frame before : List ℕ) (table : List TableRecord) → frameOf frame ≡ ok F
       → LoadHosted frame before (nodesOf table) (a .plan) (nodesOf (a .table)) (pos (a .n)) → HostStarts F a
-  byMerge : (frame : List ℕ) (n : ℕ) (before scratch kept : List ℕ) (table : List TableRecord) (old new : Frame) → frameOf frame ≡ ok new → heldPlan n before ≡ ok (held old) → mergeFrames old new ≡ F
+  byMerge : (frame : List ℕ) (n : ℕ) (before scratch kept : List ℕ) (table : List TableRecord) (old new : Frame)
+      → frameOf frame ≡ ok new → heldPlan n before ≡ ok (held old) → mergeFrames old new ≡ F
       → MergeHosted frame before (merge frame n before scratch (nodesOf table)) (a .plan) kept (nodesOf (a .table)) (pos (a .n))
       → HostStarts F a
 
@@ -90,7 +99,7 @@ pub record HostRun (F : Frame) (calls : List Made) : Type 0 where
 
 -- What the list answered and left.
 abbrev pub outcome : {F : Frame} {calls : List Made} → HostRun F calls → ListOutcome
-outcome r = hostTo (r .numbers) (r .last)
+outcome {F} {calls} r = madeTo calls (r .numbers) (r .last)
 
 -- The plan that it left: the first n bytes of the plan buffer.
 abbrev pub plan : {F : Frame} {calls : List Made} → HostRun F calls → List ℕ
@@ -112,9 +121,10 @@ ProjectHosted lists b scratch kept a = CallHosted (b .plan) (projectBy lists (b 
 pub record HostDemandThree (F : Frame) : Type 0 where
   -- The load or merge gave the frame's length.
   pub size : (calls : List Made) (r : HostRun F calls) → r .start .n ≡ length (frameBytes F)
-  -- Every number is that of the two-bit machine's answer.
-  pub numbers : (calls : List Made) (r : HostRun F calls) → r .numbers ≡ map hosted (machineAfter F calls .answers)
-  -- Plan, n and every answer are the two-bit machine's.
+  -- Every number is that of the two-bit machine's answer, an extract's with the machine's walk (request 10).
+  pub numbers : (calls : List Made) (r : HostRun F calls)
+      → r .numbers ≡ numbersBy (map making calls) (machineAfter F calls .walks) (machineAfter F calls .answers)
+  -- Plan, n, every answer and every walk that is read off are the two-bit machine's.
   pub machine : (calls : List Made) (r : HostRun F calls) → Agree F (outcome r) (machineAfter F calls)
   -- Two lists alike in whether an extract was accepted and in whether accepted exchanges are odd in number leave the same plan.
   pub samePlan : (calls calls′ : List Made) (r : HostRun F calls) (r′ : HostRun F calls′)
@@ -128,7 +138,7 @@ pub record HostDemandThree (F : Frame) : Type 0 where
   -- an extract exactly when its scratch is too, none was accepted before it and an AND-leaf of the frame matches.
   pub extractAccepted : (calls : List Made) (r : HostRun F calls) (scratch after kept : List ℕ) (z : ℤ)
       → MadeHosted extractCall (r .last) scratch after kept z
-      → accepted (answered z) ≡ (leb (r .last .n) (length scratch) && (not (extracted r) && someLeafMatches F))
+      → accepted (walkAnswered z) ≡ (leb (r .last .n) (length scratch) && (not (extracted r) && someLeafMatches F))
   -- An accepted extract takes the first KNN match, failing that the first match.
   pub pick : (calls : List Made) (r : HostRun F calls) → extracted r ≡ true
       → (X : Extraction) × Took F X × (plan r ≡ planBytes (extractedPlan X (odd r)))
@@ -142,23 +152,48 @@ pub record HostDemandThree (F : Frame) : Type 0 where
   pub projected : (M : Meaning) → Fair M → (v w : Valuation) (calls : List Made) (r : HostRun F calls)
       (lists : ChildLists) (scratch kept : List ℕ) (a : Host) → ProjectHosted lists (r .last) scratch kept a
       → (later : List Made) (numbers : List ℤ) (last : Host) → HostRan a (map making later) numbers last
-      → NewColumns lists (valuesWhen (odd r) v) (valuesWhen (exchangesOdd later (map answered numbers)) w)
-      → HasValue M w (planLeft (hostTo numbers last)) (frameValue M v F)
+      → NewColumns lists (valuesWhen (odd r) v) (valuesWhen (exchangesOdd later (madeTo later numbers last .answers)) w)
+      → HasValue M w (planLeft (madeTo later numbers last)) (frameValue M v F)
 
 -- ---- from an extraction that was projected (request 7)
 
 -- Extracts and exchanges after a projection of X to Y that left this.
 pub record HostProjected (lists : ChildLists) (X Y : Extraction) (a : Host) : Type 0 where
-  -- Every number is that of the machine with the odd bit alone.
+  -- Every number is that of the machine with the odd bit alone, with no walk: an extract is refused with 12 and carries 0.
   pub numbers : (calls : List Made) (numbers : List ℤ) (last : Host) → HostRan a (map making calls) numbers last
       → numbers ≡ map hosted (oddRun Y false (map fed calls) .answers)
   -- Plan, n and every answer are that machine's.
   pub machine : (calls : List Made) (numbers : List ℤ) (last : Host) → HostRan a (map making calls) numbers last
-      → OddAgree Y (hostTo numbers last) (oddRun Y false (map fed calls))
+      → OddAgree Y (madeTo calls numbers last) (oddRun Y false (map fed calls))
+  -- Every walk that is read off is 0.
+  pub walks : (calls : List Made) (numbers : List ℤ) (last : Host) → HostRan a (map making calls) numbers last
+      → madeTo calls numbers last .walks ≡ map (λ c. 0) calls
   -- The plan has over the new columns, exchanged when odd, the truth value that X had over the old ones.
   pub truth : (M : Meaning) → Fair M → (v w : Valuation) (calls : List Made) (numbers : List ℤ) (last : Host)
-      → HostRan a (map making calls) numbers last → NewColumns lists v (valuesWhen (exchangesOdd calls (map answered numbers)) w)
-      → HasValue M w (planLeft (hostTo numbers last)) (extractionValue M v X)
+      → HostRan a (map making calls) numbers last
+      → NewColumns lists v (valuesWhen (exchangesOdd calls (madeTo calls numbers last .answers)) w)
+      → HasValue M w (planLeft (madeTo calls numbers last)) (extractionValue M v X)
+
+-- ---- from nothing held
+
+-- The walk that the machine's extract or exchange carries in a state: the two-bit machine's, from a frame, else 0;
+abbrev pub madeWalk : State → Made → ℕ
+madeWalk nothing c = 0
+madeWalk (started F bits) c = machineStep matchLeaf F bits (c .kind) (length (c .scratch)) .walk
+madeWalk (projected X odd) c = 0
+
+-- that of any call.
+abbrev pub stateWalk : State → Call → ℕ
+stateWalk s (loading frame) = 0
+stateWalk s (making c) = madeWalk s c
+stateWalk s (merging frame scratch) = 0
+stateWalk s (projecting scratch ofLeft ofRight) = 0
+
+-- Those of a list, over a plan buffer and a table of these lengths.
+unfoldable pub machineWalks : (room places : ℕ) → State → List Call → List ℕ
+machineWalks room places s [] = []
+machineWalks room places s (c ∷ calls) =
+    stateWalk s c ∷ machineWalks room places (machineCall matchLeaf room places s c .state) calls
 
 -- ---- whole
 
@@ -177,11 +212,14 @@ pub record HostsMeetDemandThree : Type 0 where
       → ProjectHosted lists b scratch kept a
       → (X : Extraction) × (Y : Extraction) × (heldPlan (b .n) (b .plan) ≡ ok (holding X)) × (projection lists X ≡ some Y)
       × (a .n ≡ b .n) × HostProjected lists X Y a
-  -- Every list of load, extract, exchange, merge and project, from n = 0, any plan buffer and any table, gives the machine's numbers, and
-  -- leaves its plan, that plan's length, a plan buffer and a table as long as before, and a table that fits what is held.
+  -- Every list of load, extract, exchange, merge and project, from n = 0, any plan buffer and any table, gives the machine's numbers, off
+  -- which its answers and walks are read, and leaves its plan, that plan's length, a plan buffer and a table as long as before, and a table
+  -- that fits what is held.
   pub history : (plan : List ℕ) (table : List TableRecord) (calls : List Call) (numbers : List ℤ) (last : Host)
       → HostRan (record { plan = plan; n = 0; table = table }) calls numbers last
       → let m : History = machineHistory matchLeaf (length plan) (length table) nothing calls in
-      (numbers ≡ map hosted (m .answers)) × (take (last .n) (last .plan) ≡ planBytes (statePlan matchLeaf (m .state)))
+      let walks : List ℕ = machineWalks (length plan) (length table) nothing calls in
+      (numbers ≡ numbersBy calls walks (m .answers)) × (hostTo calls numbers last .answers ≡ m .answers)
+      × (hostTo calls numbers last .walks ≡ walks) × (take (last .n) (last .plan) ≡ planBytes (statePlan matchLeaf (m .state)))
       × (last .n ≡ length (planBytes (statePlan matchLeaf (m .state)))) × (length (last .plan) ≡ length plan)
       × (length (last .table) ≡ length table) × (tableFits (nodesOf (last .table)) (ok (statePlan matchLeaf (m .state))) ≡ true)

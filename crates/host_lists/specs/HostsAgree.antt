@@ -11,7 +11,7 @@ use Rattle.definitions.specs.Encode.{planBytes}
 use Rattle.definitions.specs.Machine.{extractCall}
 use Rattle.definitions.specs.Sessions.{Made, accepted}
 use Rattle.definitions.specs.Claims.{Took, extractedPlan}
-use Rattle.host_lists.specs.Numbers.{answered}
+use Rattle.host_lists.specs.Numbers.{walkAnswered}
 use Rattle.host_lists.specs.HostLists.{MadeHosted, HostRun, plan, extracted, odd}
 
 pub record HostsAgree : Type 0 where
@@ -24,4 +24,4 @@ pub record HostsAgree : Type 0 where
   -- Where one extracted, an extract of the other that has room is accepted: never is a join indexed on one and filtered on the other.
   pub neverMixed : (F : Frame) (calls calls′ : List Made) (r : HostRun F calls) (r′ : HostRun F calls′)
       → extracted r ≡ true → extracted r′ ≡ false → (scratch after kept : List ℕ) (z : ℤ)
-      → MadeHosted extractCall (r′ .last) scratch after kept z → accepted (answered z) ≡ leb (r′ .last .n) (length scratch)
+      → MadeHosted extractCall (r′ .last) scratch after kept z → accepted (walkAnswered z) ≡ leb (r′ .last .n) (length scratch)

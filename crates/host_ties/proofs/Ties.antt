@@ -16,15 +16,15 @@ use contract.Notation.{connectives}
 use denote.Ref.{now}
 use denote.Triple.Entry.{Args, Res}
 use denote.Triple.Clauses.{AtExit}
-use Rattle.definitions.specs.Calls.{extract, exchange}
+use Rattle.definitions.specs.Calls.{extract, exchange, extractWalk}
 use Rattle.definitions.specs.Merge.{merge}
 use Rattle.definitions.specs.Project.{project}
 use Rattle.definitions.specs.Machine.{extractCall, exchangeCall}
 use Rattle.definitions.specs.History.{loading, making, merging, projecting}
 use Rattle.node_table.specs.Records.{nodesOf}
 use Rattle.node_table.specs.declared.NodeRecord.{NodeRecord as TableRecord}
-use Rattle.host_calls.specs.Hosted.{LoadHosted, CallHosted, MergeHosted}
-use Rattle.host_lists.specs.Numbers.{nextN}
+use Rattle.host_calls.specs.Hosted.{LoadHosted, CallHosted, ExtractHosted, MergeHosted}
+use Rattle.host_lists.specs.Numbers.{answered, walkAnswered, nextN}
 use Rattle.host_lists.specs.HostLists.{Host, HostCall}
 use Rattle.definitions.specs.Program.{lineOutcome}
 use Rattle.lines.specs.Answers.{keptAs, AnswerIs}
@@ -52,8 +52,8 @@ module _ {M : Type 1} (𝓤 : URA M) (H : Heap 𝓤) (A : Atoms 𝓤) (mem : Mem
   pub extract-ensures : (κs : Lfts (extracting.signature .lifetimes)) (a : Args extracting.signature κs)
       (z : Res extracting.signature κs) (e : AtExit extracting.ended κs)
       → extracting.clauses 𝓤 H A mem run κs a .ensures tt z e
-      ≡ says (CallHosted (now (a .0)) (extract (a .1 .0) (now (a .0)) (now (a .1 .1 .0)) (nodesOf (now (a .1 .1 .1 .0)))) (now (e .0))
-      (now (e .1 .1 .0)) z)
+      ≡ says (ExtractHosted (now (a .0)) (extract (a .1 .0) (now (a .0)) (now (a .1 .1 .0)) (nodesOf (now (a .1 .1 .1 .0))))
+      (extractWalk (a .1 .0) (now (a .0)) (now (a .1 .1 .0)) (nodesOf (now (a .1 .1 .1 .0)))) (now (e .0)) (now (e .1 .1 .0)) z)
   extract-ensures κs a z e = refl
 
   pub exchange-ensures : (κs : Lfts (exchanging.signature .lifetimes)) (a : Args exchanging.signature κs)
@@ -65,14 +65,16 @@ module _ {M : Type 1} (𝓤 : URA M) (H : Heap 𝓤) (A : Atoms 𝓤) (mem : Mem
   pub merge-ensures : (κs : Lfts (merged.signature .lifetimes)) (a : Args merged.signature κs) (z : Res merged.signature κs)
       (e : AtExit merged.ended κs)
       → merged.clauses 𝓤 H A mem run κs a .ensures tt z e
-      ≡ says (MergeHosted (now (a .0)) (now (a .1 .0)) (merge (now (a .0)) (a .1 .1 .0) (now (a .1 .0)) (now (a .1 .1 .1 .0)) (nodesOf (now (a .1 .1 .1 .1 .0))))
+      ≡ says (MergeHosted (now (a .0)) (now (a .1 .0))
+      (merge (now (a .0)) (a .1 .1 .0) (now (a .1 .0)) (now (a .1 .1 .1 .0)) (nodesOf (now (a .1 .1 .1 .1 .0))))
       (now (e .1 .0)) (now (e .1 .1 .1 .0)) (nodesOf (now (e .1 .1 .1 .1 .0))) z)
   merge-ensures κs a z e = refl
 
   pub project-ensures : (κs : Lfts (projected.signature .lifetimes)) (a : Args projected.signature κs) (z : Res projected.signature κs)
       (e : AtExit projected.ended κs)
       → projected.clauses 𝓤 H A mem run κs a .ensures tt z e
-      ≡ says (CallHosted (now (a .0)) (project (a .1 .0) (now (a .0)) (now (a .1 .1 .0)) (now (a .1 .1 .1 .0)) (now (a .1 .1 .1 .1 .0))) (now (e .0))
+      ≡ says (CallHosted (now (a .0))
+      (project (a .1 .0) (now (a .0)) (now (a .1 .1 .0)) (now (a .1 .1 .1 .0)) (now (a .1 .1 .1 .1 .0))) (now (e .0))
       (now (e .1 .1 .0)) z)
   project-ensures κs a z e = refl
 
@@ -93,22 +95,25 @@ owns plan n table = record { plan = plan; n = n; table = table }
 
 module _ (plan after : List ℕ) (n : ℕ) (table filled : List TableRecord) (z : ℤ) where
   pub load-calls : (frame : List ℕ) → LoadHosted frame plan (nodesOf table) after (nodesOf filled) z
-      → HostCall (owns plan n table) (loading frame) (owns after (nextN n z) filled) z
+      → HostCall (owns plan n table) (loading frame) (owns after (nextN n (answered z)) filled) z
   load-calls frame is = (is, refl)
 
-  pub extract-calls : (scratch kept : List ℕ) → CallHosted plan (extract n plan scratch (nodesOf table)) after kept z
-      → HostCall (owns plan n table) (making (record { kind = extractCall; scratch = scratch })) (owns after (nextN n z) table) z
+  pub extract-calls : (scratch kept : List ℕ)
+      → ExtractHosted plan (extract n plan scratch (nodesOf table)) (extractWalk n plan scratch (nodesOf table)) after kept z
+      → HostCall (owns plan n table) (making (record { kind = extractCall; scratch = scratch }))
+      (owns after (nextN n (walkAnswered z)) table) z
   extract-calls scratch kept is = (kept, is, refl, refl)
 
   pub exchange-calls : (scratch kept : List ℕ) → CallHosted plan (exchange n plan scratch) after kept z
-      → HostCall (owns plan n table) (making (record { kind = exchangeCall; scratch = scratch })) (owns after (nextN n z) table) z
+      → HostCall (owns plan n table) (making (record { kind = exchangeCall; scratch = scratch }))
+      (owns after (nextN n (answered z)) table) z
   exchange-calls scratch kept is = (kept, is, refl, refl)
 
   pub merge-calls : (frame scratch kept : List ℕ)
       → MergeHosted frame plan (merge frame n plan scratch (nodesOf table)) after kept (nodesOf filled) z
-      → HostCall (owns plan n table) (merging frame scratch) (owns after (nextN n z) filled) z
+      → HostCall (owns plan n table) (merging frame scratch) (owns after (nextN n (answered z)) filled) z
   merge-calls frame scratch kept is = (kept, is, refl)
 
   pub project-calls : (scratch kept ofLeft ofRight : List ℕ) → CallHosted plan (project n plan scratch ofLeft ofRight) after kept z
-      → HostCall (owns plan n table) (projecting scratch ofLeft ofRight) (owns after (nextN n z) table) z
+      → HostCall (owns plan n table) (projecting scratch ofLeft ofRight) (owns after (nextN n (answered z)) table) z
   project-calls scratch kept ofLeft ofRight is = (kept, is, refl, refl)

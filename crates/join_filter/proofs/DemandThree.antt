@@ -16,7 +16,7 @@ use Rattle.definitions.specs.Match.{matchLeaf}
 use Rattle.definitions.specs.Calls.{LoadOutcome, load, Outcome, heldPlan}
 use Rattle.definitions.specs.Machine.{extractCall, exchangeCall}
 use Rattle.definitions.specs.Good.{AllBytes}
-use Rattle.definitions.specs.Sessions.{Made, fed, makeBy, make, ListOutcome, callsRunBy, callsRun, machineAfter, accepted, extractAccepted, exchangesOdd, Session, after, planLeft}
+use Rattle.definitions.specs.Sessions.{Made, fed, makeBy, make, walkBy, ListOutcome, callsRunBy, callsRun, machineAfter, accepted, extractAccepted, exchangesOdd, Session, after, planLeft}
 use Rattle.definitions.specs.Meaning.{Valuation, Meaning, Fair, frameValue, extractionValue}
 use Rattle.definitions.specs.Claims.{LeavesSession, Agree, someLeafMatches, Took, extractedPlan, NamesLeaf, priceLine}
 use Rattle.definitions.specs.ValueClaims.{valuesWhen, HasValue}
@@ -32,15 +32,16 @@ use Rattle.theorems.proofs.MergeCall.{same-held}
 use Rattle.theorems.proofs.Truth.{fair-symmetric}
 use Rattle.theorems.proofs.Proved.{load-holds, list-of-calls, same-plan, exchange-accepted, extract-accepted, extract-takes, position-in-bytes, price-line-stays, list-has-value, merge-holds, history-of-calls, list-after-projection, list-projected-has-value}
 use Rattle.join_filter.specs.Outcomes.{answerOf, LoadIs, MergeIs}
-use Rattle.join_filter.specs.Lists.{Lent, CallIs, Ran, noCall, called, ranTo, ProjectIs, Starts, byLoad, byMerge, CodeRun, outcome, plan, extracted, odd, DemandThree, AfterProjection, CodeMeetsDemandThree}
+use Rattle.join_filter.specs.Lists.{Lent, CallIs, Ran, noCall, called, given, carried, ranTo, ProjectIs, Starts, byLoad, byMerge, CodeRun, outcome, plan, extracted, odd, DemandThree, AfterProjection, CodeMeetsDemandThree}
 use Rattle.join_filter.specs.declared.answers.Answer.{Answer}
+use Rattle.join_filter.specs.declared.answers.Extracted.{Extracted}
 use Rattle.join_filter.specs.declared.answers.Answer.the-variants.{Length}
 
 -- ---- a list of calls is the definitions' list
 
-one-is : (b : Lent) (c : Call) (a : Lent) (r : Answer) → CallIs b c a r
+one-is : (b : Lent) (c : Call) (a : Lent) (r : Extracted) → CallIs b c a r
     → oneCallBy matchLeaf (b .n) (b .buffer) (b .table) c
-    ≡ record { answer = answerOf r; n = a .n; buffer = a .buffer; table = a .table }
+    ≡ record { answer = answerOf (r .answer); n = a .n; buffer = a .buffer; table = a .table }
 unfolding oneCallBy
 one-is b (loading frame) a r is = is .0 (b .n) ∙ rw (is .1) refl
 one-is b (making c) a r is =
@@ -50,40 +51,34 @@ one-is b (merging frame scratch) a r is =
 one-is b (projecting scratch ofLeft ofRight) a r is =
     ap (λ (o : Outcome). record { answer = o .answer; n = o .n; buffer = o .buffer; table = b .table }) (is .1) ∙ rw (is .2, is .3) refl
 
-history-is : {b last : Lent} {calls : List Call} {answers : List Answer} → Ran b calls answers last
+history-is : {b last : Lent} {calls : List Call} {answers : List Extracted} → Ran b calls answers last
     → historyBy matchLeaf (b .n) (b .buffer) (b .table) calls
-    ≡ record { answers = map answerOf answers; n = last .n; buffer = last .buffer; table = last .table }
+    ≡ record { answers = given answers; n = last .n; buffer = last .buffer; table = last .table }
 unfolding historyBy
 history-is noCall = refl
 history-is (called {b} {a} {c = c} {r = r} e more) =
     rw (one-is b c a r e)
-    (ap (λ (o : HistoryOutcome). record { answers = answerOf r ∷ o .answers; n = o .n; buffer = o .buffer; table = o .table })
+    (ap (λ (o : HistoryOutcome). record { answers = answerOf (r .answer) ∷ o .answers; n = o .n; buffer = o .buffer; table = o .table })
     (history-is more))
 
 -- Of extracts and exchanges alone it is a session's, and the table is as it was.
-made-is : (match : Matcher) (n : ℕ) (buffer : List ℕ) (table : List NodeRecord) (calls : List Made)
-    → let o : HistoryOutcome = historyBy match n buffer table (map making calls) in
-    callsRunBy match n buffer table calls ≡ record { answers = o .answers; n = o .n; buffer = o .buffer }
-unfolding callsRunBy historyBy oneCallBy
-made-is match n buffer table [] = refl
-made-is match n buffer table (c ∷ calls) =
-    ap (λ (o : ListOutcome).
-    record { answers = makeBy match (c .kind) n buffer (c .scratch) table .answer ∷ o .answers; n = o .n; buffer = o .buffer })
-    (made-is match _ _ table calls)
-
-made-table : (calls : List Made) {b last : Lent} {answers : List Answer} → Ran b (map making calls) answers last → last .table ≡ b .table
+made-table : (calls : List Made) {b last : Lent} {answers : List Extracted} → Ran b (map making calls) answers last → last .table ≡ b .table
 made-table [] noCall = refl
 made-table (c ∷ calls) (called e more) = made-table calls more ∙ e .3
 
-made-ran : (calls : List Made) {a last : Lent} {answers : List Answer} → Ran a (map making calls) answers last
+made-ran : (calls : List Made) {a last : Lent} {answers : List Extracted} → Ran a (map making calls) answers last
     → callsRun (a .n) (a .buffer) (a .table) calls ≡ ranTo answers last
-made-ran calls {a} ran =
-    made-is matchLeaf (a .n) (a .buffer) (a .table) calls
-    ∙ ap (λ (o : HistoryOutcome). record { answers = o .answers; n = o .n; buffer = o .buffer }) (history-is ran)
+unfolding callsRunBy
+made-ran [] noCall = refl
+made-ran (c ∷ calls) (called {b} {a} {r = r} e more) =
+    let rest = made-ran calls more in
+    rw (e .1, ← (e .2), ← (e .4), ← (e .3))
+    (ap (λ (o : ListOutcome).
+    record { answers = answerOf (r .answer) ∷ o .answers; walks = r .walk ∷ o .walks; n = o .n; buffer = o .buffer }) rest)
 
 -- After a projection too.
 from-projected : (lists : ChildLists) (b : Lent) (scratch kept : List ℕ) (a : Lent) → ProjectIs lists b scratch kept a
-    → (calls : List Made) {last : Lent} {answers : List Answer} → Ran a (map making calls) answers last
+    → (calls : List Made) {last : Lent} {answers : List Extracted} → Ran a (map making calls) answers last
     → callsFrom matchLeaf (projectBy lists (b .n) (b .buffer) scratch) (a .table) calls ≡ ranTo answers last
 from-projected lists b scratch kept a is calls ran =
     ap (λ (o : Outcome). callsFrom matchLeaf o (a .table) calls) is ∙ made-ran calls ran
@@ -167,8 +162,8 @@ module _ (F : Frame) where
 
   value-projected : (M : Meaning) → Fair M → (v w : Valuation) (calls : List Made) (r : CodeRun F calls)
       (lists : ChildLists) (scratch kept : List ℕ) (a : Lent) → ProjectIs lists (r .last) scratch kept a
-      → (later : List Made) (answers : List Answer) (last : Lent) → Ran a (map making later) answers last
-      → NewColumns lists (valuesWhen (odd r) v) (valuesWhen (exchangesOdd later (map answerOf answers)) w)
+      → (later : List Made) (answers : List Extracted) (last : Lent) → Ran a (map making later) answers last
+      → NewColumns lists (valuesWhen (odd r) v) (valuesWhen (exchangesOdd later (given answers)) w)
       → HasValue M w (planLeft (ranTo answers last)) (frameValue M v F)
   value-projected M fair v w calls r lists scratch kept a is later answers last ran =
       subst (λ (x : ListOutcome). NewColumns lists (valuesWhen (odd r) v) (valuesWhen (exchangesOdd later (x .answers)) w)

@@ -6,7 +6,7 @@ use mathlib.Core.List.{List, [], _∷_, map}
 use mathlib.Core.Option.{some}
 use lib.ListN.{length, take}
 use lib.Dec.{leb}
-use Rattle.definitions.specs.Basics.{ok}
+use Rattle.definitions.specs.Basics.{Result, ok}
 use Rattle.definitions.specs.Expression.{Frame, Extraction, held, extracted as holding}
 use Rattle.definitions.specs.Encode.{frameBytes, planBytes}
 use Rattle.definitions.specs.Plans.{frameOf}
@@ -16,7 +16,7 @@ use Rattle.definitions.specs.Calls.{tableFits, heldPlan}
 use Rattle.definitions.specs.NodeTable.{NodeRecord}
 use Rattle.definitions.specs.Machine.{extractCall, exchangeCall}
 use Rattle.definitions.specs.Good.{AllBytes}
-use Rattle.definitions.specs.Sessions.{Made, fed, make, ListOutcome, machineAfter, accepted, extractAccepted, exchangesOdd, planLeft}
+use Rattle.definitions.specs.Sessions.{Made, fed, make, walk, ListOutcome, machineAfter, accepted, extractAccepted, exchangesOdd, planLeft}
 use Rattle.definitions.specs.Meaning.{Valuation, Meaning, Fair, frameValue, extractionValue}
 use Rattle.definitions.specs.Claims.{Agree, someLeafMatches, Took, extractedPlan, NamesLeaf, priceLine}
 use Rattle.definitions.specs.ValueClaims.{valuesWhen, HasValue}
@@ -28,6 +28,7 @@ use Rattle.definitions.specs.History.{Call, loading, making, merging, projectin
 use Rattle.join_filter.specs.Outcomes.{answerOf, nAfter, LoadIs, OutcomeIs, MergeIs}
 use Rattle.join_filter.specs.declared.answers.Answer.{Answer}
 use Rattle.join_filter.specs.declared.answers.Answer.the-variants.{Length}
+use Rattle.join_filter.specs.declared.answers.Extracted.{Extracted}
 
 -- ---- lists of calls
 
@@ -37,28 +38,38 @@ pub record Lent : Type 0 where
   pub buffer : List ℕ
   pub table : List NodeRecord
 
--- One call met its contract, given these, and left these with its answer: n is the one that its answer tells.
-abbrev pub CallIs : Lent → Call → Lent → Answer → Type 0
-CallIs b (loading frame) a r = LoadIs frame (b .buffer) (a .buffer) (b .table) (a .table) r × (a .n ≡ nAfter (b .n) r)
+-- One call met its contract, given these, and left these with its answer: n is the one that its answer tells. The walk is an extract's;
+-- the other calls have none.
+abbrev pub CallIs : Lent → Call → Lent → Extracted → Type 0
+CallIs b (loading frame) a r =
+    LoadIs frame (b .buffer) (a .buffer) (b .table) (a .table) (r .answer) × (a .n ≡ nAfter (b .n) (r .answer))
 CallIs b (making c) a r =
-    (kept : List ℕ) × OutcomeIs (make (c .kind) (b .n) (b .buffer) (c .scratch) (b .table)) (b .n) (a .buffer) kept r
-    × (a .n ≡ nAfter (b .n) r) × (a .table ≡ b .table)
+    (kept : List ℕ) × OutcomeIs (make (c .kind) (b .n) (b .buffer) (c .scratch) (b .table)) (b .n) (a .buffer) kept (r .answer)
+    × (a .n ≡ nAfter (b .n) (r .answer)) × (a .table ≡ b .table)
+    × (r .walk ≡ walk (c .kind) (b .n) (b .buffer) (c .scratch) (b .table))
 CallIs b (merging frame scratch) a r =
-    (kept : List ℕ) × MergeIs (merge frame (b .n) (b .buffer) scratch (b .table)) (b .n) (a .buffer) kept (a .table) r
-    × (a .n ≡ nAfter (b .n) r)
+    (kept : List ℕ) × MergeIs (merge frame (b .n) (b .buffer) scratch (b .table)) (b .n) (a .buffer) kept (a .table) (r .answer)
+    × (a .n ≡ nAfter (b .n) (r .answer))
 CallIs b (projecting scratch ofLeft ofRight) a r =
-    (kept : List ℕ) × OutcomeIs (project (b .n) (b .buffer) scratch ofLeft ofRight) (b .n) (a .buffer) kept r
-    × (a .n ≡ nAfter (b .n) r) × (a .table ≡ b .table)
+    (kept : List ℕ) × OutcomeIs (project (b .n) (b .buffer) scratch ofLeft ofRight) (b .n) (a .buffer) kept (r .answer)
+    × (a .n ≡ nAfter (b .n) (r .answer)) × (a .table ≡ b .table)
 
 -- A list of calls was made: each met its contract, was given what the one before left, and gave its answer.
-pub data Ran : Lent → List Call → List Answer → Lent → Type 0 where
+pub data Ran : Lent → List Call → List Extracted → Lent → Type 0 where
   noCall : {b : Lent} → Ran b [] [] b
-  called : {b a last : Lent} {c : Call} {calls : List Call} {r : Answer} {answers : List Answer}
+  called : {b a last : Lent} {c : Call} {calls : List Call} {r : Extracted} {answers : List Extracted}
       → CallIs b c a r → Ran a calls answers last → Ran b (c ∷ calls) (r ∷ answers) last
 
+-- The answers of such a list, and the walks that they carry.
+abbrev pub given : List Extracted → List (Result ℕ)
+given answers = map (λ r. answerOf (r .answer)) answers
+
+abbrev pub carried : List Extracted → List ℕ
+carried answers = map (λ r. r .walk) answers
+
 -- What such a list answered and left.
-abbrev pub ranTo : List Answer → Lent → ListOutcome
-ranTo answers last = record { answers = map answerOf answers; n = last .n; buffer = last .buffer }
+abbrev pub ranTo : List Extracted → Lent → ListOutcome
+ranTo answers last = record { answers = given answers; walks = carried answers; n = last .n; buffer = last .buffer }
 
 -- ---- from a frame: demand 3
 
@@ -78,7 +89,7 @@ pub data Starts (F : Frame) (a : Lent) : Type 0 where
 pub record CodeRun (F : Frame) (calls : List Made) : Type 0 where
   pub start : Lent
   pub starts : Starts F start
-  pub answers : List Answer
+  pub answers : List Extracted
   pub last : Lent
   pub ran : Ran start (map making calls) answers last
 
@@ -102,7 +113,7 @@ odd {F} {calls} r = exchangesOdd calls (outcome r .answers)
 pub record DemandThree (F : Frame) : Type 0 where
   -- The load or merge gave the frame's length.
   pub size : (calls : List Made) (r : CodeRun F calls) → r .start .n ≡ length (frameBytes F)
-  -- Plan, n and every answer are the two-bit machine's.
+  -- Plan, n, every answer and the walk that it carries are the two-bit machine's.
   pub machine : (calls : List Made) (r : CodeRun F calls) → Agree F (outcome r) (machineAfter F calls)
   -- Two lists alike in whether an extract was accepted and in whether accepted exchanges are odd in number leave the same plan.
   pub samePlan : (calls calls′ : List Made) (r : CodeRun F calls) (r′ : CodeRun F calls′)
@@ -130,8 +141,8 @@ pub record DemandThree (F : Frame) : Type 0 where
   -- that the frame has over its own; the columns that are projected are the frame's, exchanged when odd.
   pub projected : (M : Meaning) → Fair M → (v w : Valuation) (calls : List Made) (r : CodeRun F calls)
       (lists : ChildLists) (scratch kept : List ℕ) (a : Lent) → ProjectIs lists (r .last) scratch kept a
-      → (later : List Made) (answers : List Answer) (last : Lent) → Ran a (map making later) answers last
-      → NewColumns lists (valuesWhen (odd r) v) (valuesWhen (exchangesOdd later (map answerOf answers)) w)
+      → (later : List Made) (answers : List Extracted) (last : Lent) → Ran a (map making later) answers last
+      → NewColumns lists (valuesWhen (odd r) v) (valuesWhen (exchangesOdd later (given answers)) w)
       → HasValue M w (planLeft (ranTo answers last)) (frameValue M v F)
 
 -- ---- from an extraction that was projected (request 7)
@@ -139,11 +150,11 @@ pub record DemandThree (F : Frame) : Type 0 where
 -- Extracts and exchanges after a projection of X to Y that left this.
 pub record AfterProjection (lists : ChildLists) (X Y : Extraction) (a : Lent) : Type 0 where
   -- Plan, n and every answer are those of the machine with the odd bit alone.
-  pub machine : (calls : List Made) (answers : List Answer) (last : Lent) → Ran a (map making calls) answers last
+  pub machine : (calls : List Made) (answers : List Extracted) (last : Lent) → Ran a (map making calls) answers last
       → OddAgree Y (ranTo answers last) (oddRun Y false (map fed calls))
   -- The plan has over the new columns, exchanged when odd, the truth value that X had over the old ones.
-  pub truth : (M : Meaning) → Fair M → (v w : Valuation) (calls : List Made) (answers : List Answer) (last : Lent)
-      → Ran a (map making calls) answers last → NewColumns lists v (valuesWhen (exchangesOdd calls (map answerOf answers)) w)
+  pub truth : (M : Meaning) → Fair M → (v w : Valuation) (calls : List Made) (answers : List Extracted) (last : Lent)
+      → Ran a (map making calls) answers last → NewColumns lists v (valuesWhen (exchangesOdd calls (given answers)) w)
       → HasValue M w (planLeft (ranTo answers last)) (extractionValue M v X)
 
 -- ---- whole
@@ -165,9 +176,9 @@ pub record CodeMeetsDemandThree : Type 0 where
       × (a .n ≡ b .n) × AfterProjection lists X Y a
   -- Every list of load, extract, exchange, merge and project, from an empty plan and any table, gives the machine's answers, and leaves its
   -- plan, that plan's length, a plan buffer and a table as long as before, and a table that fits what is held.
-  pub history : (buffer : List ℕ) (table : List NodeRecord) (calls : List Call) (answers : List Answer) (last : Lent) → FramesAreBytes calls
+  pub history : (buffer : List ℕ) (table : List NodeRecord) (calls : List Call) (answers : List Extracted) (last : Lent) → FramesAreBytes calls
       → Ran (record { n = 0; buffer = buffer; table = table }) calls answers last
       → let m : History = machineHistory matchLeaf (length buffer) (length table) nothing calls in
-      (map answerOf answers ≡ m .answers) × (take (last .n) (last .buffer) ≡ planBytes (statePlan matchLeaf (m .state)))
+      (given answers ≡ m .answers) × (take (last .n) (last .buffer) ≡ planBytes (statePlan matchLeaf (m .state)))
       × (last .n ≡ length (planBytes (statePlan matchLeaf (m .state)))) × (length (last .buffer) ≡ length buffer)
       × (length (last .table) ≡ length table) × (tableFits (last .table) (ok (statePlan matchLeaf (m .state))) ≡ true)

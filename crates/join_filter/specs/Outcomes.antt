@@ -11,6 +11,7 @@ use Rattle.terms.specs.Refusals.{numberOf}
 use Rattle.terms.specs.declared.refusals.Refusal.{Refusal}
 use Rattle.join_filter.specs.declared.answers.Answer.{Answer}
 use Rattle.join_filter.specs.declared.answers.Answer.the-variants.{Length, Refused}
+use Rattle.join_filter.specs.declared.answers.Extracted.{Extracted}
 use Rattle.join_filter.specs.declared.answers.Loaded.{Loaded}
 
 -- The answer of 01 and 02 for each case: a length, or the number of the refusal.
@@ -31,6 +32,15 @@ LoadIs frame before after table filled r =
 -- The call is the definition's: answer, n and both buffers.
 abbrev pub OutcomeIs : Outcome → (n : ℕ) → (after scratch : List ℕ) → Answer → Type 0
 OutcomeIs o n after scratch r = o ≡ record { answer = answerOf r; n = nAfter n r; buffer = after; scratch = scratch }
+
+-- The extract is the definition's: answer, n and both buffers, and the walk that it carries (request 10).
+pub record ExtractIs (o : Outcome) (walk n : ℕ) (after scratch : List ℕ) (r : Extracted) : Type 0 where
+  pub outcome : OutcomeIs o n after scratch (r .answer)
+  pub carried : r .walk ≡ walk
+
+-- An extract that is refused before it reads the leaves.
+abbrev pub unwalked : Refusal → Extracted
+unwalked why = record { answer = Refused why; walk = 0 }
 
 -- The merge is the definition's: answer, n, both buffers and the table.
 abbrev pub MergeIs : MergeOutcome → (n : ℕ) → (after scratch : List ℕ) → (filled : List NodeRecord) → Answer → Type 0

@@ -9,6 +9,12 @@ pub enum Answer {
     Refused(Refusal),
 }
 
+// What extract answers, and how many And nodes and AND-leaves it read: 0 but with a length and with 13 (request 10 of document 02).
+pub struct Extracted {
+    pub answer: Answer,
+    pub walk: usize,
+}
+
 // What load and merge answer, and what the table is to be filled with: the nodes of the expression that begins at `root`, `count` of
 // them, or none.
 pub struct Loaded {

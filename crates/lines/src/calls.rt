@@ -76,7 +76,11 @@ fn plan_line(plan: &mut [u8], scratch: &mut [u8], size: usize, n: usize, call: C
         return Answer::Refused(Refusal::BytesAfterEnd);
     }
     match call {
-        Call::Extract => of_call(extract(plan, n, scratch)),
+        Call::Extract => {
+            let extracted = extract(plan, n, scratch);
+            let answer = extracted.answer;
+            of_call(answer)
+        }
         Call::Exchange => of_call(exchange(plan, n, scratch)),
     }
 }

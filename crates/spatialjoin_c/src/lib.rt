@@ -21,7 +21,7 @@ ghost use Rattle.definitions.specs.Merge as merges;
 ghost use Rattle.definitions.specs.Project as projects;
 ghost use Rattle.spatialjoin_c.specs.Version.{version};
 ghost use Rattle.node_table.specs.Records.{nodesOf};
-ghost use Rattle.host_calls.specs.Hosted.{LoadHosted, CallHosted, MergeHosted, PrintHosted};
+ghost use Rattle.host_calls.specs.Hosted.{LoadHosted, CallHosted, ExtractHosted, MergeHosted, PrintHosted};
 
 // Loads a frame as the new plan and fills the table with its nodes; reads nothing of what both held.
 #[no_mangle]
@@ -43,8 +43,9 @@ pub extern "C" fn spatialjoin_extract(
     scratch: &mut [u8],
     table: &[NodeRecord],
 ) -> i64
-    ensures { λ r. ⌜ CallHosted (now (plan .entry))
+    ensures { λ r. ⌜ ExtractHosted (now (plan .entry))
         (definitions.extract n (now (plan .entry)) (now (scratch .entry)) (nodesOf (now (table .entry))))
+        (definitions.extractWalk n (now (plan .entry)) (now (scratch .entry)) (nodesOf (now (table .entry))))
         (now (plan .exit)) (now (scratch .exit)) r ⌝ }
 {
     let count = taken_count(n, table.len());
@@ -117,5 +118,5 @@ pub extern "C" fn spatialjoin_project(
 pub extern "C" fn spatialjoin_version() -> i64
     ensures { λ r. ⌜ r ≡ pos version ⌝ }
 {
-    0 * 65536 + 9 * 256 + 0
+    0 * 65536 + 10 * 256 + 0
 }

@@ -18,13 +18,13 @@ use Rattle.theorems.proofs.Exchange.{swapped, record-at, same-negated}
 -- ---- the pick
 
 -- A predicate of the exchanged frame is the exchanged predicate.
-abbrev exchanged : Option Predicate → Option Predicate
+abbrev pub exchanged : Option Predicate → Option Predicate
 exchanged = Option·map exchangePredicate
 
 exchangePick : Pick → Pick
 exchangePick p = record { position = p .position; predicate = exchangePredicate (p .predicate) }
 
-knn-exchanged : (p : Predicate) → isKnn (exchangePredicate p) ≡ isKnn p
+pub knn-exchanged : (p : Predicate) → isKnn (exchangePredicate p) ≡ isKnn p
 unfolding isKnn exchangePredicate
 knn-exchanged (relation type l r) = refl
 knn-exchanged (distance form side l r bound) = refl

@@ -1,5 +1,6 @@
 -- A plan that a call leaves is a good plan's bytes, and those are at most 16,384.
 use Prim.Native.Nat.{ℕ, zero, suc, _≤_}
+use native.Mathlib.Omega.{arith}
 use mathlib.Core.Path.{_≡_, refl, sym, subst}
 use mathlib.Core.Bool.{Bool, true, false}
 use mathlib.Core.List.{List, [], _∷_}
@@ -13,7 +14,7 @@ use Rattle.definitions.specs.Encode.{planBytes}
 use Rattle.definitions.specs.Plans.{frameOf, planOf}
 use Rattle.definitions.specs.Extract.{Matcher, extractionBy}
 use Rattle.definitions.specs.Exchange.{exchangePlan}
-use Rattle.definitions.specs.Calls.{newAfterLoad, finishLoad, load, finish, heldPlan, newAfterExchange, exchange, matchedBytes, newAfterExtractBy, extractFilledBy, extractBy, tableFits}
+use Rattle.definitions.specs.Calls.{newAfterLoad, finishLoad, load, finish, heldPlan, newAfterExchange, exchange, matchedBytes, newAfterExtractBy, extractFilledBy, extractBy, tableFits, walkedBy, walkFilledBy, extractWalkBy}
 use Rattle.definitions.specs.NodeTable.{NodeRecord}
 use Rattle.definitions.specs.Machine.{Kind, extractCall, exchangeCall}
 use Rattle.definitions.specs.Sessions.{makeBy}
@@ -24,6 +25,9 @@ use Rattle.theorems.proofs.InverseFrame.{refused-not-ok, same-ok, frame
 use Rattle.theorems.proofs.InversePlan.{plan-back}
 use Rattle.theorems.proofs.ExtractGood.{GoodExtraction, good-by}
 use Rattle.theorems.proofs.ExchangeGood.{exchange-good}
+use Rattle.theorems.proofs.Pick.{few-leaves}
+use Rattle.theorems.proofs.Walks.{walk-bounded-by}
+use Rattle.definitions.specs.WalkClaims.{WalkShort}
 
 -- Bytes, if there are any, are at most 16,384.
 abbrev Short : Result (List ℕ) → Type 0
@@ -138,3 +142,22 @@ module _ {match : Matcher} {Asks : Meaning → Type 0} (laws : Lawful match Asks
       (extract-short n (length scratch) _ (held-good n buffer bytes)) e
   make-short exchangeCall n buffer scratch table m bytes e =
       finish-short n buffer scratch _ (exchange-short n (length scratch) _ (held-good n buffer bytes)) e
+
+-- ---- the walk that an extract carries
+
+if-few : (b : Bool) (w : ℕ) → w ≤ 2047 → (if b then w else 0) ≤ 2047
+if-few true w h = h
+if-few false w h = omega arith
+
+walked-short : (match : Matcher) (n room : ℕ) (r : Result Plan) → Good r → walkedBy match n room r ≤ 2047
+unfolding walkedBy
+walked-short match n room (ok empty) g = omega arith
+walked-short match n room (ok (held F)) g =
+    if-few (leb n room) _ (omega (arith, walk-bounded-by match F, few-leaves F g))
+walked-short match n room (ok (extracted X)) g = omega arith
+walked-short match n room (refused number) g = omega arith
+
+pub walk-short-by : WalkShort
+unfolding extractWalkBy walkFilledBy
+walk-short-by match n buffer scratch table bytes =
+    if-few (tableFits table (heldPlan n buffer)) _ (walked-short match n (length scratch) (heldPlan n buffer) (held-good n buffer bytes))

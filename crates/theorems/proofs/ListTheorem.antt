@@ -117,7 +117,7 @@ module _ {match : Matcher} {Asks : Meaning → Type 0} (laws : Lawful match Asks
   pub list-agrees : (calls : List Made) → AgreeBy match F (after s calls) (machineAfterBy match F calls)
   list-agrees calls =
       let a : AgreesAll laws F (machineAfterBy match F calls) (after s calls) = after-all calls in
-      record { answers = a .answers; plan = a .holds .bytes; size = a .holds .size }
+      record { answers = a .answers; walks = a .walks; plan = a .holds .bytes; size = a .holds .size }
 
 -- ---- when a load is accepted
 

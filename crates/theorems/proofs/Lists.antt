@@ -14,20 +14,23 @@ use Rattle.definitions.specs.Expression.{Frame, Extraction, Plan, empty, held, 
 use Rattle.definitions.specs.Encode.{planBytes}
 use Rattle.definitions.specs.Plans.{planOf}
 use Rattle.definitions.specs.Extract.{Matcher, extractionBy}
+use Rattle.definitions.specs.OneWalk.{walkLengthBy}
 use Rattle.definitions.specs.Exchange.{exchangePlan, exchangeFrame, exchangeExtraction}
-use Rattle.definitions.specs.Calls.{Outcome, writtenOver, finish, heldPlan, newAfterExchange, exchange, matchedBytes, newAfterExtractBy, extractFilledBy, tableFits}
+use Rattle.definitions.specs.Calls.{Outcome, writtenOver, finish, heldPlan, newAfterExchange, exchange, matchedBytes, newAfterExtractBy, extractFilledBy, tableFits, walkedBy, walkFilledBy, extractWalkBy}
 use Rattle.definitions.specs.NodeTable.{NodeRecord, nodeTable, beginsWith}
-use Rattle.definitions.specs.Machine.{Kind, extractCall, exchangeCall, Bits, extractionOr, machinePlan, machineLength, Step, refuseStep, acceptStep, takeStep, machineStep, Run, machineRun}
-use Rattle.definitions.specs.Sessions.{Made, fed, makeBy, ListOutcome, callsRunBy}
+use Rattle.definitions.specs.Machine.{Kind, extractCall, exchangeCall, Bits, extractionOr, machinePlan, machineLength, Step, refuseStep, acceptStep, withWalk, takeStep, machineStep, Run, machineRun}
+use Rattle.definitions.specs.Sessions.{Made, fed, makeBy, walkBy, ListOutcome, callsRunBy}
 use Rattle.definitions.specs.Good.{GoodPlan}
 use Rattle.definitions.specs.Meaning.{Meaning}
 use Rattle.definitions.specs.Matchers.{Lawful}
 use Rattle.definitions.specs.OddMachine.{extractedPlan}
+use Rattle.theorems.proofs.Tools.{by-test}
 use Rattle.theorems.proofs.Exchange.{plan-twice}
 use Rattle.theorems.proofs.ExtractExchange.{exchanged-by}
 use Rattle.theorems.proofs.ExchangeGood.{plan-as-long, exchange-good}
 use Rattle.theorems.proofs.ExtractGood.{GoodExtraction, good-by}
 use Rattle.theorems.proofs.RoundTripPlan.{plan-reads}
+use Rattle.theorems.proofs.Walks.{walk-exchanged-by}
 use Rattle.theorems.proofs.TablesFit.{extract-filled-by, fits-exchanged, fits-base}
 
 -- The bits of the machine.
@@ -219,9 +222,10 @@ module _ {match : Matcher} {Asks : Meaning → Type 0} (laws : Lawful match Asks
 
   extract-room : (F : Frame) (o : Bool) (n : ℕ) (buffer scratch : List ℕ) (t : Bool) → Holds F (bits false o) n buffer
       → Agrees F (takeStep match F (bits false o) (extractionBy match F)) (finish n buffer scratch (matchedBytes (swapped-extraction F o)))
-      → Agrees F (if t then takeStep match F (bits false o) (extractionBy match F) else refuseStep (bits false o) 9)
+      → Agrees F
+      (if t then withWalk (walkLengthBy match F) (takeStep match F (bits false o) (extractionBy match F)) else refuseStep (bits false o) 9)
       (finish n buffer scratch (if t then matchedBytes (swapped-extraction F o) else refused 9))
-  extract-room F o n buffer scratch true h a = a
+  extract-room F o n buffer scratch true h a = record { answer = a .answer; holds = a .holds }
   extract-room F o n buffer scratch false h a = refuses F (bits false o) n buffer scratch 9 h
 
   extract-step : (F : Frame) (e o : Bool) (n : ℕ) (buffer scratch : List ℕ) → GoodPlan (held F) → Holds F (bits e o) n buffer
@@ -271,19 +275,66 @@ module _ {match : Matcher} {Asks : Meaning → Type 0} (laws : Lawful match Asks
       (extract-step F (b .isExtracted) (b .isOdd) n buffer scratch g h)
   step-agrees F b exchangeCall n buffer scratch table g t h = exchange-step F (b .isExtracted) (b .isOdd) n buffer scratch g h
 
+  -- ---- the walk that a call carries (request 10)
+
+  held-walk : (n room : ℕ) (F : Frame) (o : Bool)
+      → walkedBy match n room (ok (if o then held (exchangeFrame F) else held F)) ≡ (if leb n room then walkLengthBy match F else 0)
+  unfolding walkedBy
+  held-walk n room F true = ap (λ (w : ℕ). if leb n room then w else 0) (walk-exchanged-by laws F)
+  held-walk n room F false = refl
+
+  no-walk : (n room : ℕ) (X : Extraction) (o : Bool)
+      → walkedBy match n room (ok (if o then extracted (exchangeExtraction X) else extracted X)) ≡ 0
+  unfolding walkedBy
+  no-walk n room X true = refl
+  no-walk n room X false = refl
+
+  room-walk : (F : Frame) (b : Bits) (s : Step) (w : ℕ) (t : Bool)
+      → (if t then w else 0) ≡ (if t then withWalk w s else refuseStep b 9) .walk
+  unfolding refuseStep
+  room-walk F b s w true = refl
+  room-walk F b s w false = refl
+
+  extract-walk : (F : Frame) (e o : Bool) (n : ℕ) (buffer scratch : List ℕ) → GoodPlan (held F) → Holds F (bits e o) n buffer
+      → walkFilledBy match n buffer scratch ≡ machineStep match F (bits e o) extractCall (length scratch) .walk
+  unfolding walkFilledBy machineStep refuseStep
+  extract-walk F true o n buffer scratch g h =
+      rw (held-plan F true o n buffer g h, plan-extracted F (h .reached .0) o (h .reached .1)) (no-walk n (length scratch) (h .reached .0) o)
+  extract-walk F false o n buffer scratch g h =
+      rw (held-plan F false o n buffer g h, plan-held F o, held-walk n (length scratch) F o, ← (h .size))
+      (room-walk F (bits false o) (takeStep match F (bits false o) (extractionBy match F)) (walkLengthBy match F) (leb n (length scratch)))
+
+  exchange-walk : (F : Frame) (b : Bits) (room : ℕ) → 0 ≡ machineStep match F b exchangeCall room .walk
+  unfolding machineStep acceptStep refuseStep
+  exchange-walk F b room = by-test (λ (s : Step). 0 ≡ s .walk) (leb (machineLength match F b) room) _ _ (λ _. refl) (λ _. refl)
+
+  pub step-walk : (F : Frame) (b : Bits) (k : Kind) (n : ℕ) (buffer scratch : List ℕ) (table : List NodeRecord) → GoodPlan (held F)
+      → Tabled F table → Holds F b n buffer
+      → walkBy match k n buffer scratch table ≡ machineStep match F b k (length scratch) .walk
+  unfolding walkBy extractWalkBy
+  step-walk F b extractCall n buffer scratch table g t h =
+      ap (λ (fits : Bool). if fits then walkFilledBy match n buffer scratch else 0) (fits-held F b n buffer table g t h)
+      ∙ extract-walk F (b .isExtracted) (b .isOdd) n buffer scratch g h
+  step-walk F b exchangeCall n buffer scratch table g t h = exchange-walk F b (length scratch)
+
   -- What a list of calls must give.
   pub record AgreesAll (F : Frame) (m : Run) (c : ListOutcome) : Type 0 where
     pub answers : c .answers ≡ m .answers
+    pub walks : c .walks ≡ m .walks
     pub holds : Holds F (m .bits) (c .n) (c .buffer)
 
   pub run-agrees : (F : Frame) (table : List NodeRecord) → GoodPlan (held F) → Tabled F table
       → (calls : List Made) (b : Bits) (n : ℕ) (buffer : List ℕ) → Holds F b n buffer
       → AgreesAll F (machineRun match F b (map fed calls)) (callsRunBy match n buffer table calls)
   unfolding machineRun callsRunBy fed
-  run-agrees F table g t [] b n buffer h = record { answers = refl; holds = h }
+  run-agrees F table g t [] b n buffer h = record { answers = refl; walks = refl; holds = h }
   run-agrees F table g t (c ∷ cs) b n buffer h =
       let one : Agrees F (machineStep match F b (c .kind) (length (c .scratch))) (makeBy match (c .kind) n buffer (c .scratch) table) =
       step-agrees F b (c .kind) n buffer (c .scratch) table g t h in
       let after : AgreesAll F (machineRun match F (machineStep match F b (c .kind) (length (c .scratch)) .bits) (map fed cs)) _ =
       run-agrees F table g t cs _ _ _ (one .holds) in
-      record { answers = ap₂ (λ (a : Result ℕ) (l : List (Result ℕ)). a ∷ l) (one .answer) (after .answers); holds = after .holds }
+      record {
+        answers = ap₂ (λ (a : Result ℕ) (l : List (Result ℕ)). a ∷ l) (one .answer) (after .answers);
+        walks = ap₂ (λ (a : ℕ) (l : List ℕ). a ∷ l) (step-walk F b (c .kind) n buffer (c .scratch) table g t h) (after .walks);
+        holds = after .holds;
+      }

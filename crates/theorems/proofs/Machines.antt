@@ -15,10 +15,11 @@ use Rattle.definitions.specs.Expression.{Frame, Predicate, relation, distance, 
 use Rattle.definitions.specs.Encode.{predicateKind, extractionBytes, planBytes}
 use Rattle.definitions.specs.Leaves.{leaves}
 use Rattle.definitions.specs.Extract.{Matcher, matchesBy, extractionBy}
+use Rattle.definitions.specs.OneWalk.{walkLengthBy}
 use Rattle.definitions.specs.Exchange.{exchangePredicate, exchangeFrame, exchangeExtraction}
 use Rattle.definitions.specs.Calls.{Outcome}
 use Rattle.definitions.specs.NodeTable.{NodeRecord}
-use Rattle.definitions.specs.Machine.{extractCall, Bits, machinePlan, machineLength, refuseStep, acceptStep, takeStep, machineStep}
+use Rattle.definitions.specs.Machine.{extractCall, Bits, machinePlan, machineLength, refuseStep, acceptStep, withWalk, takeStep, machineStep}
 use Rattle.definitions.specs.Sessions.{Made, extractWith, makeBy, ListOutcome, callsRunBy, machineAfterBy, accepted, isExtract, extractAccepted, SessionBy, lengthAfter, planAfter, extractedIn, oddIn, answerAfter}
 use Rattle.definitions.specs.Meaning.{Meaning}
 use Rattle.definitions.specs.Matchers.{Lawful}
@@ -72,18 +73,18 @@ refusal (ok length) = 0
 refusal (refused number) = number
 
 -- 13 is given only where the frame has no extraction.
-no-extraction : (match : Matcher) (F : Frame) (b : Bits) (x : Option Extraction) (e t : Bool)
-    → (if e then refuseStep b 12 else if t then takeStep match F b x else refuseStep b 9) .answer ≡ refused 13 → x ≡ none
+no-extraction : (match : Matcher) (F : Frame) (b : Bits) (x : Option Extraction) (e t : Bool) (w : ℕ)
+    → (if e then refuseStep b 12 else if t then withWalk w (takeStep match F b x) else refuseStep b 9) .answer ≡ refused 13 → x ≡ none
 unfolding takeStep acceptStep refuseStep refusal
-no-extraction match F b none e t h = refl
-no-extraction match F b (some X) true t h = absurd (omega (arith, ap refusal h))
-no-extraction match F b (some X) false true h = absurd (omega (arith, ap refusal h))
-no-extraction match F b (some X) false false h = absurd (omega (arith, ap refusal h))
+no-extraction match F b none e t w h = refl
+no-extraction match F b (some X) true t w h = absurd (omega (arith, ap refusal h))
+no-extraction match F b (some X) false true w h = absurd (omega (arith, ap refusal h))
+no-extraction match F b (some X) false false w h = absurd (omega (arith, ap refusal h))
 
 none-by : (match : Matcher) (F : Frame) (b : Bits) (room : ℕ) → machineStep match F b extractCall room .answer ≡ refused 13
     → extractionBy match F ≡ none
 unfolding machineStep
-none-by match F b room h = no-extraction match F b (extractionBy match F) (b .isExtracted) (leb (machineLength match F b) room) h
+none-by match F b room h = no-extraction match F b (extractionBy match F) (b .isExtracted) (leb (machineLength match F b) room) _ h
 
 -- ---- the end of a list
 
@@ -114,7 +115,9 @@ module _ {match : Matcher} {Asks : Meaning → Type 0} (laws : Lawful match Asks
   unfolding machineStep takeStep refuseStep
   refused-again F true o room x r h = let z : _≡_ {A = ℕ} 0 1 = cc (r .1) in absurd (omega arith)
   refused-again F false o room x r h =
-      ap (λ (t : Bool). (if t then takeStep match F (bits false o) (extractionBy match F) else refuseStep (bits false o) 9) .answer)
+      ap (λ (t : Bool).
+      (if t then withWalk (walkLengthBy match F) (takeStep match F (bits false o) (extractionBy match F)) else refuseStep (bits false o) 9)
+      .answer)
       (le-leb _ room h)
       ∙ ap (λ (y : Option Extraction). takeStep match F (bits false o) y .answer) x
 

@@ -9,12 +9,13 @@ use lib.Dec.{eqb}
 use borrow.Author.Tests.{eqb-true, eq-eqb}
 use Rattle.definitions.specs.Basics.{bigEndian}
 use Rattle.definitions.specs.Expression.{Expr, column, literal, and, binary, call, other, field, Exprs, nil, cons}
-use Rattle.definitions.specs.Encode.{exprBytes, exprsBytes, frameBytes}
+use Rattle.definitions.specs.Limits.{mostBytes}
+use Rattle.definitions.specs.Encode.{exprBytes, exprsBytes, frameBytes, planBytes}
 use Rattle.definitions.specs.Exchange.{exchangeRecord, exchangeFrame}
-use Rattle.definitions.specs.Good.{nodes, nodesAll}
+use Rattle.definitions.specs.Good.{nodes, nodesAll, GoodPlan}
 use Rattle.definitions.specs.NodeTable.{NodeRecord, kindByte, recordOf, nodesFrom, rowFrom, nodeTable, sameRecord, beginsWith}
 use Rattle.definitions.specs.Calls.{writtenOver}
-use Rattle.definitions.specs.TableClaims.{Nested, nothing, node, Rising, TableNests, TableExchanged, BeginsExactly}
+use Rattle.definitions.specs.TableClaims.{Nested, nothing, node, Rising, TableNests, Within, PositionsFit, TableExchanged, BeginsExactly}
 use Rattle.theorems.proofs.Tools.{and-both}
 use Rattle.theorems.proofs.ExchangeGood.{frame-length}
 
@@ -186,3 +187,27 @@ begins-exactly-by records table = (
 pub begins-filled : (records table : List NodeRecord) → beginsWith records (writtenOver records table) ≡ true
 unfolding writtenOver
 begins-filled records table = begins-self records (drop (length records) table)
+
+-- ---- request 11
+
+nested-low : {a b : ℕ} {t : List NodeRecord} → Nested a b t → a ≤ b
+nested-low nothing = omega arith
+nested-low (node kind below inner after) = omega (arith, nested-low inner, nested-low after)
+
+within-both : (most : ℕ) (s t : List NodeRecord) → Within most s → Within most t → Within most (s ++ t)
+within-both most [] t f g = g
+within-both most (r ∷ s) t f g = (f .0, f .1, within-both most s t (f .2) g)
+
+nested-within : {a b : ℕ} {t : List NodeRecord} (most : ℕ) → Nested a b t → b ≤ most → Within most t
+nested-within most nothing h = tt
+nested-within most (node {inside = inside} {more} kind below inner after) h =
+    let low = nested-low inner in
+    let high = nested-low after in (
+      omega arith,
+      omega arith,
+      within-both most inside more (nested-within most inner (omega arith)) (nested-within most after h),
+    )
+
+pub positions-fit-by : PositionsFit
+unfolding planBytes
+positions-fit-by F good = nested-within mostBytes (table-nests-by F .1) (good .fewBytes)

@@ -21,22 +21,22 @@ use Rattle.definitions.specs.PrintRows.{PrintRows}
 use Rattle.definitions.specs.Merge.{mergeFrames}
 use Rattle.definitions.specs.MergeClaims.{MergedGood, MergedValue, MergedLeaves, MergeAccepted, MergeWrites, MergeKeeps, MergeHolds, ListAfterMerge, ValueAfterMerge, HistoryOfCalls, AnyMatcherMerges}
 use Rattle.definitions.specs.MergeRows.{MergeRows}
-use Rattle.definitions.specs.TableClaims.{TableNests, TableNamesBytes, TableExchanged, BeginsExactly, TableStays, ExtractFilled, ExtractUnfilled, ExtractTwice, NeverTooShort}
+use Rattle.definitions.specs.TableClaims.{TableNests, TableNamesBytes, PositionsFit, TableExchanged, BeginsExactly, TableStays, ExtractFilled, ExtractUnfilled, ExtractTwice, NeverTooShort}
 use Rattle.definitions.specs.TableRows.{TableRows}
 use Rattle.definitions.specs.PruningClaims.{KeptByHeldIndexes}
 use Rattle.definitions.specs.ProjectRows.{ProjectRows}
 use Rattle.definitions.specs.ProjectClaims.{PlaceExactly, NewColumnsThere, ProjectionValue, ProjectionExchanged, ProjectionGood, ProjectedExactly, ProjectWrites, ProjectKeeps, ListAfterProjection, AnyMatcherProjects, ListProjectedValue}
-use Rattle.definitions.specs.WalkClaims.{RemembersFirst, StopsAtKnn, OneWalkIsPick}
+use Rattle.definitions.specs.WalkClaims.{RemembersFirst, StopsAtKnn, OneWalkIsPick, WalkBounded, WalkWhole, WalkUnmatched, WalkExchanged, WalkCarried, WalkShort}
 use Rattle.definitions.specs.WalkRows.{WalkRows}
 use Rattle.theorems.proofs.Exchange.{plan-twice}
-use Rattle.theorems.proofs.Walks.{remembers-first-by, stops-at-knn-by, one-walk-is-pick-by}
+use Rattle.theorems.proofs.Walks.{remembers-first-by, stops-at-knn-by, one-walk-is-pick-by, walk-bounded-by, walk-whole-by, walk-unmatched-by, walk-exchanged-is, walk-carried-by}
 use Rattle.definitions.proofs.WalkedRows.{walk-rows-hold}
 use Rattle.theorems.proofs.RoundTripPlan.{expr-reads, plan-reads}
 use Rattle.theorems.proofs.InversePlan.{plan-back}
 use Rattle.theorems.proofs.Taken.{rest-of-leaves-are}
 use Rattle.theorems.proofs.ExchangeGood.{exchange-good, plan-as-long, moved-good}
 use Rattle.theorems.proofs.ListTheorem.{load-accepts, stays}
-use Rattle.theorems.proofs.Lengths.{load-is-short}
+use Rattle.theorems.proofs.Lengths.{load-is-short, walk-short-by}
 use Rattle.theorems.proofs.Changes.{load-keeps, load-wrote}
 use Rattle.theorems.proofs.RefusalNumbers.{load-refusals, exchange-refusals, logical-refusals, print-refusals, merge-refusals, project-refusals}
 use Rattle.theorems.proofs.TablesRoom.{never-too-short-by}
@@ -66,7 +66,7 @@ use Rattle.theorems.proofs.MergeCall.{merge-accepts, merge-wrote, merge
 use Rattle.theorems.proofs.Histories.{history-of}
 use Rattle.theorems.proofs.UpToLimits.{merge-rows-hold, project-rows-hold}
 use Rattle.definitions.proofs.TabledRows.{table-rows-hold}
-use Rattle.theorems.proofs.NodeTables.{table-nests-by, table-exchanged-by, begins-exactly-by}
+use Rattle.theorems.proofs.NodeTables.{table-nests-by, positions-fit-by, table-exchanged-by, begins-exactly-by}
 use Rattle.theorems.proofs.TableBytes.{table-names-bytes-by}
 use Rattle.theorems.proofs.TablesFit.{extract-filled-by, extract-unfilled-by, extract-twice-by}
 use Rattle.theorems.proofs.Pruned.{kept-by-held}
@@ -304,6 +304,9 @@ table-nests = table-nests-by
 pub table-names-bytes : TableNamesBytes
 table-names-bytes = table-names-bytes-by
 
+pub positions-fit : PositionsFit
+positions-fit = positions-fit-by
+
 pub table-exchanged : TableExchanged
 table-exchanged = table-exchanged-by
 
@@ -411,6 +414,26 @@ stops-at-knn = stops-at-knn-by
 
 pub one-walk-is-pick : OneWalkIsPick
 one-walk-is-pick = one-walk-is-pick-by
+
+-- ---- request 10
+
+pub walk-bounded : WalkBounded
+walk-bounded = walk-bounded-by
+
+pub walk-whole : WalkWhole
+walk-whole = walk-whole-by
+
+pub walk-unmatched : WalkUnmatched
+walk-unmatched = walk-unmatched-by
+
+pub walk-exchanged : WalkExchanged
+walk-exchanged = walk-exchanged-is
+
+pub walk-carried : WalkCarried
+walk-carried = walk-carried-by
+
+pub walk-short : WalkShort
+walk-short = walk-short-by
 
 pub walk-rows : WalkRows
 walk-rows = walk-rows-hold

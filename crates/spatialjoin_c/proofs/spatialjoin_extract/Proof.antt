@@ -45,9 +45,9 @@ use Rattle.node_table.proofs.LocalRow.{none-is, typed-row, called, sliced}
 use Rattle.node_table.proofs.WalkSteps.{slice, calls-with, last-list, free-at, arg, typed-slice, reborrows}
 use Rattle.node_table.proofs.WalkSlots.{Passeds, seen-slice, given-slice, copied, stayed, by-walk}
 use Rattle.node_table.proofs.RowSteps.{none, long, RowMut, RowShr, borrows-row, lends-row, shares-row, row-back, row-seen}
-use Rattle.definitions.specs.Calls.{extract}
+use Rattle.definitions.specs.Calls.{extract, extractWalk}
 use Rattle.call_extract.specs.ExtractByTable.{lentCount}
-use Rattle.host_calls.specs.Hosted.{CallHosted}
+use Rattle.host_calls.specs.Hosted.{ExtractHosted}
 use Rattle.host_calls.specs.Cores.{Lent, ExtractBy}
 use Rattle.spatialjoin_c.proofs.FilledLaws.{row-of}
 use Rattle.host_calls.proofs.cores.taken_count as g₁
@@ -192,7 +192,8 @@ module _ {M : Type 1} (𝓤 : URA M) (H : Heap 𝓤) (A : Atoms 𝓤) (W : Given
       ‵ (flft κ q) ∷ ‵ (flft κ₁ q₁) ∷ (‵ (flft κ₂ q₂) ⊛ ‵ ftrue) ∷ ‵ (finally u8 (ps .name) after)
       ∷ ‵ (finally u8 (cs .name) scratched) ∷ ‵ Own₂ ∷ []
 
-  exits : (z : ℤ) (u : Val) (after scratched : List ℕ) → CallHosted (ps .now) (extract n (ps .now) (cs .now) (nodesOf (xs .now))) after scratched z
+  exits : (z : ℤ) (u : Val) (after scratched : List ℕ) → ExtractHosted (ps .now) (extract n (ps .now) (cs .now) (nodesOf (xs .now)))
+      (extractWalk n (ps .now) (cs .now) (nodesOf (xs .now))) after scratched z
       → length after ≡ length (ps .now) → length scratched ≡ length (cs .now) → Is i64 z (u ∷ [])
       → ent 𝓤 (⋆ 𝓤 H A (Had after scratched)) (Post u)
   exits z u after scratched e lz lw is =

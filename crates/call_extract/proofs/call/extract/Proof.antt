@@ -1,6 +1,6 @@
 -- A plan buffer shorter than n holds nothing; rows of 1,024 are enough for every plan.
 use borrow.Author.Needs.{needs}
-use Rattle.join_filter.proofs.Refusing.{extract-call, no-room-for-n}
+use Rattle.join_filter.proofs.Walking.{long-refused}
 use Rattle.call_extract.proofs.call.extract.Statement.{statement}
 use Rattle.call_extract.proofs.call.extract.Tie as tie
 
@@ -8,7 +8,7 @@ pub extract-spec : {M : Type 1} → statement M
 extract-spec =
     tie.close
     (tie.spec
-    (λ c. let a = c .before .before .before .args in no-room-for-n extract-call (a .n) (a .plan .now) (a .scratch .now) (c .if1 .taken))
+    (λ c. let a = c .before .before .before .args in long-refused (a .n) (a .plan .now) (a .scratch .now) (c .if1 .taken))
     (search needs)
     (search needs)
     (search needs)

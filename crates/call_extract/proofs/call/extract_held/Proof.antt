@@ -1,9 +1,8 @@
 -- Each refusal is the definition's; a held frame, whose nodes are in the rows, is extracted.
 use borrow.Author.Needs.{needs}
-use mathlib.Core.Path.{refl, sym}
-use Rattle.definitions.specs.Calls.{newAfterExtractBy}
+use mathlib.Core.Path.{sym}
 use Rattle.join_filter.proofs.Keeping.{plan-length}
-use Rattle.join_filter.proofs.Refusing.{extract-call, no-plan, empty-plan, extracted-before}
+use Rattle.join_filter.proofs.Walking.{bad-refused, empty-refused, extracted-refused}
 use Rattle.call_extract.proofs.Collecting.{frame-indexed}
 use Rattle.call_extract.proofs.call.extract_held.Statement.{statement}
 use Rattle.call_extract.proofs.call.extract_held.Tie as tie
@@ -18,7 +17,6 @@ extract-frame-requires c κs =
     )
 
 pub extract-held-spec : {M : Type 1} → statement M
-unfolding newAfterExtractBy
 extract-held-spec =
     tie.close
     (tie.spec
@@ -36,11 +34,11 @@ extract-held-spec =
     (λ c.
     let none = rw (c .enum-told .given .1) at (c .before .before .before .before .before .before .held-plan-in .ensures) in
     let fits = c .before .before .before .before .before .before .before .before .before .before .before .before .before .before .pre .0 in
-    no-plan extract-call _ _ _ fits (none .0) (none .1))
+    bad-refused _ _ _ fits (none .0) (none .1))
     (λ c. search needs)
     (λ c. search needs)
     (λ c. search needs)
-    (λ c. empty-plan extract-call _ _ _
+    (λ c. empty-refused _ _ _
     (c .before .before .before .before .before .before .before .before .before .before .before .before .before .before .pre .0)
     (rw (c .enum-told2 .given .1) at (c .before .before .before .before .before .before .held-plan-in .ensures)))
     (λ c. search needs)
@@ -49,7 +47,7 @@ extract-held-spec =
     (λ c.
     let good = rw (c .enum-told3 .given .1) at (c .before .before .before .before .before .before .held-plan-in .ensures) in
     let fits = c .before .before .before .before .before .before .before .before .before .before .before .before .before .before .pre .0 in
-    extracted-before extract-call _ _ _ fits (λ X. refl) (good .0) (good .2))
+    extracted-refused _ _ _ fits (good .0) (good .2))
     (λ c. search needs)
     (λ c. search needs)
     (λ c. search needs)

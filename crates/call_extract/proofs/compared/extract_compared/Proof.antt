@@ -5,7 +5,7 @@ use native.Mathlib.Omega.{arith}
 use mathlib.Core.Bool.{Bool}
 use mathlib.Core.Logic.{⊎-elim}
 use mathlib.Core.List.{List}
-use mathlib.Core.Path.{_≡_, _∙_, subst}
+use mathlib.Core.Path.{_≡_, subst}
 use lib.ListN.{length}
 use borrow.Author.Needs.{needs}
 use borrow.Author.Tests.{ltb-true, ltb-false}
@@ -86,7 +86,7 @@ returns-2 c = λ table of.
     same-fits (a .n) (a .plan .now) (start .pre .0) (bytes (compared .before .before .before .before)) (start .pre .1) (a .scratch .now)
     (a .row .now) table (begins (compared .before) table of)
     (told compared (c .before .before .before .before .before .before .before .if3 .taken))
-    ∙ c .before .before .before .before .extract-frame .ensures
+    (c .before .before .before .before .extract-frame .ensures)
 
 returns-3 : tie.Need-returns-3
 returns-3 c = λ table of.

@@ -53,7 +53,7 @@ extract-frame-spec =
     let a = start .args in
     let walked = c .before .before .extract-in-one-walk .ensures _ _ (over (a .n) (a .plan .now) (a .scratch .now) (start .pre .0)) in
     no-leaf (a .n) (a .plan .now) (a .scratch .now) (start .pre .0) (c .before .before .before .before .if1 .left)
-    (rw (c .enum-told .given .1) at (walked .picked)))
+    (rw (c .enum-told .given .1) at (walked .picked)) _ (walked .walk))
     (λ c. search needs)
     (λ c. search needs)
     (λ c.
@@ -63,4 +63,6 @@ extract-frame-spec =
     extracts (start .args .n) (start .args .plan .now) (start .args .scratch .now) (start .pre .0)
     (all-bytes (start .args .plan .now) (at-pick .before .before .before .before .before .before .before .before .slice-known .given)) _
     (taken at-pick) _ (c .before .before .before .before .before .before .before .copy-bytes .ensures)
-    (at-pick .before .before .before .before .if1 .left) (written .last .0) (written .result) (written .ensures)))
+    (at-pick .before .before .before .before .if1 .left) (written .last .0) (written .result) (written .ensures) _
+    (at-pick .before .before .extract-in-one-walk .ensures _ _
+    (over (start .args .n) (start .args .plan .now) (start .args .scratch .now) (start .pre .0)) .walk)))

@@ -32,7 +32,7 @@ plan-line-spec =
     (λ c.
     rw (c .of-call .ensures, c .before .before .before .before .before .before .before .before .enum-told .given .1)
     (alone-gives extractCall _ _ (c .before .before .before .before .before .before .before .before .before .before .if1 .left) _ _ _
-    (c .before .before .before .before .before .extract .result) (c .before .before .before .before .before .extract .ensures)
+    (c .before .before .before .before .before .extract .result .answer) (c .before .before .before .before .before .extract .ensures .outcome)
     (search needs)))
     (λ c. search needs)
     (λ c. search needs)
