@@ -2,7 +2,7 @@
  * The join filter planner's calls for C and C++ hosts (libspatialjoin_c.a).
  *
  * PLANS. The host lends a buffer and keeps n: the plan stands in the buffer's first n bytes, and at the start, when there is none, n is
- * 0. After an accepted call n is the answer, after a refused one what it was. A refused call changes no byte of any buffer.
+ * 0. After an accepted call n is the answer's length, after a refused one what it was. A refused call changes no byte of any buffer.
  * SPATIALJOIN_MOST_BYTES are enough for every frame, plan and scratch, SPATIALJOIN_MOST_TEXT for every text. docs/FRAMES.md of the
  * repository has their bytes.
  *
@@ -12,7 +12,8 @@
  * by their fields.
  *
  * ANSWERS. An answer of at least 0 is a length (of spatialjoin_logical: see there). A negative one is a refusal: one of
- * enum spatialjoin_refusal.
+ * enum spatialjoin_refusal. That of spatialjoin_extract has the walk too, so as it stands it is neither: SPATIALJOIN_LENGTH_OF,
+ * SPATIALJOIN_WALK_OF and SPATIALJOIN_REFUSAL_OF take it apart.
  *
  * BUFFERS. Each pointer is to as many bytes (of a table: records, of a list: items) as the length after it says, bytes with any
  * alignment. No buffer of a call may overlap with another of the same call: that is undefined behaviour, as `restrict` says; only the two
@@ -36,9 +37,9 @@
 #include <stddef.h>
 #include <stdint.h>
 
-#define SPATIALJOIN_VERSION "0.9.0"
+#define SPATIALJOIN_VERSION "0.10.0"
 #define SPATIALJOIN_VERSION_MAJOR 0
-#define SPATIALJOIN_VERSION_MINOR 9
+#define SPATIALJOIN_VERSION_MINOR 10
 #define SPATIALJOIN_VERSION_PATCH 0
 
 /* The header's version as spatialjoin_version gives the archive's. */
@@ -71,6 +72,14 @@
 #define SPATIALJOIN_RESTRICT
 #endif
 
+#if defined(__cplusplus) || (defined(__STDC_VERSION__) && __STDC_VERSION__ >= 199901L)
+#define SPATIALJOIN_INLINE static inline
+#elif defined(__GNUC__)
+#define SPATIALJOIN_INLINE static __inline__
+#else
+#define SPATIALJOIN_INLINE static
+#endif
+
 #ifdef __cplusplus
 extern "C" {
 #endif
@@ -89,7 +98,7 @@ enum spatialjoin_refusal {
     SPATIALJOIN_NO_GOOD_PLAN = -10,      /* n is over the buffer's length, its first n bytes are no good plan, or not the table's */
     SPATIALJOIN_PLAN_EMPTY = -11,        /* n is 0 */
     SPATIALJOIN_ALREADY_EXTRACTED = -12, /* the plan is an extraction already */
-    SPATIALJOIN_NO_MATCH = -13,          /* no conjunct matches: the join stays filtered */
+    SPATIALJOIN_NO_MATCH = -13,          /* no conjunct matches: the join stays filtered; the answer has the walk too */
     SPATIALJOIN_TEXT_TOO_SHORT = -15,    /* the text buffer is shorter than the text; -14 is no call's, but of the program's lines */
     SPATIALJOIN_MERGED_TOO_LARGE = -16,  /* merged, over SPATIALJOIN_MOST_BYTES, 1,024 nodes, 64 levels or 256 records */
     SPATIALJOIN_TABLE_TOO_SHORT = -17,   /* the table has fewer records than the new plan has nodes (load, merge) */
@@ -116,6 +125,32 @@ enum spatialjoin_plan {
 /* Of a plan that is an extraction: the position, from 0, of the conjunct that was taken among those of the filter as it was loaded or
  * merged. Exchanging and projecting keep it. */
 #define SPATIALJOIN_POSITION_OF(plan) ((unsigned)(plan)[1] * 256 + (unsigned)(plan)[2])
+
+/* The new plan's length (a size_t) in an accepted spatialjoin_extract's answer; 0 in a refused one's. */
+#define SPATIALJOIN_LENGTH_OF(answer) spatialjoin_length_of(answer)
+
+/* The walk (an unsigned) in a spatialjoin_extract's answer, accepted or refused with SPATIALJOIN_NO_MATCH; 0 with every other refusal. */
+#define SPATIALJOIN_WALK_OF(answer) spatialjoin_walk_of(answer)
+
+/* The refusal (an int, one of enum spatialjoin_refusal) in a refused spatialjoin_extract's answer; 0 in an accepted one's. */
+#define SPATIALJOIN_REFUSAL_OF(answer) spatialjoin_refusal_of(answer)
+
+/* What the three stand for; each takes its answer once, so it may be the call itself. Of every other call but spatialjoin_logical they
+ * give the length, a walk of 0 and the refusal; so one function of a host can take all of these answers. */
+SPATIALJOIN_INLINE size_t spatialjoin_length_of(int64_t answer)
+{
+    return answer < 0 ? 0 : (size_t)(answer % 65536);
+}
+
+SPATIALJOIN_INLINE unsigned spatialjoin_walk_of(int64_t answer)
+{
+    return answer < 0 ? (unsigned)(-answer / 256) : (unsigned)(answer / 65536);
+}
+
+SPATIALJOIN_INLINE int spatialjoin_refusal_of(int64_t answer)
+{
+    return answer < 0 ? -(int)(-answer % 256) : 0;
+}
 
 /* The names in the mask of spatialjoin_logical. */
 enum spatialjoin_name {
@@ -155,8 +190,11 @@ int64_t spatialjoin_load(const uint8_t *SPATIALJOIN_RESTRICT frame, size_t frame
                          uint8_t *SPATIALJOIN_RESTRICT plan, size_t plan_len,
                          spatialjoin_node *SPATIALJOIN_RESTRICT table, size_t table_len);
 
-/* Pulls the spatial predicate out of the held filter: the new plan's length, or -10, -11, -12, -9, -13 in this order. -10 also where a
- * frame is held and the table does not begin with its nodes. The old plan is copied to the scratch's first n bytes. */
+/* Pulls the spatial predicate out of the held filter: walk * 65536 + the new plan's length, or -10, -11, -12, -9, -(walk * 256 + 13) in
+ * this order, which the macros above take apart. -10 also where a frame is held and the table does not begin with its nodes. The walk is
+ * the planning effort: how many And nodes and conjuncts were read. These are all that are reached from the root through And nodes only, in
+ * the order in which they stand in the frame, up to and including the first KNN match, or all if there is none. The old plan is copied to
+ * the scratch's first n bytes. */
 int64_t spatialjoin_extract(uint8_t *SPATIALJOIN_RESTRICT plan, size_t plan_len, size_t n,
                             uint8_t *SPATIALJOIN_RESTRICT scratch, size_t scratch_len,
                             const spatialjoin_node *SPATIALJOIN_RESTRICT table, size_t table_len);

@@ -4,7 +4,7 @@
 use reading::frame::{MAX_BYTES, MAX_NODES, Plan};
 use reading::project::{Lists, MAX_ITEMS};
 use reading::refusal::Refusal;
-use reading::{calls, decode, encode, nodes};
+use reading::{calls, decode, encode, nodes, walk};
 use spatialjoin::{MOST_TEXT, Node};
 
 use crate::operations::{
@@ -72,6 +72,9 @@ pub fn physical(physical: &Physical) -> Result<(), String> {
         out.clear();
         extract_from_bytes(frame, functions, &mut out);
         same_extraction(name, ours.plan(), &out, &read(frame, &["extract"]))?;
+        if ours.walk() as usize != walk_of(frame) {
+            return Err(format!("{name}: our walk differs from the reading's"));
+        }
         ours.exchange();
         out.clear();
         exchange_extraction_bytes(extraction, functions, &mut out);
@@ -118,6 +121,11 @@ fn plain_load(frame: &[u8]) -> bool {
     .all(|alike| alike)
 }
 
+/// The walk of a good frame.
+fn walk_of(frame: &[u8]) -> usize {
+    decode::physical(frame).map_or(0, |frame| walk::length(&frame))
+}
+
 /// The nodes of a frame; none of other bytes.
 pub fn nodes_of(frame: &[u8]) -> Vec<nodes::Node> {
     decode::physical(frame).map_or(Vec::new(), |frame| nodes::table(&frame))
@@ -141,9 +149,11 @@ fn extracted_alike(plan: &[u8], n: usize, scratch: usize) -> bool {
     [&table[..], &table[..short]].into_iter().all(|table| {
         let mut plain = (plan.to_vec(), vec![0; scratch]);
         let mut read = plain.clone();
-        let answer = plain::extract(&mut plain.0, n, &mut plain.1, &of_reading(table));
+        let walk = calls::walk(n, &read.0, &read.1, table);
+        let walked = plain::extract(&mut plain.0, n, &mut plain.1, &of_reading(table));
         let expected = calls::extract(&mut { n }, &mut read.0, &mut read.1, table);
-        answer == expected.map_err(Refusal::number) && plain == read
+        let answered = walked.answer == expected.map_err(Refusal::number);
+        answered && walked.walk as usize == walk && plain == read
     })
 }
 

@@ -9,6 +9,8 @@ pub struct Ours {
     scratch: Vec<u8>,
     table: Vec<Node>,
     n: usize,
+    /// Of the last extract.
+    walk: u32,
 }
 
 impl Ours {
@@ -18,6 +20,7 @@ impl Ours {
             scratch: vec![0; MAX_BYTES],
             table: vec![Node::default(); MOST_NODES],
             n: 0,
+            walk: 0,
         }
     }
 
@@ -29,7 +32,10 @@ impl Ours {
     pub fn extract(&mut self) {
         let (plan, scratch) = (&mut self.plan, &mut self.scratch);
         let answer = numbers::extract(plan, self.n, scratch, &self.table);
-        self.keep(answer);
+        self.walk = numbers::walk_of(answer);
+        if answer >= 0 {
+            self.n = numbers::length_of(answer);
+        }
     }
 
     /// Extracts, and holds the old plan again: the call left it in the scratch, so the buffers
@@ -83,6 +89,10 @@ impl Ours {
 
     pub fn plan(&self) -> &[u8] {
         &self.plan[..self.n]
+    }
+
+    pub fn walk(&self) -> u32 {
+        self.walk
     }
 
     pub fn table(&self) -> &[Node] {

@@ -1,5 +1,5 @@
-/* Tests of the library as a C host sees it: its version, every refusal by its constant, the names of the mask, texts, merged filters,
- * tables of nodes, projections, NULL with length 0. Ends with 1 where a call answers otherwise. `../check` builds and runs it. */
+/* Tests of the library as a C host sees it: its version, every refusal by its constant, walks, the names of the mask, texts, merged
+ * filters, tables of nodes, projections, NULL with length 0. Ends with 1 where a call answers otherwise. `../check` builds and runs it. */
 #include <stdio.h>
 #include <string.h>
 
@@ -36,6 +36,7 @@ static void expect(const char *what, int64_t answer, int64_t expected)
 #define MERGE(bytes, room, n, kept) \
     spatialjoin_merge((const uint8_t *)(bytes), sizeof(bytes) - 1, plan, room, n, scratch, kept, table, NODES)
 #define PRINT(bytes, room) spatialjoin_print((const uint8_t *)(bytes), sizeof(bytes) - 1, text, room)
+#define EXTRACT(n, kept) spatialjoin_extract(plan, sizeof plan, n, scratch, kept, table, NODES)
 
 static void versions(void)
 {
@@ -81,25 +82,74 @@ static void refusals_of_frames(void)
 static void refusals_of_plans(void)
 {
     size_t n;
-    int64_t extracted;
     expect("extract, n past the end", spatialjoin_extract(plan, 8, 9, scratch, sizeof scratch, table, NODES), SPATIALJOIN_NO_GOOD_PLAN);
-    expect("extract, n = 0", spatialjoin_extract(plan, sizeof plan, 0, scratch, sizeof scratch, table, NODES), SPATIALJOIN_PLAN_EMPTY);
+    expect("extract, n = 0", EXTRACT(0, sizeof scratch), SPATIALJOIN_PLAN_EMPTY);
     expect("exchange, n = 0", spatialjoin_exchange(plan, sizeof plan, 0, scratch, sizeof scratch), SPATIALJOIN_PLAN_EMPTY);
 
     n = (size_t)LOAD(UNMATCHED);
-    expect("no match", spatialjoin_extract(plan, sizeof plan, n, scratch, sizeof scratch, table, NODES), SPATIALJOIN_NO_MATCH);
+    expect("no match", SPATIALJOIN_REFUSAL_OF(EXTRACT(n, sizeof scratch)), SPATIALJOIN_NO_MATCH);
     expect("still a frame", plan[0], SPATIALJOIN_FRAME);
 
     n = (size_t)LOAD(GOOD);
-    expect("extract, scratch too short", spatialjoin_extract(plan, sizeof plan, n, scratch, n - 1, table, NODES), SPATIALJOIN_TOO_SHORT);
+    expect("extract, scratch too short", EXTRACT(n, n - 1), SPATIALJOIN_TOO_SHORT);
     expect("exchange, scratch too short", spatialjoin_exchange(plan, sizeof plan, n, scratch, n - 1), SPATIALJOIN_TOO_SHORT);
-    extracted = spatialjoin_extract(plan, sizeof plan, n, scratch, n, table, NODES);
-    expect("extract", extracted, 15);
+    expect("extract", (int64_t)SPATIALJOIN_LENGTH_OF(EXTRACT(n, n)), 15);
     expect("a relation", plan[0], SPATIALJOIN_RELATION);
-    expect("extract again", spatialjoin_extract(plan, sizeof plan, 15, scratch, 15, table, NODES), SPATIALJOIN_ALREADY_EXTRACTED);
+    expect("extract again", EXTRACT(15, 15), SPATIALJOIN_ALREADY_EXTRACTED);
     expect("exchange", spatialjoin_exchange(plan, sizeof plan, 15, scratch, 15), 15);
     plan[0] = SPATIALJOIN_FRAME;
     expect("no plan", spatialjoin_exchange(plan, sizeof plan, 15, scratch, 15), SPATIALJOIN_NO_GOOD_PLAN);
+}
+
+/* An extract's answer and its three parts. */
+static void expect_parts(const char *what, int64_t answer, int64_t number, size_t length, unsigned walk, int refusal)
+{
+    expect(what, answer, number);
+    expect(what, (int64_t)SPATIALJOIN_LENGTH_OF(answer), (int64_t)length);
+    expect(what, SPATIALJOIN_WALK_OF(answer), walk);
+    expect(what, SPATIALJOIN_REFUSAL_OF(answer), refusal);
+}
+
+#define AND "\x02\x00"
+#define OR "\x02\x05"
+#define WITHIN "\x03\x09" "st_within" "\x02" LEFT RIGHT
+#define NEAREST "\x03\x06" "st_knn" "\x02" LEFT RIGHT
+#define EXPECT_WALK(what, filter, walk) expect(what, SPATIALJOIN_WALK_OF(EXTRACT((size_t)LOAD(RECORDS filter), sizeof scratch)), walk)
+
+/* How many And nodes and conjuncts an extract reads; accepted, refused with 13 and otherwise. */
+static void walks(void)
+{
+    size_t n;
+    EXPECT_WALK("one conjunct", WITHIN, 1);
+    EXPECT_WALK("two", AND WITHIN LEFT, 3);
+    EXPECT_WALK("three", AND AND WITHIN LEFT WITHIN, 5);
+    EXPECT_WALK("three, the other way", AND WITHIN AND LEFT WITHIN, 5);
+    EXPECT_WALK("one KNN", NEAREST, 1);
+    EXPECT_WALK("the KNN first", AND NEAREST WITHIN, 2);
+    EXPECT_WALK("the KNN second", AND WITHIN NEAREST, 3);
+    EXPECT_WALK("the KNN first below two Ands", AND AND NEAREST LEFT WITHIN, 3);
+    EXPECT_WALK("the KNN second of three", AND AND WITHIN NEAREST NEAREST, 4);
+    EXPECT_WALK("the KNN second, the other way", AND WITHIN AND NEAREST NEAREST, 4);
+    EXPECT_WALK("the KNN last", AND LEFT AND WITHIN NEAREST, 5);
+    EXPECT_WALK("a KNN that does not match", AND "\x03\x06" "st_knn" "\x02" LEFT LEFT WITHIN, 3);
+    EXPECT_WALK("a KNN below an Or", AND OR NEAREST NEAREST WITHIN, 3);
+    EXPECT_WALK("no match", LEFT, 1);
+    EXPECT_WALK("no match of three", AND LEFT AND LEFT LEFT, 5);
+
+    n = (size_t)LOAD(RECORDS AND WITHIN LEFT);
+    expect_parts("scratch too short", EXTRACT(n, n - 1), -9, 0, 0, SPATIALJOIN_TOO_SHORT);
+    expect_parts("no table", spatialjoin_extract(plan, n, n, scratch, n, NULL, 0), -10, 0, 0, SPATIALJOIN_NO_GOOD_PLAN);
+    expect_parts("n = 0", EXTRACT(0, n), -11, 0, 0, SPATIALJOIN_PLAN_EMPTY);
+    expect_parts("accepted", EXTRACT(n, n), 3 * 65536 + 27, 27, 3, 0);
+    expect_parts("extracted", EXTRACT(27, n), -12, 0, 0, SPATIALJOIN_ALREADY_EXTRACTED);
+    expect_parts("exchanged", spatialjoin_exchange(plan, 27, 27, scratch, 27), 27, 27, 0, 0);
+    expect_parts("exchange, n = 0", spatialjoin_exchange(plan, 27, 0, scratch, 27), -11, 0, 0, SPATIALJOIN_PLAN_EMPTY);
+    n = (size_t)LOAD(RECORDS AND LEFT LEFT);
+    expect_parts("no match of two", EXTRACT(n, n), -(3 * 256 + 13), 0, 3, SPATIALJOIN_NO_MATCH);
+    n = (size_t)spatialjoin_exchange(plan, n, n, scratch, n);
+    expect_parts("no match of two, exchanged", EXTRACT(n, n), -(3 * 256 + 13), 0, 3, SPATIALJOIN_NO_MATCH);
+    expect_parts("a text", PRINT(GOOD, sizeof text), 23, 23, 0, 0);
+    expect_parts("no text", PRINT(GOOD, 0), -15, 0, 0, SPATIALJOIN_TEXT_TOO_SHORT);
 }
 
 /* Which conjunct was taken: of a filter whose first one does not match, and of a held extraction with any position. */
@@ -107,7 +157,7 @@ static void positions(void)
 {
     size_t n = (size_t)LOAD(UNMATCHED);
     n = (size_t)spatialjoin_merge((const uint8_t *)GOOD, sizeof(GOOD) - 1, plan, sizeof plan, n, scratch, sizeof scratch, table, NODES);
-    n = (size_t)spatialjoin_extract(plan, sizeof plan, n, scratch, sizeof scratch, table, NODES);
+    n = SPATIALJOIN_LENGTH_OF(EXTRACT(n, sizeof scratch));
     expect("the second conjunct", SPATIALJOIN_POSITION_OF(plan), 1);
     n = (size_t)spatialjoin_exchange(plan, sizeof plan, n, scratch, sizeof scratch);
     expect("the second conjunct, exchanged", SPATIALJOIN_POSITION_OF(plan), 1);
@@ -204,7 +254,7 @@ static void merged_filters(void)
     expect("the old plan", memcmp(scratch, GOOD, n) == 0, 1);
     expect("the bytes after both", plan[length] == 7 && scratch[n] == 7, 1);
     expect("merge again", MERGE(ALONE, sizeof plan, length, length), (int64_t)length + 6);
-    expect("extract what was merged", spatialjoin_extract(plan, sizeof plan, length + 6, scratch, sizeof scratch, table, NODES) > 0, 1);
+    expect("extract what was merged", EXTRACT(length + 6, sizeof scratch) > 0, 1);
     expect("a relation", plan[0], SPATIALJOIN_RELATION);
 }
 
@@ -231,7 +281,7 @@ static void refusals_of_merges(void)
     expect("the held plan", memcmp(plan, GOOD, n) == 0 && plan[n] == 7 && scratch[0] == 7, 1);
     expect("merge 63 levels", spatialjoin_merge(frame, levels(63), plan, sizeof plan, n, scratch, n, table, NODES), (int64_t)n + 254);
     n = (size_t)LOAD(GOOD);
-    n = (size_t)spatialjoin_extract(plan, sizeof plan, n, scratch, n, table, NODES);
+    n = SPATIALJOIN_LENGTH_OF(EXTRACT(n, n));
     expect("merge, extracted", spatialjoin_merge(frame, levels(64), plan, n, n, scratch, 0, table, NODES),
            SPATIALJOIN_ALREADY_EXTRACTED);
 }
@@ -394,6 +444,7 @@ int main(void)
     versions();
     refusals_of_frames();
     refusals_of_plans();
+    walks();
     positions();
     names_of_frames();
     texts_of_frames();

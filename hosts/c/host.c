@@ -1,6 +1,6 @@
 /* A C host: it tests the archive's version; then the worked run's filter as text, and the run, its answers printed as the program
- * spatialjoin prints them; then the filter with a row policy, and its extraction over narrowed children. `../check` builds and runs it. */
-#include <inttypes.h>
+ * spatialjoin prints them; then the filter with a row policy, and its extraction over narrowed children; and what the extracts cost.
+ * `../check` builds and runs it. */
 #include <stdio.h>
 
 #include "spatialjoin.h"
@@ -38,11 +38,14 @@ static uint8_t scratch[SPATIALJOIN_MOST_BYTES];
 static spatialjoin_node table[SPATIALJOIN_MOST_NODES];
 static size_t n = 0;
 
+/* What the bill has: the sum of the walks of all extracts, refused ones too. */
+static unsigned long effort = 0;
+
 /* Prints a refused call's number. */
 static int refused(int64_t answer)
 {
     if (answer < 0) {
-        printf("%02" PRIx64 "\n", (uint64_t)-answer);
+        printf("%02x\n", (unsigned)-SPATIALJOIN_REFUSAL_OF(answer));
     }
     return answer < 0;
 }
@@ -53,12 +56,19 @@ static void take(int64_t answer)
     if (refused(answer)) {
         return;
     }
-    n = (size_t)answer;
+    n = SPATIALJOIN_LENGTH_OF(answer);
     printf("00");
     for (size_t i = 0; i < n; i++) {
         printf("%02x", (unsigned)plan[i]);
     }
     printf("\n");
+}
+
+static void extract(void)
+{
+    int64_t answer = spatialjoin_extract(plan, sizeof plan, n, scratch, sizeof scratch, table, SPATIALJOIN_MOST_NODES);
+    effort += SPATIALJOIN_WALK_OF(answer);
+    take(answer);
 }
 
 static int64_t project(void)
@@ -83,19 +93,20 @@ int main(void)
     }
     show(spatialjoin_print(frame, sizeof frame, text, sizeof text));
     take(spatialjoin_load(frame, sizeof frame, plan, sizeof plan, table, SPATIALJOIN_MOST_NODES));
-    take(spatialjoin_extract(plan, sizeof plan, n, scratch, sizeof scratch, table, SPATIALJOIN_MOST_NODES));
+    extract();
     take(spatialjoin_exchange(plan, sizeof plan, n, scratch, sizeof scratch));
-    take(spatialjoin_extract(plan, sizeof plan, n, scratch, sizeof scratch, table, SPATIALJOIN_MOST_NODES));
+    extract();
 
     take(spatialjoin_load(frame, sizeof frame, plan, sizeof plan, table, SPATIALJOIN_MOST_NODES));
     take(spatialjoin_merge(policy, sizeof policy, plan, sizeof plan, n, scratch, sizeof scratch, table, SPATIALJOIN_MOST_NODES));
     show(spatialjoin_print(plan, n, text, sizeof text));
-    take(spatialjoin_extract(plan, sizeof plan, n, scratch, sizeof scratch, table, SPATIALJOIN_MOST_NODES));
+    extract();
 
     take(spatialjoin_load(frame, sizeof frame, plan, sizeof plan, table, SPATIALJOIN_MOST_NODES));
-    take(spatialjoin_extract(plan, sizeof plan, n, scratch, sizeof scratch, table, SPATIALJOIN_MOST_NODES));
+    extract();
     take(project());
     take(spatialjoin_exchange(plan, sizeof plan, n, scratch, sizeof scratch));
     take(project()); /* Refused: the plan has the new columns now, and the list of the right child has no 1. */
+    printf("planning effort: %lu\n", effort);
     return 0;
 }

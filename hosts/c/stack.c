@@ -224,7 +224,7 @@ static void measure(enum call call)
     }
     if (answer >= 0) {
         accepted[call]++;
-        n = call == LOGICAL || call == PRINT ? n : (size_t)answer;
+        n = call == LOGICAL || call == PRINT ? n : SPATIALJOIN_LENGTH_OF(answer);
     }
 }
 

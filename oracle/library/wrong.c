@@ -1,5 +1,5 @@
-/* The library with one fault, chosen by WRONG; wrong_project.c has those of project, wrong_marks.c those of bounds. Its own functions
- * are renamed to right_.. before (library-mutants). */
+/* The library with one fault, chosen by WRONG; wrong_project.c has those of project, wrong_marks.c those of bounds, wrong_walk.c those of
+ * extract's walk. Its own functions are renamed to right_.. before (library-mutants). */
 #include <stddef.h>
 #include <stdint.h>
 #include <string.h>
@@ -14,6 +14,7 @@ int64_t right_extract(uint8_t *plan, size_t plan_len, size_t n, uint8_t *scratch
                       size_t table_len);
 int64_t extract_by_bound(uint8_t *plan, size_t plan_len, size_t n, uint8_t *scratch, size_t scratch_len, const node *table,
                          size_t table_len);
+int64_t spoil_walk(const uint8_t *frame, const uint8_t *plan, int64_t answer);
 int64_t right_exchange(uint8_t *plan, size_t plan_len, size_t n, uint8_t *scratch, size_t scratch_len);
 int64_t right_logical(const uint8_t *frame, size_t frame_len);
 int64_t right_print(const uint8_t *frame, size_t frame_len, uint8_t *text, size_t text_len);
@@ -109,6 +110,12 @@ static int asks_for_none(const uint8_t *plan, size_t n)
         && memcmp(plan + n - 8, zero, 8) == 0;
 }
 
+/* Whether an extract was refused with 13, whatever its walk. */
+static int is_unmatched(int64_t answer)
+{
+    return answer < 0 && -answer % 256 == 13;
+}
+
 /* Takes a KNN with k 0: with 1 in its place, which becomes 0 again where the fault is that it stays 0. */
 static int64_t take_none(uint8_t *plan, size_t plan_len, size_t n, uint8_t *scratch, size_t scratch_len, const node *table,
                          size_t table_len)
@@ -146,7 +153,7 @@ int64_t spatialjoin_extract(uint8_t *plan, size_t plan_len, size_t n, uint8_t *s
                             size_t table_len)
 {
     int64_t answer = extract_by_bound(plan, plan_len, n, scratch, scratch_len, table, table_len);
-    if ((WRONG == 32 || WRONG == 33) && answer == -13 && asks_for_none(plan, n)) {
+    if ((WRONG == 32 || WRONG == 33) && is_unmatched(answer) && asks_for_none(plan, n)) {
         answer = take_none(plan, plan_len, n, scratch, scratch_len, table, table_len);
     }
     if (WRONG == 41 && answer == -10 && lacks_table(plan, plan_len, n)) {
@@ -164,11 +171,11 @@ int64_t spatialjoin_extract(uint8_t *plan, size_t plan_len, size_t n, uint8_t *s
     if (WRONG == 3 && answer > 0 && n < scratch_len) {
         scratch[n] ^= 1;
     }
-    if (WRONG == 4 && answer == -13 && scratch_len > 0) {
+    if (WRONG == 4 && is_unmatched(answer) && scratch_len > 0) {
         scratch[0] ^= 1;
     }
     spoil_position(plan, answer, WRONG == 30 ? 0 : WRONG);
-    return answer;
+    return WRONG >= 70 ? spoil_walk(answer > 0 ? scratch : plan, plan, answer) : answer;
 }
 
 /* Exchanges a held KNN whose k is 0, with 1 in its place meanwhile. */

@@ -63,7 +63,7 @@ static int64_t extract_as_left(uint8_t *plan, size_t n, uint8_t *scratch)
     answer = right_extract(held, sizeof held, n, kept, sizeof kept, table, 1024);
     if (answer > 0) {
         memcpy(scratch, plan, n);
-        memcpy(plan, held, (size_t)answer);
+        memcpy(plan, held, (size_t)(answer % 65536));
     }
     return answer;
 }
@@ -74,7 +74,7 @@ static int64_t take_marks(uint8_t *plan, size_t n, uint8_t *scratch, size_t star
     int64_t answer = extract_as_left(plan, n, scratch);
     if (answer > 0) {
         plan[4] = 2;
-        memcpy(plan + answer - 1 - (n - start), scratch + start, n - start);
+        memcpy(plan + answer % 65536 - 1 - (n - start), scratch + start, n - start);
     }
     return answer;
 }
@@ -87,17 +87,19 @@ int64_t extract_by_bound(uint8_t *plan, size_t plan_len, size_t n, uint8_t *scra
     static uint8_t scratch_before[16384];
     size_t start = 0, kept = scratch_len < sizeof scratch_before ? scratch_len : sizeof scratch_before;
     int64_t answer;
+    int unmatched;
     memcpy(scratch_before, scratch, kept);
     answer = right_extract(plan, plan_len, n, scratch, scratch_len, table, table_len);
-    if (WRONG == 67 && answer == -13 && bound_sides(plan, &start) == 4) {
+    unmatched = answer < 0 && -answer % 256 == 13;
+    if (WRONG == 67 && unmatched && bound_sides(plan, &start) == 4) {
         answer = take_marks(plan, n, scratch, start);
     }
     if (WRONG == 68 && answer > 0 && plan[0] == 0x12 && plan[4] == 2) {
         memcpy(plan, scratch, n);
         memcpy(scratch, scratch_before, n);
-        answer = -13;
+        answer = -(answer / 65536 * 256 + 13);
     }
-    if (WRONG == 69 && answer == -13 && bound_sides(plan, &start) == 5) {
+    if (WRONG == 69 && unmatched && bound_sides(plan, &start) == 5) {
         answer = extract_as_left(plan, n, scratch);
     }
     return answer;

@@ -1,5 +1,5 @@
-//! The yardstick for extract: finds the conjunct in a walk over the held frame, and writes the
-//! extraction from the old plan's copy in the scratch.
+//! The yardstick for extract: finds the conjunct in a walk over the held frame, counts what it reads,
+//! and writes the extraction from the old plan's copy in the scratch.
 
 use reading::frame::{MAX_RECORDS, PHYSICAL};
 use spatialjoin::Node;
@@ -8,29 +8,54 @@ use super::check;
 use super::nodes::{self, two};
 use super::pick::{NEITHER, Predicate, Taken, pick};
 
-/// The new plan's length, or the refusal's number.
-pub fn extract(plan: &mut [u8], n: usize, scratch: &mut [u8], table: &[Node]) -> Result<usize, u8> {
+/// An extract's answer: the new plan's length, or the refusal's number; and the walk.
+pub struct Walked {
+    pub answer: Result<usize, u8>,
+    pub walk: u32,
+}
+
+pub fn extract(plan: &mut [u8], n: usize, scratch: &mut [u8], table: &[Node]) -> Walked {
+    let start = match extractable(plan, n, scratch.len(), table) {
+        Ok(start) => start,
+        Err(number) => {
+            let answer = Err(number);
+            return Walked { answer, walk: 0 };
+        }
+    };
+    let (taken, walk) = pick(&plan[..n], start);
+    let taken = taken.ok_or(13);
+    let answer = taken.map(|taken| write(plan, &mut scratch[..n], start, &taken));
+    Walked { answer, walk }
+}
+
+/// Where the held frame's filter starts, unless a refusal comes before 13.
+fn extractable(plan: &[u8], n: usize, scratch: usize, table: &[Node]) -> Result<usize, u8> {
     let checked = check::held(plan, n)?;
-    let start = checked.start;
     let table = table.get(..checked.nodes).ok_or(10)?;
     let mut same = true;
-    nodes::each(&plan[..n], start, |index, node| {
+    nodes::each(&plan[..n], checked.start, |index, node| {
         same &= table[index] == node
     });
     if !same {
         return Err(10);
     }
-    let scratch = scratch.get_mut(..n).ok_or(9)?;
-    let taken = pick(&plan[..n], start).ok_or(13)?;
-    scratch.copy_from_slice(&plan[..n]);
+    if scratch < n {
+        return Err(9);
+    }
+    Ok(checked.start)
+}
+
+/// The new plan's length.
+fn write(plan: &mut [u8], scratch: &mut [u8], start: usize, taken: &Taken) -> usize {
+    scratch.copy_from_slice(&plan[..scratch.len()]);
     let mut writer = Writer {
         old: scratch,
         plan,
         end: 0,
     };
     writer.predicate(taken.position, &taken.predicate);
-    writer.remainder(start, &taken);
-    Ok(writer.end)
+    writer.remainder(start, taken);
+    writer.end
 }
 
 /// Writes the new plan from the old one.

@@ -53,16 +53,17 @@ pub struct Argument {
     marked: bool,
 }
 
-/// The first KNN match, else the first match.
-pub fn pick(frame: &[u8], start: usize) -> Option<Taken> {
+/// The first KNN match, else the first match; and how many And nodes and conjuncts were read.
+pub fn pick(frame: &[u8], start: usize) -> (Option<Taken>, u32) {
     let mut picker = Picker {
         frame,
         at: start,
         position: 0,
+        walk: 0,
         taken: None,
     };
     picker.conjunct(None);
-    picker.taken
+    (picker.taken, picker.walk)
 }
 
 struct Picker<'a> {
@@ -70,6 +71,8 @@ struct Picker<'a> {
     at: usize,
     /// Of the next leaf.
     position: u16,
+    /// So many nodes were read.
+    walk: u32,
     taken: Option<Taken>,
 }
 
@@ -77,6 +80,7 @@ impl Picker<'_> {
     /// Whether a KNN match was met: no later one is wanted.
     fn conjunct(&mut self, and: Option<usize>) -> bool {
         let start = self.at;
+        self.walk += 1;
         if self.frame[start] == BINARY && self.frame[start + 1] == operator::AND {
             self.at += 2;
             return self.conjunct(Some(start)) || self.conjunct(Some(start));

@@ -1,6 +1,6 @@
 //! A Rust host: it tests the archive's version; then the worked run's filter as text, and the run,
 //! its answers printed as the program spatialjoin prints them; then the filter with a row policy, and
-//! its extraction over narrowed children.
+//! its extraction over narrowed children; and what the extracts cost.
 
 use spatialjoin::{MOST_BYTES, MOST_NODES, MOST_TEXT, Node, Refusal, VERSION};
 
@@ -17,12 +17,14 @@ const POLICY: &[u8] = b"\x01\0\x01\0\0\x01\0\x09\x03\x06region\x01\0\0\0\0\x09";
 const LEFT: [u16; 2] = [4, 0];
 const RIGHT: [u16; 1] = [3];
 
-/// The host lends both buffers and the table, and keeps `n`, the length of the plan.
+/// The host lends both buffers and the table, and keeps `n`, the length of the plan. For the bill it
+/// keeps the sum of the walks of all extracts, refused ones too.
 struct Host {
     plan: Vec<u8>,
     scratch: Vec<u8>,
     table: Vec<Node>,
     n: usize,
+    effort: u32,
 }
 
 impl Host {
@@ -34,7 +36,12 @@ impl Host {
     fn extract(&mut self) {
         let (plan, scratch) = (&mut self.plan, &mut self.scratch);
         let answer = spatialjoin::extract(plan, self.n, scratch, &self.table);
-        self.take(answer);
+        self.effort += match answer {
+            Ok(extracted) => extracted.walk,
+            Err(unextracted) => unextracted.walk,
+        };
+        let length = answer.map(|extracted| extracted.length);
+        self.take(length.map_err(Refusal::from));
     }
 
     fn exchange(&mut self) {
@@ -90,6 +97,7 @@ fn main() {
         scratch: vec![0; MOST_BYTES],
         table: vec![Node::default(); MOST_NODES],
         n: 0,
+        effort: 0,
     };
     host.load(FRAME);
     host.extract();
@@ -107,4 +115,5 @@ fn main() {
     host.exchange();
     // Refused: the plan has the new columns now, and the list of the right child has no 1.
     host.project();
+    println!("planning effort: {}", host.effort);
 }

@@ -16,10 +16,12 @@
 //! The archive is linked by its path, and nothing in that path says its version: a host asks
 //! [`version_matches`] at its start, before it makes a call.
 
+mod extracted;
 pub mod numbers;
 mod refusal;
 mod version;
 
+pub use extracted::{Extracted, Unextracted};
 pub use refusal::Refusal;
 pub use version::{VERSION, Version, version, version_matches};
 
@@ -109,19 +111,19 @@ pub fn position(plan: &[u8]) -> Option<u16> {
 }
 
 /// Pulls the spatial predicate out of the filter in the plan's first `n` bytes and gives the new
-/// plan's length. The old plan is copied to the scratch's first `n` bytes. The table is the one that
-/// the last accepted [`load`] or [`merge`] filled.
+/// plan's length and the walk. The old plan is copied to the scratch's first `n` bytes. The table is
+/// the one that the last accepted [`load`] or [`merge`] filled.
 ///
 /// # Errors
 ///
-/// Refusals 9 to 13.
+/// Refusals 9 to 13; a 13 with the walk.
 pub fn extract(
     plan: &mut [u8],
     n: usize,
     scratch: &mut [u8],
     table: &[Node],
-) -> Result<usize, Refusal> {
-    length(numbers::extract(plan, n, scratch, table))
+) -> Result<Extracted, Unextracted> {
+    extracted::extracted(numbers::extract(plan, n, scratch, table))
 }
 
 /// Exchanges the join's children in the plan in the first `n` bytes and gives the new plan's
@@ -207,13 +209,6 @@ fn length(answer: i64) -> Result<usize, Refusal> {
 }
 
 /// An answer that is no refusal.
-///
-/// # Panics
-///
-/// On a number that no call gives: another library was linked.
 fn accepted(answer: i64) -> Result<u64, Refusal> {
-    u64::try_from(answer).map_err(|_| {
-        let refusal = Refusal::from_number(answer.unsigned_abs());
-        refusal.unwrap_or_else(|| panic!("{answer} is no answer of the library"))
-    })
+    u64::try_from(answer).map_err(|_| Refusal::from_number(answer.unsigned_abs()))
 }

@@ -1,5 +1,6 @@
 //! The calls with the answers of the C functions: a length (of [`logical`]: mask, count and side in
-//! one number), or minus the refusal's number. `include/spatialjoin.h` says what they do.
+//! one number), or minus the refusal's number; of [`extract`] each with the walk, which the last three
+//! functions take apart. `include/spatialjoin.h` says what they do.
 
 use crate::Node;
 
@@ -143,4 +144,29 @@ pub fn project(plan: &mut [u8], n: usize, scratch: &mut [u8], left: &[u16], righ
 /// The archive's version: major · 65,536 + minor · 256 + patch.
 pub fn version() -> i64 {
     unsafe { c::spatialjoin_version() }
+}
+
+/// The length in an answer of any call but [`logical`]; 0 where the call was refused.
+pub fn length_of(answer: i64) -> usize {
+    match answer {
+        0.. => (answer % 65_536) as usize,
+        _ => 0,
+    }
+}
+
+/// The walk in an answer of [`extract`], accepted or refused; 0 in that of any other call but
+/// [`logical`].
+pub fn walk_of(answer: i64) -> u32 {
+    match answer {
+        0.. => (answer / 65_536) as u32,
+        _ => (answer.unsigned_abs() / 256) as u32,
+    }
+}
+
+/// The refusal's number in an answer of any call; 0 where the call was accepted.
+pub fn refusal_of(answer: i64) -> u8 {
+    match answer {
+        0.. => 0,
+        _ => (answer.unsigned_abs() % 256) as u8,
+    }
 }

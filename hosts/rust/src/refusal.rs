@@ -74,9 +74,13 @@ impl Refusal {
         self as u8
     }
 
-    pub(crate) fn from_number(number: u64) -> Option<Self> {
+    /// # Panics
+    ///
+    /// On a number that no call gives: another library was linked.
+    pub(crate) fn from_number(number: u64) -> Self {
         let known = |refusal: &Refusal| u64::from(refusal.number()) == number;
-        Self::ALL.into_iter().find(known)
+        let found = Self::ALL.into_iter().find(known);
+        found.unwrap_or_else(|| panic!("{number} is no refusal of the library"))
     }
 
     fn text(self) -> &'static str {

@@ -1,12 +1,13 @@
 //! The worked run, every refusal of load, extract and exchange, tables of nodes, positions, and what
 //! the header says. The other calls' tests are in `texts.rs`, `merges.rs`, `logical.rs` and
-//! `projections.rs`.
+//! `projections.rs`, those of an extract's walk in `walks.rs`.
 
 mod common;
 
-use common::{LEFT, RECORDS, RIGHT, STRAY, bytes, call, frame_of, good, levels, loaded, table};
+use common::{LEFT, RECORDS, RIGHT, STRAY, bytes, call, extract_plan, frame_of, good, levels};
+use common::{loaded, table};
 use spatialjoin::{MOST_BYTES, MOST_ITEMS, MOST_NODES, MOST_TEXT, STACK_BYTES};
-use spatialjoin::{Node, Refusal, exchange, extract, load, merge, position};
+use spatialjoin::{Node, Refusal, exchange, load, merge, position};
 
 /// What a load of the frame into a long buffer answers; refused, it changes nothing.
 fn load_alone(frame: &[u8]) -> Result<usize, Refusal> {
@@ -24,7 +25,7 @@ fn worked_run() {
     let (mut nodes, mut lines) = (table(), 0);
     for (line, answer) in run.zip(answers) {
         let given = match line {
-            "21" => extract(&mut plan, n, &mut scratch, &nodes),
+            "21" => extract_plan(&mut plan, n, &mut scratch, &nodes),
             "22" => exchange(&mut plan, n, &mut scratch),
             _ => load(&bytes(line), &mut plan, &mut nodes),
         };
@@ -106,9 +107,9 @@ fn extracted_with(table: &[Node]) -> Result<usize, Refusal> {
     let (mut plan, n, _) = loaded(&good());
     let mut scratch = vec![0; n];
     exchange(&mut plan, n, &mut scratch).expect("a held frame");
-    let exchanged = extract(&mut plan, n, &mut scratch, table);
+    let exchanged = extract_plan(&mut plan, n, &mut scratch, table);
     let (mut plan, n, _) = loaded(&good());
-    let answer = extract(&mut plan, n, &mut scratch, table);
+    let answer = extract_plan(&mut plan, n, &mut scratch, table);
     assert_eq!(answer, exchanged);
     answer
 }
@@ -141,29 +142,29 @@ fn refusals_of_an_extract() {
     let (mut plan, n, table) = loaded(&good());
     let mut scratch = vec![0; n];
     let past = plan.len() + 1;
-    let refused = extract(&mut plan, past, &mut scratch, &table);
+    let refused = extract_plan(&mut plan, past, &mut scratch, &table);
     assert_eq!(refused, Err(Refusal::NoGoodPlan));
-    let refused = extract(&mut plan, n - 1, &mut scratch, &table);
+    let refused = extract_plan(&mut plan, n - 1, &mut scratch, &table);
     assert_eq!(refused, Err(Refusal::NoGoodPlan));
-    let refused = extract(&mut plan, 0, &mut scratch, &table);
+    let refused = extract_plan(&mut plan, 0, &mut scratch, &table);
     assert_eq!(refused, Err(Refusal::PlanEmpty));
-    let refused = extract(&mut plan, n, &mut scratch[1..], &table);
+    let refused = extract_plan(&mut plan, n, &mut scratch[1..], &table);
     assert_eq!(refused, Err(Refusal::TooShort));
     assert_eq!(plan[..n], good());
 
-    let extracted = extract(&mut plan, n, &mut scratch, &table).expect("it matches");
+    let extracted = extract_plan(&mut plan, n, &mut scratch, &table).expect("it matches");
     assert_eq!(
         plan[..extracted],
         [&[0x11, 0, 0, 2], LEFT, LEFT, &[0]].concat()
     );
     assert_eq!(scratch, good());
     for table in [&table[..], &[]] {
-        let again = extract(&mut plan, extracted, &mut scratch, table);
+        let again = extract_plan(&mut plan, extracted, &mut scratch, table);
         assert_eq!(again, Err(Refusal::AlreadyExtracted));
     }
 
     let (mut plan, n, table) = loaded(&[RECORDS, LEFT].concat());
-    let refused = extract(&mut plan, n, &mut scratch, &table);
+    let refused = extract_plan(&mut plan, n, &mut scratch, &table);
     assert_eq!(refused, Err(Refusal::NoMatch));
 }
 
@@ -173,7 +174,7 @@ fn extracted_within(bound: &[u8]) -> Result<u8, Refusal> {
     let records = b"\x01\0\x03\0\0\0\0\0\x01\0\0\0\0\x02\0\0\0\0";
     let frame = [records, &call("st_dwithin", 3)[..], LEFT, RIGHT, bound].concat();
     let (mut plan, n, table) = loaded(&frame);
-    extract(&mut plan, n, &mut vec![0; n], &table).map(|_| plan[4])
+    extract_plan(&mut plan, n, &mut vec![0; n], &table).map(|_| plan[4])
 }
 
 #[test]
@@ -217,7 +218,7 @@ fn the_position_of_the_conjunct_that_was_taken() {
     let mut scratch = vec![0; MOST_BYTES];
     let n = merge(&good(), &mut plan, n, &mut scratch, &mut table).expect("two good frames");
     assert_eq!(position(&plan[..n]), None);
-    let n = extract(&mut plan, n, &mut scratch, &table).expect("the second matches");
+    let n = extract_plan(&mut plan, n, &mut scratch, &table).expect("the second matches");
     assert_eq!(position(&plan[..n]), Some(1));
     plan[1..3].copy_from_slice(&[0xff, 0xfe]);
     let n = exchange(&mut plan, n, &mut scratch).expect("any position is good");

@@ -2,8 +2,9 @@
 
 mod common;
 
-use common::{LEFT, STRAY, bytes, call, frame_of, good, levels, loaded, table, text_of};
-use spatialjoin::{MOST_BYTES, Refusal, extract, merge};
+use common::{LEFT, STRAY, bytes, call, extract_plan, frame_of, good, levels, loaded, price_list};
+use common::{table, text_of};
+use spatialjoin::{MOST_BYTES, Refusal, merge};
 
 #[test]
 fn the_worked_run_with_a_row_policy() {
@@ -22,31 +23,22 @@ fn the_worked_run_with_a_row_policy() {
     assert_eq!(scratch[n..], vec![7; MOST_BYTES - n]);
     assert_eq!(plan[merged..], vec![0; MOST_BYTES - merged]);
     assert_eq!(text_of(&plan[..merged]), answers[2]);
-    let extracted = extract(&mut plan, merged, &mut scratch, &table).expect("it matches");
+    let extracted = extract_plan(&mut plan, merged, &mut scratch, &table).expect("it matches");
     assert_eq!([&[0], &plan[..extracted]].concat(), bytes(answers[3]));
 }
 
-/// The rows of the price list's table: held filter, policy, the answer's first digits, and the line.
-fn rows_with_a_policy() -> Vec<Vec<&'static str>> {
-    let list = include_str!("../../../docs/PRICE-LIST.md");
-    let (_, after) = list.split_once("\n## With a row policy\n").unwrap();
-    let (section, _) = after.split_once("\n## ").unwrap();
-    let rows = section.lines().filter(|row| row.starts_with("| `"));
-    let cells = |row: &'static str| row.trim_matches('|').split('|').map(str::trim).collect();
-    rows.map(cells).collect()
-}
-
+/// The cells of a row: held filter, policy, the answer's first digits, and the line.
 #[test]
 fn price_lines_with_a_row_policy() {
     let lines = include_str!("../../../examples/row-policies.txt").lines();
     let frames: Vec<Vec<u8>> = lines.map(bytes).collect();
-    let rows = rows_with_a_policy();
+    let rows = price_list("With a row policy");
     assert_eq!(frames.len(), 2 * rows.len());
     for (pair, row) in frames.chunks(2).zip(rows) {
         let (mut plan, n, mut table) = loaded(&pair[0]);
         let mut scratch = vec![0; MOST_BYTES];
         let n = merge(&pair[1], &mut plan, n, &mut scratch, &mut table).expect("two good frames");
-        let (answer, line) = match extract(&mut plan, n, &mut scratch, &table) {
+        let (answer, line) = match extract_plan(&mut plan, n, &mut scratch, &table) {
             Ok(length) => {
                 let line = ["indexed, relation", "indexed, distance", "indexed, KNN"];
                 let line = line[usize::from(plan[0] - 0x11)];
@@ -109,7 +101,7 @@ fn refusals_of_a_merge_by_the_plan() {
     assert_eq!(empty, Err(Refusal::PlanEmpty));
     let cut = merge(&good(), &mut plan, n - 1, &mut scratch, &mut table);
     assert_eq!(cut, Err(Refusal::NoGoodPlan));
-    let extracted = extract(&mut plan, n, &mut scratch, &table).expect("it matches");
+    let extracted = extract_plan(&mut plan, n, &mut scratch, &table).expect("it matches");
     let late = merge(&good(), &mut plan, extracted, &mut scratch, &mut table);
     assert_eq!(late, Err(Refusal::AlreadyExtracted));
 }
@@ -130,5 +122,5 @@ fn the_table_of_a_merge() {
     let (_, _, afresh) = loaded(&plan[..merged]);
     assert_eq!(table[..7], afresh[..7]);
     assert_eq!(table[7], STRAY);
-    assert!(extract(&mut plan, merged, &mut vec![0; merged], &table).is_ok());
+    assert!(extract_plan(&mut plan, merged, &mut vec![0; merged], &table).is_ok());
 }

@@ -2,9 +2,9 @@
 
 mod common;
 
-use common::bytes;
+use common::{bytes, extract_plan};
 use spatialjoin::{MOST_BYTES, MOST_ITEMS, MOST_NODES, Node, Refusal};
-use spatialjoin::{exchange, extract, load, position, project};
+use spatialjoin::{exchange, load, position, project};
 
 /// A column of a child, name tag 9.
 fn column(index: u16) -> Vec<u8> {
@@ -56,7 +56,7 @@ fn the_worked_run_over_narrowed_children() {
     let mut answers = vec![[&[0], &plan[..n]].concat()];
     for step in 0..4 {
         let answer = match step {
-            0 => extract(&mut plan, n, &mut scratch, &table),
+            0 => extract_plan(&mut plan, n, &mut scratch, &table),
             2 => exchange(&mut plan, n, &mut scratch),
             _ => project(&mut plan, n, &mut scratch, &[4, 0], &[3]),
         };
@@ -179,6 +179,6 @@ fn calls_go_on_from_a_projected_plan() {
     assert_eq!(by(&LEFT, &RIGHT), Err(Refusal::NotInList));
     assert_eq!(by(&[7, 0, 1], &[9, 0]), Ok(15));
     assert_eq!(plan, extraction(RELATION, &[2, 1]));
-    let again = extract(&mut plan, 15, &mut scratch, &[]);
+    let again = extract_plan(&mut plan, 15, &mut scratch, &[]);
     assert_eq!(again, Err(Refusal::AlreadyExtracted));
 }

@@ -23,6 +23,35 @@ pub enum Kind {
     Project,
 }
 
+impl Kind {
+    /// A length, or minus a refusal's number: an extract's answer without its walk.
+    pub fn without_walk(self, answer: i64) -> i64 {
+        match (self, answer) {
+            (Kind::Extract, 0..) => answer % 65_536,
+            (Kind::Extract, _) => -(-answer % 256),
+            _ => answer,
+        }
+    }
+
+    /// An extract's walk; no other call has one.
+    pub fn walk(self, answer: i64) -> i64 {
+        match (self, answer) {
+            (Kind::Extract, 0..) => answer / 65_536,
+            (Kind::Extract, _) => -answer / 256,
+            _ => 0,
+        }
+    }
+}
+
+/// An answer as one number. Request 10 of document 02: an extract's has the walk, which is 0 for every
+/// other call.
+fn number(walk: usize, answer: Result<usize, Refusal>) -> i64 {
+    match answer {
+        Ok(length) => (walk * 65_536 + length) as i64,
+        Err(refusal) => -((walk * 256) as i64 + i64::from(refusal.number())),
+    }
+}
+
 /// What a call is not given is empty.
 pub struct Call {
     pub kind: Kind,
@@ -76,27 +105,30 @@ impl Call {
         let (mut n, mut plan, mut scratch) = (self.n, self.plan.clone(), self.scratch.clone());
         let mut text = self.text.clone();
         let mut table: Vec<_> = self.table.iter().map(to_reading).collect();
-        let length = |result: Result<usize, Refusal>| result.map(|length| length as i64);
+        let mut walk = 0;
         let answer = match self.kind {
-            Kind::Load => length(calls::load(&self.frame, &mut n, &mut plan, &mut table)),
-            Kind::Extract => length(calls::extract(&mut n, &mut plan, &mut scratch, &table)),
-            Kind::Exchange => length(calls::exchange(&mut n, &mut plan, &mut scratch)),
-            Kind::Logical => {
-                calls::logical(&self.frame).map(|bytes| i64::from(u32::from_be_bytes(bytes)))
+            Kind::Load => calls::load(&self.frame, &mut n, &mut plan, &mut table),
+            Kind::Extract => {
+                walk = calls::walk(n, &plan, &scratch, &table);
+                calls::extract(&mut n, &mut plan, &mut scratch, &table)
             }
-            Kind::Print => length(calls::print(&self.frame, &mut text)),
+            Kind::Exchange => calls::exchange(&mut n, &mut plan, &mut scratch),
+            Kind::Logical => {
+                calls::logical(&self.frame).map(|bytes| u32::from_be_bytes(bytes) as usize)
+            }
+            Kind::Print => calls::print(&self.frame, &mut text),
             Kind::Merge => {
                 let (plan, scratch) = (&mut plan, &mut scratch);
-                length(calls::merge(&self.frame, &mut n, plan, scratch, &mut table))
+                calls::merge(&self.frame, &mut n, plan, scratch, &mut table)
             }
             Kind::Project => {
                 let [left, right] = &self.lists;
                 let lists = Lists { left, right };
-                length(calls::project(&mut n, &mut plan, &mut scratch, lists))
+                calls::project(&mut n, &mut plan, &mut scratch, lists)
             }
         };
         Outcome {
-            answer: answer.unwrap_or_else(|refusal| -i64::from(refusal.number())),
+            answer: number(walk, answer),
             plan,
             scratch,
             text,

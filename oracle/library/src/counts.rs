@@ -22,15 +22,21 @@ const ANSWERS: [(Kind, &[i64]); 7] = [
 pub struct Counts {
     accepted: BTreeMap<Kind, u64>,
     refused: BTreeMap<(Kind, i64), u64>,
+    /// How many extracts had a walk of more than one node, and the longest.
+    walks: u64,
+    longest: i64,
 }
 
 impl Counts {
     pub fn count(&mut self, kind: Kind, answer: i64) {
-        let count = match answer {
+        let count = match kind.without_walk(answer) {
             0.. => self.accepted.entry(kind).or_default(),
-            _ => self.refused.entry((kind, -answer)).or_default(),
+            refused => self.refused.entry((kind, -refused)).or_default(),
         };
         *count += 1;
+        let walk = kind.walk(answer);
+        self.walks += u64::from(walk > 1);
+        self.longest = self.longest.max(walk);
     }
 
     fn calls(&self) -> u64 {
@@ -49,6 +55,11 @@ impl fmt::Display for Counts {
                 writeln!(f, "{name:<10} refusal {number:>2} {count:>10}")?;
             }
         }
+        let Counts { walks, longest, .. } = self;
+        writeln!(
+            f,
+            "Extract    walks over 1 {walks:>8}, the longest {longest}"
+        )?;
         write!(f, "{} calls", self.calls())
     }
 }

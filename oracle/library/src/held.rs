@@ -48,7 +48,7 @@ impl Held {
         self.plan.get(..self.n).unwrap_or_default()
     }
 
-    /// What an accepted call left.
+    /// What an accepted merge or projection left.
     pub fn left_by(outcome: Outcome) -> Option<Self> {
         let n = usize::try_from(outcome.answer).ok()?;
         let Outcome { plan, table, .. } = outcome;
@@ -107,10 +107,10 @@ impl Held {
         Call { lists, ..call }
     }
 
-    /// Takes over what a call left: its answer is the new length, if it is one.
+    /// Takes over what a call left: its answer has the new length, if it is accepted.
     pub fn after(&mut self, kind: Kind, outcome: Outcome) {
         if kind != Kind::Logical
-            && let Ok(length) = usize::try_from(outcome.answer)
+            && let Ok(length) = usize::try_from(kind.without_walk(outcome.answer))
         {
             self.n = length;
         }

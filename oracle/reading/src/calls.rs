@@ -1,12 +1,12 @@
 //! The calls, on lent buffers. Of those that change the plan an accepted one gives the new plan's
 //! length, which `n` then holds too; a refused call leaves `n`, the table and all buffers as they were.
 
-use crate::frame::Plan;
+use crate::frame::{Frame, Plan};
 use crate::merge::{merged, within_limits};
 use crate::nodes::{self, Node};
 use crate::project::{self as projection, Lists};
 use crate::refusal::Refusal;
-use crate::{decode, encode, logical as logical_half, physical, print as console};
+use crate::{decode, encode, logical as logical_half, physical, print as console, walk as walks};
 
 /// Nothing of the old plan is read: `n` is only set. Request 6 of document 02: the table is filled.
 pub fn load(
@@ -23,24 +23,36 @@ pub fn load(
     Ok(*n)
 }
 
-/// Request 6 of document 02: a held frame needs a table that begins with its nodes.
 pub fn extract(
     n: &mut usize,
     buffer: &mut [u8],
     scratch: &mut [u8],
     table: &[Node],
 ) -> Result<usize, Refusal> {
-    let Plan::Frame(frame) = held(*n, buffer)? else {
+    let frame = extractable(*n, buffer, scratch, table)?;
+    let extraction = physical::extract(&frame).ok_or(Refusal::NoMatch)?;
+    Ok(replace(&Plan::Extraction(extraction), n, buffer, scratch))
+}
+
+/// Request 10 of document 02: the walk that an extract with these carries. A 13 carries it too, other
+/// refusals 0.
+pub fn walk(n: usize, buffer: &[u8], scratch: &[u8], table: &[Node]) -> usize {
+    extractable(n, buffer, scratch, table).map_or(0, |frame| walks::length(&frame))
+}
+
+/// The held frame, where no refusal comes before 13. Request 6 of document 02: it needs a table that
+/// begins with its nodes.
+fn extractable(n: usize, buffer: &[u8], scratch: &[u8], table: &[Node]) -> Result<Frame, Refusal> {
+    let Plan::Frame(frame) = held(n, buffer)? else {
         return Err(Refusal::Extracted);
     };
     if !table.starts_with(&nodes::table(&frame)) {
         return Err(Refusal::BadPlan);
     }
-    if scratch.len() < *n {
+    if scratch.len() < n {
         return Err(Refusal::NoRoom);
     }
-    let extraction = physical::extract(&frame).ok_or(Refusal::NoMatch)?;
-    Ok(replace(&Plan::Extraction(extraction), n, buffer, scratch))
+    Ok(frame)
 }
 
 pub fn exchange(n: &mut usize, buffer: &mut [u8], scratch: &mut [u8]) -> Result<usize, Refusal> {

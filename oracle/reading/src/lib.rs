@@ -14,3 +14,4 @@ pub mod print;
 pub mod program;
 pub mod project;
 pub mod refusal;
+pub mod walk;

@@ -172,7 +172,7 @@ fn bound_side(bound: &Expr, records: &[Record]) -> Option<Side> {
     (columns == 0 || side != Side::None).then_some(side)
 }
 
-fn match_knn(leaf: &Expr, records: &[Record]) -> Option<Predicate> {
+pub(crate) fn match_knn(leaf: &Expr, records: &[Record]) -> Option<Predicate> {
     let Expr::Function { name, args } = leaf else {
         return None;
     };

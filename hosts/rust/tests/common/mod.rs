@@ -1,7 +1,7 @@
 //! Frames, tables and texts for the tests; each test file uses some of them.
 #![allow(dead_code)]
 
-use spatialjoin::{MOST_BYTES, MOST_NODES, MOST_TEXT, Node, load, print};
+use spatialjoin::{MOST_BYTES, MOST_NODES, MOST_TEXT, Node, Refusal, extract, load, print};
 
 /// Columns 0 (of the left child) and 1 (of the right).
 pub const RECORDS: &[u8] = b"\x01\0\x02\0\0\0\0\0\x01\0\0\0\0";
@@ -50,6 +50,27 @@ pub fn loaded(frame: &[u8]) -> (Vec<u8>, usize, Vec<Node>) {
     let (mut plan, mut table) = (vec![0; MOST_BYTES], table());
     let n = load(frame, &mut plan, &mut table).expect("a good frame");
     (plan, n, table)
+}
+
+/// An extract, its walk left out.
+pub fn extract_plan(
+    plan: &mut [u8],
+    n: usize,
+    scratch: &mut [u8],
+    table: &[Node],
+) -> Result<usize, Refusal> {
+    Ok(extract(plan, n, scratch, table)?.length)
+}
+
+/// The rows of a table of the price list, in the section of this title: their cells.
+pub fn price_list(title: &str) -> Vec<Vec<&'static str>> {
+    let list = include_str!("../../../../docs/PRICE-LIST.md");
+    let heading = format!("\n## {title}\n");
+    let (_, after) = list.split_once(&heading).expect("it has the section");
+    let (section, _) = after.split_once("\n## ").unwrap_or((after, ""));
+    let rows = section.lines().filter(|row| row.starts_with("| `"));
+    let cells = |row: &'static str| row.trim_matches('|').split('|').map(str::trim).collect();
+    rows.map(cells).collect()
 }
 
 /// The text of a frame in a buffer that is just long enough and in a longer one.
