@@ -13,8 +13,8 @@ ghost use Rattle.node_table.specs.Records.{nodeOf, nodesOf, FilledIs};
 #[repr(C)]
 pub struct NodeRecord {
     pub kind: u8,
-    pub start: u32,
-    pub end: u32,
+    pub start: u16,
+    pub end: u16,
 }
 
 // A record as one number. A good frame has no record that is not told apart here.
@@ -33,7 +33,7 @@ pub fn node_number(node: NodeRecord) -> u32
     if 32767 < end {
         return 4294967295;
     }
-    kind as u32 * 536870912 + start * 32768 + end
+    kind as u32 * 536870912 + start as u32 * 32768 + end as u32
 }
 
 // The record of a number.
@@ -42,8 +42,8 @@ pub fn numbered_node(number: u32) -> NodeRecord
 {
     NodeRecord {
         kind: (number / 536870912) as u8,
-        start: number / 32768 % 16384,
-        end: number % 32768,
+        start: (number / 32768 % 16384) as u16,
+        end: (number % 32768) as u16,
     }
 }
 

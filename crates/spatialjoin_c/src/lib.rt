@@ -118,5 +118,5 @@ pub extern "C" fn spatialjoin_project(
 pub extern "C" fn spatialjoin_version() -> i64
     ensures { λ r. ⌜ r ≡ pos version ⌝ }
 {
-    0 * 65536 + 10 * 256 + 0
+    0 * 65536 + 11 * 256 + 0
 }

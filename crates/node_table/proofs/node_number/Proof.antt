@@ -26,4 +26,4 @@ returns-4 c = sym (number-told (nodeOf (c .before .before .before .args .node)) 
 
 pub node-number-spec : {M : Type 1} → statement M
 node-number-spec = tie.close (tie.spec returns returns-2 returns-3 (λ c. search needs) (λ c. search needs) (λ c. search needs)
-    (λ c. search needs) (λ c. search needs) returns-4)
+    (λ c. search needs) (λ c. search needs) (λ c. search needs) (λ c. search needs) returns-4)

@@ -10,4 +10,4 @@ unfolding numbered
 returns c = refl
 
 pub numbered-node-spec : {M : Type 1} → statement M
-numbered-node-spec = tie.close (tie.spec (λ c. search needs) returns)
+numbered-node-spec = tie.close (tie.spec (λ c. search needs) (λ c. search needs) (λ c. search needs) returns)

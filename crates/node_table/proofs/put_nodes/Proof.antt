@@ -179,7 +179,7 @@ module _ {M : Type 1} (𝓤 : URA M) (H : Heap 𝓤) (A : Atoms 𝓤) (W : Given
         -- [the row; the number's; the table; the open borrow; obs; auth; the token; _8; …]
         keep ! (2 ∷ 15 ∷ 13 ∷ 11 ∷ 9 ∷ 7 ∷ 6 ∷ 0 ∷ 21 ∷ 19 ∷ 17 ∷ 23 ∷ 3 ∷ 4 ∷ 5 ∷ 24 ∷ 22 ∷ 20 ∷ 18 ∷ 16 ∷ 14 ∷ 12 ∷ 10 ∷ 8 ∷ []) $
         first ! $ blocks ! $ loops ! 𝓣 (Less n) (falls n) (At l₀ l₁ l₂ l₃ l₄ l₅ l₆ l₇ l₈) (λ t.
-        -- [the table; i; the test; the record; 12 * i; the place; the token; the row; _1; _2; _3; room for _0; the open borrow; …]
+        -- [the table; i; the test; the record; 6 * i; the place; the token; the row; _1; _2; _3; room for _0; the open borrow; …]
         assigns ! (bin ! (load ! (from ! (stop !)) (look ! 1 refl)) (load ! (from ! (stop !)) (look ! 10 refl)) tt) (from ! (stop !))
         (init ! 2 refl (tt, tt)) $
         elim (eq-or-lt-of-le (t .1)) [
@@ -200,13 +200,13 @@ module _ {M : Type 1} (𝓤 : URA M) (H : Heap 𝓤) (A : Atoms 𝓤) (W : Given
               calls-with ! fm g.ended (g.clauses 𝓤 H A mem run) known (to (t .0)) (arg ! 9 refl (arg ! 3 refl (no-more !)))
               (λ r _. Said (t .0) r) (λ _ _. refl) (λ u r _ e is. drop ! $
               owned ! T.the-row (Is T.the-row) (LL.makes T.the-type T′.the-plain 𝓤 H A) r _ is $
-              -- [what the record owns; the token; the row; the table; i; the test; room for the record; 12 * i; the place; _1; …]
+              -- [what the record owns; the token; the row; the table; i; the test; room for the record; 6 * i; the place; _1; …]
               land ! (from ! (stop !)) (init ! 6 refl (typed r u is)) $
               assigns ! (bin ! (load ! (from ! (stop !)) (look ! 4 refl)) (lit ! tt) (record { fits = scaled (t .0) l })) (from ! (stop !))
               (init ! 7 refl (tt, record { fits = scaled (t .0) l })) $
               assigns ! (bin ! (load ! (from ! (fld ! refl (stop !))) (look-in ! 9 (sub ! 0 refl (whole !))))
               (load ! (from ! (stop !)) (look ! 7 refl)) tt) (from ! (stop !)) (init ! 8 refl (tt, tt)) $
-              rewrite ! 8 (λ (p : ℕ). ‵ (fat fullShare tyPtr l₈ 0 (vptr b p))) (sym (place-is 12 o (t .0))) refl $
+              rewrite ! 8 (λ (p : ℕ). ‵ (fat fullShare tyPtr l₈ 0 (vptr b p))) (sym (place-is 6 o (t .0))) refl $
               -- the record is put in its place
               move ! (3 ∷ []) $
               elem-out ! T.the-row (Is T.the-row) (shows 𝓤 H A T.the-row) (LL.vals T.the-type T′.the-laws) (LL.tells T.the-type T′.the-laws)
@@ -214,7 +214,7 @@ module _ {M : Type 1} (𝓤 : URA M) (H : Heap 𝓤) (A : Atoms 𝓤) (W : Given
               assigns ! (of-opd ! (load ! (from ! (stop !)) (look ! 8 refl))) (from ! (hop ! (look ! 10 refl) (stop !)))
               (store-raw ! 0 refl (typed r u is)) $
               move ! (0 ∷ 3 ∷ 2 ∷ []) $ elem-put ! T.the-row fullShare (tab (t .0)) (t .0) r (u ∷ []) b o (within (t .0) l) $
-              -- [the table; what the old record owned; the token; the row; i; the test; the record; 12 * i; the place; _1; …]
+              -- [the table; what the old record owned; the token; the row; i; the test; the record; 6 * i; the place; _1; …]
               rewrite ! 0 (λ (ys : List NodeRecord). ‵ (row T.the-row fullShare ys b o)) (put-next (t .0) l r e) refl $
               assigns-last ! (bin ! (load ! (from ! (stop !)) (look ! 4 refl)) (lit ! tt) (record { fits = omega arith })) (from ! (stop !))
               (store ! 4 refl (tt, record { fits = omega arith })) $
@@ -223,7 +223,7 @@ module _ {M : Type 1} (𝓤 : URA M) (H : Heap 𝓤) (A : Atoms 𝓤) (W : Given
               again ! (Less n) (At l₀ l₁ l₂ l₃ l₄ l₅ l₆ l₇ l₈) t (t .0 + 1, omega arith) (omega arith)))
         ]) (0, omega arith))))))))))
       where
-        scaled : (i : ℕ) → i < n → i * 12 < 2 ^ 64
+        scaled : (i : ℕ) → i < n → i * 6 < 2 ^ 64
         scaled i l = omega (arith, room .1, fits .0)
 
         within : (i : ℕ) → i < n → i < length (tab i)

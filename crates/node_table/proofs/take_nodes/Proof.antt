@@ -187,7 +187,7 @@ module _ {M : Type 1} (𝓤 : URA M) (H : Heap 𝓤) (A : Atoms 𝓤) (W : Given
           keep ! (6 ∷ 24 ∷ 22 ∷ 20 ∷ 18 ∷ 16 ∷ 14 ∷ 12 ∷ 10 ∷ 1 ∷ 4 ∷ 30 ∷ 28 ∷ 26 ∷ 32 ∷ 2 ∷ 0 ∷ 7 ∷ 8 ∷ 9
           ∷ 33 ∷ 31 ∷ 29 ∷ 27 ∷ 25 ∷ 23 ∷ 21 ∷ 19 ∷ 17 ∷ 15 ∷ 13 ∷ 11 ∷ []) $
           first ! $ blocks ! $ loops ! 𝓣 (Less n) (falls n) (At l₀ l₁ l₂ l₃ l₄ l₅ l₆ l₇ l₈ l₉ l₁₀ l₁₁) (λ t.
-          -- [the row; i; the test; the number; 12 * i; its place; the record; 4 * i; its place; the fractured borrow; its token; _1; …]
+          -- [the row; i; the test; the number; 6 * i; its place; the record; 4 * i; its place; the fractured borrow; its token; _1; …]
           assigns ! (bin ! (load ! (from ! (stop !)) (look ! 1 refl)) (load ! (from ! (stop !)) (look ! 13 refl)) tt) (from ! (stop !))
           (init ! 2 refl (tt, tt)) $
           elim (eq-or-lt-of-le (t .1)) [
@@ -211,7 +211,7 @@ module _ {M : Type 1} (𝓤 : URA M) (H : Heap 𝓤) (A : Atoms 𝓤) (W : Given
                 (init ! 4 refl (tt, record { fits = scaled (t .0) l })) $
                 assigns ! (bin ! (load ! (from ! (fld ! refl (stop !))) (look-in ! 12 (sub ! 0 refl (whole !))))
                 (load ! (from ! (stop !)) (look ! 4 refl)) tt) (from ! (stop !)) (init ! 5 refl (tt, tt)) $
-                rewrite ! 5 (λ (k : ℕ). ‵ (fat fullShare tyPtr l₈ 0 (vptr b₁ k))) (sym (place-is 12 o₁ (t .0))) refl $
+                rewrite ! 5 (λ (k : ℕ). ‵ (fat fullShare tyPtr l₈ 0 (vptr b₁ k))) (sym (place-is 6 o₁ (t .0))) refl $
                 -- the record is read
                 move ! (9 ∷ 10 ∷ []) $
                 looks-slice ! tt T.the-row (Is T.the-row) (shows 𝓤 H A T.the-row) (LL.vals T.the-type T′.the-laws)
@@ -223,7 +223,7 @@ module _ {M : Type 1} (𝓤 : URA M) (H : Heap 𝓤) (A : Atoms 𝓤) (W : Given
                 (init ! 11 refl (typed (t .0) is)) $
                 elem-back ! T.the-row q′ xs (t .0) blank (mach (t .0) ∷ []) b₁ o₁ (omega (arith, fits .1)) $
                 shuts-slice ! tt T.the-row q′ xs b₁ o₁ $
-                -- [the token; the fractured borrow; the row; i; the test; the number; 12 * i; its place; the record; 4 * i; …]
+                -- [the token; the fractured borrow; the row; i; the test; the number; 6 * i; its place; the record; 4 * i; …]
                 use0 W (raw (NodeNumber 𝓤 H A mem run .pre (to (t .0)))) (lends (t .0) is) $
                 calls-with ! fm g.ended (g.clauses 𝓤 H A mem run) known (to (t .0)) (arg ! 9 refl (no-more !))
                 (λ m _. Said (t .0) m) (λ _ _. refl) (λ u m _ e is₁. drop ! $ drop ! $
@@ -243,7 +243,7 @@ module _ {M : Type 1} (𝓤 : URA M) (H : Heap 𝓤) (A : Atoms 𝓤) (W : Given
                 owned ! u32 (Is u32) (uint-makes 𝓤 H A W w32) m _ (refl, is₁ .1) $ move ! (1 ∷ 0 ∷ 3 ∷ []) $
                 elem-put ! u32 fullShare (tab (t .0)) (t .0) m (vint w32 m ∷ []) b o (within (t .0) l) $ move ! (1 ∷ []) $ drop ! $
                 rewrite ! 0 (λ (zs : List ℕ). ‵ (row u32 fullShare zs b o)) (take-next (t .0) l m e) refl $
-                -- [the row; the token; the fractured borrow; i; the test; the number; 12 * i; its place; the record; 4 * i; …]
+                -- [the row; the token; the fractured borrow; i; the test; the number; 6 * i; its place; the record; 4 * i; …]
                 assigns-last ! (bin ! (load ! (from ! (stop !)) (look ! 3 refl)) (lit ! tt) (record { fits = omega arith }))
                 (from ! (stop !))
                 (store ! 3 refl (tt, record { fits = omega arith })) $
@@ -253,7 +253,7 @@ module _ {M : Type 1} (𝓤 : URA M) (H : Heap 𝓤) (A : Atoms 𝓤) (W : Given
                 again ! (Less n) (At l₀ l₁ l₂ l₃ l₄ l₅ l₆ l₇ l₈ l₉ l₁₀ l₁₁) t (t .0 + 1, omega arith) (omega arith)))))
           ]) (0, omega arith)))))))))))))
         where
-          scaled : (i : ℕ) → i < n → i * 12 < 2 ^ 64
+          scaled : (i : ℕ) → i < n → i * 6 < 2 ^ 64
           scaled i l = omega (arith, room₁ .1, fits .1)
 
           quad : (i : ℕ) → i < n → i * 4 < 2 ^ 64
