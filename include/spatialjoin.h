@@ -6,10 +6,10 @@
  * SPATIALJOIN_MOST_BYTES are enough for every frame, plan and scratch, SPATIALJOIN_MOST_TEXT for every text. docs/FRAMES.md of the
  * repository has their bytes.
  *
- * TABLES. The host lends a table of node records too, of which SPATIALJOIN_MOST_NODES are always enough. An accepted load or merge
- * fills its first records with the nodes of the new plan and keeps the others; a refused one keeps all. spatialjoin_extract takes it as
- * the last of them left it. An exchange moves no node. Three bytes of a record belong to no field and are not written: compare records
- * by their fields.
+ * TABLES. The host lends a table of node records too, of which SPATIALJOIN_MOST_NODES, 6,144 bytes, are always enough. An accepted load
+ * or merge fills its first records with the nodes of the new plan and keeps the others; a refused one keeps all. spatialjoin_extract takes
+ * it as the last of them left it. An exchange moves no node. One byte of a record, that after the kind, belongs to no field and is not
+ * written: compare records by their fields.
  *
  * ANSWERS. An answer of at least 0 is a length (of spatialjoin_logical: see there). A negative one is a refusal: one of
  * enum spatialjoin_refusal. That of spatialjoin_extract has the walk too, so as it stands it is neither: SPATIALJOIN_LENGTH_OF,
@@ -37,9 +37,9 @@
 #include <stddef.h>
 #include <stdint.h>
 
-#define SPATIALJOIN_VERSION "0.10.0"
+#define SPATIALJOIN_VERSION "0.11.0"
 #define SPATIALJOIN_VERSION_MAJOR 0
-#define SPATIALJOIN_VERSION_MINOR 10
+#define SPATIALJOIN_VERSION_MINOR 11
 #define SPATIALJOIN_VERSION_PATCH 0
 
 /* The header's version as spatialjoin_version gives the archive's. */
@@ -107,11 +107,11 @@ enum spatialjoin_refusal {
     SPATIALJOIN_NOT_IN_LIST = -20        /* the plan has a child index that the list of its side lacks (project) */
 };
 
-/* A node of a frame. */
+/* A node of a frame: six bytes, since version 0.11.0. A place in a frame is at most SPATIALJOIN_MOST_BYTES (theorem positions-fit). */
 typedef struct spatialjoin_node {
     uint8_t kind;   /* its kind byte, 0 to 4 */
-    uint32_t start; /* where it starts, the frame's first byte being 0 */
-    uint32_t end;   /* where it ends: one past the whole node */
+    uint16_t start; /* where it starts, the frame's first byte being 0 */
+    uint16_t end;   /* where it ends: one past the whole node */
 } spatialjoin_node;
 
 /* The first byte of a plan. */

@@ -32,6 +32,7 @@ enum Asked {
 fn main() -> ExitCode {
     let words: Vec<String> = env::args().skip(1).collect();
     let done = match asked(&words) {
+        Some(_) if !spatialjoin::version_matches() => Err(another_version()),
         Some(Asked::Tables(rounds)) => run(rounds),
         Some(Asked::Repeat(group)) => repeat(&group),
         None => {
@@ -46,6 +47,11 @@ fn main() -> ExitCode {
             ExitCode::FAILURE
         }
     }
+}
+
+fn another_version() -> String {
+    let (archive, package) = (spatialjoin::version(), spatialjoin::VERSION);
+    format!("the library is of version {archive}, not {package}")
 }
 
 fn asked(words: &[String]) -> Option<Asked> {

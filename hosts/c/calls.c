@@ -287,7 +287,7 @@ static void refusals_of_merges(void)
 }
 
 /* Whether a record has these fields. */
-static int is_node(spatialjoin_node node, unsigned kind, uint32_t start, uint32_t end)
+static int is_node(spatialjoin_node node, unsigned kind, size_t start, size_t end)
 {
     return node.kind == kind && node.start == start && node.end == end;
 }
@@ -298,10 +298,15 @@ static void tables_of_nodes(void)
     static const spatialjoin_node stray = {7, 7, 7};
     spatialjoin_node wrong[3];
     size_t n, i;
+    memset(table, 0xa5, sizeof table);
+    expect("load", LOAD(GOOD), sizeof(GOOD) - 1);
+    expect("the byte of no field", ((const uint8_t *)table)[1] == 0xa5 && ((const uint8_t *)table)[13] == 0xa5, 1);
+    expect("the fields", memcmp(table + 1, "\x00\xa5\x19\x00\x1e\x00", 6) == 0, 1);
     for (i = 0; i < NODES; i++) {
         table[i] = stray;
     }
-    expect("a record's bytes", sizeof stray, 12);
+    expect("a record's bytes", sizeof stray, 6);
+    expect("a table's bytes", sizeof table, 6144);
     expect("load, table too short", spatialjoin_load((const uint8_t *)GOOD, sizeof(GOOD) - 1, plan, sizeof plan, table, 2),
            SPATIALJOIN_TABLE_TOO_SHORT);
     expect("load, both too short", spatialjoin_load((const uint8_t *)GOOD, sizeof(GOOD) - 1, plan, 1, table, 2), SPATIALJOIN_TOO_SHORT);
@@ -323,7 +328,7 @@ static void tables_of_nodes(void)
     expect("merge, scratch too short too", spatialjoin_merge((const uint8_t *)GOOD, n, plan, sizeof plan, n, scratch, 0, table, 6),
            SPATIALJOIN_TOO_SHORT);
     n = (size_t)spatialjoin_merge((const uint8_t *)GOOD, n, plan, sizeof plan, n, scratch, n, table, NODES);
-    expect("merged, the first node", is_node(table[0], 2, 23, (uint32_t)n), 1);
+    expect("merged, the first node", is_node(table[0], 2, 23, n), 1);
     expect("merged, the record after them", is_node(table[7], 7, 7, 7), 1);
     expect("exchange", spatialjoin_exchange(plan, sizeof plan, n, scratch, n), (int64_t)n);
     expect("extract, exchanged", spatialjoin_extract(plan, sizeof plan, n, scratch, n, table, 7) > 0, 1);

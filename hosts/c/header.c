@@ -1,6 +1,17 @@
-/* What `header-check` compiles by every standard: the header, taken in twice, and each of its macros. */
+/* What `header-check` compiles by every standard: the header, taken in twice, each of its macros, and the layout of a table. */
 #include "spatialjoin.h"
 #include "spatialjoin.h"
+
+/* An array of -1 items where the condition does not hold: no compiler takes it. */
+#define HOLDS(name, condition) typedef char name[(condition) ? 1 : -1]
+#define FIELD(field) sizeof(((spatialjoin_node *)0)->field)
+
+HOLDS(a_record_has_six_bytes, sizeof(spatialjoin_node) == 6);
+HOLDS(a_table_has_6144_bytes, sizeof(spatialjoin_node[SPATIALJOIN_MOST_NODES]) == 6144);
+HOLDS(the_kind_is_byte_0, offsetof(spatialjoin_node, kind) == 0 && FIELD(kind) == 1);
+HOLDS(the_start_is_bytes_2_and_3, offsetof(spatialjoin_node, start) == 2 && FIELD(start) == 2);
+HOLDS(the_end_is_bytes_4_and_5, offsetof(spatialjoin_node, end) == 4 && FIELD(end) == 2);
+HOLDS(a_place_fits_in_16_bits, SPATIALJOIN_MOST_BYTES <= 65535);
 
 #if SPATIALJOIN_VERSION_NUMBER < SPATIALJOIN_VERSION_MINOR
 #error "the version's number is for the preprocessor too"

@@ -6,7 +6,7 @@
 
 typedef struct {
     uint8_t kind;
-    uint32_t start, end;
+    uint16_t start, end;
 } node;
 
 int64_t right_load(const uint8_t *frame, size_t frame_len, uint8_t *plan, size_t plan_len, node *table, size_t table_len);
@@ -43,7 +43,7 @@ static size_t nodes_of(const uint8_t *frame, size_t frame_len)
 /* What is wrong with the table that an accepted load or merge of this frame filled. */
 static void spoil_table(const uint8_t *frame, size_t frame_len, node *table, size_t table_len, int wrong)
 {
-    size_t count = wrong == 0 ? 0 : nodes_of(frame, frame_len);
+    size_t i, count = wrong == 0 ? 0 : nodes_of(frame, frame_len);
     if (wrong == 35 && count < table_len) {
         table[count].kind ^= 1;
     }
@@ -56,13 +56,18 @@ static void spoil_table(const uint8_t *frame, size_t frame_len, node *table, siz
     if (wrong == 38) {
         table[table_len].kind ^= 1;
     }
+    if (wrong == 75) {
+        for (i = 0; i < count; i++) {
+            table[i].end %= 16384;
+        }
+    }
 }
 
 int64_t spatialjoin_load(const uint8_t *frame, size_t frame_len, uint8_t *plan, size_t plan_len, node *table, size_t table_len)
 {
     int64_t answer = right_load(frame, frame_len, plan, plan_len, table, table_len);
     if (answer > 0) {
-        spoil_table(frame, frame_len, table, table_len, WRONG >= 35 && WRONG <= 38 ? WRONG : 0);
+        spoil_table(frame, frame_len, table, table_len, (WRONG >= 35 && WRONG <= 38) || WRONG == 75 ? WRONG : 0);
     }
     if (WRONG == 39 && (answer == -17 || answer == -9) && table_len > 0) {
         (void)nodes_of(frame, frame_len);

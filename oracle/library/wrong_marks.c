@@ -5,7 +5,7 @@
 
 typedef struct {
     uint8_t kind;
-    uint32_t start, end;
+    uint16_t start, end;
 } node;
 
 int64_t right_load(const uint8_t *frame, size_t frame_len, uint8_t *plan, size_t plan_len, node *table, size_t table_len);

@@ -87,8 +87,8 @@ pub fn each(frame: &[u8], start: usize, mut told: impl FnMut(usize, Node)) {
             let (index, start, _) = around[level];
             let node = Node {
                 kind: frame[start],
-                start: start as u32,
-                end: at as u32,
+                start: start as u16,
+                end: at as u16,
             };
             told(index, node);
             if level == 0 {

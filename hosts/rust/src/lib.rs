@@ -7,8 +7,9 @@
 //! [`MOST_BYTES`] are enough for every frame, plan and scratch, [`MOST_TEXT`] for every text.
 //! `docs/FRAMES.md` of the repository has their bytes.
 //!
-//! The host lends a table too, of [`MOST_NODES`] records at most: [`load`] and [`merge`] fill it with
-//! the nodes of the new plan, and [`extract`] takes it as they left it. [`exchange`] moves no node.
+//! The host lends a table too, of [`MOST_NODES`] records at most, 6,144 bytes: [`load`] and [`merge`]
+//! fill it with the nodes of the new plan, and [`extract`] takes it as they left it. [`exchange`]
+//! moves no node.
 //!
 //! The calls have no state and allocate nothing, so any number of threads may make them. A call
 //! needs at most [`STACK_BYTES`] of stack, which is measured and not proved.
@@ -20,6 +21,8 @@ mod extracted;
 pub mod numbers;
 mod refusal;
 mod version;
+
+use std::mem::offset_of;
 
 pub use extracted::{Extracted, Unextracted};
 pub use refusal::Refusal;
@@ -37,17 +40,26 @@ pub const MOST_NODES: usize = 1_024;
 /// The most items of a list of [`project`].
 pub const MOST_ITEMS: usize = 4_096;
 
-/// A node of a frame.
+/// A node of a frame: six bytes, that after the kind of no field.
 #[repr(C)]
 #[derive(Clone, Copy, Debug, Default, PartialEq, Eq)]
 pub struct Node {
     /// Its kind byte, 0 to 4.
     pub kind: u8,
     /// Where it starts, the frame's first byte being 0.
-    pub start: u32,
+    pub start: u16,
     /// Where it ends: one past the whole node.
-    pub end: u32,
+    pub end: u16,
 }
+
+// As the archive fills it, and as the header has it.
+const _: () = {
+    assert!(size_of::<Node>() == 6 && align_of::<Node>() == 2);
+    assert!(offset_of!(Node, kind) == 0);
+    assert!(offset_of!(Node, start) == 2);
+    assert!(offset_of!(Node, end) == 4);
+    assert!(MOST_BYTES <= u16::MAX as usize);
+};
 
 /// The most bytes of stack that a call needs.
 pub const STACK_BYTES: usize = 131_072;

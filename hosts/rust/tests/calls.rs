@@ -99,7 +99,34 @@ fn tables_of_nodes() {
     let mut exact = [STRAY; 3];
     assert_eq!(load(&good(), &mut vec![0; n], &mut exact), Ok(n));
     assert_eq!(exact, GOOD_NODES);
-    assert_eq!(size_of::<Node>(), 12);
+    assert_eq!(size_of::<[Node; MOST_NODES]>(), 6_144);
+}
+
+/// Of 16,384 bytes: 256 records, and functions of long names below nodes of 16 children.
+#[test]
+fn the_table_of_the_longest_frame() {
+    let node = |length: usize, arguments| call(&"f".repeat(length), arguments);
+    let mut leaves = vec![node(32, 0); 82];
+    leaves.extend(vec![[node(32, 1), node(32, 0)].concat(); 173]);
+    leaves.push([node(15, 1), node(32, 0)].concat());
+    let parts = leaves.chunks(16).map(|sixteen| {
+        let head = [4, 0, 0, 16];
+        [&head[..], &sixteen.concat()].concat()
+    });
+    let filter = [&[4, 0, 0, 16], &parts.collect::<Vec<_>>().concat()[..]].concat();
+    let frame = [&[1, 1, 0], &[0; 5 * 256][..], &filter].concat();
+    assert_eq!(frame.len(), MOST_BYTES);
+    let (mut plan, n, table) = loaded(&frame);
+    let root = Node {
+        kind: 4,
+        start: 3 + 5 * 256,
+        end: 16_384,
+    };
+    assert_eq!(table[0], root);
+    let last = table.iter().rposition(|node| *node != STRAY);
+    assert_eq!(table[last.expect("a node")].end, 16_384);
+    let refused = extract_plan(&mut plan, n, &mut vec![0; n], &table);
+    assert_eq!(refused, Err(Refusal::NoMatch));
 }
 
 /// What an extract of `good()` answers with this table, and with the filter exchanged before.

@@ -42,6 +42,11 @@ fn main() -> ExitCode {
         eprintln!("{USAGE}");
         return ExitCode::from(2);
     };
+    if !spatialjoin::version_matches() {
+        let (archive, package) = (spatialjoin::version(), spatialjoin::VERSION);
+        eprintln!("the library is of version {archive}, not {package}; nothing was compared");
+        return ExitCode::from(2);
+    }
     println!("seed {seed}, {frames} frames");
     let mut counts = Counts::default();
     let mut progress = Progress::new("frames compared", frames);

@@ -28,9 +28,9 @@ pub fn nodes_of(bytes: &[u8]) -> Vec<Node> {
 /// Fields of every size, most often those that a frame could have.
 pub fn any_node(rng: &mut Rng) -> Node {
     let place = |rng: &mut Rng| match rng.below(8) {
-        0 => rng.draw() as u32,
-        1 => (1 << rng.below(32)) - rng.below(2) as u32,
-        _ => rng.below(MAX_BYTES + 1) as u32,
+        0 => rng.draw() as u16,
+        1 => (1 << rng.below(16)) - rng.below(2) as u16,
+        _ => rng.below(MAX_BYTES + 1) as u16,
     };
     Node {
         kind: rng.below(8) as u8,
@@ -75,7 +75,7 @@ pub fn damage(rng: &mut Rng, table: &mut Vec<Node>, count: usize) {
         3 => table.swap(0, index),
         4 => table.fill_with(|| any_node(rng)),
         5 => table[index].kind ^= 1 << rng.below(8),
-        6 => table[index].start ^= 1 << rng.below(32),
-        _ => table[index].end ^= 1 << rng.below(32),
+        6 => table[index].start ^= 1 << rng.below(16),
+        _ => table[index].end ^= 1 << rng.below(16),
     }
 }

@@ -1,4 +1,4 @@
-//! Document 02, request 6: the table of a frame's nodes.
+//! Document 02, requests 6 and 11: the table of a frame's nodes, start and end of 16 bits each.
 
 use crate::encode;
 use crate::frame::{Expr, Frame};
@@ -7,8 +7,8 @@ use crate::frame::{Expr, Frame};
 #[derive(Clone, Copy, Debug, Default, PartialEq, Eq)]
 pub struct Node {
     pub kind: u8,
-    pub start: u32,
-    pub end: u32,
+    pub start: u16,
+    pub end: u16,
 }
 
 /// One node after the other in the order in which they are written.
@@ -34,10 +34,15 @@ fn put_nodes(expr: &Expr, bytes: &[u8], start: usize, nodes: &mut Vec<Node>) -> 
     }
     nodes[index] = Node {
         kind: bytes[start],
-        start: start as u32,
-        end: end as u32,
+        start: position(start),
+        end: position(end),
     };
     end
+}
+
+/// A frame has at most 16,384 bytes, so no position is lost.
+fn position(at: usize) -> u16 {
+    u16::try_from(at).expect("a frame has at most 16,384 bytes")
 }
 
 /// How many bytes a node has before its children.

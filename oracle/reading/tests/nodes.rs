@@ -9,7 +9,7 @@ use reading::frame::Expr;
 use reading::nodes::{Node, table};
 use reading::refusal::Refusal;
 
-fn node(kind: u8, start: u32, end: u32) -> Node {
+fn node(kind: u8, start: u16, end: u16) -> Node {
     Node { kind, start, end }
 }
 

@@ -114,8 +114,8 @@ fn counted_by_places(frame: &Frame) -> usize {
     let functions = table(frame)
         .into_iter()
         .filter(|node| node.kind != 0 && node.kind != 2);
-    let starts: Vec<u32> = functions.map(|node| node.start).collect();
-    let last = stop.map_or(u32::MAX, |index| starts[index]);
+    let starts: Vec<u16> = functions.map(|node| node.start).collect();
+    let last = stop.map_or(u16::MAX, |index| starts[index]);
     ands.filter(|and| and.start < last).count() + read
 }
 
