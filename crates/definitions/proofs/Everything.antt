@@ -26,6 +26,9 @@ use Rattle.definitions.specs.Merge as Merge
 use Rattle.definitions.specs.NodeTable as NodeTable
 use Rattle.definitions.specs.Project as Project
 use Rattle.definitions.specs.OddMachine as OddMachine
+use Rattle.definitions.specs.Queues as Queues
+use Rattle.definitions.specs.QueueBytes as QueueBytes
+use Rattle.definitions.specs.QueueLists as QueueLists
 
 unfoldable pub basics : ℕ
 unfolding Basics.ascii Basics.sameName Basics.bigEndian Basics.any Basics.all Basics.keep
@@ -148,7 +151,14 @@ unfolding Project.placeIn Project.placeOf Project.isPlace Project.orZero Project
     Project.newAfterProject Project.project OddMachine.oddLength OddMachine.oddStep OddMachine.oddRun
 projecting = 0
 
+unfoldable pub queues : ℕ
+unfolding Queues.putIn Queues.firstTried Queues.oldest Queues.due QueueBytes.markOf QueueBytes.framesOf QueueBytes.queueOf
+    QueueBytes.stateOf QueueBytes.inSlots QueueBytes.queueOver QueueBytes.stateOver QueueBytes.queueNumbered QueueBytes.putDone
+    QueueBytes.put QueueBytes.serveDue QueueBytes.serveHeld QueueBytes.serve QueueLists.queuesRun QueueLists.freshQueues
+    QueueLists.waitingOf QueueLists.waitingIn QueueLists.added QueueLists.served QueueLists.givenOf
+queues = 0
+
 unfoldable pub everything : ℕ
 unfolding basics expression literals encode leaves readers decode plans references match extract walk exchange tables calls machine sessions
-    meaning logical program printing merging projecting
+    meaning logical program printing merging projecting queues
 everything = 0

@@ -11,3 +11,4 @@ pub mod TabledRows
 pub mod NarrowedRows
 pub mod Sentences
 pub mod WalkedRows
+pub mod WaitingRows

@@ -1,4 +1,4 @@
--- Tools without a subject of their own: choice, answers, names, numbers as bytes, lists under a test.
+-- Tools without a subject of their own: choice, answers, checks in a row, names, numbers as bytes, lists under a test.
 use Prim.Native.Nat.{ℕ, zero, suc, _/_, _%_, _^_}
 use Prim.Native.String.{String, [] as no-text, _∷_ as _then_}
 use Prim.Native.Char.{code}
@@ -28,6 +28,22 @@ pub data Result (A : Type 0) : Type 0 where
 abbrev pub mapResult : {A B : Type 0} → (A → B) → Result A → Result B
 mapResult f (ok a) = ok (f a)
 mapResult f (refused number) = refused number
+
+infixl 30 _>>=_ _>>_
+-- `x ← first` goes on with the value x; the first refusal is the answer.
+abbrev pub _>>=_ : {A B : Type 0} → Result A → (A → Result B) → Result B
+_>>=_ (ok a) next = next a
+_>>=_ (refused number) next = refused number
+
+-- A line without `←` only checks.
+abbrev pub _>>_ : {A B : Type 0} → Result A → Result B → Result B
+_>>_ (ok a) next = next
+_>>_ (refused number) next = refused number
+
+-- Refuses with this number unless the test holds.
+abbrev pub require : (number : ℕ) → Bool → Result Bool
+require number true = ok true
+require number false = refused number
 
 -- The bytes of a name.
 unfoldable pub ascii : String → List ℕ

@@ -28,6 +28,7 @@ use Rattle.definitions.specs.Printed.{print}
 use Rattle.definitions.specs.Merge.{merge}
 use Rattle.definitions.specs.Project.{project}
 unfoldable pub use Rattle.definitions.specs.Extract.{isKnnMatch}
+use Rattle.definitions.specs.QueueBytes.{put, serve}
 pub use Rattle.definitions.specs.OddMachine.{extractedPlan}
 
 -- ---- exchange
@@ -142,7 +143,8 @@ AcceptedWrites =
     → CallWrote n buffer scratch (make kind n buffer scratch table)
     × PlanWritten matchLeaf kind n buffer (make kind n buffer scratch table))
 
--- The refusals of each call, in the order of 01 and 02; print is request 1's, merge request 2's, 17 request 6's, project request 7's.
+-- The refusals of each call, in the order of 01 and 02; print is request 1's, merge request 2's, 17 request 6's, project request 7's,
+-- put and serve are request 12's.
 unfoldable pub loadRefusals : List ℕ
 loadRefusals = 1 ∷ 2 ∷ 3 ∷ 4 ∷ 5 ∷ 6 ∷ 7 ∷ 8 ∷ 9 ∷ 17 ∷ []
 
@@ -164,6 +166,12 @@ mergeRefusals = 1 ∷ 2 ∷ 3 ∷ 4 ∷ 5 ∷ 6 ∷ 7 ∷ 8 ∷ 10 ∷ 11 ∷ 12
 unfoldable pub projectRefusals : List ℕ
 projectRefusals = 10 ∷ 11 ∷ 18 ∷ 19 ∷ 9 ∷ 20 ∷ []
 
+unfoldable pub putRefusals : List ℕ
+putRefusals = 21 ∷ 10 ∷ 1 ∷ 22 ∷ 23 ∷ []
+
+unfoldable pub serveRefusals : List ℕ
+serveRefusals = 10 ∷ 9 ∷ []
+
 -- A value, or a refusal with one of these numbers.
 abbrev pub RefusedBy : {A : Type 0} → (numbers : List ℕ) → Result A → Type 0
 RefusedBy numbers (ok a) = Unit {0}
@@ -180,6 +188,8 @@ RefusalsOfCalls =
     × ((frame : List ℕ) (n : ℕ) (buffer scratch : List ℕ) (table : List NodeRecord)
     → RefusedBy mergeRefusals (merge frame n buffer scratch table .answer))
     × ((n : ℕ) (buffer scratch ofLeft ofRight : List ℕ) → RefusedBy projectRefusals (project n buffer scratch ofLeft ofRight .answer))
+    × ((queues : List ℕ) (number : ℕ) (frame : List ℕ) → RefusedBy putRefusals (put queues number frame .answer))
+    × ((queues out : List ℕ) → RefusedBy serveRefusals (serve queues out .answer))
 
 -- ---- demand 3: lists of calls
 

@@ -1,9 +1,11 @@
--- The calls' answers as C and Rust hosts get them: one whole number. (Ours: 01 leaves open how a host gets an answer.)
+-- The calls' answers as C and Rust hosts get them: one whole number. (Ours: 01 and 02 leave open how a host gets an answer.)
 use Prim.Native.Nat.{ℕ, _+_, _*_}
 use lib.IntN.{ℤ, pos, negℤ}
 use Rattle.definitions.specs.Basics.{Result, ok, refused}
 use Rattle.definitions.specs.Encode.{sideNumber}
 use Rattle.definitions.specs.Logical.{LogicalAnswer}
+use Rattle.definitions.specs.Queues.{queueNumber}
+use Rattle.definitions.specs.QueueBytes.{Served, frameFrom, bothEmpty}
 
 -- A length, or minus the refusal's number. (Ours.)
 unfoldable pub hosted : Result ℕ → ℤ
@@ -19,3 +21,9 @@ hostedWalk walk (refused number) = negℤ (pos (walk * 256 + number))
 unfoldable pub hostedNames : Result LogicalAnswer → ℤ
 hostedNames (ok a) = pos (a .mask * 65536 + a .names * 256 + sideNumber (a .side))
 hostedNames (refused number) = negℤ (pos number)
+
+-- A serve's (request 12): queue · 65,536 + length, 0 with both queues empty, or minus the refusal's number. (Ours.)
+unfoldable pub hostedServe : Result Served → ℤ
+hostedServe (ok (frameFrom queue length)) = pos (queueNumber queue * 65536 + length)
+hostedServe (ok bothEmpty) = pos 0
+hostedServe (refused number) = negℤ (pos number)

@@ -41,6 +41,9 @@ pub mod Merge
 pub mod Project
 pub mod OddMachine
 pub mod History
+pub mod Queues
+pub mod QueueBytes
+pub mod QueueLists
 pub mod Hosts
 pub mod Claims
 pub mod ValueClaims
@@ -66,3 +69,5 @@ pub mod ShortClaims
 pub mod DemandThree
 pub mod WalkClaims
 pub mod WalkRows
+pub mod QueueClaims
+pub mod QueueRows

@@ -1,4 +1,4 @@
--- The limits of document 01, each named once.
+-- The limits of documents 01 and 02, each named once.
 use Prim.Native.Nat.{ℕ}
 
 -- A frame or plan has at most 16,384 bytes.
@@ -56,3 +56,19 @@ mostDigits = 32768
 -- A list of child indices has at most 4,096 items (request 7).
 abbrev pub mostItems : ℕ
 mostItems = 4096
+
+-- Each of two queues has places for 16 frames (request 12),
+abbrev pub queuePlaces : ℕ
+queuePlaces = 16
+
+-- of 1,024 bytes each;
+abbrev pub placeBytes : ℕ
+placeBytes = 1024
+
+-- with a count byte and 16 lengths of 2 bytes before its places a queue has 16,417 bytes,
+abbrev pub queueBytes : ℕ
+queueBytes = 16417
+
+-- and both, behind the mark, 32,835.
+abbrev pub queuesBytes : ℕ
+queuesBytes = 32835

@@ -1,16 +1,15 @@
 -- What was read at a place stands there: its bytes are those up to the place after it.
-use Prim.Native.Nat.{ℕ, zero, suc, _+_, _≤_, _<_}
+use Prim.Native.Nat.{ℕ, _+_, _≤_, _<_}
 use native.Mathlib.Omega.{arith}
 use mathlib.Core.Path.{_≡_, ap}
-use mathlib.Core.List.{List, [], _∷_, _++_}
-use lib.ListN.{length, drop, getD, length-drop, length-append}
-use mir.Syntax.{w8}
-use mir.Val.{Fits}
+use mathlib.Core.List.{List, _++_}
+use lib.ListN.{length, drop, length-drop, length-append}
 use Rattle.definitions.specs.Decode.{Columns, node, expression}
 use Rattle.definitions.specs.Good.{AllBytes, depth, nodes}
 use Rattle.definitions.specs.Expression.{Expr}
 use Rattle.definitions.specs.Encode.{exprBytes}
 use Rattle.definitions.specs.Readers.{read}
+pub use Rattle.theorems.proofs.Tools.{all-bytes, bytes-from}
 use Rattle.theorems.proofs.Inverse.{NodeBack, node-back}
 use Rattle.node_reader.specs.declared.walk.Walked.{Walked}
 use Rattle.node_reader.specs.declared.walk.Walked.the-variants.{To, Refused}
@@ -21,16 +20,6 @@ use Rattle.expression.specs.Nodes.{Stands}
 use Rattle.node_rows.specs.Rows.{Collected}
 use Rattle.node_rows.proofs.RowLaws.{nodes-below}
 use Rattle.node_rows.proofs.TableLaws.{collected-tabled}
-
--- A slice of bytes, and what is left of it from a place on.
-pub all-bytes : (s : List ℕ) → ((i : ℕ) → Fits w8 (getD s i 0)) → AllBytes s
-all-bytes [] h = tt
-all-bytes (b ∷ s) h = (h 0 .fits, all-bytes s (λ i. h (suc i)))
-
-pub bytes-from : (at : ℕ) (s : List ℕ) → AllBytes s → AllBytes (drop at s)
-bytes-from zero s h = h
-bytes-from (suc at) [] h = tt
-bytes-from (suc at) (b ∷ s) h = bytes-from at s (h .1)
 
 pub between : (s x : List ℕ) (at end : ℕ) → at ≤ length s → end ≤ length s → drop at s ≡ x ++ drop end s → Between s at end x
 between s x at end low high e =

@@ -59,7 +59,17 @@ pub mod AnyMatchers
 pub mod WholeDemand
 pub mod ShortClaims
 pub mod LineNumbers
+pub mod Slots
+pub mod QueueFrames
+pub mod QueueStates
+pub mod QueueChanges
+pub mod QueueFairness
+pub mod QueueCalls
+pub mod QueueMachine
+pub mod QueueRuns
+pub mod QueueBound
 pub mod Table
 pub mod Refusals
 pub mod UpToLimits
+pub mod QueueLimits
 pub mod Proved

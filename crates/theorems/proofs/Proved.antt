@@ -25,6 +25,8 @@ use Rattle.definitions.specs.TableClaims.{TableNests, TableNamesBytes, Position
 use Rattle.definitions.specs.TableRows.{TableRows}
 use Rattle.definitions.specs.PruningClaims.{KeptByHeldIndexes}
 use Rattle.definitions.specs.ProjectRows.{ProjectRows}
+use Rattle.definitions.specs.QueueRows.{QueueRows}
+use Rattle.definitions.specs.QueueClaims.{StateReadBack, StateHeld, PutAdds, ServeTakes, QueuesKept, QueueLengths, FreeBytes, RunParts, AlwaysHeld, InOrder, ServeGives, FairQueues, BoundReached}
 use Rattle.definitions.specs.ProjectClaims.{PlaceExactly, NewColumnsThere, ProjectionValue, ProjectionExchanged, ProjectionGood, ProjectedExactly, ProjectWrites, ProjectKeeps, ListAfterProjection, AnyMatcherProjects, ListProjectedValue}
 use Rattle.definitions.specs.WalkClaims.{RemembersFirst, StopsAtKnn, OneWalkIsPick, WalkBounded, WalkWhole, WalkUnmatched, WalkExchanged, WalkCarried, WalkShort}
 use Rattle.definitions.specs.WalkRows.{WalkRows}
@@ -39,6 +41,12 @@ use Rattle.theorems.proofs.ListTheorem.{load-accepts, stays}
 use Rattle.theorems.proofs.Lengths.{load-is-short, walk-short-by}
 use Rattle.theorems.proofs.Changes.{load-keeps, load-wrote}
 use Rattle.theorems.proofs.RefusalNumbers.{load-refusals, exchange-refusals, logical-refusals, print-refusals, merge-refusals, project-refusals}
+use Rattle.theorems.proofs.QueueStates as states
+use Rattle.theorems.proofs.QueueCalls.{put-adds-by, put-refusals, serve-takes-by, serve-refusals, kept-by, lengths-by}
+use Rattle.theorems.proofs.QueueMachine.{bytes-free}
+use Rattle.theorems.proofs.QueueRuns.{parts-run, held-always, order-kept, serve-gives-by, fair-by}
+use Rattle.theorems.proofs.QueueBound.{bound-is-reached}
+use Rattle.theorems.proofs.QueueLimits.{queue-rows-hold}
 use Rattle.theorems.proofs.TablesRoom.{never-too-short-by}
 use Rattle.theorems.proofs.MatchLaws.{match-laws}
 use Rattle.theorems.proofs.Truth.{fair-symmetric, plan-exchange-value}
@@ -121,8 +129,17 @@ pub accepted-writes : AcceptedWrites
 accepted-writes = (load-wrote, by-leaf .1 .writes)
 
 pub refusals-of-calls : RefusalsOfCalls
-refusals-of-calls =
-    (load-refusals, by-leaf .1 .refusals, exchange-refusals, logical-refusals, print-refusals, merge-refusals, project-refusals)
+refusals-of-calls = (
+  load-refusals,
+  by-leaf .1 .refusals,
+  exchange-refusals,
+  logical-refusals,
+  print-refusals,
+  merge-refusals,
+  project-refusals,
+  put-refusals,
+  serve-refusals,
+)
 
 pub load-accepted : LoadAccepted
 load-accepted = load-accepts
@@ -368,6 +385,50 @@ list-projected-has-value M fair v w F s = any-matcher-projects matchLeaf Fair ma
 
 pub project-rows : ProjectRows
 project-rows = project-rows-hold
+
+-- ---- request 12
+
+pub state-read-back : StateReadBack
+state-read-back = states.state-back
+
+pub state-held : StateHeld
+state-held = states.state-held
+
+pub put-adds : PutAdds
+put-adds = put-adds-by
+
+pub serve-takes : ServeTakes
+serve-takes = serve-takes-by
+
+pub queues-kept : QueuesKept
+queues-kept = kept-by
+
+pub queue-lengths : QueueLengths
+queue-lengths = lengths-by
+
+pub free-bytes : FreeBytes
+free-bytes = bytes-free
+
+pub run-parts : RunParts
+run-parts = parts-run
+
+pub always-held : AlwaysHeld
+always-held = held-always
+
+pub in-order : InOrder
+in-order = order-kept
+
+pub serve-gives : ServeGives
+serve-gives = serve-gives-by
+
+pub fair : FairQueues
+fair = fair-by
+
+pub bound-reached : BoundReached
+bound-reached = bound-is-reached
+
+pub queue-rows : QueueRows
+queue-rows = queue-rows-hold
 
 -- ---- demand 3 whole, and short claims
 
