@@ -4,3 +4,4 @@ pub mod Hosting
 pub mod Lengths
 pub mod TableRoom
 pub mod CoreLaws
+pub mod QueueHosting

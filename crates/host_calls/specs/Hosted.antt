@@ -7,8 +7,9 @@ use Rattle.definitions.specs.Calls.{load, Outcome}
 use Rattle.definitions.specs.Merge.{MergeOutcome}
 use Rattle.definitions.specs.NodeTable.{NodeRecord}
 use Rattle.definitions.specs.Good.{AllBytes}
-use Rattle.definitions.specs.Hosts.{hosted, hostedWalk}
+use Rattle.definitions.specs.Hosts.{hosted, hostedWalk, hostedServe}
 use Rattle.definitions.specs.Printed.{print}
+use Rattle.definitions.specs.QueueBytes.{PutOutcome, ServeOutcome}
 
 -- The load is the definition's, whatever n the host had: answer, plan buffer and table.
 abbrev pub LoadHosted : (frame before : List ℕ) (table : List NodeRecord) (after : List ℕ) (filled : List NodeRecord) → ℤ → Type 0
@@ -33,3 +34,11 @@ ExtractHosted before o walk after scratch r = AllBytes before × (r ≡ hostedWa
 -- The print is the definition's: answer and text buffer.
 abbrev pub PrintHosted : (frame before after : List ℕ) → ℤ → Type 0
 PrintHosted frame before after r = (r ≡ hosted (print frame before .answer)) × (after ≡ print frame before .buffer)
+
+-- The put is the definition's: answer and queues (request 12).
+abbrev pub PutHosted : PutOutcome → (after : List ℕ) → ℤ → Type 0
+PutHosted o after r = (r ≡ hosted (o .answer)) × (after ≡ o .queues)
+
+-- The serve is the definition's: answer, queues and output (request 12).
+abbrev pub ServeHosted : ServeOutcome → (after outAfter : List ℕ) → ℤ → Type 0
+ServeHosted o after outAfter r = (r ≡ hostedServe (o .answer)) × (after ≡ o .queues) × (outAfter ≡ o .out)

@@ -11,7 +11,8 @@ ghost use Rattle.terms.specs.Refusals.{numberOf};
 ghost use Rattle.join_filter.specs.Outcomes.{answerOf};
 ghost use Rattle.host_calls.specs.Short.{Short, ShortWalk};
 
-fn length_number(n: usize) -> i64
+// A length, or a walk or a queue and a length in one number.
+pub(crate) fn length_number(n: usize) -> i64
     requires { ⌜ n ≤ 4294967295 ⌝ }
     ensures { λ r. ⌜ r ≡ pos n ⌝ }
 {

@@ -8,3 +8,5 @@ pub mod logical;
 pub mod merge;
 pub mod print;
 pub mod project;
+pub mod put;
+pub mod serve;

@@ -3,13 +3,13 @@
 use Prim.Native.Nat.{ℕ, zero, suc, _+_, _*_, _/_, _%_, _≤_}
 use native.Mathlib.Omega.{arith}
 use mathlib.Core.Path.{_≡_, refl, sym, ap, _∙_, subst}
-use mathlib.Core.Bool.{Bool, true, false, _||_, false≢true}
+use mathlib.Core.Bool.{Bool, true, false, _&&_, _||_, false≢true}
 use mathlib.Core.List.{List, [], _∷_, map}
 use lib.IntN.{pos, negℤ}
-use lib.Dec.{eqb}
-use borrow.Author.Tests.{eqb-true}
+use lib.Dec.{leb, eqb}
+use borrow.Author.Tests.{leb-true, eqb-true}
 use Rattle.definitions.specs.Limits.{mostBytes}
-use Rattle.definitions.specs.Basics.{Result, ok, refused, any}
+use Rattle.definitions.specs.Basics.{Result, ok, refused, any, all}
 use Rattle.definitions.specs.Machine.{Kind, extractCall, exchangeCall}
 use Rattle.definitions.specs.Good.{AllBytes}
 use Rattle.definitions.specs.NodeTable.{NodeRecord}
@@ -17,11 +17,12 @@ use Rattle.definitions.specs.Sessions.{makeBy, make, accepted}
 use Rattle.definitions.specs.Merge.{merge}
 use Rattle.definitions.specs.Hosts.{hosted, hostedWalk}
 use Rattle.definitions.specs.Claims.{loadRefusals, extractRefusals, exchangeRefusals, mergeRefusals, projectRefusals, RefusedBy}
+use Rattle.theorems.proofs.Tools.{and-both}
 use Rattle.theorems.proofs.InverseFrame.{same-ok}
 use Rattle.theorems.proofs.Proved.{lengths-short, refusals-of-calls, merge-writes}
 use Rattle.terms.specs.Refusals.{numberOf}
 use Rattle.terms.specs.declared.refusals.Refusal.{Refusal}
-use Rattle.terms.specs.declared.refusals.Refusal.the-variants.{EmptyOrTooLong, WrongFirstByte, EndsInsideField, OutOfRange, TooManyOrTooDeep, NoSuchColumn, BytesAfterEnd, TooFewArguments, BufferTooShort, NoGoodPlan, PlanEmpty, AlreadyExtracted, NoLeafMatches, NotHexadecimal, TextBufferTooShort, MergedTooLarge, TableTooShort, NotExtracted, ListTooLong, NoSuchChild}
+use Rattle.terms.specs.declared.refusals.Refusal.the-variants.{EmptyOrTooLong, WrongFirstByte, EndsInsideField, OutOfRange, TooManyOrTooDeep, NoSuchColumn, BytesAfterEnd, TooFewArguments, BufferTooShort, NoGoodPlan, PlanEmpty, AlreadyExtracted, NoLeafMatches, NotHexadecimal, TextBufferTooShort, MergedTooLarge, TableTooShort, NotExtracted, ListTooLong, NoSuchChild, NoSuchQueue, QueuedFrameTooLong, QueueFull}
 use Rattle.join_filter.specs.Outcomes.{answerOf}
 use Rattle.join_filter.specs.declared.answers.Answer.{Answer}
 use Rattle.join_filter.specs.declared.answers.Answer.the-variants.{Length, Refused}
@@ -29,7 +30,7 @@ use Rattle.host_lists.specs.Numbers.{answered, walkAnswered, walkCarried
 
 -- ---- minus a refusal's number
 
-known-refusal : (k : ℕ) → 1 ≤ k → answered (negℤ (pos k)) ≡ refused k
+pub known-refusal : (k : ℕ) → 1 ≤ k → answered (negℤ (pos k)) ≡ refused k
 known-refusal zero h = absurd (omega (arith, h))
 known-refusal (suc k) h = refl
 
@@ -67,33 +68,36 @@ without-walk (refused k) = let same : 0 * 256 + k ≡ k = omega arith in ap (λ 
 
 -- ---- the refusals
 
-pub from-1-to-20 : (why : Refusal) → (1 ≤ numberOf why) × (numberOf why ≤ 20)
-from-1-to-20 EmptyOrTooLong = (omega arith, omega arith)
-from-1-to-20 WrongFirstByte = (omega arith, omega arith)
-from-1-to-20 EndsInsideField = (omega arith, omega arith)
-from-1-to-20 OutOfRange = (omega arith, omega arith)
-from-1-to-20 TooManyOrTooDeep = (omega arith, omega arith)
-from-1-to-20 NoSuchColumn = (omega arith, omega arith)
-from-1-to-20 BytesAfterEnd = (omega arith, omega arith)
-from-1-to-20 TooFewArguments = (omega arith, omega arith)
-from-1-to-20 BufferTooShort = (omega arith, omega arith)
-from-1-to-20 NoGoodPlan = (omega arith, omega arith)
-from-1-to-20 PlanEmpty = (omega arith, omega arith)
-from-1-to-20 AlreadyExtracted = (omega arith, omega arith)
-from-1-to-20 NoLeafMatches = (omega arith, omega arith)
-from-1-to-20 NotHexadecimal = (omega arith, omega arith)
-from-1-to-20 TextBufferTooShort = (omega arith, omega arith)
-from-1-to-20 MergedTooLarge = (omega arith, omega arith)
-from-1-to-20 TableTooShort = (omega arith, omega arith)
-from-1-to-20 NotExtracted = (omega arith, omega arith)
-from-1-to-20 ListTooLong = (omega arith, omega arith)
-from-1-to-20 NoSuchChild = (omega arith, omega arith)
+pub at-least-1 : (why : Refusal) → 1 ≤ numberOf why
+at-least-1 EmptyOrTooLong = omega arith
+at-least-1 WrongFirstByte = omega arith
+at-least-1 EndsInsideField = omega arith
+at-least-1 OutOfRange = omega arith
+at-least-1 TooManyOrTooDeep = omega arith
+at-least-1 NoSuchColumn = omega arith
+at-least-1 BytesAfterEnd = omega arith
+at-least-1 TooFewArguments = omega arith
+at-least-1 BufferTooShort = omega arith
+at-least-1 NoGoodPlan = omega arith
+at-least-1 PlanEmpty = omega arith
+at-least-1 AlreadyExtracted = omega arith
+at-least-1 NoLeafMatches = omega arith
+at-least-1 NotHexadecimal = omega arith
+at-least-1 TextBufferTooShort = omega arith
+at-least-1 MergedTooLarge = omega arith
+at-least-1 TableTooShort = omega arith
+at-least-1 NotExtracted = omega arith
+at-least-1 ListTooLong = omega arith
+at-least-1 NoSuchChild = omega arith
+at-least-1 NoSuchQueue = omega arith
+at-least-1 QueuedFrameTooLong = omega arith
+at-least-1 QueueFull = omega arith
 
 -- The number of an answer of the code.
 pub known : (r : Answer) → answered (hosted (answerOf r)) ≡ answerOf r
 unfolding hosted
 known (Length m) = refl
-known (Refused why) = known-refusal (numberOf why) (from-1-to-20 why .0)
+known (Refused why) = known-refusal (numberOf why) (at-least-1 why)
 
 -- ---- each refusal of a call by its name
 
@@ -153,19 +157,42 @@ project-named =
 
 -- ---- what the calls answer
 
-is-answer : (numbers : List ℕ) → Named numbers → (x : Result ℕ) → RefusedBy numbers x → ((m : ℕ) → x ≡ ok m → m ≤ mostBytes) → IsAnswer x
-is-answer numbers named (ok m) h short = short m refl
-is-answer numbers named (refused k) h short =
-    let (why, e) = named-at numbers named k h in subst (λ (k : ℕ). (1 ≤ k) × (k ≤ 20)) e (from-1-to-20 why)
+module _ (most : ℕ) where
+  -- A number from 1 on.
+  abbrev pub inRange : ℕ → Bool
+  inRange k = leb 1 k && leb k most
+
+  range-of : (k : ℕ) → inRange k ≡ true → (1 ≤ k) × (k ≤ most)
+  range-of k e =
+      let both : (leb 1 k ≡ true) × (leb k most ≡ true) = and-both (leb 1 k) (leb k most) e in
+      (leb-true 1 k (both .0), leb-true k most (both .1))
+
+  first-of : (numbers : List ℕ) (n k : ℕ) (b : Bool) → eqb k n ≡ b → inRange n ≡ true → (b || any (eqb k) numbers) ≡ true
+      → (any (eqb k) numbers ≡ true → (1 ≤ k) × (k ≤ most)) → (1 ≤ k) × (k ≤ most)
+  first-of numbers n k true f range e later = range-of k (subst (λ (m : ℕ). inRange m ≡ true) (sym (eqb-true k n f)) range)
+  first-of numbers n k false f range e later = later e
+
+  -- One of a list of such.
+  pub one-of : (numbers : List ℕ) → all inRange numbers ≡ true → (k : ℕ) → any (eqb k) numbers ≡ true → (1 ≤ k) × (k ≤ most)
+  unfolding any all
+  one-of [] range k e = absurd (false≢true e)
+  one-of (n ∷ numbers) range k e =
+      let both : (inRange n ≡ true) × (all inRange numbers ≡ true) = and-both (inRange n) (all inRange numbers) range in
+      first-of numbers n k (eqb k n) refl (both .0) e (λ later. one-of numbers (both .1) k later)
+
+is-answer : (numbers : List ℕ) → all (inRange 20) numbers ≡ true → (x : Result ℕ) → RefusedBy numbers x
+    → ((m : ℕ) → x ≡ ok m → m ≤ mostBytes) → IsAnswer x
+is-answer numbers range (ok m) h short = short m refl
+is-answer numbers range (refused k) h short = one-of 20 numbers range k h
 
 make-answer : (kind : Kind) (n : ℕ) (plan scratch : List ℕ) (table : List NodeRecord) → AllBytes plan
     → IsAnswer (make kind n plan scratch table .answer)
-unfolding makeBy
+unfolding makeBy extractRefusals exchangeRefusals all
 make-answer extractCall n plan scratch table bytes =
-    is-answer extractRefusals extract-named _ (refusals-of-calls .1 n plan scratch table)
+    is-answer extractRefusals refl _ (refusals-of-calls .1 n plan scratch table)
     (λ m e. lengths-short .1 extractCall n plan scratch table m bytes e)
 make-answer exchangeCall n plan scratch table bytes =
-    is-answer exchangeRefusals exchange-named _ (refusals-of-calls .2 n plan scratch)
+    is-answer exchangeRefusals refl _ (refusals-of-calls .2 n plan scratch)
     (λ m e. lengths-short .1 exchangeCall n plan scratch table m bytes e)
 
 merge-short : (frame : List ℕ) (n : ℕ) (plan scratch : List ℕ) (table : List NodeRecord) (m : ℕ)
@@ -177,12 +204,13 @@ merge-short frame n plan scratch table m e =
     subst (λ (k : ℕ). k ≤ mostBytes) size (wrote .short)
 
 pub answers-of-calls : AnswersOfCalls
+unfolding loadRefusals mergeRefusals projectRefusals all
 answers-of-calls = (
-  λ frame n plan table bytes. is-answer loadRefusals load-named _ (refusals-of-calls .0 frame n plan table)
+  λ frame n plan table bytes. is-answer loadRefusals refl _ (refusals-of-calls .0 frame n plan table)
       (λ m e. lengths-short .0 frame n plan table m bytes e),
   make-answer,
-  λ frame n plan scratch table. is-answer mergeRefusals merge-named _ (refusals-of-calls .5 frame n plan scratch table)
+  λ frame n plan scratch table. is-answer mergeRefusals refl _ (refusals-of-calls .5 frame n plan scratch table)
       (merge-short frame n plan scratch table),
-  λ n plan scratch ofLeft ofRight bytes. is-answer projectRefusals project-named _ (refusals-of-calls .6 n plan scratch ofLeft ofRight)
+  λ n plan scratch ofLeft ofRight bytes. is-answer projectRefusals refl _ (refusals-of-calls .6 n plan scratch ofLeft ofRight)
       (λ m e. lengths-short .2 n plan scratch ofLeft ofRight m bytes e),
 )

@@ -4,3 +4,4 @@ pub mod HostLists
 pub mod HostFacts
 pub mod HostsAgree
 pub mod LineLists
+pub mod QueueHosts

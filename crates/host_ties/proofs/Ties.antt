@@ -1,5 +1,5 @@
--- What each exported call ensures is, as it is generated from spatialjoin_c/src/lib.rt, the relation that `HostCall` has of it; and so a
--- call that met its contract is a host's call.
+-- What each exported call ensures is, as it is generated from spatialjoin_c/src/lib.rt, the relation that `HostCall` or `QueueHosted` has
+-- of it; and so a call that met its contract is a host's call.
 use Prim.Native.Nat.{ℕ}
 use mathlib.Core.Path.{_≡_, refl}
 use mathlib.Core.List.{List}
@@ -21,11 +21,14 @@ use Rattle.definitions.specs.Merge.{merge}
 use Rattle.definitions.specs.Project.{project}
 use Rattle.definitions.specs.Machine.{extractCall, exchangeCall}
 use Rattle.definitions.specs.History.{loading, making, merging, projecting}
+use Rattle.definitions.specs.QueueBytes.{put, serve}
+use Rattle.definitions.specs.QueueLists.{putCall, serveCall, madePut, madeServe}
 use Rattle.node_table.specs.Records.{nodesOf}
 use Rattle.node_table.specs.declared.NodeRecord.{NodeRecord as TableRecord}
-use Rattle.host_calls.specs.Hosted.{LoadHosted, CallHosted, ExtractHosted, MergeHosted}
+use Rattle.host_calls.specs.Hosted.{LoadHosted, CallHosted, ExtractHosted, MergeHosted, PutHosted, ServeHosted}
 use Rattle.host_lists.specs.Numbers.{answered, walkAnswered, nextN}
 use Rattle.host_lists.specs.HostLists.{Host, HostCall}
+use Rattle.host_lists.specs.QueueHosts.{serveAnswered, QueueHosted, putHosted, serveHosted}
 use Rattle.definitions.specs.Program.{lineOutcome}
 use Rattle.lines.specs.Answers.{keptAs, AnswerIs}
 use Rattle.lines.specs.Scratch.{lineScratch}
@@ -35,6 +38,8 @@ use Rattle.spatialjoin_c.proofs.spatialjoin_extract as extracting
 use Rattle.spatialjoin_c.proofs.spatialjoin_exchange as exchanging
 use Rattle.spatialjoin_c.proofs.spatialjoin_merge as merged
 use Rattle.spatialjoin_c.proofs.spatialjoin_project as projected
+use Rattle.spatialjoin_c.proofs.spatialjoin_put as putting
+use Rattle.spatialjoin_c.proofs.spatialjoin_serve as serving
 
 -- ---- what is ensured
 
@@ -78,6 +83,18 @@ module _ {M : Type 1} (𝓤 : URA M) (H : Heap 𝓤) (A : Atoms 𝓤) (mem : Mem
       (now (e .1 .1 .0)) z)
   project-ensures κs a z e = refl
 
+  pub put-ensures : (κs : Lfts (putting.signature .lifetimes)) (a : Args putting.signature κs) (z : Res putting.signature κs)
+      (e : AtExit putting.ended κs)
+      → putting.clauses 𝓤 H A mem run κs a .ensures tt z e
+      ≡ says (PutHosted (put (now (a .0)) (a .1 .0) (now (a .1 .1 .0))) (now (e .0)) z)
+  put-ensures κs a z e = refl
+
+  pub serve-ensures : (κs : Lfts (serving.signature .lifetimes)) (a : Args serving.signature κs) (z : Res serving.signature κs)
+      (e : AtExit serving.ended κs)
+      → serving.clauses 𝓤 H A mem run κs a .ensures tt z e
+      ≡ says (ServeHosted (serve (now (a .0)) (now (a .1 .0))) (now (e .0)) (now (e .1 .0)) z)
+  serve-ensures κs a z e = refl
+
   -- A line of the program: what it answers and keeps, and what it leaves in the scratch.
   pub line-ensures : (κs : Lfts (line.signature .lifetimes)) (a : Args line.signature κs) (r : Res line.signature κs)
       (e : AtExit line.ended κs)
@@ -117,3 +134,12 @@ module _ (plan after : List ℕ) (n : ℕ) (table filled : List TableRecord) (z 
   pub project-calls : (scratch kept ofLeft ofRight : List ℕ) → CallHosted plan (project n plan scratch ofLeft ofRight) after kept z
       → HostCall (owns plan n table) (projecting scratch ofLeft ofRight) (owns after (nextN n (answered z)) table) z
   project-calls scratch kept ofLeft ofRight is = (kept, is, refl, refl)
+
+module _ (queues left : List ℕ) (z : ℤ) where
+  pub put-calls : (number : ℕ) (frame : List ℕ) → PutHosted (put queues number frame) left z
+      → QueueHosted queues (putCall number frame) (madePut number frame (answered z)) left
+  put-calls number frame is = putHosted z is
+
+  pub serve-calls : (out outLeft : List ℕ) → ServeHosted (serve queues out) left outLeft z
+      → QueueHosted queues (serveCall out) (madeServe (serveAnswered z) outLeft) left
+  serve-calls out outLeft is = serveHosted z is

@@ -8,6 +8,8 @@ use host_calls::logical::logical_number;
 use host_calls::merge::merge_core;
 use host_calls::print::print_number;
 use host_calls::project::project_number;
+use host_calls::put::put_number;
+use host_calls::serve::serve_number;
 use node_table::NodeRecord;
 use node_table::fill_table;
 use node_table::put_nodes;
@@ -19,9 +21,10 @@ ghost use Rattle.definitions.specs.Hosts.{hostedNames};
 ghost use Rattle.definitions.specs.Logical as logicals;
 ghost use Rattle.definitions.specs.Merge as merges;
 ghost use Rattle.definitions.specs.Project as projects;
+ghost use Rattle.definitions.specs.QueueBytes as queued;
 ghost use Rattle.spatialjoin_c.specs.Version.{version};
 ghost use Rattle.node_table.specs.Records.{nodesOf};
-ghost use Rattle.host_calls.specs.Hosted.{LoadHosted, CallHosted, ExtractHosted, MergeHosted, PrintHosted};
+ghost use Rattle.host_calls.specs.Hosted.{LoadHosted, CallHosted, ExtractHosted, MergeHosted, PrintHosted, PutHosted, ServeHosted};
 
 // Loads a frame as the new plan and fills the table with its nodes; reads nothing of what both held.
 #[no_mangle]
@@ -119,4 +122,21 @@ pub extern "C" fn spatialjoin_version() -> i64
     ensures { λ r. ⌜ r ≡ pos version ⌝ }
 {
     0 * 65536 + 11 * 256 + 0
+}
+
+// Adds a frame at the end of a queue of two that share a buffer; nothing looks into the frame.
+#[no_mangle]
+pub extern "C" fn spatialjoin_put(queues: &mut [u8], queue: u8, frame: &[u8]) -> i64
+    ensures { λ r. ⌜ PutHosted (queued.put (now (queues .entry)) queue (now (frame .entry))) (now (queues .exit)) r ⌝ }
+{
+    put_number(queues, queue, frame)
+}
+
+// Gives the frame that is due: the oldest of the queue that was not served last, or of the other where that one is empty.
+#[no_mangle]
+pub extern "C" fn spatialjoin_serve(queues: &mut [u8], out: &mut [u8]) -> i64
+    ensures { λ r. ⌜ ServeHosted (queued.serve (now (queues .entry)) (now (out .entry))) (now (queues .exit))
+        (now (out .exit)) r ⌝ }
+{
+    serve_number(queues, out)
 }

@@ -24,6 +24,9 @@ pub enum Refusal {
     NotExtracted,
     ListTooLong,
     NoSuchChild,
+    NoSuchQueue,
+    QueuedFrameTooLong,
+    QueueFull,
 }
 
 // The number of a refusal.
@@ -51,5 +54,8 @@ pub fn refusal_number(why: Refusal) -> u8
         Refusal::NotExtracted => 18,
         Refusal::ListTooLong => 19,
         Refusal::NoSuchChild => 20,
+        Refusal::NoSuchQueue => 21,
+        Refusal::QueuedFrameTooLong => 22,
+        Refusal::QueueFull => 23,
     }
 }
