@@ -11,9 +11,15 @@
  * it as the last of them left it. An exchange moves no node. One byte of a record, that after the kind, belongs to no field and is not
  * written: compare records by their fields.
  *
+ * QUEUES. Where jobs of two machines reach one planner, the host lends a buffer of SPATIALJOIN_QUEUES_BYTES that holds a queue of each,
+ * all zero at the start, to spatialjoin_put and spatialjoin_serve, and leaves it alone in between. It holds frames that wait to be planned
+ * and no plan: the other calls never see it. Whatever the other queue does, a frame that was put behind j others of its queue comes out
+ * no later than the (2 * j + 2)th accepted serve after it, and each queue gives its frames in the order in which they came (theorems fair,
+ * in-order).
+ *
  * ANSWERS. An answer of at least 0 is a length (of spatialjoin_logical: see there). A negative one is a refusal: one of
  * enum spatialjoin_refusal. That of spatialjoin_extract has the walk too, so as it stands it is neither: SPATIALJOIN_LENGTH_OF,
- * SPATIALJOIN_WALK_OF and SPATIALJOIN_REFUSAL_OF take it apart.
+ * SPATIALJOIN_WALK_OF and SPATIALJOIN_REFUSAL_OF take it apart. That of spatialjoin_serve has the queue too, for SPATIALJOIN_QUEUE_OF.
  *
  * BUFFERS. Each pointer is to as many bytes (of a table: records, of a list: items) as the length after it says, bytes with any
  * alignment. No buffer of a call may overlap with another of the same call: that is undefined behaviour, as `restrict` says; only the two
@@ -37,9 +43,9 @@
 #include <stddef.h>
 #include <stdint.h>
 
-#define SPATIALJOIN_VERSION "0.11.0"
+#define SPATIALJOIN_VERSION "0.12.0"
 #define SPATIALJOIN_VERSION_MAJOR 0
-#define SPATIALJOIN_VERSION_MINOR 11
+#define SPATIALJOIN_VERSION_MINOR 12
 #define SPATIALJOIN_VERSION_PATCH 0
 
 /* The header's version as spatialjoin_version gives the archive's. */
@@ -60,6 +66,13 @@
 
 /* The most items of a list of spatialjoin_project. */
 #define SPATIALJOIN_MOST_ITEMS 4096
+
+/* The bytes of a buffer of queues; one of any other length is refused (-10). */
+#define SPATIALJOIN_QUEUES_BYTES 32835
+
+/* The most bytes of a frame that waits in a queue, and the most frames that wait in one. */
+#define SPATIALJOIN_MOST_QUEUED 1024
+#define SPATIALJOIN_MOST_WAITING 16
 
 /* The most bytes of stack that a call needs. */
 #define SPATIALJOIN_STACK_BYTES 131072
@@ -86,7 +99,7 @@ extern "C" {
 
 /* The refusals. Each is minus its number. */
 enum spatialjoin_refusal {
-    SPATIALJOIN_FRAME_LENGTH = -1,       /* frame empty or over SPATIALJOIN_MOST_BYTES */
+    SPATIALJOIN_FRAME_LENGTH = -1,       /* frame empty or over SPATIALJOIN_MOST_BYTES (put: empty alone) */
     SPATIALJOIN_FIRST_BYTE = -2,         /* wrong first byte */
     SPATIALJOIN_FRAME_ENDS = -3,         /* the frame ends inside a field */
     SPATIALJOIN_OUT_OF_RANGE = -4,       /* a field is out of its range */
@@ -94,8 +107,9 @@ enum spatialjoin_refusal {
     SPATIALJOIN_NO_SUCH_COLUMN = -6,     /* a column's index is not below the column count */
     SPATIALJOIN_BYTES_AFTER = -7,        /* bytes after the frame's end */
     SPATIALJOIN_TOO_FEW_ARGUMENTS = -8,  /* a conjunct lacks arguments: see docs/FRAMES.md */
-    SPATIALJOIN_TOO_SHORT = -9,          /* the plan buffer (load, merge) or the scratch is too short */
-    SPATIALJOIN_NO_GOOD_PLAN = -10,      /* n is over the buffer's length, its first n bytes are no good plan, or not the table's */
+    SPATIALJOIN_TOO_SHORT = -9,          /* the plan buffer (load, merge), the scratch or the output (serve) is too short */
+    SPATIALJOIN_NO_GOOD_PLAN = -10,      /* n is over the buffer's length, its first n bytes are no good plan, or not the table's;
+                                            of put and serve: the buffer holds no good queues */
     SPATIALJOIN_PLAN_EMPTY = -11,        /* n is 0 */
     SPATIALJOIN_ALREADY_EXTRACTED = -12, /* the plan is an extraction already */
     SPATIALJOIN_NO_MATCH = -13,          /* no conjunct matches: the join stays filtered; the answer has the walk too */
@@ -104,7 +118,16 @@ enum spatialjoin_refusal {
     SPATIALJOIN_TABLE_TOO_SHORT = -17,   /* the table has fewer records than the new plan has nodes (load, merge) */
     SPATIALJOIN_NOT_EXTRACTED = -18,     /* the plan is no extraction but a frame (project) */
     SPATIALJOIN_LIST_TOO_LONG = -19,     /* a list has over SPATIALJOIN_MOST_ITEMS items (project) */
-    SPATIALJOIN_NOT_IN_LIST = -20        /* the plan has a child index that the list of its side lacks (project) */
+    SPATIALJOIN_NOT_IN_LIST = -20,       /* the plan has a child index that the list of its side lacks (project) */
+    SPATIALJOIN_NO_SUCH_QUEUE = -21,     /* the queue's number is neither 0 nor 1 (put) */
+    SPATIALJOIN_QUEUED_TOO_LONG = -22,   /* the frame has over SPATIALJOIN_MOST_QUEUED bytes (put) */
+    SPATIALJOIN_QUEUE_FULL = -23         /* SPATIALJOIN_MOST_WAITING frames wait in the queue already (put) */
+};
+
+/* The queues of a buffer of queues. */
+enum spatialjoin_queue {
+    SPATIALJOIN_CHASSIS = 0,
+    SPATIALJOIN_FIXED_UNIT = 1
 };
 
 /* A node of a frame: six bytes, since version 0.11.0. A place in a frame is at most SPATIALJOIN_MOST_BYTES (theorem positions-fit). */
@@ -126,7 +149,8 @@ enum spatialjoin_plan {
  * merged. Exchanging and projecting keep it. */
 #define SPATIALJOIN_POSITION_OF(plan) ((unsigned)(plan)[1] * 256 + (unsigned)(plan)[2])
 
-/* The new plan's length (a size_t) in an accepted spatialjoin_extract's answer; 0 in a refused one's. */
+/* The new plan's length (a size_t) in an accepted spatialjoin_extract's answer, the frame's in a spatialjoin_serve's; 0 in a refused
+ * one's. */
 #define SPATIALJOIN_LENGTH_OF(answer) spatialjoin_length_of(answer)
 
 /* The walk (an unsigned) in a spatialjoin_extract's answer, accepted or refused with SPATIALJOIN_NO_MATCH; 0 with every other refusal. */
@@ -135,8 +159,15 @@ enum spatialjoin_plan {
 /* The refusal (an int, one of enum spatialjoin_refusal) in a refused spatialjoin_extract's answer; 0 in an accepted one's. */
 #define SPATIALJOIN_REFUSAL_OF(answer) spatialjoin_refusal_of(answer)
 
-/* What the three stand for; each takes its answer once, so it may be the call itself. Of every other call but spatialjoin_logical they
- * give the length, a walk of 0 and the refusal; so one function of a host can take all of these answers. */
+/* The queue (an unsigned, one of enum spatialjoin_queue) in a spatialjoin_serve's answer that has a frame. */
+#define SPATIALJOIN_QUEUE_OF(answer) spatialjoin_queue_of(answer)
+
+/* Whether a spatialjoin_serve's answer says that both queues are empty: 1 or 0. A frame in a queue has at least one byte. */
+#define SPATIALJOIN_BOTH_EMPTY(answer) spatialjoin_both_empty(answer)
+
+/* What these stand for; each takes its answer once, so it may be the call itself. Of every other call but spatialjoin_logical the first
+ * three give the length, a walk of 0 and the refusal, but that spatialjoin_serve's answer has the queue in the walk's place; so one
+ * function of a host can take all of these answers. */
 SPATIALJOIN_INLINE size_t spatialjoin_length_of(int64_t answer)
 {
     return answer < 0 ? 0 : (size_t)(answer % 65536);
@@ -150,6 +181,16 @@ SPATIALJOIN_INLINE unsigned spatialjoin_walk_of(int64_t answer)
 SPATIALJOIN_INLINE int spatialjoin_refusal_of(int64_t answer)
 {
     return answer < 0 ? -(int)(-answer % 256) : 0;
+}
+
+SPATIALJOIN_INLINE unsigned spatialjoin_queue_of(int64_t answer)
+{
+    return answer < 0 ? 0 : (unsigned)(answer / 65536);
+}
+
+SPATIALJOIN_INLINE int spatialjoin_both_empty(int64_t answer)
+{
+    return answer == 0;
 }
 
 /* The names in the mask of spatialjoin_logical. */
@@ -234,6 +275,21 @@ int64_t spatialjoin_project(uint8_t *SPATIALJOIN_RESTRICT plan, size_t plan_len,
                             uint8_t *SPATIALJOIN_RESTRICT scratch, size_t scratch_len,
                             const uint16_t *SPATIALJOIN_RESTRICT left, size_t left_len,
                             const uint16_t *SPATIALJOIN_RESTRICT right, size_t right_len);
+
+/* Adds a frame at the end of a queue (enum spatialjoin_queue): the frame's length, or -21, -10, -1, -22, -23 in this order. Nothing looks
+ * into the frame, which spatialjoin_load does once it was served. -1 is for the empty frame alone, -22 for every one of over
+ * SPATIALJOIN_MOST_QUEUED bytes. -10 where the buffer has another length than SPATIALJOIN_QUEUES_BYTES or holds no queues: a mark over 2, a
+ * count over SPATIALJOIN_MOST_WAITING, or a waiting frame's length outside 1 to SPATIALJOIN_MOST_QUEUED, of either queue. From a fresh
+ * buffer that these two calls alone changed it never comes (theorem always-held). */
+int64_t spatialjoin_put(uint8_t *SPATIALJOIN_RESTRICT queues, size_t queues_len, uint8_t queue,
+                        const uint8_t *SPATIALJOIN_RESTRICT frame, size_t frame_len);
+
+/* Takes the frame that is due: queue * 65536 + its length, which the macros above take apart, or 0 where both queues are empty, or -10, -9
+ * in this order. Due is the oldest frame of the queue that was not served last, if it holds one, else that of the other; from fresh queue
+ * 0 is tried first. The frame is written at the output's start, and the bytes after it stay as they were; SPATIALJOIN_MOST_QUEUED bytes are
+ * always enough. The later frames of its queue move down by one place. With both queues empty nothing changes. */
+int64_t spatialjoin_serve(uint8_t *SPATIALJOIN_RESTRICT queues, size_t queues_len,
+                          uint8_t *SPATIALJOIN_RESTRICT out, size_t out_len);
 
 /* The archive's version: major * 65536 + minor * 256 + patch. */
 int64_t spatialjoin_version(void);

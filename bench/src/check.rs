@@ -1,11 +1,13 @@
 //! Before anything is timed: ours, the original and the reading give the same bytes, and plain Rust
-//! where it is timed. Of print, merge and project, which the original has not, all but the original.
+//! where it is timed. Of print, merge, project, put and serve, which the original has not, all but the
+//! original.
 
 use reading::frame::{MAX_BYTES, MAX_NODES, Plan};
 use reading::project::{Lists, MAX_ITEMS};
+use reading::queues::{MAX_QUEUED, MAX_WAITING, QUEUES_BYTES};
 use reading::refusal::Refusal;
 use reading::{calls, decode, encode, nodes, walk};
-use spatialjoin::{MOST_TEXT, Node};
+use spatialjoin::{MOST_TEXT, Node, numbers};
 
 use crate::operations::{
     Logical, Merges, Physical, exchange_extraction_bytes, exchange_frame_bytes, extract_from_bytes,
@@ -13,6 +15,7 @@ use crate::operations::{
 use crate::ours::{self, Console, Ours};
 use crate::plain;
 use crate::projections::Projections;
+use crate::queues::Waiting;
 
 /// An extraction's bytes without its position, which the original does not have.
 fn without_position(plan: &[u8]) -> Vec<u8> {
@@ -347,6 +350,86 @@ pub fn project(projections: &Projections) -> Result<(), String> {
         }
     }
     Ok(())
+}
+
+/// A put by ours, by plain Rust and by the reading, into copies of one buffer: all leave the same. The
+/// buffer is what they leave.
+fn added_alike(buffer: &mut Vec<u8>, queue: u8, frame: &[u8]) -> bool {
+    let (mut plain, mut read) = (buffer.clone(), buffer.clone());
+    let expected = calls::put(&mut read, queue, frame).map_err(Refusal::number);
+    let answer = plain::put(&mut plain, queue, frame);
+    let number = match expected {
+        Ok(length) => length as i64,
+        Err(number) => -i64::from(number),
+    };
+    let ours = numbers::put(buffer, queue, frame);
+    answer == expected && ours == number && plain == read && *buffer == read
+}
+
+/// Likewise a serve into an output of this length.
+fn served_alike(buffer: &mut Vec<u8>, room: usize) -> bool {
+    let mut plain = (buffer.clone(), vec![7; room]);
+    let (mut read, mut out) = (plain.clone(), vec![7; room]);
+    let expected = calls::serve(&mut read.0, &mut read.1).map_err(Refusal::number);
+    let expected = expected.map(|served| served.map(|served| (served.queue, served.length)));
+    let answer = plain::serve(&mut plain.0, &mut plain.1);
+    let number = match expected {
+        Ok(Some((queue, length))) => (queue * 65_536 + length) as i64,
+        Ok(None) => 0,
+        Err(number) => -i64::from(number),
+    };
+    let ours = numbers::serve(buffer, &mut out);
+    answer == expected && ours == number && plain == read && (&*buffer, &out) == (&read.0, &read.1)
+}
+
+/// The buffer with other bytes at some places.
+fn changed(buffer: &[u8], changes: &[(usize, u8)]) -> Vec<u8> {
+    let mut buffer = buffer.to_vec();
+    for (index, byte) in changes {
+        buffer[*index] = *byte;
+    }
+    buffer
+}
+
+/// Puts into both queues until they are full, with frames that are refused, and serves until both are
+/// empty; then buffers that hold no queues.
+fn queued_alike(waiting: &Waiting) -> bool {
+    let (mut buffer, frame) = (waiting.buffer(), waiting.frame());
+    let long = [7; MAX_QUEUED + 1];
+    let mut alike = true;
+    for step in 0..2 * MAX_WAITING + 2 {
+        for frame in [&frame[..step % frame.len()], &frame, &long[..], &[]] {
+            alike &= added_alike(&mut buffer, (step % 3) as u8, frame);
+        }
+    }
+    for _ in 0..2 * MAX_WAITING + 2 {
+        for room in [0, waiting.length - 1, MAX_QUEUED] {
+            alike &= served_alike(&mut buffer, room);
+        }
+    }
+    let full = waiting.buffer();
+    let second = 1 + (QUEUES_BYTES - 1) / 2;
+    let bad = [
+        full[1..].to_vec(),
+        lent(&full, QUEUES_BYTES + 1),
+        changed(&full, &[(0, 3)]),
+        changed(&full, &[(1, 17)]),
+        changed(&full, &[(second, 17)]),
+        changed(&full, &[(2, 0), (3, 0)]),
+        changed(&full, &[(second, 1), (second + 1, 4), (second + 2, 1)]),
+    ];
+    for mut buffer in bad {
+        alike &= added_alike(&mut buffer, 1, &frame) && served_alike(&mut buffer, MAX_QUEUED);
+    }
+    alike
+}
+
+/// Ours, plain Rust's and the reading's, refusals too.
+pub fn queues(waiting: &Waiting) -> Result<(), String> {
+    match queued_alike(waiting) {
+        true => Ok(()),
+        false => Err(format!("{}: put or serve differs", waiting.name)),
+    }
 }
 
 pub fn logical(logical: &Logical) -> Result<(), String> {

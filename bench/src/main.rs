@@ -10,6 +10,7 @@ mod ours;
 mod parts;
 mod plain;
 mod projections;
+mod queues;
 mod table;
 
 use std::env;
@@ -20,7 +21,8 @@ use measure::{Row, Task, measure};
 use operations::{Logical, Merges, Physical};
 use ours::{Console, Ours};
 use projections::{Length, Projections};
-use table::{BESIDE_EXCHANGE, BOTH, Column, ORIGINAL, Table, YARDSTICK};
+use queues::Waiting;
+use table::{BESIDE_EXCHANGE, BOTH, Column, ORIGINAL, QUEUED, Table, YARDSTICK};
 
 const USAGE: &str = "bench [--rounds N | --repeat GROUP]";
 
@@ -67,7 +69,8 @@ fn asked(words: &[String]) -> Option<Asked> {
 }
 
 /// Ours loads, extracts and prints the frames of a group over and over, projects their extractions,
-/// and merges the pairs of that name, for a program that counts instructions.
+/// and merges the pairs or puts and serves on the queues of that name, for a program that counts
+/// instructions.
 fn repeat(name: &str) -> Result<(), String> {
     let groups = frames::physical().into_iter().filter(|g| g.name == name);
     let pairs = frames::merges().into_iter().filter(|p| p.name == name);
@@ -92,6 +95,10 @@ fn repeat(name: &str) -> Result<(), String> {
             }
         }
     }
+    for waiting in Waiting::all().iter().filter(|queues| queues.name == name) {
+        waiting.repeat(800);
+        done += 1;
+    }
     match done {
         0 => Err(format!("no group {name}")),
         _ => Ok(()),
@@ -112,9 +119,28 @@ fn run(rounds: usize) -> Result<(), String> {
     logical.iter().try_for_each(check::logical)?;
     let projections = [Length::Short, Length::Long].map(Projections::all);
     projections.iter().flatten().try_for_each(check::project)?;
+    let waiting = Waiting::all();
+    waiting.iter().try_for_each(check::queues)?;
 
     print_tables(&physical, &texts, &logical, &merges, &projections, rounds);
+    print_queue_tables(&waiting, rounds);
     Ok(())
+}
+
+/// What a frame costs before it is loaded.
+fn print_queue_tables(waiting: &[Waiting], rounds: usize) {
+    let timed = |title, tasks| shown(title, QUEUED, measure(tasks, rounds));
+    let puts = waiting.iter().map(Waiting::put).collect();
+    println!();
+    timed(
+        "Put, the last of these frames (the original has no such call)",
+        puts,
+    );
+    let serves = waiting.iter().map(Waiting::serve).collect();
+    timed(
+        "Serve, the first of these frames (the original has no such call)",
+        serves,
+    );
 }
 
 fn print_tables(

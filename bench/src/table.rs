@@ -166,6 +166,18 @@ pub const BESIDE_EXCHANGE: &[Column] = &[
     OURS_TO_COPY,
 ];
 
+/// Beside plain Rust, of calls that take no plan; the bytes are those that the call copies.
+pub const QUEUED: &[Column] = &[
+    ("waiting", |row| row.name.to_owned()),
+    ("bytes copied", |row| number(row.bytes)),
+    PLAIN_TO_OURS,
+    OURS,
+    OURS_A_BYTE,
+    PLAIN,
+    COPY,
+    OURS_TO_COPY,
+];
+
 const NONE: &str = "–";
 
 fn shown(value: Option<f64>) -> String {

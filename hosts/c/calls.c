@@ -1,5 +1,6 @@
 /* Tests of the library as a C host sees it: its version, every refusal by its constant, walks, the names of the mask, texts, merged
- * filters, tables of nodes, projections, NULL with length 0. Ends with 1 where a call answers otherwise. `../check` builds and runs it. */
+ * filters, tables of nodes, projections, queues, NULL with length 0. Ends with 1 where a call answers otherwise. `../check` builds and
+ * runs it. */
 #include <stdio.h>
 #include <string.h>
 
@@ -407,6 +408,131 @@ static void refusals_of_projections(void)
     expect("the first places", memcmp(plan + 4, AT("\x06") AT("\x05") "\x00", n - 4) == 0, 1);
 }
 
+static uint8_t queues[SPATIALJOIN_QUEUES_BYTES + 1];
+static uint8_t out[SPATIALJOIN_MOST_QUEUED + 1];
+
+#define QUEUES queues, SPATIALJOIN_QUEUES_BYTES
+#define PUT(queue, bytes) spatialjoin_put(QUEUES, queue, (const uint8_t *)(bytes), sizeof(bytes) - 1)
+#define COUNT(queue) queues[1 + 16417 * (queue)]
+#define LENGTH(queue) (queues + 2 + 16417 * (queue))
+#define PLACE(queue, index) (queues + 34 + 16417 * (queue) + 1024 * (index))
+
+/* The frame that comes next: its queue, its length, and its bytes; the byte after it is kept. One byte short, nothing is written. */
+static void expect_served(const char *bytes, unsigned queue)
+{
+    static uint8_t before[sizeof queues];
+    size_t length = strlen(bytes);
+    int64_t answer;
+    memcpy(before, queues, sizeof queues);
+    memset(out, 7, sizeof out);
+    expect("serve, no room", spatialjoin_serve(QUEUES, out, length - 1), SPATIALJOIN_TOO_SHORT);
+    expect("nothing written", memcmp(before, queues, sizeof queues) == 0 && out[0] == 7, 1);
+    answer = spatialjoin_serve(QUEUES, out, length);
+    expect(bytes, answer, (int64_t)(queue * 65536 + length));
+    expect(bytes, SPATIALJOIN_QUEUE_OF(answer), queue);
+    expect(bytes, (int64_t)SPATIALJOIN_LENGTH_OF(answer), (int64_t)length);
+    expect(bytes, SPATIALJOIN_BOTH_EMPTY(answer), 0);
+    expect(bytes, SPATIALJOIN_REFUSAL_OF(answer), 0);
+    expect(bytes, memcmp(out, bytes, length) == 0 && out[length] == 7, 1);
+}
+
+static void expect_both_empty(void)
+{
+    int64_t answer = spatialjoin_serve(QUEUES, NULL, 0);
+    expect("both empty", answer, 0);
+    expect("both empty", SPATIALJOIN_BOTH_EMPTY(answer), 1);
+    expect("both empty", (int64_t)SPATIALJOIN_LENGTH_OF(answer), 0);
+}
+
+/* In turn, each queue in its order; a queue that was not served last is due as soon as it holds a frame. */
+static void served_in_turn(void)
+{
+    memset(queues, 0, sizeof queues);
+    expect_both_empty();
+    expect("put", PUT(SPATIALJOIN_FIXED_UNIT, "d"), 1);
+    expect("put", PUT(SPATIALJOIN_CHASSIS, "abc"), 3);
+    expect("put", PUT(SPATIALJOIN_CHASSIS, "b"), 1);
+    expect("put", PUT(SPATIALJOIN_CHASSIS, "ccc"), 3);
+    expect_served("abc", SPATIALJOIN_CHASSIS);
+    expect_served("d", SPATIALJOIN_FIXED_UNIT);
+    expect_served("b", SPATIALJOIN_CHASSIS);
+    expect_served("ccc", SPATIALJOIN_CHASSIS);
+    expect_both_empty();
+    expect("the mark", queues[0], 1);
+    expect("put", PUT(SPATIALJOIN_CHASSIS, "e"), 1);
+    expect("put", PUT(SPATIALJOIN_FIXED_UNIT, "f"), 1);
+    expect_served("f", SPATIALJOIN_FIXED_UNIT);
+    expect_served("e", SPATIALJOIN_CHASSIS);
+    expect_both_empty();
+}
+
+/* What is free keeps its value: the bytes after a frame, and lengths and places past a count. */
+static void bytes_of_queues(void)
+{
+    unsigned queue;
+    for (queue = 0; queue < 2; queue++) {
+        memset(queues, 7, sizeof queues);
+        queues[0] = COUNT(0) = COUNT(1) = 0;
+        expect("put", PUT((uint8_t)queue, "abcd"), 4);
+        expect("put", PUT((uint8_t)queue, "xy"), 2);
+        expect("the count", COUNT(queue), 2);
+        expect("the lengths", memcmp(LENGTH(queue), "\0\4\0\2\7\7", 6) == 0, 1);
+        expect("the places", memcmp(PLACE(queue, 0), "abcd\7", 5) == 0 && memcmp(PLACE(queue, 1), "xy\7", 3) == 0, 1);
+        expect_served("abcd", queue);
+        expect("the mark", queues[0], queue + 1);
+        expect("the count", COUNT(queue), 1);
+        expect("the other count", COUNT(1 - queue), 0);
+        expect("the lengths", memcmp(LENGTH(queue), "\0\2\0\2\7\7", 6) == 0, 1);
+        expect("the places", memcmp(PLACE(queue, 0), "xycd\7", 5) == 0 && memcmp(PLACE(queue, 1), "xy\7", 3) == 0, 1);
+        expect("the byte after the buffer", queues[SPATIALJOIN_QUEUES_BYTES], 7);
+    }
+}
+
+/* No good queues: both calls are refused, and nothing is written. */
+static void expect_bad(const char *what, size_t length)
+{
+    uint8_t first = queues[0];
+    memset(out, 7, sizeof out);
+    expect(what, spatialjoin_put(queues, length, 0, out, 1), SPATIALJOIN_NO_GOOD_PLAN);
+    expect(what, spatialjoin_serve(queues, length, out, 0), SPATIALJOIN_NO_GOOD_PLAN);
+    expect(what, queues[0] == first && out[0] == 7, 1);
+}
+
+/* A state with the faults of those after it. */
+static void refusals_of_queues(void)
+{
+    uint8_t queue;
+    int i;
+    for (queue = 0; queue < 2; queue++) {
+        memset(queues, 0, sizeof queues);
+        for (i = 0; i < SPATIALJOIN_MOST_WAITING; i++) {
+            expect("put", spatialjoin_put(QUEUES, queue, frame, SPATIALJOIN_MOST_QUEUED), SPATIALJOIN_MOST_QUEUED);
+        }
+        expect("put, no such queue", spatialjoin_put(queues, 0, 2, NULL, 0), SPATIALJOIN_NO_SUCH_QUEUE);
+        expect("put, no such queue", spatialjoin_put(QUEUES, 255, frame, sizeof frame), SPATIALJOIN_NO_SUCH_QUEUE);
+        expect("put, no queues", spatialjoin_put(queues, 0, queue, NULL, 0), SPATIALJOIN_NO_GOOD_PLAN);
+        expect("put nothing", spatialjoin_put(QUEUES, queue, NULL, 0), SPATIALJOIN_FRAME_LENGTH);
+        expect("put too many bytes", spatialjoin_put(QUEUES, queue, frame, SPATIALJOIN_MOST_QUEUED + 1), SPATIALJOIN_QUEUED_TOO_LONG);
+        expect("put far too many", spatialjoin_put(QUEUES, queue, frame, sizeof frame), SPATIALJOIN_QUEUED_TOO_LONG);
+        expect("put, full", PUT(queue, "a"), SPATIALJOIN_QUEUE_FULL);
+        expect("put into the other", PUT((uint8_t)(1 - queue), "a"), 1);
+        expect_bad("a byte less", SPATIALJOIN_QUEUES_BYTES - 1);
+        expect_bad("a byte more", SPATIALJOIN_QUEUES_BYTES + 1);
+        queues[0] = 3;
+        expect_bad("a mark of 3", SPATIALJOIN_QUEUES_BYTES);
+        queues[0] = 0;
+        COUNT(queue) = 17;
+        expect_bad("17 frames", SPATIALJOIN_QUEUES_BYTES);
+        COUNT(queue) = 16;
+        LENGTH(queue)[31] = 1;
+        expect_bad("the last of 1,025 bytes", SPATIALJOIN_QUEUES_BYTES);
+        LENGTH(queue)[30] = LENGTH(queue)[31] = 0;
+        expect_bad("the last of none", SPATIALJOIN_QUEUES_BYTES);
+        COUNT(queue) = 15;
+        expect("15 frames", PUT(queue, "a"), 1);
+    }
+}
+
 static void null_buffers(void)
 {
     size_t n;
@@ -442,6 +568,12 @@ static void null_buffers(void)
     expect("project by NULL", spatialjoin_project(plan, n, n, scratch, n, NULL, 0, NULL, 0), (int64_t)n);
     n = HOLD(PLACED);
     expect("project by a NULL", spatialjoin_project(plan, n, n, scratch, n, NULL, 0, rights, 4), SPATIALJOIN_NOT_IN_LIST);
+    expect("put into NULL", spatialjoin_put(NULL, 0, 0, NULL, 0), SPATIALJOIN_NO_GOOD_PLAN);
+    expect("serve from NULL", spatialjoin_serve(NULL, 0, NULL, 0), SPATIALJOIN_NO_GOOD_PLAN);
+    memset(queues, 0, sizeof queues);
+    expect("put NULL", spatialjoin_put(QUEUES, 1, NULL, 0), SPATIALJOIN_FRAME_LENGTH);
+    expect("put", PUT(1, "a"), 1);
+    expect("serve to NULL", spatialjoin_serve(QUEUES, NULL, 0), SPATIALJOIN_TOO_SHORT);
 }
 
 int main(void)
@@ -459,6 +591,9 @@ int main(void)
     tables_of_nodes();
     projections();
     refusals_of_projections();
+    served_in_turn();
+    bytes_of_queues();
+    refusals_of_queues();
     null_buffers();
     printf("%d answers, %d wrong\n", tried, failed);
     return failed > 0;

@@ -1,4 +1,5 @@
-/* What `header-check` compiles by every standard: the header, taken in twice, each of its macros, and the layout of a table. */
+/* What `header-check` compiles by every standard: the header, taken in twice, each of its macros, the layout of a table, and the size of
+ * a buffer of queues. */
 #include "spatialjoin.h"
 #include "spatialjoin.h"
 
@@ -13,6 +14,15 @@ HOLDS(the_start_is_bytes_2_and_3, offsetof(spatialjoin_node, start) == 2 && FIEL
 HOLDS(the_end_is_bytes_4_and_5, offsetof(spatialjoin_node, end) == 4 && FIELD(end) == 2);
 HOLDS(a_place_fits_in_16_bits, SPATIALJOIN_MOST_BYTES <= 65535);
 
+/* The mark, and for each queue a count, the lengths and the places. */
+HOLDS(queues_have_32835_bytes, SPATIALJOIN_QUEUES_BYTES == 32835);
+HOLDS(queues_have_a_mark_and_two_queues,
+      SPATIALJOIN_QUEUES_BYTES == 1 + 2 * (1 + SPATIALJOIN_MOST_WAITING * (2 + SPATIALJOIN_MOST_QUEUED)));
+HOLDS(the_queues_are_0_and_1, SPATIALJOIN_CHASSIS == 0 && SPATIALJOIN_FIXED_UNIT == 1);
+HOLDS(a_queued_frame_can_be_planned, SPATIALJOIN_MOST_QUEUED <= SPATIALJOIN_MOST_BYTES);
+HOLDS(the_refusals_of_queues_are_21_to_23,
+      SPATIALJOIN_NO_SUCH_QUEUE == -21 && SPATIALJOIN_QUEUED_TOO_LONG == -22 && SPATIALJOIN_QUEUE_FULL == -23);
+
 #if SPATIALJOIN_VERSION_NUMBER < SPATIALJOIN_VERSION_MINOR
 #error "the version's number is for the preprocessor too"
 #endif
@@ -20,12 +30,13 @@ HOLDS(a_place_fits_in_16_bits, SPATIALJOIN_MOST_BYTES <= 65535);
 unsigned parts(const uint8_t *plan, int64_t answer);
 size_t length(int64_t answer);
 int refusal(int64_t answer);
+int empty(int64_t answer);
 int matches(void);
 
 unsigned parts(const uint8_t *plan, int64_t answer)
 {
     return SPATIALJOIN_POSITION_OF(plan) + SPATIALJOIN_MASK_OF(answer) + SPATIALJOIN_NAMES_OF(answer) + SPATIALJOIN_SIDE_OF(answer)
-        + SPATIALJOIN_WALK_OF(answer);
+        + SPATIALJOIN_WALK_OF(answer) + SPATIALJOIN_QUEUE_OF(answer);
 }
 
 size_t length(int64_t answer)
@@ -36,6 +47,11 @@ size_t length(int64_t answer)
 int refusal(int64_t answer)
 {
     return SPATIALJOIN_REFUSAL_OF(answer);
+}
+
+int empty(int64_t answer)
+{
+    return SPATIALJOIN_BOTH_EMPTY(answer);
 }
 
 int matches(void)

@@ -1,7 +1,7 @@
 /* Measures the stack that the library's calls need: makes them on a stack of its own that was filled with a pattern, and looks how
  * far down the pattern is gone. The frames are 64 levels deep, the deepest that there are, in every shape that the calls walk by
- * calling themselves; so are the arguments of extractions that no frame made. Ends with 1 where a call needs more than
- * SPATIALJOIN_STACK_BYTES. `../check` builds and runs it. */
+ * calling themselves; so are the arguments of extractions that no frame made. The queues, which nothing walks, are empty to full. Ends
+ * with 1 where a call needs more than SPATIALJOIN_STACK_BYTES. `../check` builds and runs it. */
 #define _XOPEN_SOURCE 700
 #include <stdio.h>
 #include <string.h>
@@ -15,8 +15,8 @@
 #define ITEMS SPATIALJOIN_MOST_ITEMS
 #define STACK_SIZE (4 * SPATIALJOIN_STACK_BYTES)
 
-enum call { LOAD, EXTRACT, EXCHANGE, LOGICAL, PRINT, MERGE, PROJECT, CALLS };
-static const char *const call_names[CALLS] = {"load", "extract", "exchange", "logical", "print", "merge", "project"};
+enum call { LOAD, EXTRACT, EXCHANGE, LOGICAL, PRINT, MERGE, PROJECT, PUT, SERVE, CALLS };
+static const char *const call_names[CALLS] = {"load", "extract", "exchange", "logical", "print", "merge", "project", "put", "serve"};
 
 /* How a node holds the deeper one below it. */
 enum shape { AND_LEFT, AND_RIGHT, OR_LEFT, OR_RIGHT, FUNCTION_ONE, FUNCTION_LAST, OTHER_ONE, OTHER_LAST, SHAPES };
@@ -36,6 +36,9 @@ static uint8_t text[SPATIALJOIN_MOST_TEXT];
 static spatialjoin_node table[SPATIALJOIN_MOST_NODES];
 static uint16_t items[SPATIALJOIN_MOST_ITEMS];
 static size_t n;
+static uint8_t queues[SPATIALJOIN_QUEUES_BYTES];
+static uint8_t queue;
+static size_t room;
 
 static uint8_t stack[STACK_SIZE];
 static ucontext_t caller, callee;
@@ -200,6 +203,8 @@ static void make_call(void)
     case PRINT: answer = spatialjoin_print(frame, frame_len, text, sizeof text); break;
     case MERGE: answer = spatialjoin_merge(frame, frame_len, plan, sizeof plan, n, scratch, sizeof scratch, table, NODES); break;
     case PROJECT: answer = spatialjoin_project(plan, sizeof plan, n, scratch, sizeof scratch, items, ITEMS, items, ITEMS); break;
+    case PUT: answer = spatialjoin_put(queues, sizeof queues, queue, frame, frame_len); break;
+    case SERVE: answer = spatialjoin_serve(queues, sizeof queues, scratch, room); break;
     case CALLS: break;
     }
 }
@@ -224,7 +229,7 @@ static void measure(enum call call)
     }
     if (answer >= 0) {
         accepted[call]++;
-        n = call == LOGICAL || call == PRINT ? n : SPATIALJOIN_LENGTH_OF(answer);
+        n = call == LOGICAL || call == PRINT || call == PUT || call == SERVE ? n : SPATIALJOIN_LENGTH_OF(answer);
     }
 }
 
@@ -298,6 +303,25 @@ static void measure_leaves(enum shape ands, int levels)
     }
 }
 
+/* Frames of every sort of length, empty and too long ones too, into both queues until they are full; then out again, each first with an
+ * output that is too short. */
+static void measure_queues(void)
+{
+    static const size_t lengths[] = {0, 1, SPATIALJOIN_MOST_QUEUED / 2, SPATIALJOIN_MOST_QUEUED, SPATIALJOIN_MOST_QUEUED + 1};
+    unsigned i;
+    for (i = 0; i < 4 * 5 * SPATIALJOIN_MOST_WAITING; i++) {
+        queue = (uint8_t)(i % 3);
+        frame_len = lengths[i % 5];
+        measure(PUT);
+    }
+    for (i = 0; i < 3 * SPATIALJOIN_MOST_WAITING; i++) {
+        room = 0;
+        measure(SERVE);
+        room = sizeof scratch;
+        measure(SERVE);
+    }
+}
+
 int main(void)
 {
     static const int and_levels[] = {0, 1, 30, 60, 61, 62};
@@ -318,6 +342,7 @@ int main(void)
             measure_leaves(AND_RIGHT, and_levels[i]);
         }
     }
+    measure_queues();
     for (i = 0; i < CALLS; i++) {
         printf("%-8s %6lu bytes of stack at the most, %lu calls accepted\n", call_names[i], (unsigned long)most[i], accepted[i]);
         failed |= most[i] > SPATIALJOIN_STACK_BYTES || accepted[i] == 0;

@@ -10,6 +10,7 @@ mod nodes;
 mod pick;
 mod print;
 mod project;
+mod queues;
 
 pub use extract::extract;
 pub use held::{Plain, plans};
@@ -17,3 +18,4 @@ pub use load::load;
 pub use merge::merge;
 pub use print::print;
 pub use project::project;
+pub use queues::{put, serve};

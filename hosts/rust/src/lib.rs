@@ -11,6 +11,9 @@
 //! fill it with the nodes of the new plan, and [`extract`] takes it as they left it. [`exchange`]
 //! moves no node.
 //!
+//! Where jobs of two machines reach one planner, [`Queues`] holds those that wait, a queue of each
+//! machine, and gives them in turn; [`put`] and [`serve`] are the same on a buffer of the host's own.
+//!
 //! The calls have no state and allocate nothing, so any number of threads may make them. A call
 //! needs at most [`STACK_BYTES`] of stack, which is measured and not proved.
 //!
@@ -19,12 +22,14 @@
 
 mod extracted;
 pub mod numbers;
+mod queues;
 mod refusal;
 mod version;
 
 use std::mem::offset_of;
 
 pub use extracted::{Extracted, Unextracted};
+pub use queues::{MOST_QUEUED, MOST_WAITING, QUEUES_BYTES, Queue, Queues, Served, put, serve};
 pub use refusal::Refusal;
 pub use version::{VERSION, Version, version, version_matches};
 

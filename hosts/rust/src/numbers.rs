@@ -1,6 +1,6 @@
 //! The calls with the answers of the C functions: a length (of [`logical`]: mask, count and side in
-//! one number), or minus the refusal's number; of [`extract`] each with the walk, which the last three
-//! functions take apart. `include/spatialjoin.h` says what they do.
+//! one number), or minus the refusal's number; of [`extract`] each with the walk, of [`serve`] with the
+//! queue, which the last four functions take apart. `include/spatialjoin.h` says what they do.
 
 use crate::Node;
 
@@ -60,6 +60,19 @@ mod c {
             left_len: usize,
             right: *const u16,
             right_len: usize,
+        ) -> i64;
+        pub fn spatialjoin_put(
+            queues: *mut u8,
+            queues_len: usize,
+            queue: u8,
+            frame: *const u8,
+            frame_len: usize,
+        ) -> i64;
+        pub fn spatialjoin_serve(
+            queues: *mut u8,
+            queues_len: usize,
+            out: *mut u8,
+            out_len: usize,
         ) -> i64;
         pub fn spatialjoin_version() -> i64;
     }
@@ -141,6 +154,16 @@ pub fn project(plan: &mut [u8], n: usize, scratch: &mut [u8], left: &[u16], righ
     }
 }
 
+pub fn put(queues: &mut [u8], queue: u8, frame: &[u8]) -> i64 {
+    let (queues, queues_len) = (queues.as_mut_ptr(), queues.len());
+    unsafe { c::spatialjoin_put(queues, queues_len, queue, frame.as_ptr(), frame.len()) }
+}
+
+pub fn serve(queues: &mut [u8], out: &mut [u8]) -> i64 {
+    let (queues, queues_len) = (queues.as_mut_ptr(), queues.len());
+    unsafe { c::spatialjoin_serve(queues, queues_len, out.as_mut_ptr(), out.len()) }
+}
+
 /// The archive's version: major · 65,536 + minor · 256 + patch.
 pub fn version() -> i64 {
     unsafe { c::spatialjoin_version() }
@@ -155,7 +178,7 @@ pub fn length_of(answer: i64) -> usize {
 }
 
 /// The walk in an answer of [`extract`], accepted or refused; 0 in that of any other call but
-/// [`logical`].
+/// [`logical`] and [`serve`].
 pub fn walk_of(answer: i64) -> u32 {
     match answer {
         0.. => (answer / 65_536) as u32,
@@ -168,5 +191,13 @@ pub fn refusal_of(answer: i64) -> u8 {
     match answer {
         0.. => 0,
         _ => (answer.unsigned_abs() % 256) as u8,
+    }
+}
+
+/// The queue in an answer of [`serve`] that has a frame; one of 0 says that both are empty.
+pub fn queue_of(answer: i64) -> u32 {
+    match answer {
+        0.. => (answer / 65_536) as u32,
+        _ => 0,
     }
 }

@@ -4,7 +4,7 @@ use std::fmt;
 /// Why a call was refused. [`Refusal::number`] is the number of the scope document.
 #[derive(Clone, Copy, Debug, PartialEq, Eq, Hash)]
 pub enum Refusal {
-    /// 1: the frame is empty or over 16,384 bytes.
+    /// 1: the frame is empty or over 16,384 bytes; of a put: empty.
     FrameLength = 1,
     /// 2: wrong first byte.
     FirstByte = 2,
@@ -20,10 +20,11 @@ pub enum Refusal {
     BytesAfter = 7,
     /// 8: a conjunct lacks arguments.
     TooFewArguments = 8,
-    /// 9: the plan buffer (load, merge) or the scratch is too short.
+    /// 9: the plan buffer (load, merge), the scratch or the output (serve) is too short.
     TooShort = 9,
     /// 10: `n` is over the buffer's length, or its first `n` bytes are no good plan; of an extract also:
-    /// they are a frame, and the table does not begin with its nodes.
+    /// they are a frame, and the table does not begin with its nodes. Of put and serve: the buffer holds
+    /// no good queues.
     NoGoodPlan = 10,
     /// 11: `n` is 0.
     PlanEmpty = 11,
@@ -43,11 +44,17 @@ pub enum Refusal {
     ListTooLong = 19,
     /// 20: the plan has a child index that the list of its side lacks.
     NotInList = 20,
+    /// 21: the queue's number is neither 0 nor 1.
+    NoSuchQueue = 21,
+    /// 22: the frame has over 1,024 bytes and is put into a queue.
+    QueuedTooLong = 22,
+    /// 23: 16 frames wait in the queue already.
+    QueueFull = 23,
 }
 
 impl Refusal {
     /// All of them, by number.
-    pub const ALL: [Refusal; 19] = [
+    pub const ALL: [Refusal; 22] = [
         Refusal::FrameLength,
         Refusal::FirstByte,
         Refusal::FrameEnds,
@@ -67,9 +74,12 @@ impl Refusal {
         Refusal::NotExtracted,
         Refusal::ListTooLong,
         Refusal::NotInList,
+        Refusal::NoSuchQueue,
+        Refusal::QueuedTooLong,
+        Refusal::QueueFull,
     ];
 
-    /// 1 to 13, or 15 to 20.
+    /// 1 to 13, or 15 to 23.
     pub fn number(self) -> u8 {
         self as u8
     }
@@ -93,8 +103,10 @@ impl Refusal {
             Refusal::NoSuchColumn => "no such column",
             Refusal::BytesAfter => "bytes after the end",
             Refusal::TooFewArguments => "a conjunct lacks arguments",
-            Refusal::TooShort => "plan buffer or scratch too short",
-            Refusal::NoGoodPlan => "no good plan in the first n bytes, or not the frame's table",
+            Refusal::TooShort => "plan buffer, scratch or output too short",
+            Refusal::NoGoodPlan => {
+                "no good plan in the first n bytes, not the frame's table, or no good queues"
+            }
             Refusal::PlanEmpty => "plan empty",
             Refusal::AlreadyExtracted => "plan already extracted",
             Refusal::NoMatch => "no conjunct matches",
@@ -104,6 +116,9 @@ impl Refusal {
             Refusal::NotExtracted => "plan not extracted",
             Refusal::ListTooLong => "a list of over 4,096 items",
             Refusal::NotInList => "a list lacks an index",
+            Refusal::NoSuchQueue => "no such queue",
+            Refusal::QueuedTooLong => "a frame of over 1,024 bytes for a queue",
+            Refusal::QueueFull => "queue full",
         }
     }
 }

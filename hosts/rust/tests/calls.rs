@@ -1,13 +1,14 @@
 //! The worked run, every refusal of load, extract and exchange, tables of nodes, positions, and what
-//! the header says. The other calls' tests are in `texts.rs`, `merges.rs`, `logical.rs` and
-//! `projections.rs`, those of an extract's walk in `walks.rs`.
+//! the header says. The other calls' tests are in `texts.rs`, `merges.rs`, `logical.rs`,
+//! `projections.rs` and `queues.rs`, those of an extract's walk in `walks.rs`.
 
 mod common;
 
 use common::{LEFT, RECORDS, RIGHT, STRAY, bytes, call, extract_plan, frame_of, good, levels};
 use common::{loaded, table};
-use spatialjoin::{MOST_BYTES, MOST_ITEMS, MOST_NODES, MOST_TEXT, STACK_BYTES};
+use spatialjoin::{MOST_BYTES, MOST_ITEMS, MOST_NODES, MOST_QUEUED, MOST_TEXT, MOST_WAITING};
 use spatialjoin::{Node, Refusal, exchange, load, merge, position};
+use spatialjoin::{QUEUES_BYTES, Queue, STACK_BYTES};
 
 /// What a load of the frame into a long buffer answers; refused, it changes nothing.
 fn load_alone(frame: &[u8]) -> Result<usize, Refusal> {
@@ -256,7 +257,7 @@ fn the_position_of_the_conjunct_that_was_taken() {
 
 #[test]
 fn every_refusal_has_its_number_and_text() {
-    let numbers: Vec<u8> = (1..=13).chain(15..=20).collect();
+    let numbers: Vec<u8> = (1..=13).chain(15..=23).collect();
     assert_eq!(Refusal::ALL.len(), numbers.len());
     for (refusal, number) in Refusal::ALL.into_iter().zip(numbers) {
         assert_eq!(refusal.number(), number);
@@ -277,7 +278,21 @@ fn the_header_has_the_same_limits_and_version() {
     defines("MOST_TEXT", MOST_TEXT.to_string());
     defines("MOST_NODES", MOST_NODES.to_string());
     defines("MOST_ITEMS", MOST_ITEMS.to_string());
+    defines("QUEUES_BYTES", QUEUES_BYTES.to_string());
+    defines("MOST_QUEUED", MOST_QUEUED.to_string());
+    defines("MOST_WAITING", MOST_WAITING.to_string());
     defines("STACK_BYTES", STACK_BYTES.to_string());
+    for (name, queue) in [
+        ("CHASSIS", Queue::Chassis),
+        ("FIXED_UNIT", Queue::FixedUnit),
+    ] {
+        let line = format!("    SPATIALJOIN_{name} = {}", queue.number());
+        assert!(
+            header
+                .lines()
+                .any(|known| known.trim_end_matches(',') == line)
+        );
+    }
     defines("VERSION", format!("{:?}", env!("CARGO_PKG_VERSION")));
     defines("VERSION_MAJOR", env!("CARGO_PKG_VERSION_MAJOR").to_owned());
     defines("VERSION_MINOR", env!("CARGO_PKG_VERSION_MINOR").to_owned());

@@ -6,6 +6,7 @@ use driver::rng::Rng;
 use reading::calls;
 use reading::program::hex;
 use reading::project::Lists;
+use reading::queues::Served;
 use reading::refusal::Refusal;
 use spatialjoin::{Node, numbers};
 
@@ -21,13 +22,16 @@ pub enum Kind {
     Print,
     Merge,
     Project,
+    Put,
+    Serve,
 }
 
 impl Kind {
-    /// A length, or minus a refusal's number: an extract's answer without its walk.
+    /// A length, or minus a refusal's number: an extract's answer without its walk, a serve's without its
+    /// queue.
     pub fn without_walk(self, answer: i64) -> i64 {
         match (self, answer) {
-            (Kind::Extract, 0..) => answer % 65_536,
+            (Kind::Extract | Kind::Serve, 0..) => answer % 65_536,
             (Kind::Extract, _) => -(-answer % 256),
             _ => answer,
         }
@@ -52,10 +56,16 @@ fn number(walk: usize, answer: Result<usize, Refusal>) -> i64 {
     }
 }
 
+/// Request 12 of document 02: a serve's answer has the queue, and is 0 with both empty.
+fn served_number(answer: Result<Option<Served>, Refusal>) -> i64 {
+    let served = |served: Served| served.queue * 65_536 + served.length;
+    number(0, answer.map(|frame| frame.map_or(0, served)))
+}
+
 /// What a call is not given is empty.
 pub struct Call {
     pub kind: Kind,
-    /// Of a load, of a logical call, of a print and of a merge.
+    /// Of a load, of a logical call, of a print, of a merge and of a put.
     pub frame: Vec<u8>,
     pub n: usize,
     pub plan: Vec<u8>,
@@ -67,16 +77,24 @@ pub struct Call {
     pub table: Vec<Node>,
     /// Of a projection: the left one and the right one.
     pub lists: [Vec<u16>; 2],
+    /// Of a put and of a serve.
+    pub queues: Vec<u8>,
+    /// Of a put.
+    pub queue: u8,
+    /// Of a serve.
+    pub out: Vec<u8>,
 }
 
 /// An answer, and the buffers and the table after it.
-#[derive(PartialEq, Eq)]
+#[derive(Default, PartialEq, Eq)]
 pub struct Outcome {
     pub answer: i64,
     pub plan: Vec<u8>,
     pub scratch: Vec<u8>,
     pub text: Vec<u8>,
     pub table: Vec<Node>,
+    pub queues: Vec<u8>,
+    pub out: Vec<u8>,
 }
 
 /// The library's outcome, and whether it left alone what wasn't its to write.
@@ -98,12 +116,16 @@ impl Call {
             text: Vec::new(),
             table: Vec::new(),
             lists: [Vec::new(), Vec::new()],
+            queues: Vec::new(),
+            queue: 0,
+            out: Vec::new(),
         }
     }
 
     pub fn expected(&self) -> Outcome {
         let (mut n, mut plan, mut scratch) = (self.n, self.plan.clone(), self.scratch.clone());
         let mut text = self.text.clone();
+        let (mut queues, mut out) = (self.queues.clone(), self.out.clone());
         let mut table: Vec<_> = self.table.iter().map(to_reading).collect();
         let mut walk = 0;
         let answer = match self.kind {
@@ -126,6 +148,16 @@ impl Call {
                 let lists = Lists { left, right };
                 calls::project(&mut n, &mut plan, &mut scratch, lists)
             }
+            Kind::Put => calls::put(&mut queues, self.queue, &self.frame),
+            Kind::Serve => {
+                let answer = served_number(calls::serve(&mut queues, &mut out));
+                return Outcome {
+                    answer,
+                    queues,
+                    out,
+                    ..Outcome::default()
+                };
+            }
         };
         Outcome {
             answer: number(walk, answer),
@@ -133,10 +165,39 @@ impl Call {
             scratch,
             text,
             table: table.iter().map(of_reading).collect(),
+            queues,
+            out,
         }
     }
 
     pub fn given(&self, rng: &mut Rng) -> Given {
+        match self.kind {
+            Kind::Put | Kind::Serve => self.given_of_queues(rng),
+            _ => self.given_of_plan(rng),
+        }
+    }
+
+    fn given_of_queues(&self, rng: &mut Rng) -> Given {
+        let frame = Lent::bytes(rng, &self.frame);
+        let mut queues = Lent::bytes(rng, &self.queues);
+        let mut out = Lent::bytes(rng, &self.out);
+        let answer = match self.kind {
+            Kind::Put => numbers::put(queues.items_mut(), self.queue, frame.items()),
+            _ => numbers::serve(queues.items_mut(), out.items_mut()),
+        };
+        Given {
+            outcome: Outcome {
+                answer,
+                queues: queues.items().to_vec(),
+                out: out.items().to_vec(),
+                ..Outcome::default()
+            },
+            read_only_holds: frame.items() == self.frame,
+            guards_hold: [frame, queues, out].iter().all(Lent::guards_hold),
+        }
+    }
+
+    fn given_of_plan(&self, rng: &mut Rng) -> Given {
         let frame = Lent::bytes(rng, &self.frame);
         let mut plan = Lent::bytes(rng, &self.plan);
         let mut scratch = Lent::bytes(rng, &self.scratch);
@@ -160,6 +221,7 @@ impl Call {
                 let [left, right] = lists.each_ref().map(Lent::items);
                 numbers::project(plan.items_mut(), n, scratch.items_mut(), left, right)
             }
+            Kind::Put | Kind::Serve => unreachable!("they take no plan"),
         };
         Given {
             outcome: Outcome {
@@ -168,6 +230,7 @@ impl Call {
                 scratch: scratch.items().to_vec(),
                 text: text.items().to_vec(),
                 table: table.items().to_vec(),
+                ..Outcome::default()
             },
             read_only_holds: frame.items() == self.frame
                 && lists.each_ref().map(Lent::items) == self.lists.each_ref().map(Vec::as_slice),
@@ -189,6 +252,8 @@ impl Given {
             ("plan", &self.outcome.plan, &expected.plan),
             ("scratch", &self.outcome.scratch, &expected.scratch),
             ("text", &self.outcome.text, &expected.text),
+            ("queues", &self.outcome.queues, &expected.queues),
+            ("output", &self.outcome.out, &expected.out),
         ];
         for (name, given, expected) in buffers {
             if given != expected {
@@ -226,6 +291,12 @@ fn shown(bytes: &[u8]) -> String {
 
 impl fmt::Display for Call {
     fn fmt(&self, f: &mut fmt::Formatter<'_>) -> fmt::Result {
+        if let Kind::Put | Kind::Serve = self.kind {
+            writeln!(f, "{:?}, queue {}", self.kind, self.queue)?;
+            writeln!(f, "  frame    {}", shown(&self.frame))?;
+            writeln!(f, "  queues   {}", shown(&self.queues))?;
+            return write!(f, "  output   {}", shown(&self.out));
+        }
         writeln!(f, "{:?}, n = {}", self.kind, self.n)?;
         writeln!(f, "  frame    {}", shown(&self.frame))?;
         writeln!(f, "  plan     {}", shown(&self.plan))?;
@@ -240,6 +311,10 @@ impl fmt::Display for Call {
 impl fmt::Display for Outcome {
     fn fmt(&self, f: &mut fmt::Formatter<'_>) -> fmt::Result {
         writeln!(f, "  answer   {}", self.answer)?;
+        if !self.queues.is_empty() {
+            writeln!(f, "  queues   {}", shown(&self.queues))?;
+            return write!(f, "  output   {}", shown(&self.out));
+        }
         writeln!(f, "  plan     {}", shown(&self.plan))?;
         writeln!(f, "  scratch  {}", shown(&self.scratch))?;
         writeln!(f, "  text     {}", shown(&self.text))?;

@@ -4,7 +4,7 @@ use std::fmt;
 use crate::call::Kind;
 
 /// The calls, with the refusals that documents 01 and 02 give each of them.
-const ANSWERS: [(Kind, &[i64]); 7] = [
+const ANSWERS: [(Kind, &[i64]); 9] = [
     (Kind::Load, &[1, 2, 3, 4, 5, 6, 7, 8, 9, 17]),
     (Kind::Extract, &[9, 10, 11, 12, 13]),
     (Kind::Exchange, &[9, 10, 11]),
@@ -15,6 +15,8 @@ const ANSWERS: [(Kind, &[i64]); 7] = [
         &[1, 2, 3, 4, 5, 6, 7, 8, 9, 10, 11, 12, 16, 17],
     ),
     (Kind::Project, &[9, 10, 11, 18, 19, 20]),
+    (Kind::Put, &[1, 10, 21, 22, 23]),
+    (Kind::Serve, &[9, 10]),
 ];
 
 /// How many calls there were of each kind, by what they answered.
@@ -25,6 +27,9 @@ pub struct Counts {
     /// How many extracts had a walk of more than one node, and the longest.
     walks: u64,
     longest: i64,
+    /// How many serves had a frame of each queue, and how many found both empty.
+    served: [u64; 2],
+    both_empty: u64,
 }
 
 impl Counts {
@@ -37,6 +42,30 @@ impl Counts {
         let walk = kind.walk(answer);
         self.walks += u64::from(walk > 1);
         self.longest = self.longest.max(walk);
+        if kind == Kind::Serve {
+            match answer {
+                1.. => self.served[(answer / 65_536) as usize] += 1,
+                0 => self.both_empty += 1,
+                _ => (),
+            }
+        }
+    }
+
+    /// The answers that a call may give and that none gave.
+    pub fn unreached(&self) -> Vec<String> {
+        let mut unreached = Vec::new();
+        for (kind, refusals) in ANSWERS {
+            if !self.accepted.contains_key(&kind) {
+                unreached.push(format!("{kind:?} accepted"));
+            }
+            let lacks = |number: &&i64| !self.refused.contains_key(&(kind, **number));
+            let names = refusals.iter().filter(lacks);
+            unreached.extend(names.map(|number| format!("{kind:?} refusal {number}")));
+        }
+        if self.both_empty == 0 || self.served.contains(&0) {
+            unreached.push("Serve of each queue, and of none".to_owned());
+        }
+        unreached
     }
 
     fn calls(&self) -> u64 {
@@ -55,6 +84,12 @@ impl fmt::Display for Counts {
                 writeln!(f, "{name:<10} refusal {number:>2} {count:>10}")?;
             }
         }
+        let [chassis, fixed_unit] = self.served;
+        writeln!(
+            f,
+            "Serve      queue 0 {chassis:>13}, queue 1 {fixed_unit}, both empty {}",
+            self.both_empty
+        )?;
         let Counts { walks, longest, .. } = self;
         writeln!(
             f,

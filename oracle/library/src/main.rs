@@ -6,6 +6,7 @@ mod held;
 mod lent;
 mod merges;
 mod projections;
+mod queues;
 mod tables;
 mod texts;
 
@@ -24,6 +25,12 @@ use counts::Counts;
 use held::Held;
 
 const USAGE: &str = "library [--frames N] [--seed S] [--calls all|plan]";
+
+/// With so many frames, or more, every answer of every call comes.
+const ALL_REACHED: u64 = 20_000;
+
+/// One case in so many has a list of puts and serves, whose buffers are long.
+const WITH_QUEUES: u64 = 8;
 
 /// What is asked on a line of a case.
 enum Asked {
@@ -57,6 +64,12 @@ fn main() -> ExitCode {
             Calls::All => run(&mut rng, &case, &mut counts),
             Calls::Plan => run_plan(&mut rng, &case, &mut counts),
         };
+        let compared = match calls {
+            Calls::All if number % WITH_QUEUES == 0 => {
+                compared.and_then(|()| queues::run(&mut rng, &mut counts))
+            }
+            _ => compared,
+        };
         if let Err(difference) = compared {
             println!("difference at frame {number}\n{difference}");
             return ExitCode::FAILURE;
@@ -64,6 +77,11 @@ fn main() -> ExitCode {
         progress.done(number);
     }
     println!("{counts}, no difference");
+    let unreached = counts.unreached();
+    if matches!(calls, Calls::All) && frames >= ALL_REACHED && !unreached.is_empty() {
+        eprintln!("no call was answered so: {}", unreached.join(", "));
+        return ExitCode::from(2);
+    }
     ExitCode::SUCCESS
 }
 

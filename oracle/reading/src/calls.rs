@@ -5,6 +5,7 @@ use crate::frame::{Frame, Plan};
 use crate::merge::{merged, within_limits};
 use crate::nodes::{self, Node};
 use crate::project::{self as projection, Lists};
+use crate::queues::{MAX_QUEUED, MAX_WAITING, Queues, Served};
 use crate::refusal::Refusal;
 use crate::{decode, encode, logical as logical_half, physical, print as console, walk as walks};
 
@@ -118,6 +119,43 @@ pub fn project(
     }
     let projected = projection::project(&extraction, lists).ok_or(Refusal::NotInList)?;
     Ok(replace(&Plan::Extraction(projected), n, buffer, scratch))
+}
+
+/// Request 12 of document 02: the frame at the end of a queue; its length.
+pub fn put(buffer: &mut [u8], queue: u8, frame: &[u8]) -> Result<usize, Refusal> {
+    if queue > 1 {
+        return Err(Refusal::NoQueue);
+    }
+    let mut queues = Queues::read(buffer).ok_or(Refusal::BadPlan)?;
+    if frame.is_empty() {
+        return Err(Refusal::FrameLength);
+    }
+    if frame.len() > MAX_QUEUED {
+        return Err(Refusal::QueuedLength);
+    }
+    let waiting = &mut queues.waiting[usize::from(queue)];
+    if waiting.len() == MAX_WAITING {
+        return Err(Refusal::QueueFull);
+    }
+    waiting.push_back(frame.to_vec());
+    queues.write(buffer);
+    Ok(frame.len())
+}
+
+/// Request 12 of document 02: the frame that is due at the output's start; `None` with both queues
+/// empty.
+pub fn serve(buffer: &mut [u8], out: &mut [u8]) -> Result<Option<Served>, Refusal> {
+    let mut queues = Queues::read(buffer).ok_or(Refusal::BadPlan)?;
+    let Some((queue, frame)) = queues.take_due() else {
+        return Ok(None);
+    };
+    let start = out.get_mut(..frame.len()).ok_or(Refusal::NoRoom)?;
+    start.copy_from_slice(&frame);
+    queues.write(buffer);
+    Ok(Some(Served {
+        queue,
+        length: frame.len(),
+    }))
 }
 
 /// Refusals 10 and 11.

@@ -13,5 +13,6 @@ pub mod physical;
 pub mod print;
 pub mod program;
 pub mod project;
+pub mod queues;
 pub mod refusal;
 pub mod walk;

@@ -17,9 +17,9 @@ pub enum Refusal {
     BytesAfter = 7,
     /// An AND-leaf with too few arguments.
     Arity = 8,
-    /// Plan buffer or scratch too short.
+    /// Plan buffer, scratch or output too short.
     NoRoom = 9,
-    /// The held bytes are no plan.
+    /// The held bytes are no plan, or the buffer holds no queues.
     BadPlan = 10,
     /// Plan empty.
     EmptyPlan = 11,
@@ -41,6 +41,12 @@ pub enum Refusal {
     ListLength = 19,
     /// An index that its list lacks.
     NotInList = 20,
+    /// Queue not 0 or 1.
+    NoQueue = 21,
+    /// Frame over 1,024 bytes, for a queue.
+    QueuedLength = 22,
+    /// Queue full.
+    QueueFull = 23,
 }
 
 impl Refusal {
