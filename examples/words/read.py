@@ -111,7 +111,7 @@ class Filter(Operands):
         return Binary(operator, left, right)
 
     def between(self, left):
-        """x BETWEEN a AND b is x >= a AND x <= b: so SQL defines it, and so an engine plans it."""
+        """x BETWEEN a AND b is x >= a AND x <= b: so SQL defines it."""
         low = self.operation()
         self.tokens.expect("AND")
         return Binary(AND_OPERATOR, Binary(GTEQ, left, low), Binary(LTEQ, left, self.operation()))
