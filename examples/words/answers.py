@@ -8,7 +8,7 @@ from .show import Words, filter_words, frame_words
 from .tables import FURTHER, NAMES, OPERAND, REFUSALS, RELATIONS, operator_words
 from .tree import Bytes, Mistake
 
-OF_ANOTHER = "not shown: it is of the filter before the refused one"
+OF_ANOTHER = "not shown: it is of the filter that was held before the refused line"
 
 
 def look_up(table, number):

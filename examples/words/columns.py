@@ -33,6 +33,8 @@ class Tables:
         self.places, self.words = {}, {}
         if self.listed:
             for name in listed_names(columns):
+                if parts(name) in self.places:
+                    raise Mistake(f"{name}: twice among --columns")
                 self.add(name)
 
     def name_child(self, name, letter):
@@ -86,6 +88,7 @@ class Columns:
     def __init__(self, logical, tables=None):
         self.records = None if logical else []
         self.tables = (tables or Tables()).fresh()
+        self.by_letter = False
 
     def lettered(self, text):
         """A column by its letter: L0, L0[7,8]."""
@@ -93,11 +96,20 @@ class Columns:
         index, tags = int(index), [int(tag) for tag in tags]
         if max([index] + tags) > MOST:
             raise Mistake(f"{text}: columns and tags are at most {MOST:,}")
+        self.by_letter = True
+        self.one_way(text, self.tables.places)
         return self.made(text, letter, index, tags)
 
     def named(self, name):
         """A column by its name: a.geom."""
-        return self.made(name, *self.tables.place(name), [])
+        place = self.tables.place(name)
+        self.one_way(name, self.by_letter)
+        return self.made(name, *place, [])
+
+    def one_way(self, text, other):
+        """Numbers in the order of appearance are none of the children's: L0 need not be the first column that has a name."""
+        if other and not self.tables.listed:
+            raise Mistake(f"{text}: names and letters of columns in one filter; --columns says which number a name has")
 
     def made(self, text, letter, index, tags):
         tag = tags[0] if tags else name_tag(letter, index)
@@ -115,19 +127,13 @@ class Columns:
         return Column(self.records.index(record), tag)
 
     def by_record(self, text):
-        """A column by the number of its record: $1, $1[7]."""
-        index, *tag = [int(digits) for digits in re.findall(r"\d+", text)]
+        """A column by the number of its record and its name tag, as on the console: c1:20."""
+        index, tag = [int(digits) for digits in re.findall(r"\d+", text)]
         if self.records is None:
             raise Mistake(f"{text}: a logical filter has no records")
-        if max([index] + tag) > MOST:
+        if max(index, tag) > MOST:
             raise Mistake(f"{text}: columns and tags are at most {MOST:,}")
-        return Column(index, tag[0] if tag else record_tag(self.records, index))
-
-
-def record_tag(records, index):
-    """The name tag that is not written."""
-    known = index < len(records) and records[index].side in LETTERS
-    return name_tag(LETTERS[records[index].side], records[index].child) if known else 0
+        return Column(index, tag)
 
 
 class Shown:
@@ -158,8 +164,7 @@ class Shown:
             self.named.append(node.index)
         if node.index < len(self.records) and self.records.index(self.records[node.index]) == node.index:
             return self.record(node.index, node.tag)
-        usual = node.tag == record_tag(self.records, node.index)
-        return f"${node.index}" + ("" if usual else f"[{node.tag}]")
+        return f"c{node.index}:{node.tag}"
 
     def field(self, node):
         if self.records is not None:
@@ -191,5 +196,5 @@ class ShownChild:
         if isinstance(node, Field) or self.letter is None:
             raise Mistake("no column of a child")
         if self.letter == "M":
-            return f"${node.index}"
+            return f"c{node.index}:{node.tag}"
         return self.words.get((self.letter, node.index), f"{self.letter}{node.index}")

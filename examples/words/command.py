@@ -9,7 +9,7 @@ from .read import read
 from .tree import Mistake, write_frame
 
 # A filter may be deeper than the planner takes: that is the planner's to say.
-sys.setrecursionlimit(20000)
+sys.setrecursionlimit(10000)
 
 
 class Options:

@@ -14,7 +14,7 @@ TOKEN = re.compile(
     rf"""
     (?P<column>[LRMB]\d+\[\d+(?:,\ *\d+)?\]) |
     (?P<raw>@\d:[0-9a-f]{{16}}(?!\w)) |
-    (?P<record>\$\d+(?:\[\d+\])?) |
+    (?P<record>c\d+:\d+(?!\w)) |
     (?P<other>\#\d+) |
     (?P<number>(?:\d|\.\d)(?:[eE][+-](?=\d)|[\w.])*) |
     (?P<text>'(?:[^']|'')*') |
