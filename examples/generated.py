@@ -23,7 +23,19 @@ class Filters:
         """The text, the columns' records and the tree."""
         self.columns = Columns(False)
         text, node = self.operand(depth)
+        if self.chance.random() < 0.4:
+            spatial, first = self.spatial()
+            text, node = f"({text} AND {spatial})", Binary(0, node, first)
         return text, self.columns.records, node
+
+    def spatial(self):
+        """A conjunct that can be indexed."""
+        left, right = self.columns.lettered("L0"), self.columns.lettered("R1")
+        return self.chance.choice([
+            ("st_within (L0, R1)", Function("st_within", [left, right])),
+            ("st_knn(L0, R1, 5)", Function("st_knn", [left, right, number("5")])),
+            ("(st_distance(L0, R1) < 1e3)", Binary(1, Function("st_distance", [left, right]), number("1e3"))),
+        ])
 
     def operand(self, depth):
         kinds = [self.column, self.column, self.number, self.text, self.word]

@@ -96,8 +96,9 @@ class Columns:
         index, tags = int(index), [int(tag) for tag in tags]
         if max([index] + tags) > MOST:
             raise Mistake(f"{text}: columns and tags are at most {MOST:,}")
-        self.by_letter = True
-        self.one_way(text, self.tables.places)
+        if letter in "LR":
+            self.by_letter = True
+            self.one_way(text, self.tables.places)
         return self.made(text, letter, index, tags)
 
     def named(self, name):

@@ -51,6 +51,10 @@ def literal_words(literal):
         exponent = literal.value >> 52 & 0x7FF
         if 0 < exponent < 0x7FF or value == 0:
             return repr(value)
+    return digits(literal)
+
+
+def digits(literal):
     return f"@{literal.type}:{literal.value:016x}"
 
 

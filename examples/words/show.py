@@ -3,9 +3,9 @@
 import re
 
 from .columns import Shown
-from .literals import list_items, literal_words, quoted, text_of
+from .literals import digits, list_items, literal_words, quoted, text_of
 from .tables import (CASE, CASE_OF, CASTS, ELSE, ESCAPES, FURTHER, IN_WORDS, IS, MINUS, NOT, NOT_TAG, OPERAND, OR,
-                     PREDICATE, RESERVED, SIGN, TESTS, TYPED_TEXTS, WHEN, operator_words)
+                     PREDICATE, RESERVED, SIGN, TESTS, TEXT, TYPED_TEXTS, WHEN, operator_words)
 from .tree import Binary, Bytes, Column, Field, Function, Literal, Mistake, Other
 from .types import is_type
 
@@ -34,7 +34,12 @@ class Words:
             return self.binary(node)
         if isinstance(node, Function):
             return f"{written_name(node.name)}({self.all(node.arguments)})", OPERAND
-        return self.known(node) or (f"#{node.tag}({self.all(node.children)})", OPERAND)
+        return self.known(node) or (self.numbered(node), OPERAND)
+
+    def numbered(self, node):
+        """By its tag; what is in a text by its digits."""
+        shown = [digits(child) if node.tag == TEXT and isinstance(child, Literal) else self.of(child) for child in node.children]
+        return f"#{node.tag}({', '.join(shown)})"
 
     def binary(self, node):
         words, level = operator_words(node.operator)
