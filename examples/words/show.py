@@ -99,8 +99,7 @@ class Words:
         operand, branches = (node.children[:1], node.children[1:]) if node.tag == CASE_OF else ([], node.children)
         whens = [branch for branch in branches if is_other(branch, WHEN, 2)]
         last = branches[len(whens) :]
-        in_order = branches[: len(whens)] == whens and (not last or len(last) == 1 and is_other(last[0], ELSE, 1))
-        if not whens or not in_order:
+        if not whens or len(last) > 1 or (last and not is_other(last[0], ELSE, 1)):
             return None
         words = ["CASE"] + [self.of(node) for node in operand]
         words += [f"WHEN {self.of(when.children[0])} THEN {self.of(when.children[1])}" for when in whens]
