@@ -104,12 +104,13 @@ class Lines:
         who, answer, reading, more = told.groups()
         if reading is None:
             return f"{who}: {self.answer(answer)}{more}"
-        theirs = Lines(self.words).answer(answer)
-        return f"differ: the original: {theirs}; the reading: {self.answer(reading)}{more}"
+        theirs = Lines(self.words)
+        theirs.refused = self.refused
+        return f"differ: the original: {theirs.answer(answer)}; the reading: {self.answer(reading)}{more}"
 
     def answer(self, line):
-        data = bytes_of(line)
         asked = self.asked_line()
+        data = bytes_of(line)
         if len(data) == 1 and data[0] in REFUSALS:
             return self.refusal(data[0], asked)
         if data in (b"\x21", b"\x22"):
