@@ -29,6 +29,7 @@ use Rattle.definitions.specs.OddMachine as OddMachine
 use Rattle.definitions.specs.Queues as Queues
 use Rattle.definitions.specs.QueueBytes as QueueBytes
 use Rattle.definitions.specs.QueueLists as QueueLists
+use Rattle.definitions.specs.Settings as Settings
 
 unfoldable pub basics : ℕ
 unfolding Basics.ascii Basics.sameName Basics.bigEndian Basics.any Basics.all Basics.keep
@@ -76,9 +77,9 @@ unfolding References.columnsOf References.recordAt References.sameSide Reference
 references = 0
 
 unfoldable pub match : ℕ
-unfolding Match.relationRequest Match.dwithinRequest Match.literalU32 Match.literalK Match.literalBool Match.knnLiterals Match.knnRequest
-    Match.callRequest Match.distanceRequest Match.comparisonRequest Match.request Match.commonSide Match.sideOf Match.isSide Match.orderOf
-    Match.onChild Match.matchRelation Match.storeDistance Match.matchDistance Match.matchKnn Match.matchRequest Match.matchLeaf
+unfolding Match.relationRequest Match.dwithinRequest Match.literalU32 Match.literalK Match.literalBool Match.knnLiterals Match.knnRequestBy
+    Match.callRequestBy Match.distanceRequest Match.comparisonRequest Match.requestBy Match.commonSide Match.sideOf Match.isSide Match.orderOf
+    Match.onChild Match.matchRelation Match.storeDistance Match.matchDistance Match.matchKnn Match.matchRequest Match.matchLeafBy
 match = 0
 
 unfoldable pub extract : ℕ
@@ -158,7 +159,13 @@ unfolding Queues.putIn Queues.firstTried Queues.oldest Queues.due QueueBytes.mar
     QueueLists.waitingOf QueueLists.waitingIn QueueLists.added QueueLists.served QueueLists.givenOf
 queues = 0
 
+unfoldable pub settings : ℕ
+unfolding Settings.goodSettings Settings.defaultSettings Settings.hasBit Settings.allowed Settings.passing Settings.onlyIf
+    Settings.matchUnder Settings.extractUnder Settings.extractWalkUnder Settings.makeUnder Settings.walkUnder
+    Settings.callsRunUnder
+settings = 0
+
 unfoldable pub everything : ℕ
 unfolding basics expression literals encode leaves readers decode plans references match extract walk exchange tables calls machine sessions
-    meaning logical program printing merging projecting queues
+    meaning logical program printing merging projecting queues settings
 everything = 0

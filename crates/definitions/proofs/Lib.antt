@@ -12,3 +12,4 @@ pub mod NarrowedRows
 pub mod Sentences
 pub mod WalkedRows
 pub mod WaitingRows
+pub mod SettledRows

@@ -48,6 +48,7 @@ pub mod Hosts
 pub mod Claims
 pub mod ValueClaims
 pub mod AnyMatcher
+pub mod Settings
 pub mod TenRows
 pub mod FurtherRows
 pub mod PositionRows
@@ -58,6 +59,7 @@ pub mod GuardRows
 pub mod PrintClaims
 pub mod PrintRows
 pub mod MergeClaims
+pub mod SettingsClaims
 pub mod MergeRows
 pub mod TableClaims
 pub mod TableRows
@@ -71,3 +73,4 @@ pub mod WalkClaims
 pub mod WalkRows
 pub mod QueueClaims
 pub mod QueueRows
+pub mod SettingsRows

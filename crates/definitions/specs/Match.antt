@@ -52,22 +52,31 @@ knnLiterals (some k) none ties a b = askNothing
 knnLiterals (some k) (some spheroid) none a b = askNothing
 knnLiterals (some k) (some spheroid) (some ties) a b = askKnn k spheroid ties a b
 
--- `st_knn` has two to five arguments; k is 1, spheroid false (0) and ties absent (2) where they are missing.
-unfoldable pub knnRequest : Exprs → Request
-knnRequest nil = askNothing
-knnRequest (cons a nil) = askNothing
-knnRequest (cons a (cons b nil)) = askKnn 1 0 2 a b
-knnRequest (cons a (cons b (cons k nil))) = knnLiterals (literalK k) (some 0) (some 2) a b
-knnRequest (cons a (cons b (cons k (cons s nil)))) = knnLiterals (literalK k) (literalBool s) (some 2) a b
-knnRequest (cons a (cons b (cons k (cons s (cons t nil))))) = knnLiterals (literalK k) (literalBool s) (literalBool t) a b
-knnRequest (cons a (cons b (cons k (cons s (cons t (cons x more)))))) = askNothing
+-- `st_knn` has two to five arguments; k is the default (request 13; 01's is 1), spheroid false (0) and ties absent (2) where they are
+-- missing.
+unfoldable pub knnRequestBy : (defaultK : ℕ) → Exprs → Request
+knnRequestBy d nil = askNothing
+knnRequestBy d (cons a nil) = askNothing
+knnRequestBy d (cons a (cons b nil)) = askKnn d 0 2 a b
+knnRequestBy d (cons a (cons b (cons k nil))) = knnLiterals (literalK k) (some 0) (some 2) a b
+knnRequestBy d (cons a (cons b (cons k (cons s nil)))) = knnLiterals (literalK k) (literalBool s) (some 2) a b
+knnRequestBy d (cons a (cons b (cons k (cons s (cons t nil))))) = knnLiterals (literalK k) (literalBool s) (literalBool t) a b
+knnRequestBy d (cons a (cons b (cons k (cons s (cons t (cons x more)))))) = askNothing
+
+-- 01's, with k 1.
+abbrev pub knnRequest : Exprs → Request
+knnRequest = knnRequestBy 1
 
 -- A function asks by its name.
-unfoldable pub callRequest : (name : List ℕ) → Exprs → Request
-callRequest name arguments =
-    if sameName name (ascii "st_knn") then knnRequest arguments else
+unfoldable pub callRequestBy : (defaultK : ℕ) → (name : List ℕ) → Exprs → Request
+callRequestBy d name arguments =
+    if sameName name (ascii "st_knn") then knnRequestBy d arguments else
     if sameName name (ascii "st_dwithin") then dwithinRequest arguments else
     relationRequest (relationNamed name) arguments
+
+-- 01's, with k 1.
+abbrev pub callRequest : (name : List ℕ) → Exprs → Request
+callRequest = callRequestBy 1
 
 -- A comparison takes the first two arguments of `st_distance`.
 unfoldable pub distanceRequest : (form : ℕ) → (bound : Expr) → Option Exprs → Request
@@ -82,11 +91,15 @@ comparisonRequest form noComparison = askNothing
 comparisonRequest form (compares measured bound) = distanceRequest form bound (distanceArguments measured)
 
 -- What a leaf asks for.
-unfoldable pub request : Expr → Request
-request e =
-    given functionOf e then (λ f. callRequest (f .name) (f .arguments)) else
+unfoldable pub requestBy : (defaultK : ℕ) → Expr → Request
+requestBy d e =
+    given functionOf e then (λ f. callRequestBy d (f .name) (f .arguments)) else
     given binaryOf e then (λ b. comparisonRequest (b .operator) (comparison (b .operator) (b .l) (b .r))) else
     askNothing
+
+-- 01's, with k 1.
+abbrev pub request : Expr → Request
+request = requestBy 1
 
 -- ---- sides
 
@@ -166,5 +179,9 @@ matchRequest records (askKnn k spheroid ties a b) =
 matchRequest records askNothing = none
 
 -- The predicate of a leaf that matches.
-unfoldable pub matchLeaf : List Record → (leaf : Expr) → Option Predicate
-matchLeaf records leaf = matchRequest records (request leaf)
+unfoldable pub matchLeafBy : (defaultK : ℕ) → List Record → (leaf : Expr) → Option Predicate
+matchLeafBy d records leaf = matchRequest records (requestBy d leaf)
+
+-- 01's, with k 1.
+abbrev pub matchLeaf : List Record → (leaf : Expr) → Option Predicate
+matchLeaf = matchLeafBy 1

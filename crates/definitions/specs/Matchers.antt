@@ -1,5 +1,5 @@
 -- The laws of a matcher: under every one that obeys them hold the claims of extractions and of calls (AnyMatcher). (All of this is ours.)
-use Prim.Native.Nat.{ℕ, suc, _≤_}
+use Prim.Native.Nat.{ℕ, suc, _≤_, _<_}
 use mathlib.Core.Path.{_≡_}
 use mathlib.Core.List.{List, map}
 use mathlib.Core.Option.{Option, none, some, Option·map}
@@ -7,6 +7,7 @@ use lib.ListN.{length}
 use Rattle.definitions.specs.Expression.{Expr, Record, Predicate}
 use Rattle.definitions.specs.Encode.{exprBytes, predicateFields}
 use Rattle.definitions.specs.Decode.{indexBelow}
+use Rattle.definitions.specs.References.{recordAt, mapColumns}
 use Rattle.definitions.specs.Extract.{Matcher}
 use Rattle.definitions.specs.Exchange.{exchangeRecord, exchangePredicate}
 use Rattle.definitions.specs.Good.{nodes, InRange, Readable, RecordsInRange, ReadablePredicate, predicateNodes}
@@ -33,6 +34,11 @@ pub record Lawful (match : Matcher) (Asks : Meaning → Type 0) : Type 0 where
   -- Meaning respects it: the match of a leaf in range has the leaf's value.
   pub means : (M : Meaning) (v : Valuation) (records : List Record) (leaf : Expr) → Asks M
       → InRange (indexBelow (length records)) leaf → Valued M v (value M (frameColumns v records) leaf) (match records leaf)
+  -- Numbers do not matter to it: where the columns below a bound are renumbered over records that are the same there, a leaf matches as it
+  -- did.
+  pub moves : (records records′ : List Record) (f : ℕ → ℕ) (bound : ℕ)
+      → ((index : ℕ) → index < bound → recordAt records′ (f index) ≡ recordAt records index)
+      → (leaf : Expr) → InRange (indexBelow bound) leaf → match records′ (mapColumns f leaf) ≡ match records leaf
 
 -- A meaning that exchange respects: an exchanged predicate has the predicate's value, those of left and right columns exchanged.
 abbrev pub Symmetric : Meaning → Type 0

@@ -10,6 +10,7 @@ use Rattle.definitions.specs.Expression.{Side, left, right, Relation, Ex
 use Rattle.definitions.specs.Leaves.{relationNamed}
 use Rattle.definitions.specs.References.{recordAt}
 use Rattle.definitions.specs.Match.{matchLeaf}
+use Rattle.definitions.specs.Extract.{Matcher}
 use Rattle.definitions.specs.Exchange.{negate}
 use Rattle.definitions.specs.Decode.{indexBelow}
 use Rattle.definitions.specs.Good.{InRangeAll}
@@ -99,8 +100,8 @@ planValue M v (extracted X) = extractionValue M v X
 unfoldable pub exchangedValues : Valuation → Valuation
 exchangedValues v side child = v (negate side) child
 
--- A fair meaning.
-pub record Fair (M : Meaning) : Type 0 where
+-- A fair meaning; its leaves match with this matcher (request 13).
+pub record FairBy (match : Matcher) (M : Meaning) : Type 0 where
   -- All names of one type agree; a relation reads two arguments and ignores further ones.
   pub relationCall : (name : List ℕ) (type : Relation) → relationNamed name ≡ some type → (a b : ℕ) (more : List ℕ)
       → M .callValue name (a ∷ b ∷ more) ≡ M .relationValue type a b
@@ -119,6 +120,10 @@ pub record Fair (M : Meaning) : Type 0 where
   pub knnLeaf : (v : Valuation) (records : List Record) (name : List ℕ) (query object : Expr) (more : Exprs)
       → InRangeAll (indexBelow (length records)) (cons query (cons object more))
       → (k spheroid ties : ℕ) (probe : Side) (l r : Expr)
-      → matchLeaf records (call name (cons query (cons object more))) ≡ some (knn k spheroid probe ties l r)
+      → match records (call name (cons query (cons object more))) ≡ some (knn k spheroid probe ties l r)
       → value M (frameColumns v records) (call name (cons query (cons object more)))
       ≡ M .knnValue (value M (frameColumns v records) query) (value M (frameColumns v records) object) k spheroid ties
+
+-- 01's, with `matchLeaf`.
+abbrev pub Fair : Meaning → Type 0
+Fair = FairBy matchLeaf

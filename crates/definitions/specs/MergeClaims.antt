@@ -12,7 +12,7 @@ use Rattle.definitions.specs.Encode.{frameBytes, planBytes}
 use Rattle.definitions.specs.Leaves.{leaves}
 use Rattle.definitions.specs.Plans.{frameOf}
 use Rattle.definitions.specs.Match.{matchLeaf}
-use Rattle.definitions.specs.Extract.{Matcher, matchesOf}
+use Rattle.definitions.specs.Extract.{Matcher, matchesBy}
 use Rattle.definitions.specs.Calls.{tableFits, Outcome, heldPlan}
 use Rattle.definitions.specs.Good.{AllBytes, nodes, GoodPlan}
 use Rattle.definitions.specs.NodeTable.{NodeRecord}
@@ -40,11 +40,15 @@ MergedValue =
     → frameValue M v (mergeFrames old new) ≡ andValue (frameValue M v old) (frameValue M v new)
 
 -- Its AND-leaves are the held ones and then the new ones, and each matches as it did in its own frame.
-abbrev pub MergedLeaves : Type 0
-MergedLeaves =
+abbrev pub MergedLeavesBy : Matcher → Type 0
+MergedLeavesBy match =
     (old new : Frame) → GoodPlan (held old) → GoodPlan (held new)
     → (leaves (mergeFrames old new .expr) ≡ leaves (old .expr) ++ map (raised (length (old .records))) (leaves (new .expr)))
-    × (matchesOf (mergeFrames old new) ≡ matchesOf old ++ matchesOf new)
+    × (matchesBy match (mergeFrames old new) ≡ matchesBy match old ++ matchesBy match new)
+
+-- 01's, with `matchLeaf`.
+abbrev pub MergedLeaves : Type 0
+MergedLeaves = MergedLeavesBy matchLeaf
 
 -- ---- the call
 
@@ -148,7 +152,7 @@ HistoryOfCallsBy match =
 abbrev pub HistoryOfCalls : Type 0
 HistoryOfCalls = HistoryOfCallsBy matchLeaf
 
--- Both hold with any lawful matcher.
+-- All three hold with any lawful matcher.
 abbrev pub AnyMatcherMerges : Type 1
 AnyMatcherMerges =
-    (match : Matcher) (Asks : Meaning → Type 0) → Lawful match Asks → ListAfterMergeBy match × HistoryOfCallsBy match
+    (match : Matcher) (Asks : Meaning → Type 0) → Lawful match Asks → ListAfterMergeBy match × HistoryOfCallsBy match × MergedLeavesBy match

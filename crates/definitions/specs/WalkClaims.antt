@@ -41,30 +41,25 @@ OneWalkIsPick = (matches : List (Option Predicate)) → remembered (oneWalk matc
 -- ---- request 10
 
 -- A walk is at most twice the number of AND-leaves, less one,
-abbrev pub WalkBounded : Type 0
-WalkBounded = (match : Matcher) (F : Frame) → walkLengthBy match F ≤ 2 * length (leaves (F .expr)) - 1
+abbrev pub WalkBoundedBy : Matcher → Type 0
+WalkBoundedBy match = (F : Frame) → walkLengthBy match F ≤ 2 * length (leaves (F .expr)) - 1
 
 -- and so many where no leaf is a KNN match,
-abbrev pub WalkWhole : Type 0
-WalkWhole =
-    (match : Matcher) (F : Frame) → any isKnnMatch (matchesBy match F) ≡ false
-    → walkLengthBy match F ≡ 2 * length (leaves (F .expr)) - 1
+abbrev pub WalkWholeBy : Matcher → Type 0
+WalkWholeBy match = (F : Frame) → any isKnnMatch (matchesBy match F) ≡ false → walkLengthBy match F ≡ 2 * length (leaves (F .expr)) - 1
 
 -- so that a 13 carries so many.
-abbrev pub WalkUnmatched : Type 0
-WalkUnmatched =
-    (match : Matcher) (F : Frame) → extractionBy match F ≡ none → walkLengthBy match F ≡ 2 * length (leaves (F .expr)) - 1
+abbrev pub WalkUnmatchedBy : Matcher → Type 0
+WalkUnmatchedBy match = (F : Frame) → extractionBy match F ≡ none → walkLengthBy match F ≡ 2 * length (leaves (F .expr)) - 1
 
 -- An exchanged frame has the same walk: both machines bill the same effort.
-abbrev pub WalkExchanged : Type 1
-WalkExchanged =
-    (match : Matcher) (Asks : Meaning → Type 0) → Lawful match Asks
-    → (F : Frame) → walkLengthBy match (exchangeFrame F) ≡ walkLengthBy match F
+abbrev pub WalkExchangedBy : Matcher → Type 0
+WalkExchangedBy match = (F : Frame) → walkLengthBy match (exchangeFrame F) ≡ walkLengthBy match F
 
 -- An accepted extract, and one that is refused with 13, carries the walk of the frame that is held;
-abbrev pub WalkCarried : Type 0
-WalkCarried =
-    (match : Matcher) (n : ℕ) (buffer scratch : List ℕ) (table : List NodeRecord)
+abbrev pub WalkCarriedBy : Matcher → Type 0
+WalkCarriedBy match =
+    (n : ℕ) (buffer scratch : List ℕ) (table : List NodeRecord)
     → ((accepted (extractBy match n buffer scratch table .answer) ≡ true)
     → (F : Frame) × (heldPlan n buffer ≡ ok (held F)) × (extractWalkBy match n buffer scratch table ≡ walkLengthBy match F))
     × ((extractBy match n buffer scratch table .answer ≡ refused 13)
@@ -73,7 +68,26 @@ WalkCarried =
     → extractWalkBy match n buffer scratch table ≡ 0)
 
 -- What a call carries is at most 2,047.
-abbrev pub WalkShort : Type 0
-WalkShort =
-    (match : Matcher) (n : ℕ) (buffer scratch : List ℕ) (table : List NodeRecord) → AllBytes buffer
+abbrev pub WalkShortBy : Matcher → Type 0
+WalkShortBy match =
+    (n : ℕ) (buffer scratch : List ℕ) (table : List NodeRecord) → AllBytes buffer
     → extractWalkBy match n buffer scratch table ≤ 2 * mostNodes - 1
+
+-- With every matcher; exchanged, with every lawful one.
+abbrev pub WalkBounded : Type 0
+WalkBounded = (match : Matcher) → WalkBoundedBy match
+
+abbrev pub WalkWhole : Type 0
+WalkWhole = (match : Matcher) → WalkWholeBy match
+
+abbrev pub WalkUnmatched : Type 0
+WalkUnmatched = (match : Matcher) → WalkUnmatchedBy match
+
+abbrev pub WalkExchanged : Type 1
+WalkExchanged = (match : Matcher) (Asks : Meaning → Type 0) → Lawful match Asks → WalkExchangedBy match
+
+abbrev pub WalkCarried : Type 0
+WalkCarried = (match : Matcher) → WalkCarriedBy match
+
+abbrev pub WalkShort : Type 0
+WalkShort = (match : Matcher) → WalkShortBy match

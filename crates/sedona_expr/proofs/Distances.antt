@@ -9,7 +9,7 @@ use lib.ListN.{length}
 use Rattle.definitions.specs.Basics.{if_then_else_, ascii, sameName}
 use Rattle.definitions.specs.Expression.{Relation, Expr, column, literal, and, binary, call, other, field, Exprs, nil, cons, count}
 use Rattle.definitions.specs.Leaves.{Comparison, noComparison, comparison, distanceArguments, relationNamed}
-use Rattle.definitions.specs.Match.{relationRequest, dwithinRequest, knnLiterals, knnRequest, callRequest, distanceRequest, comparisonRequest, request}
+use Rattle.definitions.specs.Match.{relationRequest, dwithinRequest, knnLiterals, knnRequest, knnRequestBy, callRequest, callRequestBy, distanceRequest, comparisonRequest, request, requestBy}
 use Rattle.definitions.specs.Decode.{Columns}
 use Rattle.theorems.proofs.Requests.{same-name}
 use Rattle.expression.specs.Places.{part}
@@ -134,7 +134,7 @@ no-knn-literals (some k) (some spheroid) none a b = refl
 no-knn-literals (some k) (some spheroid) (some ties) a b = refl
 
 knn-no-distance : (args : Exprs) → isDistance (knnRequest args) ≡ false
-unfolding knnRequest isDistance
+unfolding knnRequestBy isDistance
 knn-no-distance nil = refl
 knn-no-distance (cons a nil) = refl
 knn-no-distance (cons a (cons b nil)) = refl
@@ -160,12 +160,12 @@ few-dwithin (cons a (cons b (cons d more))) h = absurd (omega arith)
 -- A name other than `st_dwithin` asks for no distance.
 other-name : (name : List ℕ) (args : Exprs) (knn : Bool) → sameName name (ascii "st_knn") ≡ knn → sameName name (ascii "st_dwithin") ≡ false
     → isDistance (callRequest name args) ≡ false
-unfolding callRequest
+unfolding callRequestBy
 other-name name args true e f = rw e (knn-no-distance args)
 other-name name args false e f = rw (e, f) (relation-no-distance (relationNamed name) args)
 
 dwithin-asked : (name : List ℕ) (args : Exprs) → sameName name (ascii "st_dwithin") ≡ true → callRequest name args ≡ dwithinRequest args
-unfolding callRequest ascii sameName
+unfolding callRequestBy ascii sameName
 dwithin-asked name args e = ap (λ (n : List ℕ). callRequest n args) (same-name name (ascii "st_dwithin") e)
 
 module _ {c : Columns} {s : List ℕ} {k : Called} {name : List ℕ} {args : Exprs} (st : CallStands c s k name args) {same : Bool}
@@ -215,7 +215,7 @@ module _ {c : Columns} {s : List ℕ} {k : Called} {name : List ℕ} {args : Exp
 -- ---- any node
 
 pub plain-asks : {t : Expr} → PlainNode t → isDistance (request t) ≡ false
-unfolding request isDistance
+unfolding requestBy isDistance
 plain-asks plainColumn = refl
 plain-asks plainLiteral = refl
 plain-asks plainOther = refl
@@ -223,14 +223,14 @@ plain-asks plainField = refl
 
 module _ {c : Columns} {s : List ℕ} {at : ℕ} {t : Expr} where
   pub and-asks : {first : ℕ} → Both and c s at first t → isDistance (request t) ≡ false
-  unfolding request isDistance
+  unfolding requestBy isDistance
   and-asks b = rw (b .is)
 
   pub binary-asks : {operator first : ℕ} (b : Both (binary operator) c s at first t)
       → request t ≡ comparisonRequest operator (comparison operator (b .l) (b .r))
-  unfolding request
+  unfolding requestBy
   binary-asks b = ap request (b .is)
 
   pub call-asks : {k : Called} (b : CallIs c s at k t) → request t ≡ callRequest (b .name) (b .arguments)
-  unfolding request
+  unfolding requestBy
   call-asks b = ap request (b .is)

@@ -14,7 +14,7 @@ use Rattle.definitions.specs.Expression.{Side, left, right, noSide, Expr, Recor
 use Rattle.definitions.specs.Encode.{exprBytes, frameBytes, remainderBytes, extractionBytes, planBytes}
 use Rattle.definitions.specs.Leaves.{arity}
 use Rattle.definitions.specs.Decode.{indexBelow}
-use Rattle.definitions.specs.References.{recordAt, columnsOf, sameSide}
+use Rattle.definitions.specs.References.{recordAt, columnsOf, sameSide, mapColumns}
 use Rattle.definitions.specs.Extract.{Pick, pick, without, sameColumn, referenced, newIndex, prune, takePick, Matcher, matchesBy, extractionBy, extraction}
 use Rattle.definitions.specs.Good.{All, nodes, depth, InRange, RecordsInRange, ReadableFrame, ReadableRemainder, remainderNodes, planNodes, GoodPlan}
 use Rattle.theorems.proofs.Columns.{Fits as FitsIn, map-length, map-nodes, map-depth, map-in-range, map-arity, all-both, columns-below}
@@ -84,6 +84,20 @@ unfolding referenced
 references rs e =
     found (λ j i. sameColumn (recordAt rs j) (recordAt rs i)) (λ i. same-column-refl (recordAt rs i)) (columnsOf e) (columnsOf e) (λ i h. h)
 
+-- The columns of a pruned expression are below the number of its records.
+pub prune-in-range : (rs : List Record) (e : Expr) → length rs ≤ 256 → InRange (indexBelow (length rs)) e
+    → InRange (indexBelow (length (keep (referenced rs e) rs))) (mapColumns (newIndex (referenced rs e) rs) e)
+prune-in-range rs e few r =
+    let test : Record → Bool = referenced rs e in
+    let f : ℕ → ℕ = newIndex test rs in
+    let b : ℕ = length (keep test rs) in
+    let fits : (i : ℕ) → ltb i (length rs) ≡ true → test (recordAt rs i) ≡ true → FitsIn b f i = λ i below hit.
+    let new : f i < b = new-below test rs i (ltb-true i (length rs) below) hit in
+    (lt-ltb (f i) b new, omega (arith, new, keep-length test rs)) in
+    map-in-range (length rs) b f e
+    (all-both (λ i. ltb i (length rs) ≡ true) (λ i. test (recordAt rs i) ≡ true) (FitsIn b f) fits (columnsOf e)
+    (columns-below (length rs) e r) (references rs e)) r
+
 prune-readable : (rs : List Record) (e : Expr) → length rs ≤ 256 → RecordsInRange rs → InRange (indexBelow (length rs)) e → depth e ≤ 64
     → arity e ≡ true
     → ReadableFrame (prune rs e)
@@ -91,19 +105,10 @@ unfolding prune
 prune-readable rs e few rr r d a =
     let test : Record → Bool = referenced rs e in
     let f : ℕ → ℕ = newIndex test rs in
-    let b : ℕ = length (keep test rs) in
-    let fits : (i : ℕ) → ltb i (length rs) ≡ true → test (recordAt rs i) ≡ true → FitsIn b f i = λ i below hit.
-    let new : f i < b = new-below test rs i (ltb-true i (length rs) below) hit in
-    (lt-ltb (f i) b new, omega (arith, new, keep-length test rs)) in
     record {
       few = omega (arith, keep-length test rs);
       recordsInRange = keep-in-range test rs rr;
-      expr = record {
-        inRange = map-in-range (length rs) b f e
-            (all-both (λ i. ltb i (length rs) ≡ true) (λ i. test (recordAt rs i) ≡ true) (FitsIn b f) fits (columnsOf e)
-            (columns-below (length rs) e r) (references rs e)) r;
-        shallow = rw (map-depth f e) d;
-      };
+      expr = record { inRange = prune-in-range rs e few r; shallow = rw (map-depth f e) d };
       arity = map-arity f e ∙ a;
     }
 
@@ -113,20 +118,20 @@ prune-bytes rs e =
     rw (frame-length (prune rs e))
     (omega (arith, keep-length (referenced rs e) rs, map-length (newIndex (referenced rs e) rs) e))
 
-prune-nodes : (rs : List Record) (e : Expr) → nodes (prune rs e .expr) ≡ nodes e
+pub prune-nodes : (rs : List Record) (e : Expr) → nodes (prune rs e .expr) ≡ nodes e
 unfolding prune
 prune-nodes rs e = map-nodes _ e
 
 -- ---- the extraction
 
 -- The bytes and nodes of an optional remainder.
-rest-readable : (rs : List Record) (rest : Option Expr) → length rs ≤ 256 → RecordsInRange rs
+pub rest-readable : (rs : List Record) (rest : Option Expr) → length rs ≤ 256 → RecordsInRange rs
     → RestIs (InRange (indexBelow (length rs))) rest → RestIs (λ x. depth x ≤ 64) rest → RestIs (λ x. arity x ≡ true) rest
     → ReadableRemainder (Option·map (prune rs) rest)
 rest-readable rs none few rr r d a = tt
 rest-readable rs (some e) few rr r d a = prune-readable rs e few rr r d a
 
-rest-length : (rs : List Record) (rest : Option Expr)
+pub rest-length : (rs : List Record) (rest : Option Expr)
     → length (remainderBytes (Option·map (prune rs) rest)) ≤ 1 + 5 * length rs + restBytes rest
 unfolding remainderBytes restBytes
 rest-length rs none = omega arith

@@ -12,7 +12,7 @@ use Rattle.definitions.specs.Basics.{if_then_else_, ascii, sameName}
 use Rattle.definitions.specs.Expression.{Side, Relation, Expr, column, literal, and, binary, call, other, field, Exprs, nil, cons, Record, knn}
 use Rattle.definitions.specs.Literals.{literalInRange, numberBool}
 use Rattle.definitions.specs.Leaves.{relationNamed}
-use Rattle.definitions.specs.Match.{literalK, literalBool, knnLiterals, knnRequest, matchLeaf}
+use Rattle.definitions.specs.Match.{literalK, literalBool, knnLiterals, knnRequest, knnRequestBy, matchLeaf}
 use Rattle.definitions.specs.Decode.{Columns, indexBelow}
 use Rattle.definitions.specs.Good.{InRange, InRangeAll}
 use Rattle.definitions.specs.Meaning.{Valuation, Meaning, value, values, frameColumns, Fair}
@@ -84,7 +84,7 @@ given-asked (some k) (some spheroid) (some ties) a b f = ap (λ (t : Bool). if t
 knn-asked : (c : Columns) (M : Meaning) (columns : ℕ → ℕ) (a b : Expr) (more : Exprs) → InRangeAll c (cons a (cons b more))
     → Asked (λ k spheroid ties. byCount (length (values M columns (cons a (cons b more)))) ≡ byTies ties)
     (knnRequest (cons a (cons b more)))
-unfolding knnRequest values
+unfolding knnRequestBy values
 knn-asked c M columns a b nil r = refl
 knn-asked c M columns a b (cons k nil) r = absent-asked (literalK k) (some 0) a b
 knn-asked c M columns a b (cons k (cons s nil)) r = absent-asked (literalK k) (literalBool s) a b
@@ -101,7 +101,7 @@ counting-knn v rs name a b more within k spheroid ties probe l r e =
     let es : Exprs = cons a (cons b more) in
     let f : ℕ → ℕ = frameColumns v rs in
     subst (Matched (λ k spheroid ties. value counting f (call name es) ≡ byTies ties)) e
-    (leaf-matched (λ k spheroid ties. value counting f (call name es) ≡ byTies ties) rs name a b more (λ n.
+    (leaf-matched (λ k spheroid ties. value counting f (call name es) ≡ byTies ties) 1 rs name a b more (λ n.
     subst (λ (x : List ℕ). Asked (λ k spheroid ties. value counting f (call x es) ≡ byTies ties) (knnRequest es)) (sym n)
     (unfold value everything in knn-asked (indexBelow (length rs)) counting f a b more within)))
 

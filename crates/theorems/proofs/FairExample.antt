@@ -9,15 +9,20 @@ use lib.Dec.{leb, ltb, eqb}
 use lib.IntN.{ℤ, pos}
 use borrow.Author.Tests.{eqb-true, eqb-false, eq-eqb, ne-eqb}
 use Rattle.definitions.specs.Basics.{if_then_else_, given_then_else_, ascii, sameName}
-use Rattle.definitions.specs.Expression.{Side, Relation, intersects, contains, within, covers, coveredBy, touches, crosses, overlaps, equals, Expr, column, literal, and, binary, call, other, field, Exprs, nil, cons, Record, knn, invert}
+use Rattle.definitions.specs.Expression.{Side, Relation, intersects, contains, within, covers, coveredBy, touches, crosses, overlaps, equals, Expr, column, literal, and, binary, call, other, field, Exprs, nil, cons, Record, Predicate, knn, invert}
 use Rattle.definitions.specs.Literals.{signed, u32, numberU32, isK, onlyK}
 use Rattle.definitions.specs.Leaves.{relationNamed}
-use Rattle.definitions.specs.Match.{literalU32, literalK, literalBool, knnLiterals, knnRequest, matchLeaf}
-use Rattle.definitions.specs.Meaning.{Valuation, Meaning, value, frameColumns, Fair}
+use Rattle.definitions.specs.Match.{literalU32, literalK, literalBool, knnLiterals, knnRequestBy, matchLeafBy}
+use Rattle.definitions.specs.Extract.{Matcher}
+use Rattle.definitions.specs.Meaning.{Valuation, Meaning, value, frameColumns, FairBy, Fair}
+use Rattle.definitions.specs.Settings.{Settings, defaultSettings, allowed, onlyIf, matchUnder}
+use Rattle.definitions.specs.SettingsClaims.{FairMeaningUnder}
 use Rattle.definitions.specs.ValueClaims.{FairMeaning, markedFrame, markCopied, MarksStay}
 use Rattle.definitions.proofs.Everything.{everything}
 use Rattle.theorems.proofs.Tools.{by-test}
 use Rattle.theorems.proofs.KnnLeaves.{Asked, Matched, leaf-matched}
+use Rattle.theorems.proofs.OnlyIf.{passing-is}
+use Rattle.theorems.proofs.SettingsLaws.{default-match}
 
 -- ---- points on a line
 
@@ -69,19 +74,19 @@ ofThree f missing (a ∷ b ∷ []) = f a b missing
 ofThree f missing (a ∷ b ∷ c ∷ more) = f a b c
 
 -- A function by its relation, else by its name; any other is unknown.
-called : Option Relation → (name : List ℕ) → (arguments : List ℕ) → ℕ
-called (some type) name arguments = ofTwo (related type) arguments
-called none name arguments =
+called : (default : ℕ) → Option Relation → (name : List ℕ) → (arguments : List ℕ) → ℕ
+called d (some type) name arguments = ofTwo (related type) arguments
+called d none name arguments =
     if sameName name (ascii "st_distance") then ofTwo apart arguments else
     if sameName name (ascii "st_dwithin") then ofThree near 0 arguments else
-    if sameName name (ascii "st_knn") then ofThree near 1 arguments else
+    if sameName name (ascii "st_knn") then ofThree near d arguments else
     2
 
-pub points : Meaning
-points = record {
+pub points : (default : ℕ) → Meaning
+points d = record {
   literalValue = λ type bytes. bytes;
   binaryValue = compared;
-  callValue = λ name arguments. called (relationNamed name) name arguments;
+  callValue = λ name arguments. called d (relationNamed name) name arguments;
   otherValue = λ tag children. 2;
   fieldValue = λ bits tag. 2;
   relationValue = related;
@@ -127,17 +132,17 @@ unfolding signed
 signed-has bytes =
     by-test (λ (z : ℤ). Has bytes (u32 z)) (ltb bytes 9223372036854775808) (pos bytes) _ (λ _. u32-has bytes) (λ _. unfold u32 in tt)
 
-literal-has : (columns : ℕ → ℕ) (e : Expr) → Has (value points columns e) (literalU32 e)
+literal-has : (d : ℕ) (columns : ℕ → ℕ) (e : Expr) → Has (value (points d) columns e) (literalU32 e)
 unfolding literalU32 numberU32 value points
-literal-has columns (literal type bytes) =
+literal-has d columns (literal type bytes) =
     by-test (Has bytes) (eqb type 2 || eqb type 3) _ _ (λ _. signed-has bytes)
     (λ _. by-test (Has bytes) (eqb type 4 || eqb type 5) _ _ (λ _. u32-has bytes) (λ _. tt))
-literal-has columns (column index tag) = tt
-literal-has columns (and l r) = tt
-literal-has columns (binary operator l r) = tt
-literal-has columns (call name arguments) = tt
-literal-has columns (other tag children) = tt
-literal-has columns (field bits tag) = tt
+literal-has d columns (column index tag) = tt
+literal-has d columns (and l r) = tt
+literal-has d columns (binary operator l r) = tt
+literal-has d columns (call name arguments) = tt
+literal-has d columns (other tag children) = tt
+literal-has d columns (field bits tag) = tt
 
 k-has : (v : ℕ) (n : Option ℕ) → Has v n → Has v (given n then onlyK else none)
 unfolding onlyK
@@ -153,20 +158,20 @@ literals-asked x y z v (some k) none ties a b h e = tt
 literals-asked x y z v (some k) (some spheroid) none a b h e = tt
 literals-asked x y z v (some k) (some spheroid) (some ties) a b h e = e ∙ ap (near y z) h
 
-module _ (columns : ℕ → ℕ) (a b : Expr) where
+module _ (d : ℕ) (columns : ℕ → ℕ) (a b : Expr) where
   -- A call of these two and further arguments has the value of KNN with this k.
   abbrev IsNear : (name : List ℕ) → (more : Exprs) → (k spheroid ties : ℕ) → Type 0
   IsNear name more k spheroid ties =
-      value points columns (call name (cons a (cons b more))) ≡ near (value points columns a) (value points columns b) k
+      value (points d) columns (call name (cons a (cons b more))) ≡ near (value (points d) columns a) (value (points d) columns b) k
 
   k-asked : (k : Expr) (more : Exprs) (spheroid ties : Option ℕ)
       → Asked (IsNear (ascii "st_knn") (cons k more)) (knnLiterals (literalK k) spheroid ties a b)
   unfolding points called ofThree everything
   k-asked k more spheroid ties =
-      let v = value points columns k in
-      literals-asked _ _ _ v (literalK k) spheroid ties a b (k-has v (literalU32 k) (literal-has columns k)) refl
+      let v = value (points d) columns k in
+      literals-asked _ _ _ v (literalK k) spheroid ties a b (k-has v (literalU32 k) (literal-has d columns k)) refl
 
-  knn-asked : (more : Exprs) → Asked (IsNear (ascii "st_knn") more) (knnRequest (cons a (cons b more)))
+  knn-asked : (more : Exprs) → Asked (IsNear (ascii "st_knn") more) (knnRequestBy d (cons a (cons b more)))
   unfolding points called ofThree everything
   knn-asked nil = refl
   knn-asked (cons k nil) = k-asked k nil (some 0) (some 2)
@@ -174,33 +179,45 @@ module _ (columns : ℕ → ℕ) (a b : Expr) where
   knn-asked (cons k (cons s (cons t nil))) = k-asked k (cons s (cons t nil)) (literalBool s) (literalBool t)
   knn-asked (cons k (cons s (cons t (cons u more)))) = tt
 
-points-knn : (v : Valuation) (rs : List Record) (name : List ℕ) (a b : Expr) (more : Exprs)
+points-knn : (d : ℕ) (test : Predicate → Bool) (v : Valuation) (rs : List Record) (name : List ℕ) (a b : Expr) (more : Exprs)
     → (k spheroid ties : ℕ) (probe : Side) (l r : Expr)
-    → matchLeaf rs (call name (cons a (cons b more))) ≡ some (knn k spheroid probe ties l r)
-    → value points (frameColumns v rs) (call name (cons a (cons b more)))
-    ≡ near (value points (frameColumns v rs) a) (value points (frameColumns v rs) b) k
-points-knn v rs name a b more k spheroid ties probe l r e =
+    → onlyIf test (matchLeafBy d) rs (call name (cons a (cons b more))) ≡ some (knn k spheroid probe ties l r)
+    → value (points d) (frameColumns v rs) (call name (cons a (cons b more)))
+    ≡ near (value (points d) (frameColumns v rs) a) (value (points d) (frameColumns v rs) b) k
+unfolding onlyIf
+points-knn d test v rs name a b more k spheroid ties probe l r e =
     let f : ℕ → ℕ = frameColumns v rs in
-    subst (Matched (IsNear f a b name more)) e (leaf-matched (IsNear f a b name more) rs name a b more (λ n.
-    subst (λ (x : List ℕ). Asked (IsNear f a b x more) (knnRequest (cons a (cons b more)))) (sym n) (knn-asked f a b more)))
+    subst (Matched (IsNear d f a b name more)) e
+    (passing-is test (Matched (IsNear d f a b name more)) tt (matchLeafBy d rs (call name (cons a (cons b more))))
+    (leaf-matched (IsNear d f a b name more) d rs name a b more (λ n.
+    subst (λ (x : List ℕ). Asked (IsNear d f a b x more) (knnRequestBy d (cons a (cons b more)))) (sym n) (knn-asked d f a b more))))
 
 -- ---- the meaning is fair
 
-points-fair : Fair points
+points-fair : (d : ℕ) (test : Predicate → Bool) → FairBy (onlyIf test (matchLeafBy d)) (points d)
 unfolding points called ofTwo ofThree everything
-points-fair = record {
-  relationCall = λ name type e a b more. ap (λ (r : Option Relation). called r name (a ∷ b ∷ more)) e;
+points-fair d test = record {
+  relationCall = λ name type e a b more. ap (λ (r : Option Relation). called d r name (a ∷ b ∷ more)) e;
   relationInverse = related-inverse;
   distanceCall = λ a b more. refl;
   distanceSymmetric = apart-symmetric;
   dwithinCall = λ a b bound more. refl;
   dwithinSymmetric = λ a b bound. ap (λ (d : ℕ). truth (leb d bound)) (apart-symmetric a b);
-  knnLeaf = λ v rs name a b more within. points-knn v rs name a b more;
+  knnLeaf = λ v rs name a b more within. points-knn d test v rs name a b more;
 }
+
+points-today : Fair (points 1)
+unfolding matchUnder defaultSettings
+points-today = subst (λ (m : Matcher). FairBy m (points 1)) default-match (points-fair 1 (allowed defaultSettings))
 
 pub fair-points : FairMeaning
 unfolding points related
-fair-points = (points, points-fair, refl, refl, refl, refl, refl, refl)
+fair-points = (points 1, points-today, refl, refl, refl, refl, refl, refl)
+
+-- Under all settings there is one.
+pub fair-under : FairMeaningUnder
+unfolding points related matchUnder
+fair-under S = (points (S .defaultK), points-fair (S .defaultK) (allowed S), refl, refl, refl, refl, refl, refl)
 
 -- ---- mark columns
 
@@ -212,4 +229,4 @@ byChild side child = child
 -- number 2, and is false.
 pub marks-left : MarksStay
 unfolding everything points called ofThree markedFrame markCopied byChild
-marks-left = (refl, (points, points-fair, byChild, refl, refl))
+marks-left = (refl, (points 1, points-today, byChild, refl, refl))

@@ -6,7 +6,7 @@ use mathlib.Core.Option.{Option, none, some}
 use Rattle.definitions.specs.Basics.{ascii, sameName}
 use Rattle.definitions.specs.Expression.{Side, left, right, noSide, Relation, Expr, call, Exprs, nil, cons, Record, Predicate, relation, distance, knn}
 use Rattle.definitions.specs.Leaves.{relationNamed}
-use Rattle.definitions.specs.Match.{Order, leftRight, rightLeft, noOrder, Request, askRelation, askDistance, askKnn, askNothing, relationRequest, dwithinRequest, knnRequest, callRequest, request, ArgumentSide, noColumns, allOn, mixed, matchRelation, storeDistance, matchDistance, matchKnn, matchRequest, matchLeaf}
+use Rattle.definitions.specs.Match.{Order, leftRight, rightLeft, noOrder, Request, askRelation, askDistance, askKnn, askNothing, relationRequest, dwithinRequest, callRequestBy, requestBy, ArgumentSide, noColumns, allOn, mixed, matchRelation, storeDistance, matchDistance, matchKnn, matchRequest, matchLeafBy, knnRequestBy}
 use Rattle.theorems.proofs.Tools.{by-test, same-name}
 
 module _ (Q : (k spheroid ties : ℕ) → Type 0) where
@@ -50,7 +50,7 @@ module _ (Q : (k spheroid ties : ℕ) → Type 0) where
   knn-matched k spheroid ties a b rightLeft h = h
   knn-matched k spheroid ties a b noOrder h = tt
 
-  request-matched : (rs : List Record) (q : Request) → Asked q → Matched (matchRequest rs q)
+  pub request-matched : (rs : List Record) (q : Request) → Asked q → Matched (matchRequest rs q)
   unfolding matchRequest
   request-matched rs (askRelation type a b) h = relation-matched type _ _ _
   request-matched rs (askDistance form a b bound) h = distance-matched rs form _ _ bound _ _
@@ -68,12 +68,14 @@ module _ (Q : (k spheroid ties : ℕ) → Type 0) where
   relation-asked (some type) a b more = tt
 
   -- A leaf of any name: asked only where the name is `st_knn`.
-  pub leaf-matched : (rs : List Record) (name : List ℕ) (a b : Expr) (more : Exprs)
-      → (name ≡ ascii "st_knn" → Asked (knnRequest (cons a (cons b more)))) → Matched (matchLeaf rs (call name (cons a (cons b more))))
-  unfolding matchLeaf request callRequest
-  leaf-matched rs name a b more h =
-      request-matched rs (callRequest name (cons a (cons b more))) (
-      by-test Asked (sameName name (ascii "st_knn")) (knnRequest (cons a (cons b more))) _ (λ e. h (same-name name (ascii "st_knn") e))
+  pub leaf-matched : (default : ℕ) (rs : List Record) (name : List ℕ) (a b : Expr) (more : Exprs)
+      → (name ≡ ascii "st_knn" → Asked (knnRequestBy default (cons a (cons b more))))
+      → Matched (matchLeafBy default rs (call name (cons a (cons b more))))
+  unfolding matchLeafBy requestBy callRequestBy
+  leaf-matched default rs name a b more h =
+      request-matched rs (callRequestBy default name (cons a (cons b more))) (
+      by-test Asked (sameName name (ascii "st_knn")) (knnRequestBy default (cons a (cons b more))) _
+      (λ e. h (same-name name (ascii "st_knn") e))
       (λ _. by-test Asked (sameName name (ascii "st_dwithin")) (dwithinRequest (cons a (cons b more))) _
       (λ _. dwithin-asked a b more) (λ _. relation-asked (relationNamed name) a b more))
       )

@@ -13,10 +13,12 @@ pub mod Requests
 pub mod MatchTurns
 pub mod MatchFits
 pub mod Values
+pub mod OnlyIf
 pub mod MatchAsks
 pub mod MatchMeans
+pub mod Moved
+pub mod SettingsLaws
 pub mod MatchLaws
-pub mod OnlyIf
 pub mod ExtractExchange
 pub mod Pick
 pub mod Walks
@@ -43,7 +45,7 @@ pub mod Figures
 pub mod PrintsApart
 pub mod TextLength
 pub mod PrintCall
-pub mod Moved
+pub mod MatchesMoved
 pub mod Merged
 pub mod MergeCall
 pub mod TablesRoom
@@ -68,6 +70,7 @@ pub mod QueueCalls
 pub mod QueueMachine
 pub mod QueueRuns
 pub mod QueueBound
+pub mod SettingsClaimed
 pub mod Table
 pub mod Refusals
 pub mod UpToLimits

@@ -8,25 +8,26 @@ use lib.ListN.{length}
 use lib.Dec.{eqb}
 use borrow.Author.Tests.{eqb-true}
 use Rattle.definitions.specs.Basics.{ascii, sameName}
-use Rattle.definitions.specs.Expression.{Side, Relation, Expr, column, literal, and, binary, call, other, field, Exprs, nil, cons, Record, knn}
+use Rattle.definitions.specs.Expression.{Side, Relation, Expr, column, literal, and, binary, call, other, field, Exprs, nil, cons, Record, Predicate, knn}
 use Rattle.definitions.specs.Leaves.{relationNamed, Comparison, compares, noComparison, comparison, distanceArguments}
 use Rattle.definitions.specs.Decode.{indexBelow}
-use Rattle.definitions.specs.Match.{Request, askRelation, askDistance, askKnn, askNothing, relationRequest, dwithinRequest, knnLiterals, knnRequest, callRequest, distanceRequest, comparisonRequest, request, matchRequest, matchLeaf}
+use Rattle.definitions.specs.Match.{Request, askRelation, askDistance, askKnn, askNothing, relationRequest, dwithinRequest, knnLiterals, knnRequestBy, callRequestBy, distanceRequest, comparisonRequest, requestBy, matchRequest, matchLeafBy}
 use Rattle.definitions.specs.Good.{InRange, InRangeAll}
-use Rattle.definitions.specs.Meaning.{Valuation, Meaning, value, values, frameColumns, distanceByForm, Fair}
+use Rattle.definitions.specs.Meaning.{Valuation, Meaning, value, values, frameColumns, distanceByForm, FairBy}
+use Rattle.definitions.specs.Settings.{passing, onlyIf}
 use Rattle.theorems.proofs.Tools.{by-test, same-name}
 
 -- ---- what a leaf asks for has the leaf's value
 
 -- (Of KNN only where it matches: nothing is asked of calls that do not.)
-abbrev pub MeansSame : Meaning → Valuation → List Record → (leaf : ℕ) → Request → Type 0
-MeansSame M v rs x (askRelation t a b) = x ≡ M .relationValue t (value M (frameColumns v rs) a) (value M (frameColumns v rs) b)
-MeansSame M v rs x (askDistance form a b d) =
+abbrev pub MeansSame : (Predicate → Bool) → Meaning → Valuation → List Record → (leaf : ℕ) → Request → Type 0
+MeansSame test M v rs x (askRelation t a b) = x ≡ M .relationValue t (value M (frameColumns v rs) a) (value M (frameColumns v rs) b)
+MeansSame test M v rs x (askDistance form a b d) =
     x ≡ distanceByForm M form (value M (frameColumns v rs) a) (value M (frameColumns v rs) b) (value M (frameColumns v rs) d)
-MeansSame M v rs x (askKnn k s t a b) =
-    (probe : Side) (l r : Expr) → matchRequest rs (askKnn k s t a b) ≡ some (knn k s probe t l r)
+MeansSame test M v rs x (askKnn k s t a b) =
+    (probe : Side) (l r : Expr) → passing test (matchRequest rs (askKnn k s t a b)) ≡ some (knn k s probe t l r)
     → x ≡ M .knnValue (value M (frameColumns v rs) a) (value M (frameColumns v rs) b) k s t
-MeansSame M v rs x askNothing = Unit {0}
+MeansSame test M v rs x askNothing = Unit {0}
 
 -- A KNN call asks for KNN of its first two arguments, or for nothing.
 abbrev FirstTwo : Exprs → Request → Type 0
@@ -42,15 +43,15 @@ first-two-literals (some k) none t a b more = tt
 first-two-literals (some k) (some s) none a b more = tt
 first-two-literals (some k) (some s) (some t) a b more = (more, refl)
 
-first-two : (es : Exprs) → FirstTwo es (knnRequest es)
-unfolding knnRequest
-first-two nil = tt
-first-two (cons a nil) = tt
-first-two (cons a (cons b nil)) = (nil, refl)
-first-two (cons a (cons b (cons k nil))) = first-two-literals _ _ _ a b _
-first-two (cons a (cons b (cons k (cons s nil)))) = first-two-literals _ _ _ a b _
-first-two (cons a (cons b (cons k (cons s (cons t nil))))) = first-two-literals _ _ _ a b _
-first-two (cons a (cons b (cons k (cons s (cons t (cons x more)))))) = tt
+first-two : (default : ℕ) (es : Exprs) → FirstTwo es (knnRequestBy default es)
+unfolding knnRequestBy
+first-two default nil = tt
+first-two default (cons a nil) = tt
+first-two default (cons a (cons b nil)) = (nil, refl)
+first-two default (cons a (cons b (cons k nil))) = first-two-literals _ _ _ a b _
+first-two default (cons a (cons b (cons k (cons s nil)))) = first-two-literals _ _ _ a b _
+first-two default (cons a (cons b (cons k (cons s (cons t nil))))) = first-two-literals _ _ _ a b _
+first-two default (cons a (cons b (cons k (cons s (cons t (cons x more)))))) = tt
 
 -- A number that equals one of two.
 one-of-by : (P : ℕ → Type 0) (o p q : ℕ) (b : Bool) → eqb o p ≡ b → P p → P q → (b || eqb o q) ≡ true → P o
@@ -70,51 +71,54 @@ unfolding distanceByForm
 form-right M o a b d = one-of (λ o. M .binaryValue o d (M .distanceValue a b) ≡ distanceByForm M o a b d) o 3 4 refl refl
 
 -- A leaf that is an `st_knn` call asks what its arguments ask.
-knn-leaf : (rs : List Record) (es : Exprs) → matchLeaf rs (call (ascii "st_knn") es) ≡ matchRequest rs (knnRequest es)
-unfolding matchLeaf request callRequest sameName ascii
-knn-leaf rs es = refl
+knn-leaf : (default : ℕ) (rs : List Record) (es : Exprs)
+    → matchLeafBy default rs (call (ascii "st_knn") es) ≡ matchRequest rs (knnRequestBy default es)
+unfolding matchLeafBy requestBy callRequestBy sameName ascii
+knn-leaf default rs es = refl
 
-module _ (M : Meaning) (fair : Fair M) (v : Valuation) (rs : List Record) where
+module _ (default : ℕ) (test : Predicate → Bool) (M : Meaning) (fair : FairBy (onlyIf test (matchLeafBy default)) M) (v : Valuation)
+    (rs : List Record) where
   abbrev f : ℕ → ℕ
   f = frameColumns v rs
 
   relation-means : (name : List ℕ) (t : Option Relation) (es : Exprs) → relationNamed name ≡ t
-      → MeansSame M v rs (M .callValue name (values M f es)) (relationRequest t es)
+      → MeansSame test M v rs (M .callValue name (values M f es)) (relationRequest t es)
   unfolding relationRequest value
   relation-means name none es e = tt
   relation-means name (some t) nil e = tt
   relation-means name (some t) (cons a nil) e = tt
   relation-means name (some t) (cons a (cons b more)) e = fair .relationCall name t e (value M f a) (value M f b) (values M f more)
 
-  dwithin-means : (es : Exprs) → MeansSame M v rs (M .callValue (ascii "st_dwithin") (values M f es)) (dwithinRequest es)
+  dwithin-means : (es : Exprs) → MeansSame test M v rs (M .callValue (ascii "st_dwithin") (values M f es)) (dwithinRequest es)
   unfolding dwithinRequest value distanceByForm
   dwithin-means nil = tt
   dwithin-means (cons a nil) = tt
   dwithin-means (cons a (cons b nil)) = tt
   dwithin-means (cons a (cons b (cons d more))) = fair .dwithinCall (value M f a) (value M f b) (value M f d) (values M f more)
 
-  knn-means : (es : Exprs) → InRangeAll (indexBelow (length rs)) es → (q : Request) → knnRequest es ≡ q → FirstTwo es q
-      → MeansSame M v rs (M .callValue (ascii "st_knn") (values M f es)) q
-  unfolding value
+  knn-means : (es : Exprs) → InRangeAll (indexBelow (length rs)) es → (q : Request) → knnRequestBy default es ≡ q → FirstTwo es q
+      → MeansSame test M v rs (M .callValue (ascii "st_knn") (values M f es)) q
+  unfolding value onlyIf
   knn-means es within (askRelation t a b) e o = absurd o
   knn-means es within (askDistance form a b d) e o = absurd o
   knn-means es within (askKnn k s t a b) e o = λ probe l r m.
-      let of-two : matchLeaf rs (call (ascii "st_knn") (cons a (cons b (o .0)))) ≡ some (knn k s probe t l r) =
-      knn-leaf rs (cons a (cons b (o .0))) ∙ ap (matchRequest rs) (ap knnRequest (sym (o .1)) ∙ e) ∙ m in
+      let of-two : passing test (matchLeafBy default rs (call (ascii "st_knn") (cons a (cons b (o .0))))) ≡ some (knn k s probe t l r) =
+      ap (passing test) (knn-leaf default rs (cons a (cons b (o .0)))
+      ∙ ap (matchRequest rs) (ap (knnRequestBy default) (sym (o .1)) ∙ e)) ∙ m in
       ap (λ (x : Exprs). M .callValue (ascii "st_knn") (values M f x)) (o .1)
       ∙ fair .knnLeaf v rs (ascii "st_knn") a b (o .0) (subst (InRangeAll (indexBelow (length rs))) (o .1) within) k s t probe l r of-two
   knn-means es within askNothing e o = tt
 
   call-means : (name : List ℕ) (es : Exprs) → InRangeAll (indexBelow (length rs)) es
-      → MeansSame M v rs (M .callValue name (values M f es)) (callRequest name es)
-  unfolding callRequest
+      → MeansSame test M v rs (M .callValue name (values M f es)) (callRequestBy default name es)
+  unfolding callRequestBy
   call-means name es within =
-      by-test (MeansSame M v rs (M .callValue name (values M f es))) (sameName name (ascii "st_knn")) (knnRequest es) _
-      (λ e. subst (λ (x : List ℕ). MeansSame M v rs (M .callValue x (values M f es)) (knnRequest es))
-      (sym (same-name name (ascii "st_knn") e)) (knn-means es within (knnRequest es) refl (first-two es)))
-      (λ _. by-test (MeansSame M v rs (M .callValue name (values M f es))) (sameName name (ascii "st_dwithin")) (dwithinRequest es)
+      by-test (MeansSame test M v rs (M .callValue name (values M f es))) (sameName name (ascii "st_knn")) (knnRequestBy default es) _
+      (λ e. subst (λ (x : List ℕ). MeansSame test M v rs (M .callValue x (values M f es)) (knnRequestBy default es))
+      (sym (same-name name (ascii "st_knn") e)) (knn-means es within (knnRequestBy default es) refl (first-two default es)))
+      (λ _. by-test (MeansSame test M v rs (M .callValue name (values M f es))) (sameName name (ascii "st_dwithin")) (dwithinRequest es)
       (relationRequest (relationNamed name) es)
-      (λ e. subst (λ (x : List ℕ). MeansSame M v rs (M .callValue x (values M f es)) (dwithinRequest es))
+      (λ e. subst (λ (x : List ℕ). MeansSame test M v rs (M .callValue x (values M f es)) (dwithinRequest es))
       (sym (same-name name (ascii "st_dwithin") e)) (dwithin-means es))
       (λ e. relation-means name (relationNamed name) es refl))
 
@@ -122,7 +126,7 @@ module _ (M : Meaning) (fair : Fair M) (v : Valuation) (rs : List Record) where
   arguments-means : (x o : ℕ) (d : Expr) (es : Exprs)
       → ((a b : Expr) → M .callValue (ascii "st_distance") (values M f es) ≡ M .distanceValue (value M f a) (value M f b)
       → x ≡ distanceByForm M o (value M f a) (value M f b) (value M f d))
-      → MeansSame M v rs x (distanceRequest o d (some es))
+      → MeansSame test M v rs x (distanceRequest o d (some es))
   unfolding distanceRequest value
   arguments-means x o d nil h = tt
   arguments-means x o d (cons a nil) h = tt
@@ -131,14 +135,14 @@ module _ (M : Meaning) (fair : Fair M) (v : Valuation) (rs : List Record) where
   measured-means : (x o : ℕ) (m d : Expr)
       → ((a b : Expr) → value M f m ≡ M .distanceValue (value M f a) (value M f b)
       → x ≡ distanceByForm M o (value M f a) (value M f b) (value M f d))
-      → MeansSame M v rs x (distanceRequest o d (distanceArguments m))
+      → MeansSame test M v rs x (distanceRequest o d (distanceArguments m))
   unfolding distanceArguments distanceRequest value
   measured-means x o (column i t) d h = tt
   measured-means x o (literal type v) d h = tt
   measured-means x o (and l r) d h = tt
   measured-means x o (binary p l r) d h = tt
   measured-means x o (call name es) d h =
-      by-test (λ (y : Option Exprs). MeansSame M v rs x (distanceRequest o d y)) (sameName name (ascii "st_distance")) (some es) none
+      by-test (λ (y : Option Exprs). MeansSame test M v rs x (distanceRequest o d y)) (sameName name (ascii "st_distance")) (some es) none
       (λ e. arguments-means x o d es
       (λ a b p. h a b (ap (λ (y : List ℕ). M .callValue y (values M f es)) (same-name name (ascii "st_distance") e) ∙ p)))
       (λ e. tt)
@@ -146,19 +150,19 @@ module _ (M : Meaning) (fair : Fair M) (v : Valuation) (rs : List Record) where
   measured-means x o (field b t) d h = tt
 
   comparison-means : (o : ℕ) (l r : Expr)
-      → MeansSame M v rs (M .binaryValue o (value M f l) (value M f r)) (comparisonRequest o (comparison o l r))
+      → MeansSame test M v rs (M .binaryValue o (value M f l) (value M f r)) (comparisonRequest o (comparison o l r))
   unfolding comparison comparisonRequest
   comparison-means o l r =
-      by-test (λ (c : Comparison). MeansSame M v rs (M .binaryValue o (value M f l) (value M f r)) (comparisonRequest o c))
+      by-test (λ (c : Comparison). MeansSame test M v rs (M .binaryValue o (value M f l) (value M f r)) (comparisonRequest o c))
       (eqb o 1 || eqb o 2) (compares l r) _
       (λ e. measured-means _ o l r (λ a b p. ap (λ (y : ℕ). M .binaryValue o y (value M f r)) p ∙ form-left M o _ _ _ e))
-      (λ _. by-test (λ (c : Comparison). MeansSame M v rs (M .binaryValue o (value M f l) (value M f r)) (comparisonRequest o c))
+      (λ _. by-test (λ (c : Comparison). MeansSame test M v rs (M .binaryValue o (value M f l) (value M f r)) (comparisonRequest o c))
       (eqb o 3 || eqb o 4) (compares r l) noComparison
       (λ e. measured-means _ o r l (λ a b p. ap (λ (y : ℕ). M .binaryValue o (value M f l) y) p ∙ form-right M o _ _ _ e))
       (λ e. tt))
 
-  pub request-means : (e : Expr) → InRange (indexBelow (length rs)) e → MeansSame M v rs (value M f e) (request e)
-  unfolding request value
+  pub request-means : (e : Expr) → InRange (indexBelow (length rs)) e → MeansSame test M v rs (value M f e) (requestBy default e)
+  unfolding requestBy value
   request-means (column i t) within = tt
   request-means (literal type v) within = tt
   request-means (and l r) within = tt

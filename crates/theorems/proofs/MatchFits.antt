@@ -2,6 +2,8 @@
 use Prim.Native.Nat.{ℕ, zero, suc, _≤_}
 use native.Mathlib.Omega.{arith}
 use mathlib.Core.Path.{_≡_, refl}
+use mathlib.Core.Bool.{true}
+use Rattle.definitions.specs.Literals.{isK}
 use mathlib.Core.List.{List, [], _∷_}
 use mathlib.Core.Option.{some}
 use lib.ListN.{length, length-append}
@@ -12,7 +14,7 @@ use Rattle.definitions.specs.Expression.{Side, left, right, noSide, Relation, E
 use Rattle.definitions.specs.Encode.{exprBytes, predicateFields}
 use Rattle.definitions.specs.Decode.{indexBelow}
 use Rattle.definitions.specs.References.{recordAt, columnsOf}
-use Rattle.definitions.specs.Match.{Order, leftRight, rightLeft, noOrder, Request, askRelation, askDistance, askKnn, askNothing, request, onChild, ArgumentSide, noColumns, allOn, mixed, sideOf, orderOf, matchRelation, storeDistance, matchDistance, matchKnn, matchRequest, matchLeaf}
+use Rattle.definitions.specs.Match.{Order, leftRight, rightLeft, noOrder, Request, askRelation, askDistance, askKnn, askNothing, onChild, ArgumentSide, noColumns, allOn, mixed, sideOf, orderOf, matchRelation, storeDistance, matchDistance, matchKnn, matchRequest, matchLeafBy, requestBy}
 use Rattle.definitions.specs.Good.{OneOfTwo, nodes, depth, Short, InRange, Readable, RecordsInRange, predicateNodes}
 use Rattle.definitions.specs.Matchers.{Fits}
 use Rattle.theorems.proofs.Columns.{all-every, Fits as FitsIn, map-length, map-nodes, map-depth, map-in-range, widen}
@@ -144,9 +146,9 @@ module _ (rs : List Record) (b room size levels : ℕ) (rr : RecordsInRange rs) 
   request-sized (askKnn k sp t x y) h = knn-sized k sp t x y h (orderOf (sideOf rs x) (sideOf rs y))
   request-sized askNothing h = tt
 
-pub match-fits : (rs : List Record) (e : Expr) → RecordsInRange rs → Readable (indexBelow (length rs)) e
-    → Fits (length (exprBytes e)) (nodes e) (matchLeaf rs e)
-unfolding matchLeaf
-match-fits rs e rr h =
-    request-sized rs (length rs) (length (exprBytes e)) (nodes e) (depth e) rr (h .shallow) (request e)
-    (request-within (indexBelow (length rs)) e (h .inRange))
+pub match-fits : (default : ℕ) → isK default ≡ true → (rs : List Record) (e : Expr) → RecordsInRange rs
+    → Readable (indexBelow (length rs)) e → Fits (length (exprBytes e)) (nodes e) (matchLeafBy default rs e)
+unfolding matchLeafBy
+match-fits default is rs e rr h =
+    request-sized rs (length rs) (length (exprBytes e)) (nodes e) (depth e) rr (h .shallow) (requestBy default e)
+    (request-within default is (indexBelow (length rs)) e (h .inRange))

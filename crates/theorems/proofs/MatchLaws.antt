@@ -1,14 +1,11 @@
--- 01's matcher obeys the laws of a matcher.
+-- 01's matcher obeys the laws of a matcher: it is matching under the default settings.
+use mathlib.Core.Path.{subst}
 use Rattle.definitions.specs.Match.{matchLeaf}
+use Rattle.definitions.specs.Extract.{Matcher}
 use Rattle.definitions.specs.Matchers.{Lawful}
-use Rattle.definitions.specs.Meaning.{Fair}
-use Rattle.theorems.proofs.MatchTurns.{match-turns}
-use Rattle.theorems.proofs.MatchFits.{match-fits}
-use Rattle.theorems.proofs.MatchMeans.{leaf-match}
+use Rattle.definitions.specs.Meaning.{FairBy, Fair}
+use Rattle.definitions.specs.Settings.{defaultSettings}
+use Rattle.theorems.proofs.SettingsLaws.{settings-laws, default-good, default-match}
 
 pub match-laws : Lawful matchLeaf Fair
-match-laws = record {
-  turns = match-turns;
-  fits = match-fits;
-  means = λ M v rs e fair. leaf-match M fair v rs e;
-}
+match-laws = subst (λ (m : Matcher). Lawful m (FairBy m)) default-match (settings-laws defaultSettings default-good)

@@ -4,16 +4,20 @@ use native.Mathlib.Omega.{arith}
 use mathlib.Core.Path.{_≡_, refl, sym, ap, ap₂, _∙_, subst}
 use mathlib.Core.Bool.{Bool, true, false, false≢true}
 use mathlib.Core.List.{List, [], _∷_, map}
+use mathlib.Core.Option.{Option, none, some}
 use lib.ListN.{length}
 use Rattle.definitions.specs.Basics.{if_then_else_, all}
-use Rattle.definitions.specs.Expression.{Side, left, right, noSide, Relation, Expr, Record}
+use Rattle.definitions.specs.Expression.{Side, left, right, noSide, Relation, Expr, Record, Predicate, knn}
 use Rattle.definitions.specs.Decode.{indexBelow}
 use Rattle.definitions.specs.References.{columnsOf, recordAt, sameSide}
-use Rattle.definitions.specs.Match.{ArgumentSide, noColumns, allOn, mixed, commonSide, sideOf, isSide, Order, leftRight, rightLeft, noOrder, orderOf, onChild, Request, askRelation, askDistance, askKnn, askNothing, request, matchRelation, storeDistance, matchDistance, matchKnn, matchRequest, matchLeaf}
+use Rattle.definitions.specs.Match.{ArgumentSide, noColumns, allOn, mixed, commonSide, sideOf, isSide, Order, leftRight, rightLeft, noOrder, orderOf, onChild, Request, askRelation, askDistance, askKnn, askNothing, matchRelation, storeDistance, matchDistance, matchKnn, matchRequest, matchLeafBy, requestBy}
 use Rattle.definitions.specs.Exchange.{negate}
 use Rattle.definitions.specs.Good.{All, InRange}
-use Rattle.definitions.specs.Meaning.{Valuation, Meaning, value, frameColumns, predicateValue, Fair}
-use Rattle.theorems.proofs.Tools.{and-both}
+use Rattle.definitions.specs.Meaning.{Valuation, Meaning, value, frameColumns, predicateValue, FairBy}
+use Rattle.definitions.specs.Extract.{Matcher}
+use Rattle.definitions.specs.Settings.{passing, onlyIf}
+use Rattle.theorems.proofs.Tools.{by-test, and-both}
+use Rattle.theorems.proofs.OnlyIf.{passing-is}
 use Rattle.definitions.specs.Matchers.{Valued}
 use Rattle.theorems.proofs.Values.{map-value, same-value, form-symmetric}
 use Rattle.theorems.proofs.MatchAsks.{MeansSame, request-means}
@@ -65,7 +69,7 @@ unfolding commonSide
 no-columns P g [] e = tt
 no-columns P g (i ∷ is) e = absurd (mixed-or-all (all (sameSide (g i)) (map g is)) (g i) e)
 
-map-all : (P Q : ℕ → Type 0) → ((i : ℕ) → P i → Q i) → (is : List ℕ) → All P is → All Q is
+pub map-all : (P Q : ℕ → Type 0) → ((i : ℕ) → P i → Q i) → (is : List ℕ) → All P is → All Q is
 map-all P Q f [] h = tt
 map-all P Q f (i ∷ is) h = (f i (h .0), map-all P Q f is (h .1))
 
@@ -108,8 +112,8 @@ order-is (allOn right) (allOn noSide) = tt
 order-is (allOn right) mixed = tt
 order-is (allOn noSide) b = tt
 
-module _ (M : Meaning) (fair : Fair M) (v : Valuation) (rs : List Record) (x : ℕ) where
-  relation-match : (t : Relation) (a b : Expr) → MeansSame M v rs x (askRelation t a b)
+module _ {match : Matcher} (test : Predicate → Bool) (M : Meaning) (fair : FairBy match M) (v : Valuation) (rs : List Record) (x : ℕ) where
+  relation-match : (t : Relation) (a b : Expr) → MeansSame test M v rs x (askRelation t a b)
       → (o : Order) → OrderIs (sideOf rs a) (sideOf rs b) o → Valued M v x (matchRelation t (onChild rs a) (onChild rs b) o)
   unfolding matchRelation predicateValue
   relation-match t a b h leftRight s =
@@ -119,7 +123,7 @@ module _ (M : Meaning) (fair : Fair M) (v : Valuation) (rs : List Record) (x : �
       ∙ sym (fair .relationInverse t _ _)
   relation-match t a b h noOrder s = tt
 
-  stored-match : (form : ℕ) (a b d : Expr) → MeansSame M v rs x (askDistance form a b d)
+  stored-match : (form : ℕ) (a b d : Expr) → MeansSame test M v rs x (askDistance form a b d)
       → (side : Side) (bound : Expr) → value M (frameColumns v rs) d ≡ value M (v side) bound
       → (o : Order) → OrderIs (sideOf rs a) (sideOf rs b) o
       → Valued M v x (storeDistance form side (onChild rs a) (onChild rs b) bound o)
@@ -130,7 +134,7 @@ module _ (M : Meaning) (fair : Fair M) (v : Valuation) (rs : List Record) (x : �
       rw (← (argument-value M v rs a right (s .0)), ← (argument-value M v rs b left (s .1)), ← e) (h ∙ form-symmetric M fair form _ _ _)
   stored-match form a b d h side bound e noOrder s = tt
 
-  distance-match : (form : ℕ) (a b d : Expr) → MeansSame M v rs x (askDistance form a b d)
+  distance-match : (form : ℕ) (a b d : Expr) → MeansSame test M v rs x (askDistance form a b d)
       → (z : ArgumentSide) → sideOf rs d ≡ z → (o : Order) → OrderIs (sideOf rs a) (sideOf rs b) o
       → Valued M v x (matchDistance rs form (onChild rs a) (onChild rs b) d z o)
   unfolding matchDistance
@@ -140,28 +144,44 @@ module _ (M : Meaning) (fair : Fair M) (v : Valuation) (rs : List Record) (x : �
   distance-match form a b d h (allOn noSide) e o s = tt
   distance-match form a b d h mixed e o s = tt
 
-  knn-match : (k sp t : ℕ) (a b : Expr) → MeansSame M v rs x (askKnn k sp t a b) → (o : Order) → orderOf (sideOf rs a) (sideOf rs b) ≡ o
-      → OrderIs (sideOf rs a) (sideOf rs b) o → Valued M v x (matchKnn k sp t (onChild rs a) (onChild rs b) o)
-  unfolding matchRequest matchKnn predicateValue negate
+  knn-match : (k sp t : ℕ) (a b : Expr) → MeansSame test M v rs x (askKnn k sp t a b) → (o : Order) → orderOf (sideOf rs a) (sideOf rs b)
+      ≡ o
+      → OrderIs (sideOf rs a) (sideOf rs b) o → Valued M v x (passing test (matchKnn k sp t (onChild rs a) (onChild rs b) o))
+  unfolding matchRequest matchKnn predicateValue negate passing
   knn-match k sp t a b h leftRight e s =
-      h left (onChild rs a) (onChild rs b) (ap (matchKnn k sp t (onChild rs a) (onChild rs b)) e)
-      ∙ ap₂ (λ (p q : ℕ). M .knnValue p q k sp t) (argument-value M v rs a left (s .0)) (argument-value M v rs b right (s .1))
+      let p : Predicate = knn k sp left t (onChild rs a) (onChild rs b) in
+      by-test (Valued M v x) (test p) (some p) none
+      (λ yes. h left (onChild rs a) (onChild rs b)
+      (ap (λ (o : Order). passing test (matchKnn k sp t (onChild rs a) (onChild rs b) o)) e
+      ∙ ap (λ (y : Bool). if y then some p else none) yes)
+      ∙ ap₂ (λ (p q : ℕ). M .knnValue p q k sp t) (argument-value M v rs a left (s .0)) (argument-value M v rs b right (s .1)))
+      (λ _. tt)
   knn-match k sp t a b h rightLeft e s =
-      h right (onChild rs a) (onChild rs b) (ap (matchKnn k sp t (onChild rs a) (onChild rs b)) e)
-      ∙ ap₂ (λ (p q : ℕ). M .knnValue p q k sp t) (argument-value M v rs a right (s .0)) (argument-value M v rs b left (s .1))
+      let p : Predicate = knn k sp right t (onChild rs a) (onChild rs b) in
+      by-test (Valued M v x) (test p) (some p) none
+      (λ yes. h right (onChild rs a) (onChild rs b)
+      (ap (λ (o : Order). passing test (matchKnn k sp t (onChild rs a) (onChild rs b) o)) e
+      ∙ ap (λ (y : Bool). if y then some p else none) yes)
+      ∙ ap₂ (λ (p q : ℕ). M .knnValue p q k sp t) (argument-value M v rs a right (s .0)) (argument-value M v rs b left (s .1)))
+      (λ _. tt)
   knn-match k sp t a b h noOrder e s = tt
 
-request-match : (M : Meaning) → Fair M → (v : Valuation) (rs : List Record) (x : ℕ) (q : Request)
-    → MeansSame M v rs x q → Valued M v x (matchRequest rs q)
-unfolding matchRequest
-request-match M fair v rs x (askRelation t a b) h = relation-match M fair v rs x t a b h _ (order-is (sideOf rs a) (sideOf rs b))
-request-match M fair v rs x (askDistance form a b d) h =
-    distance-match M fair v rs x form a b d h (sideOf rs d) refl _ (order-is (sideOf rs a) (sideOf rs b))
-request-match M fair v rs x (askKnn k s t a b) h = knn-match M fair v rs x k s t a b h _ refl (order-is (sideOf rs a) (sideOf rs b))
-request-match M fair v rs x askNothing h = tt
+  request-match : (q : Request) → MeansSame test M v rs x q → Valued M v x (passing test (matchRequest rs q))
+  unfolding matchRequest passing
+  request-match (askRelation t a b) h =
+      let o : Order = orderOf (sideOf rs a) (sideOf rs b) in
+      passing-is test (Valued M v x) tt (matchRelation t (onChild rs a) (onChild rs b) o)
+      (relation-match t a b h o (order-is (sideOf rs a) (sideOf rs b)))
+  request-match (askDistance form a b d) h =
+      let o : Order = orderOf (sideOf rs a) (sideOf rs b) in
+      passing-is test (Valued M v x) tt (matchDistance rs form (onChild rs a) (onChild rs b) d (sideOf rs d) o)
+      (distance-match form a b d h (sideOf rs d) refl o (order-is (sideOf rs a) (sideOf rs b)))
+  request-match (askKnn k s t a b) h = knn-match k s t a b h _ refl (order-is (sideOf rs a) (sideOf rs b))
+  request-match askNothing h = tt
 
-pub leaf-match : (M : Meaning) → Fair M → (v : Valuation) (rs : List Record) (e : Expr) → InRange (indexBelow (length rs)) e
-    → Valued M v (value M (frameColumns v rs) e) (matchLeaf rs e)
-unfolding matchLeaf
-leaf-match M fair v rs e r =
-    request-match M fair v rs (value M (frameColumns v rs) e) (request e) (request-means M fair v rs e r)
+pub leaf-match : (default : ℕ) (test : Predicate → Bool) (M : Meaning) → FairBy (onlyIf test (matchLeafBy default)) M → (v : Valuation)
+    (rs : List Record) (e : Expr) → InRange (indexBelow (length rs)) e
+    → Valued M v (value M (frameColumns v rs) e) (onlyIf test (matchLeafBy default) rs e)
+unfolding matchLeafBy onlyIf
+leaf-match default test M fair v rs e r =
+    request-match test M fair v rs (value M (frameColumns v rs) e) (requestBy default e) (request-means default test M fair v rs e r)

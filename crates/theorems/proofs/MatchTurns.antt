@@ -7,7 +7,7 @@ use mathlib.Core.Option.{Option, Option·map}
 use Rattle.definitions.specs.Basics.{if_then_else_, all}
 use Rattle.definitions.specs.Expression.{Side, left, right, noSide, Relation, Expr, Record, Predicate}
 use Rattle.definitions.specs.References.{recordAt, mapColumns, columnsOf, sameSide}
-use Rattle.definitions.specs.Match.{Order, leftRight, rightLeft, noOrder, Request, askRelation, askDistance, askKnn, askNothing, request, onChild, ArgumentSide, noColumns, allOn, mixed, commonSide, sideOf, isSide, orderOf, matchRelation, storeDistance, matchDistance, matchKnn, matchRequest, matchLeaf}
+use Rattle.definitions.specs.Match.{Order, leftRight, rightLeft, noOrder, Request, askRelation, askDistance, askKnn, askNothing, onChild, ArgumentSide, noColumns, allOn, mixed, commonSide, sideOf, isSide, orderOf, matchRelation, storeDistance, matchDistance, matchKnn, matchRequest, matchLeafBy, requestBy}
 use Rattle.definitions.specs.Exchange.{negate, exchangePredicate}
 use Rattle.theorems.proofs.Exchange.{invert-invert, swapped, child-at, side-at, same-negated}
 
@@ -118,6 +118,6 @@ request-swapped rs (askKnn k spheroid ties a b) =
 request-swapped rs askNothing = refl
 
 -- Over exchanged records the match of a leaf is the exchanged match.
-pub match-turns : (rs : List Record) (e : Expr) → matchLeaf (swapped rs) e ≡ exchanged (matchLeaf rs e)
-unfolding matchLeaf
-match-turns rs e = request-swapped rs (request e)
+pub match-turns : (default : ℕ) (rs : List Record) (e : Expr) → matchLeafBy default (swapped rs) e ≡ exchanged (matchLeafBy default rs e)
+unfolding matchLeafBy
+match-turns default rs e = request-swapped rs (requestBy default e)

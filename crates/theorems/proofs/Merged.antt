@@ -14,25 +14,26 @@ use Rattle.definitions.specs.Encode.{exprBytes, recordBytes, recordsBytes, fram
 use Rattle.definitions.specs.Leaves.{leaves, arity}
 use Rattle.definitions.specs.Decode.{indexBelow}
 use Rattle.definitions.specs.References.{columnsOf, mapColumns, recordAt}
-use Rattle.definitions.specs.Match.{matchLeaf}
-use Rattle.definitions.specs.Extract.{matchesBy, matchesOf}
+use Rattle.definitions.specs.Extract.{Matcher, matchesBy}
 use Rattle.definitions.specs.Good.{nodes, depth, InRange, RecordsInRange, ReadableFrame, planNodes, GoodPlan}
-use Rattle.definitions.specs.Meaning.{andValue, value, frameColumns, frameValue}
+use Rattle.definitions.specs.Meaning.{Meaning, andValue, value, frameColumns, frameValue}
+use Rattle.definitions.specs.Matchers.{Lawful}
 use Rattle.definitions.specs.Merge.{raised, mergeFrames, overLimits}
-use Rattle.definitions.specs.MergeClaims.{MergedGood, MergedValue, MergedLeaves}
+use Rattle.definitions.specs.MergeClaims.{MergedGood, MergedValue, MergedLeavesBy}
 use Rattle.theorems.proofs.Columns.{all-every, all-both, Fits, map-length, map-nodes, map-depth, map-in-range, map-leaves, map-arity, columns-below}
 use Rattle.theorems.proofs.Taken.{arity-and}
 use Rattle.theorems.proofs.ExchangeGood.{frame-length}
 use Rattle.theorems.proofs.Values.{map-value, same-value}
-use Rattle.theorems.proofs.Moved.{map-kept, leaves-moved}
+use Rattle.theorems.proofs.Moved.{map-kept}
+use Rattle.theorems.proofs.MatchesMoved.{leaves-moved}
 
 -- ---- records of the merged frame
 
-old-record : (rs rs′ : List Record) (i : ℕ) → i < length rs → recordAt (rs ++ rs′) i ≡ recordAt rs i
+pub old-record : (rs rs′ : List Record) (i : ℕ) → i < length rs → recordAt (rs ++ rs′) i ≡ recordAt rs i
 unfolding recordAt
 old-record rs rs′ i h = List·getD-append rs rs′ (record { side = noSide; child = 0; tag = 0 }) i h
 
-new-record : (rs rs′ : List Record) (i : ℕ) → recordAt (rs ++ rs′) (length rs + i) ≡ recordAt rs′ i
+pub new-record : (rs rs′ : List Record) (i : ℕ) → recordAt (rs ++ rs′) (length rs + i) ≡ recordAt rs′ i
 unfolding recordAt
 new-record rs rs′ i = getD-append-add rs rs′ i (record { side = noSide; child = 0; tag = 0 })
 
@@ -196,27 +197,28 @@ merged-value M v old new g =
 -- ---- leaves
 
 -- A held leaf stands as it did, over records that begin as they did.
-old-leaves : (rs rs′ : List Record) (e : Expr) → InRange (indexBelow (length rs)) e
-    → map (matchLeaf (rs ++ rs′)) (leaves e) ≡ map (matchLeaf rs) (leaves e)
-old-leaves rs rs′ e h =
-    ap (λ (x : Expr). map (matchLeaf (rs ++ rs′)) (leaves x)) (sym (map-kept e))
-    ∙ leaves-moved rs (rs ++ rs′) (λ i. i) (length rs) (λ i k. old-record rs rs′ i k) e h
+module _ {match : Matcher} {Asks : Meaning → Type 0} (laws : Lawful match Asks) where
+  pub old-leaves : (rs rs′ : List Record) (e : Expr) → InRange (indexBelow (length rs)) e
+      → map (match (rs ++ rs′)) (leaves e) ≡ map (match rs) (leaves e)
+  old-leaves rs rs′ e h =
+      ap (λ (x : Expr). map (match (rs ++ rs′)) (leaves x)) (sym (map-kept e))
+      ∙ leaves-moved laws rs (rs ++ rs′) (λ i. i) (length rs) (λ i k. old-record rs rs′ i k) e h
 
-matches-merged : (old new : Frame) → GoodPlan (held old) → GoodPlan (held new)
-    → matchesOf (mergeFrames old new) ≡ matchesOf old ++ matchesOf new
-unfolding matchesBy mergeFrames raised leaves
-matches-merged old new g k =
-    let rs : List Record = old .records in
-    let rs′ : List Record = new .records in
-    map-append (matchLeaf (rs ++ rs′)) (leaves (old .expr)) (leaves (mapColumns (λ i. length rs + i) (new .expr)))
-    ∙ ap₂ _++_ (old-leaves rs rs′ (old .expr) (g .readable .expr .inRange))
-    (leaves-moved rs′ (rs ++ rs′) (λ i. length rs + i) (length rs′) (λ i _. new-record rs rs′ i)
-    (new .expr) (k .readable .expr .inRange))
+  matches-merged : (old new : Frame) → GoodPlan (held old) → GoodPlan (held new)
+      → matchesBy match (mergeFrames old new) ≡ matchesBy match old ++ matchesBy match new
+  unfolding matchesBy mergeFrames raised leaves
+  matches-merged old new g k =
+      let rs : List Record = old .records in
+      let rs′ : List Record = new .records in
+      map-append (match (rs ++ rs′)) (leaves (old .expr)) (leaves (mapColumns (λ i. length rs + i) (new .expr)))
+      ∙ ap₂ _++_ (old-leaves rs rs′ (old .expr) (g .readable .expr .inRange))
+      (leaves-moved laws rs′ (rs ++ rs′) (λ i. length rs + i) (length rs′) (λ i _. new-record rs rs′ i)
+      (new .expr) (k .readable .expr .inRange))
 
 leaves-merged : (old new : Frame)
     → leaves (mergeFrames old new .expr) ≡ leaves (old .expr) ++ map (raised (length (old .records))) (leaves (new .expr))
 unfolding mergeFrames leaves raised
 leaves-merged old new = ap (λ (es : List Expr). leaves (old .expr) ++ es) (map-leaves (λ i. length (old .records) + i) (new .expr))
 
-pub merged-leaves-are : MergedLeaves
-merged-leaves-are old new g k = (leaves-merged old new, matches-merged old new g k)
+pub merged-leaves-are : {match : Matcher} {Asks : Meaning → Type 0} → Lawful match Asks → MergedLeavesBy match
+merged-leaves-are laws old new g k = (leaves-merged old new, matches-merged laws old new g k)

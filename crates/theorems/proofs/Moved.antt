@@ -7,11 +7,12 @@ use mathlib.Core.Option.{Option, none, some, Option·map}
 use lib.Dec.{ltb}
 use borrow.Author.Tests.{ltb-true}
 use Rattle.definitions.specs.Basics.{if_then_else_, ascii, sameName}
-use Rattle.definitions.specs.Expression.{Side, left, right, noSide, Relation, Expr, column, literal, and, binary, call, other, field, Exprs, nil, cons, Record, Predicate}
-use Rattle.definitions.specs.Leaves.{leaves, relationNamed, Comparison, compares, noComparison, comparison, distanceArguments}
+use Rattle.definitions.specs.Expression.{Side, left, right, noSide, Relation, Expr, column, literal, and, binary, call, other, field, Exprs, nil, cons, Record}
+use Rattle.definitions.specs.Leaves.{relationNamed, Comparison, compares, noComparison, comparison, distanceArguments}
 use Rattle.definitions.specs.Decode.{indexBelow}
 use Rattle.definitions.specs.References.{columnsOf, columnsOfAll, mapColumns, mapColumnsAll, recordAt}
-use Rattle.definitions.specs.Match.{ArgumentSide, noColumns, allOn, mixed, commonSide, sideOf, onChild, Order, literalU32, literalK, literalBool, Request, askRelation, askDistance, askKnn, askNothing, relationRequest, dwithinRequest, knnLiterals, knnRequest, callRequest, distanceRequest, comparisonRequest, request, storeDistance, matchDistance, matchRequest, matchLeaf}
+use Rattle.definitions.specs.Match.{ArgumentSide, noColumns, allOn, mixed, commonSide, sideOf, onChild, Order, literalU32, literalK, literalBool, Request, askRelation, askDistance, askKnn, askNothing, relationRequest, dwithinRequest, knnLiterals, knnRequestBy, callRequestBy, distanceRequest, comparisonRequest, request, requestBy, storeDistance, matchDistance, matchRequest, matchLeafBy}
+use Rattle.definitions.specs.Literals.{isK}
 use Rattle.definitions.specs.Good.{All, InRange}
 use Rattle.theorems.proofs.Cases.{each}
 use Rattle.theorems.proofs.Columns.{all-left, all-right, all-both, columns-below, mapComparison, comparison-mapped}
@@ -24,7 +25,7 @@ mutual
   unfolding mapColumns columnsOf
 
   -- Two changes that agree on an expression's columns.
-  map-same : (f g : ℕ → ℕ) (e : Expr) → All (λ i. f i ≡ g i) (columnsOf e) → mapColumns f e ≡ mapColumns g e
+  pub map-same : (f g : ℕ → ℕ) (e : Expr) → All (λ i. f i ≡ g i) (columnsOf e) → mapColumns f e ≡ mapColumns g e
   map-same f g (column i t) = λ a. ap (λ (x : ℕ). column x t) (a .0)
   map-same f g (literal type v) = λ a. refl
   map-same f g (and l r) = λ a.
@@ -47,7 +48,7 @@ mutual
   unfolding mapColumns
 
   -- One change after another.
-  map-twice : (f g : ℕ → ℕ) (e : Expr) → mapColumns g (mapColumns f e) ≡ mapColumns (λ i. g (f i)) e
+  pub map-twice : (f g : ℕ → ℕ) (e : Expr) → mapColumns g (mapColumns f e) ≡ mapColumns (λ i. g (f i)) e
   map-twice f g (column i t) = refl
   map-twice f g (literal type v) = refl
   map-twice f g (and l r) = ap₂ and (map-twice f g l) (map-twice f g r)
@@ -64,7 +65,7 @@ mutual
   unfolding mapColumns columnsOf
 
   -- The columns of a changed expression are the changed columns.
-  columns-mapped : (f : ℕ → ℕ) (e : Expr) → columnsOf (mapColumns f e) ≡ map f (columnsOf e)
+  pub columns-mapped : (f : ℕ → ℕ) (e : Expr) → columnsOf (mapColumns f e) ≡ map f (columnsOf e)
   columns-mapped f (column i t) = refl
   columns-mapped f (literal type v) = refl
   columns-mapped f (and l r) = ap₂ _++_ (columns-mapped f l) (columns-mapped f r) ∙ sym (map-append f (columnsOf l) (columnsOf r))
@@ -95,7 +96,7 @@ mapRequest f (askDistance form a b d) = askDistance form (mapColumns f a) (mapCo
 mapRequest f (askKnn k sp t a b) = askKnn k sp t (mapColumns f a) (mapColumns f b)
 mapRequest f askNothing = askNothing
 
-module _ (f : ℕ → ℕ) where
+module _ (default : ℕ) (f : ℕ → ℕ) where
   k-mapped : (e : Expr) → literalK (mapColumns f e) ≡ literalK e
   unfolding literalK literalU32 mapColumns
   k-mapped = each (λ e. literalK (mapColumns f e) ≡ literalK e)
@@ -128,8 +129,8 @@ module _ (f : ℕ → ℕ) where
   literals-mapped (some k) (some s) none a b = refl
   literals-mapped (some k) (some s) (some t) a b = refl
 
-  knn-mapped : (es : Exprs) → knnRequest (mapColumnsAll f es) ≡ mapRequest f (knnRequest es)
-  unfolding knnRequest mapColumns mapRequest
+  knn-mapped : (es : Exprs) → knnRequestBy default (mapColumnsAll f es) ≡ mapRequest f (knnRequestBy default es)
+  unfolding knnRequestBy mapColumns mapRequest
   knn-mapped nil = refl
   knn-mapped (cons a nil) = refl
   knn-mapped (cons a (cons b nil)) = refl
@@ -140,15 +141,16 @@ module _ (f : ℕ → ℕ) where
       rw (k-mapped k, bool-mapped s, bool-mapped t) (literals-mapped (literalK k) (literalBool s) (literalBool t) a b)
   knn-mapped (cons a (cons b (cons k (cons s (cons t (cons x more)))))) = refl
 
-  call-mapped : (name : List ℕ) (es : Exprs) → callRequest name (mapColumnsAll f es) ≡ mapRequest f (callRequest name es)
-  unfolding callRequest
+  call-mapped : (name : List ℕ) (es : Exprs) → callRequestBy default name (mapColumnsAll f es)
+      ≡ mapRequest f (callRequestBy default name es)
+  unfolding callRequestBy
   call-mapped name es = cases (sameName name (ascii "st_knn")) (sameName name (ascii "st_dwithin"))
     where
       cases : (p q : Bool)
-          → (if p then knnRequest (mapColumnsAll f es) else
+          → (if p then knnRequestBy default (mapColumnsAll f es) else
           if q then dwithinRequest (mapColumnsAll f es) else
           relationRequest (relationNamed name) (mapColumnsAll f es))
-          ≡ mapRequest f (if p then knnRequest es else if q then dwithinRequest es else relationRequest (relationNamed name) es)
+          ≡ mapRequest f (if p then knnRequestBy default es else if q then dwithinRequest es else relationRequest (relationNamed name) es)
       cases true q = knn-mapped es
       cases false true = dwithin-mapped es
       cases false false = relation-mapped (relationNamed name) es
@@ -181,8 +183,8 @@ module _ (f : ℕ → ℕ) where
   asked-mapped o (compares measured bound) =
       ap (distanceRequest o (mapColumns f bound)) (arguments-mapped measured) ∙ distance-mapped o bound (distanceArguments measured)
 
-  request-mapped : (e : Expr) → request (mapColumns f e) ≡ mapRequest f (request e)
-  unfolding request mapColumns mapRequest
+  request-mapped : (e : Expr) → requestBy default (mapColumns f e) ≡ mapRequest f (requestBy default e)
+  unfolding requestBy mapColumns mapRequest
   request-mapped (column i t) = refl
   request-mapped (literal type v) = refl
   request-mapped (and l r) = refl
@@ -259,21 +261,9 @@ module _ (rs rs′ : List Record) (f : ℕ → ℕ) (b : ℕ) (same : (i : ℕ) 
   request-moved room size levels askNothing h = refl
 
   -- A leaf matches as it did.
-  pub leaf-moved : (e : Expr) → InRange (indexBelow b) e → matchLeaf rs′ (mapColumns f e) ≡ matchLeaf rs e
-  unfolding matchLeaf
-  leaf-moved e h = ap (matchRequest rs′) (request-mapped f e) ∙ request-moved _ _ _ (request e) (request-within (indexBelow b) e h)
-
-  one-moved : (e : Expr) → InRange (indexBelow b) e → map (matchLeaf rs′) (mapColumns f e ∷ []) ≡ map (matchLeaf rs) (e ∷ [])
-  one-moved e h = ap (λ (m : Option Predicate). m ∷ []) (leaf-moved e h)
-
-  -- So do all the leaves of an expression.
-  pub leaves-moved : (e : Expr) → InRange (indexBelow b) e
-      → map (matchLeaf rs′) (leaves (mapColumns f e)) ≡ map (matchLeaf rs) (leaves e)
-  unfolding leaves mapColumns
-  leaves-moved (column i t) h = one-moved (column i t) h
-  leaves-moved (literal type v) h = one-moved (literal type v) h
-  leaves-moved (and l r) h = simp map-append (ap₂ _++_ (leaves-moved l (h .0)) (leaves-moved r (h .1)))
-  leaves-moved (binary o l r) h = one-moved (binary o l r) h
-  leaves-moved (call name es) h = one-moved (call name es) h
-  leaves-moved (other tag es) h = one-moved (other tag es) h
-  leaves-moved (field x t) h = absurd h
+  pub leaf-moved : (default : ℕ) → isK default ≡ true → (e : Expr) → InRange (indexBelow b) e
+      → matchLeafBy default rs′ (mapColumns f e) ≡ matchLeafBy default rs e
+  unfolding matchLeafBy
+  leaf-moved default is e h =
+      ap (matchRequest rs′) (request-mapped default f e)
+      ∙ request-moved _ _ _ (requestBy default e) (request-within default is (indexBelow b) e h)

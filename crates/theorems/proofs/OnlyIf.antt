@@ -1,27 +1,15 @@
 -- A matcher's laws say nothing of leaves that do not match, so they hold too where only predicates that pass a test match.
-use Prim.Native.Nat.{ℕ}
 use mathlib.Core.Path.{_≡_, refl, ap, _∙_}
-use mathlib.Core.Bool.{Bool, true, false, _&&_}
+use mathlib.Core.Bool.{Bool, true, false}
 use mathlib.Core.Option.{Option, none, some, Option·map}
-use lib.Dec.{leb}
 use Rattle.definitions.specs.Basics.{if_then_else_}
-use Rattle.definitions.specs.Expression.{Predicate, relation, distance, knn}
-use Rattle.definitions.specs.Match.{matchLeaf}
+use Rattle.definitions.specs.Expression.{Predicate}
 use Rattle.definitions.specs.Extract.{Matcher}
 use Rattle.definitions.specs.Exchange.{exchangePredicate}
-use Rattle.definitions.specs.Meaning.{Fair, Meaning}
+use Rattle.definitions.specs.Meaning.{Meaning}
 use Rattle.definitions.specs.Matchers.{Fits, Valued, Lawful}
+use Rattle.definitions.specs.Settings.{passing, onlyIf}
 use Rattle.theorems.proofs.Tools.{by-test}
-use Rattle.theorems.proofs.MatchLaws.{match-laws}
-
--- A match, if it passes the test.
-unfoldable pub passing : (Predicate → Bool) → Option Predicate → Option Predicate
-passing test none = none
-passing test (some p) = if test p then some p else none
-
--- The matcher with which only those matches are left.
-unfoldable pub onlyIf : (Predicate → Bool) → Matcher → Matcher
-onlyIf test match records leaf = passing test (match records leaf)
 
 -- Exchange does not change the test.
 abbrev pub Unturned : (Predicate → Bool) → Type 0
@@ -29,7 +17,7 @@ Unturned test = (p : Predicate) → test (exchangePredicate p) ≡ test p
 
 module _ (test : Predicate → Bool) where
   -- What holds of a match and of none holds of what is left.
-  passing-is : (P : Option Predicate → Type 0) → P none → (m : Option Predicate) → P m → P (passing test m)
+  pub passing-is : (P : Option Predicate → Type 0) → P none → (m : Option Predicate) → P m → P (passing test m)
   unfolding passing
   passing-is P z none h = h
   passing-is P z (some p) h = by-test P (test p) (some p) none (λ _. h) (λ _. z)
@@ -39,7 +27,7 @@ module _ (test : Predicate → Bool) where
   if-turned true p = refl
   if-turned false p = refl
 
-  passing-turned : Unturned test → (m : Option Predicate)
+  pub passing-turned : Unturned test → (m : Option Predicate)
       → passing test (Option·map exchangePredicate m) ≡ Option·map exchangePredicate (passing test m)
   unfolding passing
   passing-turned same none = refl
@@ -52,21 +40,6 @@ module _ (test : Predicate → Bool) where
   only-laws {match} same laws = record {
     turns = λ rs e. ap (passing test) (laws .turns rs e) ∙ passing-turned same (match rs e);
     fits = λ rs e rr h. passing-is (Fits _ _) tt (match rs e) (laws .fits rs e rr h);
+    moves = λ rs rs′ f b kept e r. ap (passing test) (laws .moves rs rs′ f b kept e r);
     means = λ M v rs e asked r. passing-is (Valued M v _) tt (match rs e) (laws .means M v rs e asked r);
   }
-
--- ---- for instance, KNN with a k from a least to a greatest
-
-unfoldable pub kBetween : (least greatest : ℕ) → Predicate → Bool
-kBetween least greatest (relation type l r) = true
-kBetween least greatest (distance form side l r bound) = true
-kBetween least greatest (knn k spheroid probe ties l r) = leb least k && leb k greatest
-
-k-unturned : (least greatest : ℕ) → Unturned (kBetween least greatest)
-unfolding kBetween exchangePredicate
-k-unturned least greatest (relation type l r) = refl
-k-unturned least greatest (distance form side l r bound) = refl
-k-unturned least greatest (knn k spheroid probe ties l r) = refl
-
-pub k-between-laws : (least greatest : ℕ) → Lawful (onlyIf (kBetween least greatest) matchLeaf) Fair
-k-between-laws least greatest = only-laws (kBetween least greatest) (k-unturned least greatest) match-laws

@@ -19,7 +19,7 @@ use Rattle.theorems.proofs.Tools.{by-test, mapped-at}
 use Rattle.theorems.proofs.Taken.{Taken, taken}
 
 -- Whether a leaf matches and passes a test.
-passes : (Predicate → Bool) → Option Predicate → Bool
+unfoldable pub passes : (Predicate → Bool) → Option Predicate → Bool
 passes test none = false
 passes test (some p) = test p
 
@@ -27,11 +27,11 @@ passes test (some p) = test p
 
 module _ (test : Predicate → Bool) where
   -- No leaf passes below a position.
-  abbrev NoneBelow : List (Option Predicate) → ℕ → Type 0
+  abbrev pub NoneBelow : List (Option Predicate) → ℕ → Type 0
   NoneBelow ms k = (i : ℕ) → i < k → passes test (getD ms i none) ≡ false
 
   -- What the first match is: at its position, and the first; if there is none, no leaf passes.
-  abbrev First : List (Option Predicate) → Option Pick → Type 0
+  abbrev pub First : List (Option Predicate) → Option Pick → Type 0
   First ms none = (i : ℕ) → passes test (getD ms i none) ≡ false
   First ms (some p) =
       (p .position < length ms) × (getD ms (p .position) none ≡ some (p .predicate)) × (test (p .predicate) ≡ true)
@@ -48,7 +48,7 @@ module _ (test : Predicate → Bool) where
   later-first m ms none e h = λ i. none-below m ms (suc i) e (λ j _. h j) i (omega arith)
   later-first m ms (some p) e h = (omega (arith, h .0), h .1, h .2, none-below m ms (p .position) e (h .3))
 
-  first-is : (ms : List (Option Predicate)) → First ms (firstMatch test ms)
+  pub first-is : (ms : List (Option Predicate)) → First ms (firstMatch test ms)
   unfolding firstMatch passes
   first-is [] = λ i. refl
   first-is (none ∷ ms) = later-first none ms (firstMatch test ms) refl (first-is ms)
@@ -66,7 +66,7 @@ taking F p = record {
   remainder = Option·map (prune (F .records)) (without (p .position) (F .expr));
 }
 
-no-match : (m : Option Predicate) → passes (λ p. true) m ≡ false → m ≡ none
+pub no-match : (m : Option Predicate) → passes (λ p. true) m ≡ false → m ≡ none
 unfolding passes
 no-match none e = refl
 no-match (some p) e = absurd (false≢true (sym e))
@@ -143,12 +143,12 @@ module _ (match : Matcher) (F : Frame) where
 
 -- ---- whether a leaf matches
 
-any-none : (ms : List (Option Predicate)) → ((i : ℕ) → getD ms i none ≡ none) → any isMatch ms ≡ false
+pub any-none : (ms : List (Option Predicate)) → ((i : ℕ) → getD ms i none ≡ none) → any isMatch ms ≡ false
 unfolding any isMatch
 any-none [] h = refl
 any-none (m ∷ ms) h = ap₂ _||_ (ap isMatch (h 0)) (any-none ms (λ i. h (suc i)))
 
-any-some : (ms : List (Option Predicate)) (i : ℕ) (p : Predicate) → getD ms i none ≡ some p → any isMatch ms ≡ true
+pub any-some : (ms : List (Option Predicate)) (i : ℕ) (p : Predicate) → getD ms i none ≡ some p → any isMatch ms ≡ true
 unfolding any isMatch
 any-some [] i p e = let z : _≡_ {A = ℕ} 0 1 = cc in absurd (omega arith)
 any-some (m ∷ ms) zero p e = ap (λ (x : Option Predicate). isMatch x || any isMatch ms) e
@@ -189,7 +189,7 @@ leaves-most size one sum (other g ts) = omega (arith, one (other g ts))
 leaves-most size one sum (field b g) = omega (arith, one (field b g))
 
 -- Each AND-leaf is a node, so a good frame has at most 1,024 of them.
-leaves-nodes : (e : Expr) → length (leaves e) ≤ nodes e
+pub leaves-nodes : (e : Expr) → length (leaves e) ≤ nodes e
 unfolding leaves nodes
 leaves-nodes = leaves-most nodes
     (each (λ e. 0 < nodes e) (λ i g. omega arith) (λ y v. omega arith) (λ l r. omega arith) (λ o l r. omega arith) (λ n ts. omega arith)

@@ -8,6 +8,8 @@ use Rattle.definitions.specs.ValueClaims.{AndAssociative, AndCommutative, Excha
 use Rattle.definitions.specs.AnyMatcher.{Extracts, OneCall, Lists, AnyMatcher}
 use Rattle.definitions.specs.DemandThree.{MeetsDemandThree}
 use Rattle.definitions.specs.ShortClaims.{ExchangedKeepsPosition, ExchangeKeepsPosition, ProjectionKeepsLine, ProjectKeepsLine, MergeExchanged, MergeExchangedLine, PolicyKeepsIndex, BoundWithoutColumns, SameTextSameExpression, LineRefusals}
+use Rattle.definitions.specs.SettingsClaims.{AllSettings, BadSettings, RefusalsUnder, DefaultSettings, FairMeaningUnder, KindsNarrow}
+use Rattle.definitions.specs.SettingsRows.{SettingsRows}
 use Rattle.definitions.specs.TenRows.{TenRows}
 use Rattle.definitions.specs.FurtherRows.{FurtherRows}
 use Rattle.definitions.specs.PositionRows.{PositionRows}
@@ -40,13 +42,13 @@ use Rattle.theorems.proofs.ExchangeGood.{exchange-good, plan-as-long, m
 use Rattle.theorems.proofs.ListTheorem.{load-accepts, stays}
 use Rattle.theorems.proofs.Lengths.{load-is-short, walk-short-by}
 use Rattle.theorems.proofs.Changes.{load-keeps, load-wrote}
-use Rattle.theorems.proofs.RefusalNumbers.{load-refusals, exchange-refusals, logical-refusals, print-refusals, merge-refusals, project-refusals}
 use Rattle.theorems.proofs.QueueStates as states
 use Rattle.theorems.proofs.QueueCalls.{put-adds-by, put-refusals, serve-takes-by, serve-refusals, kept-by, lengths-by}
 use Rattle.theorems.proofs.QueueMachine.{bytes-free}
 use Rattle.theorems.proofs.QueueRuns.{parts-run, held-always, order-kept, serve-gives-by, fair-by}
 use Rattle.theorems.proofs.QueueBound.{bound-is-reached}
 use Rattle.theorems.proofs.QueueLimits.{queue-rows-hold}
+use Rattle.theorems.proofs.RefusalNumbers.{load-refusals, settled-refusals, exchange-refusals, logical-refusals, print-refusals, merge-refusals, project-refusals}
 use Rattle.theorems.proofs.TablesRoom.{never-too-short-by}
 use Rattle.theorems.proofs.MatchLaws.{match-laws}
 use Rattle.theorems.proofs.Truth.{fair-symmetric, plan-exchange-value}
@@ -55,10 +57,12 @@ use Rattle.theorems.proofs.AnyMatchers.{any-matcher-is}
 use Rattle.theorems.proofs.WholeDemand.{meets-demand-three-by}
 use Rattle.theorems.proofs.ShortClaims as short
 use Rattle.theorems.proofs.LineNumbers.{line-refusals-by}
-use Rattle.theorems.proofs.FairExample.{fair-points, marks-left}
+use Rattle.theorems.proofs.SettingsClaimed.{all-settings-hold, bad-settings-refused, default-settings-same, kinds-narrow-holds}
+use Rattle.theorems.proofs.FairExample.{fair-points, fair-under, marks-left}
 use Rattle.theorems.proofs.FairCounting.{fair-counting}
 use Rattle.definitions.proofs.Names.{each-once, names-ones, tables-hold}
 use Rattle.theorems.proofs.Table.{ten-rows-hold}
+use Rattle.definitions.proofs.SettledRows.{settings-rows-hold}
 use Rattle.definitions.proofs.OurRows.{further-rows-hold}
 use Rattle.definitions.proofs.PlacedRows.{position-rows-hold}
 use Rattle.definitions.proofs.Nearest.{nearest-rows-hold}
@@ -92,6 +96,29 @@ any-matcher = any-matcher-is
 -- So with 01's.
 by-leaf : Extracts matchLeaf Fair × OneCall matchLeaf × Lists matchLeaf Fair
 by-leaf = any-matcher .0 matchLeaf Fair (any-matcher .1)
+
+-- ---- under settings (request 13)
+
+pub all-settings : AllSettings
+all-settings = all-settings-hold
+
+pub bad-settings : BadSettings
+bad-settings = bad-settings-refused
+
+pub default-settings : DefaultSettings
+default-settings = default-settings-same
+
+pub refusals-under : RefusalsUnder
+refusals-under = settled-refusals
+
+pub fair-meaning-under : FairMeaningUnder
+fair-meaning-under = fair-under
+
+pub kinds-narrow : KindsNarrow
+kinds-narrow = kinds-narrow-holds
+
+pub settings-rows : SettingsRows
+settings-rows = settings-rows-hold
 
 -- ---- the claims
 
@@ -278,7 +305,7 @@ pub merged-has-value : MergedValue
 merged-has-value = merged-value
 
 pub merged-leaves : MergedLeaves
-merged-leaves = merged-leaves-are
+merged-leaves = merged-leaves-are match-laws
 
 pub merge-accepted : MergeAccepted
 merge-accepted = merge-accepts
@@ -293,7 +320,7 @@ pub merge-holds : MergeHolds
 merge-holds = merge-held
 
 pub any-matcher-merges : AnyMatcherMerges
-any-matcher-merges match Asks laws = (list-after laws, history-of laws)
+any-matcher-merges match Asks laws = (list-after laws, history-of laws, merged-leaves-are laws)
 
 pub list-after-merge : ListAfterMerge
 list-after-merge = any-matcher-merges matchLeaf Fair match-laws .0
@@ -433,7 +460,7 @@ queue-rows = queue-rows-hold
 -- ---- demand 3 whole, and short claims
 
 pub meets-demand-three : MeetsDemandThree
-meets-demand-three = meets-demand-three-by (by-leaf .2)
+meets-demand-three = meets-demand-three-by
 
 pub exchanged-keeps-position : ExchangedKeepsPosition
 exchanged-keeps-position = short.exchanged-keeps-position

@@ -23,6 +23,8 @@ use Rattle.definitions.specs.Logical.{logicalAnswer, logical}
 use Rattle.definitions.specs.Printed.{printed, textOf, finishPrint, print}
 use Rattle.definitions.specs.Merge.{mergeFrames, overLimits, mergedFrame, newAfterMerge, withTable, merge}
 use Rattle.definitions.specs.Project.{Lists, projection, shortLists, projectedBytes, newAfterProject, project}
+use Rattle.definitions.specs.Settings.{Settings, goodSettings, matchUnder, extractUnder}
+use Rattle.definitions.specs.SettingsClaims.{settledRefusals}
 use Rattle.definitions.specs.Claims.{loadRefusals, extractRefusals, exchangeRefusals, logicalRefusals, printRefusals, mergeRefusals, projectRefusals, RefusedBy}
 use Rattle.theorems.proofs.Tools.{by-test}
 use Rattle.theorems.proofs.Changes.{extract-writes}
@@ -344,6 +346,20 @@ extract-refusals match n buffer scratch table =
     (finish-only (In extractRefusals) n buffer scratch (newAfterExtractBy match n (length scratch) (heldPlan n buffer))
     (extract-only (In extractRefusals) refl refl refl n (length scratch) refl refl match (heldPlan n buffer)))
     (finish-only (In extractRefusals) n buffer scratch (refused 10) refl))
+
+-- Under settings 24 joins them (request 13).
+pub settled-refusals : (S : Settings) (n : ℕ) (buffer scratch : List ℕ) (table : List NodeRecord)
+    → RefusedBy settledRefusals (extractUnder S n buffer scratch table .answer)
+unfolding extractUnder settledRefusals any
+settled-refusals S n buffer scratch table =
+    let under : Matcher = matchUnder S in
+    refused-by settledRefusals (extractUnder S n buffer scratch table .answer)
+    (by-test (λ (o : Outcome). Refuses (In settledRefusals) (o .answer)) (goodSettings S) (extractBy under n buffer scratch table) _
+    (λ _. extract-writes under n buffer scratch table (λ (o : Outcome). Refuses (In settledRefusals) (o .answer))
+    (finish-only (In settledRefusals) n buffer scratch (newAfterExtractBy under n (length scratch) (heldPlan n buffer))
+    (extract-only (In settledRefusals) refl refl refl n (length scratch) refl refl under (heldPlan n buffer)))
+    (finish-only (In settledRefusals) n buffer scratch (refused 10) refl))
+    (λ _. finish-only (In settledRefusals) n buffer scratch (refused 24) refl))
 
 pub exchange-refusals : (n : ℕ) (buffer scratch : List ℕ) → RefusedBy exchangeRefusals (exchange n buffer scratch .answer)
 unfolding exchange exchangeRefusals any

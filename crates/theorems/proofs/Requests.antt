@@ -14,7 +14,7 @@ use Rattle.definitions.specs.Literals.{literalInRange, isK, onlyK, numberBool}
 use Rattle.definitions.specs.Encode.{exprBytes, exprsBytes}
 use Rattle.definitions.specs.Leaves.{relationNamed, Comparison, compares, noComparison, comparison, distanceArguments}
 use Rattle.definitions.specs.Decode.{Columns}
-use Rattle.definitions.specs.Match.{literalU32, literalK, literalBool, Request, askRelation, askDistance, askKnn, askNothing, relationRequest, dwithinRequest, knnLiterals, knnRequest, callRequest, distanceRequest, comparisonRequest, request}
+use Rattle.definitions.specs.Match.{literalU32, literalK, literalBool, Request, askRelation, askDistance, askKnn, askNothing, relationRequest, dwithinRequest, knnLiterals, knnRequestBy, callRequestBy, distanceRequest, comparisonRequest, request, requestBy}
 use Rattle.definitions.specs.Good.{nodes, nodesAll, depth, depthAll, InRange, InRangeAll}
 pub use Rattle.theorems.proofs.Tools.{by-test, same-name}
 
@@ -42,7 +42,7 @@ AtMost n none = Unit {0}
 AtMost n (some k) = k ≤ n
 
 -- A number that is asked for as k is one.
-abbrev K : Option ℕ → Type 0
+abbrev pub K : Option ℕ → Type 0
 K none = Unit {0}
 K (some k) = isK k ≡ true
 
@@ -51,7 +51,7 @@ unfolding onlyK
 only-k none = tt
 only-k (some k) = by-test K (isK k) (some k) none (λ e. e) (λ _. tt)
 
-k-range : (e : Expr) → K (literalK e)
+pub k-range : (e : Expr) → K (literalK e)
 unfolding literalK
 k-range e = only-k (literalU32 e)
 
@@ -108,30 +108,32 @@ at-most-more : (k : Option ℕ) → AtMost 1 k → AtMost 2 k
 at-most-more none h = tt
 at-most-more (some k) h = omega arith
 
-knn-within : (c : Columns) (over : ℕ) (es : Exprs) → 8 ≤ over → InRangeAll c es → WithinAll c over es (knnRequest es)
-unfolding knnRequest exprBytes nodes depth
-knn-within c over nil k h = tt
-knn-within c over (cons a nil) k h = tt
-knn-within c over (cons a (cons b nil)) k h =
-    (unfold isK in refl, lit≤ tt, lit≤ tt, h .0, h .1 .0, simp length-append (omega arith), omega arith, omega arith, omega arith)
-knn-within c over (cons a (cons b (cons x nil))) k h =
+knn-within : (default : ℕ) → isK default ≡ true → (c : Columns) (over : ℕ) (es : Exprs) → 8 ≤ over → InRangeAll c es
+    → WithinAll c over es (knnRequestBy default es)
+unfolding knnRequestBy exprBytes nodes depth
+knn-within default is c over nil k h = tt
+knn-within default is c over (cons a nil) k h = tt
+knn-within default is c over (cons a (cons b nil)) k h =
+    (is, lit≤ tt, lit≤ tt, h .0, h .1 .0, simp length-append (omega arith), omega arith, omega arith, omega arith)
+knn-within default is c over (cons a (cons b (cons x nil))) k h =
     knn-literals-within c _ _ _ (literalK x) (some 0) (some 2) a b (k-range x) (lit≤ tt) (lit≤ tt) (h .0) (h .1 .0)
     (simp length-append (omega arith)) (omega arith) (omega arith) (omega arith)
-knn-within c over (cons a (cons b (cons x (cons s nil)))) k h =
+knn-within default is c over (cons a (cons b (cons x (cons s nil)))) k h =
     knn-literals-within c _ _ _ (literalK x) (literalBool s) (some 2) a b (k-range x) (bool-range c s (h .1 .1 .1 .0)) (lit≤ tt) (h .0)
     (h .1 .0)
     (simp length-append (omega arith)) (omega arith) (omega arith) (omega arith)
-knn-within c over (cons a (cons b (cons x (cons s (cons t nil))))) k h =
+knn-within default is c over (cons a (cons b (cons x (cons s (cons t nil))))) k h =
     knn-literals-within c _ _ _ (literalK x) (literalBool s) (literalBool t) a b (k-range x) (bool-range c s (h .1 .1 .1 .0))
     (at-most-more (literalBool t) (bool-range c t (h .1 .1 .1 .1 .0))) (h .0) (h .1 .0)
     (simp length-append (omega arith)) (omega arith) (omega arith) (omega arith)
-knn-within c over (cons a (cons b (cons x (cons s (cons t (cons y more)))))) k h = tt
+knn-within default is c over (cons a (cons b (cons x (cons s (cons t (cons y more)))))) k h = tt
 
-call-within : (c : Columns) (name : List ℕ) (es : Exprs) → InRangeAll c es → WithinAll c (3 + length name) es (callRequest name es)
-unfolding callRequest ascii
-call-within c name es h =
-    by-test (WithinAll c (3 + length name) es) (sameName name (ascii "st_knn")) (knnRequest es) _
-    (λ e. knn-within c (3 + length name) es (omega (arith, ap length (same-name name (ascii "st_knn") e))) h)
+call-within : (default : ℕ) → isK default ≡ true → (c : Columns) (name : List ℕ) (es : Exprs) → InRangeAll c es
+    → WithinAll c (3 + length name) es (callRequestBy default name es)
+unfolding callRequestBy ascii
+call-within default is c name es h =
+    by-test (WithinAll c (3 + length name) es) (sameName name (ascii "st_knn")) (knnRequestBy default es) _
+    (λ e. knn-within default is c (3 + length name) es (omega (arith, ap length (same-name name (ascii "st_knn") e))) h)
     (λ _. by-test (WithinAll c (3 + length name) es) (sameName name (ascii "st_dwithin")) (dwithinRequest es)
     (relationRequest (relationNamed name) es)
     (λ e. dwithin-within c (3 + length name) es (omega arith) h)
@@ -193,16 +195,17 @@ comparison-within c o l r hl hr =
     P : Comparison → Type 0
     P x = Within c (2 + bytes l + bytes r) (nodes l + nodes r) (max (depth l) (depth r)) (comparisonRequest o x)
 
-pub request-within : (c : Columns) (e : Expr) → InRange c e → Within c (bytes e) (nodes e) (depth e) (request e)
-unfolding request exprBytes nodes depth
-request-within c (column i t) h = tt
-request-within c (literal type v) h = tt
-request-within c (and l r) h = tt
-request-within c (binary o l r) h =
+pub request-within : (default : ℕ) → isK default ≡ true → (c : Columns) (e : Expr) → InRange c e
+    → Within c (bytes e) (nodes e) (depth e) (requestBy default e)
+unfolding requestBy exprBytes nodes depth
+request-within default is c (column i t) h = tt
+request-within default is c (literal type v) h = tt
+request-within default is c (and l r) h = tt
+request-within default is c (binary o l r) h =
     within-more c _ _ _ _ _ _ (comparisonRequest o (comparison o l r)) (simp length-append (omega arith)) (omega arith) (omega arith)
     (comparison-within c o l r (h .2) (h .3))
-request-within c (call name es) h =
-    within-more c _ _ _ _ _ _ (callRequest name es) (simp length-append (omega arith)) (omega arith) (omega arith)
-    (call-within c name es (h .4))
-request-within c (other tag es) h = tt
-request-within c (field b t) h = tt
+request-within default is c (call name es) h =
+    within-more c _ _ _ _ _ _ (callRequestBy default name es) (simp length-append (omega arith)) (omega arith) (omega arith)
+    (call-within default is c name es (h .4))
+request-within default is c (other tag es) h = tt
+request-within default is c (field b t) h = tt

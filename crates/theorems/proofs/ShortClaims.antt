@@ -14,7 +14,7 @@ use Rattle.definitions.specs.Expression.{Side, left, right, noSide, Relation, E
 use Rattle.definitions.specs.Encode.{predicateKind, extractionBytes, planBytes}
 use Rattle.definitions.specs.References.{columnsOf, sameSide, recordAt}
 use Rattle.definitions.specs.Leaves.{leaves}
-use Rattle.definitions.specs.Match.{ArgumentSide, noColumns, allOn, mixed, commonSide, sideOf, Order, leftRight, rightLeft, noOrder, Request, askRelation, askDistance, askKnn, askNothing, request, matchRelation, storeDistance, matchDistance, matchKnn, matchRequest, matchLeaf}
+use Rattle.definitions.specs.Match.{ArgumentSide, noColumns, allOn, mixed, commonSide, sideOf, Order, leftRight, rightLeft, noOrder, Request, askRelation, askDistance, askKnn, askNothing, request, matchRelation, storeDistance, matchDistance, matchKnn, matchRequest, matchLeafBy, matchLeaf}
 use Rattle.definitions.specs.Extract.{Pick, without, prune, isKnn, later, firstMatch, firstOf, pick, takePick, matchesBy, matchesOf, extractionBy}
 use Rattle.definitions.specs.Exchange.{exchangeRecord, exchangeFrame, exchangeExtraction, exchangePlan}
 use Rattle.definitions.specs.Plans.{planOf}
@@ -229,7 +229,7 @@ policy-by old new X (some p) eq e m =
 
 pub policy-keeps-index : PolicyKeepsIndex
 unfolding extractionBy
-policy-keeps-index old new X g h e = policy-by old new X (pick (matchesOf old)) refl e (merged-leaves-are old new g h .1)
+policy-keeps-index old new X g h e = policy-by old new X (pick (matchesOf old)) refl e (merged-leaves-are match-laws old new g h .1)
 
 -- ---- distances
 
@@ -287,7 +287,7 @@ request-plain rs (askKnn k spheroid ties a b) = knn-plain k spheroid ties _ _ _
 request-plain rs askNothing = tt
 
 matched-plain : (rs : List Record) (es : List Expr) (i : ℕ) → Plain (getD (map (matchLeaf rs) es) i none)
-unfolding matchLeaf
+unfolding matchLeafBy
 matched-plain rs [] i = tt
 matched-plain rs (e ∷ es) zero = request-plain rs (request e)
 matched-plain rs (e ∷ es) (suc i) = matched-plain rs es i

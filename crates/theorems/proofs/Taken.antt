@@ -60,7 +60,7 @@ taken (field b t) d i h = only (field b t) d i h
 
 -- ---- the leaves of what is left
 
-restLeaves : Option Expr → List Expr
+unfoldable pub restLeaves : Option Expr → List Expr
 restLeaves none = []
 restLeaves (some r) = leaves r
 
@@ -101,7 +101,7 @@ and-less l r i h f g false e =
     ∙ sym (ap₂ _++_ (ap (λ (x : ℕ). take x (leaves l ++ leaves r)) (sym is) ∙ take-append-add (leaves l) (leaves r) j)
     (ap (λ (x : ℕ). drop x (leaves l ++ leaves r)) past ∙ drop-append-add (leaves l) (leaves r) (suc j)))
 
-less : (e : Expr) (i : ℕ) → i < length (leaves e) → restLeaves (without i e) ≡ but i (leaves e)
+pub less : (e : Expr) (i : ℕ) → i < length (leaves e) → restLeaves (without i e) ≡ but i (leaves e)
 unfolding leaves without restLeaves
 less (column a t) i h = one-less (column a t) i h
 less (literal type v) i h = one-less (literal type v) i h

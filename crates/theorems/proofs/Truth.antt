@@ -16,7 +16,7 @@ use Rattle.definitions.specs.Extract.{Pick, pick, without, referenced, newIndex
 use Rattle.definitions.specs.Exchange.{negate, exchangeRecord, exchangeFrame, exchangePredicate, exchangeExtraction, exchangePlan}
 use Rattle.definitions.specs.Machine.{machinePlan, extractionOr}
 use Rattle.definitions.specs.Good.{InRange}
-use Rattle.definitions.specs.Meaning.{andValue, Valuation, Meaning, value, frameColumns, frameValue, predicateValue, andRemainder, extractionValue, planValue, exchangedValues, Fair}
+use Rattle.definitions.specs.Meaning.{andValue, Valuation, Meaning, value, frameColumns, frameValue, predicateValue, andRemainder, extractionValue, planValue, exchangedValues, FairBy}
 use Rattle.theorems.proofs.Columns.{all-both, columns-below}
 use Rattle.theorems.proofs.Taken.{Taken, leaf-in-range, rest-in-range, RestIs}
 use Rattle.definitions.specs.Matchers.{Valued, Lawful, Symmetric}
@@ -36,7 +36,7 @@ unfolding recordAt newIndex
 kept-at-by test r rs i true h = h
 kept-at-by test r rs i false h = h
 
-kept-at : (test : Record → Bool) (rs : List Record) (i : ℕ) → i < length rs → test (recordAt rs i) ≡ true
+pub kept-at : (test : Record → Bool) (rs : List Record) (i : ℕ) → i < length rs → test (recordAt rs i) ≡ true
     → recordAt (keep test rs) (newIndex test rs i) ≡ recordAt rs i
 unfolding recordAt newIndex keep
 kept-at test [] i h e = absurd (not-suc-le-zero h)
@@ -102,7 +102,7 @@ unfolding frameValue exchangeFrame
 frame-exchange-value M v F = ap (λ (f : ℕ → ℕ). value M f (F .expr)) (fun-ext (exchanged-columns v (F .records)))
 
 -- A fair meaning is one that exchange respects.
-pub fair-symmetric : (M : Meaning) → Fair M → Symmetric M
+pub fair-symmetric : {match : Matcher} (M : Meaning) → FairBy match M → Symmetric M
 unfolding predicateValue exchangePredicate exchangedValues negate
 fair-symmetric M fair v (relation t l r) = fair .relationInverse t (value M (v right) l) (value M (v left) r)
 fair-symmetric M fair v (distance form side l r d) =

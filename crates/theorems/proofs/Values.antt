@@ -8,9 +8,9 @@ use lib.Dec.{eqb}
 use Rattle.definitions.specs.Basics.{if_then_else_}
 use Rattle.definitions.specs.Expression.{Expr, column, literal, and, binary, call, other, field, Exprs, nil, cons}
 use Rattle.definitions.specs.References.{columnsOf, columnsOfAll, mapColumns, mapColumnsAll}
-use Rattle.definitions.specs.Extract.{andLeft, andRight}
+use Rattle.definitions.specs.Extract.{andLeft, andRight, Matcher}
 use Rattle.definitions.specs.Good.{All}
-use Rattle.definitions.specs.Meaning.{andValue, Meaning, value, values, distanceByForm, Fair}
+use Rattle.definitions.specs.Meaning.{andValue, Meaning, value, values, distanceByForm, FairBy}
 use Rattle.theorems.proofs.Columns.{all-left, all-right}
 use Rattle.theorems.proofs.Taken.{Taken, here, inLeft, inRight}
 
@@ -126,7 +126,8 @@ if-same true x x′ y y′ e f = e
 if-same false x x′ y y′ e f = f
 
 -- A distance is symmetric in its geometries, whatever its form.
-pub form-symmetric : (M : Meaning) → Fair M → (form a b d : ℕ) → distanceByForm M form a b d ≡ distanceByForm M form b a d
+pub form-symmetric : {match : Matcher} (M : Meaning) → FairBy match M → (form a b d : ℕ) → distanceByForm M form a b d
+    ≡ distanceByForm M form b a d
 unfolding distanceByForm
 form-symmetric M fair form a b d =
     let s : M .distanceValue a b ≡ M .distanceValue b a = fair .distanceSymmetric a b in
