@@ -9,7 +9,7 @@ use lib.Dec.{eqb}
 use Rattle.definitions.specs.Basics.{ascii, sameName}
 use Rattle.definitions.specs.Expression.{Relation, Expr, Exprs, nil, cons, call, Side, left, right, noSide, Record, Predicate, relation, distance, knn}
 use Rattle.definitions.specs.Leaves.{relationNamed, Comparison, compares, noComparison, distanceArguments}
-use Rattle.definitions.specs.Match.{Request, askRelation, askDistance, askKnn, askNothing, relationRequest, dwithinRequest, knnLiterals, knnRequest, callRequest, distanceRequest, comparisonRequest, request, Order, leftRight, rightLeft, noOrder, ArgumentSide, noColumns, allOn, mixed, matchRelation, storeDistance, matchDistance, matchKnn, matchRequest, matchLeaf}
+use Rattle.definitions.specs.Match.{Request, askRelation, askDistance, askKnn, askNothing, relationRequest, dwithinRequest, knnLiterals, knnRequest, knnRequestBy, callRequest, callRequestBy, distanceRequest, comparisonRequest, request, requestBy, Order, leftRight, rightLeft, noOrder, ArgumentSide, noColumns, allOn, mixed, matchRelation, storeDistance, matchDistance, matchKnn, matchRequest, matchLeaf, matchLeafBy}
 use Rattle.definitions.specs.Extract.{isKnn}
 use Rattle.theorems.proofs.Requests.{by-test}
 use Rattle.leaf_matching.specs.Matches.{isRelation, Lacks}
@@ -121,7 +121,7 @@ literals-only (some k) (some s) none a b = inr refl
 literals-only (some k) (some s) (some t) a b = inl refl
 
 knn-only : (ts : Exprs) → Only 3 (knnRequest ts)
-unfolding requestKind knnRequest
+unfolding requestKind knnRequestBy
 knn-only nil = inr refl
 knn-only (cons a nil) = inr refl
 knn-only (cons a (cons b nil)) = inl refl
@@ -145,18 +145,19 @@ unfolding isRelation asks requestKind
 relation-kind =
     record { ofRelation = λ _ _ _ _ _ _. refl; ofDistance = λ _ _ _ _ _ _ _ _. refl; ofKnn = λ _ _ _ _ _ _ _ _. refl }
 
-module _ (records : List Record) (name : List ℕ) (ts : Exprs) where
-  -- A function of another name is no KNN.
-  pub other-name : sameName name (ascii "st_knn") ≡ false → Lacks isKnn (matchLeaf records (call name ts))
-  unfolding matchLeaf request callRequest
-  other-name e = request-lacks isKnn records (asks 3) knn-kind (callRequest name ts)
+-- A function of another name is no KNN, whatever the default k.
+module _ (defaultK : ℕ) (records : List Record) (name : List ℕ) (ts : Exprs) where
+  pub other-name : sameName name (ascii "st_knn") ≡ false → Lacks isKnn (matchLeafBy defaultK records (call name ts))
+  unfolding matchLeafBy requestBy callRequestBy
+  other-name e = request-lacks isKnn records (asks 3) knn-kind (callRequestBy defaultK name ts)
       (rw e (by-test (λ q. asks 3 q ≡ false) (sameName name (ascii "st_dwithin")) (dwithinRequest ts)
       (relationRequest (relationNamed name) ts)
       (λ _. not-asked 2 3 refl refl _ (dwithin-only ts)) (λ _. not-asked 1 3 refl refl _ (relation-only (relationNamed name) ts))))
 
+module _ (records : List Record) (name : List ℕ) (ts : Exprs) where
   -- A function without a relation name is no relation.
   pub no-relation : relationNamed name ≡ none → Lacks isRelation (matchLeaf records (call name ts))
-  unfolding matchLeaf request callRequest asks requestKind relationRequest
+  unfolding matchLeafBy requestBy callRequestBy asks requestKind relationRequest
   no-relation e = request-lacks isRelation records (asks 1) relation-kind (callRequest name ts)
       (by-test (λ q. asks 1 q ≡ false) (sameName name (ascii "st_knn")) (knnRequest ts) _
       (λ _. not-asked 3 1 refl refl (knnRequest ts) (knn-only ts))
@@ -165,10 +166,10 @@ module _ (records : List Record) (name : List ℕ) (ts : Exprs) where
       (λ _. not-asked 2 1 refl refl (dwithinRequest ts) (dwithin-only ts)) (λ _. rw e)))
 
 -- A leaf that asks for a distance or for nothing is neither.
-pub only-distance : (records : List Record) (t : Expr) → Only 2 (request t)
-    → Lacks isKnn (matchLeaf records t) × Lacks isRelation (matchLeaf records t)
-unfolding matchLeaf
-only-distance records t is = (
-  request-lacks isKnn records (asks 3) knn-kind (request t) (not-asked 2 3 refl refl (request t) is),
-  request-lacks isRelation records (asks 1) relation-kind (request t) (not-asked 2 1 refl refl (request t) is),
+pub only-distance : (defaultK : ℕ) (records : List Record) (t : Expr) → Only 2 (requestBy defaultK t)
+    → Lacks isKnn (matchLeafBy defaultK records t) × Lacks isRelation (matchLeafBy defaultK records t)
+unfolding matchLeafBy
+only-distance d records t is = (
+  request-lacks isKnn records (asks 3) knn-kind (requestBy d t) (not-asked 2 3 refl refl (requestBy d t) is),
+  request-lacks isRelation records (asks 1) relation-kind (requestBy d t) (not-asked 2 1 refl refl (requestBy d t) is),
 )

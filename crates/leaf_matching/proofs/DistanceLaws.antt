@@ -10,7 +10,7 @@ use Rattle.definitions.specs.Expression.{Expr, Record, Predicate, distance}
 use Rattle.sedona_query_planner.specs.Predicates.{boundOn, onChildren, ArgumentAt}
 use Rattle.definitions.specs.Decode.{indexBelow}
 use Rattle.definitions.specs.Match as definition
-use Rattle.definitions.specs.Match.{request, sideOf, orderOf, onChild, storeDistance, matchDistance, matchRequest, matchLeaf}
+use Rattle.definitions.specs.Match.{request, sideOf, orderOf, onChild, storeDistance, matchDistance, matchRequest, matchLeaf, matchLeafBy}
 use Rattle.expression.specs.Nodes.{Spans, OfTreeIn}
 use Rattle.sedona_expr.specs.Parsed as parsed
 use Rattle.sedona_expr.specs.Parsed.{ParsedIs}
@@ -44,7 +44,7 @@ distance-kind =
     record { ofRelation = λ _ _ _ _ _ _. refl; ofDistance = λ _ _ _ _ _ _ _ _. refl; ofKnn = λ _ _ _ _ _ _ _ _. refl }
 
 pub no-distance : (records : List Record) (t : Expr) → parsed.isDistance (request t) ≡ false → Lacks isDistance (matchLeaf records t)
-unfolding matchLeaf
+unfolding matchLeafBy
 no-distance records t e = request-lacks isDistance records parsed.isDistance distance-kind (request t) e
 
 -- ---- the side of its bound
@@ -115,7 +115,7 @@ module _ {s : List ℕ} {rec at : ℕ} {p : ParsedDistancePredicate} {x y d : Ar
   distance-match : matchLeaf records t
       ≡ matchDistance records (p .form) (onChild records (it .a)) (onChild records (it .b)) (it .bound) (argumentSide (d .side))
       (orderOf (argumentSide (x .side)) (argumentSide (y .side)))
-  unfolding matchLeaf matchRequest
+  unfolding matchLeafBy matchRequest
   distance-match = ap (matchRequest records) (it .is)
       ∙ ap₂ (matchDistance records (p .form) (onChild records (it .a)) (onChild records (it .b)) (it .bound))
       (spans _ d (w .limit) (it .argDistance) .1) (ap₂ orderOf (spans _ x (w .first) (it .arg0) .1) (spans _ y (w .second) (it .arg1) .1))

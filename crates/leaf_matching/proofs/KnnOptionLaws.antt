@@ -9,7 +9,7 @@ use lib.ListN.{length}
 use Rattle.definitions.specs.Expression.{Expr, Exprs, nil, cons, count}
 use Rattle.definitions.specs.Encode.{exprBytes}
 use Rattle.definitions.specs.Decode.{Columns}
-use Rattle.definitions.specs.Match.{literalK, literalBool, askNothing, knnLiterals, knnRequest}
+use Rattle.definitions.specs.Match.{literalK, literalBool, askNothing, knnLiterals, knnRequestBy}
 use Rattle.expression.specs.Nodes.{Row, OfTree, OfTrees}
 use Rattle.expression.proofs.Standing.{first-stands, rest-stands, no-children, some-children}
 use Rattle.expression.proofs.Parts.{two-of}
@@ -49,13 +49,13 @@ no-ties (some k) none a b = refl
 no-ties (some k) (some s) a b = refl
 
 -- After the geometries stand k and at most two flags.
-request-is : (a b k : Expr) (ts : Exprs) → count ts ≤ 2
-    → knnRequest (cons a (cons b (cons k ts))) ≡ knnLiterals (literalK k) (spheroidOf ts) (tiesOf ts) a b
-unfolding knnRequest count
-request-is a b k nil h = refl
-request-is a b k (cons s nil) h = refl
-request-is a b k (cons s (cons t nil)) h = refl
-request-is a b k (cons s (cons t (cons u ts))) h = absurd (omega arith)
+request-is : (d : ℕ) (a b k : Expr) (ts : Exprs) → count ts ≤ 2
+    → knnRequestBy d (cons a (cons b (cons k ts))) ≡ knnLiterals (literalK k) (spheroidOf ts) (tiesOf ts) a b
+unfolding knnRequestBy count
+request-is d a b k nil h = refl
+request-is d a b k (cons s nil) h = refl
+request-is d a b k (cons s (cons t nil)) h = refl
+request-is d a b k (cons s (cons t (cons u ts))) h = absurd (omega arith)
 
 -- ---- the answers
 
@@ -94,15 +94,15 @@ module _ {s : List ℕ} {at n : ℕ} where
             (λ t u ts w. (sym (is c t (first-stands w)) ∙ ap flagIs e, sym (second-is c t u ts w) ∙ ap flagIs f))
             ts (omega (arith, row .counted)) row
 
-  pub options-none : n ≡ 0 → OfTrees s at n (OptionsAre (options.Read 1 false Absent))
-  unfolding knnRequest
-  options-none e c ts row = no-children (OptionsAre (options.Read 1 false Absent)) (λ a b. refl) ts (row .counted ∙ e)
+  pub options-none : (d : ℕ) → n ≡ 0 → OfTrees s at n (OptionsAre d (options.Read d false Absent))
+  unfolding knnRequestBy
+  options-none d e c ts row = no-children (OptionsAre d (options.Read d false Absent)) (λ a b. refl) ts (row .counted ∙ e)
 
-  module _ (some-left : n ≡ 0 → ⊥) (few : n ≤ 3) (first : LiteralU32) (is : OfTree s at (λ t. numberIs first ≡ literalK t)) where
-    pub k-unread : first ≡ number.Nothing → OfTrees s at n (OptionsAre options.Nothing)
+  module _ (d : ℕ) (some-left : n ≡ 0 → ⊥) (few : n ≤ 3) (first : LiteralU32) (is : OfTree s at (λ t. numberIs first ≡ literalK t)) where
+    pub k-unread : first ≡ number.Nothing → OfTrees s at n (OptionsAre d options.Nothing)
     unfolding count knnLiterals
-    k-unread e c ts row = some-children (λ ts. Row c s at n ts → OptionsAre options.Nothing ts)
-        (λ t ts w a b. request-is a b t ts (omega (arith, w .counted))
+    k-unread e c ts row = some-children (λ ts. Row c s at n ts → OptionsAre d options.Nothing ts)
+        (λ t ts w a b. request-is d a b t ts (omega (arith, w .counted))
         ∙ ap (λ (x : Option ℕ). knnLiterals x (spheroidOf ts) (tiesOf ts) a b) (sym (is c t (first-stands w)) ∙ ap numberIs e))
         ts (omega (arith, row .counted)) row
 
@@ -116,20 +116,20 @@ module _ {s : List ℕ} {at n : ℕ} where
 
         -- With k known, the request is that of the flags.
         with-flags : (c : Columns) (t : Expr) (ts : Exprs) → Row c s at n (cons t ts) → (a b : Expr)
-            → knnRequest (cons a (cons b (cons t ts))) ≡ knnLiterals (some k) (spheroidOf ts) (tiesOf ts) a b
+            → knnRequestBy d (cons a (cons b (cons t ts))) ≡ knnLiterals (some k) (spheroidOf ts) (tiesOf ts) a b
         unfolding count
-        with-flags c t ts w a b = request-is a b t ts (omega (arith, w .counted))
+        with-flags c t ts w a b = request-is d a b t ts (omega (arith, w .counted))
             ∙ ap (λ (x : Option ℕ). knnLiterals x (spheroidOf ts) (tiesOf ts) a b) (sym (is c t (first-stands w)) ∙ ap numberIs e)
 
-        pub options-unread : after ≡ flags.Nothing → OfTrees s at n (OptionsAre options.Nothing)
-        options-unread f c ts row = some-children (λ ts. Row c s at n ts → OptionsAre options.Nothing ts)
+        pub options-unread : after ≡ flags.Nothing → OfTrees s at n (OptionsAre d options.Nothing)
+        options-unread f c ts row = some-children (λ ts. Row c s at n ts → OptionsAre d options.Nothing ts)
             (λ t ts w a b. with-flags c t ts w a b ∙ (rw f at (rest-is c t ts w)) (some k) a b)
             ts (omega (arith, row .counted)) row
 
         pub options-read : (spheroid : Bool) (ties : TieBreakers) → after ≡ flags.Read spheroid ties
-            → OfTrees s at n (OptionsAre (options.Read k spheroid ties))
+            → OfTrees s at n (OptionsAre d (options.Read k spheroid ties))
         unfolding knnLiterals
-        options-read spheroid ties f c ts row = some-children (λ ts. Row c s at n ts → OptionsAre (options.Read k spheroid ties) ts)
+        options-read spheroid ties f c ts row = some-children (λ ts. Row c s at n ts → OptionsAre d (options.Read k spheroid ties) ts)
             (λ t ts w a b.
             let both : FlagsAre (flags.Read spheroid ties) ts = rw f at (rest-is c t ts w) in
             with-flags c t ts w a b ∙ ap₂ (λ (x y : Option ℕ). knnLiterals (some k) x y a b) (both .0) (both .1))

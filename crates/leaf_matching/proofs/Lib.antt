@@ -4,6 +4,7 @@ pub mod Framing
 pub mod SideLaws
 pub mod SideWalk
 pub mod Asked
+pub mod AllowLaws
 pub mod MatchLaws
 pub mod KnnLaws
 pub mod KnnOptionLaws

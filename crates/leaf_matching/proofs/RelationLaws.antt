@@ -9,7 +9,7 @@ use Rattle.definitions.specs.Basics.{ascii, sameName, any}
 use Rattle.definitions.specs.Expression.{relations, call, Exprs, nil, cons, count, Record, relation}
 use Rattle.definitions.specs.Expression as definition
 use Rattle.definitions.specs.Leaves.{typeNamed, relationNamed}
-use Rattle.definitions.specs.Match.{relationRequest, callRequest, request, askNothing, invert, onChild, matchRelation, matchRequest, matchLeaf}
+use Rattle.definitions.specs.Match.{relationRequest, callRequestBy, requestBy, askNothing, invert, onChild, matchRelation, matchRequest, matchLeaf, matchLeafBy}
 use Rattle.sedona_query_planner.specs.Predicates.{boundOn}
 use Rattle.theorems.proofs.Requests.{same-name}
 use Rattle.expression.specs.Places.{part}
@@ -38,7 +38,7 @@ not-this name other e n false same = refl
 
 module _ (records : List Record) (name : List ℕ) (ts : Exprs) {type : definition.Relation} (e : relationNamed name ≡ some type) where
   relation-leaf : matchLeaf records (call name ts) ≡ matchRequest records (relationRequest (some type) ts)
-  unfolding matchLeaf request callRequest relationNamed typeNamed relations any sameName ascii
+  unfolding matchLeafBy requestBy callRequestBy relationNamed typeNamed relations any sameName ascii
   relation-leaf =
       rw (
         not-this name (ascii "st_knn") e refl (sameName name (ascii "st_knn")) refl,

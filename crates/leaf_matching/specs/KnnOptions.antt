@@ -3,7 +3,7 @@ use Prim.Native.Nat.{ℕ}
 use mathlib.Core.Path.{_≡_}
 use mathlib.Core.Option.{Option, some}
 use Rattle.definitions.specs.Expression.{Expr, Exprs, nil, cons}
-use Rattle.definitions.specs.Match.{literalBool, Request, askKnn, askNothing, knnLiterals, knnRequest}
+use Rattle.definitions.specs.Match.{literalBool, Request, askKnn, askNothing, knnLiterals, knnRequestBy}
 use Rattle.sedona_query_planner.specs.Predicates.{flag, tiesNumber}
 use Rattle.leaf_matching.specs.declared.knn.KnnFlags.{KnnFlags}
 use Rattle.leaf_matching.specs.declared.knn.KnnFlags.the-variants as flags
@@ -30,5 +30,6 @@ abbrev pub asked : KnnOptions → Expr → Expr → Request
 asked (options.Read k spheroid ties) a b = askKnn k (flag spheroid) (tiesNumber ties) a b
 asked options.Nothing a b = askNothing
 
-abbrev pub OptionsAre : KnnOptions → Exprs → Type 0
-OptionsAre r ts = (a b : Expr) → knnRequest (cons a (cons b ts)) ≡ asked r a b
+-- With this default k.
+abbrev pub OptionsAre : (defaultK : ℕ) → KnnOptions → Exprs → Type 0
+OptionsAre defaultK r ts = (a b : Expr) → knnRequestBy defaultK (cons a (cons b ts)) ≡ asked r a b

@@ -5,8 +5,9 @@ use mathlib.Core.Bool.{Bool, true, false}
 use mathlib.Core.List.{List}
 use mathlib.Core.Option.{Option, none, some}
 use Rattle.definitions.specs.Expression.{Expr, Exprs, call, Record, Predicate, relation, distance, knn}
-use Rattle.definitions.specs.Match.{matchLeaf}
-use Rattle.sedona_query_planner.specs.Predicates.{onChildren, PredicateAt}
+use Rattle.definitions.specs.Match.{matchLeafBy}
+use Rattle.definitions.specs.Settings.{Settings, allowed, passing}
+use Rattle.sedona_query_planner.specs.Predicates.{Change, onChildren, PredicateAt}
 use Rattle.sedona_query_planner.specs.declared.spatial_predicate.SpatialPredicate.{SpatialPredicate}
 use Rattle.leaf_matching.specs.declared.matching.Matching.{Matching}
 use Rattle.leaf_matching.specs.declared.matching.Matching.the-variants.{Matched, Unmatched, NotAsked}
@@ -43,10 +44,31 @@ MatchingIs kind s rec records match (Matched p) = Matches kind s rec records p m
 MatchingIs kind s rec records match Unmatched = match ≡ none
 MatchingIs kind s rec records match NotAsked = Lacks kind match
 
--- The answer for a leaf, and for one that is a function.
+-- The answer for a leaf, and for one that is a function, with this default k.
+abbrev pub LeafMatchingBy : (defaultK : ℕ) (kind : Predicate → Bool) (s : List ℕ) (rec : ℕ) → Matching
+    → (records : List Record) (leaf : Expr) → Type 0
+LeafMatchingBy defaultK kind s rec r records leaf = MatchingIs kind s rec records (matchLeafBy defaultK records leaf) r
+
+abbrev pub CallMatchingBy : (defaultK : ℕ) (kind : Predicate → Bool) (s : List ℕ) (rec : ℕ) → Matching
+    → (records : List Record) (name : List ℕ) (arguments : Exprs) → Type 0
+CallMatchingBy defaultK kind s rec r records name arguments = LeafMatchingBy defaultK kind s rec r records (call name arguments)
+
+-- With 1, as 01 has it: a relation and a distance are the same with any (`Defaults`).
 abbrev pub LeafMatching : (kind : Predicate → Bool) (s : List ℕ) (rec : ℕ) → Matching → (records : List Record) (leaf : Expr) → Type 0
-LeafMatching kind s rec r records leaf = MatchingIs kind s rec records (matchLeaf records leaf) r
+LeafMatching = LeafMatchingBy 1
 
 abbrev pub CallMatching : (kind : Predicate → Bool) (s : List ℕ) (rec : ℕ) → Matching
     → (records : List Record) (name : List ℕ) (arguments : Exprs) → Type 0
-CallMatching kind s rec r records name arguments = LeafMatching kind s rec r records (call name arguments)
+CallMatching = CallMatchingBy 1
+
+-- ---- the answer under settings (request 13)
+
+-- Whether what stands for p is allowed.
+abbrev pub AllowedIs : Settings → SpatialPredicate → Bool → Type 0
+AllowedIs S p r = (change : Change) (s : List ℕ) (q : Predicate) → PredicateAt change s p q → r ≡ allowed S q
+
+-- Whatever a leaf's match, r says of what of it is left under the settings what m says of it.
+abbrev pub Allows : Settings → (m r : Matching) → Type 0
+Allows S m r =
+    (kind : Predicate → Bool) (s : List ℕ) (rec : ℕ) (records : List Record) (match : Option Predicate)
+    → MatchingIs kind s rec records match m → MatchingIs kind s rec records (passing (allowed S) match) r

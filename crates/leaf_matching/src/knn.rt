@@ -7,7 +7,7 @@ ghost use Rattle.expression.specs.Nodes.{Trees, OfTrees};
 ghost use Rattle.expression.specs.Leaves.{OfCall};
 ghost use Rattle.node_rows.specs.Rows.{TabledAll};
 ghost use Rattle.leaf_matching.specs.Frames.{CallFramed, OfCallFrame};
-ghost use Rattle.leaf_matching.specs.Matches.{CallMatching};
+ghost use Rattle.leaf_matching.specs.Matches.{CallMatchingBy};
 ghost use Rattle.leaf_matching.specs.KnnOptions.{FlagsAre, OptionsAre};
 use super::literal_arguments::LiteralBool;
 use super::literal_arguments::LiteralU32;
@@ -55,14 +55,14 @@ fn knn_flags(s: &[u8], at: usize, n: usize) -> KnnFlags
     KnnFlags::Read(use_spheroid, TieBreakers::Given(ties))
 }
 
-// What follows the two geometries; k is 1 if it is missing.
-fn knn_options(s: &[u8], at: usize, n: usize) -> KnnOptions
+// What follows the two geometries; k is the default if it is missing.
+fn knn_options(s: &[u8], at: usize, n: usize, default_k: u32) -> KnnOptions
     requires { ⌜ Trees (now s) at n ⌝ }
     requires { ⌜ n ≤ 3 ⌝ }
-    ensures { λ r. ⌜ OfTrees (now (s .entry)) at n (OptionsAre r) ⌝ }
+    ensures { λ r. ⌜ OfTrees (now (s .entry)) at n (OptionsAre «default_k» r) ⌝ }
 {
     if n == 0 {
-        return KnnOptions::Read(1, false, TieBreakers::Absent);
+        return KnnOptions::Read(default_k, false, TieBreakers::Absent);
     }
     let LiteralU32::Value(k) = extract_literal_k(s, at) else {
         return KnnOptions::Nothing;
@@ -81,10 +81,11 @@ pub fn match_knn_predicate(
     numbers: &[u32],
     next: &[u16],
     i: usize,
+    default_k: u32,
 ) -> Matching
     requires { ⌜ CallFramed (now s) rec called ⌝ }
     requires { ⌜ OfCall (now s) called (λ c name. TabledAll (now numbers) (now next) (called .first) i) ⌝ }
-    ensures { λ r. ⌜ OfCallFrame (now (s .entry)) rec called (CallMatching isKnn (now (s .entry)) rec r) ⌝ }
+    ensures { λ r. ⌜ OfCallFrame (now (s .entry)) rec called (CallMatchingBy «default_k» isKnn (now (s .entry)) rec r) ⌝ }
 {
     if !same_name(s, called.name, called.end, b"st_knn") {
         return Matching::NotAsked;
@@ -96,7 +97,8 @@ pub fn match_knn_predicate(
     }
     let geometries = resolve_geometries(s, rec, queries, numbers, next, i);
     let options = geometries.end;
-    let KnnOptions::Read(k, use_spheroid, ties) = knn_options(s, options, count - 2) else {
+    let KnnOptions::Read(k, use_spheroid, ties) = knn_options(s, options, count - 2, default_k)
+    else {
         return Matching::Unmatched;
     };
     let order = geometries.order;

@@ -14,12 +14,11 @@ use Rattle.definitions.specs.Encode.{exprBytes, exprsBytes}
 use Rattle.definitions.specs.Leaves.{leaves}
 use Rattle.definitions.specs.Decode.{indexBelow}
 use Rattle.definitions.specs.Good.{nodes, nodesAll}
-use Rattle.definitions.specs.Match.{matchLeaf}
 use Rattle.definitions.specs.NodeTable.{rowFrom}
 use Rattle.definitions.specs.Extract as definition
-use Rattle.definitions.specs.Extract.{isKnnMatch, matchesBy}
+use Rattle.definitions.specs.Extract.{isKnnMatch, Matcher, matchesBy}
 use Rattle.definitions.specs.OneWalk as walks
-use Rattle.definitions.specs.OneWalk.{reading, stopped, readLeaf, walkOn, oneWalk, remembered, countTo, walkLengthBy, walkLength}
+use Rattle.definitions.specs.OneWalk.{reading, stopped, readLeaf, walkOn, oneWalk, remembered, countTo, walkLengthBy}
 use Rattle.theorems.proofs.Proved.{one-walk-is-pick}
 use Rattle.expression.specs.Nodes.{headBytes, leftOf, OfTree, OfTreeIn}
 use Rattle.expression.specs.Leaves.{Both, NodeIs}
@@ -43,7 +42,7 @@ use Rattle.leaf_pick.proofs.Forests.{row-open, tabled-open, nodes-open,
 -- ---- of a frame
 
 -- The expressions ts are ahead: they stand in a row and are in the rows of numbers; the walk goes on among them.
-pub record Ahead (s numbers next : List ℕ) (rec at last place index position : ℕ) (w : Walk) (records : List Record) (t : Expr)
+pub record Ahead (match : Matcher) (s numbers next : List ℕ) (rec at last place index position : ℕ) (w : Walk) (records : List Record) (t : Expr)
     (ts : Exprs) : Type 0 where
   pub row : OverAll s rec place (count ts) records ts
   pub tabled : TabledAll numbers next place index ts
@@ -51,8 +50,8 @@ pub record Ahead (s numbers next : List ℕ) (rec at last place index position :
   pub first : Option definition.Pick
   pub remembers : Remembers s records (w .memory) first
   pub spot : SpotOf t at (w .memory)
-  pub picks : oneWalk (matches records t) ≡ walkOn (reading position first) (map (matchLeaf records) (leavesAll ts))
-  pub walked : walkLength (record { records = records; expr = t }) ≡ w .read + countTo isKnnMatch (reachedAll (matchLeaf records) ts)
+  pub picks : oneWalk (matches match records t) ≡ walkOn (reading position first) (map (match records) (leavesAll ts))
+  pub walked : walkLengthBy match (record { records = records; expr = t }) ≡ w .read + countTo isKnnMatch (reachedAll (match records) ts)
   pub spots : (leaf end p : ℕ) → SpotAll leaf end ts place p → Spot leaf end t at (position + p)
 
 -- ---- it begins
@@ -61,9 +60,9 @@ begins-spot : (t : Expr) (at leaf end p : ℕ) → SpotAll leaf end (cons t nil)
 begins-spot t at leaf end p (inl spot) = subst (Spot leaf end t at) (sym (zero-add p)) spot
 begins-spot t at leaf end p (inr (q, e, nowhere)) = absurd nowhere
 
-module _ {s numbers next : List ℕ} {rec at i last : ℕ} {records : List Record} {t : Expr} where
+module _ {match : Matcher} {s numbers next : List ℕ} {rec at i last : ℕ} {records : List Record} {t : Expr} where
   ahead-begins : Over s rec at records t → Tabled numbers next at i t → last ≡ getD next i 0
-      → Ahead s numbers next rec at last at i 0 (record { memory = Nothing; read = 0 }) records t (cons t nil)
+      → Ahead match s numbers next rec at last at i 0 (record { memory = Nothing; read = 0 }) records t (cons t nil)
   unfolding oneWalk walkLengthBy leavesAll reachedAll exprsBytes rowFrom rowNexts nodesAll count
   ahead-begins over h e = record {
     row = record {
@@ -86,10 +85,10 @@ module _ {s numbers next : List ℕ} {rec at i last : ℕ} {records : List Recor
 
 -- ---- one step
 
-module _ {s numbers next : List ℕ} {rec at last place index position : ℕ} {w : Walk} {records : List Record} {t : Expr} where
+module _ {match : Matcher} {s numbers next : List ℕ} {rec at last place index position : ℕ} {w : Walk} {records : List Record} {t : Expr} where
   -- An And opens.
-  ahead-and : {l r : Expr} {us : Exprs} → Ahead s numbers next rec at last place index position w records t (cons (and l r) us)
-      → Ahead s numbers next rec at last (leftOf place) (index + 1) position (record { memory = w .memory; read = w .read + 1 }) records t
+  ahead-and : {l r : Expr} {us : Exprs} → Ahead match s numbers next rec at last place index position w records t (cons (and l r) us)
+      → Ahead match s numbers next rec at last (leftOf place) (index + 1) position (record { memory = w .memory; read = w .read + 1 }) records t
       (cons l (cons r us))
   unfolding countTo isKnnMatch
   ahead-and {l} {r} {us} a = record {
@@ -99,27 +98,27 @@ module _ {s numbers next : List ℕ} {rec at last place index position : ℕ} {w
     first = a .first;
     remembers = a .remembers;
     spot = a .spot;
-    picks = a .picks ∙ ap (λ (ls : List Expr). walkOn (reading position (a .first)) (map (matchLeaf records) ls)) (leaves-open l r us);
+    picks = a .picks ∙ ap (λ (ls : List Expr). walkOn (reading position (a .first)) (map (match records) ls)) (leaves-open l r us);
     walked =
-        a .walked ∙ ap (λ (ms : List (Option Predicate)). w .read + countTo isKnnMatch ms) (reached-open l r us (matchLeaf records))
+        a .walked ∙ ap (λ (ms : List (Option Predicate)). w .read + countTo isKnnMatch ms) (reached-open l r us (match records))
         ∙ omega arith;
     spots = λ leaf end p spot. a .spots leaf end p (spot-open leaf end l r us place p spot);
   }
 
-  module _ {u : Expr} {us : Exprs} (a : Ahead s numbers next rec at last place index position w records t (cons u us))
+  module _ {u : Expr} {us : Exprs} (a : Ahead match s numbers next rec at last place index position w records t (cons u us))
       (single : leaves u ≡ u ∷ []) where
     -- What a leaf makes of the pick and of the length.
-    leaf-picks : oneWalk (matches records t)
-        ≡ walkOn (readLeaf position (a .first) (matchLeaf records u)) (map (matchLeaf records) (leavesAll us))
+    leaf-picks : oneWalk (matches match records t)
+        ≡ walkOn (readLeaf position (a .first) (match records u)) (map (match records) (leavesAll us))
     unfolding walkOn
     leaf-picks =
-        a .picks ∙ ap (λ (ls : List Expr). walkOn (reading position (a .first)) (map (matchLeaf records) ls)) (leaves-pass single us)
+        a .picks ∙ ap (λ (ls : List Expr). walkOn (reading position (a .first)) (map (match records) ls)) (leaves-pass single us)
 
-    leaf-walked : walkLength (record { records = records; expr = t })
-        ≡ w .read + suc (if isKnnMatch (matchLeaf records u) then 0 else countTo isKnnMatch (reachedAll (matchLeaf records) us))
+    leaf-walked : walkLengthBy match (record { records = records; expr = t })
+        ≡ w .read + suc (if isKnnMatch (match records u) then 0 else countTo isKnnMatch (reachedAll (match records) us))
     unfolding countTo
     leaf-walked =
-        a .walked ∙ ap (λ (ms : List (Option Predicate)). w .read + countTo isKnnMatch ms) (reached-pass single us (matchLeaf records))
+        a .walked ∙ ap (λ (ms : List (Option Predicate)). w .read + countTo isKnnMatch ms) (reached-pass single us (match records))
 
     -- It is where the walk is.
     here-spot : {leaf end : ℕ} → leaf ≡ place → end ≡ place + length (exprBytes u) → Spot leaf end t at position
@@ -130,9 +129,9 @@ module _ {s numbers next : List ℕ} {rec at last place index position : ℕ} {w
     kept-spot same spot = spot
     kept-spot (here {seen} h) spot = subst (Spot (seen .leaf) (seen .end) t at) (sym (h .counted)) (here-spot (h .place) (h .ends))
 
-    ahead-leaf : {kept : Memory} → GoingIs s place position (a .first) (w .memory) kept records u
+    ahead-leaf : {kept : Memory} → GoingIs match s place position (a .first) (w .memory) kept records u
         → (p k : ℕ) → p ≡ place + length (exprBytes u) → k ≡ index + nodes u
-        → Ahead s numbers next rec at last p k (position + 1) (record { memory = kept; read = w .read + 1 }) records t us
+        → Ahead match s numbers next rec at last p k (position + 1) (record { memory = kept; read = w .read + 1 }) records t us
     unfolding count nodesAll
     ahead-leaf {kept} g p k e f = record {
       row = rest-over (a .row) p (count us) e refl;
@@ -142,33 +141,33 @@ module _ {s numbers next : List ℕ} {rec at last place index position : ℕ} {w
       remembers = g .remembers;
       spot = kept-spot (g .kept) (a .spot);
       picks =
-          leaf-picks ∙ ap (λ (m : walks.Memory). walkOn m (map (matchLeaf records) (leavesAll us))) (g .is)
-          ∙ ap (λ (n : ℕ). walkOn (reading n (g .now-first)) (map (matchLeaf records) (leavesAll us))) (omega arith);
+          leaf-picks ∙ ap (λ (m : walks.Memory). walkOn m (map (match records) (leavesAll us))) (g .is)
+          ∙ ap (λ (n : ℕ). walkOn (reading n (g .now-first)) (map (match records) (leavesAll us))) (omega arith);
       walked =
           leaf-walked
-          ∙ ap (λ (b : Bool). w .read + suc (if b then 0 else countTo isKnnMatch (reachedAll (matchLeaf records) us))) (g .far)
+          ∙ ap (λ (b : Bool). w .read + suc (if b then 0 else countTo isKnnMatch (reachedAll (match records) us))) (g .far)
           ∙ omega arith;
       spots = λ leaf end q spot.
           subst (Spot leaf end t at) (omega arith)
           (a .spots leaf end (suc q) (spot-later leaf end us place single q (subst (λ (b : ℕ). SpotAll leaf end us b q) e spot)));
     }
 
-    leaf-stopped : {seen : Seen} → StoppedIs s place position (a .first) seen records u
-        → WalkIs s rec at (record { memory = First seen; read = w .read + 1 }) records t
+    leaf-stopped : {seen : Seen} → StoppedIs match s place position (a .first) seen records u
+        → WalkIs match s rec at (record { memory = First seen; read = w .read + 1 }) records t
     unfolding matchesBy remembered walkOn
     leaf-stopped {seen} h = record {
       remembers = (
         h .p,
-        sym (one-walk-is-pick (matches records t))
+        sym (one-walk-is-pick (matches match records t))
             ∙ ap remembered
-            (leaf-picks ∙ ap (λ (m : walks.Memory). walkOn m (map (matchLeaf records) (leavesAll us))) (h .is)
-            ∙ stays (h .p) (map (matchLeaf records) (leavesAll us))),
+            (leaf-picks ∙ ap (λ (m : walks.Memory). walkOn m (map (match records) (leavesAll us))) (h .is)
+            ∙ stays (h .p) (map (match records) (leavesAll us))),
         h .seen-is,
       );
       spot = kept-spot {before = Nothing} (here (h .seen-here)) tt;
       walk = sym
           (leaf-walked
-          ∙ ap (λ (b : Bool). w .read + suc (if b then 0 else countTo isKnnMatch (reachedAll (matchLeaf records) us))) (h .near)
+          ∙ ap (λ (b : Bool). w .read + suc (if b then 0 else countTo isKnnMatch (reachedAll (match records) us))) (h .near)
           ∙ omega arith);
     }
       where
@@ -178,11 +177,11 @@ module _ {s numbers next : List ℕ} {rec at last place index position : ℕ} {w
 
   -- ---- it ends
 
-  ahead-ends : Ahead s numbers next rec at last place index position w records t nil → WalkIs s rec at w records t
+  ahead-ends : Ahead match s numbers next rec at last place index position w records t nil → WalkIs match s rec at w records t
   unfolding matchesBy remembered walkOn leavesAll reachedAll countTo
   ahead-ends a = record {
     remembers =
-        subst (Remembers s records (w .memory)) (sym (ap remembered (a .picks)) ∙ one-walk-is-pick (matches records t)) (a .remembers);
+        subst (Remembers s records (w .memory)) (sym (ap remembered (a .picks)) ∙ one-walk-is-pick (matches match records t)) (a .remembers);
     spot = a .spot;
     walk = sym (a .walked ∙ add-zero (w .read));
   }
@@ -190,19 +189,19 @@ module _ {s numbers next : List ℕ} {rec at last place index position : ℕ} {w
 -- ---- of every frame that stands there
 
 -- Some expressions are ahead.
-abbrev pub SomeAhead : (s numbers next : List ℕ) (rec at last place index position : ℕ) (w : Walk) (records : List Record) → Expr → Type 0
-SomeAhead s numbers next rec at last place index position w records t =
-    (ts : Exprs) × Ahead s numbers next rec at last place index position w records t ts
+abbrev pub SomeAhead : Matcher → (s numbers next : List ℕ) (rec at last place index position : ℕ) (w : Walk) (records : List Record) → Expr → Type 0
+SomeAhead match s numbers next rec at last place index position w records t =
+    (ts : Exprs) × Ahead match s numbers next rec at last place index position w records t ts
 
 -- What the loop keeps.
-pub record Along (s numbers next : List ℕ) (rec at last place index position : ℕ) (w : Walk) : Type 0 where
+pub record Along (match : Matcher) (s numbers next : List ℕ) (rec at last place index position : ℕ) (w : Walk) : Type 0 where
   pub there : Framed s rec at
-  pub ahead : OfFrame s rec at (SomeAhead s numbers next rec at last place index position w)
+  pub ahead : OfFrame s rec at (SomeAhead match s numbers next rec at last place index position w)
   pub few : w .read ≤ index
   pub fewer : position ≤ w .read
 
-pub along-begins : {s numbers next : List ℕ} {rec at i last : ℕ} → Framed s rec at → OfTree s at (Tabled numbers next at i)
-    → last ≡ getD next i 0 → Along s numbers next rec at last at i 0 (record { memory = Nothing; read = 0 })
+pub along-begins : {match : Matcher} {s numbers next : List ℕ} {rec at i last : ℕ} → Framed s rec at → OfTree s at (Tabled numbers next at i)
+    → last ≡ getD next i 0 → Along match s numbers next rec at last at i 0 (record { memory = Nothing; read = 0 })
 along-begins there tabled e = record {
   there = there;
   ahead = λ records t over. (cons t nil, ahead-begins over (tabled _ t (over .tree)) e);
@@ -210,15 +209,15 @@ along-begins there tabled e = record {
   fewer = omega arith;
 }
 
-module _ {s numbers next : List ℕ} {rec at last place index position : ℕ} {w : Walk}
-    (inv : Along s numbers next rec at last place index position w) where
+module _ {match : Matcher} {s numbers next : List ℕ} {rec at last place index position : ℕ} {w : Walk}
+    (inv : Along match s numbers next rec at last place index position w) where
   by-rest : (index < last → ⊥) → {records : List Record} {t : Expr} (ts : Exprs)
-      → Ahead s numbers next rec at last place index position w records t ts → WalkIs s rec at w records t
+      → Ahead match s numbers next rec at last place index position w records t ts → WalkIs match s rec at w records t
   unfolding nodesAll
   by-rest end nil a = ahead-ends a
   by-rest end (cons u us) a = absurd (end (omega (arith, a .left, nodes-below u)))
 
-  pub along-ends : (index < last → ⊥) → OfFrame s rec at (WalkIs s rec at w)
+  pub along-ends : (index < last → ⊥) → OfFrame s rec at (WalkIs match s rec at w)
   along-ends end records t over = let some = inv .ahead records t over in by-rest end (some .0) (some .1)
 
   module _ (more : index < last) where
@@ -226,9 +225,9 @@ module _ {s numbers next : List ℕ} {rec at last place index position : ℕ} {w
     pub record Now (records : List Record) (t : Expr) : Type 0 where
       pub u : Expr
       pub us : Exprs
-      pub ahead : Ahead s numbers next rec at last place index position w records t (cons u us)
+      pub ahead : Ahead match s numbers next rec at last place index position w records t (cons u us)
 
-    now-in : {records : List Record} {t : Expr} (ts : Exprs) → Ahead s numbers next rec at last place index position w records t ts
+    now-in : {records : List Record} {t : Expr} (ts : Exprs) → Ahead match s numbers next rec at last place index position w records t ts
         → Now records t
     unfolding nodesAll
     now-in nil a = absurd (omega (arith, a .left, more))
@@ -261,7 +260,7 @@ module _ {s numbers next : List ℕ} {rec at last place index position : ℕ} {w
 
     module _ {left : ℕ} {found : Node} (is : OfTreeIn s place (λ c t. NodeIs c s place found t)) (told : found ≡ node.And left) where
       opened : (records : List Record) (t : Expr) → Over s rec at records t
-          → SomeAhead s numbers next rec at last left (index + 1) position (record { memory = w .memory; read = w .read + 1 }) records t
+          → SomeAhead match s numbers next rec at last left (index + 1) position (record { memory = w .memory; read = w .read + 1 }) records t
       unfolding headBytes
       opened records t over =
           let n : Now records t = now over in
@@ -270,15 +269,15 @@ module _ {s numbers next : List ℕ} {rec at last place index position : ℕ} {w
           let begins : left ≡ leftOf place = b .begins ∙ ap (λ (t : Expr). place + length (headBytes t)) (b .is) in (
             cons (b .l) (cons (b .r) (n .us)),
             subst
-                (λ (p : ℕ). Ahead s numbers next rec at last p (index + 1) position (record { memory = w .memory; read = w .read + 1 })
+                (λ (p : ℕ). Ahead match s numbers next rec at last p (index + 1) position (record { memory = w .memory; read = w .read + 1 })
                 records t (cons (b .l) (cons (b .r) (n .us))))
                 (sym begins)
                 (ahead-and
-                (subst (λ (x : Expr). Ahead s numbers next rec at last place index position w records t (cons x (n .us))) (b .is)
+                (subst (λ (x : Expr). Ahead match s numbers next rec at last place index position w records t (cons x (n .us))) (b .is)
                 (n .ahead))),
           )
 
-      pub along-and : Along s numbers next rec at last left (index + 1) position (record { memory = w .memory; read = w .read + 1 })
+      pub along-and : Along match s numbers next rec at last left (index + 1) position (record { memory = w .memory; read = w .read + 1 })
       along-and = record {
         there = inv .there;
         ahead = opened;
@@ -291,8 +290,8 @@ module _ {s numbers next : List ℕ} {rec at last place index position : ℕ} {w
     module _ (single : OfFrame s rec place (λ records u. leaves u ≡ u ∷ [])) where
       pub along-stopped : {seen : Seen}
           → OfFrame s rec place (λ records u. (first : Option definition.Pick) → Remembers s records (w .memory) first
-          → StoppedIs s place position first seen records u)
-          → OfFrame s rec at (WalkIs s rec at (record { memory = First seen; read = w .read + 1 }))
+          → StoppedIs match s place position first seen records u)
+          → OfFrame s rec at (WalkIs match s rec at (record { memory = First seen; read = w .read + 1 }))
       along-stopped inner records t over =
           let n : Now records t = now over in
           let o : Over s rec place records (n .u) = first-over (n .ahead .row) in
@@ -300,10 +299,10 @@ module _ {s numbers next : List ℕ} {rec at last place index position : ℕ} {w
 
       module _ {kept : Memory}
           (inner : OfFrame s rec place (λ records u. (first : Option definition.Pick) → Remembers s records (w .memory) first
-          → GoingIs s place position first (w .memory) kept records u)) where
+          → GoingIs match s place position first (w .memory) kept records u)) where
         passed : (p k : ℕ) → p ≡ endAt numbers index → k ≡ getD next index 0
             → (records : List Record) (t : Expr) → Over s rec at records t
-            → SomeAhead s numbers next rec at last p k (position + 1) (record { memory = kept; read = w .read + 1 }) records t
+            → SomeAhead match s numbers next rec at last p k (position + 1) (record { memory = kept; read = w .read + 1 }) records t
         passed p k e f records t over =
             let n : Now records t = now over in
             let o : Over s rec place records (n .u) = first-over (n .ahead .row) in
@@ -314,7 +313,7 @@ module _ {s numbers next : List ℕ} {rec at last place index position : ℕ} {w
             )
 
         pub along-going : (p k : ℕ) → p ≡ endAt numbers index → k ≡ getD next index 0
-            → Along s numbers next rec at last p k (position + 1) (record { memory = kept; read = w .read + 1 })
+            → Along match s numbers next rec at last p k (position + 1) (record { memory = kept; read = w .read + 1 })
         along-going p k e f = record {
           there = inv .there;
           ahead = passed p k e f;

@@ -30,7 +30,7 @@ one-cut e (inRight {position = p} more) (inRight {position = q} more′) = one-c
 -- ---- the picks
 
 pub engines-agree : EnginesAgree
-engines-agree s rec at (Leaf p) (Leaf q) records t a b =
+engines-agree match s rec at (Leaf p) (Leaf q) records t a b =
     let one : _≡_ {A = definition.Pick} (record { position = p .position; predicate = a .q })
     (record { position = q .position; predicate = b .q }) = cc (a .is, b .is) in
     let same : p .position ≡ q .position = ap (λ (x : definition.Pick). x .position) one in
@@ -41,6 +41,6 @@ engines-agree s rec at (Leaf p) (Leaf q) records t a b =
       one = a .stands;
       other = rw (ap (λ (x : definition.Pick). x .predicate) one) (b .stands);
     }
-engines-agree s rec at (Leaf p) Nothing records t a b = let z : _≡_ {A = ℕ} 0 1 = cc (a .is, b) in absurd (omega arith)
-engines-agree s rec at Nothing (Leaf q) records t a b = let z : _≡_ {A = ℕ} 0 1 = cc (a, b .is) in absurd (omega arith)
-engines-agree s rec at Nothing Nothing records t a b = tt
+engines-agree match s rec at (Leaf p) Nothing records t a b = let z : _≡_ {A = ℕ} 0 1 = cc (a .is, b) in absurd (omega arith)
+engines-agree match s rec at Nothing (Leaf q) records t a b = let z : _≡_ {A = ℕ} 0 1 = cc (a, b .is) in absurd (omega arith)
+engines-agree match s rec at Nothing Nothing records t a b = tt

@@ -11,9 +11,8 @@ use Rattle.definitions.specs.Expression.{Expr, and, Record, Predicate}
 use Rattle.definitions.specs.Encode.{exprBytes}
 use Rattle.definitions.specs.Leaves.{leaves}
 use Rattle.definitions.specs.Decode.{indexBelow}
-use Rattle.definitions.specs.Match.{matchLeaf}
 use Rattle.definitions.specs.Extract as definition
-use Rattle.definitions.specs.Extract.{firstMatch, firstOf, matchesBy}
+use Rattle.definitions.specs.Extract.{firstMatch, firstOf, Matcher, matchesBy}
 use Rattle.expression.proofs.AndLeaves.{leaves-few}
 use Rattle.expression.specs.Nodes.{leftOf, rightOf}
 use Rattle.expression.specs.Nodes.{headBytes, OfTree, OfTreeIn}
@@ -40,50 +39,50 @@ use Rattle.leaf_pick.proofs.PickLaws.{at-position, first-append, first-
 
 -- ---- leaves and matches of an And
 
-module _ (test : Predicate → Bool) (records : List Record) (l r : Expr) where
-  and-first : firstMatch test (matches records (and l r))
-      ≡ firstOf (firstMatch test (matches records l)) (moved (length (leaves l)) (firstMatch test (matches records r)))
+module _ (match : Matcher) (test : Predicate → Bool) (records : List Record) (l r : Expr) where
+  and-first : firstMatch test (matches match records (and l r))
+      ≡ firstOf (firstMatch test (matches match records l)) (moved (length (leaves l)) (firstMatch test (matches match records r)))
   unfolding leaves
   and-first =
-      ap (firstMatch test) (map-append (matchLeaf records) (leaves l) (leaves r))
-      ∙ first-append test (matches records l) (matches records r)
-      ∙ ap (λ (n : ℕ). firstOf (firstMatch test (matches records l)) (moved n (firstMatch test (matches records r))))
-      (length-map (leaves l) (matchLeaf records))
+      ap (firstMatch test) (map-append (match records) (leaves l) (leaves r))
+      ∙ first-append test (matches match records l) (matches match records r)
+      ∙ ap (λ (n : ℕ). firstOf (firstMatch test (matches match records l)) (moved n (firstMatch test (matches match records r))))
+      (length-map (leaves l) (match records))
 
-  and-left : {p : definition.Pick} → firstMatch test (matches records l) ≡ some p → firstMatch test (matches records (and l r)) ≡ some p
+  and-left : {p : definition.Pick} → firstMatch test (matches match records l) ≡ some p → firstMatch test (matches match records (and l r)) ≡ some p
   unfolding firstOf
   and-left e = and-first ∙ rw e
 
-  and-right : firstMatch test (matches records l) ≡ none
-      → firstMatch test (matches records (and l r)) ≡ moved (length (leaves l)) (firstMatch test (matches records r))
+  and-right : firstMatch test (matches match records l) ≡ none
+      → firstMatch test (matches match records (and l r)) ≡ moved (length (leaves l)) (firstMatch test (matches match records r))
   unfolding firstOf
   and-right e = and-first ∙ rw e
 
 -- ---- a leaf
 
-one-match : (records : List Record) (t : Expr) → leaves t ≡ t ∷ [] → matches records t ≡ matchLeaf records t ∷ []
-one-match records t single = ap (map (matchLeaf records)) single
+one-match : (match : Matcher) (records : List Record) (t : Expr) → leaves t ≡ t ∷ [] → matches match records t ≡ match records t ∷ []
+one-match match records t single = ap (map (match records)) single
 
-module _ (wanted : Wanted) {s : List ℕ} {rec at : ℕ} {records : List Record} {t : Expr} (over : Over s rec at records t)
+module _ {match : Matcher} (wanted : Wanted) {s : List ℕ} {rec at : ℕ} {records : List Record} {t : Expr} (over : Over s rec at records t)
     (single : leaves t ≡ t ∷ []) where
   pub leaf-matched : {before up : ℕ} (p : SpatialPredicate) (end : ℕ)
-      → Matches (wants wanted) s rec records p (matchLeaf records t) → end ≡ at + length (exprBytes t)
-      → FirstIs wanted s rec at before up
+      → Matches (wants wanted) s rec records p (match records t) → end ≡ at + length (exprBytes t)
+      → FirstIs match wanted s rec at before up
       (record { predicate = p; position = before; cut = record { leaf = at; end = end; parent = up } }) records t
   leaf-matched {before} p end m ends = record {
     i = 0;
     q = m .q;
     first =
-        ap (firstMatch (wants wanted)) (one-match records t single)
-        ∙ first-match (wants wanted) (matchLeaf records t) (m .q) (m .is) (m .passes);
+        ap (firstMatch (wants wanted)) (one-match match records t single)
+        ∙ first-match (wants wanted) (match records t) (m .q) (m .is) (m .passes);
     counted = omega arith;
     stands = m .stands;
     cut = here single refl ends refl;
   }
 
-  pub leaf-lacks : {before : ℕ} → Lacks (wants wanted) (matchLeaf records t) → NothingIs wanted before (before + 1) records t
+  pub leaf-lacks : {before : ℕ} → Lacks (wants wanted) (match records t) → NothingIs match wanted before (before + 1) records t
   leaf-lacks {before} m = record {
-    first = ap (firstMatch (wants wanted)) (one-match records t single) ∙ first-lacks (wants wanted) (matchLeaf records t) m;
+    first = ap (firstMatch (wants wanted)) (one-match match records t single) ∙ first-lacks (wants wanted) (match records t) m;
     counted = ap (λ (n : ℕ). before + n) (sym (ap length single));
   }
 
@@ -119,75 +118,75 @@ module _ {s : List ℕ} {rec at left : ℕ} {found : Node} (is : OfTreeIn s at (
   pub left-after : Framed s rec at → at < left
   left-after p = omega (arith, its-children (p .2) .begins)
 
-  module _ {wanted : Wanted} {before : ℕ} where
-    pub match-left : {up : ℕ} {p : Pick} → OfFrame s rec left (FirstIs wanted s rec left before at p)
-        → OfFrame s rec at (FirstIs wanted s rec at before up p)
+  module _ {match : Matcher} {wanted : Wanted} {before : ℕ} where
+    pub match-left : {up : ℕ} {p : Pick} → OfFrame s rec left (FirstIs match wanted s rec left before at p)
+        → OfFrame s rec at (FirstIs match wanted s rec at before up p)
     match-left {up} {p} inner records t over =
         let c : Children s rec at left records t = its-children over in
-        let f : FirstIs wanted s rec left before at p records (c .l) = inner records (c .l) (c .first) in
-        subst⁻¹ (FirstIs wanted s rec at before up p records) (c .is) (record {
+        let f : FirstIs match wanted s rec left before at p records (c .l) = inner records (c .l) (c .first) in
+        subst⁻¹ (FirstIs match wanted s rec at before up p records) (c .is) (record {
           i = f .i;
           q = f .q;
-          first = and-left (wants wanted) records (c .l) (c .r) (f .first);
+          first = and-left match (wants wanted) records (c .l) (c .r) (f .first);
           counted = f .counted;
           stands = f .stands;
           cut = inLeft (subst (λ (a : ℕ). CutAt (p .cut) at (c .l) a (f .i)) (c .begins) (f .cut));
         })
 
-    module _ {right count : ℕ} (inner : OfFrame s rec left (NothingIs wanted before count))
+    module _ {right count : ℕ} (inner : OfFrame s rec left (NothingIs match wanted before count))
         (ends : OfTree s left (λ l. right ≡ left + length (exprBytes l))) where
       pub right-framed : Framed s rec at → before ≤ at → Framed s rec right × (at < right) × (count ≤ right)
       right-framed p h =
           let c : Children s rec at left (p .0) (p .1) = its-children (p .2) in
-          let n : NothingIs wanted before count (p .0) (c .l) = inner (p .0) (c .l) (c .first) in
+          let n : NothingIs match wanted before count (p .0) (c .l) = inner (p .0) (c .l) (c .first) in
           let e : right ≡ left + length (exprBytes (c .l)) = ends _ (c .l) (c .first .tree) in (
             (p .0, c .r, c .second right e),
             omega (arith, c .begins, e),
             omega (arith, c .begins, e, n .counted, leaves-few (c .l)),
           )
 
-      pub match-right : (up : ℕ) (r : Found) → OfFrame s rec right (FoundIs wanted s rec right count at r)
-          → OfFrame s rec at (FoundIs wanted s rec at before up r)
+      pub match-right : (up : ℕ) (r : Found) → OfFrame s rec right (FoundIs match wanted s rec right count at r)
+          → OfFrame s rec at (FoundIs match wanted s rec at before up r)
       unfolding moved leaves
       match-right up (Leaf p) outer records t over =
           let c : Children s rec at left records t = its-children over in
-          let n : NothingIs wanted before count records (c .l) = inner records (c .l) (c .first) in
+          let n : NothingIs match wanted before count records (c .l) = inner records (c .l) (c .first) in
           let e : right ≡ left + length (exprBytes (c .l)) = ends _ (c .l) (c .first .tree) in
-          let f : FirstIs wanted s rec right count at p records (c .r) = outer records (c .r) (c .second right e) in
+          let f : FirstIs match wanted s rec right count at p records (c .r) = outer records (c .r) (c .second right e) in
           let place : right ≡ rightOf at (c .l) = e ∙ ap (λ (a : ℕ). a + length (exprBytes (c .l))) (c .begins) in
-          subst⁻¹ (FirstIs wanted s rec at before up p records) (c .is) (record {
+          subst⁻¹ (FirstIs match wanted s rec at before up p records) (c .is) (record {
             i = length (leaves (c .l)) + f .i;
             q = f .q;
-            first = and-right (wants wanted) records (c .l) (c .r) (n .first) ∙ ap (moved (length (leaves (c .l)))) (f .first);
+            first = and-right match (wants wanted) records (c .l) (c .r) (n .first) ∙ ap (moved (length (leaves (c .l)))) (f .first);
             counted = omega (arith, f .counted, n .counted);
             stands = f .stands;
             cut = inRight (subst (λ (a : ℕ). CutAt (p .cut) at (c .r) a (f .i)) place (f .cut));
           })
       match-right up (Nothing many) outer records t over =
           let c : Children s rec at left records t = its-children over in
-          let n : NothingIs wanted before count records (c .l) = inner records (c .l) (c .first) in
-          let f : NothingIs wanted count many records (c .r) =
+          let n : NothingIs match wanted before count records (c .l) = inner records (c .l) (c .first) in
+          let f : NothingIs match wanted count many records (c .r) =
           outer records (c .r) (c .second right (ends _ (c .l) (c .first .tree))) in
-          subst⁻¹ (NothingIs wanted before many records) (c .is) (record {
-            first = and-right (wants wanted) records (c .l) (c .r) (n .first) ∙ ap (moved (length (leaves (c .l)))) (f .first);
+          subst⁻¹ (NothingIs match wanted before many records) (c .is) (record {
+            first = and-right match (wants wanted) records (c .l) (c .r) (n .first) ∙ ap (moved (length (leaves (c .l)))) (f .first);
             counted = simp length-append (omega (arith, n .counted, f .counted));
           })
 
 -- What the loop along the right children keeps: what is found from the node that it came to is found from the first.
-pub record Along (wanted : Wanted) (s numbers next : List ℕ) (rec at before up place index count parent : ℕ) : Type 0 where
+pub record Along (match : Matcher) (wanted : Wanted) (s numbers next : List ℕ) (rec at before up place index count parent : ℕ) : Type 0 where
   pub there : Framed s rec place
   pub tabled : OfTree s place (Tabled numbers next place index)
   pub low : at ≤ place
   pub few : count ≤ place
-  pub rest : (r : Found) → OfFrame s rec place (FoundIs wanted s rec place count parent r)
-      → OfFrame s rec at (FoundIs wanted s rec at before up r)
+  pub rest : (r : Found) → OfFrame s rec place (FoundIs match wanted s rec place count parent r)
+      → OfFrame s rec at (FoundIs match wanted s rec at before up r)
 
-module _ {wanted : Wanted} {s numbers next : List ℕ} {rec at before up : ℕ} where
+module _ {match : Matcher} {wanted : Wanted} {s numbers next : List ℕ} {rec at before up : ℕ} where
   pub along-begins : {i : ℕ} → Framed s rec at → OfTree s at (Tabled numbers next at i) → before ≤ at
-      → Along wanted s numbers next rec at before up at i before up
+      → Along match wanted s numbers next rec at before up at i before up
   along-begins there tabled few = record { there = there; tabled = tabled; low = omega arith; few = few; rest = λ r is. is }
 
-  module _ {place index count parent : ℕ} (inv : Along wanted s numbers next rec at before up place index count parent) where
+  module _ {place index count parent : ℕ} (inv : Along match wanted s numbers next rec at before up place index count parent) where
     -- The rows have a place for the node that it came to.
     pub along-within : (index < length numbers) × (index < length next)
     along-within = tabled-within (inv .tabled _ _ (inv .there .2 .tree))
@@ -212,11 +211,11 @@ module _ {wanted : Wanted} {s numbers next : List ℕ} {rec at before up : ℕ} 
             (left-framed is told (inv .there), omega (arith, after, inv .few)),
           )
 
-      pub along-left : {p : Pick} → OfFrame s rec left (FirstIs wanted s rec left count place p)
-          → OfFrame s rec at (FirstIs wanted s rec at before up p)
+      pub along-left : {p : Pick} → OfFrame s rec left (FirstIs match wanted s rec left count place p)
+          → OfFrame s rec at (FirstIs match wanted s rec at before up p)
       along-left {p} inner = inv .rest (Leaf p) (match-left is told inner)
 
-      module _ {right counted : ℕ} (inner : OfFrame s rec left (NothingIs wanted count counted)) (ends : right ≡ endAt numbers (index + 1))
+      module _ {right counted : ℕ} (inner : OfFrame s rec left (NothingIs match wanted count counted)) (ends : right ≡ endAt numbers (index + 1))
         where
           left-ends : OfTree s left (λ l. right ≡ left + length (exprBytes l))
           left-ends d l stands = ends ∙ tabled-end (along-tabled d l stands)
@@ -227,7 +226,7 @@ module _ {wanted : Wanted} {s numbers next : List ℕ} {rec at before up : ℕ} 
           pub along-less : length s - right < length s - place
           along-less = omega (arith, after-left .1, node-some (inv .there .2 .tree))
 
-          pub along-right : (k : ℕ) → k ≡ getD next (index + 1) 0 → Along wanted s numbers next rec at before up right k counted place
+          pub along-right : (k : ℕ) → k ≡ getD next (index + 1) 0 → Along match wanted s numbers next rec at before up right k counted place
           along-right k after =
               let b = its-both in
               let h = inv .tabled _ _ (inv .there .2 .tree) in
@@ -244,11 +243,11 @@ module _ {wanted : Wanted} {s numbers next : List ℕ} {rec at before up : ℕ} 
 -- ---- two passes
 
 -- The first match of a pass is the pick.
-pub taken-is : {s : List ℕ} {rec at : ℕ} {wanted : Wanted} {p : Pick} {records : List Record} {t : Expr}
-    → FirstIs wanted s rec at 0 at p records t
-    → definition.pick (matches records t) ≡ firstMatch (wants wanted) (matches records t) → TakenIs s rec at p records t
+pub taken-is : {match : Matcher} {s : List ℕ} {rec at : ℕ} {wanted : Wanted} {p : Pick} {records : List Record} {t : Expr}
+    → FirstIs match wanted s rec at 0 at p records t
+    → definition.pick (matches match records t) ≡ firstMatch (wants wanted) (matches match records t) → TakenIs match s rec at p records t
 unfolding matchesBy
-taken-is {s} {rec} {at} {wanted} {p} {records} {t} f e =
+taken-is {match} {s} {rec} {at} {wanted} {p} {records} {t} f e =
     let same : p .position ≡ f .i = f .counted ∙ zero-add (f .i) in
     record {
       q = f .q;

@@ -7,7 +7,7 @@ use mathlib.Core.Option.{Option, none, some}
 use lib.ListN.{length}
 use Rattle.definitions.specs.Expression.{Expr, Record, Predicate, relation, distance, knn}
 use Rattle.definitions.specs.Decode.{indexBelow}
-use Rattle.definitions.specs.Match.{matchLeaf}
+use Rattle.definitions.specs.Match.{matchLeaf, matchLeafBy}
 use Rattle.definitions.specs.Extract.{isKnn}
 use Rattle.expression.specs.Leaves.{CallIs, OfCall}
 use Rattle.expression.specs.declared.leaves.Called.{Called}
@@ -16,7 +16,7 @@ use Rattle.node_rows.specs.Rows.{TabledAll}
 use Rattle.node_rows.proofs.RowLaws.{tabled-within}
 use Rattle.node_rows.proofs.IndexLaws.{call-tabled}
 use Rattle.leaf_matching.specs.Frames.{Over, CallOver, CallFramed, OfCallFrame}
-use Rattle.leaf_matching.specs.Matches.{isRelation, isDistance, Lacks, MatchingIs, LeafMatching, CallMatching}
+use Rattle.leaf_matching.specs.Matches.{isRelation, isDistance, Lacks, MatchingIs, LeafMatchingBy, LeafMatching, CallMatchingBy}
 use Rattle.leaf_pick.specs.Picks.{isOther, LeafThere}
 use Rattle.leaf_pick.specs.declared.first_match.Leaf.{Leaf}
 use Rattle.sedona_query_planner.specs.declared.spatial_predicate.SpatialPredicate.{SpatialPredicate}
@@ -42,11 +42,11 @@ module _ {s numbers next : List ℕ} {rec : ℕ} {leaf : Leaf} (there : LeafTher
       → CallOver s rec k records (its-call over .name) (its-call over .arguments)
   call-over over = record { entries = over .entries; stands = its-call over .stands }
 
-  pub call-leaf : (kind : Predicate → Bool) (r : Matching) → OfCallFrame s rec k (CallMatching kind s rec r)
-      → {records : List Record} {t : Expr} → Over s rec (leaf .at) records t → LeafMatching kind s rec r records t
-  call-leaf kind r answer {records} {t} over =
+  pub call-leaf : (d : ℕ) (kind : Predicate → Bool) (r : Matching) → OfCallFrame s rec k (CallMatchingBy d kind s rec r)
+      → {records : List Record} {t : Expr} → Over s rec (leaf .at) records t → LeafMatchingBy d kind s rec r records t
+  call-leaf d kind r answer {records} {t} over =
       let it : CallIs (indexBelow (length records)) s (leaf .at) k t = its-call over in
-      subst (λ (t : Expr). MatchingIs kind s rec records (matchLeaf records t) r) (sym (it .is))
+      subst (λ (t : Expr). MatchingIs kind s rec records (matchLeafBy d records t) r) (sym (it .is))
       (answer records (it .name) (it .arguments) (call-over over))
 
   -- Its arguments stand there, and are in the rows after it.

@@ -11,7 +11,8 @@ use denote.Enum.Declared.{tagOf}
 use Rattle.definitions.specs.Expression.{Expr, binary, Record}
 use Rattle.definitions.specs.Leaves.{leaves, comparison}
 use Rattle.definitions.specs.Decode.{Columns}
-use Rattle.definitions.specs.Match.{askNothing, comparisonRequest, request, matchRequest, matchLeaf}
+use Rattle.definitions.specs.Match.{Request, askNothing, comparisonRequest, requestBy, matchRequest, matchLeafBy}
+use Rattle.definitions.specs.Settings.{Settings, allowed, passing, onlyIf, matchUnder}
 use Rattle.definitions.specs.Extract.{isKnn}
 use Rattle.expression.specs.Nodes.{Stands, OfTreeIn}
 use Rattle.expression.specs.Leaves.{NodeIs, PlainNode, plainColumn, plainLiteral, plainOther, plainField}
@@ -32,16 +33,16 @@ leaf-node c s at t (Call k) tag is = subst⁻¹ (λ (t : Expr). leaves t ≡ t �
 leaf-node c s at t (Plain head) tag is = plain-leaf (is .0)
 
 -- A node that is neither an operator nor a function asks for nothing, and so does an operator that compares no distance.
-plain-asks : {t : Expr} → PlainNode t → request t ≡ askNothing
-unfolding request
-plain-asks plainColumn = refl
-plain-asks plainLiteral = refl
-plain-asks plainOther = refl
-plain-asks plainField = refl
+plain-asks : (d : ℕ) {t : Expr} → PlainNode t → requestBy d t ≡ askNothing
+unfolding requestBy
+plain-asks d plainColumn = refl
+plain-asks d plainLiteral = refl
+plain-asks d plainOther = refl
+plain-asks d plainField = refl
 
-binary-asks : (operator : ℕ) (l r : Expr) → 4 < operator → request (binary operator l r) ≡ askNothing
-unfolding request comparison comparisonRequest
-binary-asks operator l r h =
+binary-asks : (d operator : ℕ) (l r : Expr) → 4 < operator → requestBy d (binary operator l r) ≡ askNothing
+unfolding requestBy comparison comparisonRequest
+binary-asks d operator l r h =
     rw (
       ne-eqb operator 1 (λ e. omega (arith, e)),
       ne-eqb operator 2 (λ e. omega (arith, e)),
@@ -49,26 +50,28 @@ binary-asks operator l r h =
       ne-eqb operator 4 (λ e. omega (arith, e)),
     )
 
-nothing-asked : (records : List Record) (t : Expr) → request t ≡ askNothing → matchLeaf records t ≡ none
-unfolding matchLeaf matchRequest
-nothing-asked records t e = ap (matchRequest records) e
+-- So it does not match, whatever the settings.
+nothing-asked : (S : Settings) (records : List Record) (t : Expr) → requestBy (S .defaultK) t ≡ askNothing → matchUnder S records t ≡ none
+unfolding matchUnder onlyIf passing matchLeafBy matchRequest
+nothing-asked S records t e = ap (λ (q : Request). passing (allowed S) (matchRequest records q)) e
 
-pub plain-passed : (records : List Record) {t : Expr} → PlainNode t → matchLeaf records t ≡ none
-plain-passed records {t} is = nothing-asked records t (plain-asks is)
+pub plain-passed : (S : Settings) (records : List Record) {t : Expr} → PlainNode t → matchUnder S records t ≡ none
+plain-passed S records {t} is = nothing-asked S records t (plain-asks (S .defaultK) is)
 
-pub binary-passed : (records : List Record) (operator : ℕ) {l r t : Expr} → t ≡ binary operator l r → 4 < operator
-    → matchLeaf records t ≡ none
-binary-passed records operator {l} {r} {t} e h = nothing-asked records t (ap request e ∙ binary-asks operator l r h)
+pub binary-passed : (S : Settings) (records : List Record) (operator : ℕ) {l r t : Expr} → t ≡ binary operator l r → 4 < operator
+    → matchUnder S records t ≡ none
+binary-passed S records operator {l} {r} {t} e h =
+    nothing-asked S records t (ap (requestBy (S .defaultK)) e ∙ binary-asks (S .defaultK) operator l r h)
 
 -- Any node but a function asks for a distance or for nothing.
-node-only : (c : Columns) (s : List ℕ) (at : ℕ) (t : Expr) (node : Node) → OneOf (0 ∷ 1 ∷ 3 ∷ []) (tagOf the-type node)
-    → NodeIs c s at node t → Only 2 (request t)
-unfolding requestKind request
-node-only c s at t (And first) tag is = subst⁻¹ (λ (t : Expr). Only 2 (request t)) (is .is) (inr refl)
-node-only c s at t (Binary operator first) tag is =
-    subst⁻¹ (λ (t : Expr). Only 2 (request t)) (is .is) (comparison-only operator (comparison operator _ _))
-node-only c s at t (Call k) tag is = absurd (miss (0 ∷ 1 ∷ 3 ∷ []) 2 tt tag)
-node-only c s at t (Plain head) tag is = inr (ap requestKind (plain-asks (is .0)))
+node-only : (d : ℕ) (c : Columns) (s : List ℕ) (at : ℕ) (t : Expr) (node : Node) → OneOf (0 ∷ 1 ∷ 3 ∷ []) (tagOf the-type node)
+    → NodeIs c s at node t → Only 2 (requestBy d t)
+unfolding requestKind requestBy
+node-only d c s at t (And first) tag is = subst⁻¹ (λ (t : Expr). Only 2 (requestBy d t)) (is .is) (inr refl)
+node-only d c s at t (Binary operator first) tag is =
+    subst⁻¹ (λ (t : Expr). Only 2 (requestBy d t)) (is .is) (comparison-only operator (comparison operator _ _))
+node-only d c s at t (Call k) tag is = absurd (miss (0 ∷ 1 ∷ 3 ∷ []) 2 tt tag)
+node-only d c s at t (Plain head) tag is = inr (ap requestKind (plain-asks d (is .0)))
 
 module _ {c : Columns} {s : List ℕ} {at : ℕ} {t : Expr} (node : Node) (is : OfTreeIn s at (λ c t. NodeIs c s at node t))
     (stands : Stands c s at t) where
@@ -76,5 +79,5 @@ module _ {c : Columns} {s : List ℕ} {at : ℕ} {t : Expr} (node : Node) (is : 
   single-leaf tag = leaf-node c s at t node tag (is c t stands)
 
   pub no-function : OneOf (0 ∷ 1 ∷ 3 ∷ []) (tagOf the-type node)
-      → (records : List Record) → Lacks isKnn (matchLeaf records t) × Lacks isRelation (matchLeaf records t)
-  no-function tag records = only-distance records t (node-only c s at t node tag (is c t stands))
+      → (d : ℕ) (records : List Record) → Lacks isKnn (matchLeafBy d records t) × Lacks isRelation (matchLeafBy d records t)
+  no-function tag d records = only-distance d records t (node-only d c s at t node tag (is c t stands))

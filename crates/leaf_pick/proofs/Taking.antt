@@ -4,7 +4,7 @@ use mathlib.Core.Path.{_≡_, sym, ap, _∙_, subst}
 use mathlib.Core.List.{List}
 use mathlib.Core.Option.{some}
 use Rattle.definitions.specs.Expression.{Expr, Record}
-use Rattle.definitions.specs.Extract.{pick, matchesOf}
+use Rattle.definitions.specs.Extract.{pick, Matcher, matchesBy}
 use Rattle.expression.specs.Cuts.{CutAt}
 use Rattle.node_rows.specs.Rows.{Tabled}
 use Rattle.leaf_pick.specs.declared.first_match.Picked.the-variants as picked
@@ -13,12 +13,13 @@ use Rattle.leaf_pick.specs.declared.one_walk.Seen.{Seen}
 use Rattle.leaf_pick.specs.declared.one_walk.Memory.the-variants.{First, Nothing}
 use Rattle.leaf_pick.specs.declared.one_walk.Walk.{Walk}
 
-module _ {s : List ℕ} {rec at : ℕ} {w : Walk} {records : List Record} {t : Expr} (h : WalkIs s rec at w records t) where
-  pub walked-nothing : w .memory ≡ Nothing → WalkedIs s rec at (record { picked = picked.Nothing; walk = w .read }) records t
+module _ {match : Matcher} {s : List ℕ} {rec at : ℕ} {w : Walk} {records : List Record} {t : Expr}
+    (h : WalkIs match s rec at w records t) where
+  pub walked-nothing : w .memory ≡ Nothing → WalkedIs match s rec at (record { picked = picked.Nothing; walk = w .read }) records t
   walked-nothing told = record { picked = rw told at (h .remembers); walk = h .walk }
 
   module _ {seen : Seen} (told : w .memory ≡ First seen) where
-    found : Remembers s records (First seen) (pick (matchesOf (record { records = records; expr = t })))
+    found : Remembers s records (First seen) (pick (matchesBy match (record { records = records; expr = t })))
     found = rw told at (h .remembers)
 
     spot : SpotOf t at (First seen)
@@ -28,7 +29,7 @@ module _ {s : List ℕ} {rec at : ℕ} {w : Walk} {records : List Record} {t : E
     walked-spotted tabled = (t, seen .end, seen .position, spot at .0, tabled, spot at .1)
 
     pub walked-leaf : {numbers next : List ℕ} {parent : ℕ} → Tabled numbers next at 0 t → ParentIs numbers next at (seen .leaf) parent
-        → WalkedIs s rec at
+        → WalkedIs match s rec at
         (record {
           picked = picked.Leaf (record {
             predicate = seen .predicate;

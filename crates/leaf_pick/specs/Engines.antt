@@ -3,6 +3,7 @@ use Prim.Native.Nat.{ℕ}
 use mathlib.Core.Path.{_≡_}
 use mathlib.Core.List.{List}
 use Rattle.definitions.specs.Expression.{Expr, Record, Predicate}
+use Rattle.definitions.specs.Extract.{Matcher}
 use Rattle.sedona_query_planner.specs.Predicates.{onChildren, PredicateAt}
 use Rattle.leaf_pick.specs.Picks.{PickedIs}
 use Rattle.leaf_pick.specs.declared.first_match.Pick.{Pick}
@@ -27,5 +28,5 @@ Alike s Nothing Nothing records = Unit {0}
 -- Whatever two engines answer by `PickedIs`, which the two passes and the one walk both ensure, they answer alike.
 abbrev pub EnginesAgree : Type 0
 EnginesAgree =
-    (s : List ℕ) (rec at : ℕ) (a b : Picked) (records : List Record) (t : Expr) → PickedIs s rec at a records t
-    → PickedIs s rec at b records t → Alike s a b records
+    (match : Matcher) (s : List ℕ) (rec at : ℕ) (a b : Picked) (records : List Record) (t : Expr) → PickedIs match s rec at a records t
+    → PickedIs match s rec at b records t → Alike s a b records

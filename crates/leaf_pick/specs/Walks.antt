@@ -8,10 +8,10 @@ use lib.ListN.{length}
 use Rattle.definitions.specs.Expression.{Expr, Record}
 use Rattle.definitions.specs.Encode.{exprBytes}
 use Rattle.definitions.specs.Decode.{Columns}
-use Rattle.definitions.specs.Match.{matchLeaf}
 use Rattle.definitions.specs.Extract as definition
-use Rattle.definitions.specs.Extract.{isKnnMatch, pick, matchesOf}
-use Rattle.definitions.specs.OneWalk.{reading, stopped, readLeaf, walkLength}
+use Rattle.definitions.specs.Extract.{isKnnMatch, pick, Matcher, matchesBy}
+use Rattle.definitions.specs.OneWalk.{reading, stopped, readLeaf, walkLengthBy}
+use Rattle.definitions.specs.Settings.{Settings, matchUnder}
 use Rattle.expression.specs.Leaves.{NodeIs}
 use Rattle.expression.specs.Cuts.{CutAt}
 use Rattle.expression.specs.declared.leaves.Node.{Node}
@@ -44,11 +44,12 @@ Remembers s records (First seen) first = (p : definition.Pick) × (first ≡ som
 
 -- ---- a leaf
 
--- A node that is passed matches nothing, wherever it stands.
+-- A node that is passed matches nothing, wherever it stands and whatever the settings.
 abbrev pub PassedIs : Node → Bool → Type 0
 PassedIs node r =
     r ≡ true
-    → (records : List Record) (c : Columns) (s : List ℕ) (at : ℕ) (t : Expr) → NodeIs c s at node t → matchLeaf records t ≡ none
+    → (S : Settings) (records : List Record) (c : Columns) (s : List ℕ) (at : ℕ) (t : Expr) → NodeIs c s at node t
+    → matchUnder S records t ≡ none
 
 -- The leaf with its match, as it is remembered.
 abbrev pub seenHere : (numbers : List ℕ) → Leaf → SpatialPredicate → Seen
@@ -67,31 +68,31 @@ pub data Kept (at position : ℕ) (t : Expr) (before : Memory) : Memory → Type
   here : {seen : Seen} → SeenHere at position seen t → Kept at position t before (First seen)
 
 -- A KNN match stops the walk here;
-pub record StoppedIs (s : List ℕ) (at position : ℕ) (first : Option definition.Pick) (seen : Seen) (records : List Record) (t : Expr)
-    : Type 0 where
+pub record StoppedIs (match : Matcher) (s : List ℕ) (at position : ℕ) (first : Option definition.Pick) (seen : Seen)
+    (records : List Record) (t : Expr) : Type 0 where
   pub p : definition.Pick
-  pub is : readLeaf position first (matchLeaf records t) ≡ stopped p
-  pub near : isKnnMatch (matchLeaf records t) ≡ true
+  pub is : readLeaf position first (match records t) ≡ stopped p
+  pub near : isKnnMatch (match records t) ≡ true
   pub seen-is : SeenIs s records seen p
   pub seen-here : SeenHere at position seen t
 
 -- any other leaf leaves it reading.
-pub record GoingIs (s : List ℕ) (at position : ℕ) (first : Option definition.Pick) (before after : Memory) (records : List Record)
-    (t : Expr) : Type 0 where
+pub record GoingIs (match : Matcher) (s : List ℕ) (at position : ℕ) (first : Option definition.Pick) (before after : Memory)
+    (records : List Record) (t : Expr) : Type 0 where
   pub now-first : Option definition.Pick
-  pub is : readLeaf position first (matchLeaf records t) ≡ reading (suc position) now-first
-  pub far : isKnnMatch (matchLeaf records t) ≡ false
+  pub is : readLeaf position first (match records t) ≡ reading (suc position) now-first
+  pub far : isKnnMatch (match records t) ≡ false
   pub remembers : Remembers s records after now-first
   pub kept : Kept at position t before after
 
 -- For whatever the memory stands for.
-abbrev pub ReadIs : (s : List ℕ) → Coming → Read → (records : List Record) → Expr → Type 0
-ReadIs s coming (Stopped seen) records t =
+abbrev pub ReadIs : Matcher → (s : List ℕ) → Coming → Read → (records : List Record) → Expr → Type 0
+ReadIs match s coming (Stopped seen) records t =
     (first : Option definition.Pick) → Remembers s records (coming .memory) first
-    → StoppedIs s (coming .leaf .at) (coming .leaf .position) first seen records t
-ReadIs s coming (Going after) records t =
+    → StoppedIs match s (coming .leaf .at) (coming .leaf .position) first seen records t
+ReadIs match s coming (Going after) records t =
     (first : Option definition.Pick) → Remembers s records (coming .memory) first
-    → GoingIs s (coming .leaf .at) (coming .leaf .position) first (coming .memory) after records t
+    → GoingIs match s (coming .leaf .at) (coming .leaf .position) first (coming .memory) after records t
 
 -- ---- the whole walk
 
@@ -105,10 +106,10 @@ SpotOf t at Nothing = Unit {0}
 SpotOf t at (First seen) = Spot (seen .leaf) (seen .end) t at (seen .position)
 
 -- The walk ended with the definitions' pick in memory, and its length is the definitions'.
-pub record WalkIs (s : List ℕ) (rec at : ℕ) (w : Walk) (records : List Record) (t : Expr) : Type 0 where
-  pub remembers : Remembers s records (w .memory) (pick (matchesOf (record { records = records; expr = t })))
+pub record WalkIs (match : Matcher) (s : List ℕ) (rec at : ℕ) (w : Walk) (records : List Record) (t : Expr) : Type 0 where
+  pub remembers : Remembers s records (w .memory) (pick (matchesBy match (record { records = records; expr = t })))
   pub spot : SpotOf t at (w .memory)
-  pub walk : w .read ≡ walkLength (record { records = records; expr = t })
+  pub walk : w .read ≡ walkLengthBy match (record { records = records; expr = t })
 
 -- ---- the And above a leaf
 
@@ -126,6 +127,6 @@ ParentIs numbers next at leaf r =
 -- ---- the answer
 
 -- The definitions' pick, as the engine of two passes gives it, and the walk's length.
-pub record WalkedIs (s : List ℕ) (rec at : ℕ) (w : Walked) (records : List Record) (t : Expr) : Type 0 where
-  pub picked : PickedIs s rec at (w .picked) records t
-  pub walk : w .walk ≡ walkLength (record { records = records; expr = t })
+pub record WalkedIs (match : Matcher) (s : List ℕ) (rec at : ℕ) (w : Walked) (records : List Record) (t : Expr) : Type 0 where
+  pub picked : PickedIs match s rec at (w .picked) records t
+  pub walk : w .walk ≡ walkLengthBy match (record { records = records; expr = t })

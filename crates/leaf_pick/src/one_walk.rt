@@ -4,9 +4,11 @@
 ghost use Prim.Native.Nat.{_<_};
 ghost use mathlib.Core.Path.{_≡_};
 ghost use lib.ListN.{length};
+ghost use Rattle.definitions.specs.Settings.{matchUnder};
 ghost use Rattle.expression.specs.Nodes.{OfTree};
 ghost use Rattle.leaf_matching.specs.Frames.{Framed, OfFrame};
 ghost use Rattle.node_rows.specs.Rows.{Tabled};
+ghost use Rattle.terms.specs.Settings.{settingsOf};
 ghost use Rattle.leaf_pick.specs.Picks.{LeafThere};
 ghost use Rattle.leaf_pick.specs.Walks.{PassedIs, seenHere, ReadIs, WalkIs, WalkedIs, Spotted, ParentIs};
 use super::first_match::Leaf;
@@ -20,6 +22,7 @@ use expression::leaves::node_at;
 use leaf_matching::matching::Matching;
 use node_rows::numbers::end_of;
 use sedona_query_planner::spatial_predicate::SpatialPredicate;
+use terms::settings::Settings;
 
 // An AND-leaf that matches: its predicate, its position among the AND-leaves, and where it stands and ends.
 pub struct Seen {
@@ -86,9 +89,16 @@ fn seen_here(numbers: &[u32], leaf: Leaf, predicate: SpatialPredicate) -> Seen
 }
 
 // A KNN match stops the walk, another is remembered if it is the first.
-pub fn read_leaf(s: &[u8], rec: usize, numbers: &[u32], next: &[u16], coming: Coming) -> Read
+pub fn read_leaf(
+    s: &[u8],
+    rec: usize,
+    numbers: &[u32],
+    next: &[u16],
+    coming: Coming,
+    settings: Settings,
+) -> Read
     requires { ⌜ LeafThere (now s) (now numbers) (now next) rec (coming .leaf) ⌝ }
-    ensures { λ r. ⌜ OfFrame (now (s .entry)) rec (coming .leaf .at) (ReadIs (now (s .entry)) coming r) ⌝ }
+    ensures { λ r. ⌜ OfFrame (now (s .entry)) rec (coming .leaf .at) (ReadIs (matchUnder (settingsOf settings)) (now (s .entry)) coming r) ⌝ }
 {
     let leaf = coming.leaf;
     let memory = coming.memory;
@@ -96,7 +106,7 @@ pub fn read_leaf(s: &[u8], rec: usize, numbers: &[u32], next: &[u16], coming: Co
     if is_passed(node) {
         return Read::Going(memory);
     }
-    match match_knn(s, rec, numbers, next, leaf) {
+    match match_knn(s, rec, numbers, next, leaf, settings) {
         Matching::Matched(predicate) => {
             let seen = seen_here(numbers, leaf, predicate);
             return Read::Stopped(seen);
@@ -108,7 +118,7 @@ pub fn read_leaf(s: &[u8], rec: usize, numbers: &[u32], next: &[u16], coming: Co
             if let Memory::First(known) = memory {
                 return Read::Going(Memory::First(known));
             }
-            match match_other(s, rec, numbers, next, leaf) {
+            match match_other(s, rec, numbers, next, leaf, settings) {
                 Matching::Matched(predicate) => {
                     let seen = seen_here(numbers, leaf, predicate);
                     return Read::Going(Memory::First(seen));
@@ -125,10 +135,17 @@ pub fn read_leaf(s: &[u8], rec: usize, numbers: &[u32], next: &[u16], coming: Co
 }
 
 // The walk from the root to the first KNN match or to the end.
-pub fn walk_once(s: &[u8], rec: usize, at: usize, numbers: &[u32], next: &[u16]) -> Walk
+pub fn walk_once(
+    s: &[u8],
+    rec: usize,
+    at: usize,
+    numbers: &[u32],
+    next: &[u16],
+    settings: Settings,
+) -> Walk
     requires { ⌜ Framed (now s) rec at ⌝ }
     requires { ⌜ OfTree (now s) at (Tabled (now numbers) (now next) at 0) ⌝ }
-    ensures { λ r. ⌜ OfFrame (now (s .entry)) rec at (WalkIs (now (s .entry)) rec at r) ⌝ }
+    ensures { λ r. ⌜ OfFrame (now (s .entry)) rec at (WalkIs (matchUnder (settingsOf settings)) (now (s .entry)) rec at r) ⌝ }
 {
     let last = next[0] as usize;
     let mut place = at;
@@ -151,7 +168,7 @@ pub fn walk_once(s: &[u8], rec: usize, at: usize, numbers: &[u32], next: &[u16])
                 position,
                 node,
             };
-            match read_leaf(s, rec, numbers, next, Coming { leaf, memory }) {
+            match read_leaf(s, rec, numbers, next, Coming { leaf, memory }, settings) {
                 Read::Stopped(seen) => {
                     let memory = Memory::First(seen);
                     return Walk { memory, read };
@@ -191,12 +208,19 @@ pub fn parent_of(numbers: &[u32], next: &[u16], at: usize, leaf: usize) -> usize
 }
 
 // The first KNN match, else the first other match, by one walk over an expression whose root has the first rows.
-pub fn extract_in_one_walk(s: &[u8], rec: usize, at: usize, numbers: &[u32], next: &[u16]) -> Walked
+pub fn extract_in_one_walk(
+    s: &[u8],
+    rec: usize,
+    at: usize,
+    numbers: &[u32],
+    next: &[u16],
+    settings: Settings,
+) -> Walked
     requires { ⌜ Framed (now s) rec at ⌝ }
     requires { ⌜ OfTree (now s) at (Tabled (now numbers) (now next) at 0) ⌝ }
-    ensures { λ r. ⌜ OfFrame (now (s .entry)) rec at (WalkedIs (now (s .entry)) rec at r) ⌝ }
+    ensures { λ r. ⌜ OfFrame (now (s .entry)) rec at (WalkedIs (matchUnder (settingsOf settings)) (now (s .entry)) rec at r) ⌝ }
 {
-    let found = walk_once(s, rec, at, numbers, next);
+    let found = walk_once(s, rec, at, numbers, next, settings);
     let memory = found.memory;
     let walk = found.read;
     let Memory::First(seen) = memory else {

@@ -1,7 +1,7 @@
 -- The number of each refusal: document 01's, and 02's from 15 on.
 use Prim.Native.Nat.{ℕ}
 use Rattle.terms.specs.declared.refusals.Refusal.{Refusal}
-use Rattle.terms.specs.declared.refusals.Refusal.the-variants.{EmptyOrTooLong, WrongFirstByte, EndsInsideField, OutOfRange, TooManyOrTooDeep, NoSuchColumn, BytesAfterEnd, TooFewArguments, BufferTooShort, NoGoodPlan, PlanEmpty, AlreadyExtracted, NoLeafMatches, NotHexadecimal, TextBufferTooShort, MergedTooLarge, TableTooShort, NotExtracted, ListTooLong, NoSuchChild, NoSuchQueue, QueuedFrameTooLong, QueueFull}
+use Rattle.terms.specs.declared.refusals.Refusal.the-variants.{EmptyOrTooLong, WrongFirstByte, EndsInsideField, OutOfRange, TooManyOrTooDeep, NoSuchColumn, BytesAfterEnd, TooFewArguments, BufferTooShort, NoGoodPlan, PlanEmpty, AlreadyExtracted, NoLeafMatches, NotHexadecimal, TextBufferTooShort, MergedTooLarge, TableTooShort, NotExtracted, ListTooLong, NoSuchChild, NoSuchQueue, QueuedFrameTooLong, QueueFull, BadSettings}
 
 abbrev pub numberOf : Refusal → ℕ
 numberOf EmptyOrTooLong = 1
@@ -27,3 +27,4 @@ numberOf NoSuchChild = 20
 numberOf NoSuchQueue = 21
 numberOf QueuedFrameTooLong = 22
 numberOf QueueFull = 23
+numberOf BadSettings = 24

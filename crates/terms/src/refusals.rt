@@ -27,6 +27,7 @@ pub enum Refusal {
     NoSuchQueue,
     QueuedFrameTooLong,
     QueueFull,
+    BadSettings,
 }
 
 // The number of a refusal.
@@ -57,5 +58,6 @@ pub fn refusal_number(why: Refusal) -> u8
         Refusal::NoSuchQueue => 21,
         Refusal::QueuedFrameTooLong => 22,
         Refusal::QueueFull => 23,
+        Refusal::BadSettings => 24,
     }
 }

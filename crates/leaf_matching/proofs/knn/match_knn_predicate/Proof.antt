@@ -13,7 +13,7 @@ use Rattle.leaf_matching.proofs.knn.match_knn_predicate.Tie as tie
 
 returns : tie.Need-returns
 unfolding ascii
-returns c = λ records name ts over. other-name records name ts
+returns c = λ records name ts over. other-name _ records name ts
     (named over _ (ascii "st_knn") (c .before .same-name .ensures) ∙ not-true _ (c .if1 .taken))
 
 returns-2 : tie.Need-returns-2
@@ -23,8 +23,8 @@ returns-2 c =
     let start = at-same-name .before .before .before .before .before in
     λ records name ts over.
     let same = named over _ (ascii "st_knn") (at-same-name .same-name .ensures) ∙ not-false _ (c .before .if1 .left) in
-    ⊎-elim (λ w. few-lacks records name ts same (omega (arith, w .taken)))
-    (λ w. many-lacks records name ts same (omega (arith, ltb-true 5 (start .args .called .count) (w .1 .taken)))) (c .if2 .came)
+    ⊎-elim (λ w. few-lacks _ records name ts same (omega (arith, w .taken)))
+    (λ w. many-lacks _ records name ts same (omega (arith, ltb-true 5 (start .args .called .count) (w .1 .taken)))) (c .if2 .came)
 
 knn-options-requires : tie.Need-knn-options-requires
 knn-options-requires c κs =
@@ -36,7 +36,7 @@ knn-options-requires c κs =
 
 walked : (c : tie.After-knn-options)
     → let start = c .before .before .before .before .before .before .before .before .before .before .args in
-    Walked (start .s .now) (start .rec) (start .called) (c .before .resolve-geometries .result) (c .knn-options .result)
+    Walked (start .default-k) (start .s .now) (start .rec) (start .called) (c .before .resolve-geometries .result) (c .knn-options .result)
 unfolding ascii
 walked c =
     let at-if2 = c .before .before .before in

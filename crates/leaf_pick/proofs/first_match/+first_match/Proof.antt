@@ -5,6 +5,8 @@ use native.Mathlib.Omega.{arith}
 use mathlib.Core.Path.{refl}
 use lib.ListN.{length}
 use mir.Facts.{fits-16-64}
+use Rattle.definitions.specs.Settings.{matchUnder}
+use Rattle.terms.specs.Settings.{settingsOf}
 use Rattle.leaf_matching.proofs.Framing.{framed-tree}
 use Rattle.leaf_pick.proofs.Nodes.{single-leaf}
 use Rattle.leaf_pick.proofs.FirstLaws.{Along, along-begins, along-within, along-tabled, left-within}
@@ -25,11 +27,11 @@ abbrev μ-first-match : Measures 3 first-match-kinds.ps ℕ
 μ-first-match κs a = length (a .0 .now) - a .1 .1 .0
 
 abbrev Inv-loop : first-match-lts.InvT-loop
-Inv-loop s rec at numbers next i wanted position parent place₀ index₀ count₀ up₀ place index count up =
-    Along wanted s numbers next rec at position parent place index count up
+Inv-loop s rec at numbers next i wanted position parent settings place₀ index₀ count₀ up₀ place index count up =
+    Along (matchUnder (settingsOf settings)) wanted s numbers next rec at position parent place index count up
 
 abbrev μ-loop : first-match-lts.MeasureT-loop
-μ-loop s rec at numbers next i wanted position parent place₀ index₀ count₀ up₀ place index count up = length s - place
+μ-loop s rec at numbers next i wanted position parent settings place₀ index₀ count₀ up₀ place index count up = length s - place
 
 pub +first-match-spec : {M : Type 1} → statement M
 +first-match-spec = close μ-first-match λ t. first-match-lts.spec

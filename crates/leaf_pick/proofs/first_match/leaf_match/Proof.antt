@@ -18,12 +18,12 @@ returns c = λ records u over.
     (rw (c .before .before .predicate .given .1) at (c .before .before .before .before .match-wanted .ensures records u over))
     (c .end-of .ensures ∙ tabled-end (start .pre .0 .tabled _ u (over .tree)))
 
-add-t15 : tie.Need-add-t15
-add-t15 c = let start = c .before .before .before .before .before .before in
-    omega (arith, start .pre .1 .1, node-some (start .pre .0 .framed .2 .tree))
-
 add-t16 : tie.Need-add-t16
 add-t16 c = let start = c .before .before .before .before .before .before in
+    omega (arith, start .pre .1 .1, node-some (start .pre .0 .framed .2 .tree))
+
+add-t17 : tie.Need-add-t17
+add-t17 c = let start = c .before .before .before .before .before .before in
     omega (arith, start .pre .1 .1, node-some (start .pre .0 .framed .2 .tree))
 
 returns-2 : tie.Need-returns-2
@@ -49,8 +49,8 @@ leaf-match-spec =
     leaf-within (start .pre .0) .0)
     returns
     (search needs)
-    add-t15
+    add-t16
     returns-2
     (search needs)
-    add-t16
+    add-t17
     returns-3)

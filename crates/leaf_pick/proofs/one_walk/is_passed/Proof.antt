@@ -15,6 +15,6 @@ is-passed-spec =
     (search needs)
     (search needs)
     (λ c e. absurd (false≢true e))
-    (λ c e records d s at t is. binary-passed records _ ((rw (c .before .node .given .1) at is) .is) (ltb-true _ _ e))
+    (λ c e S records d s at t is. binary-passed S records _ ((rw (c .before .node .given .1) at is) .is) (ltb-true _ _ e))
     (λ c e. absurd (false≢true e))
-    (λ c e records d s at t is. plain-passed records ((rw (c .enum-told3 .given .1) at is) .0)))
+    (λ c e S records d s at t is. plain-passed S records ((rw (c .enum-told3 .given .1) at is) .0)))

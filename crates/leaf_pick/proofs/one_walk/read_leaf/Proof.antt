@@ -8,7 +8,7 @@ use Rattle.leaf_pick.proofs.one_walk.read_leaf.Tie as tie
 returns : tie.Need-returns
 returns c = λ records t over.
     let there = c .before .before .before .before .before .before .pre in
-    leaf-unmatched (c .before .is-passed .ensures (c .if1 .taken) records _ _ _ t (there .is _ t (over .tree)))
+    leaf-unmatched (c .before .is-passed .ensures (c .if1 .taken) _ records _ _ _ t (there .is _ t (over .tree)))
 
 returns-2 : tie.Need-returns-2
 returns-2 c = λ records t over first known.

@@ -5,6 +5,8 @@ use mathlib.Core.List.{[], _∷_}
 use Prim.Native.Nat.{_-_}
 use mir.Facts.{fits-16-64}
 use Rattle.definitions.specs.Leaves.{leaves}
+use Rattle.definitions.specs.Settings.{matchUnder}
+use Rattle.terms.specs.Settings.{settingsOf}
 use Rattle.node_rows.proofs.RowLaws.{tabled-within}
 use Rattle.leaf_matching.specs.Frames.{OfFrame}
 use Rattle.leaf_matching.proofs.Framing.{framed-tree}
@@ -16,11 +18,11 @@ use Rattle.leaf_pick.proofs.one_walk.walk_once.Statement.{statement}
 use Rattle.leaf_pick.proofs.one_walk.walk_once.Tie as tie
 
 abbrev Inv-loop : tie.InvT-loop
-Inv-loop s rec at numbers next last place₀ index₀ position₀ walk₀ place index position walk =
-    Along s numbers next rec at last place index position walk
+Inv-loop s rec at numbers next settings last place₀ index₀ position₀ walk₀ place index position walk =
+    Along (matchUnder (settingsOf settings)) s numbers next rec at last place index position walk
 
 abbrev μ-loop : tie.MeasureT-loop
-μ-loop s rec at numbers next last place₀ index₀ position₀ walk₀ place index position walk = last - index
+μ-loop s rec at numbers next settings last place₀ index₀ position₀ walk₀ place index position walk = last - index
 
 loop-again : tie.Need-loop-again Inv-loop μ-loop
 loop-again c =
