@@ -12,11 +12,13 @@ use Rattle.definitions.specs.Basics.{if_then_else_, Result, ok, refused}
 use Rattle.definitions.specs.Expression.{Frame, Extraction}
 use Rattle.definitions.specs.Encode.{planBytes, extractionBytes}
 use Rattle.definitions.specs.Plans.{planOf}
-use Rattle.definitions.specs.Extract.{Pick, pick, takePick, matchesOf, extractionBy, extraction}
-use Rattle.definitions.specs.OneWalk.{walkLength}
-use Rattle.definitions.specs.Calls.{Outcome, writtenOver, finish, heldPlan, matchedBytes, newAfterExtractBy, extractFilled, walkFilled}
+use Rattle.definitions.specs.Extract.{Pick, pick, takePick, Matcher, matchesBy, extractionBy}
+use Rattle.definitions.specs.OneWalk.{walkLengthBy}
+use Rattle.definitions.specs.Calls.{Outcome, writtenOver, finish, heldPlan, matchedBytes, newAfterExtractBy, extractFilledBy, walkFilledBy}
 use Rattle.definitions.specs.Good.{AllBytes, ReadableFrame}
-use Rattle.theorems.proofs.ExtractGood.{GoodExtraction, extraction-good}
+use Rattle.definitions.specs.Meaning.{Meaning}
+use Rattle.definitions.specs.Matchers.{Lawful}
+use Rattle.theorems.proofs.ExtractGood.{GoodExtraction, good-by}
 use Rattle.frame_reader.specs.declared.frame_bodies.Frame as places
 use Rattle.plan_reader.specs.Plans.{HoldsFrame}
 use Rattle.leaf_matching.specs.Frames.{Over}
@@ -33,32 +35,32 @@ use Rattle.join_filter.proofs.Keeping.{held-is, plan-size, kept, kept-over}
 
 -- ---- a held frame
 
-module _ (n : ℕ) (before scratch : List ℕ) {f : places.Frame} (h : HoldsFrame n before f) where
+module _ (match : Matcher) (n : ℕ) (before scratch : List ℕ) {f : places.Frame} (h : HoldsFrame n before f) where
   abbrev F : Frame
   F = h .frame
 
-  by-test : (b : Bool) → leb n (length scratch) ≡ b → (x : Option Extraction) → extraction F ≡ x
-      → extractFilled n before scratch ≡ finish n before scratch (if b then matchedBytes x else refused 9)
+  by-test : (b : Bool) → leb n (length scratch) ≡ b → (x : Option Extraction) → extractionBy match F ≡ x
+      → extractFilledBy match n before scratch ≡ finish n before scratch (if b then matchedBytes x else refused 9)
   unfolding newAfterExtractBy
   by-test b t x e =
-      outcome extract-call n before scratch (held-is n before (h .fits) (h .is))
-      (ap (λ (y : Bool). if y then matchedBytes (extraction F) else refused 9) t
+      outcome (extract-call match) n before scratch (held-is n before (h .fits) (h .is))
+      (ap (λ (y : Bool). if y then matchedBytes (extractionBy match F) else refused 9) t
       ∙ ap (λ (y : Option Extraction). if b then matchedBytes y else refused 9) e)
 
   -- Its walk, where the scratch is long enough.
-  walk-by-test : (b : Bool) → leb n (length scratch) ≡ b → walkFilled n before scratch ≡ (if b then walkLength F else 0)
-  walk-by-test b t = walk-of-frame n before scratch F b (held-is n before (h .fits) (h .is)) t
+  walk-by-test : (b : Bool) → leb n (length scratch) ≡ b → walkFilledBy match n before scratch ≡ (if b then walkLengthBy match F else 0)
+  walk-by-test b t = walk-of-frame match n before scratch F b (held-is n before (h .fits) (h .is)) t
 
   pub scratch-short : length scratch < n
-      → ExtractIs (extractFilled n before scratch) (walkFilled n before scratch) n before scratch (unwalked BufferTooShort)
+      → ExtractIs (extractFilledBy match n before scratch) (walkFilledBy match n before scratch) n before scratch (unwalked BufferTooShort)
   unfolding finish
   scratch-short short = record {
-    outcome = by-test false (lt-leb n (length scratch) short) (extraction F) refl;
+    outcome = by-test false (lt-leb n (length scratch) short) (extractionBy match F) refl;
     carried = sym (walk-by-test false (lt-leb n (length scratch) short));
   }
 
-  pub no-leaf : n ≤ length scratch → pick (matchesOf F) ≡ none → (w : ℕ) → w ≡ walkLength F
-      → ExtractIs (extractFilled n before scratch) (walkFilled n before scratch) n before scratch
+  pub no-leaf : n ≤ length scratch → pick (matchesBy match F) ≡ none → (w : ℕ) → w ≡ walkLengthBy match F
+      → ExtractIs (extractFilledBy match n before scratch) (walkFilledBy match n before scratch) n before scratch
       (record { answer = Refused NoLeafMatches; walk = w })
   unfolding finish extractionBy takePick matchedBytes
   no-leaf room e w is = record {
@@ -70,11 +72,12 @@ module _ (n : ℕ) (before scratch : List ℕ) {f : places.Frame} (h : HoldsFram
   pub over : Over (take n before) (f .records) (f .root) (F .records) (F .expr)
   over = record { entries = between-holds (h .stands .records); tree = expr-stands (h .stands .expr) }
 
-  module _ (bytes : AllBytes before) (p : picks.Pick) (t : TakenIs (take n before) (f .records) (f .root) p (F .records) (F .expr)) where
+  module _ {Asks : Meaning → Type 0} (laws : Lawful match Asks) (bytes : AllBytes before) (p : picks.Pick)
+      (t : TakenIs match (take n before) (f .records) (f .root) p (F .records) (F .expr)) where
     abbrev X : Extraction
     X = takes F p (t .q)
 
-    extraction-is : extraction F ≡ some X
+    extraction-is : extractionBy match F ≡ some X
     unfolding extractionBy takePick
     extraction-is = ap (takePick F) (t .is)
 
@@ -83,7 +86,7 @@ module _ (n : ℕ) (before scratch : List ℕ) {f : places.Frame} (h : HoldsFram
     unfolding planBytes
     room =
         let size = plan-size n before (h .fits) bytes (h .is) in
-        let short : GoodExtraction F (some X) = subst (GoodExtraction F) extraction-is (extraction-good F (size .1)) in
+        let short : GoodExtraction F (some X) = subst (GoodExtraction F) extraction-is (good-by laws F (size .1)) in
         omega (arith, short .1, size .0, h .fits)
 
     taking : Taking (take n before) f p F (t .q)
@@ -105,8 +108,8 @@ module _ (n : ℕ) (before scratch : List ℕ) {f : places.Frame} (h : HoldsFram
       extraction-fits = record { frame = F; predicate = t .q; taking = taking-kept; room = room }
 
       pub extracts : n ≤ length scratch → (written : List ℕ) (answer : ℕ) → ExtractionPut (take n after) f p before written answer
-          → (w : ℕ) → w ≡ walkLength F
-          → ExtractIs (extractFilled n before scratch) (walkFilled n before scratch) n written after
+          → (w : ℕ) → w ≡ walkLengthBy match F
+          → ExtractIs (extractFilledBy match n before scratch) (walkFilledBy match n before scratch) n written after
           (record { answer = Length answer; walk = w })
       unfolding finish matchedBytes planBytes extractionBytes writtenOver
       extracts enough written answer put w walked =

@@ -3,3 +3,4 @@ pub mod Taking
 pub mod Extracting
 pub mod Collecting
 pub mod Tables
+pub mod Settling

@@ -13,7 +13,8 @@ use Rattle.definitions.specs.Encode.{planBytes}
 use Rattle.definitions.specs.Plans.{planOf}
 use Rattle.definitions.specs.Good.{AllBytes}
 use Rattle.definitions.specs.NodeTable.{NodeRecord, nodesFrom, nodeTable, beginsWith}
-use Rattle.definitions.specs.Calls.{tableFits, finish, heldPlan, newAfterExtractBy, extractBy, extractFilled, extract, walkFilled, extractWalkBy, extractWalk}
+use Rattle.definitions.specs.Extract.{Matcher}
+use Rattle.definitions.specs.Calls.{tableFits, finish, heldPlan, extractBy, extractFilledBy, walkFilledBy, extractWalkBy}
 use Rattle.theorems.proofs.ExchangeGood.{frame-length}
 use Rattle.theorems.proofs.NodeTables.{node-count, begins-exactly-by}
 use Rattle.frame_reader.specs.declared.frame_bodies.Frame.{Frame}
@@ -76,41 +77,42 @@ decided true never = absurd (never refl)
 decided false never = refl
 
 -- The extract with a table, and without one; what is true of the one is true of the other.
-abbrev pub With : (n : ℕ) (plan scratch : List ℕ) (table : List NodeRecord) (after kept : List ℕ) → Extracted → Type 0
-With n plan scratch table after kept r = ExtractIs (extract n plan scratch table) (extractWalk n plan scratch table) n after kept r
+abbrev pub With : Matcher → (n : ℕ) (plan scratch : List ℕ) (table : List NodeRecord) (after kept : List ℕ) → Extracted → Type 0
+With match n plan scratch table after kept r =
+    ExtractIs (extractBy match n plan scratch table) (extractWalkBy match n plan scratch table) n after kept r
 
-abbrev pub Without : (n : ℕ) (plan scratch after kept : List ℕ) → Extracted → Type 0
-Without n plan scratch after kept r = ExtractIs (extractFilled n plan scratch) (walkFilled n plan scratch) n after kept r
+abbrev pub Without : Matcher → (n : ℕ) (plan scratch after kept : List ℕ) → Extracted → Type 0
+Without match n plan scratch after kept r = ExtractIs (extractFilledBy match n plan scratch) (walkFilledBy match n plan scratch) n after kept r
 
 -- By whether the table fits.
-by-fit : (n : ℕ) (plan scratch : List ℕ) (table : List NodeRecord) {after kept : List ℕ} {r : Extracted} (b : Bool)
+by-fit : (match : Matcher) (n : ℕ) (plan scratch : List ℕ) (table : List NodeRecord) {after kept : List ℕ} {r : Extracted} (b : Bool)
     → tableFits table (heldPlan n plan) ≡ b
-    → ExtractIs (if b then extractFilled n plan scratch else finish n plan scratch (refused 10)) (if b then walkFilled n plan scratch else 0)
+    → ExtractIs (if b then extractFilledBy match n plan scratch else finish n plan scratch (refused 10)) (if b then walkFilledBy match n plan scratch else 0)
     n after kept r
-    → With n plan scratch table after kept r
+    → With match n plan scratch table after kept r
 unfolding extractBy extractWalkBy
-by-fit n plan scratch table b e is = rw e is
+by-fit match n plan scratch table b e is = rw e is
 
 -- Where no frame is held, the table does not matter.
-pub unheld : (n : ℕ) (plan scratch : List ℕ) (table : List NodeRecord) {r : Result tree.Plan} → heldPlan n plan ≡ r
-    → tableFits table r ≡ true → {after kept : List ℕ} {x : Extracted} → Without n plan scratch after kept x
-    → With n plan scratch table after kept x
-unheld n plan scratch table e fits is = by-fit n plan scratch table true (ap (tableFits table) e ∙ fits) is
+pub unheld : (match : Matcher) (n : ℕ) (plan scratch : List ℕ) (table : List NodeRecord) {r : Result tree.Plan} → heldPlan n plan ≡ r
+    → tableFits table r ≡ true → {after kept : List ℕ} {x : Extracted} → Without match n plan scratch after kept x
+    → With match n plan scratch table after kept x
+unheld match n plan scratch table e fits is = by-fit match n plan scratch table true (ap (tableFits table) e ∙ fits) is
 
 -- So where what is held is no frame: it is refused as it is without a table.
-module _ (n : ℕ) (plan scratch : List ℕ) (table : List NodeRecord) (within : n ≤ length plan) where
-  pub bad-lent : (number : ℕ) → planOf (take n plan) ≡ refused number → With n plan scratch table plan scratch (unwalked NoGoodPlan)
+module _ (match : Matcher) (n : ℕ) (plan scratch : List ℕ) (table : List NodeRecord) (within : n ≤ length plan) where
+  pub bad-lent : (number : ℕ) → planOf (take n plan) ≡ refused number → With match n plan scratch table plan scratch (unwalked NoGoodPlan)
   unfolding tableFits
-  bad-lent number e = unheld n plan scratch table (held-is n plan within e) refl (bad-refused n plan scratch within number e)
+  bad-lent number e = unheld match n plan scratch table (held-is n plan within e) refl (bad-refused match n plan scratch within number e)
 
-  pub empty-lent : planOf (take n plan) ≡ ok tree.empty → With n plan scratch table plan scratch (unwalked PlanEmpty)
+  pub empty-lent : planOf (take n plan) ≡ ok tree.empty → With match n plan scratch table plan scratch (unwalked PlanEmpty)
   unfolding tableFits
-  empty-lent e = unheld n plan scratch table (held-is n plan within e) refl (empty-refused n plan scratch within e)
+  empty-lent e = unheld match n plan scratch table (held-is n plan within e) refl (empty-refused match n plan scratch within e)
 
   pub extracted-lent : (X : tree.Extraction) → planOf (take n plan) ≡ ok (tree.extracted X)
-      → With n plan scratch table plan scratch (unwalked AlreadyExtracted)
+      → With match n plan scratch table plan scratch (unwalked AlreadyExtracted)
   unfolding tableFits
-  extracted-lent X e = unheld n plan scratch table (held-is n plan within e) refl (extracted-refused n plan scratch within X e)
+  extracted-lent X e = unheld match n plan scratch table (held-is n plan within e) refl (extracted-refused match n plan scratch within X e)
 
 pub over-long : (n : ℕ) (plan : List ℕ) → length plan < n → heldPlan n plan ≡ refused 10
 unfolding heldPlan
@@ -136,19 +138,19 @@ module _ (n : ℕ) (plan : List ℕ) {f : Frame} (h : HoldsFrame n plan f) (byte
   fits-by table b e = ap (tableFits table) (held-is n plan (h .fits) (h .is)) ∙ e
 
   -- A table that does not begin with its records is refused.
-  refuted : (scratch : List ℕ) (table : List NodeRecord) → (nodeTable (h .frame) ≡ take (f .nodes) table → ⊥)
-      → With n plan scratch table plan scratch (unwalked NoGoodPlan)
+  refuted : (match : Matcher) (scratch : List ℕ) (table : List NodeRecord) → (nodeTable (h .frame) ≡ take (f .nodes) table → ⊥)
+      → With match n plan scratch table plan scratch (unwalked NoGoodPlan)
   unfolding finish
-  refuted scratch table never = by-fit n plan scratch table false
+  refuted match scratch table never = by-fit match n plan scratch table false
       (fits-by table false
       (decided (beginsWith (nodeTable (h .frame)) table)
       (λ e. never (sym (begins-exactly-by (nodeTable (h .frame)) table .0 e) ∙ ap (λ (k : ℕ). take k table) counted))))
       (record { outcome = refl; carried = refl })
 
-  pub short-refused : (scratch row : List ℕ) (places : ℕ) (table : List NodeRecord) → places < f .nodes → RowOf n row places table
-      → With n plan scratch table plan scratch (unwalked NoGoodPlan)
-  short-refused scratch row places table less of =
-      refuted scratch table (λ e. omega (arith, ap length e, counted, length-take (f .nodes) table, of .long))
+  pub short-refused : (match : Matcher) (scratch row : List ℕ) (places : ℕ) (table : List NodeRecord) → places < f .nodes → RowOf n row places table
+      → With match n plan scratch table plan scratch (unwalked NoGoodPlan)
+  short-refused match scratch row places table less of =
+      refuted match scratch table (λ e. omega (arith, ap length e, counted, length-take (f .nodes) table, of .long))
 
   -- Once its own nodes are collected.
   module _ {own next : List ℕ} (indexed : Indexed n plan f own next) where
@@ -163,21 +165,21 @@ module _ (n : ℕ) (plan : List ℕ) {f : Frame} (h : HoldsFrame n plan f) (byte
         ap (λ (k : ℕ). take k own) (h .stands .sized ∙ sym (numbers-length (f .root) (h .frame .expr)))
         ∙ taken (its-own .numbered) ∙ sym (ap (map number) table-is)
 
-    module _ (scratch row : List ℕ) (table : List NodeRecord) (begins : Begins (f .nodes) row table) where
+    module _ (match : Matcher) (scratch row : List ℕ) (table : List NodeRecord) (begins : Begins (f .nodes) row table) where
       pub same-fits : take (f .nodes) own ≡ take (f .nodes) row → {after kept : List ℕ} {r : Extracted}
-          → Without n plan scratch after kept r → With n plan scratch table after kept r
+          → Without match n plan scratch after kept r → With match n plan scratch table after kept r
       same-fits same is =
           let alike : map number (nodesFrom (f .root) (h .frame .expr)) ≡ map number (take (f .nodes) table) =
           ap (map number) (sym table-is) ∙ sym own-numbers ∙ same ∙ begins .same in
           let records : nodesFrom (f .root) (h .frame .expr) ≡ take (f .nodes) table =
           numbers-tell (nodesFrom (f .root) (h .frame .expr)) (take (f .nodes) table)
           (nodes-told (f .root) (h .frame .expr) (its-own .short)) alike in
-          by-fit n plan scratch table true
+          by-fit match n plan scratch table true
           (fits-by table true
           (begins-exactly-by (nodeTable (h .frame)) table .1 (sym (table-is ∙ records ∙ ap (λ (k : ℕ). take k table) (sym counted))))) is
 
-      pub other-refused : SameIs own row (f .nodes) false → With n plan scratch table plan scratch (unwalked NoGoodPlan)
-      other-refused differ = refuted scratch table
+      pub other-refused : SameIs own row (f .nodes) false → With match n plan scratch table plan scratch (unwalked NoGoodPlan)
+      other-refused differ = refuted match scratch table
           (λ e.
           let same : take (f .nodes) own ≡ take (f .nodes) row = own-numbers ∙ ap (map number) e ∙ sym (begins .same) in
           differ .2 (sym (getD-take (f .nodes) own (differ .0) 0 (differ .1))

@@ -4,7 +4,9 @@ use mathlib.Core.Path.{_≡_}
 use mathlib.Core.List.{List, map}
 use lib.ListN.{length, take}
 use Rattle.definitions.specs.NodeTable.{NodeRecord}
-use Rattle.definitions.specs.Calls.{extract, extractWalk}
+use Rattle.definitions.specs.Extract.{Matcher}
+use Rattle.definitions.specs.Calls.{extractBy, extractWalkBy}
+use Rattle.definitions.specs.Settings.{Settings, extractUnder, extractWalkUnder}
 use Rattle.join_filter.specs.Outcomes.{ExtractIs}
 use Rattle.join_filter.specs.declared.answers.Extracted.{Extracted}
 use Rattle.node_rows.specs.Numbers.{number}
@@ -23,8 +25,14 @@ pub record RowOf (n : ℕ) (row : List ℕ) (places : ℕ) (table : List NodeRec
   pub long : length table ≡ places
   pub same : take (lentCount n places) row ≡ map number (take (lentCount n places) table)
 
--- For every such table the call is the definition's.
-abbrev pub ByTable : (Lent : List NodeRecord → Type 0) (n : ℕ) (before scratch after kept : List ℕ) → Extracted → Type 0
-ByTable Lent n before scratch after kept r =
+-- For every such table the extract with a matcher is the definition's,
+abbrev pub ByTableWith : Matcher → (Lent : List NodeRecord → Type 0) (n : ℕ) (before scratch after kept : List ℕ) → Extracted → Type 0
+ByTableWith match Lent n before scratch after kept r =
     (table : List NodeRecord) → Lent table
-    → ExtractIs (extract n before scratch table) (extractWalk n before scratch table) n after kept r
+    → ExtractIs (extractBy match n before scratch table) (extractWalkBy match n before scratch table) n after kept r
+
+-- and so is the call with settings (request 13).
+abbrev pub ByTable : Settings → (Lent : List NodeRecord → Type 0) (n : ℕ) (before scratch after kept : List ℕ) → Extracted → Type 0
+ByTable S Lent n before scratch after kept r =
+    (table : List NodeRecord) → Lent table
+    → ExtractIs (extractUnder S n before scratch table) (extractWalkUnder S n before scratch table) n after kept r

@@ -2,3 +2,4 @@
 pub mod Extractions
 pub mod FrameRows
 pub mod ExtractByTable
+pub mod Settled

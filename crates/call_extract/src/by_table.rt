@@ -5,10 +5,15 @@ use join_filter::answers::Extracted;
 use plan_reader::extraction_bodies::Held;
 use plan_reader::held_plans::held_plan_in;
 use terms::refusals::Refusal;
+use terms::settings::Settings;
+use terms::settings::good_settings;
 ghost use Prim.Native.Nat.{_≤_};
 ghost use lib.ListN.{length};
+ghost use Rattle.definitions.specs.Settings.{matchUnder};
+ghost use Rattle.definitions.specs.SettingsClaims.{GoodSettings};
+ghost use Rattle.terms.specs.Settings.{settingsOf};
 ghost use Rattle.call_extract.specs.FrameRows.{RoomIn};
-ghost use Rattle.call_extract.specs.ExtractByTable.{RowOf, ByTable};
+ghost use Rattle.call_extract.specs.ExtractByTable.{RowOf, ByTable, ByTableWith};
 use super::compared::extract_compared;
 
 // The same of what is held, whose nodes go into the rows if it is a frame.
@@ -20,9 +25,11 @@ fn extract_lent(
     scratch: &mut [u8],
     row: &[u32],
     places: usize,
+    settings: Settings,
 ) -> Extracted
     requires { ⌜ RoomIn n (now plan) (now own) (now next) ⌝ }
-    ensures { λ r. ⌜ ByTable (RowOf n (now (row .entry)) places) n (now (plan .entry)) (now (scratch .entry)) (now (plan .exit))
+    requires { ⌜ GoodSettings (settingsOf settings) ⌝ }
+    ensures { λ r. ⌜ ByTableWith (matchUnder (settingsOf settings)) (RowOf n (now (row .entry)) places) n (now (plan .entry)) (now (scratch .entry)) (now (plan .exit))
         (now (scratch .exit)) r ⌝ }
 {
     match held_plan_in(own, next, &plan[..n]) {
@@ -38,7 +45,7 @@ fn extract_lent(
             answer: Answer::Refused(Refusal::AlreadyExtracted),
             walk: 0,
         },
-        Held::Frame(f) => extract_compared(plan, n, scratch, f, own, next, row, places),
+        Held::Frame(f) => extract_compared(plan, n, scratch, f, own, next, row, places, settings),
     }
 }
 
@@ -49,14 +56,16 @@ fn extract_short(
     scratch: &mut [u8],
     row: &[u32],
     places: usize,
+    settings: Settings,
 ) -> Extracted
     requires { ⌜ (n ≤ length (now plan)) × (n ≤ 96) ⌝ }
-    ensures { λ r. ⌜ ByTable (RowOf n (now (row .entry)) places) n (now (plan .entry)) (now (scratch .entry)) (now (plan .exit))
+    requires { ⌜ GoodSettings (settingsOf settings) ⌝ }
+    ensures { λ r. ⌜ ByTableWith (matchUnder (settingsOf settings)) (RowOf n (now (row .entry)) places) n (now (plan .entry)) (now (scratch .entry)) (now (plan .exit))
         (now (scratch .exit)) r ⌝ }
 {
     let mut own = [0u32; 32];
     let mut next = [0u16; 32];
-    extract_lent(&mut own, &mut next, plan, n, scratch, row, places)
+    extract_lent(&mut own, &mut next, plan, n, scratch, row, places, settings)
 }
 
 // Of at most 768 bytes.
@@ -66,14 +75,16 @@ fn extract_middle(
     scratch: &mut [u8],
     row: &[u32],
     places: usize,
+    settings: Settings,
 ) -> Extracted
     requires { ⌜ (n ≤ length (now plan)) × (n ≤ 768) ⌝ }
-    ensures { λ r. ⌜ ByTable (RowOf n (now (row .entry)) places) n (now (plan .entry)) (now (scratch .entry)) (now (plan .exit))
+    requires { ⌜ GoodSettings (settingsOf settings) ⌝ }
+    ensures { λ r. ⌜ ByTableWith (matchUnder (settingsOf settings)) (RowOf n (now (row .entry)) places) n (now (plan .entry)) (now (scratch .entry)) (now (plan .exit))
         (now (scratch .exit)) r ⌝ }
 {
     let mut own = [0u32; 256];
     let mut next = [0u16; 256];
-    extract_lent(&mut own, &mut next, plan, n, scratch, row, places)
+    extract_lent(&mut own, &mut next, plan, n, scratch, row, places, settings)
 }
 
 // Of any length.
@@ -83,27 +94,37 @@ fn extract_long(
     scratch: &mut [u8],
     row: &[u32],
     places: usize,
+    settings: Settings,
 ) -> Extracted
     requires { ⌜ n ≤ length (now plan) ⌝ }
-    ensures { λ r. ⌜ ByTable (RowOf n (now (row .entry)) places) n (now (plan .entry)) (now (scratch .entry)) (now (plan .exit))
+    requires { ⌜ GoodSettings (settingsOf settings) ⌝ }
+    ensures { λ r. ⌜ ByTableWith (matchUnder (settingsOf settings)) (RowOf n (now (row .entry)) places) n (now (plan .entry)) (now (scratch .entry)) (now (plan .exit))
         (now (scratch .exit)) r ⌝ }
 {
     let mut own = [0u32; 1024];
     let mut next = [0u16; 1024];
-    extract_lent(&mut own, &mut next, plan, n, scratch, row, places)
+    extract_lent(&mut own, &mut next, plan, n, scratch, row, places, settings)
 }
 
-// `row` has the numbers of the first of the table's `places` records, as many as a frame of n bytes can have.
+// `row` has the numbers of the first of the table's `places` records, as many as a frame of n bytes can have. 24 before every other
+// check.
 pub fn extract_by_table(
     plan: &mut [u8],
     n: usize,
     scratch: &mut [u8],
     row: &[u32],
     places: usize,
+    settings: Settings,
 ) -> Extracted
-    ensures { λ r. ⌜ ByTable (RowOf n (now (row .entry)) places) n (now (plan .entry)) (now (scratch .entry)) (now (plan .exit))
+    ensures { λ r. ⌜ ByTable (settingsOf settings) (RowOf n (now (row .entry)) places) n (now (plan .entry)) (now (scratch .entry)) (now (plan .exit))
         (now (scratch .exit)) r ⌝ }
 {
+    if !good_settings(settings) {
+        return Extracted {
+            answer: Answer::Refused(Refusal::BadSettings),
+            walk: 0,
+        };
+    }
     if plan.len() < n {
         return Extracted {
             answer: Answer::Refused(Refusal::NoGoodPlan),
@@ -111,10 +132,10 @@ pub fn extract_by_table(
         };
     }
     if n <= 96 {
-        return extract_short(plan, n, scratch, row, places);
+        return extract_short(plan, n, scratch, row, places, settings);
     }
     if n <= 768 {
-        return extract_middle(plan, n, scratch, row, places);
+        return extract_middle(plan, n, scratch, row, places, settings);
     }
-    extract_long(plan, n, scratch, row, places)
+    extract_long(plan, n, scratch, row, places, settings)
 }

@@ -7,9 +7,15 @@ use join_filter::answers::Extracted;
 use plan_reader::extraction_bodies::Held;
 use plan_reader::held_plans::held_plan_in;
 use terms::refusals::Refusal;
+use terms::settings::Settings;
+use terms::settings::good_settings;
 ghost use Rattle.definitions.specs.Calls as definitions;
+ghost use Rattle.definitions.specs.Settings.{matchUnder};
+ghost use Rattle.definitions.specs.SettingsClaims.{GoodSettings};
+ghost use Rattle.terms.specs.Settings.{settingsOf};
 ghost use Rattle.join_filter.specs.Outcomes.{ExtractIs};
 ghost use Rattle.call_extract.specs.FrameRows.{RoomIn};
+ghost use Rattle.call_extract.specs.Settled.{filledUnder, walkUnder};
 
 // What is held, whose nodes go into the rows if it is a frame.
 fn extract_held(
@@ -18,10 +24,13 @@ fn extract_held(
     plan: &mut [u8],
     n: usize,
     scratch: &mut [u8],
+    settings: Settings,
 ) -> Extracted
     requires { ⌜ RoomIn n (now plan) (now numbers) (now next) ⌝ }
-    ensures { λ r. ⌜ ExtractIs (definitions.extractFilled n (now (plan .entry)) (now (scratch .entry)))
-        (definitions.walkFilled n (now (plan .entry)) (now (scratch .entry))) n (now (plan .exit)) (now (scratch .exit)) r ⌝ }
+    requires { ⌜ GoodSettings (settingsOf settings) ⌝ }
+    ensures { λ r. ⌜ ExtractIs (definitions.extractFilledBy (matchUnder (settingsOf settings)) n (now (plan .entry)) (now (scratch .entry)))
+        (definitions.walkFilledBy (matchUnder (settingsOf settings)) n (now (plan .entry)) (now (scratch .entry))) n (now (plan .exit))
+        (now (scratch .exit)) r ⌝ }
 {
     match held_plan_in(numbers, next, &plan[..n]) {
         Held::Bad => Extracted {
@@ -36,14 +45,21 @@ fn extract_held(
             answer: Answer::Refused(Refusal::AlreadyExtracted),
             walk: 0,
         },
-        Held::Frame(f) => extract_frame(plan, n, scratch, f, numbers, next),
+        Held::Frame(f) => extract_frame(plan, n, scratch, f, numbers, next, settings),
     }
 }
 
-pub fn extract(plan: &mut [u8], n: usize, scratch: &mut [u8]) -> Extracted
-    ensures { λ r. ⌜ ExtractIs (definitions.extractFilled n (now (plan .entry)) (now (scratch .entry)))
-        (definitions.walkFilled n (now (plan .entry)) (now (scratch .entry))) n (now (plan .exit)) (now (scratch .exit)) r ⌝ }
+// 24 before every other check.
+pub fn extract(plan: &mut [u8], n: usize, scratch: &mut [u8], settings: Settings) -> Extracted
+    ensures { λ r. ⌜ ExtractIs (filledUnder (settingsOf settings) n (now (plan .entry)) (now (scratch .entry)))
+        (walkUnder (settingsOf settings) n (now (plan .entry)) (now (scratch .entry))) n (now (plan .exit)) (now (scratch .exit)) r ⌝ }
 {
+    if !good_settings(settings) {
+        return Extracted {
+            answer: Answer::Refused(Refusal::BadSettings),
+            walk: 0,
+        };
+    }
     if plan.len() < n {
         return Extracted {
             answer: Answer::Refused(Refusal::NoGoodPlan),
@@ -52,5 +68,5 @@ pub fn extract(plan: &mut [u8], n: usize, scratch: &mut [u8]) -> Extracted
     }
     let mut numbers = [0u32; 1024];
     let mut next = [0u16; 1024];
-    extract_held(&mut numbers, &mut next, plan, n, scratch)
+    extract_held(&mut numbers, &mut next, plan, n, scratch, settings)
 }

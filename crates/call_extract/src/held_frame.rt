@@ -7,8 +7,12 @@ use join_filter::answers::Extracted;
 use leaf_pick::first_match::Picked;
 use leaf_pick::one_walk::extract_in_one_walk;
 use terms::refusals::Refusal;
+use terms::settings::Settings;
 use writing::copies::copy_bytes;
 ghost use Rattle.definitions.specs.Calls as definitions;
+ghost use Rattle.definitions.specs.Settings.{matchUnder};
+ghost use Rattle.definitions.specs.SettingsClaims.{GoodSettings};
+ghost use Rattle.terms.specs.Settings.{settingsOf};
 ghost use Rattle.join_filter.specs.Outcomes.{ExtractIs};
 ghost use Rattle.plan_reader.specs.Plans.{HoldsFrame};
 ghost use Rattle.call_extract.specs.FrameRows.{Indexed};
@@ -22,11 +26,14 @@ pub fn extract_frame(
     f: Frame,
     numbers: &[u32],
     next: &[u16],
+    settings: Settings,
 ) -> Extracted
     requires { ⌜ HoldsFrame n (now plan) f ⌝ }
     requires { ⌜ Indexed n (now plan) f (now numbers) (now next) ⌝ }
-    ensures { λ r. ⌜ ExtractIs (definitions.extractFilled n (now (plan .entry)) (now (scratch .entry)))
-        (definitions.walkFilled n (now (plan .entry)) (now (scratch .entry))) n (now (plan .exit)) (now (scratch .exit)) r ⌝ }
+    requires { ⌜ GoodSettings (settingsOf settings) ⌝ }
+    ensures { λ r. ⌜ ExtractIs (definitions.extractFilledBy (matchUnder (settingsOf settings)) n (now (plan .entry)) (now (scratch .entry)))
+        (definitions.walkFilledBy (matchUnder (settingsOf settings)) n (now (plan .entry)) (now (scratch .entry))) n (now (plan .exit))
+        (now (scratch .exit)) r ⌝ }
 {
     if scratch.len() < n {
         return Extracted {
@@ -34,7 +41,7 @@ pub fn extract_frame(
             walk: 0,
         };
     }
-    let walked = extract_in_one_walk(&plan[..n], f.records, f.root, numbers, next);
+    let walked = extract_in_one_walk(&plan[..n], f.records, f.root, numbers, next, settings);
     let picked = walked.picked;
     let walk = walked.walk;
     match picked {

@@ -3,3 +3,4 @@ pub mod Keeping
 pub mod Refusing
 pub mod Walking
 pub mod DemandThree
+pub mod Settling

@@ -10,7 +10,8 @@ use Rattle.definitions.specs.Expression.{Frame, Extraction, Plan, empty, extrac
 use Rattle.definitions.specs.Encode.{frameBytes}
 use Rattle.definitions.specs.Plans.{frameOf, planOf}
 use Rattle.definitions.specs.NodeTable.{NodeRecord}
-use Rattle.definitions.specs.Calls.{filledBy, Outcome, finish, heldPlan, newAfterExchange, exchange, newAfterExtractBy, newAfterExtract, extractFilledBy, extractFilled}
+use Rattle.definitions.specs.Extract.{Matcher}
+use Rattle.definitions.specs.Calls.{filledBy, Outcome, finish, heldPlan, newAfterExchange, exchange, newAfterExtractBy, extractFilledBy}
 use Rattle.definitions.specs.Merge.{newAfterMerge, MergeOutcome, withTable, merge}
 use Rattle.join_filter.proofs.Keeping.{held-is}
 
@@ -40,9 +41,9 @@ pub exchange-call : Call exchange finish refuses (λ n scratch room. newAfterExc
 unfolding exchange newAfterExchange
 exchange-call = finishing (λ n before scratch. refl) (λ n scratch room number. refl) (λ n scratch room. refl)
 
-pub extract-call : Call extractFilled finish refuses (λ n scratch room. newAfterExtract n scratch)
+pub extract-call : (match : Matcher) → Call (extractFilledBy match) finish refuses (λ n scratch room. newAfterExtractBy match n scratch)
 unfolding extractFilledBy newAfterExtractBy
-extract-call = finishing (λ n before scratch. refl) (λ n scratch room number. refl) (λ n scratch room. refl)
+extract-call match = finishing (λ n before scratch. refl) (λ n scratch room number. refl) (λ n scratch room. refl)
 
 module _ (table : List NodeRecord) where
   -- A merge that is refused keeps the table too.

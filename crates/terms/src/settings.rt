@@ -1,6 +1,8 @@
 // Session settings (request 13 of document 02).
 ghost use mathlib.Core.Path.{_≡_};
+ghost use mathlib.Core.Bool.{true};
 ghost use Rattle.definitions.specs.Settings as definitions;
+ghost use Rattle.definitions.specs.SettingsClaims.{GoodSettings};
 ghost use Rattle.terms.specs.Settings.{settingsOf};
 
 // The kinds allowed (bit 0 relation, bit 1 distance, bit 2 KNN), the default k and the greatest k.
@@ -13,6 +15,7 @@ pub struct Settings {
 // Whether they do not get 24.
 pub fn good_settings(settings: Settings) -> bool
     ensures { λ r. ⌜ r ≡ definitions.goodSettings (settingsOf settings) ⌝ }
+    ensures { λ r. ⌜ (r ≡ true → GoodSettings (settingsOf settings)) ⌝ }
 {
     if settings.kinds < 1 {
         return false;

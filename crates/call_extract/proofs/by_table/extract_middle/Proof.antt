@@ -12,7 +12,7 @@ extract-middle-spec =
     (search needs)
     (search needs)
     (λ c κs. let start = c .before .before .before .before .before .before .before in
-    clear-rows 256 (start .args .n) (start .args .plan .now) (start .pre .0) (omega (arith, start .pre .1)))
+    (clear-rows 256 (start .args .n) (start .args .plan .now) (start .pre .0 .0) (omega (arith, start .pre .0 .1)), start .pre .1))
     (search needs)
     (search needs)
     (λ c. c .before .before .before .before .before .before .extract-lent .ensures))

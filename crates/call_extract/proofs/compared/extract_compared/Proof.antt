@@ -10,6 +10,8 @@ use lib.ListN.{length}
 use borrow.Author.Needs.{needs}
 use borrow.Author.Tests.{ltb-true, ltb-false}
 use Rattle.definitions.specs.Good.{AllBytes}
+use Rattle.definitions.specs.Settings.{matchUnder}
+use Rattle.terms.specs.Settings.{settingsOf}
 use Rattle.definitions.specs.NodeTable.{NodeRecord}
 use Rattle.node_reader.proofs.Standing.{all-bytes}
 use Rattle.node_rows.specs.Stores.{SameIs}
@@ -43,7 +45,7 @@ returns c = λ table of.
     let start = known .before .before .before .before .before .before in
     let a = start .args in
     ⊎-elim
-    (λ w. short-refused (a .n) (a .plan .now) (start .pre .0) (bytes known) (a .scratch .now) (a .row .now) (a .places) table (w .taken) of)
+    (λ w. short-refused (a .n) (a .plan .now) (start .pre .0) (bytes known) (matchUnder (settingsOf (a .settings))) (a .scratch .now) (a .row .now) (a .places) table (w .taken) of)
     (λ w. absurd (omega (
       arith,
       row-long (a .n) (a .f .nodes) (a .places) (a .row .now) table (w .0 .left) (few known) (small known) of,
@@ -74,8 +76,11 @@ extract-frame-requires c κs =
     let start = compared .before .before .before .before .before .before .before .before .before .before in
     let a = start .args in (
       start .pre .0,
-      row-indexed (a .n) (a .plan .now) (start .pre .0) (bytes (compared .before .before .before .before)) (start .pre .1) (a .row .now)
-          (told compared (c .before .before .if3 .taken)),
+      (
+        row-indexed (a .n) (a .plan .now) (start .pre .0) (bytes (compared .before .before .before .before)) (start .pre .1 .0) (a .row .now)
+            (told compared (c .before .before .if3 .taken)),
+        start .pre .1 .1,
+      ),
     )
 
 returns-2 : tie.Need-returns-2
@@ -83,7 +88,8 @@ returns-2 c = λ table of.
     let compared = c .before .before .before .before .before .before .before .before in
     let start = compared .before .before .before .before .before .before .before .before .before .before in
     let a = start .args in
-    same-fits (a .n) (a .plan .now) (start .pre .0) (bytes (compared .before .before .before .before)) (start .pre .1) (a .scratch .now)
+    same-fits (a .n) (a .plan .now) (start .pre .0) (bytes (compared .before .before .before .before)) (start .pre .1 .0) (matchUnder (settingsOf (a .settings)))
+    (a .scratch .now)
     (a .row .now) table (begins (compared .before) table of)
     (told compared (c .before .before .before .before .before .before .before .if3 .taken))
     (c .before .before .before .before .extract-frame .ensures)
@@ -93,8 +99,8 @@ returns-3 c = λ table of.
     let compared = c .before in
     let start = compared .before .before .before .before .before .before .before .before .before .before in
     let a = start .args in
-    other-refused (a .n) (a .plan .now) (start .pre .0) (bytes (compared .before .before .before .before)) (start .pre .1)
-    (a .scratch .now) (a .row .now) table (begins (compared .before) table of) (told compared (c .if3 .left))
+    other-refused (a .n) (a .plan .now) (start .pre .0) (bytes (compared .before .before .before .before)) (start .pre .1 .0)
+    (matchUnder (settingsOf (a .settings))) (a .scratch .now) (a .row .now) table (begins (compared .before) table of) (told compared (c .if3 .left))
 
 pub extract-compared-spec : {M : Type 1} → statement M
 extract-compared-spec =
@@ -104,7 +110,7 @@ extract-compared-spec =
     (λ c κs.
     let start = c .before .before .before .before .before .before .before .before .before in
     let a = start .args in (
-      own-long (a .n) (a .plan .now) (start .pre .0) (bytes (c .before .before .before)) (start .pre .1),
+      own-long (a .n) (a .plan .now) (start .pre .0) (bytes (c .before .before .before)) (start .pre .1 .0),
       ltb-false (length (a .row .now)) (a .f .nodes) (c .if2 .left),
     ))
     extract-frame-requires

@@ -1,7 +1,8 @@
 -- `good_settings`: each return is one test of the definition.
 use Prim.Native.Nat.{ℕ, _≤_, _<_}
-use mathlib.Core.Path.{_≡_, sym}
-use mathlib.Core.Bool.{false}
+use native.Mathlib.Omega.{arith}
+use mathlib.Core.Path.{_≡_, sym, _∙_}
+use mathlib.Core.Bool.{false, false≢true}
 use lib.Dec.{leb}
 use borrow.Author.Tests.{le-leb, lt-leb}
 use Rattle.definitions.specs.Settings.{Settings, goodSettings}
@@ -29,10 +30,12 @@ pub good-settings-spec : {M : Type 1} → statement M
 good-settings-spec =
     tie.close
     (tie.spec
-    (λ c. sym (no-kind _ (c .if1 .taken)))
-    (λ c. sym (no-such-kind _ (c .before .before .if1 .left) (c .if2 .taken)))
-    (λ c. let two = c .before .before in sym (no-default _ (two .before .before .if1 .left) (two .if2 .left) (c .if3 .taken)))
+    (λ c. (sym (no-kind _ (c .if1 .taken)), λ e. absurd (false≢true e)))
+    (λ c. (sym (no-such-kind _ (c .before .before .if1 .left) (c .if2 .taken)), λ e. absurd (false≢true e)))
+    (λ c. let two = c .before .before in
+    (sym (no-default _ (two .before .before .if1 .left) (two .if2 .left) (c .if3 .taken)), λ e. absurd (false≢true e)))
     (λ c.
     let three = c .before in
     let two = three .before .before in
-    sym (else-greatest _ (two .before .before .if1 .left) (two .if2 .left) (three .if3 .left))))
+    let is = sym (else-greatest _ (two .before .before .if1 .left) (two .if2 .left) (three .if3 .left)) in
+    (is, λ e. record { good = sym is ∙ e; width = omega arith })))
