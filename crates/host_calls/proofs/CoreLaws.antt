@@ -1,20 +1,23 @@
 -- What the answers of load, extract and merge are as one number, and what load and merge leave to be filled.
-use Prim.Native.Nat.{ℕ}
+use Prim.Native.Nat.{ℕ, _<_, _≤_}
 use native.Mathlib.Omega.{arith}
-use mathlib.Core.Path.{_≡_, refl, sym, ap, _∙_}
+use mathlib.Core.Path.{_≡_, refl, sym, ap, _∙_, subst}
 use mathlib.Core.Bool.{true}
 use mathlib.Core.List.{List, _++_}
 use lib.IntN.{ℤ}
 use lib.ListN.{length, drop, replicate, length-replicate}
+use Rattle.definitions.specs.Basics.{Result, ok, refused}
 use Rattle.definitions.specs.NodeTable.{NodeRecord, blank}
-use Rattle.definitions.specs.Calls.{LoadOutcome, load, Outcome, extract, extractWalk}
+use Rattle.definitions.specs.Calls.{LoadOutcome, load, Outcome}
 use Rattle.definitions.specs.Hosts.{hosted}
-use Rattle.definitions.specs.Match.{matchLeaf}
+use Rattle.definitions.specs.Limits.{fourBytes}
+use Rattle.definitions.specs.Settings.{Settings, matchUnder, extractUnder, extractWalkUnder}
 use Rattle.definitions.specs.Machine.{extractCall}
 use Rattle.definitions.specs.Sessions.{makeBy, accepted}
 use Rattle.definitions.specs.Merge.{MergeOutcome, merge}
 use Rattle.definitions.specs.Good.{AllBytes}
-use Rattle.theorems.proofs.Proved.{lengths-short, merge-writes, walk-short}
+use Rattle.join_filter.proofs.Settling.{by-settings}
+use Rattle.theorems.proofs.Proved.{lengths-short, merge-writes, walk-short, all-settings}
 use Rattle.join_filter.specs.Outcomes.{answerOf, nAfter, LoadIs, OutcomeIs, ExtractIs, MergeIs}
 use Rattle.join_filter.specs.declared.answers.Loaded.{Loaded}
 use Rattle.call_load.specs.Loads.{LoadedIs}
@@ -66,16 +69,33 @@ module _ (frame before after : List ℕ) (held : ℕ) (r : Loaded) (is : LoadedI
         ),
   )
 
-pub extract-short : (n : ℕ) (before scratch after kept : List ℕ) (table : List NodeRecord) (r : Extracted)
-    → ExtractIs (extract n before scratch table) (extractWalk n before scratch table) n after kept r → AllBytes before → ShortWalk r
+-- A length that is answered is short.
+abbrev ShortAnswer : Result ℕ → Type 0
+ShortAnswer (ok m) = m ≤ 26620
+ShortAnswer (refused number) = Unit {0}
+
+short-by : (x : Result ℕ) → ((m : ℕ) → x ≡ ok m → m ≤ 16384) → ShortAnswer x
+short-by (ok m) h = omega (arith, h m refl)
+short-by (refused number) h = tt
+
+answer-short : (a : Answer) → ShortAnswer (answerOf a) → Short a
+answer-short (Length m) h = h
+answer-short (Refused why) h = tt
+
+-- So is an extract's, and its walk, under settings whose greatest k has 32 bits.
+pub extract-short : (S : Settings) (n : ℕ) (before scratch after kept : List ℕ) (table : List NodeRecord) (r : Extracted)
+    → ExtractIs (extractUnder S n before scratch table) (extractWalkUnder S n before scratch table) n after kept r
+    → S .greatestK < fourBytes → AllBytes before → ShortWalk r
 unfolding makeBy
-extract-short n before scratch after kept table r is bytes =
-    (short (r .answer) (is .outcome), omega (arith, is .carried, walk-short matchLeaf n before scratch table bytes))
-  where
-    short : (a : Answer) → OutcomeIs (extract n before scratch table) n after kept a → Short a
-    short (Length m) so =
-        omega (arith, lengths-short .1 extractCall n before scratch table m bytes (ap (λ (o : Outcome). o .answer) so))
-    short (Refused why) so = tt
+extract-short S n before scratch after kept table r is width bytes =
+    let (short, few) = by-settings S n before scratch table (λ (o : Outcome) (w : ℕ). ShortAnswer (o .answer) × (w ≤ 2047))
+    (λ g. (
+      short-by _ (λ m e. all-settings S g .oneCall .short extractCall n before scratch table m bytes e),
+      omega (arith, walk-short (matchUnder S) n before scratch table bytes),
+    )) (tt, omega arith) width in (
+      answer-short (r .answer) (subst ShortAnswer (ap (λ (o : Outcome). o .answer) (is .outcome)) short),
+      omega (arith, is .carried, few),
+    )
 
 module _ (frame : List ℕ) (n : ℕ) (before scratch after kept : List ℕ) (held : ℕ) (r : Loaded)
     (is : MergedIs frame n before scratch after kept held r) where

@@ -4,11 +4,12 @@ use mathlib.Core.Path.{_≡_}
 use mathlib.Core.List.{List, _++_}
 use lib.IntN.{ℤ}
 use lib.ListN.{length, drop}
-use Rattle.definitions.specs.Calls.{load, extract, extractWalk}
+use Rattle.definitions.specs.Calls.{load}
 use Rattle.definitions.specs.Merge.{merge}
 use Rattle.definitions.specs.NodeTable.{NodeRecord}
 use Rattle.definitions.specs.Good.{AllBytes}
 use Rattle.definitions.specs.Hosts.{hosted}
+use Rattle.definitions.specs.Settings.{Settings, extractUnder, extractWalkUnder}
 use Rattle.expression.specs.Filling.{Records}
 use Rattle.call_extract.specs.ExtractByTable.{RowOf}
 use Rattle.host_calls.specs.declared.cores.Loaded.{Loaded}
@@ -47,7 +48,7 @@ abbrev pub Lent : (n : ℕ) (row : List ℕ) (held : ℕ) → Type 0
 Lent n row held = (table : List NodeRecord) × RowOf n row held table
 
 -- The extract is the definition's with every table of so many records whose first numbers are in the row. (Ours.)
-abbrev pub ExtractBy : (n : ℕ) (before scratch row : List ℕ) (held : ℕ) (after scratched : List ℕ) → ℤ → Type 0
-ExtractBy n before scratch row held after scratched r =
+abbrev pub ExtractBy : Settings → (n : ℕ) (before scratch row : List ℕ) (held : ℕ) (after scratched : List ℕ) → ℤ → Type 0
+ExtractBy S n before scratch row held after scratched r =
     (table : List NodeRecord) → RowOf n row held table
-    → ExtractHosted before (extract n before scratch table) (extractWalk n before scratch table) after scratched r
+    → ExtractHosted before (extractUnder S n before scratch table) (extractWalkUnder S n before scratch table) after scratched r

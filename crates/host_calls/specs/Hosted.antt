@@ -9,6 +9,7 @@ use Rattle.definitions.specs.NodeTable.{NodeRecord}
 use Rattle.definitions.specs.Good.{AllBytes}
 use Rattle.definitions.specs.Hosts.{hosted, hostedWalk, hostedServe}
 use Rattle.definitions.specs.Printed.{print}
+use Rattle.definitions.specs.Settings.{Settings}
 use Rattle.definitions.specs.QueueBytes.{PutOutcome, ServeOutcome}
 
 -- The load is the definition's, whatever n the host had: answer, plan buffer and table.
@@ -26,6 +27,10 @@ MergeHosted frame before o after scratch filled r =
 -- The call is the definition's: answer and both buffers. n is the host's to keep: the length that was answered, else as it was.
 abbrev pub CallHosted : (before : List ℕ) → Outcome → (after scratch : List ℕ) → ℤ → Type 0
 CallHosted before o after scratch r = AllBytes before × (r ≡ hosted (o .answer)) × (after ≡ o .buffer) × (scratch ≡ o .scratch)
+
+-- The settings that a host gives: kinds, default k and greatest k (request 13).
+abbrev pub settingsBy : (kinds defaultK greatestK : ℕ) → Settings
+settingsBy kinds defaultK greatestK = record { kinds = kinds; defaultK = defaultK; greatestK = greatestK }
 
 -- The extract is the definition's: answer and walk, and both buffers (request 10).
 abbrev pub ExtractHosted : (before : List ℕ) → Outcome → (walk : ℕ) → (after scratch : List ℕ) → ℤ → Type 0

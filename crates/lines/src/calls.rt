@@ -10,6 +10,7 @@ use logical_filter::call::Names;
 use logical_filter::call::logical;
 use logical_filter::knn_query_side::query_side_number;
 use terms::refusals::Refusal;
+use terms::settings::default_settings;
 ghost use mathlib.Core.Path.{_≡_};
 ghost use mathlib.Core.List.{List};
 ghost use Prim.Native.Nat.{ℕ, _≤_};
@@ -63,7 +64,7 @@ fn logical_line(bytes: &[u8]) -> Answer
     }
 }
 
-// `21` and `22`: extract and exchange, 7 where more follows.
+// `21` and `22`: extract, with the default settings, and exchange, 7 where more follows.
 fn plan_line(plan: &mut [u8], scratch: &mut [u8], size: usize, n: usize, call: Call) -> Answer
     requires { ⌜ length (now scratch) ≡ 16384 ⌝ }
     ensures { λ r. ⌜ AnswerIs
@@ -77,7 +78,8 @@ fn plan_line(plan: &mut [u8], scratch: &mut [u8], size: usize, n: usize, call: C
     }
     match call {
         Call::Extract => {
-            let extracted = extract(plan, n, scratch);
+            let settings = default_settings();
+            let extracted = extract(plan, n, scratch, settings);
             let answer = extracted.answer;
             of_call(answer)
         }

@@ -1,4 +1,5 @@
 -- Right because it is the extract by the table's row with its answer as one number.
+use native.Mathlib.Omega.{arith}
 use borrow.Author.Needs.{needs}
 use Rattle.node_reader.proofs.Standing.{all-bytes}
 use Rattle.host_calls.proofs.Numbers.{given-back}
@@ -12,7 +13,7 @@ walk-number-requires c κs =
     let call = c .before .before .before .before .extract-by-table in
     let known = c .before .before .before .before .before .before .before .before .before in
     let start = known .before in
-    extract-short _ _ _ _ _ (start .pre .0) (call .result) (call .ensures (start .pre .0) (start .pre .1))
+    extract-short _ _ _ _ _ _ (start .pre .0) (call .result) (call .ensures (start .pre .0) (start .pre .1)) (omega arith)
     (all-bytes (start .args .plan .now) (known .slice-known .given))
 
 returns : tie.Need-returns
