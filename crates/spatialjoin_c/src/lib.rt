@@ -22,9 +22,10 @@ ghost use Rattle.definitions.specs.Logical as logicals;
 ghost use Rattle.definitions.specs.Merge as merges;
 ghost use Rattle.definitions.specs.Project as projects;
 ghost use Rattle.definitions.specs.QueueBytes as queued;
+ghost use Rattle.definitions.specs.Settings as settled;
 ghost use Rattle.spatialjoin_c.specs.Version.{version};
 ghost use Rattle.node_table.specs.Records.{nodesOf};
-ghost use Rattle.host_calls.specs.Hosted.{LoadHosted, CallHosted, ExtractHosted, MergeHosted, PrintHosted, PutHosted, ServeHosted};
+ghost use Rattle.host_calls.specs.Hosted.{LoadHosted, CallHosted, settingsBy, ExtractHosted, MergeHosted, PrintHosted, PutHosted, ServeHosted};
 
 // Loads a frame as the new plan and fills the table with its nodes; reads nothing of what both held.
 #[no_mangle]
@@ -38,23 +39,38 @@ pub extern "C" fn spatialjoin_load(frame: &[u8], plan: &mut [u8], table: &mut [N
     loaded.answer
 }
 
-// Pulls the predicate out of the plan in the first n bytes, by the table of the nodes of the frame that is held.
+// Pulls the predicate out of the plan in the first n bytes, by the table of the nodes of the frame that is held. The settings are the kinds
+// allowed (bit 0 relation, bit 1 distance, bit 2 KNN), the default k and the greatest k.
 #[no_mangle]
 pub extern "C" fn spatialjoin_extract(
     plan: &mut [u8],
     n: usize,
     scratch: &mut [u8],
     table: &[NodeRecord],
+    kinds: u8,
+    default_k: u32,
+    greatest_k: u32,
 ) -> i64
     ensures { λ r. ⌜ ExtractHosted (now (plan .entry))
-        (definitions.extract n (now (plan .entry)) (now (scratch .entry)) (nodesOf (now (table .entry))))
-        (definitions.extractWalk n (now (plan .entry)) (now (scratch .entry)) (nodesOf (now (table .entry))))
+        (settled.extractUnder (settingsBy kinds «default_k» «greatest_k») n (now (plan .entry)) (now (scratch .entry))
+        (nodesOf (now (table .entry))))
+        (settled.extractWalkUnder (settingsBy kinds «default_k» «greatest_k») n (now (plan .entry)) (now (scratch .entry))
+        (nodesOf (now (table .entry))))
         (now (plan .exit)) (now (scratch .exit)) r ⌝ }
 {
     let count = taken_count(n, table.len());
     let mut row = [0; 1024];
     take_nodes(&mut row, table, count);
-    extract_core(plan, n, scratch, &row, table.len())
+    extract_core(
+        plan,
+        n,
+        scratch,
+        &row,
+        table.len(),
+        kinds,
+        default_k,
+        greatest_k,
+    )
 }
 
 // Exchanges the join's children in the plan in the first n bytes.
