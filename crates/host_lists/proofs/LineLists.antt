@@ -169,7 +169,7 @@ make-agrees kind s k [] (table, h) =
     let o : Outcome = make kind (k .n) (k .buffer) scratch table in
     subst (λ (o : Outcome). LineAgrees (lineOfCall (programCall s (making c))) (lineBy o)) (same-call kind s k scratch table h)
     (call-line (programCall s (making c)) (k .n) (butScratch o table)
-    (made-agrees c s k table h) (make-n kind (k .n) (k .buffer) scratch table))
+    (made-agrees c s k table h) (make-n matchLeaf kind (k .n) (k .buffer) scratch table))
 
 -- ---- a line
 

@@ -1,4 +1,4 @@
--- From a number the answer is known, and with extract the walk, because a refusal's number is from 1 to 20 and a length short; and every
+-- From a number the answer is known, and with extract the walk, because a refusal's number is from 1 to 24 and a length short; and every
 -- call answers a short length or such a refusal.
 use Prim.Native.Nat.{ℕ, zero, suc, _+_, _*_, _/_, _%_, _≤_}
 use native.Mathlib.Omega.{arith}
@@ -13,20 +13,24 @@ use Rattle.definitions.specs.Basics.{Result, ok, refused, any, all}
 use Rattle.definitions.specs.Machine.{Kind, extractCall, exchangeCall}
 use Rattle.definitions.specs.Good.{AllBytes}
 use Rattle.definitions.specs.NodeTable.{NodeRecord}
-use Rattle.definitions.specs.Sessions.{makeBy, make, accepted}
+use Rattle.definitions.specs.Sessions.{makeBy, accepted}
+use Rattle.definitions.specs.Settings.{Settings, makeUnder}
+use Rattle.definitions.specs.SettingsClaims.{settledRefusals}
+use Rattle.definitions.specs.Calls.{Outcome, exchange}
 use Rattle.definitions.specs.Merge.{merge}
 use Rattle.definitions.specs.Hosts.{hosted, hostedWalk}
-use Rattle.definitions.specs.Claims.{loadRefusals, extractRefusals, exchangeRefusals, mergeRefusals, projectRefusals, RefusedBy}
+use Rattle.definitions.specs.Claims.{loadRefusals, exchangeRefusals, mergeRefusals, projectRefusals, RefusedBy}
 use Rattle.theorems.proofs.Tools.{and-both}
-use Rattle.theorems.proofs.InverseFrame.{same-ok}
-use Rattle.theorems.proofs.Proved.{lengths-short, refusals-of-calls, merge-writes}
+use Rattle.theorems.proofs.InverseFrame.{same-ok, refused-not-ok}
+use Rattle.theorems.proofs.Proved.{lengths-short, refusals-of-calls, merge-writes, all-settings, refusals-under}
+use Rattle.join_filter.proofs.Settling.{by-settings}
 use Rattle.terms.specs.Refusals.{numberOf}
 use Rattle.terms.specs.declared.refusals.Refusal.{Refusal}
-use Rattle.terms.specs.declared.refusals.Refusal.the-variants.{EmptyOrTooLong, WrongFirstByte, EndsInsideField, OutOfRange, TooManyOrTooDeep, NoSuchColumn, BytesAfterEnd, TooFewArguments, BufferTooShort, NoGoodPlan, PlanEmpty, AlreadyExtracted, NoLeafMatches, NotHexadecimal, TextBufferTooShort, MergedTooLarge, TableTooShort, NotExtracted, ListTooLong, NoSuchChild, NoSuchQueue, QueuedFrameTooLong, QueueFull}
+use Rattle.terms.specs.declared.refusals.Refusal.the-variants.{EmptyOrTooLong, WrongFirstByte, EndsInsideField, OutOfRange, TooManyOrTooDeep, NoSuchColumn, BytesAfterEnd, TooFewArguments, BufferTooShort, NoGoodPlan, PlanEmpty, AlreadyExtracted, NoLeafMatches, NotHexadecimal, TextBufferTooShort, MergedTooLarge, TableTooShort, NotExtracted, ListTooLong, NoSuchChild, NoSuchQueue, QueuedFrameTooLong, QueueFull, BadSettings}
 use Rattle.join_filter.specs.Outcomes.{answerOf}
 use Rattle.join_filter.specs.declared.answers.Answer.{Answer}
 use Rattle.join_filter.specs.declared.answers.Answer.the-variants.{Length, Refused}
-use Rattle.host_lists.specs.Numbers.{answered, walkAnswered, walkCarried, IsAnswer, AnswerKnown, NumbersApart, WalkKnown, WalkNumbersApart, WithoutWalk, AnswersOfCalls}
+use Rattle.host_lists.specs.Numbers.{answered, walkAnswered, walkCarried, IsAnswer, AnswerKnown, NumbersApart, WalkKnown, WalkNumbersApart, WithoutWalk, Fits, AnswersOfCalls}
 
 -- ---- minus a refusal's number
 
@@ -92,6 +96,7 @@ at-least-1 NoSuchChild = omega arith
 at-least-1 NoSuchQueue = omega arith
 at-least-1 QueuedFrameTooLong = omega arith
 at-least-1 QueueFull = omega arith
+at-least-1 BadSettings = omega arith
 
 -- The number of an answer of the code.
 pub known : (r : Answer) → answered (hosted (answerOf r)) ≡ answerOf r
@@ -132,10 +137,10 @@ load-named = (
   refl,
 )
 
-pub extract-named : Named extractRefusals
-unfolding extractRefusals
+pub extract-named : Named settledRefusals
+unfolding settledRefusals
 extract-named =
-    (NoGoodPlan ∷ PlanEmpty ∷ AlreadyExtracted ∷ BufferTooShort ∷ NoLeafMatches ∷ [], refl)
+    (BadSettings ∷ NoGoodPlan ∷ PlanEmpty ∷ AlreadyExtracted ∷ BufferTooShort ∷ NoLeafMatches ∷ [], refl)
 
 pub exchange-named : Named exchangeRefusals
 unfolding exchangeRefusals
@@ -180,18 +185,19 @@ module _ (most : ℕ) where
       let both : (inRange n ≡ true) × (all inRange numbers ≡ true) = and-both (inRange n) (all inRange numbers) range in
       first-of numbers n k (eqb k n) refl (both .0) e (λ later. one-of numbers (both .1) k later)
 
-is-answer : (numbers : List ℕ) → all (inRange 20) numbers ≡ true → (x : Result ℕ) → RefusedBy numbers x
+is-answer : (numbers : List ℕ) → all (inRange 24) numbers ≡ true → (x : Result ℕ) → RefusedBy numbers x
     → ((m : ℕ) → x ≡ ok m → m ≤ mostBytes) → IsAnswer x
 is-answer numbers range (ok m) h short = short m refl
-is-answer numbers range (refused k) h short = one-of 20 numbers range k h
+is-answer numbers range (refused k) h short = one-of 24 numbers range k h
 
-make-answer : (kind : Kind) (n : ℕ) (plan scratch : List ℕ) (table : List NodeRecord) → AllBytes plan
-    → IsAnswer (make kind n plan scratch table .answer)
-unfolding makeBy extractRefusals exchangeRefusals all
-make-answer extractCall n plan scratch table bytes =
-    is-answer extractRefusals refl _ (refusals-of-calls .1 n plan scratch table)
-    (λ m e. lengths-short .1 extractCall n plan scratch table m bytes e)
-make-answer exchangeCall n plan scratch table bytes =
+make-answer : (S : Settings) → Fits S → (kind : Kind) (n : ℕ) (plan scratch : List ℕ) (table : List NodeRecord) → AllBytes plan
+    → IsAnswer (makeUnder S kind n plan scratch table .answer)
+unfolding makeBy makeUnder settledRefusals exchangeRefusals all
+make-answer S fits extractCall n plan scratch table bytes =
+    is-answer settledRefusals refl _ (refusals-under S n plan scratch table)
+    (by-settings S n plan scratch table (λ (o : Outcome) (w : ℕ). (m : ℕ) → o .answer ≡ ok m → m ≤ mostBytes)
+    (λ g m e. all-settings S g .oneCall .short extractCall n plan scratch table m bytes e) (λ m e. absurd (refused-not-ok 24 m e)) fits)
+make-answer S fits exchangeCall n plan scratch table bytes =
     is-answer exchangeRefusals refl _ (refusals-of-calls .2 n plan scratch)
     (λ m e. lengths-short .1 exchangeCall n plan scratch table m bytes e)
 

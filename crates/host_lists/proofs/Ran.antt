@@ -6,26 +6,29 @@ use mathlib.Core.List.{List, [], _∷_}
 use lib.IntN.{ℤ, pos}
 use Rattle.definitions.specs.Basics.{Result, ok, refused}
 use Rattle.definitions.specs.Expression.{Frame}
-use Rattle.definitions.specs.Match.{matchLeaf}
-use Rattle.definitions.specs.Calls.{LoadOutcome, finishLoad, load, Outcome, finish, extract, exchange, extractWalk}
+use Rattle.definitions.specs.Extract.{Matcher}
+use Rattle.definitions.specs.Calls.{LoadOutcome, finishLoad, load, Outcome, finish, exchange}
 use Rattle.definitions.specs.Machine.{Kind, extractCall, exchangeCall}
 use Rattle.definitions.specs.NodeTable.{NodeRecord}
-use Rattle.definitions.specs.Sessions.{makeBy, make, walkBy, walk, accepted}
+use Rattle.definitions.specs.Sessions.{makeBy, accepted}
+use Rattle.definitions.specs.Settings.{Settings, extractUnder, extractWalkUnder, makeUnder, walkUnder}
+use Rattle.definitions.specs.SettingsClaims.{settledRefusals}
 use Rattle.definitions.specs.Merge.{MergeOutcome, withTable, merge}
 use Rattle.definitions.specs.Project.{project}
 use Rattle.definitions.specs.History.{Call, loading, making, merging, projecting, FramesAreBytes}
 use Rattle.definitions.specs.Hosts.{hosted, hostedWalk}
-use Rattle.definitions.specs.Claims.{loadRefusals, extractRefusals, exchangeRefusals, mergeRefusals, projectRefusals, RefusedBy}
+use Rattle.definitions.specs.Claims.{loadRefusals, exchangeRefusals, mergeRefusals, projectRefusals, RefusedBy}
 use Rattle.theorems.proofs.Changes.{extract-writes}
-use Rattle.theorems.proofs.Proved.{refusals-of-calls}
+use Rattle.theorems.proofs.Proved.{refusals-of-calls, refusals-under}
 use Rattle.join_filter.specs.Outcomes.{answerOf, nAfter, LoadIs, OutcomeIs, MergeIs}
+use Rattle.join_filter.proofs.Settling.{by-settings}
 use Rattle.join_filter.specs.Lists.{Lent, CallIs, Ran, noCall, called, given, carried, ranTo}
 use Rattle.join_filter.specs.declared.answers.Answer.{Answer}
 use Rattle.join_filter.specs.declared.answers.Answer.the-variants.{Length, Refused}
 use Rattle.join_filter.specs.declared.answers.Extracted.{Extracted}
 use Rattle.node_table.specs.Records.{nodesOf}
 use Rattle.host_calls.specs.Hosted.{LoadHosted, CallHosted, MergeHosted}
-use Rattle.host_lists.specs.Numbers.{answered, walkAnswered, walkCarried, nextN, madeAnswered, madeCarried, madeNumber, answeredBy, carriedBy, numberBy, answersBy, walksBy, numbersBy}
+use Rattle.host_lists.specs.Numbers.{answered, walkAnswered, walkCarried, nextN, madeAnswered, madeCarried, madeNumber, answeredBy, carriedBy, numberBy, answersBy, walksBy, numbersBy, Fits}
 use Rattle.host_lists.specs.HostLists.{Host, MadeHosted, HostCall, HostRan, madeNone, madeOne, hostTo}
 use Rattle.host_lists.proofs.Numbers.{known, walk-known, answers-of-calls, Named, answer-from, load-named, extract-named, exchange-named, merge-named, project-named}
 
@@ -52,13 +55,17 @@ unfolding finish
 finish-n n buffer scratch (ok bytes) = refl
 finish-n n buffer scratch (refused number) = refl
 
-pub make-n : (kind : Kind) (n : ℕ) (buffer scratch : List ℕ) (table : List NodeRecord)
-    → make kind n buffer scratch table .n ≡ nextN n (make kind n buffer scratch table .answer)
+pub make-n : (match : Matcher) (kind : Kind) (n : ℕ) (buffer scratch : List ℕ) (table : List NodeRecord)
+    → makeBy match kind n buffer scratch table .n ≡ nextN n (makeBy match kind n buffer scratch table .answer)
 unfolding makeBy exchange
-make-n extractCall n buffer scratch table =
-    extract-writes matchLeaf n buffer scratch table (λ (o : Outcome). o .n ≡ nextN n (o .answer))
+make-n match extractCall n buffer scratch table =
+    extract-writes match n buffer scratch table (λ (o : Outcome). o .n ≡ nextN n (o .answer))
     (finish-n n buffer scratch _) (finish-n n buffer scratch (refused 10))
-make-n exchangeCall n buffer scratch table = finish-n n buffer scratch _
+make-n match exchangeCall n buffer scratch table = finish-n n buffer scratch _
+
+exchange-n : (n : ℕ) (buffer scratch : List ℕ) → exchange n buffer scratch .n ≡ nextN n (exchange n buffer scratch .answer)
+unfolding exchange
+exchange-n n buffer scratch = finish-n n buffer scratch _
 
 merge-n : (frame : List ℕ) (n : ℕ) (buffer scratch : List ℕ) (table : List NodeRecord)
     → merge frame n buffer scratch table .n ≡ nextN n (merge frame n buffer scratch table .answer)
@@ -108,31 +115,38 @@ call-is numbers named o n before after kept z h f c =
     (r, outcome-is o n after kept r e f (c .2) (c .3), c .1 ∙ ap hosted (sym e))
 
 -- What an extract or exchange that met its contract is, and what is read off its number.
-pub record MadeIs (kind : Kind) (b : Host) (scratch after kept : List ℕ) (z : ℤ) : Type 0 where
+pub record MadeIs (S : Settings) (kind : Kind) (b : Host) (scratch after kept : List ℕ) (z : ℤ) : Type 0 where
   pub answer : Answer
-  pub is : OutcomeIs (make kind (b .n) (b .plan) scratch (nodesOf (b .table))) (b .n) after kept answer
-  pub number : z ≡ madeNumber kind (walk kind (b .n) (b .plan) scratch (nodesOf (b .table))) (answerOf answer)
+  pub is : OutcomeIs (makeUnder S kind (b .n) (b .plan) scratch (nodesOf (b .table))) (b .n) after kept answer
+  pub number : z ≡ madeNumber kind (walkUnder S kind (b .n) (b .plan) scratch (nodesOf (b .table))) (answerOf answer)
   pub read : madeAnswered kind z ≡ answerOf answer
-  pub carries : madeCarried kind z ≡ walk kind (b .n) (b .plan) scratch (nodesOf (b .table))
+  pub carries : madeCarried kind z ≡ walkUnder S kind (b .n) (b .plan) scratch (nodesOf (b .table))
 
-pub made-is : (kind : Kind) (b : Host) (scratch after kept : List ℕ) (z : ℤ) → MadeHosted kind b scratch after kept z
-    → MadeIs kind b scratch after kept z
-unfolding makeBy walkBy
-made-is extractCall b scratch after kept z (bytes, same, plan, left) =
+extract-n : (S : Settings) → Fits S → (n : ℕ) (buffer scratch : List ℕ) (table : List NodeRecord)
+    → extractUnder S n buffer scratch table .n ≡ nextN n (extractUnder S n buffer scratch table .answer)
+unfolding makeBy
+extract-n S fits n buffer scratch table =
+    by-settings S n buffer scratch table (λ (o : Outcome) (w : ℕ). o .n ≡ nextN n (o .answer))
+    (λ g. make-n _ extractCall n buffer scratch table) refl fits
+
+pub made-is : (S : Settings) → Fits S → (kind : Kind) (b : Host) (scratch after kept : List ℕ) (z : ℤ)
+    → MadeHosted S kind b scratch after kept z → MadeIs S kind b scratch after kept z
+unfolding makeBy makeUnder walkUnder
+made-is S fits extractCall b scratch after kept z (bytes, same, plan, left) =
     let table : List NodeRecord = nodesOf (b .table) in
-    let o : Outcome = extract (b .n) (b .plan) scratch table in
-    let w : ℕ = extractWalk (b .n) (b .plan) scratch table in
-    let (r, e) = answer-from extractRefusals extract-named (o .answer) (refusals-of-calls .1 (b .n) (b .plan) scratch table) in
-    let (a, c) = walk-known w (o .answer) (answers-of-calls .1 extractCall (b .n) (b .plan) scratch table bytes) in record {
+    let o : Outcome = extractUnder S (b .n) (b .plan) scratch table in
+    let w : ℕ = extractWalkUnder S (b .n) (b .plan) scratch table in
+    let (r, e) = answer-from settledRefusals extract-named (o .answer) (refusals-under S (b .n) (b .plan) scratch table) in
+    let (a, c) = walk-known w (o .answer) (answers-of-calls .1 S fits extractCall (b .n) (b .plan) scratch table bytes) in record {
       answer = r;
-      is = outcome-is o (b .n) after kept r e (make-n extractCall (b .n) (b .plan) scratch table) plan left;
+      is = outcome-is o (b .n) after kept r e (extract-n S fits (b .n) (b .plan) scratch table) plan left;
       number = same ∙ ap (hostedWalk w) (sym e);
       read = ap walkAnswered same ∙ a ∙ sym e;
       carries = ap walkCarried same ∙ c;
     }
-made-is exchangeCall b scratch after kept z c =
+made-is S fits exchangeCall b scratch after kept z c =
     let (r, o, same) = call-is exchangeRefusals exchange-named (exchange (b .n) (b .plan) scratch) (b .n) (b .plan) after kept z
-    (refusals-of-calls .2 (b .n) (b .plan) scratch) (make-n exchangeCall (b .n) (b .plan) scratch (nodesOf (b .table))) c in
+    (refusals-of-calls .2 (b .n) (b .plan) scratch) (exchange-n (b .n) (b .plan) scratch) c in
     record { answer = r; is = o; number = same; read = ap answered same ∙ known r; carries = refl }
 
 pub project-is : (n : ℕ) (buffer scratch ofLeft ofRight after kept : List ℕ) (z : ℤ)
@@ -172,9 +186,9 @@ load-is frame before table after filled z c =
 -- ---- lists
 
 -- What one call is, and what is read off its number.
-pub record OneIs (b : Host) (c : Call) (a : Host) (z : ℤ) : Type 0 where
+pub record OneIs (S : Settings) (b : Host) (c : Call) (a : Host) (z : ℤ) : Type 0 where
   pub answer : Extracted
-  pub is : CallIs (lentOf b) c (lentOf a) answer
+  pub is : CallIs S (lentOf b) c (lentOf a) answer
   pub number : z ≡ numberBy c (answer .walk) (answerOf (answer .answer))
   pub read : answeredBy c z ≡ answerOf (answer .answer)
   pub carries : carriedBy c z ≡ answer .walk
@@ -183,14 +197,15 @@ pub record OneIs (b : Host) (c : Call) (a : Host) (z : ℤ) : Type 0 where
 abbrev alone : Answer → Extracted
 alone r = record { answer = r; walk = 0 }
 
-pub one-is : (b : Host) (c : Call) (a : Host) (z : ℤ) → HostCall b c a z → OneIs b c a z
-one-is b (loading frame) a z is =
+pub one-is : (S : Settings) → Fits S → (b : Host) (c : Call) (a : Host) (z : ℤ) → HostCall S b c a z → OneIs S b c a z
+one-is S fits b (loading frame) a z is =
     let (r, o, same) = load-is frame (b .plan) (nodesOf (b .table)) (a .plan) (nodesOf (a .table)) z (is .0) in
     let read : answered z ≡ answerOf r = ap answered same ∙ known r in
     record { answer = alone r; is = (o, n-read (b .n) (answered z) (a .n) r read (is .1)); number = same; read = read; carries = refl }
-one-is b (making c) a z is =
-    let m : MadeIs (c .kind) b (c .scratch) (a .plan) (is .0) z = made-is (c .kind) b (c .scratch) (a .plan) (is .0) z (is .1) in record {
-      answer = record { answer = m .answer; walk = walk (c .kind) (b .n) (b .plan) (c .scratch) (nodesOf (b .table)) };
+one-is S fits b (making c) a z is =
+    let m : MadeIs S (c .kind) b (c .scratch) (a .plan) (is .0) z = made-is S fits (c .kind) b (c .scratch) (a .plan) (is .0) z (is .1) in
+    record {
+      answer = record { answer = m .answer; walk = walkUnder S (c .kind) (b .n) (b .plan) (c .scratch) (nodesOf (b .table)) };
       is = (
         is .0,
         m .is,
@@ -202,7 +217,7 @@ one-is b (making c) a z is =
       read = m .read;
       carries = m .carries;
     }
-one-is b (merging frame scratch) a z is =
+one-is S fits b (merging frame scratch) a z is =
     let (r, o, same) =
     merge-is frame (b .n) (b .plan) scratch (nodesOf (b .table)) (a .plan) (is .0) (nodesOf (a .table)) z (is .1) in
     let read : answered z ≡ answerOf r = ap answered same ∙ known r in record {
@@ -212,7 +227,7 @@ one-is b (merging frame scratch) a z is =
       read = read;
       carries = refl;
     }
-one-is b (projecting scratch ofLeft ofRight) a z is =
+one-is S fits b (projecting scratch ofLeft ofRight) a z is =
     let (r, o, same) = project-is (b .n) (b .plan) scratch ofLeft ofRight (a .plan) (is .0) z (is .1) in
     let read : answered z ≡ answerOf r = ap answered same ∙ known r in record {
       answer = alone r;
@@ -223,18 +238,19 @@ one-is b (projecting scratch ofLeft ofRight) a z is =
     }
 
 -- What a list is, and what is read off its numbers.
-pub record RanAs (b : Host) (calls : List Call) (numbers : List ℤ) (last : Host) : Type 0 where
+pub record RanAs (S : Settings) (b : Host) (calls : List Call) (numbers : List ℤ) (last : Host) : Type 0 where
   pub answers : List Extracted
-  pub ran : Ran (lentOf b) calls answers (lentOf last)
+  pub ran : Ran S (lentOf b) calls answers (lentOf last)
   pub numbered : numbers ≡ numbersBy calls (carried answers) (given answers)
   pub read : answersBy calls numbers ≡ given answers
   pub carries : walksBy calls numbers ≡ carried answers
 
-pub host-ran : {b last : Host} {calls : List Call} {numbers : List ℤ} → HostRan b calls numbers last → RanAs b calls numbers last
-host-ran madeNone = record { answers = []; ran = noCall; numbered = refl; read = refl; carries = refl }
-host-ran (madeOne {b} {a} {c = c} {z = z} is more) =
-    let one : OneIs b c a z = one-is b c a z is in
-    let rest = host-ran more in record {
+pub host-ran : {S : Settings} → Fits S → {b last : Host} {calls : List Call} {numbers : List ℤ} → HostRan S b calls numbers last
+    → RanAs S b calls numbers last
+host-ran fits madeNone = record { answers = []; ran = noCall; numbered = refl; read = refl; carries = refl }
+host-ran {S} fits (madeOne {b} {a} {c = c} {z = z} is more) =
+    let one : OneIs S b c a z = one-is S fits b c a z is in
+    let rest = host-ran fits more in record {
       answers = one .answer ∷ rest .answers;
       ran = called (one .is) (rest .ran);
       numbered = ap₂ (λ (x : ℤ) (l : List ℤ). x ∷ l) (one .number) (rest .numbered);
@@ -243,7 +259,8 @@ host-ran (madeOne {b} {a} {c = c} {z = z} is more) =
     }
 
 -- Every frame of such a list is of bytes, since the exported load and merge were lent it.
-pub frames-bytes : {b last : Host} {calls : List Call} {numbers : List ℤ} → HostRan b calls numbers last → FramesAreBytes calls
+pub frames-bytes : {S : Settings} {b last : Host} {calls : List Call} {numbers : List ℤ} → HostRan S b calls numbers last
+    → FramesAreBytes calls
 frames-bytes madeNone = tt
 frames-bytes (madeOne {c = loading frame} is more) = (is .0 .0, frames-bytes more)
 frames-bytes (madeOne {c = making c} is more) = (tt, frames-bytes more)
@@ -251,7 +268,7 @@ frames-bytes (madeOne {c = merging frame scratch} is more) = (is .1 .0, frames-b
 frames-bytes (madeOne {c = projecting scratch ofLeft ofRight} is more) = (tt, frames-bytes more)
 
 -- What is read off its numbers is what the code answered.
-pub outcomes-same : {b last : Host} {calls : List Call} {numbers : List ℤ} (r : RanAs b calls numbers last)
+pub outcomes-same : {S : Settings} {b last : Host} {calls : List Call} {numbers : List ℤ} (r : RanAs S b calls numbers last)
     → ranTo (r .answers) (lentOf last) ≡ hostTo calls numbers last
 outcomes-same {last = last} r =
     ap₂ (λ (l : List (Result ℕ)) (w : List ℕ). record { answers = l; walks = w; n = last .n; buffer = last .plan })

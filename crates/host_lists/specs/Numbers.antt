@@ -1,15 +1,15 @@
 -- The answer, and with extract the walk, that a host reads off the number of a call.
-use Prim.Native.Nat.{ℕ, suc, _/_, _%_, _≤_}
+use Prim.Native.Nat.{ℕ, suc, _/_, _%_, _≤_, _<_}
 use mathlib.Core.Path.{_≡_}
 use mathlib.Core.List.{List, [], _∷_}
 use lib.IntN.{ℤ, pos, negsuc}
-use Rattle.definitions.specs.Limits.{mostBytes}
+use Rattle.definitions.specs.Limits.{mostBytes, fourBytes}
 use Rattle.definitions.specs.Basics.{Result, ok, refused}
 use Rattle.definitions.specs.Calls.{load}
 use Rattle.definitions.specs.Machine.{Kind, extractCall, exchangeCall}
 use Rattle.definitions.specs.Good.{AllBytes}
 use Rattle.definitions.specs.NodeTable.{NodeRecord}
-use Rattle.definitions.specs.Sessions.{make}
+use Rattle.definitions.specs.Settings.{Settings, makeUnder}
 use Rattle.definitions.specs.Merge.{merge}
 use Rattle.definitions.specs.Project.{project}
 use Rattle.definitions.specs.History.{Call, loading, making, merging, projecting}
@@ -92,10 +92,10 @@ numbersBy (c ∷ calls) (walk ∷ walks) (a ∷ answers) = numberBy c walk a ∷
 
 -- ---- what is claimed of them
 
--- What a call on a plan may answer: a length of at most 16,384, or one of the refusals 1 to 20.
+-- What a call on a plan may answer: a length of at most 16,384, or one of the refusals 1 to 24.
 abbrev pub IsAnswer : Result ℕ → Type 0
 IsAnswer (ok length) = length ≤ mostBytes
-IsAnswer (refused number) = (1 ≤ number) × (number ≤ 20)
+IsAnswer (refused number) = (1 ≤ number) × (number ≤ 24)
 
 -- From the number of such an answer the answer is known: it is a length or a refusal, never both.
 abbrev pub AnswerKnown : Type 0
@@ -119,11 +119,15 @@ WalkNumbersApart =
 abbrev pub WithoutWalk : Type 0
 WithoutWalk = (a : Result ℕ) → hostedWalk 0 a ≡ hosted a
 
--- Every call's answer is such a one.
+-- The numbers of settings are of 32 bits.
+abbrev pub Fits : Settings → Type 0
+Fits S = S .greatestK < fourBytes
+
+-- Every call's answer is such a one, whatever the settings.
 abbrev pub AnswersOfCalls : Type 0
 AnswersOfCalls =
     ((frame : List ℕ) (n : ℕ) (plan : List ℕ) (table : List NodeRecord) → AllBytes frame → IsAnswer (load frame n plan table .answer))
-    × ((kind : Kind) (n : ℕ) (plan scratch : List ℕ) (table : List NodeRecord) → AllBytes plan
-    → IsAnswer (make kind n plan scratch table .answer))
+    × ((S : Settings) → Fits S → (kind : Kind) (n : ℕ) (plan scratch : List ℕ) (table : List NodeRecord) → AllBytes plan
+    → IsAnswer (makeUnder S kind n plan scratch table .answer))
     × ((frame : List ℕ) (n : ℕ) (plan scratch : List ℕ) (table : List NodeRecord) → IsAnswer (merge frame n plan scratch table .answer))
     × ((n : ℕ) (plan scratch ofLeft ofRight : List ℕ) → AllBytes plan → IsAnswer (project n plan scratch ofLeft ofRight .answer))

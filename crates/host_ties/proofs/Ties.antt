@@ -16,7 +16,8 @@ use contract.Notation.{connectives}
 use denote.Ref.{now}
 use denote.Triple.Entry.{Args, Res}
 use denote.Triple.Clauses.{AtExit}
-use Rattle.definitions.specs.Calls.{extract, exchange, extractWalk}
+use Rattle.definitions.specs.Calls.{exchange}
+use Rattle.definitions.specs.Settings.{Settings, extractUnder, extractWalkUnder}
 use Rattle.definitions.specs.Merge.{merge}
 use Rattle.definitions.specs.Project.{project}
 use Rattle.definitions.specs.Machine.{extractCall, exchangeCall}
@@ -25,7 +26,7 @@ use Rattle.definitions.specs.QueueBytes.{put, serve}
 use Rattle.definitions.specs.QueueLists.{putCall, serveCall, madePut, madeServe}
 use Rattle.node_table.specs.Records.{nodesOf}
 use Rattle.node_table.specs.declared.NodeRecord.{NodeRecord as TableRecord}
-use Rattle.host_calls.specs.Hosted.{LoadHosted, CallHosted, ExtractHosted, MergeHosted, PutHosted, ServeHosted}
+use Rattle.host_calls.specs.Hosted.{LoadHosted, CallHosted, settingsBy, ExtractHosted, MergeHosted, PutHosted, ServeHosted}
 use Rattle.host_lists.specs.Numbers.{answered, walkAnswered, nextN}
 use Rattle.host_lists.specs.HostLists.{Host, HostCall}
 use Rattle.host_lists.specs.QueueHosts.{serveAnswered, QueueHosted, putHosted, serveHosted}
@@ -57,8 +58,9 @@ module _ {M : Type 1} (𝓤 : URA M) (H : Heap 𝓤) (A : Atoms 𝓤) (mem : Mem
   pub extract-ensures : (κs : Lfts (extracting.signature .lifetimes)) (a : Args extracting.signature κs)
       (z : Res extracting.signature κs) (e : AtExit extracting.ended κs)
       → extracting.clauses 𝓤 H A mem run κs a .ensures tt z e
-      ≡ says (ExtractHosted (now (a .0)) (extract (a .1 .0) (now (a .0)) (now (a .1 .1 .0)) (nodesOf (now (a .1 .1 .1 .0))))
-      (extractWalk (a .1 .0) (now (a .0)) (now (a .1 .1 .0)) (nodesOf (now (a .1 .1 .1 .0)))) (now (e .0)) (now (e .1 .1 .0)) z)
+      ≡ (let S : Settings = settingsBy (a .1 .1 .1 .1 .0) (a .1 .1 .1 .1 .1 .0) (a .1 .1 .1 .1 .1 .1 .0) in
+      says (ExtractHosted (now (a .0)) (extractUnder S (a .1 .0) (now (a .0)) (now (a .1 .1 .0)) (nodesOf (now (a .1 .1 .1 .0))))
+      (extractWalkUnder S (a .1 .0) (now (a .0)) (now (a .1 .1 .0)) (nodesOf (now (a .1 .1 .1 .0)))) (now (e .0)) (now (e .1 .1 .0)) z))
   extract-ensures κs a z e = refl
 
   pub exchange-ensures : (κs : Lfts (exchanging.signature .lifetimes)) (a : Args exchanging.signature κs)
@@ -110,29 +112,29 @@ module _ {M : Type 1} (𝓤 : URA M) (H : Heap 𝓤) (A : Atoms 𝓤) (mem : Mem
 abbrev owns : (plan : List ℕ) (n : ℕ) (table : List TableRecord) → Host
 owns plan n table = record { plan = plan; n = n; table = table }
 
-module _ (plan after : List ℕ) (n : ℕ) (table filled : List TableRecord) (z : ℤ) where
+module _ (S : Settings) (plan after : List ℕ) (n : ℕ) (table filled : List TableRecord) (z : ℤ) where
   pub load-calls : (frame : List ℕ) → LoadHosted frame plan (nodesOf table) after (nodesOf filled) z
-      → HostCall (owns plan n table) (loading frame) (owns after (nextN n (answered z)) filled) z
+      → HostCall S (owns plan n table) (loading frame) (owns after (nextN n (answered z)) filled) z
   load-calls frame is = (is, refl)
 
   pub extract-calls : (scratch kept : List ℕ)
-      → ExtractHosted plan (extract n plan scratch (nodesOf table)) (extractWalk n plan scratch (nodesOf table)) after kept z
-      → HostCall (owns plan n table) (making (record { kind = extractCall; scratch = scratch }))
+      → ExtractHosted plan (extractUnder S n plan scratch (nodesOf table)) (extractWalkUnder S n plan scratch (nodesOf table)) after kept z
+      → HostCall S (owns plan n table) (making (record { kind = extractCall; scratch = scratch }))
       (owns after (nextN n (walkAnswered z)) table) z
   extract-calls scratch kept is = (kept, is, refl, refl)
 
   pub exchange-calls : (scratch kept : List ℕ) → CallHosted plan (exchange n plan scratch) after kept z
-      → HostCall (owns plan n table) (making (record { kind = exchangeCall; scratch = scratch }))
+      → HostCall S (owns plan n table) (making (record { kind = exchangeCall; scratch = scratch }))
       (owns after (nextN n (answered z)) table) z
   exchange-calls scratch kept is = (kept, is, refl, refl)
 
   pub merge-calls : (frame scratch kept : List ℕ)
       → MergeHosted frame plan (merge frame n plan scratch (nodesOf table)) after kept (nodesOf filled) z
-      → HostCall (owns plan n table) (merging frame scratch) (owns after (nextN n (answered z)) filled) z
+      → HostCall S (owns plan n table) (merging frame scratch) (owns after (nextN n (answered z)) filled) z
   merge-calls frame scratch kept is = (kept, is, refl)
 
   pub project-calls : (scratch kept ofLeft ofRight : List ℕ) → CallHosted plan (project n plan scratch ofLeft ofRight) after kept z
-      → HostCall (owns plan n table) (projecting scratch ofLeft ofRight) (owns after (nextN n (answered z)) table) z
+      → HostCall S (owns plan n table) (projecting scratch ofLeft ofRight) (owns after (nextN n (answered z)) table) z
   project-calls scratch kept ofLeft ofRight is = (kept, is, refl, refl)
 
 module _ (queues left : List ℕ) (z : ℤ) where
