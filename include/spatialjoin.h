@@ -17,6 +17,11 @@
  * no later than the (2 * j + 2)th accepted serve after it, and each queue gives its frames in the order in which they came (theorems fair,
  * in-order).
  *
+ * SETTINGS. spatialjoin_extract takes what a site may have indexed: the kinds allowed, the k of an st_knn call that has none, and the
+ * greatest k. SPATIALJOIN_DEFAULT_SETTINGS are the program's, under which every answer is what it was without settings (theorem
+ * default-settings). What is proved of lists of calls supposes the same settings for all extracts of a list, and for both machines
+ * (theorem all-settings). No other call takes settings, and what is held may be of any kind and have any k.
+ *
  * ANSWERS. An answer of at least 0 is a length (of spatialjoin_logical: see there). A negative one is a refusal: one of
  * enum spatialjoin_refusal. That of spatialjoin_extract has the walk too, so as it stands it is neither: SPATIALJOIN_LENGTH_OF,
  * SPATIALJOIN_WALK_OF and SPATIALJOIN_REFUSAL_OF take it apart. That of spatialjoin_serve has the queue too, for SPATIALJOIN_QUEUE_OF.
@@ -43,9 +48,9 @@
 #include <stddef.h>
 #include <stdint.h>
 
-#define SPATIALJOIN_VERSION "0.12.0"
+#define SPATIALJOIN_VERSION "0.13.0"
 #define SPATIALJOIN_VERSION_MAJOR 0
-#define SPATIALJOIN_VERSION_MINOR 12
+#define SPATIALJOIN_VERSION_MINOR 13
 #define SPATIALJOIN_VERSION_PATCH 0
 
 /* The header's version as spatialjoin_version gives the archive's. */
@@ -73,6 +78,11 @@
 /* The most bytes of a frame that waits in a queue, and the most frames that wait in one. */
 #define SPATIALJOIN_MOST_QUEUED 1024
 #define SPATIALJOIN_MOST_WAITING 16
+
+/* The settings that the program gives: all kinds, and these. They are the arguments of spatialjoin_extract after its table. */
+#define SPATIALJOIN_DEFAULT_K 1
+#define SPATIALJOIN_GREATEST_K 4294967295u
+#define SPATIALJOIN_DEFAULT_SETTINGS SPATIALJOIN_ALL_KINDS, SPATIALJOIN_DEFAULT_K, SPATIALJOIN_GREATEST_K
 
 /* The most bytes of stack that a call needs. */
 #define SPATIALJOIN_STACK_BYTES 131072
@@ -121,7 +131,16 @@ enum spatialjoin_refusal {
     SPATIALJOIN_NOT_IN_LIST = -20,       /* the plan has a child index that the list of its side lacks (project) */
     SPATIALJOIN_NO_SUCH_QUEUE = -21,     /* the queue's number is neither 0 nor 1 (put) */
     SPATIALJOIN_QUEUED_TOO_LONG = -22,   /* the frame has over SPATIALJOIN_MOST_QUEUED bytes (put) */
-    SPATIALJOIN_QUEUE_FULL = -23         /* SPATIALJOIN_MOST_WAITING frames wait in the queue already (put) */
+    SPATIALJOIN_QUEUE_FULL = -23,        /* SPATIALJOIN_MOST_WAITING frames wait in the queue already (put) */
+    SPATIALJOIN_BAD_SETTINGS = -24       /* no kind or a bit that is none, a default k of 0, or one above the greatest (extract) */
+};
+
+/* The kinds allowed, a bit for each: spatialjoin_extract takes any of them or-ed together, but not none. */
+enum spatialjoin_kinds {
+    SPATIALJOIN_RELATIONS = 1,
+    SPATIALJOIN_DISTANCES = 2,
+    SPATIALJOIN_KNNS = 4,
+    SPATIALJOIN_ALL_KINDS = 7
 };
 
 /* The queues of a buffer of queues. */
@@ -231,14 +250,18 @@ int64_t spatialjoin_load(const uint8_t *SPATIALJOIN_RESTRICT frame, size_t frame
                          uint8_t *SPATIALJOIN_RESTRICT plan, size_t plan_len,
                          spatialjoin_node *SPATIALJOIN_RESTRICT table, size_t table_len);
 
-/* Pulls the spatial predicate out of the held filter: walk * 65536 + the new plan's length, or -10, -11, -12, -9, -(walk * 256 + 13) in
- * this order, which the macros above take apart. -10 also where a frame is held and the table does not begin with its nodes. The walk is
+/* Pulls the spatial predicate out of the held filter: walk * 65536 + the new plan's length, or -24, -10, -11, -12, -9, -(walk * 256 + 13)
+ * in this order, which the macros above take apart. -10 also where a frame is held and the table does not begin with its nodes. The walk is
  * the planning effort: how many And nodes and conjuncts were read. These are all that are reached from the root through And nodes only, in
  * the order in which they stand in the frame, up to and including the first KNN match, or all if there is none. The old plan is copied to
- * the scratch's first n bytes. */
+ * the scratch's first n bytes.
+ * The last three arguments are the settings, SPATIALJOIN_DEFAULT_SETTINGS for one: a conjunct of a kind that is not among `kinds` (enum
+ * spatialjoin_kinds) does not match, nor does a KNN with a k above `greatest_k`; an st_knn of two arguments takes `default_k`, and one of
+ * more its own k. -24 where kinds are 0 or above 7, default_k is 0, or default_k is above greatest_k: before anything else is looked at. */
 int64_t spatialjoin_extract(uint8_t *SPATIALJOIN_RESTRICT plan, size_t plan_len, size_t n,
                             uint8_t *SPATIALJOIN_RESTRICT scratch, size_t scratch_len,
-                            const spatialjoin_node *SPATIALJOIN_RESTRICT table, size_t table_len);
+                            const spatialjoin_node *SPATIALJOIN_RESTRICT table, size_t table_len,
+                            uint8_t kinds, uint32_t default_k, uint32_t greatest_k);
 
 /* Exchanges the join's children in the held plan: the new plan's length, or -10, -11, -9 in this order.
  * The old plan is copied to the scratch's first n bytes. */

@@ -6,8 +6,9 @@ use reading::frame::{MAX_BYTES, MAX_NODES, Plan};
 use reading::project::{Lists, MAX_ITEMS};
 use reading::queues::{MAX_QUEUED, MAX_WAITING, QUEUES_BYTES};
 use reading::refusal::Refusal;
+use reading::settings::Settings;
 use reading::{calls, decode, encode, nodes, walk};
-use spatialjoin::{MOST_TEXT, Node, numbers};
+use spatialjoin::{Kinds, MOST_TEXT, Node, numbers};
 
 use crate::operations::{
     Logical, Merges, Physical, exchange_extraction_bytes, exchange_frame_bytes, extract_from_bytes,
@@ -46,7 +47,10 @@ fn read(frame: &[u8], list: &[&str]) -> Vec<u8> {
     calls::load(frame, &mut n, &mut plan, &mut table).expect("the frames are good");
     for call in list {
         let answer = match *call {
-            "extract" => calls::extract(&mut n, &mut plan, &mut scratch, &table),
+            "extract" => {
+                let settings = Settings::OF_THE_PROGRAM;
+                calls::extract(&mut n, &mut plan, &mut scratch, &table, settings)
+            }
             _ => calls::exchange(&mut n, &mut plan, &mut scratch),
         };
         answer.expect("the frames have a match");
@@ -126,7 +130,8 @@ fn plain_load(frame: &[u8]) -> bool {
 
 /// The walk of a good frame.
 fn walk_of(frame: &[u8]) -> usize {
-    decode::physical(frame).map_or(0, |frame| walk::length(&frame))
+    let walk = |frame| walk::length(&frame, Settings::OF_THE_PROGRAM);
+    decode::physical(frame).map_or(0, walk)
 }
 
 /// The nodes of a frame; none of other bytes.
@@ -144,20 +149,53 @@ pub fn of_reading(table: &[nodes::Node]) -> Vec<Node> {
     table.iter().map(record).collect()
 }
 
+/// The program's settings, each kind alone with other ks, and bad ones: kinds, default k, greatest k.
+const SETTINGS: [(u8, u32, u32); 9] = [
+    (7, 1, u32::MAX),
+    (1, 1, 1),
+    (2, 1, 1),
+    (4, 3, 3),
+    (7, 2, 4),
+    (0, 1, u32::MAX),
+    (8, 1, u32::MAX),
+    (7, 0, 1),
+    (7, 2, 1),
+];
+
 /// Likewise an extract, whose buffers are two, with the plan's own table and with one that lacks a
-/// record.
+/// record, under each of these settings.
 fn extracted_alike(plan: &[u8], n: usize, scratch: usize) -> bool {
     let table = nodes_of(plan.get(..n).unwrap_or_default());
     let short = table.len().saturating_sub(1);
-    [&table[..], &table[..short]].into_iter().all(|table| {
+    let settings = SETTINGS.map(|(kinds, default_k, greatest_k)| Settings {
+        kinds,
+        default_k,
+        greatest_k,
+    });
+    let tables = [&table[..], &table[..short]];
+    let mut pairs = tables.into_iter().flat_map(|table| {
+        let with = move |settings| (table, settings);
+        settings.into_iter().map(with)
+    });
+    pairs.all(|(table, settings)| {
         let mut plain = (plan.to_vec(), vec![0; scratch]);
         let mut read = plain.clone();
-        let walk = calls::walk(n, &read.0, &read.1, table);
-        let walked = plain::extract(&mut plain.0, n, &mut plain.1, &of_reading(table));
-        let expected = calls::extract(&mut { n }, &mut read.0, &mut read.1, table);
+        let walk = calls::walk(n, &read.0, &read.1, table, settings);
+        let (nodes, given) = (of_reading(table), to_library(settings));
+        let walked = plain::extract(&mut plain.0, n, &mut plain.1, &nodes, given);
+        let expected = calls::extract(&mut { n }, &mut read.0, &mut read.1, table, settings);
         let answered = walked.answer == expected.map_err(Refusal::number);
         answered && walked.walk as usize == walk && plain == read
     })
+}
+
+/// The reading's settings as the library's.
+fn to_library(settings: Settings) -> spatialjoin::Settings {
+    spatialjoin::Settings {
+        kinds: Kinds::from_bits(settings.kinds),
+        default_k: settings.default_k,
+        greatest_k: settings.greatest_k,
+    }
 }
 
 /// Accepted, and refused by the plan or the room, or since no conjunct of the remainder matches.

@@ -1,7 +1,7 @@
 //! The library on buffers of a host.
 
 use reading::frame::MAX_BYTES;
-use spatialjoin::{MOST_NODES, MOST_TEXT, Node, numbers};
+use spatialjoin::{MOST_NODES, MOST_TEXT, Node, Settings, numbers};
 
 /// Both buffers as long as the longest frame, and the table too; they are never cleared.
 pub struct Ours {
@@ -31,7 +31,7 @@ impl Ours {
 
     pub fn extract(&mut self) {
         let (plan, scratch) = (&mut self.plan, &mut self.scratch);
-        let answer = numbers::extract(plan, self.n, scratch, &self.table);
+        let answer = numbers::extract(plan, self.n, scratch, &self.table, Settings::default());
         self.walk = numbers::walk_of(answer);
         if answer >= 0 {
             self.n = numbers::length_of(answer);
@@ -42,7 +42,7 @@ impl Ours {
     /// change places and nothing is copied.
     pub fn extract_and_return(&mut self) {
         let (plan, scratch) = (&mut self.plan, &mut self.scratch);
-        numbers::extract(plan, self.n, scratch, &self.table);
+        numbers::extract(plan, self.n, scratch, &self.table, Settings::default());
         std::mem::swap(&mut self.plan, &mut self.scratch);
     }
 

@@ -4,6 +4,7 @@ use std::hint::black_box;
 
 use reading::frame::{Expr, Extraction, Plan, Predicate, Side};
 use reading::project::MAX_ITEMS;
+use reading::settings::Settings;
 use reading::{decode, encode, physical};
 
 use crate::frames::{self, Group};
@@ -77,7 +78,8 @@ impl Projections {
 
 fn extracted(frame: &[u8], length: Length) -> (Vec<u8>, [Vec<u16>; 2]) {
     let frame = decode::physical(frame).expect("the frames are good");
-    let extraction = physical::extract(&frame).expect("the frames have a match");
+    let extraction = physical::extract(&frame, Settings::OF_THE_PROGRAM);
+    let extraction = extraction.expect("the frames have a match");
     let lists = [Side::Left, Side::Right].map(|side| match length {
         Length::Short => child_indices(&extraction, side),
         Length::Long => mixed(),

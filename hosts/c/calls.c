@@ -1,6 +1,6 @@
-/* Tests of the library as a C host sees it: its version, every refusal by its constant, walks, the names of the mask, texts, merged
- * filters, tables of nodes, projections, queues, NULL with length 0. Ends with 1 where a call answers otherwise. `../check` builds and
- * runs it. */
+/* Tests of the library as a C host sees it: its version, every refusal by its constant, walks, settings, the names of the mask, texts,
+ * merged filters, tables of nodes, projections, queues, NULL with length 0. Ends with 1 where a call answers otherwise. `../check` builds
+ * and runs it. */
 #include <stdio.h>
 #include <string.h>
 
@@ -37,7 +37,8 @@ static void expect(const char *what, int64_t answer, int64_t expected)
 #define MERGE(bytes, room, n, kept) \
     spatialjoin_merge((const uint8_t *)(bytes), sizeof(bytes) - 1, plan, room, n, scratch, kept, table, NODES)
 #define PRINT(bytes, room) spatialjoin_print((const uint8_t *)(bytes), sizeof(bytes) - 1, text, room)
-#define EXTRACT(n, kept) spatialjoin_extract(plan, sizeof plan, n, scratch, kept, table, NODES)
+#define DEFAULTS SPATIALJOIN_DEFAULT_SETTINGS
+#define EXTRACT(n, kept) spatialjoin_extract(plan, sizeof plan, n, scratch, kept, table, NODES, DEFAULTS)
 
 static void versions(void)
 {
@@ -83,7 +84,8 @@ static void refusals_of_frames(void)
 static void refusals_of_plans(void)
 {
     size_t n;
-    expect("extract, n past the end", spatialjoin_extract(plan, 8, 9, scratch, sizeof scratch, table, NODES), SPATIALJOIN_NO_GOOD_PLAN);
+    expect("extract, n past the end", spatialjoin_extract(plan, 8, 9, scratch, sizeof scratch, table, NODES, DEFAULTS),
+           SPATIALJOIN_NO_GOOD_PLAN);
     expect("extract, n = 0", EXTRACT(0, sizeof scratch), SPATIALJOIN_PLAN_EMPTY);
     expect("exchange, n = 0", spatialjoin_exchange(plan, sizeof plan, 0, scratch, sizeof scratch), SPATIALJOIN_PLAN_EMPTY);
 
@@ -139,7 +141,7 @@ static void walks(void)
 
     n = (size_t)LOAD(RECORDS AND WITHIN LEFT);
     expect_parts("scratch too short", EXTRACT(n, n - 1), -9, 0, 0, SPATIALJOIN_TOO_SHORT);
-    expect_parts("no table", spatialjoin_extract(plan, n, n, scratch, n, NULL, 0), -10, 0, 0, SPATIALJOIN_NO_GOOD_PLAN);
+    expect_parts("no table", spatialjoin_extract(plan, n, n, scratch, n, NULL, 0, DEFAULTS), -10, 0, 0, SPATIALJOIN_NO_GOOD_PLAN);
     expect_parts("n = 0", EXTRACT(0, n), -11, 0, 0, SPATIALJOIN_PLAN_EMPTY);
     expect_parts("accepted", EXTRACT(n, n), 3 * 65536 + 27, 27, 3, 0);
     expect_parts("extracted", EXTRACT(27, n), -12, 0, 0, SPATIALJOIN_ALREADY_EXTRACTED);
@@ -151,6 +153,80 @@ static void walks(void)
     expect_parts("no match of two, exchanged", EXTRACT(n, n), -(3 * 256 + 13), 0, 3, SPATIALJOIN_NO_MATCH);
     expect_parts("a text", PRINT(GOOD, sizeof text), 23, 23, 0, 0);
     expect_parts("no text", PRINT(GOOD, 0), -15, 0, 0, SPATIALJOIN_TEXT_TOO_SHORT);
+}
+
+#define DWITHIN "\x03\x0a" "st_dwithin" "\x03" LEFT RIGHT "\x04\x00\x00\x00"
+#define NEAREST_5 "\x03\x06" "st_knn" "\x03" LEFT RIGHT "\x01\x04\x00\x00\x00\x00\x00\x00\x00\x05"
+#define MOST_K SPATIALJOIN_GREATEST_K
+#define K_OF(plan) (16777216u * (plan)[3] + 65536u * (plan)[4] + 256u * (plan)[5] + (plan)[6])
+
+/* What an extract of this frame under these settings answers: the first byte of the plan after it, or the refusal. */
+static int64_t extract_under(const char *bytes, size_t length, uint8_t kinds, uint32_t default_k, uint32_t greatest_k)
+{
+    size_t n = (size_t)spatialjoin_load((const uint8_t *)bytes, length, plan, sizeof plan, table, NODES);
+    int64_t answer = spatialjoin_extract(plan, n, n, scratch, n, table, NODES, kinds, default_k, greatest_k);
+    return answer < 0 ? SPATIALJOIN_REFUSAL_OF(answer) : plan[0];
+}
+
+#define UNDER(filter, kinds, default_k, greatest_k) extract_under(RECORDS filter, sizeof(RECORDS filter) - 1, kinds, default_k, greatest_k)
+
+/* A conjunct of a kind that is left out does not match, nor does a KNN above the greatest k; two arguments take the default k. */
+static void settings(void)
+{
+    uint8_t kinds;
+    for (kinds = 1; kinds <= SPATIALJOIN_ALL_KINDS; kinds++) {
+        expect("a relation", UNDER(WITHIN, kinds, 1, 1), kinds & SPATIALJOIN_RELATIONS ? SPATIALJOIN_RELATION : SPATIALJOIN_NO_MATCH);
+        expect("a distance", UNDER(DWITHIN, kinds, 1, 1), kinds & SPATIALJOIN_DISTANCES ? SPATIALJOIN_DISTANCE : SPATIALJOIN_NO_MATCH);
+        expect("a KNN", UNDER(NEAREST, kinds, 1, 1), kinds & SPATIALJOIN_KNNS ? SPATIALJOIN_KNN : SPATIALJOIN_NO_MATCH);
+    }
+    expect("the relation, no KNN", UNDER(AND NEAREST WITHIN, SPATIALJOIN_RELATIONS, 1, MOST_K), SPATIALJOIN_RELATION);
+    expect("the second conjunct", SPATIALJOIN_POSITION_OF(plan), 1);
+    expect("the distance, no relation", UNDER(AND WITHIN DWITHIN, SPATIALJOIN_DISTANCES | SPATIALJOIN_KNNS, 1, 1), SPATIALJOIN_DISTANCE);
+    expect("k at the greatest", UNDER(NEAREST_5, SPATIALJOIN_KNNS, 1, 5), SPATIALJOIN_KNN);
+    expect("k above the greatest", UNDER(NEAREST_5, SPATIALJOIN_ALL_KINDS, 1, 4), SPATIALJOIN_NO_MATCH);
+    expect("k above the greatest, a relation", UNDER(AND NEAREST_5 WITHIN, SPATIALJOIN_ALL_KINDS, 4, 4), SPATIALJOIN_RELATION);
+    expect("the default k", UNDER(NEAREST, SPATIALJOIN_ALL_KINDS, 7, 7), SPATIALJOIN_KNN);
+    expect("the default k", K_OF(plan), 7);
+    expect("the greatest default k", UNDER(NEAREST, SPATIALJOIN_ALL_KINDS, MOST_K, MOST_K), SPATIALJOIN_KNN);
+    expect("the greatest default k", K_OF(plan), MOST_K);
+    expect("a k of its own", UNDER(NEAREST_5, SPATIALJOIN_ALL_KINDS, 7, 9), SPATIALJOIN_KNN);
+    expect("a k of its own", K_OF(plan), 5);
+    expect("the defaults", UNDER(NEAREST, SPATIALJOIN_ALL_KINDS, SPATIALJOIN_DEFAULT_K, SPATIALJOIN_GREATEST_K), SPATIALJOIN_KNN);
+    expect("the defaults", K_OF(plan), 1);
+}
+
+#define EXTRACT_BY(n, kept, set) \
+    spatialjoin_extract(plan, sizeof plan, n, scratch, kept, table, NODES, (set).kinds, (set).default_k, (set).greatest_k)
+
+/* 24 before every other check, with a walk of 0, and nothing is written; an extraction is held whatever the settings. */
+static void refusals_of_settings(void)
+{
+    static const struct {
+        uint8_t kinds;
+        uint32_t default_k, greatest_k;
+    } knn = {4, 1, 1}, others = {3, 1, 1}, bad[] = {
+        {0, 1, MOST_K}, {8, 1, MOST_K}, {9, 1, MOST_K}, {128, 1, 1}, {255, 1, 1}, {7, 0, MOST_K}, {7, 0, 0}, {1, 0, 1}, {7, 1, 0},
+        {7, 2, 1}, {1, 2, 1}, {2, 6, 5}, {7, MOST_K, MOST_K - 1}, {7, MOST_K, 1}, {0, 0, 0},
+    };
+    size_t i, n;
+    for (i = 0; i < sizeof bad / sizeof *bad; i++) {
+        n = (size_t)LOAD(RECORDS AND NEAREST LEFT);
+        memset(scratch, 7, n);
+        expect_parts("bad settings", EXTRACT_BY(n, n, bad[i]), -24, 0, 0, SPATIALJOIN_BAD_SETTINGS);
+        expect("nothing written", memcmp(plan, RECORDS AND NEAREST LEFT, n) == 0 && scratch[0] == 7, 1);
+        expect("24 before 9", EXTRACT_BY(n, 0, bad[i]), SPATIALJOIN_BAD_SETTINGS);
+        expect("24 before 10, n past the end", EXTRACT_BY(sizeof plan + 1, 0, bad[i]), SPATIALJOIN_BAD_SETTINGS);
+        expect("24 before 10, no plan", EXTRACT_BY(n - 1, 0, bad[i]), SPATIALJOIN_BAD_SETTINGS);
+        expect("24 before 11", EXTRACT_BY(0, 0, bad[i]), SPATIALJOIN_BAD_SETTINGS);
+        n = SPATIALJOIN_LENGTH_OF(EXTRACT(n, n));
+        expect("24 before 12", EXTRACT_BY(n, 0, bad[i]), SPATIALJOIN_BAD_SETTINGS);
+        n = (size_t)LOAD(UNMATCHED);
+        expect("24 before 13", EXTRACT_BY(n, n, bad[i]), SPATIALJOIN_BAD_SETTINGS);
+    }
+    n = (size_t)LOAD(RECORDS AND NEAREST LEFT);
+    expect_parts("no KNN, all read", EXTRACT_BY(n, n, others), -(3 * 256 + 13), 0, 3, SPATIALJOIN_NO_MATCH);
+    expect_parts("a KNN, the first two read", EXTRACT_BY(n, n, knn), 2 * 65536 + 33, 33, 2, 0);
+    expect("a KNN held, none allowed", EXTRACT_BY(33, 33, others), SPATIALJOIN_ALREADY_EXTRACTED);
 }
 
 /* Which conjunct was taken: of a filter whose first one does not match, and of a held extraction with any position. */
@@ -316,13 +392,15 @@ static void tables_of_nodes(void)
     expect("load", (int64_t)n, sizeof(GOOD) - 1);
     expect("its nodes", is_node(table[0], 3, 13, 35) && is_node(table[1], 0, 25, 30) && is_node(table[2], 0, 30, 35), 1);
     expect("the record after them", is_node(table[3], 7, 7, 7), 1);
-    expect("extract, a record short", spatialjoin_extract(plan, sizeof plan, n, scratch, n, table, 2), SPATIALJOIN_NO_GOOD_PLAN);
+    expect("extract, a record short", spatialjoin_extract(plan, sizeof plan, n, scratch, n, table, 2, DEFAULTS),
+           SPATIALJOIN_NO_GOOD_PLAN);
     for (i = 0; i < 9; i++) {
         memcpy(wrong, table, sizeof wrong);
         wrong[i / 3].kind ^= i % 3 == 0;
         wrong[i / 3].start ^= i % 3 == 1;
         wrong[i / 3].end ^= i % 3 == 2 ? 32768u : 0u;
-        expect("extract, another table", spatialjoin_extract(plan, sizeof plan, n, scratch, n, wrong, 3), SPATIALJOIN_NO_GOOD_PLAN);
+        expect("extract, another table", spatialjoin_extract(plan, sizeof plan, n, scratch, n, wrong, 3, DEFAULTS),
+               SPATIALJOIN_NO_GOOD_PLAN);
     }
     expect("merge, table too short", spatialjoin_merge((const uint8_t *)GOOD, n, plan, sizeof plan, n, scratch, n, table, 6),
            SPATIALJOIN_TABLE_TOO_SHORT);
@@ -332,8 +410,8 @@ static void tables_of_nodes(void)
     expect("merged, the first node", is_node(table[0], 2, 23, n), 1);
     expect("merged, the record after them", is_node(table[7], 7, 7, 7), 1);
     expect("exchange", spatialjoin_exchange(plan, sizeof plan, n, scratch, n), (int64_t)n);
-    expect("extract, exchanged", spatialjoin_extract(plan, sizeof plan, n, scratch, n, table, 7) > 0, 1);
-    expect("extract again, no table", spatialjoin_extract(plan, sizeof plan, n, scratch, 0, NULL, 0) < 0, 1);
+    expect("extract, exchanged", spatialjoin_extract(plan, sizeof plan, n, scratch, n, table, 7, DEFAULTS) > 0, 1);
+    expect("extract again, no table", spatialjoin_extract(plan, sizeof plan, n, scratch, 0, NULL, 0, DEFAULTS) < 0, 1);
 }
 
 #define AT(index) "\x00\x00" index "\x00\x00" /* a column of a child, its index one byte */
@@ -403,7 +481,7 @@ static void refusals_of_projections(void)
     expect("project, one list for both", spatialjoin_project(plan, n, n, scratch, n, LONG, LONG), (int64_t)n);
     expect("the last places", memcmp(plan, RELATION "\x00\x0f\xff\x00\x00" "\x00\x0f\xfe\x00\x00" "\x00", n) == 0, 1);
     expect("exchange", spatialjoin_exchange(plan, n, n, scratch, n), (int64_t)n);
-    expect("extract again", spatialjoin_extract(plan, n, n, scratch, n, NULL, 0), SPATIALJOIN_ALREADY_EXTRACTED);
+    expect("extract again", spatialjoin_extract(plan, n, n, scratch, n, NULL, 0, DEFAULTS), SPATIALJOIN_ALREADY_EXTRACTED);
     expect("project again", spatialjoin_project(plan, n, n, scratch, n, LONG, LONG), (int64_t)n);
     expect("the first places", memcmp(plan + 4, AT("\x06") AT("\x05") "\x00", n - 4) == 0, 1);
 }
@@ -543,8 +621,9 @@ static void null_buffers(void)
     expect("print NULL", spatialjoin_print(NULL, 0, text, sizeof text), SPATIALJOIN_FRAME_LENGTH);
     expect("print NULL to NULL", spatialjoin_print(NULL, 0, NULL, 0), SPATIALJOIN_FRAME_LENGTH);
     expect("print to NULL", spatialjoin_print((const uint8_t *)GOOD, sizeof(GOOD) - 1, NULL, 0), SPATIALJOIN_TEXT_TOO_SHORT);
-    expect("extract from NULL", spatialjoin_extract(NULL, 0, 0, NULL, 0, NULL, 0), SPATIALJOIN_PLAN_EMPTY);
-    expect("extract from NULL, n = 1", spatialjoin_extract(NULL, 0, 1, NULL, 0, NULL, 0), SPATIALJOIN_NO_GOOD_PLAN);
+    expect("extract from NULL", spatialjoin_extract(NULL, 0, 0, NULL, 0, NULL, 0, DEFAULTS), SPATIALJOIN_PLAN_EMPTY);
+    expect("extract from NULL, n = 1", spatialjoin_extract(NULL, 0, 1, NULL, 0, NULL, 0, DEFAULTS), SPATIALJOIN_NO_GOOD_PLAN);
+    expect("extract from NULL, no kinds", spatialjoin_extract(NULL, 0, 1, NULL, 0, NULL, 0, 0, 1, 1), SPATIALJOIN_BAD_SETTINGS);
     expect("exchange in NULL", spatialjoin_exchange(NULL, 0, 0, NULL, 0), SPATIALJOIN_PLAN_EMPTY);
     expect("exchange in NULL, n = 1", spatialjoin_exchange(NULL, 0, 1, NULL, 0), SPATIALJOIN_NO_GOOD_PLAN);
     expect("merge NULL", spatialjoin_merge(NULL, 0, NULL, 0, 0, NULL, 0, NULL, 0), SPATIALJOIN_FRAME_LENGTH);
@@ -555,8 +634,8 @@ static void null_buffers(void)
     n = (size_t)LOAD(GOOD);
     expect("merge with NULL", spatialjoin_merge((const uint8_t *)GOOD, sizeof(GOOD) - 1, plan, sizeof plan, n, NULL, 0, table, NODES),
            SPATIALJOIN_TOO_SHORT);
-    expect("extract with NULL", spatialjoin_extract(plan, sizeof plan, n, NULL, 0, table, NODES), SPATIALJOIN_TOO_SHORT);
-    expect("extract with no table", spatialjoin_extract(plan, sizeof plan, n, scratch, n, NULL, 0), SPATIALJOIN_NO_GOOD_PLAN);
+    expect("extract with NULL", spatialjoin_extract(plan, sizeof plan, n, NULL, 0, table, NODES, DEFAULTS), SPATIALJOIN_TOO_SHORT);
+    expect("extract with no table", spatialjoin_extract(plan, sizeof plan, n, scratch, n, NULL, 0, DEFAULTS), SPATIALJOIN_NO_GOOD_PLAN);
     expect("load with no table", spatialjoin_load((const uint8_t *)GOOD, sizeof(GOOD) - 1, plan, sizeof plan, NULL, 0),
            SPATIALJOIN_TABLE_TOO_SHORT);
     expect("exchange with NULL", spatialjoin_exchange(plan, sizeof plan, n, NULL, 0), SPATIALJOIN_TOO_SHORT);
@@ -582,6 +661,8 @@ int main(void)
     refusals_of_frames();
     refusals_of_plans();
     walks();
+    settings();
+    refusals_of_settings();
     positions();
     names_of_frames();
     texts_of_frames();

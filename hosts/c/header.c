@@ -1,5 +1,5 @@
-/* What `header-check` compiles by every standard: the header, taken in twice, each of its macros, the layout of a table, and the size of
- * a buffer of queues. */
+/* What `header-check` compiles by every standard: the header, taken in twice, each of its macros, the layout of a table, the size of a
+ * buffer of queues, and the settings. */
 #include "spatialjoin.h"
 #include "spatialjoin.h"
 
@@ -23,6 +23,13 @@ HOLDS(a_queued_frame_can_be_planned, SPATIALJOIN_MOST_QUEUED <= SPATIALJOIN_MOST
 HOLDS(the_refusals_of_queues_are_21_to_23,
       SPATIALJOIN_NO_SUCH_QUEUE == -21 && SPATIALJOIN_QUEUED_TOO_LONG == -22 && SPATIALJOIN_QUEUE_FULL == -23);
 
+/* A bit for each kind, and defaults that are good settings. */
+HOLDS(the_kinds_are_three_bits, SPATIALJOIN_RELATIONS == 1 && SPATIALJOIN_DISTANCES == 2 && SPATIALJOIN_KNNS == 4);
+HOLDS(all_kinds_are_seven, SPATIALJOIN_ALL_KINDS == (SPATIALJOIN_RELATIONS | SPATIALJOIN_DISTANCES | SPATIALJOIN_KNNS));
+HOLDS(the_greatest_k_has_32_bits, SPATIALJOIN_GREATEST_K == (uint32_t)-1);
+HOLDS(the_default_k_is_one, SPATIALJOIN_DEFAULT_K == 1 && SPATIALJOIN_DEFAULT_K <= SPATIALJOIN_GREATEST_K);
+HOLDS(the_refusal_of_settings_is_24, SPATIALJOIN_BAD_SETTINGS == -24);
+
 #if SPATIALJOIN_VERSION_NUMBER < SPATIALJOIN_VERSION_MINOR
 #error "the version's number is for the preprocessor too"
 #endif
@@ -32,6 +39,8 @@ size_t length(int64_t answer);
 int refusal(int64_t answer);
 int empty(int64_t answer);
 int matches(void);
+int64_t extract(uint8_t *plan, size_t n, uint8_t *scratch, const spatialjoin_node *table);
+int64_t extract_some(uint8_t *plan, size_t n, uint8_t *scratch, const spatialjoin_node *table);
 
 unsigned parts(const uint8_t *plan, int64_t answer)
 {
@@ -57,4 +66,14 @@ int empty(int64_t answer)
 int matches(void)
 {
     return SPATIALJOIN_VERSION_MATCHES();
+}
+
+int64_t extract(uint8_t *plan, size_t n, uint8_t *scratch, const spatialjoin_node *table)
+{
+    return spatialjoin_extract(plan, n, n, scratch, n, table, SPATIALJOIN_MOST_NODES, SPATIALJOIN_DEFAULT_SETTINGS);
+}
+
+int64_t extract_some(uint8_t *plan, size_t n, uint8_t *scratch, const spatialjoin_node *table)
+{
+    return spatialjoin_extract(plan, n, n, scratch, n, table, SPATIALJOIN_MOST_NODES, SPATIALJOIN_RELATIONS | SPATIALJOIN_KNNS, 5, 100);
 }

@@ -1,6 +1,6 @@
 /* A C host: it tests the archive's version; then the worked run's filter as text, and the run, its answers printed as the program
- * spatialjoin prints them; then the filter with a row policy, and its extraction over narrowed children; and what the extracts cost.
- * `../check` builds and runs it. */
+ * spatialjoin prints them; then the filter with a row policy, and its extraction over narrowed children; then the filter at a site that indexes
+ * no relation; and what the extracts cost. `../check` builds and runs it. */
 #include <stdio.h>
 
 #include "spatialjoin.h"
@@ -64,9 +64,11 @@ static void take(int64_t answer)
     printf("\n");
 }
 
-static void extract(void)
+/* Under a site's settings; one that has none gives SPATIALJOIN_DEFAULT_SETTINGS. */
+static void extract(uint8_t kinds, uint32_t default_k, uint32_t greatest_k)
 {
-    int64_t answer = spatialjoin_extract(plan, sizeof plan, n, scratch, sizeof scratch, table, SPATIALJOIN_MOST_NODES);
+    int64_t answer = spatialjoin_extract(plan, sizeof plan, n, scratch, sizeof scratch, table, SPATIALJOIN_MOST_NODES,
+                                         kinds, default_k, greatest_k);
     effort += SPATIALJOIN_WALK_OF(answer);
     take(answer);
 }
@@ -93,20 +95,23 @@ int main(void)
     }
     show(spatialjoin_print(frame, sizeof frame, text, sizeof text));
     take(spatialjoin_load(frame, sizeof frame, plan, sizeof plan, table, SPATIALJOIN_MOST_NODES));
-    extract();
+    extract(SPATIALJOIN_DEFAULT_SETTINGS);
     take(spatialjoin_exchange(plan, sizeof plan, n, scratch, sizeof scratch));
-    extract();
+    extract(SPATIALJOIN_DEFAULT_SETTINGS);
 
     take(spatialjoin_load(frame, sizeof frame, plan, sizeof plan, table, SPATIALJOIN_MOST_NODES));
     take(spatialjoin_merge(policy, sizeof policy, plan, sizeof plan, n, scratch, sizeof scratch, table, SPATIALJOIN_MOST_NODES));
     show(spatialjoin_print(plan, n, text, sizeof text));
-    extract();
+    extract(SPATIALJOIN_DEFAULT_SETTINGS);
 
     take(spatialjoin_load(frame, sizeof frame, plan, sizeof plan, table, SPATIALJOIN_MOST_NODES));
-    extract();
+    extract(SPATIALJOIN_DEFAULT_SETTINGS);
     take(project());
     take(spatialjoin_exchange(plan, sizeof plan, n, scratch, sizeof scratch));
     take(project()); /* Refused: the plan has the new columns now, and the list of the right child has no 1. */
+
+    take(spatialjoin_load(frame, sizeof frame, plan, sizeof plan, table, SPATIALJOIN_MOST_NODES));
+    extract(SPATIALJOIN_DISTANCES | SPATIALJOIN_KNNS, 5, 100); /* Refused: the one conjunct that could be indexed is a relation. */
     printf("planning effort: %lu\n", effort);
     return 0;
 }

@@ -39,7 +39,8 @@ static void print_extraction(size_t length)
     int64_t answer = spatialjoin_load(frame, length, plan, sizeof plan, table, SPATIALJOIN_MOST_NODES);
     size_t i;
     if (answer >= 0) {
-        answer = spatialjoin_extract(plan, sizeof plan, (size_t)answer, scratch, sizeof scratch, table, SPATIALJOIN_MOST_NODES);
+        answer = spatialjoin_extract(plan, sizeof plan, (size_t)answer, scratch, sizeof scratch, table, SPATIALJOIN_MOST_NODES,
+                                     SPATIALJOIN_DEFAULT_SETTINGS);
     }
     printf("%02x", (unsigned)-SPATIALJOIN_REFUSAL_OF(answer));
     for (i = 0; i < SPATIALJOIN_LENGTH_OF(answer); i++) {

@@ -13,6 +13,7 @@
 #define PATTERN 0xa5
 #define NODES SPATIALJOIN_MOST_NODES
 #define ITEMS SPATIALJOIN_MOST_ITEMS
+#define DEFAULTS SPATIALJOIN_DEFAULT_SETTINGS
 #define STACK_SIZE (4 * SPATIALJOIN_STACK_BYTES)
 
 enum call { LOAD, EXTRACT, EXCHANGE, LOGICAL, PRINT, MERGE, PROJECT, PUT, SERVE, CALLS };
@@ -197,7 +198,7 @@ static void make_call(void)
 {
     switch (called) {
     case LOAD: answer = spatialjoin_load(frame, frame_len, plan, sizeof plan, table, NODES); break;
-    case EXTRACT: answer = spatialjoin_extract(plan, sizeof plan, n, scratch, sizeof scratch, table, NODES); break;
+    case EXTRACT: answer = spatialjoin_extract(plan, sizeof plan, n, scratch, sizeof scratch, table, NODES, DEFAULTS); break;
     case EXCHANGE: answer = spatialjoin_exchange(plan, sizeof plan, n, scratch, sizeof scratch); break;
     case LOGICAL: answer = spatialjoin_logical(frame, frame_len); break;
     case PRINT: answer = spatialjoin_print(frame, frame_len, text, sizeof text); break;

@@ -1,5 +1,6 @@
 /* The library with one fault, chosen by WRONG; wrong_project.c has those of project, wrong_marks.c those of bounds, wrong_walk.c those of
- * extract's walk, wrong_queues.c those of put and serve. Its own functions are renamed to right_.. before (library-mutants). */
+ * extract's walk, wrong_settings.c those of its settings, wrong_queues.c those of put and serve. Its own functions are renamed to right_..
+ * before (library-mutants). */
 #include <stddef.h>
 #include <stdint.h>
 #include <string.h>
@@ -9,11 +10,16 @@ typedef struct {
     uint16_t start, end;
 } node;
 
+typedef struct {
+    uint8_t kinds;
+    uint32_t default_k, greatest_k;
+} settings;
+
 int64_t right_load(const uint8_t *frame, size_t frame_len, uint8_t *plan, size_t plan_len, node *table, size_t table_len);
-int64_t right_extract(uint8_t *plan, size_t plan_len, size_t n, uint8_t *scratch, size_t scratch_len, const node *table,
-                      size_t table_len);
+int64_t extract_by_settings(uint8_t *plan, size_t plan_len, size_t n, uint8_t *scratch, size_t scratch_len, const node *table,
+                            size_t table_len, settings set);
 int64_t extract_by_bound(uint8_t *plan, size_t plan_len, size_t n, uint8_t *scratch, size_t scratch_len, const node *table,
-                         size_t table_len);
+                         size_t table_len, settings set);
 int64_t spoil_walk(const uint8_t *frame, const uint8_t *plan, int64_t answer);
 int64_t right_exchange(uint8_t *plan, size_t plan_len, size_t n, uint8_t *scratch, size_t scratch_len);
 int64_t right_logical(const uint8_t *frame, size_t frame_len);
@@ -123,11 +129,11 @@ static int is_unmatched(int64_t answer)
 
 /* Takes a KNN with k 0: with 1 in its place, which becomes 0 again where the fault is that it stays 0. */
 static int64_t take_none(uint8_t *plan, size_t plan_len, size_t n, uint8_t *scratch, size_t scratch_len, const node *table,
-                         size_t table_len)
+                         size_t table_len, settings set)
 {
     int64_t answer;
     plan[n - 1] = 1;
-    answer = right_extract(plan, plan_len, n, scratch, scratch_len, table, table_len);
+    answer = extract_by_settings(plan, plan_len, n, scratch, scratch_len, table, table_len, set);
     plan[n - 1] = 0;
     if (answer > 0) {
         plan[6] = WRONG == 32 ? 0 : 1;
@@ -155,17 +161,18 @@ static int lacks_ends(const node *table, size_t table_len, size_t count)
 }
 
 int64_t spatialjoin_extract(uint8_t *plan, size_t plan_len, size_t n, uint8_t *scratch, size_t scratch_len, const node *table,
-                            size_t table_len)
+                            size_t table_len, uint8_t kinds, uint32_t default_k, uint32_t greatest_k)
 {
-    int64_t answer = extract_by_bound(plan, plan_len, n, scratch, scratch_len, table, table_len);
+    settings set = {kinds, default_k, greatest_k};
+    int64_t answer = extract_by_bound(plan, plan_len, n, scratch, scratch_len, table, table_len, set);
     if ((WRONG == 32 || WRONG == 33) && is_unmatched(answer) && asks_for_none(plan, n)) {
-        answer = take_none(plan, plan_len, n, scratch, scratch_len, table, table_len);
+        answer = take_none(plan, plan_len, n, scratch, scratch_len, table, table_len, set);
     }
     if (WRONG == 41 && answer == -10 && lacks_table(plan, plan_len, n)) {
-        answer = right_extract(plan, plan_len, n, scratch, scratch_len, nodes, 1024);
+        answer = extract_by_settings(plan, plan_len, n, scratch, scratch_len, nodes, 1024, set);
     }
     if (WRONG == 42 && answer == -10 && lacks_table(plan, plan_len, n) && lacks_ends(table, table_len, nodes_of(plan, n))) {
-        answer = right_extract(plan, plan_len, n, scratch, scratch_len, nodes, 1024);
+        answer = extract_by_settings(plan, plan_len, n, scratch, scratch_len, nodes, 1024, set);
     }
     if (WRONG == 43 && answer == -12 && table_len == 0) {
         answer = -10;

@@ -8,11 +8,16 @@ typedef struct {
     uint16_t start, end;
 } node;
 
+typedef struct {
+    uint8_t kinds;
+    uint32_t default_k, greatest_k;
+} settings;
+
 int64_t right_load(const uint8_t *frame, size_t frame_len, uint8_t *plan, size_t plan_len, node *table, size_t table_len);
-int64_t right_extract(uint8_t *plan, size_t plan_len, size_t n, uint8_t *scratch, size_t scratch_len, const node *table,
-                      size_t table_len);
+int64_t extract_by_settings(uint8_t *plan, size_t plan_len, size_t n, uint8_t *scratch, size_t scratch_len, const node *table,
+                            size_t table_len, settings set);
 int64_t extract_by_bound(uint8_t *plan, size_t plan_len, size_t n, uint8_t *scratch, size_t scratch_len, const node *table,
-                         size_t table_len);
+                         size_t table_len, settings set);
 
 /* A bit for each side of a column of the expression that starts here; its end is told. */
 static unsigned sides(const uint8_t *plan, size_t *at)
@@ -49,7 +54,7 @@ static unsigned bound_sides(const uint8_t *plan, size_t *start)
 }
 
 /* Extracts the frame with its mark columns as left ones, from a copy and into one. */
-static int64_t extract_as_left(uint8_t *plan, size_t n, uint8_t *scratch)
+static int64_t extract_as_left(uint8_t *plan, size_t n, uint8_t *scratch, settings set)
 {
     static uint8_t held[16384], kept[16384], loaded[16384];
     static node table[1024];
@@ -60,7 +65,7 @@ static int64_t extract_as_left(uint8_t *plan, size_t n, uint8_t *scratch)
         held[3 + 5 * i] = plan[3 + 5 * i] == 2 ? 0 : plan[3 + 5 * i];
     }
     (void)right_load(held, n, loaded, sizeof loaded, table, 1024);
-    answer = right_extract(held, sizeof held, n, kept, sizeof kept, table, 1024);
+    answer = extract_by_settings(held, sizeof held, n, kept, sizeof kept, table, 1024, set);
     if (answer > 0) {
         memcpy(scratch, plan, n);
         memcpy(plan, held, (size_t)(answer % 65536));
@@ -69,9 +74,9 @@ static int64_t extract_as_left(uint8_t *plan, size_t n, uint8_t *scratch)
 }
 
 /* Takes a bound of mark columns, with side none and as it is, where no leaf matched; it is the filter's last part. */
-static int64_t take_marks(uint8_t *plan, size_t n, uint8_t *scratch, size_t start)
+static int64_t take_marks(uint8_t *plan, size_t n, uint8_t *scratch, size_t start, settings set)
 {
-    int64_t answer = extract_as_left(plan, n, scratch);
+    int64_t answer = extract_as_left(plan, n, scratch, set);
     if (answer > 0) {
         plan[4] = 2;
         memcpy(plan + answer % 65536 - 1 - (n - start), scratch + start, n - start);
@@ -82,17 +87,17 @@ static int64_t take_marks(uint8_t *plan, size_t n, uint8_t *scratch, size_t star
 /* Where no leaf matched, a bound of mark columns alone (67), or of left ones beside them (69), is taken; one without columns (68) is
  * not. */
 int64_t extract_by_bound(uint8_t *plan, size_t plan_len, size_t n, uint8_t *scratch, size_t scratch_len, const node *table,
-                         size_t table_len)
+                         size_t table_len, settings set)
 {
     static uint8_t scratch_before[16384];
     size_t start = 0, kept = scratch_len < sizeof scratch_before ? scratch_len : sizeof scratch_before;
     int64_t answer;
     int unmatched;
     memcpy(scratch_before, scratch, kept);
-    answer = right_extract(plan, plan_len, n, scratch, scratch_len, table, table_len);
+    answer = extract_by_settings(plan, plan_len, n, scratch, scratch_len, table, table_len, set);
     unmatched = answer < 0 && -answer % 256 == 13;
     if (WRONG == 67 && unmatched && bound_sides(plan, &start) == 4) {
-        answer = take_marks(plan, n, scratch, start);
+        answer = take_marks(plan, n, scratch, start, set);
     }
     if (WRONG == 68 && answer > 0 && plan[0] == 0x12 && plan[4] == 2) {
         memcpy(plan, scratch, n);
@@ -100,7 +105,7 @@ int64_t extract_by_bound(uint8_t *plan, size_t plan_len, size_t n, uint8_t *scra
         answer = -(answer / 65536 * 256 + 13);
     }
     if (WRONG == 69 && unmatched && bound_sides(plan, &start) == 5) {
-        answer = extract_as_left(plan, n, scratch);
+        answer = extract_as_left(plan, n, scratch, set);
     }
     return answer;
 }

@@ -2,7 +2,7 @@
 //! and writes the extraction from the old plan's copy in the scratch.
 
 use reading::frame::{MAX_RECORDS, PHYSICAL};
-use spatialjoin::Node;
+use spatialjoin::{Kinds, Node, Settings};
 
 use super::check;
 use super::nodes::{self, two};
@@ -14,18 +14,34 @@ pub struct Walked {
     pub walk: u32,
 }
 
-pub fn extract(plan: &mut [u8], n: usize, scratch: &mut [u8], table: &[Node]) -> Walked {
-    let start = match extractable(plan, n, scratch.len(), table) {
+pub fn extract(
+    plan: &mut [u8],
+    n: usize,
+    scratch: &mut [u8],
+    table: &[Node],
+    settings: Settings,
+) -> Walked {
+    let checked = match are_good(settings) {
+        true => extractable(plan, n, scratch.len(), table),
+        false => Err(24),
+    };
+    let start = match checked {
         Ok(start) => start,
         Err(number) => {
             let answer = Err(number);
             return Walked { answer, walk: 0 };
         }
     };
-    let (taken, walk) = pick(&plan[..n], start);
+    let (taken, walk) = pick(&plan[..n], start, settings);
     let taken = taken.ok_or(13);
     let answer = taken.map(|taken| write(plan, &mut scratch[..n], start, &taken));
     Walked { answer, walk }
+}
+
+fn are_good(settings: Settings) -> bool {
+    let kinds = 1..=Kinds::ALL.bits();
+    kinds.contains(&settings.kinds.bits())
+        && (1..=settings.greatest_k).contains(&settings.default_k)
 }
 
 /// Where the held frame's filter starts, unless a refusal comes before 13.

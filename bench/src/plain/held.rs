@@ -3,7 +3,7 @@
 use std::hint::black_box;
 
 use reading::frame::MAX_BYTES;
-use spatialjoin::{MOST_NODES, Node};
+use spatialjoin::{MOST_NODES, Node, Settings};
 
 /// A plan, and a frame's table.
 pub struct Plain {
@@ -37,7 +37,8 @@ impl Plain {
 
     pub fn extract(&mut self) {
         let (plan, scratch) = (&mut self.plan, &mut self.scratch);
-        let _ = black_box(super::extract(plan, self.n, scratch, &self.table));
+        let settings = black_box(Settings::default());
+        let _ = black_box(super::extract(plan, self.n, scratch, &self.table, settings));
     }
 
     pub fn merge(&mut self, frame: &[u8]) {

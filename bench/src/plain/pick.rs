@@ -3,6 +3,7 @@
 use std::ops::Range;
 
 use reading::frame::{DISTANCE, KNN, RELATION, literal, operator};
+use spatialjoin::{Kinds, Settings};
 
 use super::nodes::{self, BINARY, FUNCTION, LITERAL};
 
@@ -54,9 +55,10 @@ pub struct Argument {
 }
 
 /// The first KNN match, else the first match; and how many And nodes and conjuncts were read.
-pub fn pick(frame: &[u8], start: usize) -> (Option<Taken>, u32) {
+pub fn pick(frame: &[u8], start: usize, settings: Settings) -> (Option<Taken>, u32) {
     let mut picker = Picker {
         frame,
+        settings,
         at: start,
         position: 0,
         walk: 0,
@@ -68,6 +70,7 @@ pub fn pick(frame: &[u8], start: usize) -> (Option<Taken>, u32) {
 
 struct Picker<'a> {
     frame: &'a [u8],
+    settings: Settings,
     at: usize,
     /// Of the next leaf.
     position: u16,
@@ -103,17 +106,21 @@ impl Picker<'_> {
 
     /// Once there is a match, only KNN calls are tried.
     fn matched(&self, leaf: usize) -> Option<Predicate> {
-        let first = self.taken.is_none();
+        let first = |kind| self.taken.is_none() && self.allows(kind);
         match self.frame[leaf] {
-            BINARY if first => self.comparison(leaf),
+            BINARY if first(Kinds::DISTANCES) => self.comparison(leaf),
             FUNCTION => match nodes::function(self.frame, leaf) {
-                (b"st_knn", count, at) => self.knn(count, at),
-                (b"st_dwithin", _, at) if first => self.within(at),
-                (name, _, at) if first => self.relation(relation(name)?, at),
+                (b"st_knn", count, at) if self.allows(Kinds::KNN) => self.knn(count, at),
+                (b"st_dwithin", _, at) if first(Kinds::DISTANCES) => self.within(at),
+                (name, _, at) if first(Kinds::RELATIONS) => self.relation(relation(name)?, at),
                 _ => None,
             },
             _ => None,
         }
+    }
+
+    fn allows(&self, kind: Kinds) -> bool {
+        self.settings.kinds.bits() & kind.bits() != 0
     }
 
     /// `None` where it has columns of two sides.
@@ -198,7 +205,11 @@ impl Picker<'_> {
         }
         let (query, object) = self.geometries(start)?;
         let given = |place: u8| (place < count).then(|| object.end + 10 * usize::from(place - 2));
-        let k = given(2).map_or(Some(1), |at| self.k(at))?;
+        let default_k = Some(self.settings.default_k);
+        let k = given(2).map_or(default_k, |at| self.k(at))?;
+        if k > self.settings.greatest_k {
+            return None;
+        }
         let spheroid = given(3).map_or(Some(0), |at| self.boolean(at))?;
         let ties = given(4).map_or(Some(2), |at| self.boolean(at))?;
         let [a, b, c, d] = k.to_be_bytes();

@@ -137,7 +137,7 @@ pub extern "C" fn spatialjoin_project(
 pub extern "C" fn spatialjoin_version() -> i64
     ensures { λ r. ⌜ r ≡ pos version ⌝ }
 {
-    0 * 65536 + 12 * 256 + 0
+    0 * 65536 + 13 * 256 + 0
 }
 
 // Adds a frame at the end of a queue of two that share a buffer; nothing looks into the frame.

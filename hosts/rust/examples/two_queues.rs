@@ -2,7 +2,9 @@
 //! that is served is loaded and extracted. Prints whose the job was and the answer of its extract, as
 //! the program spatialjoin prints one.
 
-use spatialjoin::{MOST_NODES, MOST_QUEUED, Node, Queue, Queues, Refusal, Served, VERSION};
+use spatialjoin::{
+    MOST_NODES, MOST_QUEUED, Node, Queue, Queues, Refusal, Served, Settings, VERSION,
+};
 
 /// A filter of one conjunct, of this function of a left column and a right one.
 fn filter(name: &str) -> Vec<u8> {
@@ -51,7 +53,7 @@ impl Planner {
     fn extraction(&mut self, length: usize) -> Result<String, Refusal> {
         let (plan, scratch) = (&mut self.plan, &mut self.scratch);
         let n = spatialjoin::load(&self.frame[..length], plan, &mut self.table)?;
-        let n = spatialjoin::extract(plan, n, scratch, &self.table)?.length;
+        let n = spatialjoin::extract(plan, n, scratch, &self.table, Settings::default())?.length;
         Ok(plan[..n].iter().map(|byte| format!("{byte:02x}")).collect())
     }
 }

@@ -1,8 +1,9 @@
 //! A Rust host: it tests the archive's version; then the worked run's filter as text, and the run,
 //! its answers printed as the program spatialjoin prints them; then the filter with a row policy, and
-//! its extraction over narrowed children; and what the extracts cost.
+//! its extraction over narrowed children; then the filter at a site that indexes no relation; and what
+//! the extracts cost.
 
-use spatialjoin::{MOST_BYTES, MOST_NODES, MOST_TEXT, Node, Refusal, VERSION};
+use spatialjoin::{Kinds, MOST_BYTES, MOST_NODES, MOST_TEXT, Node, Refusal, Settings, VERSION};
 
 /// `st_within(column 0, column 1) AND column 1`; column 0 is column 3 of the right child, column 1
 /// column 0 of the left. `hosts/c/host.c` has it byte by byte.
@@ -33,9 +34,9 @@ impl Host {
         self.take(answer);
     }
 
-    fn extract(&mut self) {
+    fn extract(&mut self, settings: Settings) {
         let (plan, scratch) = (&mut self.plan, &mut self.scratch);
-        let answer = spatialjoin::extract(plan, self.n, scratch, &self.table);
+        let answer = spatialjoin::extract(plan, self.n, scratch, &self.table, settings);
         self.effort += match answer {
             Ok(extracted) => extracted.walk,
             Err(unextracted) => unextracted.walk,
@@ -100,20 +101,28 @@ fn main() {
         effort: 0,
     };
     host.load(FRAME);
-    host.extract();
+    host.extract(Settings::default());
     host.exchange();
-    host.extract();
+    host.extract(Settings::default());
 
     host.load(FRAME);
     host.merge(POLICY);
     show(&host.plan[..host.n]);
-    host.extract();
+    host.extract(Settings::default());
 
     host.load(FRAME);
-    host.extract();
+    host.extract(Settings::default());
     host.project();
     host.exchange();
     // Refused: the plan has the new columns now, and the list of the right child has no 1.
     host.project();
+
+    host.load(FRAME);
+    // Refused: at this site the one conjunct that could be indexed, a relation, is not.
+    host.extract(Settings {
+        kinds: Kinds::DISTANCES | Kinds::KNN,
+        default_k: 5,
+        greatest_k: 100,
+    });
     println!("planning effort: {}", host.effort);
 }

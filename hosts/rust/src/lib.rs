@@ -11,6 +11,9 @@
 //! fill it with the nodes of the new plan, and [`extract`] takes it as they left it. [`exchange`]
 //! moves no node.
 //!
+//! What a site may have indexed are [`Settings`], which [`extract`] takes: the kinds allowed, the k of
+//! an `st_knn` call that has none, and the greatest k. [`Settings::default`] changes no answer.
+//!
 //! Where jobs of two machines reach one planner, [`Queues`] holds those that wait, a queue of each
 //! machine, and gives them in turn; [`put`] and [`serve`] are the same on a buffer of the host's own.
 //!
@@ -24,6 +27,7 @@ mod extracted;
 pub mod numbers;
 mod queues;
 mod refusal;
+mod settings;
 mod version;
 
 use std::mem::offset_of;
@@ -31,6 +35,7 @@ use std::mem::offset_of;
 pub use extracted::{Extracted, Unextracted};
 pub use queues::{MOST_QUEUED, MOST_WAITING, QUEUES_BYTES, Queue, Queues, Served, put, serve};
 pub use refusal::Refusal;
+pub use settings::{DEFAULT_K, GREATEST_K, Kinds, Settings};
 pub use version::{VERSION, Version, version, version_matches};
 
 /// The most bytes of a frame or plan.
@@ -129,18 +134,20 @@ pub fn position(plan: &[u8]) -> Option<u16> {
 
 /// Pulls the spatial predicate out of the filter in the plan's first `n` bytes and gives the new
 /// plan's length and the walk. The old plan is copied to the scratch's first `n` bytes. The table is
-/// the one that the last accepted [`load`] or [`merge`] filled.
+/// the one that the last accepted [`load`] or [`merge`] filled. What may be taken the settings say:
+/// [`Settings::default`] for one.
 ///
 /// # Errors
 ///
-/// Refusals 9 to 13; a 13 with the walk.
+/// Refusals 9 to 13, a 13 with the walk; and 24, before all of these.
 pub fn extract(
     plan: &mut [u8],
     n: usize,
     scratch: &mut [u8],
     table: &[Node],
+    settings: Settings,
 ) -> Result<Extracted, Unextracted> {
-    extracted::extracted(numbers::extract(plan, n, scratch, table))
+    extracted::extracted(numbers::extract(plan, n, scratch, table, settings))
 }
 
 /// Exchanges the join's children in the plan in the first `n` bytes and gives the new plan's

@@ -2,7 +2,7 @@
 //! one number), or minus the refusal's number; of [`extract`] each with the walk, of [`serve`] with the
 //! queue, which the last four functions take apart. `include/spatialjoin.h` says what they do.
 
-use crate::Node;
+use crate::{Node, Settings};
 
 mod c {
     use crate::Node;
@@ -24,6 +24,9 @@ mod c {
             scratch_len: usize,
             table: *const Node,
             table_len: usize,
+            kinds: u8,
+            default_k: u32,
+            greatest_k: u32,
         ) -> i64;
         pub fn spatialjoin_exchange(
             plan: *mut u8,
@@ -88,11 +91,30 @@ pub fn load(frame: &[u8], plan: &mut [u8], table: &mut [Node]) -> i64 {
     unsafe { c::spatialjoin_load(frame, frame_len, plan, plan_len, table, table_len) }
 }
 
-pub fn extract(plan: &mut [u8], n: usize, scratch: &mut [u8], table: &[Node]) -> i64 {
+pub fn extract(
+    plan: &mut [u8],
+    n: usize,
+    scratch: &mut [u8],
+    table: &[Node],
+    settings: Settings,
+) -> i64 {
     let (plan, plan_len) = (plan.as_mut_ptr(), plan.len());
     let (scratch, scratch_len) = (scratch.as_mut_ptr(), scratch.len());
     let (table, table_len) = (table.as_ptr(), table.len());
-    unsafe { c::spatialjoin_extract(plan, plan_len, n, scratch, scratch_len, table, table_len) }
+    unsafe {
+        c::spatialjoin_extract(
+            plan,
+            plan_len,
+            n,
+            scratch,
+            scratch_len,
+            table,
+            table_len,
+            settings.kinds.bits(),
+            settings.default_k,
+            settings.greatest_k,
+        )
+    }
 }
 
 pub fn exchange(plan: &mut [u8], n: usize, scratch: &mut [u8]) -> i64 {

@@ -50,11 +50,14 @@ pub enum Refusal {
     QueuedTooLong = 22,
     /// 23: 16 frames wait in the queue already.
     QueueFull = 23,
+    /// 24: settings without a kind or with a bit that is none, a default k of 0, or one above the
+    /// greatest.
+    BadSettings = 24,
 }
 
 impl Refusal {
     /// All of them, by number.
-    pub const ALL: [Refusal; 22] = [
+    pub const ALL: [Refusal; 23] = [
         Refusal::FrameLength,
         Refusal::FirstByte,
         Refusal::FrameEnds,
@@ -77,9 +80,10 @@ impl Refusal {
         Refusal::NoSuchQueue,
         Refusal::QueuedTooLong,
         Refusal::QueueFull,
+        Refusal::BadSettings,
     ];
 
-    /// 1 to 13, or 15 to 23.
+    /// 1 to 13, or 15 to 24.
     pub fn number(self) -> u8 {
         self as u8
     }
@@ -119,6 +123,7 @@ impl Refusal {
             Refusal::NoSuchQueue => "no such queue",
             Refusal::QueuedTooLong => "a frame of over 1,024 bytes for a queue",
             Refusal::QueueFull => "queue full",
+            Refusal::BadSettings => "bad settings",
         }
     }
 }

@@ -1,13 +1,14 @@
 //! The worked run, every refusal of load, extract and exchange, tables of nodes, positions, and what
 //! the header says. The other calls' tests are in `texts.rs`, `merges.rs`, `logical.rs`,
-//! `projections.rs` and `queues.rs`, those of an extract's walk in `walks.rs`.
+//! `projections.rs` and `queues.rs`, those of an extract's walk in `walks.rs`,
+//! of its settings in `settings.rs`.
 
 mod common;
 
 use common::{LEFT, RECORDS, RIGHT, STRAY, bytes, call, extract_plan, frame_of, good, levels};
 use common::{loaded, table};
+use spatialjoin::{DEFAULT_K, GREATEST_K, Kinds, Node, Refusal, exchange, load, merge, position};
 use spatialjoin::{MOST_BYTES, MOST_ITEMS, MOST_NODES, MOST_QUEUED, MOST_TEXT, MOST_WAITING};
-use spatialjoin::{Node, Refusal, exchange, load, merge, position};
 use spatialjoin::{QUEUES_BYTES, Queue, STACK_BYTES};
 
 /// What a load of the frame into a long buffer answers; refused, it changes nothing.
@@ -257,7 +258,7 @@ fn the_position_of_the_conjunct_that_was_taken() {
 
 #[test]
 fn every_refusal_has_its_number_and_text() {
-    let numbers: Vec<u8> = (1..=13).chain(15..=23).collect();
+    let numbers: Vec<u8> = (1..=13).chain(15..=24).collect();
     assert_eq!(Refusal::ALL.len(), numbers.len());
     for (refusal, number) in Refusal::ALL.into_iter().zip(numbers) {
         assert_eq!(refusal.number(), number);
@@ -282,11 +283,17 @@ fn the_header_has_the_same_limits_and_version() {
     defines("MOST_QUEUED", MOST_QUEUED.to_string());
     defines("MOST_WAITING", MOST_WAITING.to_string());
     defines("STACK_BYTES", STACK_BYTES.to_string());
-    for (name, queue) in [
-        ("CHASSIS", Queue::Chassis),
-        ("FIXED_UNIT", Queue::FixedUnit),
+    defines("DEFAULT_K", DEFAULT_K.to_string());
+    defines("GREATEST_K", format!("{GREATEST_K}u"));
+    for (name, number) in [
+        ("CHASSIS", Queue::Chassis.number()),
+        ("FIXED_UNIT", Queue::FixedUnit.number()),
+        ("RELATIONS", Kinds::RELATIONS.bits()),
+        ("DISTANCES", Kinds::DISTANCES.bits()),
+        ("KNNS", Kinds::KNN.bits()),
+        ("ALL_KINDS", Kinds::ALL.bits()),
     ] {
-        let line = format!("    SPATIALJOIN_{name} = {}", queue.number());
+        let line = format!("    SPATIALJOIN_{name} = {number}");
         assert!(
             header
                 .lines()

@@ -3,9 +3,9 @@
 
 mod common;
 
-use common::{LEFT, RECORDS, RIGHT, bytes, call, extract_plan, good, loaded, price_list};
+use common::{LEFT, RECORDS, RIGHT, bytes, call, extract, extract_plan, good, loaded, price_list};
 use spatialjoin::{Extracted, MOST_BYTES, Refusal, Unextracted};
-use spatialjoin::{exchange, extract, merge, numbers};
+use spatialjoin::{exchange, merge, numbers};
 
 /// What an extract of this frame answers, with its children exchanged before or not.
 fn extracted(frame: &[u8]) -> Result<Extracted, Unextracted> {
@@ -136,6 +136,7 @@ fn the_parts_of_a_number() {
         (2_047 * 65_536 + 16_384, (16_384, 2_047, 0)),
         (-9, (0, 0, 9)),
         (-20, (0, 0, 20)),
+        (-24, (0, 0, 24)),
         (-(256 + 13), (0, 1, 13)),
         (-(2_047 * 256 + 13), (0, 2_047, 13)),
     ];

@@ -60,6 +60,7 @@ fn project_filter(filter: &JoinFilter, lists: &[Vec<u16>; 2]) -> Option<JoinFilt
 mod tests {
     use reading::frame::{Frame, Plan};
     use reading::project::{Lists, project};
+    use reading::settings::Settings;
     use reading::{decode, encode, physical, program};
 
     use crate::make::{self, lists::lists};
@@ -69,7 +70,10 @@ mod tests {
     /// The reading's projection of a frame's extraction, exchanged or not, is the original's but for the
     /// position; the first bytes of those that are accepted.
     fn projected(frame: &Frame, rng: &mut Rng) -> Option<u8> {
-        let (mut extracted, read) = (transform(frame)?, physical::extract(frame)?);
+        let (mut extracted, read) = (
+            transform(frame)?,
+            physical::extract(frame, Settings::OF_THE_PROGRAM)?,
+        );
         let mut plan = Plan::Extraction(read);
         if rng.one_in(2) {
             extracted.exchange();

@@ -8,9 +8,11 @@ use reading::program::hex;
 use reading::project::Lists;
 use reading::queues::Served;
 use reading::refusal::Refusal;
+use reading::settings::Settings;
 use spatialjoin::{Node, numbers};
 
 use crate::lent::Lent;
+use crate::settings::to_library;
 use crate::tables::{of_reading, to_reading};
 
 #[derive(Clone, Copy, Debug, PartialEq, Eq, PartialOrd, Ord)]
@@ -75,6 +77,8 @@ pub struct Call {
     pub text: Vec<u8>,
     /// Of a load, of an extract and of a merge.
     pub table: Vec<Node>,
+    /// Of an extract.
+    pub settings: Settings,
     /// Of a projection: the left one and the right one.
     pub lists: [Vec<u16>; 2],
     /// Of a put and of a serve.
@@ -115,6 +119,7 @@ impl Call {
             scratch: Vec::new(),
             text: Vec::new(),
             table: Vec::new(),
+            settings: Settings::OF_THE_PROGRAM,
             lists: [Vec::new(), Vec::new()],
             queues: Vec::new(),
             queue: 0,
@@ -131,8 +136,9 @@ impl Call {
         let answer = match self.kind {
             Kind::Load => calls::load(&self.frame, &mut n, &mut plan, &mut table),
             Kind::Extract => {
-                walk = calls::walk(n, &plan, &scratch, &table);
-                calls::extract(&mut n, &mut plan, &mut scratch, &table)
+                let settings = self.settings;
+                walk = calls::walk(n, &plan, &scratch, &table, settings);
+                calls::extract(&mut n, &mut plan, &mut scratch, &table, settings)
             }
             Kind::Exchange => calls::exchange(&mut n, &mut plan, &mut scratch),
             Kind::Logical => {
@@ -208,7 +214,8 @@ impl Call {
         let answer = match self.kind {
             Kind::Load => numbers::load(frame.items(), plan.items_mut(), table.items_mut()),
             Kind::Extract => {
-                numbers::extract(plan.items_mut(), n, scratch.items_mut(), table.items())
+                let (plan, scratch) = (plan.items_mut(), scratch.items_mut());
+                numbers::extract(plan, n, scratch, table.items(), to_library(self.settings))
             }
             Kind::Exchange => numbers::exchange(plan.items_mut(), n, scratch.items_mut()),
             Kind::Logical => numbers::logical(frame.items()),
@@ -298,6 +305,9 @@ impl fmt::Display for Call {
             return write!(f, "  output   {}", shown(&self.out));
         }
         writeln!(f, "{:?}, n = {}", self.kind, self.n)?;
+        if let Kind::Extract = self.kind {
+            writeln!(f, "  {:?}", self.settings)?;
+        }
         writeln!(f, "  frame    {}", shown(&self.frame))?;
         writeln!(f, "  plan     {}", shown(&self.plan))?;
         writeln!(f, "  scratch  {}", shown(&self.scratch))?;

@@ -1,12 +1,14 @@
 use std::collections::BTreeMap;
 use std::fmt;
 
-use crate::call::Kind;
+use reading::settings::Settings;
+
+use crate::call::{Call, Kind};
 
 /// The calls, with the refusals that documents 01 and 02 give each of them.
 const ANSWERS: [(Kind, &[i64]); 9] = [
     (Kind::Load, &[1, 2, 3, 4, 5, 6, 7, 8, 9, 17]),
-    (Kind::Extract, &[9, 10, 11, 12, 13]),
+    (Kind::Extract, &[9, 10, 11, 12, 13, 24]),
     (Kind::Exchange, &[9, 10, 11]),
     (Kind::Logical, &[1, 2, 3, 4, 5, 7]),
     (Kind::Print, &[1, 2, 3, 4, 5, 6, 7, 8, 15]),
@@ -27,13 +29,22 @@ pub struct Counts {
     /// How many extracts had a walk of more than one node, and the longest.
     walks: u64,
     longest: i64,
+    /// How many extracts under other settings than the program's were accepted, and how many found no
+    /// match.
+    settled: u64,
+    unmatched: u64,
     /// How many serves had a frame of each queue, and how many found both empty.
     served: [u64; 2],
     both_empty: u64,
 }
 
 impl Counts {
-    pub fn count(&mut self, kind: Kind, answer: i64) {
+    pub fn count(&mut self, call: &Call, answer: i64) {
+        let kind = call.kind;
+        if kind == Kind::Extract && call.settings != Settings::OF_THE_PROGRAM {
+            self.settled += u64::from(answer >= 0);
+            self.unmatched += u64::from(kind.without_walk(answer) == -13);
+        }
         let count = match kind.without_walk(answer) {
             0.. => self.accepted.entry(kind).or_default(),
             refused => self.refused.entry((kind, -refused)).or_default(),
@@ -61,6 +72,9 @@ impl Counts {
             let lacks = |number: &&i64| !self.refused.contains_key(&(kind, **number));
             let names = refusals.iter().filter(lacks);
             unreached.extend(names.map(|number| format!("{kind:?} refusal {number}")));
+        }
+        if self.settled == 0 || self.unmatched == 0 {
+            unreached.push("Extract under other settings, accepted and unmatched".to_owned());
         }
         if self.both_empty == 0 || self.served.contains(&0) {
             unreached.push("Serve of each queue, and of none".to_owned());
@@ -94,6 +108,13 @@ impl fmt::Display for Counts {
         writeln!(
             f,
             "Extract    walks over 1 {walks:>8}, the longest {longest}"
+        )?;
+        let Counts {
+            settled, unmatched, ..
+        } = self;
+        writeln!(
+            f,
+            "Extract    other settings: accepted {settled}, refusal 13 {unmatched}"
         )?;
         write!(f, "{} calls", self.calls())
     }

@@ -5,6 +5,7 @@ use driver::make::extractions::extraction;
 use driver::make::lists::lists;
 use driver::rng::Rng;
 use reading::frame::MAX_BYTES;
+use reading::settings::Settings;
 use spatialjoin::Node;
 
 use crate::call::{Call, Kind, Outcome};
@@ -15,11 +16,13 @@ pub struct Held {
     plan: Vec<u8>,
     /// As the last call left it; longer than it need be, at times.
     table: Vec<Node>,
+    /// Of every extract: within a list of calls they are fixed.
+    settings: Settings,
 }
 
 impl Held {
     /// A fresh plan in a buffer with other bytes; at times the buffer is too short for this frame.
-    pub fn new(rng: &mut Rng, frame: usize) -> Self {
+    pub fn new(rng: &mut Rng, frame: usize, settings: Settings) -> Self {
         let length = match rng.below(16) {
             0 => rng.below(frame + 1),
             1 => frame.saturating_sub(1),
@@ -31,16 +34,26 @@ impl Held {
         let plan = any_bytes(rng, length);
         // A node has at least four bytes.
         let table = tables::to_fill(rng, frame / 4);
-        Held { n: 0, plan, table }
+        Held {
+            n: 0,
+            plan,
+            table,
+            settings,
+        }
     }
 
     /// These bytes, in a buffer with others after them.
-    pub fn holding(rng: &mut Rng, bytes: &[u8]) -> Self {
+    pub fn holding(rng: &mut Rng, bytes: &[u8], settings: Settings) -> Self {
         let after = rng.below(64);
         let plan = [bytes, &any_bytes(rng, after)].concat();
         let n = bytes.len();
         let table = Vec::new();
-        Held { n, plan, table }
+        Held {
+            n,
+            plan,
+            table,
+            settings,
+        }
     }
 
     /// The held bytes; none where n is past the end.
@@ -48,11 +61,20 @@ impl Held {
         self.plan.get(..self.n).unwrap_or_default()
     }
 
-    /// What an accepted merge or projection left.
-    pub fn left_by(outcome: Outcome) -> Option<Self> {
+    pub fn settings(&self) -> Settings {
+        self.settings
+    }
+
+    /// What an accepted merge or projection left; the settings of the list are these.
+    pub fn left_by(outcome: Outcome, settings: Settings) -> Option<Self> {
         let n = usize::try_from(outcome.answer).ok()?;
         let Outcome { plan, table, .. } = outcome;
-        Some(Held { n, plan, table })
+        Some(Held {
+            n,
+            plan,
+            table,
+            settings,
+        })
     }
 
     /// So many bytes more in the buffer, and as many records in the table as they could be nodes.
@@ -92,6 +114,7 @@ impl Held {
             plan: self.plan.clone(),
             scratch: any_bytes(rng, length),
             table: self.table.clone(),
+            settings: self.settings,
             ..Call::new(kind)
         }
     }

@@ -7,6 +7,7 @@ mod lent;
 mod merges;
 mod projections;
 mod queues;
+mod settings;
 mod tables;
 mod texts;
 
@@ -19,6 +20,7 @@ use driver::progress::Progress;
 use driver::rng::Rng;
 use reading::frame::{LOGICAL, MAX_BYTES, PHYSICAL};
 use reading::program::parse;
+use reading::settings::Settings;
 
 use call::{Call, Kind, Outcome};
 use counts::Counts;
@@ -118,10 +120,10 @@ fn options(words: &[String]) -> Option<Options> {
     })
 }
 
-/// The calls of a case's lines alone, on one plan.
+/// The calls of a case's lines alone, on one plan and under the program's settings.
 fn run_plan(rng: &mut Rng, case: &Case, counts: &mut Counts) -> Result<(), String> {
     let asked: Vec<Asked> = case.lines.iter().map(|line| asked(rng, line)).collect();
-    let mut held = Held::new(rng, longest(&asked));
+    let mut held = Held::new(rng, longest(&asked), Settings::OF_THE_PROGRAM);
     for asked in &asked {
         next_call(rng, asked, &mut held, counts)?;
     }
@@ -150,12 +152,13 @@ fn next_call(
     Ok(())
 }
 
-/// All calls of a case, on one plan, with projections of what is held after each; then prints and
+/// All calls of a case, on one plan and under the same settings, with projections of what is held after each; then prints and
 /// merges of its frames, merges of a pair, and projections of an extraction that no frame need have
 /// made.
 fn run(rng: &mut Rng, case: &Case, counts: &mut Counts) -> Result<(), String> {
     let asked: Vec<Asked> = case.lines.iter().map(|line| asked(rng, line)).collect();
-    let mut held = Held::new(rng, longest(&asked));
+    let settings = settings::any(rng, asked.iter().filter_map(frame_of));
+    let mut held = Held::new(rng, longest(&asked), settings);
     for asked in &asked {
         next_call(rng, asked, &mut held, counts)?;
         projections::run(rng, &held, counts)?;
@@ -201,12 +204,16 @@ fn asked(rng: &mut Rng, line: &[u8]) -> Asked {
     Asked::OfFrame(frame)
 }
 
+fn frame_of(asked: &Asked) -> Option<&[u8]> {
+    match asked {
+        Asked::OfFrame(frame) => Some(frame),
+        Asked::OfPlan(_) => None,
+    }
+}
+
 fn longest(asked: &[Asked]) -> usize {
-    let length = |asked: &Asked| match asked {
-        Asked::OfFrame(frame) => frame.len(),
-        Asked::OfPlan(_) => 0,
-    };
-    asked.iter().map(length).max().unwrap_or(0)
+    let lengths = asked.iter().filter_map(frame_of).map(<[u8]>::len);
+    lengths.max().unwrap_or(0)
 }
 
 /// The call for a frame's first byte, in most cases.
@@ -230,6 +237,6 @@ fn compare(rng: &mut Rng, call: &Call, counts: &mut Counts) -> Result<Outcome, S
             "{call}\nexpected\n{expected}\nthe library differs in\n{faults}"
         ));
     }
-    counts.count(call.kind, expected.answer);
+    counts.count(call, expected.answer);
     Ok(expected)
 }

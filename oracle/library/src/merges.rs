@@ -5,13 +5,14 @@ use driver::make::extractions::extraction;
 use driver::make::pairs::{self, Pair};
 use driver::rng::Rng;
 use reading::frame::Plan;
+use reading::settings::Settings;
 use reading::{decode, encode, physical};
 
 use crate::call::{Call, Kind};
 use crate::compare;
 use crate::counts::Counts;
 use crate::held::{Held, any_bytes};
-use crate::tables;
+use crate::{settings, tables};
 
 /// Merges of a pair with all rooms, then calls on the plan that one of them left.
 pub fn run(rng: &mut Rng, pair: &Pair, counts: &mut Counts) -> Result<(), String> {
@@ -20,10 +21,11 @@ pub fn run(rng: &mut Rng, pair: &Pair, counts: &mut Counts) -> Result<(), String
     if rng.one_in(8) {
         damage(rng, &mut new);
     }
+    let settings = settings::any(rng, [&pair.held[..], &new].into_iter());
     let mut left = None;
     for call in calls(rng, &plan, &new) {
         let outcome = compare(rng, &call, counts)?;
-        left = Held::left_by(outcome).or(left);
+        left = Held::left_by(outcome, settings).or(left);
     }
     match left {
         Some(held) => go_on(rng, held, counts),
@@ -55,7 +57,10 @@ fn held_plan(rng: &mut Rng, frame: &[u8]) -> Vec<u8> {
 /// A frame that has no match stays.
 fn extracted(plan: Plan) -> Plan {
     match &plan {
-        Plan::Frame(frame) => physical::extract(frame).map_or(plan, Plan::Extraction),
+        Plan::Frame(frame) => {
+            let extraction = physical::extract(frame, Settings::OF_THE_PROGRAM);
+            extraction.map_or(plan, Plan::Extraction)
+        }
         Plan::Extraction(_) => plan,
     }
 }

@@ -11,13 +11,14 @@ use crate::call::{Call, Kind};
 use crate::compare;
 use crate::counts::Counts;
 use crate::held::{Held, any_bytes};
+use crate::settings;
 
 /// Projections of what is held, which stays as it is; then calls on the plan that one of them left.
 pub fn run(rng: &mut Rng, held: &Held, counts: &mut Counts) -> Result<(), String> {
     let mut left = None;
     for call in calls(rng, held) {
         let outcome = compare(rng, &call, counts)?;
-        left = Held::left_by(outcome).or(left);
+        left = Held::left_by(outcome, held.settings()).or(left);
     }
     match left {
         Some(held) => go_on(rng, held, counts),
@@ -31,7 +32,8 @@ pub fn run_alone(rng: &mut Rng, counts: &mut Counts) -> Result<(), String> {
     if rng.one_in(8) {
         damage(rng, &mut bytes);
     }
-    let held = Held::holding(rng, &bytes);
+    let settings = settings::any(rng, std::iter::empty());
+    let held = Held::holding(rng, &bytes, settings);
     run(rng, &held, counts)
 }
 

@@ -7,6 +7,7 @@ use crate::nodes::{self, Node};
 use crate::project::{self as projection, Lists};
 use crate::queues::{MAX_QUEUED, MAX_WAITING, Queues, Served};
 use crate::refusal::Refusal;
+use crate::settings::Settings;
 use crate::{decode, encode, logical as logical_half, physical, print as console, walk as walks};
 
 /// Nothing of the old plan is read: `n` is only set. Request 6 of document 02: the table is filled.
@@ -29,21 +30,32 @@ pub fn extract(
     buffer: &mut [u8],
     scratch: &mut [u8],
     table: &[Node],
+    settings: Settings,
 ) -> Result<usize, Refusal> {
-    let frame = extractable(*n, buffer, scratch, table)?;
-    let extraction = physical::extract(&frame).ok_or(Refusal::NoMatch)?;
+    let frame = extractable(*n, buffer, scratch, table, settings)?;
+    let extraction = physical::extract(&frame, settings).ok_or(Refusal::NoMatch)?;
     Ok(replace(&Plan::Extraction(extraction), n, buffer, scratch))
 }
 
 /// Request 10 of document 02: the walk that an extract with these carries. A 13 carries it too, other
 /// refusals 0.
-pub fn walk(n: usize, buffer: &[u8], scratch: &[u8], table: &[Node]) -> usize {
-    extractable(n, buffer, scratch, table).map_or(0, |frame| walks::length(&frame))
+pub fn walk(n: usize, buffer: &[u8], scratch: &[u8], table: &[Node], settings: Settings) -> usize {
+    let frame = extractable(n, buffer, scratch, table, settings);
+    frame.map_or(0, |frame| walks::length(&frame, settings))
 }
 
 /// The held frame, where no refusal comes before 13. Request 6 of document 02: it needs a table that
-/// begins with its nodes.
-fn extractable(n: usize, buffer: &[u8], scratch: &[u8], table: &[Node]) -> Result<Frame, Refusal> {
+/// begins with its nodes. Request 13: 24 comes before every other check.
+fn extractable(
+    n: usize,
+    buffer: &[u8],
+    scratch: &[u8],
+    table: &[Node],
+    settings: Settings,
+) -> Result<Frame, Refusal> {
+    if settings.get_24() {
+        return Err(Refusal::BadSettings);
+    }
     let Plan::Frame(frame) = held(n, buffer)? else {
         return Err(Refusal::Extracted);
     };

@@ -15,4 +15,5 @@ pub mod program;
 pub mod project;
 pub mod queues;
 pub mod refusal;
+pub mod settings;
 pub mod walk;

@@ -1,6 +1,7 @@
 //! The physical half: matching, pick, remainder, exchange.
 
 use crate::frame::{Expr, Extraction, Frame, Plan, Predicate, Record, Side, literal, operator};
+use crate::settings::Settings;
 
 const CONTAINS: u8 = 1;
 const WITHIN: u8 = 2;
@@ -172,7 +173,8 @@ fn bound_side(bound: &Expr, records: &[Record]) -> Option<Side> {
     (columns == 0 || side != Side::None).then_some(side)
 }
 
-pub(crate) fn match_knn(leaf: &Expr, records: &[Record]) -> Option<Predicate> {
+/// Request 13 of document 02: a two-argument call takes the default k.
+fn match_knn(leaf: &Expr, records: &[Record], default_k: u32) -> Option<Predicate> {
     let Expr::Function { name, args } = leaf else {
         return None;
     };
@@ -181,7 +183,7 @@ pub(crate) fn match_knn(leaf: &Expr, records: &[Record]) -> Option<Predicate> {
     }
     let found = geometries(&args[0], &args[1], records)?;
     let flag = |position: usize| args.get(position).map(literal_bool);
-    let k = args.get(2).map_or(Some(1), literal_k)?;
+    let k = args.get(2).map_or(Some(default_k), literal_k)?;
     let spheroid = flag(3).unwrap_or(Some(false))?;
     let ties = match flag(4) {
         Some(value) => Some(value?),
@@ -226,16 +228,31 @@ fn literal_bool(expr: &Expr) -> Option<bool> {
     }
 }
 
+/// A KNN leaf that matches under the settings.
+pub(crate) fn allowed_knn(
+    leaf: &Expr,
+    records: &[Record],
+    settings: Settings,
+) -> Option<Predicate> {
+    let found = match_knn(leaf, records, settings.default_k);
+    found.filter(|predicate| settings.allow(predicate))
+}
+
+/// Any other that does.
+fn allowed_other(leaf: &Expr, records: &[Record], settings: Settings) -> Option<Predicate> {
+    let found = match_relation(leaf, records).or(match_distance(leaf, records));
+    found.filter(|predicate| settings.allow(predicate))
+}
+
 /// The predicate that is taken from a frame, and what is left; `None` if no AND-leaf matches.
-pub fn extract(frame: &Frame) -> Option<Extraction> {
+pub fn extract(frame: &Frame, settings: Settings) -> Option<Extraction> {
     let leaves = frame.expr.and_leaves();
-    let first = |matcher: fn(&Expr, &[Record]) -> Option<Predicate>| {
+    let first = |matcher: fn(&Expr, &[Record], Settings) -> Option<Predicate>| {
         let mut tries = leaves.iter().enumerate();
-        tries.find_map(|(position, leaf)| Some((position, matcher(leaf, &frame.records)?)))
+        tries
+            .find_map(|(position, leaf)| Some((position, matcher(leaf, &frame.records, settings)?)))
     };
-    let (position, predicate) = first(match_knn).or_else(|| {
-        first(|leaf, records| match_relation(leaf, records).or(match_distance(leaf, records)))
-    })?;
+    let (position, predicate) = first(allowed_knn).or_else(|| first(allowed_other))?;
     let remainder = without_leaf(&frame.expr, position).map(|expr| prune(&expr, &frame.records));
     Some(Extraction {
         position: position as u16,

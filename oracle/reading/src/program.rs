@@ -6,6 +6,7 @@ use crate::calls;
 use crate::frame::{LOGICAL, MAX_BYTES, MAX_NODES, PHYSICAL};
 use crate::nodes::Node;
 use crate::refusal::Refusal;
+use crate::settings::Settings;
 
 const EXTRACT: u8 = 0x21;
 const EXCHANGE: u8 = 0x22;
@@ -48,7 +49,7 @@ impl Program {
             [] => return Err(Refusal::FrameLength),
             [PHYSICAL, ..] => calls::load(frame, n, buffer, table)?,
             [LOGICAL, ..] => return calls::logical(frame).map(Vec::from),
-            [EXTRACT] => calls::extract(n, buffer, scratch, table)?,
+            [EXTRACT] => calls::extract(n, buffer, scratch, table, Settings::OF_THE_PROGRAM)?,
             [EXCHANGE] => calls::exchange(n, buffer, scratch)?,
             [EXTRACT | EXCHANGE, ..] => return Err(Refusal::BytesAfter),
             _ => return Err(Refusal::FirstByte),

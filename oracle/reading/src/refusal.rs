@@ -47,6 +47,8 @@ pub enum Refusal {
     QueuedLength = 22,
     /// Queue full.
     QueueFull = 23,
+    /// Kinds 0 or above 7, a default k of 0, or a default above the greatest.
+    BadSettings = 24,
 }
 
 impl Refusal {

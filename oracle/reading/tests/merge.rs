@@ -2,8 +2,8 @@
 
 mod common;
 
-use common::{and, answers, call, frame, frame_of, left, literal, other, record, right};
-use reading::calls::{exchange, extract, load, merge, print};
+use common::{and, answers, call, extract, frame, frame_of, left, literal, other, record, right};
+use reading::calls::{exchange, load, merge, print};
 use reading::decode::physical;
 use reading::frame::{Expr, MAX_NODES, Record, Side, literal as types, operator};
 use reading::nodes::{self, Node};

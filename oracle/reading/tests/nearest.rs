@@ -2,8 +2,8 @@
 
 mod common;
 
-use common::{and, answers, call, frame, left, literal, other, right};
-use reading::calls::{exchange, extract, merge};
+use common::{and, answers, call, extract, frame, left, literal, other, right};
+use reading::calls::{exchange, merge};
 use reading::frame::{Expr, literal as types};
 use reading::program::hex;
 use reading::refusal::Refusal;

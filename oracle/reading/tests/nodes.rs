@@ -2,8 +2,8 @@
 
 mod common;
 
-use common::{and, call, frame, frame_of, left, literal, other, right};
-use reading::calls::{exchange, extract, load};
+use common::{and, call, extract, frame, frame_of, left, literal, other, right};
+use reading::calls::{exchange, load};
 use reading::decode;
 use reading::frame::Expr;
 use reading::nodes::{Node, table};

@@ -2,8 +2,8 @@
 
 mod common;
 
-use common::{and, call, frame, frame_of, left, literal, other, record, right};
-use reading::calls::{exchange, extract, load, project};
+use common::{and, call, extract, frame, frame_of, left, literal, other, record, right};
+use reading::calls::{exchange, load, project};
 use reading::frame::{Expr, Extraction, Frame, Plan, Predicate, Record, Side, literal as types};
 use reading::nodes::Node;
 use reading::program::{hex, parse};

@@ -3,8 +3,8 @@
 
 mod common;
 
-use common::{call, frame, left, right};
-use reading::calls::{extract, load, put, serve};
+use common::{call, extract, frame, left, right};
+use reading::calls::{load, put, serve};
 use reading::nodes::Node;
 use reading::program::hex;
 use reading::queues::{MAX_QUEUED, MAX_WAITING, QUEUES_BYTES, Queues, Served};

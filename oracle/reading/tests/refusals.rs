@@ -2,8 +2,8 @@
 
 mod common;
 
-use common::{and, answers, call, frame, frame_of, left, literal, other, record, right};
-use reading::calls::{exchange, extract, load, logical};
+use common::{and, answers, call, extract, frame, frame_of, left, literal, other, record, right};
+use reading::calls::{exchange, load, logical};
 use reading::frame::{Expr, MAX_NODES, Side, literal as types, operator};
 use reading::nodes::Node;
 use reading::program::run;

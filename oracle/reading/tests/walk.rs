@@ -2,12 +2,13 @@
 
 mod common;
 
-use common::{and, call, frame, frame_of, left, literal, other, record, right};
-use reading::calls::{exchange, extract, walk};
+use common::{and, call, extract, frame, frame_of, left, literal, other, record, right};
+use reading::calls::{exchange, walk};
 use reading::decode;
 use reading::frame::{Expr, Frame, Side, literal as types, operator};
 use reading::nodes::{Node, table};
 use reading::refusal::Refusal;
+use reading::settings::Settings;
 use reading::walk::length;
 
 fn matching(name: &str) -> Expr {
@@ -27,7 +28,10 @@ fn plain() -> Expr {
 }
 
 fn walk_of(expr: Expr) -> usize {
-    length(&decode::physical(&frame(expr)).unwrap())
+    length(
+        &decode::physical(&frame(expr)).unwrap(),
+        Settings::OF_THE_PROGRAM,
+    )
 }
 
 /// What an extract of this frame answers, with its own table and this much scratch, and its walk.
@@ -43,7 +47,7 @@ fn answered(
     table: &[Node],
 ) -> (Result<usize, Refusal>, usize) {
     let (mut plan, mut scratch) = (plan.to_vec(), vec![0; scratch]);
-    let walk = walk(n, &plan, &scratch, table);
+    let walk = walk(n, &plan, &scratch, table, Settings::OF_THE_PROGRAM);
     (extract(&mut { n }, &mut plan, &mut scratch, table), walk)
 }
 
@@ -125,7 +129,7 @@ fn at_most_twice_the_leaves_less_one_and_exchanged_the_same() {
         for expr in filters(leaves) {
             let bytes = frame(expr);
             let good = decode::physical(&bytes).unwrap();
-            let walk = length(&good);
+            let walk = length(&good, Settings::OF_THE_PROGRAM);
             assert!((1..2 * leaves).contains(&walk));
             assert_eq!(walk, counted_by_places(&good));
             let (mut exchanged, mut n) = (bytes.clone(), bytes.len());

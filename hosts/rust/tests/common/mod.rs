@@ -1,7 +1,10 @@
 //! Frames, tables and texts for the tests; each test file uses some of them.
 #![allow(dead_code)]
 
-use spatialjoin::{MOST_BYTES, MOST_NODES, MOST_TEXT, Node, Refusal, extract, load, print};
+use spatialjoin::{
+    Extracted, MOST_BYTES, MOST_NODES, MOST_TEXT, Node, Refusal, Settings, Unextracted,
+};
+use spatialjoin::{load, print};
 
 /// Columns 0 (of the left child) and 1 (of the right).
 pub const RECORDS: &[u8] = b"\x01\0\x02\0\0\0\0\0\x01\0\0\0\0";
@@ -52,7 +55,17 @@ pub fn loaded(frame: &[u8]) -> (Vec<u8>, usize, Vec<Node>) {
     (plan, n, table)
 }
 
-/// An extract, its walk left out.
+/// An extract under the default settings.
+pub fn extract(
+    plan: &mut [u8],
+    n: usize,
+    scratch: &mut [u8],
+    table: &[Node],
+) -> Result<Extracted, Unextracted> {
+    spatialjoin::extract(plan, n, scratch, table, Settings::default())
+}
+
+/// Its walk left out.
 pub fn extract_plan(
     plan: &mut [u8],
     n: usize,

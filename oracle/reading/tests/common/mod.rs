@@ -1,9 +1,12 @@
 //! Frames in few words. Each test takes of them what it needs.
 #![allow(dead_code)]
 
-use reading::encode;
 use reading::frame::{Expr, Frame, Record, Side, operator};
+use reading::nodes::Node;
 use reading::program::Program;
+use reading::refusal::Refusal;
+use reading::settings::Settings;
+use reading::{calls, encode};
 
 /// Column 0 is of the left child, column 1 of the right.
 pub fn left() -> Expr {
@@ -51,6 +54,16 @@ pub fn frame(expr: Expr) -> Vec<u8> {
 
 pub fn frame_of(records: Vec<Record>, expr: Expr) -> Vec<u8> {
     encode::physical(&Frame { records, expr })
+}
+
+/// The call extract under the program's settings.
+pub fn extract(
+    n: &mut usize,
+    buffer: &mut [u8],
+    scratch: &mut [u8],
+    table: &[Node],
+) -> Result<usize, Refusal> {
+    calls::extract(n, buffer, scratch, table, Settings::OF_THE_PROGRAM)
 }
 
 /// What the program writes for these lines.
