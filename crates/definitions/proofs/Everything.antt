@@ -29,6 +29,8 @@ use Rattle.definitions.specs.OddMachine as OddMachine
 use Rattle.definitions.specs.Queues as Queues
 use Rattle.definitions.specs.QueueBytes as QueueBytes
 use Rattle.definitions.specs.QueueLists as QueueLists
+use Rattle.definitions.specs.ExtractAll as ExtractAll
+use Rattle.definitions.specs.Hosts as Hosts
 use Rattle.definitions.specs.Settings as Settings
 
 unfoldable pub basics : ℕ
@@ -159,13 +161,20 @@ unfolding Queues.putIn Queues.firstTried Queues.oldest Queues.due QueueBytes.mar
     QueueLists.waitingOf QueueLists.waitingIn QueueLists.added QueueLists.served QueueLists.givenOf
 queues = 0
 
+unfoldable pub listing : ℕ
+unfolding ExtractAll.noRound ExtractAll.roundThen ExtractAll.but ExtractAll.inFirst ExtractAll.round ExtractAll.rounds
+    ExtractAll.positionsFrom ExtractAll.conjunctsBy ExtractAll.pickBytes ExtractAll.picksBytes ExtractAll.conjunctsBytes
+    ExtractAll.newConjuncts ExtractAll.finishAll ExtractAll.extractAllBy ExtractAll.exchangePick ExtractAll.exchangeConjuncts
+    Hosts.hostedAll
+listing = 0
+
 unfoldable pub settings : ℕ
 unfolding Settings.goodSettings Settings.defaultSettings Settings.hasBit Settings.allowed Settings.passing Settings.onlyIf
-    Settings.matchUnder Settings.extractUnder Settings.extractWalkUnder Settings.makeUnder Settings.walkUnder
+    Settings.matchUnder Settings.extractUnder Settings.extractWalkUnder Settings.extractAllUnder Settings.makeUnder Settings.walkUnder
     Settings.callsRunUnder
 settings = 0
 
 unfoldable pub everything : ℕ
 unfolding basics expression literals encode leaves readers decode plans references match extract walk exchange tables calls machine sessions
-    meaning logical program printing merging projecting queues settings
+    meaning logical program printing merging projecting queues listing settings
 everything = 0

@@ -12,4 +12,5 @@ pub mod NarrowedRows
 pub mod Sentences
 pub mod WalkedRows
 pub mod WaitingRows
+pub mod ListedRows
 pub mod SettledRows

@@ -17,6 +17,7 @@ settings-rows-hold = record {
   good = refl;
   bad = refl;
   first = refl;
+  first-of-all = refl;
   walk-stops = refl;
   walk-goes-on = refl;
   walk-above = refl;

@@ -17,6 +17,11 @@ unfoldable pub hostedWalk : (walk : ℕ) → Result ℕ → ℤ
 hostedWalk walk (ok length) = pos (walk * 65536 + length)
 hostedWalk walk (refused number) = negℤ (pos (walk * 256 + number))
 
+-- That of the call that extracts all (request 14): rounds · 65,536 + length, or minus the refusal's number. (Ours.)
+unfoldable pub hostedAll : (rounds : ℕ) → Result ℕ → ℤ
+hostedAll rounds (ok length) = pos (rounds * 65536 + length)
+hostedAll rounds (refused number) = negℤ (pos number)
+
 -- The logical call's: mask · 65,536 + names · 256 + side, or minus the refusal's number. (Ours.)
 unfoldable pub hostedNames : Result LogicalAnswer → ℤ
 hostedNames (ok a) = pos (a .mask * 65536 + a .names * 256 + sideNumber (a .side))

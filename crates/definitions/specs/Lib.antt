@@ -48,6 +48,8 @@ pub mod Hosts
 pub mod Claims
 pub mod ValueClaims
 pub mod AnyMatcher
+pub mod ExtractAll
+pub mod AllClaims
 pub mod Settings
 pub mod TenRows
 pub mod FurtherRows
@@ -73,4 +75,5 @@ pub mod WalkClaims
 pub mod WalkRows
 pub mod QueueClaims
 pub mod QueueRows
+pub mod AllRows
 pub mod SettingsRows

@@ -13,6 +13,7 @@ use Rattle.definitions.specs.NodeTable.{NodeRecord}
 use Rattle.definitions.specs.Machine.{Kind, extractCall, exchangeCall}
 use Rattle.definitions.specs.Sessions.{Made, ListOutcome}
 use Rattle.definitions.specs.Meaning.{Meaning, FairBy}
+use Rattle.definitions.specs.ExtractAll.{AllOutcome, finishAll, extractAllBy}
 
 -- The kinds allowed (bit 0 relation, bit 1 distance, bit 2 KNN), the default k and the greatest k.
 pub record Settings : Type 0 where
@@ -67,6 +68,11 @@ extractUnder S n buffer scratch table =
 -- The walk that it carries (request 10): with 24 it is 0.
 unfoldable pub extractWalkUnder : Settings → (n : ℕ) → (buffer scratch : List ℕ) → (table : List NodeRecord) → ℕ
 extractWalkUnder S n buffer scratch table = if goodSettings S then extractWalkBy (matchUnder S) n buffer scratch table else 0
+
+-- The call that extracts all (request 14).
+unfoldable pub extractAllUnder : Settings → (frame buffer : List ℕ) → AllOutcome
+extractAllUnder S frame buffer =
+    if goodSettings S then extractAllBy (matchUnder S) frame buffer else finishAll buffer (refused 24)
 
 -- The call of a kind; an exchange has neither settings nor table.
 unfoldable pub makeUnder : Settings → Kind → (n : ℕ) → (buffer scratch : List ℕ) → (table : List NodeRecord) → Outcome

@@ -18,7 +18,9 @@ use Rattle.definitions.specs.AnyMatcher.{Extracts, OneCall, Lists}
 use Rattle.definitions.specs.MergeClaims.{MergedLeavesBy, ListAfterMergeBy, HistoryOfCallsBy}
 use Rattle.definitions.specs.ProjectClaims.{ListProjectedBy}
 use Rattle.definitions.specs.WalkClaims.{WalkBoundedBy, WalkWholeBy, WalkUnmatchedBy, WalkExchangedBy, WalkCarriedBy, WalkShortBy}
-use Rattle.definitions.specs.Settings.{Settings, goodSettings, defaultSettings, hasBit, matchUnder, FairUnder, extractUnder, extractWalkUnder, callsRunUnder}
+use Rattle.definitions.specs.ExtractAll.{finishAll, extractAllBy}
+use Rattle.definitions.specs.AllClaims.{TakesAll, AllCall}
+use Rattle.definitions.specs.Settings.{Settings, goodSettings, defaultSettings, hasBit, matchUnder, FairUnder, extractUnder, extractWalkUnder, extractAllUnder, callsRunUnder}
 
 -- Settings that do not get 24, and whose numbers are of 32 bits.
 pub record GoodSettings (S : Settings) : Type 0 where
@@ -27,19 +29,20 @@ pub record GoodSettings (S : Settings) : Type 0 where
 
 -- What is claimed under settings that do not get 24.
 pub record UnderSettings (S : Settings) : Type 0 where
-  -- An extract with the walk that it carries is one with the matcher of the settings,
+  -- An extract with the walk that it carries, and a call that extracts all, is one with the matcher of the settings,
   pub call : (n : ℕ) (buffer scratch : List ℕ) (table : List NodeRecord)
       → extractUnder S n buffer scratch table ≡ extractBy (matchUnder S) n buffer scratch table
   pub carries : (n : ℕ) (buffer scratch : List ℕ) (table : List NodeRecord)
       → extractWalkUnder S n buffer scratch table ≡ extractWalkBy (matchUnder S) n buffer scratch table
+  pub callAll : (frame buffer : List ℕ) → extractAllUnder S frame buffer ≡ extractAllBy (matchUnder S) frame buffer
   -- and so is a list of calls.
   pub calls : (n : ℕ) (buffer : List ℕ) (table : List NodeRecord) (list : List Made)
       → callsRunUnder S n buffer table list ≡ callsRunBy (matchUnder S) n buffer table list
   -- That matcher is lawful; its values ask that the meaning is fair under the settings, and exchange respects such a meaning.
   pub lawful : Lawful (matchUnder S) (FairUnder S)
   pub symmetric : (M : Meaning) → FairUnder S M → Symmetric M
-  -- So all that is claimed of extractions, of a call, of lists of calls with their walks, of merges, of projections and of walks
-  -- holds with it.
+  -- So all that is claimed of extractions, of a call, of lists of calls with their walks, of merges, of projections, of walks and of
+  -- request 14 holds with it.
   pub extracts : Extracts (matchUnder S) (FairUnder S)
   pub oneCall : OneCall (matchUnder S)
   pub lists : Lists (matchUnder S) (FairUnder S)
@@ -53,6 +56,8 @@ pub record UnderSettings (S : Settings) : Type 0 where
   pub walkExchanged : WalkExchangedBy (matchUnder S)
   pub walkCarried : WalkCarriedBy (matchUnder S)
   pub walkShort : WalkShortBy (matchUnder S)
+  pub takesAll : TakesAll (matchUnder S) (FairUnder S)
+  pub allCall : AllCall (matchUnder S)
 
 -- At one go for all settings that do not get 24.
 abbrev pub AllSettings : Type 0
@@ -62,18 +67,23 @@ AllSettings = (S : Settings) → GoodSettings S → UnderSettings S
 abbrev pub BadSettings : Type 0
 BadSettings =
     (S : Settings) → goodSettings S ≡ false
-    → (n : ℕ) (buffer scratch : List ℕ) (table : List NodeRecord)
-    → (extractUnder S n buffer scratch table ≡ finish n buffer scratch (refused 24)) × (extractWalkUnder S n buffer scratch table ≡ 0)
+    → ((n : ℕ) (buffer scratch : List ℕ) (table : List NodeRecord)
+    → (extractUnder S n buffer scratch table ≡ finish n buffer scratch (refused 24)) × (extractWalkUnder S n buffer scratch table ≡ 0))
+    × ((frame buffer : List ℕ) → extractAllUnder S frame buffer ≡ finishAll buffer (refused 24))
 
--- The refusals of extract, in the order of 01 and 02.
+-- The refusals of extract, and of the call that extracts all, in the order of 01 and 02.
 unfoldable pub settledRefusals : List ℕ
 settledRefusals = 24 ∷ 10 ∷ 11 ∷ 12 ∷ 9 ∷ 13 ∷ []
+
+unfoldable pub allRefusals : List ℕ
+allRefusals = 24 ∷ 1 ∷ 2 ∷ 3 ∷ 4 ∷ 5 ∷ 6 ∷ 7 ∷ 8 ∷ 9 ∷ []
 
 -- Every answer is a length or one of the call's own refusals, whatever the settings.
 abbrev pub RefusalsUnder : Type 0
 RefusalsUnder =
-    (S : Settings) (n : ℕ) (buffer scratch : List ℕ) (table : List NodeRecord)
-    → RefusedBy settledRefusals (extractUnder S n buffer scratch table .answer)
+    ((S : Settings) (n : ℕ) (buffer scratch : List ℕ) (table : List NodeRecord)
+    → RefusedBy settledRefusals (extractUnder S n buffer scratch table .answer))
+    × ((S : Settings) (frame buffer : List ℕ) → RefusedBy allRefusals (extractAllUnder S frame buffer .answer))
 
 -- With all kinds, 1 and 4,294,967,295 each answer and each walk equals that without settings.
 abbrev pub DefaultSettings : Type 0

@@ -10,7 +10,7 @@ use Rattle.definitions.specs.Expression.{left, noSide, intersects, Expr,
 use Rattle.definitions.specs.TenRows.{L, R, onBoth, childL, childR, two, knnOf, int32}
 use Rattle.definitions.specs.NodeTable.{nodeTable}
 use Rattle.definitions.specs.Encode.{frameBytes}
-use Rattle.definitions.specs.Settings.{Settings, goodSettings, matchUnder, extractUnder, extractWalkUnder}
+use Rattle.definitions.specs.Settings.{Settings, goodSettings, matchUnder, extractUnder, extractWalkUnder, extractAllUnder}
 
 -- These kinds, default k and greatest k.
 abbrev pub with : (kinds defaultK greatestK : ℕ) → Settings
@@ -63,8 +63,9 @@ pub record SettingsRows : Type 0 where
   -- which settings get 24: kinds 0 and 8, a default of 0, a default above the greatest
   pub good : map goodSettings (with 1 1 1 ∷ with 7 1 4294967295 ∷ with 7 9 9 ∷ []) ≡ replicate 3 true
   pub bad : map goodSettings (with 0 1 9 ∷ with 8 1 9 ∷ with 7 0 9 ∷ with 7 10 9 ∷ with 7 1 0 ∷ []) ≡ replicate 5 false
-  -- before every other check: n over the buffer's length (10), an empty frame (1)
+  -- before every other check: n over the buffer's length would be 10, an empty frame 1
   pub first : extractUnder (with 0 1 9) 1 [] [] [] .answer ≡ refused 24
+  pub first-of-all : extractAllUnder (with 0 1 9) [] [] .answer ≡ refused 24
   -- the walk stops at a KNN match only if KNN is allowed and its k is not above the greatest; with 24 it is 0
   pub walk-stops : walkIn (with 4 5 9) (onBoth (and knnLeaf relationLeaf)) ≡ 2
   pub walk-goes-on : walkIn (with 3 5 9) (onBoth (and knnLeaf relationLeaf)) ≡ 3

@@ -19,7 +19,7 @@ module _ (S : Settings) (n : ℕ) (before scratch : List ℕ) (table : List Node
   pub refused-24 : goodSettings S ≡ false
       → (extractUnder S n before scratch table ≡ refuses n before scratch 24) × (extractWalkUnder S n before scratch table ≡ 0)
   unfolding finish
-  refused-24 bad = bad-settings S bad n before scratch table
+  refused-24 bad = bad-settings S bad .0 n before scratch table
 
   pub lent-24 : goodSettings S ≡ false
       → ExtractIs (extractUnder S n before scratch table) (extractWalkUnder S n before scratch table) n before scratch

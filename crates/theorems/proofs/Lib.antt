@@ -51,6 +51,16 @@ pub mod MergeCall
 pub mod TablesRoom
 pub mod Histories
 pub mod Pruned
+pub mod AllPicks
+pub mod AllOrder
+pub mod PruneAgain
+pub mod AllRounds
+pub mod AllLengths
+pub mod AllValues
+pub mod AllExchanged
+pub mod AllGood
+pub mod AllConjuncts
+pub mod AllParts
 pub mod Places
 pub mod Projected
 pub mod ProjectedGood

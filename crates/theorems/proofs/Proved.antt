@@ -9,6 +9,8 @@ use Rattle.definitions.specs.AnyMatcher.{Extracts, OneCall, Lists, AnyMatcher}
 use Rattle.definitions.specs.DemandThree.{MeetsDemandThree}
 use Rattle.definitions.specs.ShortClaims.{ExchangedKeepsPosition, ExchangeKeepsPosition, ProjectionKeepsLine, ProjectKeepsLine, MergeExchanged, MergeExchangedLine, PolicyKeepsIndex, BoundWithoutColumns, SameTextSameExpression, LineRefusals}
 use Rattle.definitions.specs.SettingsClaims.{AllSettings, BadSettings, RefusalsUnder, DefaultSettings, FairMeaningUnder, KindsNarrow}
+use Rattle.definitions.specs.AllClaims.{LeavesThatStay, AnyMatcherAll}
+use Rattle.definitions.specs.AllRows.{AllRows}
 use Rattle.definitions.specs.SettingsRows.{SettingsRows}
 use Rattle.definitions.specs.TenRows.{TenRows}
 use Rattle.definitions.specs.FurtherRows.{FurtherRows}
@@ -48,7 +50,7 @@ use Rattle.theorems.proofs.QueueMachine.{bytes-free}
 use Rattle.theorems.proofs.QueueRuns.{parts-run, held-always, order-kept, serve-gives-by, fair-by}
 use Rattle.theorems.proofs.QueueBound.{bound-is-reached}
 use Rattle.theorems.proofs.QueueLimits.{queue-rows-hold}
-use Rattle.theorems.proofs.RefusalNumbers.{load-refusals, settled-refusals, exchange-refusals, logical-refusals, print-refusals, merge-refusals, project-refusals}
+use Rattle.theorems.proofs.RefusalNumbers.{load-refusals, settled-refusals, all-refusals, exchange-refusals, logical-refusals, print-refusals, merge-refusals, project-refusals}
 use Rattle.theorems.proofs.TablesRoom.{never-too-short-by}
 use Rattle.theorems.proofs.MatchLaws.{match-laws}
 use Rattle.theorems.proofs.Truth.{fair-symmetric, plan-exchange-value}
@@ -58,10 +60,12 @@ use Rattle.theorems.proofs.WholeDemand.{meets-demand-three-by}
 use Rattle.theorems.proofs.ShortClaims as short
 use Rattle.theorems.proofs.LineNumbers.{line-refusals-by}
 use Rattle.theorems.proofs.SettingsClaimed.{all-settings-hold, bad-settings-refused, default-settings-same, kinds-narrow-holds}
+use Rattle.theorems.proofs.AllConjuncts.{leaves-that-stay, any-matcher-all-is}
 use Rattle.theorems.proofs.FairExample.{fair-points, fair-under, marks-left}
 use Rattle.theorems.proofs.FairCounting.{fair-counting}
 use Rattle.definitions.proofs.Names.{each-once, names-ones, tables-hold}
 use Rattle.theorems.proofs.Table.{ten-rows-hold}
+use Rattle.definitions.proofs.ListedRows.{all-rows-hold}
 use Rattle.definitions.proofs.SettledRows.{settings-rows-hold}
 use Rattle.definitions.proofs.OurRows.{further-rows-hold}
 use Rattle.definitions.proofs.PlacedRows.{position-rows-hold}
@@ -109,7 +113,7 @@ pub default-settings : DefaultSettings
 default-settings = default-settings-same
 
 pub refusals-under : RefusalsUnder
-refusals-under = settled-refusals
+refusals-under = (settled-refusals, all-refusals)
 
 pub fair-meaning-under : FairMeaningUnder
 fair-meaning-under = fair-under
@@ -119,6 +123,16 @@ kinds-narrow = kinds-narrow-holds
 
 pub settings-rows : SettingsRows
 settings-rows = settings-rows-hold
+
+-- Request 14, with every lawful matcher.
+pub any-matcher-all : AnyMatcherAll
+any-matcher-all = any-matcher-all-is
+
+pub leaves-stay : LeavesThatStay
+leaves-stay = leaves-that-stay
+
+pub all-rows : AllRows
+all-rows = all-rows-hold
 
 -- ---- the claims
 

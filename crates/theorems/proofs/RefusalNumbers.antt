@@ -23,8 +23,9 @@ use Rattle.definitions.specs.Logical.{logicalAnswer, logical}
 use Rattle.definitions.specs.Printed.{printed, textOf, finishPrint, print}
 use Rattle.definitions.specs.Merge.{mergeFrames, overLimits, mergedFrame, newAfterMerge, withTable, merge}
 use Rattle.definitions.specs.Project.{Lists, projection, shortLists, projectedBytes, newAfterProject, project}
-use Rattle.definitions.specs.Settings.{Settings, goodSettings, matchUnder, extractUnder}
-use Rattle.definitions.specs.SettingsClaims.{settledRefusals}
+use Rattle.definitions.specs.ExtractAll.{Conjuncts, conjunctsBy, conjunctsBytes, AllOutcome, newConjuncts, finishAll, extractAllBy}
+use Rattle.definitions.specs.Settings.{Settings, goodSettings, matchUnder, extractUnder, extractAllUnder}
+use Rattle.definitions.specs.SettingsClaims.{settledRefusals, allRefusals}
 use Rattle.definitions.specs.Claims.{loadRefusals, extractRefusals, exchangeRefusals, logicalRefusals, printRefusals, mergeRefusals, projectRefusals, RefusedBy}
 use Rattle.theorems.proofs.Tools.{by-test}
 use Rattle.theorems.proofs.Changes.{extract-writes}
@@ -266,6 +267,16 @@ module _ (P : ℕ → Type 0) where
   text-only room (ok F) h p15 = if-only 15 (leb (length (printed (F .expr))) room) (ok _) tt p15
   text-only room (refused number) h p15 = h
 
+  listed-only : (buffer : List ℕ) (x : Result Conjuncts) → Refuses x → Refuses (finishAll buffer x .answer)
+  unfolding finishAll
+  listed-only buffer (ok C) h = tt
+  listed-only buffer (refused number) h = h
+
+  all-only : (match : Matcher) (room : ℕ) (r : Result Frame) → Refuses r → P 9 → Refuses (newConjuncts match room r)
+  unfolding newConjuncts
+  all-only match room (ok F) h p9 = if-only 9 (leb (length (conjunctsBytes (conjunctsBy match F))) room) (ok _) tt p9
+  all-only match room (refused number) h p9 = h
+
   module _ (p9 : P 9) (p10 : P 10) (p11 : P 11) (n room : ℕ) where
     exchange-only : (r : Result Plan) → Refuses (newAfterExchange n room r)
     unfolding newAfterExchange
@@ -360,6 +371,18 @@ settled-refusals S n buffer scratch table =
     (extract-only (In settledRefusals) refl refl refl n (length scratch) refl refl under (heldPlan n buffer)))
     (finish-only (In settledRefusals) n buffer scratch (refused 10) refl))
     (λ _. finish-only (In settledRefusals) n buffer scratch (refused 24) refl))
+
+-- The call that extracts all (request 14).
+pub all-refusals : (S : Settings) (frame buffer : List ℕ) → RefusedBy allRefusals (extractAllUnder S frame buffer .answer)
+unfolding extractAllUnder extractAllBy frameOf allRefusals any
+all-refusals S frame buffer =
+    let read = physical-only (In allRefusals) refl refl refl refl refl refl refl refl 0 frame in
+    refused-by allRefusals (extractAllUnder S frame buffer .answer)
+    (by-test (λ (o : AllOutcome). Refuses (In allRefusals) (o .answer)) (goodSettings S) (extractAllBy (matchUnder S) frame buffer) _
+    (λ _. listed-only (In allRefusals) buffer (newConjuncts (matchUnder S) (length buffer) (frameOf frame))
+    (all-only (In allRefusals) (matchUnder S) (length buffer) (frameOf frame)
+    (result-only (In allRefusals) (physicalFrame 0 frame) read) refl))
+    (λ _. listed-only (In allRefusals) buffer (refused 24) refl))
 
 pub exchange-refusals : (n : ℕ) (buffer scratch : List ℕ) → RefusedBy exchangeRefusals (exchange n buffer scratch .answer)
 unfolding exchange exchangeRefusals any

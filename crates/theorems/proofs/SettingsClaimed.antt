@@ -15,10 +15,12 @@ use Rattle.definitions.specs.Calls.{Outcome, finish, extractBy, extractWalkBy}
 use Rattle.definitions.specs.NodeTable.{NodeRecord}
 use Rattle.definitions.specs.Machine.{Kind, extractCall, exchangeCall}
 use Rattle.definitions.specs.Sessions.{Made, makeBy, walkBy, ListOutcome, callsRunBy}
+use Rattle.definitions.specs.ExtractAll.{AllOutcome, finishAll, extractAllBy}
 use Rattle.definitions.specs.AnyMatcher.{Extracts, OneCall, Lists}
+use Rattle.definitions.specs.AllClaims.{TakesAll, AllCall}
 use Rattle.definitions.specs.MergeClaims.{MergedLeavesBy, ListAfterMergeBy, HistoryOfCallsBy}
 use Rattle.definitions.specs.Matchers.{Lawful}
-use Rattle.definitions.specs.Settings.{Settings, goodSettings, defaultSettings, hasBit, allowed, passing, onlyIf, matchUnder, FairUnder, extractUnder, extractWalkUnder, makeUnder, walkUnder, callsRunUnder}
+use Rattle.definitions.specs.Settings.{Settings, goodSettings, defaultSettings, hasBit, allowed, passing, onlyIf, matchUnder, FairUnder, extractUnder, extractWalkUnder, extractAllUnder, makeUnder, walkUnder, callsRunUnder}
 use Rattle.definitions.specs.SettingsClaims.{GoodSettings, UnderSettings, AllSettings, BadSettings, DefaultSettings, Narrower, KindsNarrow}
 use Rattle.theorems.proofs.Tools.{by-test, and-both}
 use Rattle.theorems.proofs.Truth.{fair-symmetric}
@@ -29,6 +31,7 @@ use Rattle.theorems.proofs.Histories.{history-of}
 use Rattle.theorems.proofs.ProjectLists.{list-projected}
 use Rattle.theorems.proofs.Walks.{walk-bounded-by, walk-whole-by, walk-unmatched-by, walk-exchanged-by, walk-carried-by}
 use Rattle.theorems.proofs.Lengths.{walk-short-by}
+use Rattle.theorems.proofs.AllConjuncts.{any-matcher-all-is}
 use Rattle.theorems.proofs.SettingsLaws.{settings-laws, default-good, default-match}
 
 -- ---- settings that do not get 24
@@ -44,6 +47,11 @@ module _ (S : Settings) (good : goodSettings S ≡ true) where
       → extractWalkUnder S n buffer scratch table ≡ extractWalkBy (matchUnder S) n buffer scratch table
   unfolding extractWalkUnder
   same-walk n buffer scratch table = ap (λ (b : Bool). if b then extractWalkBy (matchUnder S) n buffer scratch table else 0) good
+
+  same-all : (frame buffer : List ℕ) → extractAllUnder S frame buffer ≡ extractAllBy (matchUnder S) frame buffer
+  unfolding extractAllUnder
+  same-all frame buffer =
+      ap (λ (b : Bool). if b then extractAllBy (matchUnder S) frame buffer else finishAll buffer (refused 24)) good
 
   pub same-make : (kind : Kind) (n : ℕ) (buffer scratch : List ℕ) (table : List NodeRecord)
       → makeUnder S kind n buffer scratch table ≡ makeBy (matchUnder S) kind n buffer scratch table
@@ -81,9 +89,11 @@ all-settings-hold S g =
     let laws : Lawful (matchUnder S) (FairUnder S) = settings-laws S g in
     let any : Extracts (matchUnder S) (FairUnder S) × OneCall (matchUnder S) × Lists (matchUnder S) (FairUnder S) =
     any-matcher-is .0 (matchUnder S) (FairUnder S) laws in
+    let whole : TakesAll (matchUnder S) (FairUnder S) × AllCall (matchUnder S) = any-matcher-all-is (matchUnder S) (FairUnder S) laws in
     record {
       call = same-extract S (g .good);
       carries = same-walk S (g .good);
+      callAll = same-all S (g .good);
       calls = λ n buffer table list. same-calls S (g .good) list n buffer table;
       lawful = laws;
       symmetric = λ M fair. fair-symmetric M fair;
@@ -100,15 +110,20 @@ all-settings-hold S g =
       walkExchanged = walk-exchanged-by laws;
       walkCarried = walk-carried-by (matchUnder S);
       walkShort = walk-short-by (matchUnder S);
+      takesAll = whole .0;
+      allCall = whole .1;
     }
 
 -- ---- settings that get 24
 
 pub bad-settings-refused : BadSettings
-unfolding extractUnder extractWalkUnder
-bad-settings-refused S bad n buffer scratch table = (
-  ap (λ (b : Bool). if b then extractBy (matchUnder S) n buffer scratch table else finish n buffer scratch (refused 24)) bad,
-  ap (λ (b : Bool). if b then extractWalkBy (matchUnder S) n buffer scratch table else 0) bad,
+unfolding extractUnder extractWalkUnder extractAllUnder
+bad-settings-refused S bad = (
+  λ n buffer scratch table. (
+    ap (λ (b : Bool). if b then extractBy (matchUnder S) n buffer scratch table else finish n buffer scratch (refused 24)) bad,
+    ap (λ (b : Bool). if b then extractWalkBy (matchUnder S) n buffer scratch table else 0) bad,
+  ),
+  λ frame buffer. ap (λ (b : Bool). if b then extractAllBy (matchUnder S) frame buffer else finishAll buffer (refused 24)) bad,
 )
 
 -- ---- the default settings
