@@ -4,6 +4,10 @@ pub mod RecordLaws
 pub mod AroundLaws
 pub mod ReferenceWalk
 pub mod RemainderWalk
+pub mod RestLaws
+pub mod RestWalk
 pub mod FlagLaws
 pub mod CutLaws
 pub mod RemainderLaws
+pub mod PrunedLaws
+pub mod LastLaws

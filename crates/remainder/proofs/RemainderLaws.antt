@@ -72,7 +72,7 @@ rows-still flags used p same = record { flagged = omega (arith, p .flagged); num
 
 -- ---- the frame's bytes
 
-frame-parts : (records : List Record) (e : Expr)
+pub frame-parts : (records : List Record) (e : Expr)
     → frameBytes (prune records e)
     ≡ columnsPart (keptAll records (columnsOf e)) ++ exprBytes (mapColumns (newIndex (stays records (columnsOf e)) records) e)
 unfolding frameBytes prune referenced

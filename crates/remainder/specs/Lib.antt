@@ -4,4 +4,7 @@ pub mod Records
 pub mod Around
 pub mod References
 pub mod Remainders
+pub mod Rests
 pub mod HeldIndexes
+pub mod Pruned
+pub mod Last

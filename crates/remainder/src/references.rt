@@ -9,7 +9,7 @@ use expression::leaves::Node;
 use expression::leaves::node_at;
 
 // Marks the columns of the expression at a place; answers where it ends.
-fn collect_column_references(used: &mut [u8], src: &[u8], at: usize) -> usize
+pub fn collect_column_references(used: &mut [u8], src: &[u8], at: usize) -> usize
     requires { ⌜ Flagged (now src) at (now used) ⌝ }
     ensures { λ r. ⌜ NodeCollected (now (src .entry)) at (now (used .entry)) (now (used .exit)) r ⌝ }
 {

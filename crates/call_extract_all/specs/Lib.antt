@@ -1,0 +1,4 @@
+-- What the contracts cite.
+pub mod Listings
+pub mod Conjuncts
+pub mod AllAnswers
