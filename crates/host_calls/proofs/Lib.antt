@@ -2,6 +2,7 @@
 pub mod Numbers
 pub mod Hosting
 pub mod Lengths
+pub mod AllSmall
 pub mod TableRoom
 pub mod CoreLaws
 pub mod QueueHosting

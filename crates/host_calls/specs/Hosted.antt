@@ -7,7 +7,8 @@ use Rattle.definitions.specs.Calls.{load, Outcome}
 use Rattle.definitions.specs.Merge.{MergeOutcome}
 use Rattle.definitions.specs.NodeTable.{NodeRecord}
 use Rattle.definitions.specs.Good.{AllBytes}
-use Rattle.definitions.specs.Hosts.{hosted, hostedWalk, hostedServe}
+use Rattle.definitions.specs.ExtractAll.{AllOutcome}
+use Rattle.definitions.specs.Hosts.{hosted, hostedWalk, hostedServe, hostedAll}
 use Rattle.definitions.specs.Printed.{print}
 use Rattle.definitions.specs.Settings.{Settings}
 use Rattle.definitions.specs.QueueBytes.{PutOutcome, ServeOutcome}
@@ -47,3 +48,7 @@ PutHosted o after r = (r ≡ hosted (o .answer)) × (after ≡ o .queues)
 -- The serve is the definition's: answer, queues and output (request 12).
 abbrev pub ServeHosted : ServeOutcome → (after outAfter : List ℕ) → ℤ → Type 0
 ServeHosted o after outAfter r = (r ≡ hostedServe (o .answer)) × (after ≡ o .queues) × (outAfter ≡ o .out)
+
+-- The call that extracts all is the definition's: answer, rounds and buffer; the frame's numbers are bytes (request 14).
+abbrev pub AllHosted : (frame : List ℕ) → AllOutcome → (after : List ℕ) → ℤ → Type 0
+AllHosted frame o after r = AllBytes frame × (r ≡ hostedAll (o .rounds) (o .answer)) × (after ≡ o .buffer)

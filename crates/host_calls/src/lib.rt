@@ -3,6 +3,7 @@ pub mod answers;
 pub mod cores;
 pub mod exchange;
 pub mod extract;
+pub mod extract_all;
 pub mod load;
 pub mod logical;
 pub mod merge;

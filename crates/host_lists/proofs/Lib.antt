@@ -7,3 +7,4 @@ pub mod HostFacts
 pub mod HostsAgree
 pub mod LineLists
 pub mod QueueHosts
+pub mod AllHosts

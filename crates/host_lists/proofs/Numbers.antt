@@ -194,7 +194,7 @@ make-answer : (S : Settings) → Fits S → (kind : Kind) (n : ℕ) (plan scratc
     → IsAnswer (makeUnder S kind n plan scratch table .answer)
 unfolding makeBy makeUnder settledRefusals exchangeRefusals all
 make-answer S fits extractCall n plan scratch table bytes =
-    is-answer settledRefusals refl _ (refusals-under S n plan scratch table)
+    is-answer settledRefusals refl _ (refusals-under .0 S n plan scratch table)
     (by-settings S n plan scratch table (λ (o : Outcome) (w : ℕ). (m : ℕ) → o .answer ≡ ok m → m ≤ mostBytes)
     (λ g m e. all-settings S g .oneCall .short extractCall n plan scratch table m bytes e) (λ m e. absurd (refused-not-ok 24 m e)) fits)
 make-answer S fits exchangeCall n plan scratch table bytes =

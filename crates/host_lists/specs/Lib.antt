@@ -5,3 +5,4 @@ pub mod HostFacts
 pub mod HostsAgree
 pub mod LineLists
 pub mod QueueHosts
+pub mod AllHosts

@@ -1,5 +1,5 @@
--- What each exported call ensures is, as it is generated from spatialjoin_c/src/lib.rt, the relation that `HostCall` or `QueueHosted` has
--- of it; and so a call that met its contract is a host's call.
+-- What each exported call ensures is, as it is generated from spatialjoin_c/src/lib.rt, the relation that `HostCall`, `QueueHosted` or
+-- `HostAll` has of it; and so a call that met its contract is a host's call.
 use Prim.Native.Nat.{ℕ}
 use mathlib.Core.Path.{_≡_, refl}
 use mathlib.Core.List.{List}
@@ -17,7 +17,7 @@ use denote.Ref.{now}
 use denote.Triple.Entry.{Args, Res}
 use denote.Triple.Clauses.{AtExit}
 use Rattle.definitions.specs.Calls.{exchange}
-use Rattle.definitions.specs.Settings.{Settings, extractUnder, extractWalkUnder}
+use Rattle.definitions.specs.Settings.{Settings, extractUnder, extractWalkUnder, extractAllUnder}
 use Rattle.definitions.specs.Merge.{merge}
 use Rattle.definitions.specs.Project.{project}
 use Rattle.definitions.specs.Machine.{extractCall, exchangeCall}
@@ -26,7 +26,7 @@ use Rattle.definitions.specs.QueueBytes.{put, serve}
 use Rattle.definitions.specs.QueueLists.{putCall, serveCall, madePut, madeServe}
 use Rattle.node_table.specs.Records.{nodesOf}
 use Rattle.node_table.specs.declared.NodeRecord.{NodeRecord as TableRecord}
-use Rattle.host_calls.specs.Hosted.{LoadHosted, CallHosted, settingsBy, ExtractHosted, MergeHosted, PutHosted, ServeHosted}
+use Rattle.host_calls.specs.Hosted.{LoadHosted, CallHosted, settingsBy, ExtractHosted, MergeHosted, PutHosted, ServeHosted, AllHosted}
 use Rattle.host_lists.specs.Numbers.{answered, walkAnswered, nextN}
 use Rattle.host_lists.specs.HostLists.{Host, HostCall}
 use Rattle.host_lists.specs.QueueHosts.{serveAnswered, QueueHosted, putHosted, serveHosted}
@@ -41,6 +41,7 @@ use Rattle.spatialjoin_c.proofs.spatialjoin_merge as merged
 use Rattle.spatialjoin_c.proofs.spatialjoin_project as projected
 use Rattle.spatialjoin_c.proofs.spatialjoin_put as putting
 use Rattle.spatialjoin_c.proofs.spatialjoin_serve as serving
+use Rattle.spatialjoin_c.proofs.spatialjoin_extract_all as listing
 
 -- ---- what is ensured
 
@@ -96,6 +97,13 @@ module _ {M : Type 1} (𝓤 : URA M) (H : Heap 𝓤) (A : Atoms 𝓤) (mem : Mem
       → serving.clauses 𝓤 H A mem run κs a .ensures tt z e
       ≡ says (ServeHosted (serve (now (a .0)) (now (a .1 .0))) (now (e .0)) (now (e .1 .0)) z)
   serve-ensures κs a z e = refl
+
+  pub all-ensures : (κs : Lfts (listing.signature .lifetimes)) (a : Args listing.signature κs) (z : Res listing.signature κs)
+      (e : AtExit listing.ended κs)
+      → listing.clauses 𝓤 H A mem run κs a .ensures tt z e
+      ≡ (let S : Settings = settingsBy (a .1 .1 .0) (a .1 .1 .1 .0) (a .1 .1 .1 .1 .0) in
+      says (AllHosted (now (a .0)) (extractAllUnder S (now (a .0)) (now (a .1 .0))) (now (e .1 .0)) z))
+  all-ensures κs a z e = refl
 
   -- A line of the program: what it answers and keeps, and what it leaves in the scratch.
   pub line-ensures : (κs : Lfts (line.signature .lifetimes)) (a : Args line.signature κs) (r : Res line.signature κs)

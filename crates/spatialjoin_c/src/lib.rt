@@ -3,6 +3,7 @@
 use host_calls::cores::taken_count;
 use host_calls::exchange::exchange_number;
 use host_calls::extract::extract_core;
+use host_calls::extract_all::all_number;
 use host_calls::load::load_core;
 use host_calls::logical::logical_number;
 use host_calls::merge::merge_core;
@@ -14,6 +15,7 @@ use node_table::NodeRecord;
 use node_table::fill_table;
 use node_table::put_nodes;
 use node_table::take_nodes;
+use terms::settings::Settings;
 ghost use mathlib.Core.Path.{_≡_};
 ghost use lib.IntN.{pos};
 ghost use Rattle.definitions.specs.Calls as definitions;
@@ -25,7 +27,7 @@ ghost use Rattle.definitions.specs.QueueBytes as queued;
 ghost use Rattle.definitions.specs.Settings as settled;
 ghost use Rattle.spatialjoin_c.specs.Version.{version};
 ghost use Rattle.node_table.specs.Records.{nodesOf};
-ghost use Rattle.host_calls.specs.Hosted.{LoadHosted, CallHosted, settingsBy, ExtractHosted, MergeHosted, PrintHosted, PutHosted, ServeHosted};
+ghost use Rattle.host_calls.specs.Hosted.{LoadHosted, CallHosted, settingsBy, ExtractHosted, MergeHosted, PrintHosted, PutHosted, ServeHosted, AllHosted};
 
 // Loads a frame as the new plan and fills the table with its nodes; reads nothing of what both held.
 #[no_mangle]
@@ -137,7 +139,7 @@ pub extern "C" fn spatialjoin_project(
 pub extern "C" fn spatialjoin_version() -> i64
     ensures { λ r. ⌜ r ≡ pos version ⌝ }
 {
-    0 * 65536 + 13 * 256 + 0
+    0 * 65536 + 14 * 256 + 0
 }
 
 // Adds a frame at the end of a queue of two that share a buffer; nothing looks into the frame.
@@ -155,4 +157,24 @@ pub extern "C" fn spatialjoin_serve(queues: &mut [u8], out: &mut [u8]) -> i64
         (now (out .exit)) r ⌝ }
 {
     serve_number(queues, out)
+}
+
+// Writes all indexable conjuncts of a frame under settings: rounds · 65,536 + length.
+#[no_mangle]
+pub extern "C" fn spatialjoin_extract_all(
+    frame: &[u8],
+    out: &mut [u8],
+    kinds: u8,
+    default_k: u32,
+    greatest_k: u32,
+) -> i64
+    ensures { λ r. ⌜ AllHosted (now (frame .entry)) (settled.extractAllUnder (settingsBy kinds «default_k» «greatest_k») (now (frame .entry))
+        (now (out .entry))) (now (out .exit)) r ⌝ }
+{
+    let settings = Settings {
+        kinds: kinds as u32,
+        default_k,
+        greatest_k,
+    };
+    all_number(frame, out, settings)
 }
