@@ -17,14 +17,19 @@
  * no later than the (2 * j + 2)th accepted serve after it, and each queue gives its frames in the order in which they came (theorems fair,
  * in-order).
  *
- * SETTINGS. spatialjoin_extract takes what a site may have indexed: the kinds allowed, the k of an st_knn call that has none, and the
- * greatest k. SPATIALJOIN_DEFAULT_SETTINGS are the program's, under which every answer is what it was without settings (theorem
- * default-settings). What is proved of lists of calls supposes the same settings for all extracts of a list, and for both machines
- * (theorem all-settings). No other call takes settings, and what is held may be of any kind and have any k.
+ * CONJUNCTS. spatialjoin_extract_all writes all indexable conjuncts of a frame, for a price list for one: every conjunct that extract could
+ * take, each exactly once, and what is left of the filter. It is as if each remainder was loaded and extracted in turn. It takes a frame, a
+ * buffer and settings, and no plan, scratch or table. hosts/c/all.c of the repository has a reader of what it writes.
+ *
+ * SETTINGS. spatialjoin_extract and spatialjoin_extract_all take what a site may have indexed: the kinds allowed, the k of an st_knn call
+ * that has none, and the greatest k. SPATIALJOIN_DEFAULT_SETTINGS are the program's, under which every answer is what it was without
+ * settings (theorem default-settings). What is proved of lists of calls supposes the same settings for all extracts of a list, and for both
+ * machines (theorem all-settings). No other call takes settings, and what is held may be of any kind and have any k.
  *
  * ANSWERS. An answer of at least 0 is a length (of spatialjoin_logical: see there). A negative one is a refusal: one of
  * enum spatialjoin_refusal. That of spatialjoin_extract has the walk too, so as it stands it is neither: SPATIALJOIN_LENGTH_OF,
- * SPATIALJOIN_WALK_OF and SPATIALJOIN_REFUSAL_OF take it apart. That of spatialjoin_serve has the queue too, for SPATIALJOIN_QUEUE_OF.
+ * SPATIALJOIN_WALK_OF and SPATIALJOIN_REFUSAL_OF take it apart. That of spatialjoin_serve has the queue too, for SPATIALJOIN_QUEUE_OF, and
+ * that of spatialjoin_extract_all the rounds, for SPATIALJOIN_ROUNDS_OF.
  *
  * BUFFERS. Each pointer is to as many bytes (of a table: records, of a list: items) as the length after it says, bytes with any
  * alignment. No buffer of a call may overlap with another of the same call: that is undefined behaviour, as `restrict` says; only the two
@@ -48,9 +53,9 @@
 #include <stddef.h>
 #include <stdint.h>
 
-#define SPATIALJOIN_VERSION "0.13.0"
+#define SPATIALJOIN_VERSION "0.14.0"
 #define SPATIALJOIN_VERSION_MAJOR 0
-#define SPATIALJOIN_VERSION_MINOR 13
+#define SPATIALJOIN_VERSION_MINOR 14
 #define SPATIALJOIN_VERSION_PATCH 0
 
 /* The header's version as spatialjoin_version gives the archive's. */
@@ -79,7 +84,8 @@
 #define SPATIALJOIN_MOST_QUEUED 1024
 #define SPATIALJOIN_MOST_WAITING 16
 
-/* The settings that the program gives: all kinds, and these. They are the arguments of spatialjoin_extract after its table. */
+/* The settings that the program gives: all kinds, and these. They are the last three arguments of spatialjoin_extract and of
+ * spatialjoin_extract_all. */
 #define SPATIALJOIN_DEFAULT_K 1
 #define SPATIALJOIN_GREATEST_K 4294967295u
 #define SPATIALJOIN_DEFAULT_SETTINGS SPATIALJOIN_ALL_KINDS, SPATIALJOIN_DEFAULT_K, SPATIALJOIN_GREATEST_K
@@ -117,7 +123,7 @@ enum spatialjoin_refusal {
     SPATIALJOIN_NO_SUCH_COLUMN = -6,     /* a column's index is not below the column count */
     SPATIALJOIN_BYTES_AFTER = -7,        /* bytes after the frame's end */
     SPATIALJOIN_TOO_FEW_ARGUMENTS = -8,  /* a conjunct lacks arguments: see docs/FRAMES.md */
-    SPATIALJOIN_TOO_SHORT = -9,          /* the plan buffer (load, merge), the scratch or the output (serve) is too short */
+    SPATIALJOIN_TOO_SHORT = -9,          /* the plan buffer (load, merge), the scratch or the output (serve, extract_all) is too short */
     SPATIALJOIN_NO_GOOD_PLAN = -10,      /* n is over the buffer's length, its first n bytes are no good plan, or not the table's;
                                             of put and serve: the buffer holds no good queues */
     SPATIALJOIN_PLAN_EMPTY = -11,        /* n is 0 */
@@ -132,10 +138,11 @@ enum spatialjoin_refusal {
     SPATIALJOIN_NO_SUCH_QUEUE = -21,     /* the queue's number is neither 0 nor 1 (put) */
     SPATIALJOIN_QUEUED_TOO_LONG = -22,   /* the frame has over SPATIALJOIN_MOST_QUEUED bytes (put) */
     SPATIALJOIN_QUEUE_FULL = -23,        /* SPATIALJOIN_MOST_WAITING frames wait in the queue already (put) */
-    SPATIALJOIN_BAD_SETTINGS = -24       /* no kind or a bit that is none, a default k of 0, or one above the greatest (extract) */
+    SPATIALJOIN_BAD_SETTINGS = -24       /* no kind or a bit that is none, a default k of 0, or one above the greatest (extract,
+                                            extract_all) */
 };
 
-/* The kinds allowed, a bit for each: spatialjoin_extract takes any of them or-ed together, but not none. */
+/* The kinds allowed, a bit for each: any of them or-ed together, but not none. */
 enum spatialjoin_kinds {
     SPATIALJOIN_RELATIONS = 1,
     SPATIALJOIN_DISTANCES = 2,
@@ -168,8 +175,8 @@ enum spatialjoin_plan {
  * merged. Exchanging and projecting keep it. */
 #define SPATIALJOIN_POSITION_OF(plan) ((unsigned)(plan)[1] * 256 + (unsigned)(plan)[2])
 
-/* The new plan's length (a size_t) in an accepted spatialjoin_extract's answer, the frame's in a spatialjoin_serve's; 0 in a refused
- * one's. */
+/* The new plan's length (a size_t) in an accepted spatialjoin_extract's answer, the frame's in a spatialjoin_serve's, that of what was
+ * written in a spatialjoin_extract_all's; 0 in a refused one's. */
 #define SPATIALJOIN_LENGTH_OF(answer) spatialjoin_length_of(answer)
 
 /* The walk (an unsigned) in a spatialjoin_extract's answer, accepted or refused with SPATIALJOIN_NO_MATCH; 0 with every other refusal. */
@@ -181,12 +188,15 @@ enum spatialjoin_plan {
 /* The queue (an unsigned, one of enum spatialjoin_queue) in a spatialjoin_serve's answer that has a frame. */
 #define SPATIALJOIN_QUEUE_OF(answer) spatialjoin_queue_of(answer)
 
+/* The rounds (an unsigned) in a spatialjoin_extract_all's answer: how many predicates were written, 0 in a refused one's. */
+#define SPATIALJOIN_ROUNDS_OF(answer) spatialjoin_rounds_of(answer)
+
 /* Whether a spatialjoin_serve's answer says that both queues are empty: 1 or 0. A frame in a queue has at least one byte. */
 #define SPATIALJOIN_BOTH_EMPTY(answer) spatialjoin_both_empty(answer)
 
 /* What these stand for; each takes its answer once, so it may be the call itself. Of every other call but spatialjoin_logical the first
- * three give the length, a walk of 0 and the refusal, but that spatialjoin_serve's answer has the queue in the walk's place; so one
- * function of a host can take all of these answers. */
+ * three give the length, a walk of 0 and the refusal, but that spatialjoin_serve's answer has the queue in the walk's place and
+ * spatialjoin_extract_all's the rounds; so one function of a host can take all of these answers. */
 SPATIALJOIN_INLINE size_t spatialjoin_length_of(int64_t answer)
 {
     return answer < 0 ? 0 : (size_t)(answer % 65536);
@@ -203,6 +213,11 @@ SPATIALJOIN_INLINE int spatialjoin_refusal_of(int64_t answer)
 }
 
 SPATIALJOIN_INLINE unsigned spatialjoin_queue_of(int64_t answer)
+{
+    return answer < 0 ? 0 : (unsigned)(answer / 65536);
+}
+
+SPATIALJOIN_INLINE unsigned spatialjoin_rounds_of(int64_t answer)
 {
     return answer < 0 ? 0 : (unsigned)(answer / 65536);
 }
@@ -313,6 +328,19 @@ int64_t spatialjoin_put(uint8_t *SPATIALJOIN_RESTRICT queues, size_t queues_len,
  * always enough. The later frames of its queue move down by one place. With both queues empty nothing changes. */
 int64_t spatialjoin_serve(uint8_t *SPATIALJOIN_RESTRICT queues, size_t queues_len,
                           uint8_t *SPATIALJOIN_RESTRICT out, size_t out_len);
+
+/* Writes all indexable conjuncts of a physical frame at the output's start, then what is left: rounds * 65536 + the length, which the
+ * macros above take apart, or -24, then of the frame -1, -2, the first of -3 to -6 from left to right, -7, -8, then -9 in this order. It
+ * never gives -13: a frame in which nothing matches has 0 rounds. It extracts, loads the remainder and extracts again, until there is no
+ * remainder or nothing in it matches; each round gives a predicate, as in an extraction without its remainder. So every conjunct that
+ * matches under the settings (those of spatialjoin_extract) is taken exactly once: the KNN ones in their order, then the others in theirs,
+ * each with its position in the frame that was given. After the last predicate comes `00` where nothing is left, else the last remainder, a
+ * frame; without a match that is the whole frame, unpruned. Nothing stands between two predicates. The bytes after what is written stay as
+ * they were. -9 where the output is shorter than what is to be written, which is never longer than the frame: an output as long as the
+ * frame is always enough (theorem any-matcher-all). */
+int64_t spatialjoin_extract_all(const uint8_t *SPATIALJOIN_RESTRICT frame, size_t frame_len,
+                                uint8_t *SPATIALJOIN_RESTRICT out, size_t out_len,
+                                uint8_t kinds, uint32_t default_k, uint32_t greatest_k);
 
 /* The archive's version: major * 65536 + minor * 256 + patch. */
 int64_t spatialjoin_version(void);

@@ -1,6 +1,6 @@
 //! Before anything is timed: ours, the original and the reading give the same bytes, and plain Rust
-//! where it is timed. Of print, merge, project, put and serve, which the original has not, all but the
-//! original.
+//! where it is timed. Of print, merge, project, put, serve and extract_all, which the original has not,
+//! all but the original.
 
 use reading::frame::{MAX_BYTES, MAX_NODES, Plan};
 use reading::project::{Lists, MAX_ITEMS};
@@ -10,6 +10,7 @@ use reading::settings::Settings;
 use reading::{calls, decode, encode, nodes, walk};
 use spatialjoin::{Kinds, MOST_TEXT, Node, numbers};
 
+use crate::frames::Group;
 use crate::operations::{
     Logical, Merges, Physical, exchange_extraction_bytes, exchange_frame_bytes, extract_from_bytes,
 };
@@ -478,4 +479,59 @@ pub fn logical(logical: &Logical) -> Result<(), String> {
         same(name, &ours::logical(frame), &original, &reading)?;
     }
     Ok(())
+}
+
+/// Ours, plain Rust and the reading, under the program's settings and others, with outputs that are long
+/// enough and one byte short, and of a frame that is refused.
+pub fn conjuncts(group: &Group) -> Result<(), String> {
+    let mut given = vec![Settings::OF_THE_PROGRAM];
+    for (kinds, default_k, greatest_k) in [(1, 1, 1), (6, 3, 9), (0, 1, 1), (7, 2, 1)] {
+        given.push(Settings {
+            kinds,
+            default_k,
+            greatest_k,
+        });
+    }
+    for frame in &group.frames {
+        let leaves = decode::physical(frame).map_or(0, |good| good.expr.and_leaves().len());
+        let mut whole = vec![0; frame.len()];
+        let all = calls::extract_all(frame, &mut whole, Settings::OF_THE_PROGRAM);
+        let rounds = all.map_or(0, |all| all.rounds);
+        if rounds != 1 && rounds != leaves {
+            return Err(format!("{}: {rounds} of {leaves} match", group.name));
+        }
+        for settings in &given {
+            let mut whole = vec![0; frame.len()];
+            let length =
+                calls::extract_all(frame, &mut whole, *settings).map_or(0, |all| all.length);
+            let cut = &frame[..frame.len() - 1];
+            let same = [frame.len(), length, length.saturating_sub(1)]
+                .iter()
+                .all(|room| all_alike(frame, *room, *settings))
+                && all_alike(cut, frame.len(), *settings);
+            if !same {
+                return Err(format!("{}: all conjuncts differ", group.name));
+            }
+        }
+    }
+    Ok(())
+}
+
+fn all_alike(frame: &[u8], room: usize, settings: Settings) -> bool {
+    let given = spatialjoin::Settings {
+        kinds: spatialjoin::Kinds::from_bits(settings.kinds),
+        default_k: settings.default_k,
+        greatest_k: settings.greatest_k,
+    };
+    let [mut ours, mut plain, mut read] = [(); 3].map(|()| vec![7; room]);
+    let answer = calls::extract_all(frame, &mut read, settings);
+    let number = match answer {
+        Ok(all) => (all.rounds * 65_536 + all.length) as i64,
+        Err(refusal) => -i64::from(refusal.number()),
+    };
+    let expected = answer.map(|all| (all.rounds as u32, all.length));
+    numbers::extract_all(frame, &mut ours, given) == number
+        && plain::extract_all(frame, &mut plain, given) == expected.map_err(Refusal::number)
+        && ours == read
+        && plain == read
 }

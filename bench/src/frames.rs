@@ -66,6 +66,69 @@ pub fn physical() -> Vec<Group> {
     groups
 }
 
+/// For all conjuncts alone: of the mix, in which one matches, and of as many as fit, which all do.
+pub fn conjuncts() -> Vec<Group> {
+    const SIZES: [(&str, &str, usize); 4] = [
+        (ALL_SHORT_ONE, ALL_SHORT, 64),
+        ("256 bytes, one matches", "256 bytes, all match", 256),
+        ("1,024 bytes, one matches", "1,024 bytes, all match", 1_024),
+        (ALL_LONG_ONE, ALL_LONG, 16_384),
+    ];
+    let one = SIZES.map(|(name, _, size)| group(name, move |variant| sized(size, variant)));
+    let all = SIZES.map(|(_, name, size)| single(name, matching_sized(size)));
+    // The nodes, four to a conjunct, end this one before its bytes do.
+    let most = single("1,024 nodes, all match", matching_sized(8_192));
+    one.into_iter().chain(all).chain([most]).collect()
+}
+
+/// Those of the goals about all conjuncts.
+pub const ALL_SHORT_ONE: &str = "64 bytes, one matches";
+pub const ALL_SHORT: &str = "64 bytes, all match";
+pub const ALL_LONG_ONE: &str = "16,384 bytes, one matches";
+pub const ALL_LONG: &str = "16,384 bytes, all match";
+
+/// At most this many bytes: as many relations, distances and KNN calls in turn as fit, each of which
+/// matches. Where there may be no more nodes, further arguments of long names, which are ignored, fill it.
+fn matching_sized(size: usize) -> Vec<u8> {
+    let records = records((size / 128).max(2));
+    let count = records.len();
+    let fits = |conjuncts: &[Expr]| {
+        let frame = physical_frame(records.clone(), tree(conjuncts.to_vec()));
+        let nodes = nodes_of(&conjuncts) + conjuncts.len() - 1;
+        frame.len() <= size && nodes <= MAX_NODES
+    };
+    let relation = |place: usize, pads: usize| {
+        let mut args = vec![column(2 * place % count), column((2 * place + 1) % count)];
+        args.extend((0..pads).map(|_| call("warehouse_partition_is_reachable", Vec::new())));
+        match place % 8 {
+            7 if pads == 0 => call("st_knn", args),
+            3 => {
+                args.insert(2, number(place as u64));
+                call("st_dwithin", args)
+            }
+            _ => call("st_within", args),
+        }
+    };
+    // Two further arguments fill 16,384 bytes with 1,024 nodes, none shorter frames.
+    let pads = if size > 8_192 { 2 } else { 0 };
+    let mut conjuncts = vec![relation(0, pads)];
+    loop {
+        conjuncts.push(relation(conjuncts.len(), pads));
+        if !fits(&conjuncts) {
+            conjuncts.pop();
+            return physical_frame(records, tree(conjuncts));
+        }
+    }
+}
+
+fn nodes_of(exprs: &[Expr]) -> usize {
+    let below = |expr: &Expr| {
+        let children: Vec<Expr> = expr.children().into_iter().cloned().collect();
+        1 + nodes_of(&children)
+    };
+    exprs.iter().map(below).sum()
+}
+
 /// For print alone.
 pub fn texts() -> Vec<Group> {
     vec![single("longest text", longest_text())]

@@ -2,6 +2,7 @@
 
 mod check;
 mod clock;
+mod conjuncts;
 mod frames;
 mod measure;
 mod operations;
@@ -22,13 +23,15 @@ use operations::{Logical, Merges, Physical};
 use ours::{Console, Ours};
 use projections::{Length, Projections};
 use queues::Waiting;
-use table::{BESIDE_EXCHANGE, BOTH, Column, ORIGINAL, QUEUED, Table, YARDSTICK};
+use spatialjoin::{Settings, numbers};
+use table::{BESIDE_EXCHANGE, BESIDE_EXTRACT, BOTH, Column, ORIGINAL, QUEUED, Table, YARDSTICK};
 
-const USAGE: &str = "bench [--rounds N | --repeat GROUP]";
+const USAGE: &str = "bench [--rounds N | --repeat GROUP | --conjuncts N]";
 
 enum Asked {
     Tables(usize),
     Repeat(String),
+    Conjuncts(usize),
 }
 
 fn main() -> ExitCode {
@@ -37,6 +40,7 @@ fn main() -> ExitCode {
         Some(_) if !spatialjoin::version_matches() => Err(another_version()),
         Some(Asked::Tables(rounds)) => run(rounds),
         Some(Asked::Repeat(group)) => repeat(&group),
+        Some(Asked::Conjuncts(rounds)) => all_conjuncts(rounds),
         None => {
             eprintln!("{USAGE}");
             return ExitCode::from(2);
@@ -62,6 +66,10 @@ fn asked(words: &[String]) -> Option<Asked> {
         [name, value] if name == "--rounds" => {
             let rounds = value.parse().ok().filter(|rounds| *rounds > 0)?;
             Some(Asked::Tables(rounds))
+        }
+        [name, value] if name == "--conjuncts" => {
+            let rounds = value.parse().ok().filter(|rounds| *rounds > 0)?;
+            Some(Asked::Conjuncts(rounds))
         }
         [name, group] if name == "--repeat" => Some(Asked::Repeat(group.clone())),
         _ => None,
@@ -95,6 +103,12 @@ fn repeat(name: &str) -> Result<(), String> {
             }
         }
     }
+    let groups = frames::conjuncts().into_iter().filter(|g| g.name == name);
+    let mut out = vec![0; spatialjoin::MOST_BYTES];
+    for frame in groups.flat_map(|group| group.frames.into_iter().cycle().take(800)) {
+        numbers::extract_all(&frame, &mut out, Settings::default());
+        done += 1;
+    }
     for waiting in Waiting::all().iter().filter(|queues| queues.name == name) {
         waiting.repeat(800);
         done += 1;
@@ -124,6 +138,20 @@ fn run(rounds: usize) -> Result<(), String> {
 
     print_tables(&physical, &texts, &logical, &merges, &projections, rounds);
     print_queue_tables(&waiting, rounds);
+    all_conjuncts(rounds)
+}
+
+/// The table of all conjuncts alone.
+fn all_conjuncts(rounds: usize) -> Result<(), String> {
+    let groups = frames::conjuncts();
+    groups.iter().try_for_each(check::conjuncts)?;
+    let tasks = groups.iter().map(conjuncts::all).collect();
+    let table = shown(
+        "All conjuncts (the original has no such call)",
+        BESIDE_EXTRACT,
+        measure(tasks, rounds),
+    );
+    table::print_all_goals(&table);
     Ok(())
 }
 

@@ -21,6 +21,8 @@ pub enum Contender {
     Load,
     /// Ours, beside our projection.
     Exchange,
+    /// Ours, beside our extract of all conjuncts.
+    LoadAndExtract,
     Copy,
 }
 

@@ -1,6 +1,9 @@
 //! Tables in Markdown.
 
-use crate::frames::{HALF_STAY, MANY_RECORDS, NONE_STAYS, ONE_KIB, SIXTEEN_KIB};
+use crate::frames::{
+    ALL_LONG, ALL_LONG_ONE, ALL_SHORT, ALL_SHORT_ONE, HALF_STAY, MANY_RECORDS, NONE_STAYS, ONE_KIB,
+    SIXTEEN_KIB,
+};
 use crate::measure::{Contender, Row};
 
 pub struct Table {
@@ -166,6 +169,24 @@ pub const BESIDE_EXCHANGE: &[Column] = &[
     OURS_TO_COPY,
 ];
 
+/// Beside plain Rust and one load and extract of ours, where the original has no such call.
+pub const BESIDE_EXTRACT: &[Column] = &[
+    FRAMES,
+    BYTES,
+    PLAIN_TO_OURS,
+    ("ours / our load and extract", |row| {
+        shown(row.ratio(&[Contender::LoadAndExtract]).map(f64::recip))
+    }),
+    OURS,
+    OURS_A_BYTE,
+    PLAIN,
+    ("our load and extract", |row| {
+        row.time(Contender::LoadAndExtract)
+    }),
+    COPY,
+    OURS_TO_COPY,
+];
+
 /// Beside plain Rust, of calls that take no plan; the bytes are those that the call copies.
 pub const QUEUED: &[Column] = &[
     ("waiting", |row| row.name.to_owned()),
@@ -303,6 +324,25 @@ pub fn print_record_goals(load: &Table, load_and_extract: &Table, extract: &Tabl
         let goal = format!("Extract, {name}: within 3 times the load of the same frame");
         print_goal(&goal, &format!("{} times", number(loads)), loads <= 3.0);
     }
+}
+
+/// Those of request 14: all conjuncts against one load and extract.
+pub fn print_all_goals(all: &Table) {
+    println!("| goal | measured | reached |");
+    println!("|---|---|---|");
+    for (name, most) in [
+        (ALL_SHORT_ONE, 1.5),
+        (ALL_SHORT, 1.5),
+        (ALL_LONG_ONE, 3.0),
+        (ALL_LONG, 3.0),
+    ] {
+        let row = all.row(name);
+        let times = row.and_then(|row| row.ratio(&[Contender::LoadAndExtract]));
+        let times = times.map_or(f64::NAN, f64::recip);
+        let goal = format!("All conjuncts, {name}: within {most} times one load and extract");
+        print_goal(&goal, &format!("{} times", number(times)), times <= most);
+    }
+    println!();
 }
 
 fn print_speeds(load_and_extract: &Table) {

@@ -1,6 +1,6 @@
-/* Tests of the library as a C host sees it: its version, every refusal by its constant, walks, settings, the names of the mask, texts,
- * merged filters, tables of nodes, projections, queues, NULL with length 0. Ends with 1 where a call answers otherwise. `../check` builds
- * and runs it. */
+/* Tests of the library as a C host sees it: its version, every refusal by its constant, walks, settings, all conjuncts, the names of the
+ * mask, texts, merged filters, tables of nodes, projections, queues, NULL with length 0. Ends with 1 where a call answers otherwise.
+ * `../check` builds and runs it. */
 #include <stdio.h>
 #include <string.h>
 
@@ -227,6 +227,80 @@ static void refusals_of_settings(void)
     expect_parts("no KNN, all read", EXTRACT_BY(n, n, others), -(3 * 256 + 13), 0, 3, SPATIALJOIN_NO_MATCH);
     expect_parts("a KNN, the first two read", EXTRACT_BY(n, n, knn), 2 * 65536 + 33, 33, 2, 0);
     expect("a KNN held, none allowed", EXTRACT_BY(33, 33, others), SPATIALJOIN_ALREADY_EXTRACTED);
+}
+
+#define ALL(filter, room) \
+    spatialjoin_extract_all((const uint8_t *)(RECORDS filter), sizeof(RECORDS filter) - 1, scratch, room, DEFAULTS)
+#define ALL_BY(bytes, room, kinds, default_k, greatest_k) \
+    spatialjoin_extract_all((const uint8_t *)(bytes), sizeof(bytes) - 1, scratch, room, kinds, default_k, greatest_k)
+#define TAKEN_WITHIN "\x02" LEFT "\x00\x00\x00\x00\x00" /* within, and the columns of both children */
+
+/* What was written is these bytes, and the one after them is as it was. */
+#define EXPECT_WRITTEN(what, bytes) \
+    expect(what, memcmp(scratch, bytes, sizeof(bytes) - 1) == 0 && scratch[sizeof(bytes) - 1] == 7, 1)
+
+static int64_t expect_rounds(const char *what, int64_t answer, unsigned rounds, size_t length)
+{
+    expect(what, answer, (int64_t)(65536 * (size_t)rounds + length));
+    expect(what, SPATIALJOIN_ROUNDS_OF(answer), rounds);
+    expect(what, (int64_t)SPATIALJOIN_LENGTH_OF(answer), (int64_t)length);
+    expect(what, SPATIALJOIN_REFUSAL_OF(answer), 0);
+    return answer;
+}
+
+/* Every conjunct that matches, KNN ones first, each with its position in the frame; then what is left. */
+static void all_conjuncts(void)
+{
+    memset(scratch, 7, sizeof scratch);
+    expect_rounds("one relation", ALL(WITHIN, sizeof scratch), 1, 15);
+    EXPECT_WRITTEN("one relation", "\x11\x00\x00" TAKEN_WITHIN "\x00");
+    memset(scratch, 7, sizeof scratch);
+    expect_rounds("two relations", ALL(AND WITHIN WITHIN, sizeof scratch), 2, 29);
+    EXPECT_WRITTEN("two relations", "\x11\x00\x00" TAKEN_WITHIN "\x11\x00\x01" TAKEN_WITHIN "\x00");
+    memset(scratch, 7, sizeof scratch);
+    expect_rounds("a KNN second", ALL(AND WITHIN NEAREST, sizeof scratch), 2, 35);
+    EXPECT_WRITTEN("a KNN second", "\x13\x00\x01" "\x00\x00\x00\x01" "\x00\x00\x02" LEFT "\x00\x00\x00\x00\x00"
+                                   "\x11\x00\x00" TAKEN_WITHIN "\x00");
+    memset(scratch, 7, sizeof scratch);
+    expect_rounds("one of three", ALL(AND LEFT AND WITHIN LEFT, sizeof scratch), 1, 34);
+    EXPECT_WRITTEN("one of three, pruned", "\x11\x00\x01" TAKEN_WITHIN "\x01\x00\x01" "\x00\x00\x00\x00\x00" AND LEFT LEFT);
+    memset(scratch, 7, sizeof scratch);
+    expect_rounds("no match", ALL(AND LEFT LEFT, sizeof scratch), 0, 25);
+    EXPECT_WRITTEN("no match, unpruned", RECORDS AND LEFT LEFT);
+    expect_rounds("no relation allowed", ALL_BY(RECORDS AND WITHIN NEAREST, sizeof scratch, 4, 1, 1), 1, 55);
+    expect_rounds("nothing allowed", ALL_BY(RECORDS AND WITHIN NEAREST, sizeof scratch, 2, 1, 1), 0,
+                  sizeof(RECORDS AND WITHIN NEAREST) - 1);
+    expect_rounds("k above the greatest", ALL_BY(RECORDS NEAREST_5, sizeof scratch, 7, 1, 4), 0, sizeof(RECORDS NEAREST_5) - 1);
+    expect_rounds("the default k", ALL_BY(RECORDS NEAREST, sizeof scratch, 7, 9, 9), 1, 21);
+    expect("the default k", K_OF(scratch), 9);
+}
+
+/* 24, then 1 to 8, then 9; nothing is written, and rounds are 0. */
+static void refusals_of_all(void)
+{
+    static const uint32_t most = MOST_K;
+    memset(scratch, 7, sizeof scratch);
+    expect("no bytes", ALL_BY("", 99, 7, 1, most), SPATIALJOIN_FRAME_LENGTH);
+    expect("first byte", ALL_BY("\x02", 99, 7, 1, most), SPATIALJOIN_FIRST_BYTE);
+    expect("cut", ALL_BY("\x01\x00\x00\x04", 99, 7, 1, most), SPATIALJOIN_FRAME_ENDS);
+    expect("kind 5", ALL_BY("\x01\x00\x00\x05", 99, 7, 1, most), SPATIALJOIN_OUT_OF_RANGE);
+    expect("65 levels", spatialjoin_extract_all(frame, levels(65), scratch, 999, DEFAULTS), SPATIALJOIN_TOO_LARGE);
+    expect("no column 0", ALL_BY("\x01\x00\x00" LEFT, 99, 7, 1, most), SPATIALJOIN_NO_SUCH_COLUMN);
+    expect("a byte more", ALL_BY(GOOD "\x00", 99, 7, 1, most), SPATIALJOIN_BYTES_AFTER);
+    expect("st_within()", ALL_BY(RECORDS "\x03\x09" "st_within" "\x00", 0, 7, 1, most), SPATIALJOIN_TOO_FEW_ARGUMENTS);
+    expect("a byte short", ALL(AND WITHIN WITHIN, 28), SPATIALJOIN_TOO_SHORT);
+    expect("a byte short, no match", ALL(AND LEFT LEFT, 24), SPATIALJOIN_TOO_SHORT);
+    expect("no output", ALL(AND WITHIN LEFT, 0), SPATIALJOIN_TOO_SHORT);
+    expect("its rounds", SPATIALJOIN_ROUNDS_OF(ALL(AND WITHIN LEFT, 0)), 0);
+    expect("no kinds", ALL_BY(GOOD, 99, 0, 1, most), SPATIALJOIN_BAD_SETTINGS);
+    expect("kinds 8", ALL_BY(GOOD, 99, 8, 1, most), SPATIALJOIN_BAD_SETTINGS);
+    expect("a default k of 0", ALL_BY(GOOD, 99, 7, 0, most), SPATIALJOIN_BAD_SETTINGS);
+    expect("a default above the greatest", ALL_BY(GOOD, 99, 7, 2, 1), SPATIALJOIN_BAD_SETTINGS);
+    expect("24 before 1", ALL_BY("", 0, 0, 1, most), SPATIALJOIN_BAD_SETTINGS);
+    expect("24 before 8", ALL_BY(RECORDS "\x03\x09" "st_within" "\x00", 0, 7, 2, 1), SPATIALJOIN_BAD_SETTINGS);
+    expect("24 before 9", ALL_BY(GOOD, 0, 8, 1, most), SPATIALJOIN_BAD_SETTINGS);
+    expect("nothing written", scratch[0], 7);
+    expect_rounds("just long enough", ALL(AND WITHIN WITHIN, 29), 2, 29);
 }
 
 /* Which conjunct was taken: of a filter whose first one does not match, and of a held extraction with any position. */
@@ -653,6 +727,9 @@ static void null_buffers(void)
     expect("put NULL", spatialjoin_put(QUEUES, 1, NULL, 0), SPATIALJOIN_FRAME_LENGTH);
     expect("put", PUT(1, "a"), 1);
     expect("serve to NULL", spatialjoin_serve(QUEUES, NULL, 0), SPATIALJOIN_TOO_SHORT);
+    expect("all of NULL", spatialjoin_extract_all(NULL, 0, NULL, 0, DEFAULTS), SPATIALJOIN_FRAME_LENGTH);
+    expect("all to NULL", spatialjoin_extract_all((const uint8_t *)GOOD, sizeof(GOOD) - 1, NULL, 0, DEFAULTS), SPATIALJOIN_TOO_SHORT);
+    expect("all of NULL, no kinds", spatialjoin_extract_all(NULL, 0, NULL, 0, 0, 1, 1), SPATIALJOIN_BAD_SETTINGS);
 }
 
 int main(void)
@@ -663,6 +740,8 @@ int main(void)
     walks();
     settings();
     refusals_of_settings();
+    all_conjuncts();
+    refusals_of_all();
     positions();
     names_of_frames();
     texts_of_frames();

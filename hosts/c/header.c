@@ -23,6 +23,9 @@ HOLDS(a_queued_frame_can_be_planned, SPATIALJOIN_MOST_QUEUED <= SPATIALJOIN_MOST
 HOLDS(the_refusals_of_queues_are_21_to_23,
       SPATIALJOIN_NO_SUCH_QUEUE == -21 && SPATIALJOIN_QUEUED_TOO_LONG == -22 && SPATIALJOIN_QUEUE_FULL == -23);
 
+/* An answer has rounds and length apart: both are below 65,536. */
+HOLDS(a_length_is_below_65536, SPATIALJOIN_MOST_BYTES < 65536 && SPATIALJOIN_MOST_NODES < 65536);
+
 /* A bit for each kind, and defaults that are good settings. */
 HOLDS(the_kinds_are_three_bits, SPATIALJOIN_RELATIONS == 1 && SPATIALJOIN_DISTANCES == 2 && SPATIALJOIN_KNNS == 4);
 HOLDS(all_kinds_are_seven, SPATIALJOIN_ALL_KINDS == (SPATIALJOIN_RELATIONS | SPATIALJOIN_DISTANCES | SPATIALJOIN_KNNS));
@@ -41,11 +44,12 @@ int empty(int64_t answer);
 int matches(void);
 int64_t extract(uint8_t *plan, size_t n, uint8_t *scratch, const spatialjoin_node *table);
 int64_t extract_some(uint8_t *plan, size_t n, uint8_t *scratch, const spatialjoin_node *table);
+int64_t extract_all(const uint8_t *frame, size_t n, uint8_t *out);
 
 unsigned parts(const uint8_t *plan, int64_t answer)
 {
     return SPATIALJOIN_POSITION_OF(plan) + SPATIALJOIN_MASK_OF(answer) + SPATIALJOIN_NAMES_OF(answer) + SPATIALJOIN_SIDE_OF(answer)
-        + SPATIALJOIN_WALK_OF(answer) + SPATIALJOIN_QUEUE_OF(answer);
+        + SPATIALJOIN_WALK_OF(answer) + SPATIALJOIN_QUEUE_OF(answer) + SPATIALJOIN_ROUNDS_OF(answer);
 }
 
 size_t length(int64_t answer)
@@ -76,4 +80,9 @@ int64_t extract(uint8_t *plan, size_t n, uint8_t *scratch, const spatialjoin_nod
 int64_t extract_some(uint8_t *plan, size_t n, uint8_t *scratch, const spatialjoin_node *table)
 {
     return spatialjoin_extract(plan, n, n, scratch, n, table, SPATIALJOIN_MOST_NODES, SPATIALJOIN_RELATIONS | SPATIALJOIN_KNNS, 5, 100);
+}
+
+int64_t extract_all(const uint8_t *frame, size_t n, uint8_t *out)
+{
+    return spatialjoin_extract_all(frame, n, out, n, SPATIALJOIN_DEFAULT_SETTINGS);
 }

@@ -16,8 +16,9 @@
 #define DEFAULTS SPATIALJOIN_DEFAULT_SETTINGS
 #define STACK_SIZE (4 * SPATIALJOIN_STACK_BYTES)
 
-enum call { LOAD, EXTRACT, EXCHANGE, LOGICAL, PRINT, MERGE, PROJECT, PUT, SERVE, CALLS };
-static const char *const call_names[CALLS] = {"load", "extract", "exchange", "logical", "print", "merge", "project", "put", "serve"};
+enum call { LOAD, EXTRACT, EXCHANGE, LOGICAL, PRINT, MERGE, PROJECT, PUT, SERVE, ALL, CALLS };
+static const char *const call_names[CALLS] = {"load", "extract", "exchange", "logical", "print", "merge", "project", "put", "serve",
+                                              "extract_all"};
 
 /* How a node holds the deeper one below it. */
 enum shape { AND_LEFT, AND_RIGHT, OR_LEFT, OR_RIGHT, FUNCTION_ONE, FUNCTION_LAST, OTHER_ONE, OTHER_LAST, SHAPES };
@@ -206,6 +207,7 @@ static void make_call(void)
     case PROJECT: answer = spatialjoin_project(plan, sizeof plan, n, scratch, sizeof scratch, items, ITEMS, items, ITEMS); break;
     case PUT: answer = spatialjoin_put(queues, sizeof queues, queue, frame, frame_len); break;
     case SERVE: answer = spatialjoin_serve(queues, sizeof queues, scratch, room); break;
+    case ALL: answer = spatialjoin_extract_all(frame, frame_len, scratch, sizeof scratch, DEFAULTS); break;
     case CALLS: break;
     }
 }
@@ -230,7 +232,7 @@ static void measure(enum call call)
     }
     if (answer >= 0) {
         accepted[call]++;
-        n = call == LOGICAL || call == PRINT || call == PUT || call == SERVE ? n : SPATIALJOIN_LENGTH_OF(answer);
+        n = call == LOGICAL || call == PRINT || call == PUT || call == SERVE || call == ALL ? n : SPATIALJOIN_LENGTH_OF(answer);
     }
 }
 
@@ -240,6 +242,7 @@ static void measure_frame(void)
         measure(LOGICAL);
     } else {
         measure(PRINT);
+        measure(ALL);
         measure(LOAD);
         measure(EXCHANGE);
         measure(EXTRACT);
@@ -345,7 +348,7 @@ int main(void)
     }
     measure_queues();
     for (i = 0; i < CALLS; i++) {
-        printf("%-8s %6lu bytes of stack at the most, %lu calls accepted\n", call_names[i], (unsigned long)most[i], accepted[i]);
+        printf("%-11s %6lu bytes of stack at the most, %lu calls accepted\n", call_names[i], (unsigned long)most[i], accepted[i]);
         failed |= most[i] > SPATIALJOIN_STACK_BYTES || accepted[i] == 0;
     }
     printf("%s\n", failed ? "more than SPATIALJOIN_STACK_BYTES, or no call accepted" : "within SPATIALJOIN_STACK_BYTES");

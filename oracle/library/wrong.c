@@ -1,6 +1,6 @@
 /* The library with one fault, chosen by WRONG; wrong_project.c has those of project, wrong_marks.c those of bounds, wrong_walk.c those of
- * extract's walk, wrong_settings.c those of its settings, wrong_queues.c those of put and serve. Its own functions are renamed to right_..
- * before (library-mutants). */
+ * extract's walk, wrong_settings.c those of its settings, wrong_queues.c those of put and serve, wrong_all.c those of extract_all. Its own
+ * functions are renamed to right_.. before (library-mutants). */
 #include <stddef.h>
 #include <stdint.h>
 #include <string.h>

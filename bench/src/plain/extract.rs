@@ -38,7 +38,7 @@ pub fn extract(
     Walked { answer, walk }
 }
 
-fn are_good(settings: Settings) -> bool {
+pub(super) fn are_good(settings: Settings) -> bool {
     let kinds = 1..=Kinds::ALL.bits();
     kinds.contains(&settings.kinds.bits())
         && (1..=settings.greatest_k).contains(&settings.default_k)
@@ -64,33 +64,33 @@ fn extractable(plan: &[u8], n: usize, scratch: usize, table: &[Node]) -> Result<
 /// The new plan's length.
 fn write(plan: &mut [u8], scratch: &mut [u8], start: usize, taken: &Taken) -> usize {
     scratch.copy_from_slice(&plan[..scratch.len()]);
-    let mut writer = Writer {
-        old: scratch,
-        plan,
-        end: 0,
-    };
+    let mut writer = Writer::new(scratch, plan);
     writer.predicate(taken.position, &taken.predicate);
     writer.remainder(start, taken);
     writer.end
 }
 
 /// Writes the new plan from the old one.
-struct Writer<'a> {
-    old: &'a [u8],
-    plan: &'a mut [u8],
-    end: usize,
+pub(super) struct Writer<'a> {
+    pub old: &'a [u8],
+    pub plan: &'a mut [u8],
+    pub end: usize,
 }
 
-impl Writer<'_> {
+impl<'a> Writer<'a> {
+    pub fn new(old: &'a [u8], plan: &'a mut [u8]) -> Self {
+        Writer { old, plan, end: 0 }
+    }
+
     /// Gives the bytes where they are now.
-    fn put(&mut self, bytes: &[u8]) -> &mut [u8] {
+    pub fn put(&mut self, bytes: &[u8]) -> &mut [u8] {
         let place = &mut self.plan[self.end..self.end + bytes.len()];
         place.copy_from_slice(bytes);
         self.end += bytes.len();
         place
     }
 
-    fn predicate(&mut self, position: u16, predicate: &Predicate) {
+    pub fn predicate(&mut self, position: u16, predicate: &Predicate) {
         self.put(&[predicate.first]);
         self.put(&position.to_be_bytes());
         self.put(predicate.fields());
@@ -155,6 +155,6 @@ impl Writer<'_> {
 }
 
 /// Side and child index.
-fn key(record: &[u8]) -> u32 {
+pub(super) fn key(record: &[u8]) -> u32 {
     u32::from_be_bytes([0, record[0], record[1], record[2]])
 }

@@ -68,6 +68,19 @@ pub fn pick(frame: &[u8], start: usize, settings: Settings) -> (Option<Taken>, u
     (picker.taken, picker.walk)
 }
 
+/// What a conjunct is, whatever was taken before.
+pub fn matched_leaf(frame: &[u8], settings: Settings, leaf: usize) -> Option<Predicate> {
+    let picker = Picker {
+        frame,
+        settings,
+        at: leaf,
+        position: 0,
+        walk: 0,
+        taken: None,
+    };
+    picker.matched(leaf)
+}
+
 struct Picker<'a> {
     frame: &'a [u8],
     settings: Settings,

@@ -11,8 +11,12 @@
 //! fill it with the nodes of the new plan, and [`extract`] takes it as they left it. [`exchange`]
 //! moves no node.
 //!
-//! What a site may have indexed are [`Settings`], which [`extract`] takes: the kinds allowed, the k of
-//! an `st_knn` call that has none, and the greatest k. [`Settings::default`] changes no answer.
+//! What a site may have indexed are [`Settings`], which [`extract`] and [`extract_all`] take: the kinds
+//! allowed, the k of an `st_knn` call that has none, and the greatest k. [`Settings::default`] changes no
+//! answer.
+//!
+//! [`extract_all`] writes all indexable conjuncts of a frame, for a price list for one; [`Conjuncts`]
+//! reads them. It takes no plan, no scratch and no table.
 //!
 //! Where jobs of two machines reach one planner, [`Queues`] holds those that wait, a queue of each
 //! machine, and gives them in turn; [`put`] and [`serve`] are the same on a buffer of the host's own.
@@ -23,6 +27,7 @@
 //! The archive is linked by its path, and nothing in that path says its version: a host asks
 //! [`version_matches`] at its start, before it makes a call.
 
+mod conjuncts;
 mod extracted;
 pub mod numbers;
 mod queues;
@@ -32,6 +37,7 @@ mod version;
 
 use std::mem::offset_of;
 
+pub use conjuncts::{AllExtracted, Conjunct, Conjuncts, Kind};
 pub use extracted::{Extracted, Unextracted};
 pub use queues::{MOST_QUEUED, MOST_WAITING, QUEUES_BYTES, Queue, Queues, Served, put, serve};
 pub use refusal::Refusal;
@@ -226,6 +232,24 @@ pub fn project(
     right: &[u16],
 ) -> Result<usize, Refusal> {
     length(numbers::project(plan, n, scratch, left, right))
+}
+
+/// Writes all indexable conjuncts of a physical frame at the output's start, then what is left, and
+/// gives the length and the rounds. It extracts, loads the remainder and extracts again, until there is
+/// no remainder or nothing in it matches: every conjunct that matches under the settings is taken exactly
+/// once, the KNN ones in their order, then the others in theirs, each with its position in this frame.
+/// Without a match there are 0 rounds, and the frame itself is left, unpruned. [`Conjuncts`] reads what
+/// was written; the bytes after it stay as they were. An output as long as the frame is always enough.
+///
+/// # Errors
+///
+/// Refusal 24, then 1 to 8, then 9.
+pub fn extract_all(
+    frame: &[u8],
+    out: &mut [u8],
+    settings: Settings,
+) -> Result<AllExtracted, Refusal> {
+    conjuncts::all_extracted(numbers::extract_all(frame, out, settings))
 }
 
 fn length(answer: i64) -> Result<usize, Refusal> {

@@ -1,6 +1,7 @@
 //! The calls with the answers of the C functions: a length (of [`logical`]: mask, count and side in
 //! one number), or minus the refusal's number; of [`extract`] each with the walk, of [`serve`] with the
-//! queue, which the last four functions take apart. `include/spatialjoin.h` says what they do.
+//! queue, of [`extract_all`] with the rounds, which the last five functions take apart.
+//! `include/spatialjoin.h` says what they do.
 
 use crate::{Node, Settings};
 
@@ -76,6 +77,15 @@ mod c {
             queues_len: usize,
             out: *mut u8,
             out_len: usize,
+        ) -> i64;
+        pub fn spatialjoin_extract_all(
+            frame: *const u8,
+            frame_len: usize,
+            out: *mut u8,
+            out_len: usize,
+            kinds: u8,
+            default_k: u32,
+            greatest_k: u32,
         ) -> i64;
         pub fn spatialjoin_version() -> i64;
     }
@@ -186,6 +196,22 @@ pub fn serve(queues: &mut [u8], out: &mut [u8]) -> i64 {
     unsafe { c::spatialjoin_serve(queues, queues_len, out.as_mut_ptr(), out.len()) }
 }
 
+pub fn extract_all(frame: &[u8], out: &mut [u8], settings: Settings) -> i64 {
+    let (frame, frame_len) = (frame.as_ptr(), frame.len());
+    let (out, out_len) = (out.as_mut_ptr(), out.len());
+    unsafe {
+        c::spatialjoin_extract_all(
+            frame,
+            frame_len,
+            out,
+            out_len,
+            settings.kinds.bits(),
+            settings.default_k,
+            settings.greatest_k,
+        )
+    }
+}
+
 /// The archive's version: major · 65,536 + minor · 256 + patch.
 pub fn version() -> i64 {
     unsafe { c::spatialjoin_version() }
@@ -200,7 +226,7 @@ pub fn length_of(answer: i64) -> usize {
 }
 
 /// The walk in an answer of [`extract`], accepted or refused; 0 in that of any other call but
-/// [`logical`] and [`serve`].
+/// [`logical`], [`serve`] and [`extract_all`].
 pub fn walk_of(answer: i64) -> u32 {
     match answer {
         0.. => (answer / 65_536) as u32,
@@ -218,6 +244,14 @@ pub fn refusal_of(answer: i64) -> u8 {
 
 /// The queue in an answer of [`serve`] that has a frame; one of 0 says that both are empty.
 pub fn queue_of(answer: i64) -> u32 {
+    match answer {
+        0.. => (answer / 65_536) as u32,
+        _ => 0,
+    }
+}
+
+/// The rounds in an answer of [`extract_all`]; 0 where it was refused.
+pub fn rounds_of(answer: i64) -> u32 {
     match answer {
         0.. => (answer / 65_536) as u32,
         _ => 0,

@@ -12,6 +12,8 @@ pub mod progress;
 mod projected;
 pub mod report;
 pub mod rng;
+#[cfg(test)]
+mod rounds;
 pub mod sample;
 pub mod scalars;
 mod shrink;

@@ -3,7 +3,7 @@
 use std::fmt;
 
 use driver::rng::Rng;
-use reading::calls;
+use reading::calls::{self, All};
 use reading::program::hex;
 use reading::project::Lists;
 use reading::queues::Served;
@@ -26,14 +26,15 @@ pub enum Kind {
     Project,
     Put,
     Serve,
+    ExtractAll,
 }
 
 impl Kind {
     /// A length, or minus a refusal's number: an extract's answer without its walk, a serve's without its
-    /// queue.
+    /// queue, that of an extract of all conjuncts without its rounds.
     pub fn without_walk(self, answer: i64) -> i64 {
         match (self, answer) {
-            (Kind::Extract | Kind::Serve, 0..) => answer % 65_536,
+            (Kind::Extract | Kind::Serve | Kind::ExtractAll, 0..) => answer % 65_536,
             (Kind::Extract, _) => -(-answer % 256),
             _ => answer,
         }
@@ -64,10 +65,15 @@ fn served_number(answer: Result<Option<Served>, Refusal>) -> i64 {
     number(0, answer.map(|frame| frame.map_or(0, served)))
 }
 
+/// Request 14 of document 02: rounds and length.
+fn all_number(answer: Result<All, Refusal>) -> i64 {
+    number(0, answer.map(|all| all.rounds * 65_536 + all.length))
+}
+
 /// What a call is not given is empty.
 pub struct Call {
     pub kind: Kind,
-    /// Of a load, of a logical call, of a print, of a merge and of a put.
+    /// Of a load, of a logical call, of a print, of a merge, of a put and of an extract of all conjuncts.
     pub frame: Vec<u8>,
     pub n: usize,
     pub plan: Vec<u8>,
@@ -77,7 +83,7 @@ pub struct Call {
     pub text: Vec<u8>,
     /// Of a load, of an extract and of a merge.
     pub table: Vec<Node>,
-    /// Of an extract.
+    /// Of an extract, and of one of all conjuncts.
     pub settings: Settings,
     /// Of a projection: the left one and the right one.
     pub lists: [Vec<u16>; 2],
@@ -85,7 +91,7 @@ pub struct Call {
     pub queues: Vec<u8>,
     /// Of a put.
     pub queue: u8,
-    /// Of a serve.
+    /// Of a serve, and of an extract of all conjuncts.
     pub out: Vec<u8>,
 }
 
@@ -164,6 +170,14 @@ impl Call {
                     ..Outcome::default()
                 };
             }
+            Kind::ExtractAll => {
+                let answer = calls::extract_all(&self.frame, &mut out, self.settings);
+                return Outcome {
+                    answer: all_number(answer),
+                    out,
+                    ..Outcome::default()
+                };
+            }
         };
         Outcome {
             answer: number(walk, answer),
@@ -179,6 +193,7 @@ impl Call {
     pub fn given(&self, rng: &mut Rng) -> Given {
         match self.kind {
             Kind::Put | Kind::Serve => self.given_of_queues(rng),
+            Kind::ExtractAll => self.given_of_all(rng),
             _ => self.given_of_plan(rng),
         }
     }
@@ -200,6 +215,22 @@ impl Call {
             },
             read_only_holds: frame.items() == self.frame,
             guards_hold: [frame, queues, out].iter().all(Lent::guards_hold),
+        }
+    }
+
+    fn given_of_all(&self, rng: &mut Rng) -> Given {
+        let frame = Lent::bytes(rng, &self.frame);
+        let mut out = Lent::bytes(rng, &self.out);
+        let settings = to_library(self.settings);
+        let answer = numbers::extract_all(frame.items(), out.items_mut(), settings);
+        Given {
+            outcome: Outcome {
+                answer,
+                out: out.items().to_vec(),
+                ..Outcome::default()
+            },
+            read_only_holds: frame.items() == self.frame,
+            guards_hold: frame.guards_hold() && out.guards_hold(),
         }
     }
 
@@ -228,7 +259,7 @@ impl Call {
                 let [left, right] = lists.each_ref().map(Lent::items);
                 numbers::project(plan.items_mut(), n, scratch.items_mut(), left, right)
             }
-            Kind::Put | Kind::Serve => unreachable!("they take no plan"),
+            Kind::Put | Kind::Serve | Kind::ExtractAll => unreachable!("they take no plan"),
         };
         Given {
             outcome: Outcome {
@@ -304,6 +335,11 @@ impl fmt::Display for Call {
             writeln!(f, "  queues   {}", shown(&self.queues))?;
             return write!(f, "  output   {}", shown(&self.out));
         }
+        if let Kind::ExtractAll = self.kind {
+            writeln!(f, "{:?}\n  {:?}", self.kind, self.settings)?;
+            writeln!(f, "  frame    {}", shown(&self.frame))?;
+            return write!(f, "  output   {}", shown(&self.out));
+        }
         writeln!(f, "{:?}, n = {}", self.kind, self.n)?;
         if let Kind::Extract = self.kind {
             writeln!(f, "  {:?}", self.settings)?;
@@ -321,6 +357,9 @@ impl fmt::Display for Call {
 impl fmt::Display for Outcome {
     fn fmt(&self, f: &mut fmt::Formatter<'_>) -> fmt::Result {
         writeln!(f, "  answer   {}", self.answer)?;
+        if self.plan.is_empty() && !self.out.is_empty() && self.queues.is_empty() {
+            return write!(f, "  output   {}", shown(&self.out));
+        }
         if !self.queues.is_empty() {
             writeln!(f, "  queues   {}", shown(&self.queues))?;
             return write!(f, "  output   {}", shown(&self.out));

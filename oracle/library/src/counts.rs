@@ -6,7 +6,7 @@ use reading::settings::Settings;
 use crate::call::{Call, Kind};
 
 /// The calls, with the refusals that documents 01 and 02 give each of them.
-const ANSWERS: [(Kind, &[i64]); 9] = [
+const ANSWERS: [(Kind, &[i64]); 10] = [
     (Kind::Load, &[1, 2, 3, 4, 5, 6, 7, 8, 9, 17]),
     (Kind::Extract, &[9, 10, 11, 12, 13, 24]),
     (Kind::Exchange, &[9, 10, 11]),
@@ -19,6 +19,7 @@ const ANSWERS: [(Kind, &[i64]); 9] = [
     (Kind::Project, &[9, 10, 11, 18, 19, 20]),
     (Kind::Put, &[1, 10, 21, 22, 23]),
     (Kind::Serve, &[9, 10]),
+    (Kind::ExtractAll, &[1, 2, 3, 4, 5, 6, 7, 8, 9, 24]),
 ];
 
 /// How many calls there were of each kind, by what they answered.
@@ -36,6 +37,10 @@ pub struct Counts {
     /// How many serves had a frame of each queue, and how many found both empty.
     served: [u64; 2],
     both_empty: u64,
+    /// How many extracts of all conjuncts had no round, how many more than one, and the most rounds.
+    unrounded: u64,
+    rounded: u64,
+    most_rounds: i64,
 }
 
 impl Counts {
@@ -53,6 +58,12 @@ impl Counts {
         let walk = kind.walk(answer);
         self.walks += u64::from(walk > 1);
         self.longest = self.longest.max(walk);
+        if kind == Kind::ExtractAll && answer >= 0 {
+            let rounds = answer / 65_536;
+            self.unrounded += u64::from(rounds == 0);
+            self.rounded += u64::from(rounds > 1);
+            self.most_rounds = self.most_rounds.max(rounds);
+        }
         if kind == Kind::Serve {
             match answer {
                 1.. => self.served[(answer / 65_536) as usize] += 1,
@@ -78,6 +89,9 @@ impl Counts {
         }
         if self.both_empty == 0 || self.served.contains(&0) {
             unreached.push("Serve of each queue, and of none".to_owned());
+        }
+        if self.unrounded == 0 || self.rounded == 0 {
+            unreached.push("ExtractAll of no round, and of several".to_owned());
         }
         unreached
     }
@@ -115,6 +129,14 @@ impl fmt::Display for Counts {
         writeln!(
             f,
             "Extract    other settings: accepted {settled}, refusal 13 {unmatched}"
+        )?;
+        let Counts {
+            unrounded, rounded, ..
+        } = self;
+        writeln!(
+            f,
+            "ExtractAll no round {unrounded}, several {rounded}, the most {}",
+            self.most_rounds
         )?;
         write!(f, "{} calls", self.calls())
     }

@@ -1,6 +1,7 @@
 //! Holds the library's calls to the reading's, buffers and all, on cases from a seed.
 
 mod call;
+mod conjuncts;
 mod counts;
 mod held;
 mod lent;
@@ -152,9 +153,9 @@ fn next_call(
     Ok(())
 }
 
-/// All calls of a case, on one plan and under the same settings, with projections of what is held after each; then prints and
-/// merges of its frames, merges of a pair, and projections of an extraction that no frame need have
-/// made.
+/// All calls of a case, on one plan and under the same settings, with projections of what is held after each; then prints, merges
+/// and extracts of all conjuncts of its frames, merges of a pair, projections of an extraction that no frame need
+/// have made, and extracts of all conjuncts of a frame that has many.
 fn run(rng: &mut Rng, case: &Case, counts: &mut Counts) -> Result<(), String> {
     let asked: Vec<Asked> = case.lines.iter().map(|line| asked(rng, line)).collect();
     let settings = settings::any(rng, asked.iter().filter_map(frame_of));
@@ -171,11 +172,13 @@ fn run(rng: &mut Rng, case: &Case, counts: &mut Counts) -> Result<(), String> {
             }
             let (held, new) = (pairs::frame(rng), frame.clone());
             merges::run(rng, &Pair { held, new }, counts)?;
+            conjuncts::run(rng, frame, settings, counts)?;
         }
     }
     let pair = pairs::pair(rng);
     merges::run(rng, &pair, counts)?;
-    projections::run_alone(rng, counts)
+    projections::run_alone(rng, counts)?;
+    conjuncts::run_alone(rng, counts)
 }
 
 /// The difference on a print of a filter that is part of this one, the smallest found.

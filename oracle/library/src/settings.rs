@@ -92,7 +92,7 @@ fn near(rng: &mut Rng, ks: &[u32]) -> u32 {
 }
 
 /// One thing is wrong, or two.
-fn bad(rng: &mut Rng, ks: &[u32]) -> Settings {
+pub fn bad(rng: &mut Rng, ks: &[u32]) -> Settings {
     let mut settings = match rng.one_in(2) {
         true => Settings::OF_THE_PROGRAM,
         false => beside(rng, ks),

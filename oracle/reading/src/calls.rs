@@ -1,6 +1,7 @@
 //! The calls, on lent buffers. Of those that change the plan an accepted one gives the new plan's
 //! length, which `n` then holds too; a refused call leaves `n`, the table and all buffers as they were.
 
+use crate::conjuncts::conjuncts;
 use crate::frame::{Frame, Plan};
 use crate::merge::{merged, within_limits};
 use crate::nodes::{self, Node};
@@ -168,6 +169,28 @@ pub fn serve(buffer: &mut [u8], out: &mut [u8]) -> Result<Option<Served>, Refusa
         queue,
         length: frame.len(),
     }))
+}
+
+/// What an accepted extract of all conjuncts gives.
+#[derive(Clone, Copy, Debug, PartialEq, Eq)]
+pub struct All {
+    pub rounds: usize,
+    pub length: usize,
+}
+
+/// Request 14 of document 02: all indexable conjuncts at the output's start. 24, then 1 to 8, then 9.
+pub fn extract_all(frame: &[u8], out: &mut [u8], settings: Settings) -> Result<All, Refusal> {
+    if settings.get_24() {
+        return Err(Refusal::BadSettings);
+    }
+    let all = conjuncts(&decode::physical(frame)?, settings);
+    let bytes = encode::conjuncts(&all);
+    let start = out.get_mut(..bytes.len()).ok_or(Refusal::NoRoom)?;
+    start.copy_from_slice(&bytes);
+    Ok(All {
+        rounds: all.taken.len(),
+        length: bytes.len(),
+    })
 }
 
 /// Refusals 10 and 11.

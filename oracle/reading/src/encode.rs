@@ -1,5 +1,6 @@
 //! From values to the bytes of document 01.
 
+use crate::conjuncts::Conjuncts;
 use crate::frame::{
     DISTANCE, Expr, Extraction, Frame, KNN, LOGICAL, PHYSICAL, Plan, Predicate, RELATION,
 };
@@ -24,14 +25,33 @@ pub fn plan(plan: &Plan) -> Vec<u8> {
 }
 
 fn put_extraction(extraction: &Extraction) -> Vec<u8> {
-    let mut out = vec![first_byte(&extraction.predicate)];
-    out.extend(extraction.position.to_be_bytes());
-    put_fields(&extraction.predicate, &mut out);
-    match &extraction.remainder {
-        Some(frame) => put_frame(frame, &mut out),
+    let mut out = Vec::new();
+    put_predicate(extraction.position, &extraction.predicate, &mut out);
+    put_remainder(extraction.remainder.as_ref(), &mut out);
+    out
+}
+
+/// Request 14 of document 02: the predicates one after another, then `00` or the last remainder.
+pub fn conjuncts(conjuncts: &Conjuncts) -> Vec<u8> {
+    let mut out = Vec::new();
+    for (position, predicate) in &conjuncts.taken {
+        put_predicate(*position, predicate, &mut out);
+    }
+    put_remainder(conjuncts.rest.as_ref(), &mut out);
+    out
+}
+
+fn put_predicate(position: u16, predicate: &Predicate, out: &mut Vec<u8>) {
+    out.push(first_byte(predicate));
+    out.extend(position.to_be_bytes());
+    put_fields(predicate, out);
+}
+
+fn put_remainder(remainder: Option<&Frame>, out: &mut Vec<u8>) {
+    match remainder {
+        Some(frame) => put_frame(frame, out),
         None => out.push(0),
     }
-    out
 }
 
 fn put_frame(frame: &Frame, out: &mut Vec<u8>) {

@@ -3,6 +3,7 @@
 //! It stands beside the port and the original as a third opinion.
 
 pub mod calls;
+pub mod conjuncts;
 pub mod decode;
 pub mod encode;
 pub mod frame;
