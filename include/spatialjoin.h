@@ -171,6 +171,76 @@ enum spatialjoin_plan {
     SPATIALJOIN_KNN = 0x13       /* nearest neighbours */
 };
 
+/* The bytes of frames and extractions, for a host that writes or reads them; docs/FRAMES.md of the repository has where each stands. */
+
+/* A node's kind byte: the last is of logical frames only, in the place of the first, which is of physical ones only. */
+enum spatialjoin_node_kind {
+    SPATIALJOIN_NODE_COLUMN = 0,
+    SPATIALJOIN_NODE_LITERAL = 1,
+    SPATIALJOIN_NODE_BINARY = 2,
+    SPATIALJOIN_NODE_FUNCTION = 3,
+    SPATIALJOIN_NODE_OTHER = 4,
+    SPATIALJOIN_NODE_LOGICAL_COLUMN = 5
+};
+
+/* The operator of a binary node; those between the last two, both included, are the host's. */
+enum spatialjoin_operator {
+    SPATIALJOIN_OPERATOR_AND = 0,
+    SPATIALJOIN_OPERATOR_LT = 1,
+    SPATIALJOIN_OPERATOR_LT_EQ = 2,
+    SPATIALJOIN_OPERATOR_GT = 3,
+    SPATIALJOIN_OPERATOR_GT_EQ = 4,
+    SPATIALJOIN_OPERATOR_FIRST_OTHER = 5,
+    SPATIALJOIN_OPERATOR_LAST_OTHER = 63
+};
+
+/* The type of a literal, whose eight bytes follow; those of the first and the last are the host's. */
+enum spatialjoin_literal_type {
+    SPATIALJOIN_LITERAL_NULL = 0,
+    SPATIALJOIN_LITERAL_BOOLEAN = 1,
+    SPATIALJOIN_LITERAL_INT32 = 2,
+    SPATIALJOIN_LITERAL_INT64 = 3,
+    SPATIALJOIN_LITERAL_UINT32 = 4,
+    SPATIALJOIN_LITERAL_UINT64 = 5,
+    SPATIALJOIN_LITERAL_OTHER = 6
+};
+
+/* The type of an extracted relation. */
+enum spatialjoin_relation_type {
+    SPATIALJOIN_RELATION_INTERSECTS = 0,
+    SPATIALJOIN_RELATION_CONTAINS = 1,
+    SPATIALJOIN_RELATION_WITHIN = 2,
+    SPATIALJOIN_RELATION_COVERS = 3,
+    SPATIALJOIN_RELATION_COVERED_BY = 4,
+    SPATIALJOIN_RELATION_TOUCHES = 5,
+    SPATIALJOIN_RELATION_CROSSES = 6,
+    SPATIALJOIN_RELATION_OVERLAPS = 7,
+    SPATIALJOIN_RELATION_EQUALS = 8
+};
+
+/* The form of an extracted distance: st_dwithin, or the operator that compares st_distance with the bound. */
+enum spatialjoin_distance_form {
+    SPATIALJOIN_FORM_DWITHIN = 0,
+    SPATIALJOIN_FORM_LT = 1,
+    SPATIALJOIN_FORM_LT_EQ = 2,
+    SPATIALJOIN_FORM_GT = 3,
+    SPATIALJOIN_FORM_GT_EQ = 4
+};
+
+/* A KNN's flag for ties: false, true, or not given. Its spheroid flag is one of the first two. */
+enum spatialjoin_ties {
+    SPATIALJOIN_TIES_FALSE = 0,
+    SPATIALJOIN_TIES_TRUE = 1,
+    SPATIALJOIN_TIES_ABSENT = 2
+};
+
+/* The most levels of an expression, its root being the first; records of a frame; bytes of a function's name; arguments of a function, or
+ * children of an other node. */
+#define SPATIALJOIN_MOST_LEVELS 64
+#define SPATIALJOIN_MOST_RECORDS 256
+#define SPATIALJOIN_MOST_NAME 32
+#define SPATIALJOIN_MOST_ARGUMENTS 16
+
 /* Of a plan that is an extraction: the position, from 0, of the conjunct that was taken among those of the filter as it was loaded or
  * merged. Exchanging and projecting keep it. */
 #define SPATIALJOIN_POSITION_OF(plan) ((unsigned)(plan)[1] * 256 + (unsigned)(plan)[2])
@@ -246,7 +316,7 @@ enum spatialjoin_name {
     SPATIALJOIN_RS_WITHIN = 0x4000
 };
 
-/* The query side of spatialjoin_logical. */
+/* The query side of spatialjoin_logical; the side of a column record and of a distance, and a KNN's probe side, the first or the second. */
 enum spatialjoin_side {
     SPATIALJOIN_LEFT = 0,
     SPATIALJOIN_RIGHT = 1,

@@ -1,5 +1,5 @@
 /* What `header-check` compiles by every standard: the header, taken in twice, each of its macros, the layout of a table, the size of a
- * buffer of queues, and the settings. */
+ * buffer of queues, the settings, and the bytes of frames and extractions. */
 #include "spatialjoin.h"
 #include "spatialjoin.h"
 
@@ -32,6 +32,16 @@ HOLDS(all_kinds_are_seven, SPATIALJOIN_ALL_KINDS == (SPATIALJOIN_RELATIONS | SPA
 HOLDS(the_greatest_k_has_32_bits, SPATIALJOIN_GREATEST_K == (uint32_t)-1);
 HOLDS(the_default_k_is_one, SPATIALJOIN_DEFAULT_K == 1 && SPATIALJOIN_DEFAULT_K <= SPATIALJOIN_GREATEST_K);
 HOLDS(the_refusal_of_settings_is_24, SPATIALJOIN_BAD_SETTINGS == -24);
+
+/* The bytes of frames and extractions, as docs/FRAMES.md has them. */
+HOLDS(the_kinds_of_nodes, SPATIALJOIN_NODE_COLUMN == 0 && SPATIALJOIN_NODE_OTHER == 4 && SPATIALJOIN_NODE_LOGICAL_COLUMN == 5);
+HOLDS(the_operators, SPATIALJOIN_OPERATOR_AND == 0 && SPATIALJOIN_OPERATOR_GT_EQ == 4 && SPATIALJOIN_OPERATOR_LAST_OTHER == 63);
+HOLDS(the_literal_types, SPATIALJOIN_LITERAL_NULL == 0 && SPATIALJOIN_LITERAL_UINT64 == 5 && SPATIALJOIN_LITERAL_OTHER == 6);
+HOLDS(the_sides, SPATIALJOIN_LEFT == 0 && SPATIALJOIN_RIGHT == 1 && SPATIALJOIN_NO_SIDE == 2);
+HOLDS(nine_relation_types, SPATIALJOIN_RELATION_INTERSECTS == 0 && SPATIALJOIN_RELATION_EQUALS == 8);
+HOLDS(a_comparison_has_its_operators_form,
+      SPATIALJOIN_FORM_LT == (int)SPATIALJOIN_OPERATOR_LT && SPATIALJOIN_FORM_GT_EQ == (int)SPATIALJOIN_OPERATOR_GT_EQ);
+HOLDS(an_absent_flag_is_2, SPATIALJOIN_TIES_ABSENT == 2);
 
 #if SPATIALJOIN_VERSION_NUMBER < SPATIALJOIN_VERSION_MINOR
 #error "the version's number is for the preprocessor too"
