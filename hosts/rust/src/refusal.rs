@@ -1,8 +1,10 @@
 use std::error::Error;
 use std::fmt;
 
-/// Why a call was refused. [`Refusal::number`] is the number of the scope document.
+/// Why a call was refused. [`Refusal::number`] is the number of the scope document. A later version may
+/// have more.
 #[derive(Clone, Copy, Debug, PartialEq, Eq, Hash)]
+#[non_exhaustive]
 pub enum Refusal {
     /// 1: the frame is empty or over 16,384 bytes; of a put: empty.
     FrameLength = 1,
