@@ -1,4 +1,6 @@
 // The call exchange: of a frame, of an extraction, and of what is held.
+#![tactic(auto)]
+
 pub mod call;
 pub mod exchanged_frames;
 pub mod exchanged_plans;

@@ -17,7 +17,7 @@ use terms::settings::{Settings, good_settings};
 use writing::copies::copy_bytes;
 
 // The length of what is written or a refusal, and the number of rounds.
-#[derive(Drop)]
+#[derive(Clone, Copy)]
 pub struct AllAnswer {
     pub answer: Answer,
     pub rounds: usize,

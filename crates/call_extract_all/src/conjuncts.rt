@@ -13,7 +13,7 @@ use terms::settings::Settings;
 use writing::copies::copy_bytes;
 
 // How many leaves were taken, and how many bytes were written.
-#[derive(Drop)]
+#[derive(Clone, Copy)]
 pub struct Taken {
     pub rounds: usize,
     pub length: usize,

@@ -17,7 +17,7 @@ use plan_writer::put_predicate::put_predicate;
 use terms::settings::Settings;
 
 // How many AND-leaves there are up to the end of a node, how many bytes were written of KNN and of other matches, how many matches.
-#[derive(Drop)]
+#[derive(Clone, Copy)]
 pub struct Listed {
     pub position: usize,
     pub knn: usize,

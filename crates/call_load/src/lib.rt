@@ -1,4 +1,6 @@
 // The call load.
+#![tactic(auto)]
+
 ghost use Rattle.std.specs.Prelude.{◌≡◌, length};
 ghost use Rattle.frame_reader.specs.Frames.{Roomy};
 ghost use Rattle.node_rows.specs.Rows.{RowHas};

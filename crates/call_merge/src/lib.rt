@@ -1,4 +1,6 @@
 // The call merge: the limits of a merged frame, writing it, and the call.
+#![tactic(auto)]
+
 pub mod call;
 pub mod held_frame;
 pub mod limits;

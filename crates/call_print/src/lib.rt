@@ -1,4 +1,6 @@
 // The call print.
+#![tactic(auto)]
+
 ghost use Rattle.join_filter.specs.Outcomes.{PrintIs};
 
 use frame_reader::frame_bodies::Physical;

@@ -1,5 +1,5 @@
 // An AND-leaf that is cut out: where it stands and ends, and where its parent And stands.
-#[derive(Drop)]
+#[derive(Clone, Copy)]
 pub struct Cut {
     pub leaf: usize,
     pub end: usize,

@@ -3,7 +3,7 @@ ghost use Rattle.expression.specs.Nodes.{Tree, OfTree};
 ghost use Rattle.expression.specs.Heads.{HeadIs};
 
 // Where a node's children begin, and how many there are.
-#[derive(Drop)]
+#[derive(Clone, Copy)]
 pub struct Head {
     pub next: usize,
     pub children: usize,

@@ -5,7 +5,7 @@ ghost use Rattle.expression.specs.Leaves.{NodeIs};
 use super::heads::{Head, head_at};
 
 // A function: its name stands from `name` up to `end`, its arguments in a row from `first` on.
-#[derive(Drop)]
+#[derive(Clone, Copy)]
 pub struct Called {
     pub name: usize,
     pub end: usize,
@@ -14,7 +14,7 @@ pub struct Called {
 }
 
 // And and the other operators with the place of their left child, a function, or any other node with its head.
-#[derive(Drop)]
+#[derive(Clone, Copy)]
 pub enum Node {
     And(usize),
     Binary(u8, usize),

@@ -6,7 +6,7 @@ ghost use Rattle.expression.specs.Places.{part};
 ghost use Rattle.expression.specs.Names.{letter, spelled, words, word_ends, position};
 
 // Whether the letters A to Z are taken as they are or as small ones.
-#[derive(Drop)]
+#[derive(Clone, Copy)]
 pub enum Case {
     Exact,
     Ignored,

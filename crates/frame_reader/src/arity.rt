@@ -14,7 +14,7 @@ use sedona_expr::utils::{Compared, DistanceCall, comparison, distance_arguments}
 use sedona_query_planner::spatial_predicate::{NamedRelation, SpatialRelationType};
 
 // Every leaf has its arguments, and where the expression ends; or some leaf lacks one.
-#[derive(Drop)]
+#[derive(Clone, Copy)]
 pub enum Arity {
     Enough(usize),
     Short,

@@ -10,7 +10,7 @@ use terms::refusals::Refusal;
 use terms::sides::{JoinSide, side_numbered};
 
 // A side and the place after it.
-#[derive(Drop)]
+#[derive(Clone, Copy)]
 pub enum Sided {
     Value(JoinSide, usize),
     Refused(Refusal),

@@ -16,7 +16,7 @@ use node_reader::walk::Walked;
 use terms::refusals::Refusal;
 
 // A physical frame: how many records it has, where they start, where its expression does, and how many nodes and levels that has.
-#[derive(Drop)]
+#[derive(Clone, Copy)]
 pub struct Frame {
     pub columns: u64,
     pub records: usize,
@@ -26,21 +26,21 @@ pub struct Frame {
 }
 
 // A physical frame after its first byte, the place after it, and how many nodes there were up to it.
-#[derive(Drop)]
+#[derive(Clone, Copy)]
 pub enum Body {
     Read(Frame, usize, usize),
     Refused(Refusal),
 }
 
 // A whole physical frame.
-#[derive(Drop)]
+#[derive(Clone, Copy)]
 pub enum Physical {
     Good(Frame),
     Refused(Refusal),
 }
 
 // A whole logical frame: where its expression starts.
-#[derive(Drop)]
+#[derive(Clone, Copy)]
 pub enum Logical {
     Good(usize),
     Refused(Refusal),

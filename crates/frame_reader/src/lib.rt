@@ -1,4 +1,6 @@
 // Reading physical and logical frames, with every refusal: column records, expression, and the arity of the AND-leaves.
+#![tactic(auto)]
+
 pub mod arity;
 pub mod by_rows;
 pub mod column_records;

@@ -6,14 +6,14 @@ ghost use Rattle.hexadecimal.specs.Hex.{value_of, bytes_of, DecodedIs};
 ghost use Rattle.writing.specs.Written.{WroteAt};
 
 // What one or two characters stand for.
-#[derive(Drop)]
+#[derive(Clone, Copy)]
 enum Digits {
     Value(u8),
     Other,
 }
 
 // The bytes of a line at the start of a buffer, or refusal 14.
-#[derive(Drop)]
+#[derive(Clone, Copy)]
 pub enum Decoded {
     Bytes(usize),
     Bad,

@@ -1,4 +1,6 @@
 // The calls for hosts: each with its answer as one number, and for calls with a table all but the table itself.
+#![tactic(auto)]
+
 pub mod answers;
 pub mod cores;
 pub mod exchange;

@@ -5,14 +5,14 @@ ghost use Rattle.join_filter.specs.Outcomes.{unfilled_by};
 use terms::refusals::Refusal;
 
 // The length of the new plan or of the text, or why the call is refused.
-#[derive(Drop)]
+#[derive(Clone, Copy)]
 pub enum Answer {
     Length(usize),
     Refused(Refusal),
 }
 
 // What extract answers, and how many And nodes and AND-leaves it read: 0 but with a length and with 13 (request 10 of document 02).
-#[derive(Drop)]
+#[derive(Clone, Copy)]
 pub struct Extracted {
     pub answer: Answer,
     pub walk: usize,
@@ -20,7 +20,7 @@ pub struct Extracted {
 
 // What load and merge answer, and what the table is to be filled with: the nodes of the expression that begins at `root`, `count` of
 // them, or none.
-#[derive(Drop)]
+#[derive(Clone, Copy)]
 pub struct Loaded {
     pub answer: Answer,
     pub root: usize,

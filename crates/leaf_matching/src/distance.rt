@@ -15,7 +15,7 @@ use sedona_query_planner::spatial_predicate::{DistancePredicate, SpatialPredicat
 use terms::sides::JoinSide;
 
 // The side of a distance; undefined if its columns differ or are mark columns.
-#[derive(Drop)]
+#[derive(Clone, Copy)]
 pub enum DistanceSide {
     Known(JoinSide),
     Undefined,

@@ -19,14 +19,14 @@ use sedona_query_planner::spatial_predicate::{KNNPredicate, SpatialPredicate, Ti
 use terms::sides::JoinSide;
 
 // The flags after k.
-#[derive(Drop)]
+#[derive(Clone, Copy)]
 pub enum KnnFlags {
     Read(bool, TieBreakers),
     Nothing,
 }
 
 // k, whether distances are spheroidal, and ties.
-#[derive(Drop)]
+#[derive(Clone, Copy)]
 pub enum KnnOptions {
     Read(u32, bool, TieBreakers),
     Nothing,

@@ -1,5 +1,7 @@
 // Which AND-leaves match, and as what: sides of arguments, literal arguments, and the three matchers of
 // rust/sedona-query-planner/src/spatial_expr_utils.rs.
+#![tactic(auto)]
+
 pub mod allowing;
 pub mod distance;
 pub mod knn;

@@ -10,13 +10,13 @@ ghost use Rattle.leaf_matching.specs.Literals.{long_at, number_is, flag_is};
 use expression::fields::short_at;
 use expression::literals::signed;
 
-#[derive(Drop)]
+#[derive(Clone, Copy)]
 pub enum LiteralU32 {
     Value(u32),
     Nothing,
 }
 
-#[derive(Drop)]
+#[derive(Clone, Copy)]
 pub enum LiteralBool {
     Value(bool),
     Nothing,

@@ -2,7 +2,7 @@
 use sedona_query_planner::spatial_predicate::SpatialPredicate;
 
 // Its predicate; that it has none; or that it asks for none of this kind.
-#[derive(Drop)]
+#[derive(Clone, Copy)]
 pub enum Matching {
     Matched(SpatialPredicate),
     Unmatched,

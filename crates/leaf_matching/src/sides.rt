@@ -15,7 +15,7 @@ use node_rows::pairs::two_at;
 use terms::sides::{JoinSide, side_number, side_numbered};
 
 // The columns seen so far: none, all on one side, or not.
-#[derive(Drop)]
+#[derive(Clone, Copy)]
 pub enum Sides {
     NoColumns,
     AllOn(JoinSide),
@@ -23,14 +23,14 @@ pub enum Sides {
 }
 
 // Where the walk of an argument ended, and the columns that it saw.
-#[derive(Drop)]
+#[derive(Clone, Copy)]
 pub struct Argument {
     pub end: usize,
     pub side: Sides,
 }
 
 // How two geometries lie: the first left and the second right, the other way round, or neither.
-#[derive(Drop)]
+#[derive(Clone, Copy)]
 pub enum Order {
     LeftRight,
     RightLeft,
@@ -38,7 +38,7 @@ pub enum Order {
 }
 
 // Two geometries in a row: where the second begins and ends, and how they lie.
-#[derive(Drop)]
+#[derive(Clone, Copy)]
 pub struct Geometries {
     pub second: usize,
     pub end: usize,

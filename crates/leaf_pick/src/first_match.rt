@@ -22,7 +22,7 @@ use sedona_query_planner::spatial_predicate::SpatialPredicate;
 use terms::settings::Settings;
 
 // Which matches a pass over the AND-leaves is for: KNN, or relations and distances.
-#[derive(Drop)]
+#[derive(Clone, Copy)]
 pub enum Wanted {
     Knn,
     Other,
@@ -30,7 +30,7 @@ pub enum Wanted {
 
 // An AND-leaf that is taken: its predicate, its position among the AND-leaves, and where it is cut out; the root counts as its
 // own parent.
-#[derive(Drop)]
+#[derive(Clone, Copy)]
 pub struct Pick {
     pub predicate: SpatialPredicate,
     pub position: usize,
@@ -38,20 +38,20 @@ pub struct Pick {
 }
 
 // What a pass found below a node; if nothing, how many AND-leaves there are up to its end.
-#[derive(Drop)]
+#[derive(Clone, Copy)]
 pub enum Found {
     Leaf(Pick),
     Nothing(usize),
 }
 
-#[derive(Drop)]
+#[derive(Clone, Copy)]
 pub enum Picked {
     Leaf(Pick),
     Nothing,
 }
 
 // An AND-leaf: where it stands, its index in the rows, its position among the AND-leaves, and what it is.
-#[derive(Drop)]
+#[derive(Clone, Copy)]
 pub struct Leaf {
     pub at: usize,
     pub index: usize,

@@ -19,7 +19,7 @@ use sedona_query_planner::spatial_predicate::SpatialPredicate;
 use terms::settings::Settings;
 
 // An AND-leaf that matches: its predicate, its position among the AND-leaves, and where it stands and ends.
-#[derive(Drop)]
+#[derive(Clone, Copy)]
 pub struct Seen {
     pub predicate: SpatialPredicate,
     pub position: usize,
@@ -28,35 +28,35 @@ pub struct Seen {
 }
 
 // What the walk remembers: the first match, or nothing yet.
-#[derive(Drop)]
+#[derive(Clone, Copy)]
 pub enum Memory {
     First(Seen),
     Nothing,
 }
 
 // What a leaf makes of it: a KNN match stops the walk.
-#[derive(Drop)]
+#[derive(Clone, Copy)]
 pub enum Read {
     Stopped(Seen),
     Going(Memory),
 }
 
 // The walk: what it remembers, and how many And nodes and AND-leaves it has read.
-#[derive(Drop)]
+#[derive(Clone, Copy)]
 pub struct Walk {
     pub memory: Memory,
     pub read: usize,
 }
 
 // What was picked, and the length of the walk.
-#[derive(Drop)]
+#[derive(Clone, Copy)]
 pub struct Walked {
     pub picked: Picked,
     pub walk: usize,
 }
 
 // A leaf that the walk comes to, and what it remembers by then.
-#[derive(Drop)]
+#[derive(Clone, Copy)]
 pub struct Coming {
     pub leaf: Leaf,
     pub memory: Memory,

@@ -8,7 +8,7 @@ use hexadecimal::digit_lines::put_line;
 use terms::refusals::{Refusal, refusal_number};
 
 // The length of the new plan, the four bytes of the logical call, or a refusal.
-#[derive(Drop)]
+#[derive(Clone, Copy)]
 pub enum Answer {
     Plan(usize),
     Logical(u8, u8, u8, u8),

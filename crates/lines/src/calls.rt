@@ -17,7 +17,7 @@ use terms::refusals::Refusal;
 use terms::settings::default_settings;
 
 // The calls that change a plan.
-#[derive(Drop)]
+#[derive(Clone, Copy)]
 enum Call {
     Extract,
     Exchange,

@@ -2,7 +2,7 @@
 ghost use Rattle.lines.specs.Collecting.{CollectedIs};
 
 // How many characters were taken, how many the line has so far, and whether it is at its end.
-#[derive(Drop)]
+#[derive(Clone, Copy)]
 pub struct Collected {
     pub taken: usize,
     pub count: usize,

@@ -7,7 +7,7 @@ ghost use Rattle.lines.specs.Sessions.{lent, Stands};
 pub const MOST_FILLED: usize = 32757;
 
 // The plan's length, how many characters the line has, and how many bytes are to be written.
-#[derive(Drop)]
+#[derive(Clone, Copy)]
 pub struct State {
     pub n: usize,
     pub count: usize,
@@ -15,7 +15,7 @@ pub struct State {
 }
 
 // How much of a piece was taken, and the state afterwards.
-#[derive(Drop)]
+#[derive(Clone, Copy)]
 pub struct Fed {
     pub taken: usize,
     pub state: State,

@@ -10,7 +10,7 @@ use frame_reader::frames::logical_frame;
 use terms::refusals::Refusal;
 
 // The names of a logical filter and its KNN query side, or why the call is refused.
-#[derive(Drop)]
+#[derive(Clone, Copy)]
 pub enum Names {
     Found(PredicateNames, KNNJoinQuerySide),
     Refused(Refusal),

@@ -13,7 +13,7 @@ use expression::leaves::{Node, node_at};
 use expression::names::same_name_ignore_case;
 
 // The first `st_knn` call: where its arguments begin, and how many there are; or where the walk ended without one.
-#[derive(Drop)]
+#[derive(Clone, Copy)]
 pub enum KnnCall {
     Arguments(usize, usize),
     Nothing(usize),
@@ -41,7 +41,7 @@ fn find_st_knn_call(s: &[u8], at: usize) -> KnnCall
 }
 
 // Whether all columns are in the left schema, and in the right one; and where the walk ended.
-#[derive(Drop)]
+#[derive(Clone, Copy)]
 pub struct Schemas {
     pub left: bool,
     pub right: bool,
@@ -85,7 +85,7 @@ fn column_refs_all(s: &[u8], at: usize, n: usize) -> Schemas
 }
 
 // The side of a KNN join whose plan has the query geometry.
-#[derive(Drop)]
+#[derive(Clone, Copy)]
 pub enum KNNJoinQuerySide {
     Left,
     Right,

@@ -45,7 +45,7 @@ fn name_bit(s: &[u8], at: usize, end: usize) -> u16
 const ST_DWITHIN: u16 = 1024;
 
 // Names that were collected, and where the walk ended.
-#[derive(Drop)]
+#[derive(Clone, Copy)]
 pub struct Collected {
     pub mask: u16,
     pub next: usize,
@@ -97,7 +97,7 @@ fn collect(s: &[u8], at: usize) -> Collected
 }
 
 // The mask of the names that were found, bit 0 for the first of the 15 names, and how many they are.
-#[derive(Drop)]
+#[derive(Clone, Copy)]
 pub struct PredicateNames {
     pub mask: u16,
     pub names: u32,

@@ -7,14 +7,14 @@ use super::field_readers::{Field, Skipped, byte_between, byte_up_to, name_bytes}
 use terms::refusals::Refusal;
 
 // Which columns an expression may have: those of a physical frame, below their count, or those of a logical one.
-#[derive(Drop)]
+#[derive(Clone, Copy)]
 pub enum Columns {
     Below(u64),
     Fields,
 }
 
 // A node's fields were read: where its children start, and how many they are.
-#[derive(Drop)]
+#[derive(Clone, Copy)]
 pub enum Head {
     Children(usize, u64),
     Refused(Refusal),

@@ -6,28 +6,28 @@ ghost use Rattle.node_reader.specs.Fields.{FieldIs, TwoIs, SkippedIs, reader_of,
 use terms::refusals::Refusal;
 
 // A field's value and the place after it.
-#[derive(Drop)]
+#[derive(Clone, Copy)]
 pub enum Field {
     Value(u64, usize),
     Refused(Refusal),
 }
 
 // Two fields' values and the place after them.
-#[derive(Drop)]
+#[derive(Clone, Copy)]
 pub enum Two {
     Values(u64, u64, usize),
     Refused(Refusal),
 }
 
 // What a field may be: a number of so many bytes, or a byte of at most so much.
-#[derive(Drop)]
+#[derive(Clone, Copy)]
 pub enum Sort {
     Bytes(usize),
     UpTo(u64),
 }
 
 // The place after something that has no nodes.
-#[derive(Drop)]
+#[derive(Clone, Copy)]
 pub enum Skipped {
     To(usize),
     Refused(Refusal),

@@ -14,7 +14,7 @@ use node_rows::numbers::put_node;
 use terms::refusals::Refusal;
 
 // The place after nodes, how many nodes there were up to it, and the depth of what was read.
-#[derive(Drop)]
+#[derive(Clone, Copy)]
 pub enum Walked {
     To {
         next: usize,

@@ -7,7 +7,7 @@ use super::numbers::node_number;
 use expression::heads::head_at;
 
 // Where a walk ended, and the index of the node that comes after it.
-#[derive(Drop)]
+#[derive(Clone, Copy)]
 pub struct Passed {
     pub end: usize,
     pub index: usize,

@@ -4,7 +4,7 @@ ghost use Rattle.node_rows.specs.Rows.{TwoTabled, OfTwo, TwoAre};
 use super::numbers::{end_of, start_of};
 
 // Where the first starts, where it ends and the second starts, where that ends, and the index after both.
-#[derive(Drop)]
+#[derive(Clone, Copy)]
 pub struct Two {
     pub start: usize,
     pub middle: usize,

@@ -1,5 +1,7 @@
 // The lent table of a frame's nodes. Only `put_nodes` writes into it and only `take_nodes` reads it; all other code works on a plain
 // row of numbers, one number a node record. Public for the crate `spatialjoin_c`.
+#![tactic(auto)]
+
 ghost use Rattle.std.specs.Prelude.{◌≡◌, map, ◌++◌, ◌<◌, ◌≤◌, length, get_or, take, drop};
 ghost use Rattle.node_rows.specs.Numbers.{number};
 ghost use Rattle.node_rows.specs.Rows.{Filling};
@@ -9,7 +11,7 @@ ghost use Rattle.node_table.specs.Records.{node_of, nodes_of, FilledIs};
 use node_rows::collecting::node_row;
 
 #[repr(C)]
-#[derive(Drop)]
+#[derive(Clone, Copy)]
 pub struct NodeRecord {
     pub kind: u8,
     pub start: u16,

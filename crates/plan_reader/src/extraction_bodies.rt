@@ -10,14 +10,14 @@ use sedona_query_planner::spatial_predicate::SpatialPredicate;
 use terms::refusals::Refusal;
 
 // What is left of the frame that a predicate was taken from.
-#[derive(Drop)]
+#[derive(Clone, Copy)]
 pub enum Remainder {
     Nothing,
     Frame(Frame),
 }
 
 // An extraction: the position that it holds, its predicate and its remainder.
-#[derive(Drop)]
+#[derive(Clone, Copy)]
 pub struct Extraction {
     pub position: u64,
     pub predicate: SpatialPredicate,
@@ -25,7 +25,7 @@ pub struct Extraction {
 }
 
 // What a plan's bytes hold.
-#[derive(Drop)]
+#[derive(Clone, Copy)]
 pub enum Held {
     Empty,
     Frame(Frame),
@@ -34,14 +34,14 @@ pub enum Held {
 }
 
 // A remainder and the place after it.
-#[derive(Drop)]
+#[derive(Clone, Copy)]
 pub enum Remained {
     Read(Remainder, usize),
     Refused(Refusal),
 }
 
 // An extraction and the place after it.
-#[derive(Drop)]
+#[derive(Clone, Copy)]
 pub enum Extracted {
     Read(Extraction, usize),
     Refused(Refusal),

@@ -18,14 +18,14 @@ use terms::refusals::Refusal;
 use terms::sides::JoinSide;
 
 // A predicate, the place after it, and how many nodes there were up to it.
-#[derive(Drop)]
+#[derive(Clone, Copy)]
 pub enum Predicated {
     Read(SpatialPredicate, usize, usize),
     Refused(Refusal),
 }
 
 // Two arguments: where the second starts, where it ends, and how many nodes there were up to it.
-#[derive(Drop)]
+#[derive(Clone, Copy)]
 pub enum Pair {
     Read(usize, usize, usize),
     Refused(Refusal),

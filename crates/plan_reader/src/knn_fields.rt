@@ -11,7 +11,7 @@ use terms::refusals::Refusal;
 use terms::sides::JoinSide;
 
 // The flags of KNN.
-#[derive(Drop)]
+#[derive(Clone, Copy)]
 pub struct Flags {
     pub use_spheroid: bool,
     pub probe_side: JoinSide,
@@ -19,7 +19,7 @@ pub struct Flags {
 }
 
 // Flags and the place after them.
-#[derive(Drop)]
+#[derive(Clone, Copy)]
 pub enum Flagged {
     Read(Flags, usize),
     Refused(Refusal),

@@ -14,7 +14,7 @@ use writing::copies::{copy_at, copy_bytes};
 use writing::numbers::put_number;
 
 // How far a copy read and wrote.
-#[derive(Drop)]
+#[derive(Clone, Copy)]
 pub struct Copied {
     pub read: usize,
     pub wrote: usize,
@@ -85,14 +85,14 @@ fn reproject_children(out: &mut [u8], src: &[u8], at: usize, n: usize, to: &[u16
 }
 
 // How the indexes of an argument's columns change as it is written.
-#[derive(Drop)]
+#[derive(Clone, Copy)]
 pub enum ColumnIndexes {
     Kept,
     FromTable,
 }
 
 // An argument of a predicate: where it stands and ends, and the side of its columns.
-#[derive(Drop)]
+#[derive(Clone, Copy)]
 pub struct Argument {
     pub start: usize,
     pub end: usize,

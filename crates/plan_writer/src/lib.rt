@@ -1,4 +1,6 @@
 // Writing plans: the one cycle that copies expressions, tables of new column indexes, heads, and predicates.
+#![tactic(auto)]
+
 pub mod arguments;
 pub mod column_tables;
 pub mod frame_heads;

@@ -8,7 +8,7 @@ use super::marks::{put_before, put_closing, put_opening};
 use expression::heads::head_at;
 
 // How far a print read and wrote.
-#[derive(Drop)]
+#[derive(Clone, Copy)]
 pub struct Printed {
     pub read: usize,
     pub wrote: usize,

@@ -7,7 +7,7 @@ ghost use Rattle.definitions.specs.Project.{place_in};
 ghost use Rattle.projection.specs.Chains.{place_of, link_of, Walk, Chain, Chained, Unfilled, Sought};
 
 // A place, from 0, or none.
-#[derive(Drop)]
+#[derive(Clone, Copy)]
 pub enum Place {
     At(usize),
     Missing,

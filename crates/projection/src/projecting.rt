@@ -10,7 +10,7 @@ use terms::sides::JoinSide;
 use writing::numbers::put_number;
 
 // How many child indexes there are, or that a list lacks one.
-#[derive(Drop)]
+#[derive(Clone, Copy)]
 pub enum Projected {
     Indexes(usize),
     Missing,

@@ -9,7 +9,7 @@ use expression::heads::head_at;
 use terms::sides::{JoinSide, side_number, side_numbered};
 
 // Where a walk ended, and the index of the row's entry that comes after it.
-#[derive(Drop)]
+#[derive(Clone, Copy)]
 pub struct Passed {
     pub end: usize,
     pub index: usize,

@@ -6,14 +6,14 @@ ghost use Rattle.queues.specs.Outcomes.{queue_is};
 use terms::refusals::Refusal;
 
 // Whose frames wait in it.
-#[derive(Drop)]
+#[derive(Clone, Copy)]
 pub enum Queue {
     Chassis,
     FixedUnit,
 }
 
 // The queue of the frame that was given and its length, that both queues are empty, or why the serve is refused.
-#[derive(Drop)]
+#[derive(Clone, Copy)]
 pub enum ServeAnswer {
     Frame(Queue, usize),
     BothEmpty,

@@ -13,7 +13,7 @@ use terms::refusals::Refusal;
 use writing::copies::copy_bytes;
 
 // The queue of the frame that is due.
-#[derive(Drop)]
+#[derive(Clone, Copy)]
 enum Due {
     From(Queue),
     Nothing,

@@ -1,4 +1,6 @@
 // What is left of a filter without the taken leaf: the columns that it names, the records that stay, and the frame that is written.
+#![tactic(auto)]
+
 pub mod kept_records;
 pub mod last;
 pub mod pruned;

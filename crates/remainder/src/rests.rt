@@ -12,7 +12,7 @@ use node_rows::numbers::end_of;
 use writing::copies::copy_at;
 
 // Where what stays of an expression starts, and how many AND-leaves are before the expression.
-#[derive(Drop)]
+#[derive(Clone, Copy)]
 pub struct Stays {
     pub start: usize,
     pub leaf: usize,

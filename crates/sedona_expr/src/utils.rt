@@ -16,14 +16,14 @@ use node_rows::numbers::{end_of, start_of};
 use node_rows::pairs::two_at;
 
 // The side of a comparison on which `st_distance` is looked for, and the other, its bound: each by the number that it was given.
-#[derive(Drop)]
+#[derive(Clone, Copy)]
 pub enum Compared {
     Sides(usize, usize),
     Nothing,
 }
 
 // The arguments of an `st_distance` call: where they begin, and how many there are.
-#[derive(Drop)]
+#[derive(Clone, Copy)]
 pub enum DistanceCall {
     Arguments(usize, usize),
     Nothing,
@@ -31,7 +31,7 @@ pub enum DistanceCall {
 
 // The places of both geometries, the first of which ends where the second starts, and of the distance; forms are 0 `st_dwithin`,
 // 1 Lt, 2 LtEq, 3 Gt, 4 GtEq.
-#[derive(Drop)]
+#[derive(Clone, Copy)]
 pub struct ParsedDistancePredicate {
     pub form: u8,
     pub arg0: usize,
@@ -41,7 +41,7 @@ pub struct ParsedDistancePredicate {
     pub distance_end: usize,
 }
 
-#[derive(Drop)]
+#[derive(Clone, Copy)]
 pub enum Parsed {
     Distance(ParsedDistancePredicate),
     Nothing,

@@ -12,14 +12,14 @@ use expression::names::{Case, name_index};
 use terms::sides::JoinSide;
 
 // A predicate of two geometries and what relates them; each argument stands from its start up to its end.
-#[derive(Drop)]
+#[derive(Clone, Copy)]
 pub enum SpatialPredicate {
     Distance(DistancePredicate),
     Relation(RelationPredicate),
     KNearestNeighbors(KNNPredicate),
 }
 
-#[derive(Drop)]
+#[derive(Clone, Copy)]
 pub struct DistancePredicate {
     pub left: usize,
     pub left_end: usize,
@@ -31,7 +31,7 @@ pub struct DistancePredicate {
     pub form: u8,
 }
 
-#[derive(Drop)]
+#[derive(Clone, Copy)]
 pub struct RelationPredicate {
     pub left: usize,
     pub left_end: usize,
@@ -41,13 +41,13 @@ pub struct RelationPredicate {
 }
 
 // Whether objects as near as the k-th are found too; where it is absent, the session decides.
-#[derive(Drop)]
+#[derive(Clone, Copy)]
 pub enum TieBreakers {
     Given(bool),
     Absent,
 }
 
-#[derive(Drop)]
+#[derive(Clone, Copy)]
 pub struct KNNPredicate {
     pub left: usize,
     pub left_end: usize,
@@ -59,7 +59,7 @@ pub struct KNNPredicate {
     pub include_tie_breakers: TieBreakers,
 }
 
-#[derive(Drop)]
+#[derive(Clone, Copy)]
 pub enum SpatialRelationType {
     Intersects,
     Contains,
@@ -73,7 +73,7 @@ pub enum SpatialRelationType {
 }
 
 // The type of a name that has one.
-#[derive(Drop)]
+#[derive(Clone, Copy)]
 pub enum NamedRelation {
     Relation(SpatialRelationType),
     Nothing,

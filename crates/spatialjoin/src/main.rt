@@ -7,6 +7,8 @@
 // be read: that `read_on` hands over what its read gave, that `streams::output::flush` writes what waits in the buffer that it is lent,
 // that `run` goes on until a read gives nothing or something fails, that `main` then ends the last line, and that `report` says what
 // failed.
+#![tactic(auto)]
+
 ghost use Rattle.std.specs.Prelude.{◌≡◌, replicate};
 ghost use Rattle.lines.specs.Sessions.{lent};
 ghost use Rattle.spatialjoin.specs.Runs.{ReadOn, Ran, LastIs};

@@ -6,7 +6,7 @@ use libc::STDOUT_FILENO;
 use lines::states::{MOST_FILLED, State};
 
 // What follows a read: another one, or the end of the input; or it failed, or a write did.
-#[derive(Drop)]
+#[derive(Clone, Copy)]
 pub enum Turn {
     More(State),
     Ended(State),

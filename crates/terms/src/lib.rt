@@ -1,4 +1,6 @@
 // Terms of document 01 that every layer speaks of, as enums with their numbers.
+#![tactic(auto)]
+
 pub mod refusals;
 pub mod settings;
 pub mod sides;

@@ -3,7 +3,7 @@ ghost use Rattle.std.specs.Prelude.{◌≡◌};
 ghost use Rattle.terms.specs.Refusals.{number_of};
 
 // Why a call is refused, in the order of the numbers: 1 to 14 of document 01, then those of 02's requests.
-#[derive(Drop)]
+#[derive(Clone, Copy)]
 pub enum Refusal {
     EmptyOrTooLong,
     WrongFirstByte,

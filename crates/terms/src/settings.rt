@@ -5,7 +5,7 @@ ghost use Rattle.definitions.specs.SettingsClaims.{GoodSettings};
 ghost use Rattle.terms.specs.Settings.{settings_of};
 
 // The kinds allowed (bit 0 relation, bit 1 distance, bit 2 KNN), the default k and the greatest k.
-#[derive(Drop)]
+#[derive(Clone, Copy)]
 pub struct Settings {
     pub kinds: u32,
     pub default_k: u32,

@@ -6,7 +6,7 @@ ghost use Rattle.definitions.specs.Exchange as definitions;
 ghost use Rattle.terms.specs.Sides.{join_side};
 
 // A side of the join; none is a mark column's, and that of an argument without columns.
-#[derive(Drop)]
+#[derive(Clone, Copy)]
 pub enum JoinSide {
     Left,
     Right,

@@ -1,0 +1,200 @@
+-- `collect_nodes` and `collect_children`: the children fill the rows from the next index on, and then the node's own place is known.
+use Prim.Native.Nat.{ℕ, ◌+◌, ◌-◌, ◌*◌}
+use native.Mathlib.Omega.{arith}
+use mathlib.Core.Path.{refl}
+use lib.ListN.{length, length-set}
+use Rattle.expression.specs.Nodes.{OfTrees}
+use Rattle.expression.proofs.Cycles.{below}
+use Rattle.expression.proofs.Standing.{node-some, after-head}
+use Rattle.node_rows.specs.Rows.{CollectedAll}
+use Rattle.node_rows.proofs.CollectWalk.{fits-tree, children-fit, Own, own-fits, collects-node, Collecting, collecting-begins, collecting-first, collecting-goes-on, collecting-ends, collects-none}
+use Rattle.node_rows.proofs.collecting.+collect_children_collect_nodes.Goals as goal
+use Rattle.node_rows.proofs.collecting.+collect_children_collect_nodes.Goals.{collect_nodes-After-collect_children-passed, collect_nodes-Then-n-eq0}
+
+abbrev node_at : ℕ → In 3 node-kinds.ps
+node_at t = and 3 node-kinds.ps (is 3 node-kinds.ps μ-node t) node.Pre
+
+abbrev node-claims : ℕ → node-lts.Claims
+node-claims t = (
+  head_at.Asked,
+  head_at.Learnt,
+  node-number.Asked,
+  node-number.Learnt,
+  below 3 row-kinds.ps μ-row row.Pre t,
+  row.Post,
+)
+
+-- A node without children has none to collect: its own place in the rows is known at once.
+none : (c : collect_nodes-Then-n-eq0)
+    → let start = c.args in
+    let head = c.head_at-head.result in
+    OfTrees start.s.now head.next head.children
+    (CollectedAll head.next (start.i + 1) start.numbers.now start.next.now start.numbers.now start.next.now
+    (record { end = head.next; index = start.i + 1 }))
+none c = λ d ts row. collects-none row c.if-n-eq0.true
+
+bare : (c : collect_nodes-Then-n-eq0)
+    → let start = c.args in
+    Own start.s.now start.at start.i start.numbers.now start.next.now
+    (record { end = c.head_at-head.result.next; index = start.i + 1 })
+bare c =
+    let fits = c.requires.1 in
+    own-fits c.args.i (none t c) refl refl fits
+    (c.head_at-head.ensures fits.columns fits.tree fits.stands)
+
+-- Once the children are collected, it is known too.
+known : (c : collect_nodes-After-collect_children-passed)
+    → let start = c.args in
+    Own start.s.now start.at start.i c.collect_children-passed.new.numbers c.collect_children-passed.new.next
+    c.collect_children-passed.result
+known c =
+    let call = c.collect_children-passed in
+    let fits = c.requires.1 in
+    own-fits c.args.i call.ensures call.auto.numbers call.auto.next fits
+    (c.head_at-head.ensures fits.columns fits.tree fits.stands)
+
+pub collect_children-loop-left-init : goal.collect_children-loop-left-init
+collect_children-loop-left-init t c =
+    collecting-begins c.requires.1
+
+pub collect_children-collect_nodes-one-requires : goal.collect_children-collect_nodes-one-requires
+collect_children-collect_nodes-one-requires t c =
+    let loop = c.loop-left in
+    (
+      omega (arith, c.requires.0, loop.invariant.low),
+      collecting-first loop.invariant c.loop-left-test.true,
+    )
+
+pub collect_children-overflow_sub-left : goal.collect_children-overflow_sub-left
+collect_children-overflow_sub-left t c =
+    omega (arith, c.loop-left-test.true)
+
+pub collect_children-loop-left-smaller : goal.collect_children-loop-left-smaller
+collect_children-loop-left-smaller t c =
+    omega (arith, c.loop-left-test.true)
+
+pub collect_children-loop-left-preserved : goal.collect_children-loop-left-preserved
+collect_children-loop-left-preserved t c =
+    let call = c.collect_nodes-one in
+    collecting-goes-on c.loop-left.invariant c.loop-left-test.true call.auto.numbers call.auto.next call.ensures
+
+pub collect_children-shape_of-numbers : goal.collect_children-shape_of-numbers
+collect_children-shape_of-numbers t c =
+    c.loop-left.invariant.same
+
+pub collect_children-shape_of-next : goal.collect_children-shape_of-next
+collect_children-shape_of-next t c =
+    c.loop-left.invariant.alike
+
+pub collect_children-returns : goal.collect_children-returns
+collect_children-returns t c =
+    collecting-ends c.loop-left.invariant c.loop-left-test.false
+
+pub collect_nodes-head_at-head-requires : goal.collect_nodes-head_at-head-requires
+collect_nodes-head_at-head-requires t c =
+    fits-tree c.requires.1
+
+pub collect_nodes-bounds-s-at : goal.collect_nodes-bounds-s-at
+collect_nodes-bounds-s-at t c =
+    node-some c.requires.1.stands
+
+pub collect_nodes-node_number-requires : goal.collect_nodes-node_number-requires
+collect_nodes-node_number-requires t c =
+    let own = bare (goal.at.collect_nodes-node_number-requires c).Then-n-eq0 in (own.kind, own.start, own.end)
+
+pub collect_nodes-offset_bounds-numbers-i : goal.collect_nodes-offset_bounds-numbers-i
+collect_nodes-offset_bounds-numbers-i t c =
+    omega (arith, (bare (goal.at.collect_nodes-offset_bounds-numbers-i c).Then-n-eq0).numbered, c.well_formed)
+
+pub collect_nodes-bounds-numbers-i : goal.collect_nodes-bounds-numbers-i
+collect_nodes-bounds-numbers-i t c =
+    (bare (goal.at.collect_nodes-bounds-numbers-i c).Then-n-eq0).numbered
+
+pub collect_nodes-overflow_add-next : goal.collect_nodes-overflow_add-next
+collect_nodes-overflow_add-next t c =
+    omega (arith, (bare (goal.at.collect_nodes-overflow_add-next c).Then-n-eq0).few)
+
+pub collect_nodes-overflow_cast-next : goal.collect_nodes-overflow_cast-next
+collect_nodes-overflow_cast-next t c =
+    omega (arith, (bare (goal.at.collect_nodes-overflow_cast-next c).Then-n-eq0).few)
+
+pub collect_nodes-offset_bounds-next-i : goal.collect_nodes-offset_bounds-next-i
+collect_nodes-offset_bounds-next-i t c =
+    omega (arith, (bare (goal.at.collect_nodes-offset_bounds-next-i c).Then-n-eq0).followed, c.well_formed)
+
+pub collect_nodes-bounds-next-i : goal.collect_nodes-bounds-next-i
+collect_nodes-bounds-next-i t c =
+    (bare (goal.at.collect_nodes-bounds-next-i c).Then-n-eq0).followed
+
+pub collect_nodes-overflow_add-result : goal.collect_nodes-overflow_add-result
+collect_nodes-overflow_add-result t c =
+    omega (arith, (bare (goal.at.collect_nodes-overflow_add-result c).Then-n-eq0).few)
+
+pub collect_nodes-shape_of-numbers-then-n-eq0 : goal.collect_nodes-shape_of-numbers-then-n-eq0
+collect_nodes-shape_of-numbers-then-n-eq0 t c =
+    simp length-set refl
+
+pub collect_nodes-shape_of-next-then-n-eq0 : goal.collect_nodes-shape_of-next-then-n-eq0
+collect_nodes-shape_of-next-then-n-eq0 t c =
+    simp length-set refl
+
+pub collect_nodes-returns-then-n-eq0 : goal.collect_nodes-returns-then-n-eq0
+collect_nodes-returns-then-n-eq0 t c =
+    λ d u stands.
+    collects-node c.args.i (none (goal.at.collect_nodes-returns-then-n-eq0 c).Then-n-eq0 c.requires.1 c.node_number.result
+        c.node_number.ensures stands (c.head_at-head.ensures d u stands)
+
+pub collect_nodes-overflow_add-i : goal.collect_nodes-overflow_add-i
+collect_nodes-overflow_add-i t c =
+    omega (arith, c.requires.1.room.few)
+
+pub collect_nodes-collect_children-passed-requires : goal.collect_nodes-collect_children-passed-requires
+collect_nodes-collect_children-passed-requires t c =
+    let fits = c.requires.1 in
+    let head = c.head_at-head in
+    let its = head.ensures fits.columns fits.tree fits.stands in (
+      omega (arith, c.requires.0, node-some fits.stands, after-head fits.stands head.result.next its.next),
+      children-fit fits head.result its,
+    )
+
+pub collect_nodes-bounds-s-at-2 : goal.collect_nodes-bounds-s-at-2
+collect_nodes-bounds-s-at-2 t c =
+    node-some c.requires.1.stands
+
+pub collect_nodes-node_number-requires-2 : goal.collect_nodes-node_number-requires-2
+collect_nodes-node_number-requires-2 t c =
+    let own = known (goal.at.collect_nodes-node_number-requires-2 c).After-collect_children-passed in (own.kind, own.start, own.end)
+
+pub collect_nodes-offset_bounds-numbers-i-2 : goal.collect_nodes-offset_bounds-numbers-i-2
+collect_nodes-offset_bounds-numbers-i-2 t c =
+    omega (arith, (known (goal.at.collect_nodes-offset_bounds-numbers-i-2 c).After-collect_children-passed).numbered, c.well_formed)
+
+pub collect_nodes-bounds-numbers-i-2 : goal.collect_nodes-bounds-numbers-i-2
+collect_nodes-bounds-numbers-i-2 t c =
+    omega (arith, (known (goal.at.collect_nodes-bounds-numbers-i-2 c).After-collect_children-passed).numbered)
+
+pub collect_nodes-overflow_cast-next-2 : goal.collect_nodes-overflow_cast-next-2
+collect_nodes-overflow_cast-next-2 t c =
+    omega (arith, (known (goal.at.collect_nodes-overflow_cast-next-2 c).After-collect_children-passed).few)
+
+pub collect_nodes-offset_bounds-next-i-2 : goal.collect_nodes-offset_bounds-next-i-2
+collect_nodes-offset_bounds-next-i-2 t c =
+    omega (arith, (known (goal.at.collect_nodes-offset_bounds-next-i-2 c).After-collect_children-passed).followed, c.well_formed)
+
+pub collect_nodes-bounds-next-i-2 : goal.collect_nodes-bounds-next-i-2
+collect_nodes-bounds-next-i-2 t c =
+    omega (arith, (known (goal.at.collect_nodes-bounds-next-i-2 c).After-collect_children-passed).followed)
+
+pub collect_nodes-shape_of-numbers : goal.collect_nodes-shape_of-numbers
+collect_nodes-shape_of-numbers t c =
+    simp length-set c.collect_children-passed.auto.numbers
+
+pub collect_nodes-shape_of-next : goal.collect_nodes-shape_of-next
+collect_nodes-shape_of-next t c =
+    simp length-set c.collect_children-passed.auto.next
+
+pub collect_nodes-returns : goal.collect_nodes-returns
+collect_nodes-returns t c =
+    λ d u stands.
+    collects-node c.args.i c.collect_children-passed.ensures c.requires.1 c.node_number-2.result
+        c.node_number-2.ensures stands (c.head_at-head.ensures d u stands)

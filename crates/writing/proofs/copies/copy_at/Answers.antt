@@ -1,0 +1,13 @@
+-- `copy_at`: what was copied to the lent part stands from w on.
+use borrow.Author.Rules.{rules}
+use Rattle.writing.proofs.SpanLaws.{span_fits, span-put}
+use Rattle.writing.proofs.copies.copy_at.Goals as goal
+
+pub copy_bytes-requires : goal.copy_bytes-requires
+copy_bytes-requires c =
+    span_fits c.requires
+
+pub returns : goal.returns
+returns c =
+    let call = c.copy_bytes in
+    span-put c.args.out.now call.new.out call.ensures
