@@ -9,12 +9,12 @@ use Rattle.expression.proofs.ends.+end_children_end_node.Goals as goal
 
 pub end_children-loop-left-init : goal.end_children-loop-left-init
 end_children-loop-left-init t c =
-    ends-begin c.requires.1
+    ends-begin c.requires
 
 pub end_children-end_node-next-requires : goal.end_children-end_node-next-requires
 end_children-end_node-next-requires t c =
     let inv = c.loop-left.invariant in
-    (omega (arith, c.requires.0, inv.low), ends-first inv c.loop-left-test.true)
+    (omega (arith, inv.low), ends-first inv c.loop-left-test.true)
 
 pub end_children-loop-left-preserved : goal.end_children-loop-left-preserved
 end_children-loop-left-preserved t c =
@@ -26,7 +26,7 @@ end_children-returns t c =
 
 pub end_node-head_at-head-requires : goal.end_node-head_at-head-requires
 end_node-head_at-head-requires t c =
-    c.requires.1
+    c.requires
 
 pub end_node-returns-then-n-eq0 : goal.end_node-returns-then-n-eq0
 end_node-returns-then-n-eq0 t c =
@@ -36,10 +36,10 @@ end_node-returns-then-n-eq0 t c =
 
 pub end_node-end_children-requires : goal.end_node-end_children-requires
 end_node-end_children-requires t c =
-    let tree = c.requires.1 in
+    let tree = c.requires in
     let result = c.head_at-head.result in
     let head = c.head_at-head.ensures tree.0 tree.1 tree.2 in (
-      omega (arith, c.requires.0, node-some tree.2, after-head tree.2 result.next head.next),
+      omega (arith, node-some tree.2, after-head tree.2 result.next head.next),
       children-there tree result head,
     )
 

@@ -7,10 +7,18 @@ use Rattle.expression.proofs.Standing.{node-some, after-head}
 use Rattle.expression.proofs.EndWalk.{end-node, end_none, children-there, InEnds, ends-begin, ends-first, ends-go-on, ends-end}
 use Rattle.expression.proofs.ends.+end_children_end_node.Given as goal
 
-abbrev pub end_children-invariant-loop-left : goal.end_children-invariant-loop-left
-end_children-invariant-loop-left l =
+abbrev pub invariant-end_children-loop-left : goal.invariant-end_children-loop-left
+invariant-end_children-loop-left l =
     InEnds l.s l.at l.n l.next l.left
 
-abbrev pub end_children-decreases-loop-left : goal.end_children-decreases-loop-left
-end_children-decreases-loop-left l =
+abbrev pub decreases-end_children-loop-left : goal.decreases-end_children-loop-left
+decreases-end_children-loop-left l =
     l.left
+
+abbrev pub decreases-end_children : goal.decreases-end_children
+decreases-end_children l =
+    2 * (length l.s.now - l.at) + 1
+
+abbrev pub decreases-end_node : goal.decreases-end_node
+decreases-end_node l =
+    2 * (length l.s.now - l.at)

@@ -30,7 +30,7 @@ pub returns-in_default-s : goal.returns-in_default-s
 returns-in_default-s c =
     λ d t h.
     let head = c.head_at-head in
-    node-binary head.result h (head.ensures d t h) c.in-2.is c.in_default-s.rest.1
+    node-binary head.result h (head.ensures d t h) c.in-2.is c.in_default-s.in_default-s-own.rest.1
 
 pub returns-in-3 : goal.returns-in-3
 returns-in-3 c =

@@ -27,7 +27,7 @@ unfolding literal_in_range
 returns-in-2 c =
     rw c.in-2.is
     (c.is_int32.ensures
-    ∙ ap is_int32 (to_z-of_z {w = w64} {z = c.signed.result} (record { sfits = c.signed.type-inv })
+    ∙ ap is_int32 (to_z-of_z {w = w64} {z = c.signed.result} (record { sfits = c.signed.type_inv })
     ∙ c.signed.ensures))
 
 pub returns-in-4 : goal.returns-in-4

@@ -7,11 +7,11 @@ use Rattle.expression.proofs.names.letter_in.Goals as goal
 
 pub returns-in-65-to-90 : goal.returns-in-65-to-90
 returns-in-65-to-90 c =
-    rw c.in-Ignored.is (sym (capital _ c.if-b-lt65.false (omega arith)))
+    rw c.in-Ignored.is (sym (capital _ c.in-65-to-90.if-b-lt65-own.false (omega arith)))
 
 pub returns-in_default : goal.returns-in_default
 returns-in_default c =
-    rw c.in-Ignored.is (sym (below-capitals _ c.if-b-lt65.true))
+    rw c.in-Ignored.is (sym (below-capitals _ c.in_default.if-b-lt65-own.true))
 
 pub returns-in_default-2 : goal.returns-in_default-2
 returns-in_default-2 c =

@@ -38,7 +38,7 @@ bare : (c : collect_nodes-Then-n-eq0)
     Own start.s.now start.at start.i start.numbers.now start.next.now
     (record { end = c.head_at-head.result.next; index = start.i + 1 })
 bare c =
-    let fits = c.requires.1 in
+    let fits = c.requires in
     own-fits c.args.i (none t c) refl refl fits
     (c.head_at-head.ensures fits.columns fits.tree fits.stands)
 
@@ -49,19 +49,19 @@ known : (c : collect_nodes-After-collect_children-passed)
     c.collect_children-passed.result
 known c =
     let call = c.collect_children-passed in
-    let fits = c.requires.1 in
+    let fits = c.requires in
     own-fits c.args.i call.ensures call.auto.numbers call.auto.next fits
     (c.head_at-head.ensures fits.columns fits.tree fits.stands)
 
 pub collect_children-loop-left-init : goal.collect_children-loop-left-init
 collect_children-loop-left-init t c =
-    collecting-begins c.requires.1
+    collecting-begins c.requires
 
 pub collect_children-collect_nodes-one-requires : goal.collect_children-collect_nodes-one-requires
 collect_children-collect_nodes-one-requires t c =
     let loop = c.loop-left in
     (
-      omega (arith, c.requires.0, loop.invariant.low),
+      omega (arith, loop.invariant.low),
       collecting-first loop.invariant c.loop-left-test.true,
     )
 
@@ -92,11 +92,11 @@ collect_children-returns t c =
 
 pub collect_nodes-head_at-head-requires : goal.collect_nodes-head_at-head-requires
 collect_nodes-head_at-head-requires t c =
-    fits-tree c.requires.1
+    fits-tree c.requires
 
 pub collect_nodes-bounds-s-at : goal.collect_nodes-bounds-s-at
 collect_nodes-bounds-s-at t c =
-    node-some c.requires.1.stands
+    node-some c.requires.stands
 
 pub collect_nodes-node_number-requires : goal.collect_nodes-node_number-requires
 collect_nodes-node_number-requires t c =
@@ -141,25 +141,25 @@ collect_nodes-shape_of-next-then-n-eq0 t c =
 pub collect_nodes-returns-then-n-eq0 : goal.collect_nodes-returns-then-n-eq0
 collect_nodes-returns-then-n-eq0 t c =
     λ d u stands.
-    collects-node c.args.i (none (goal.at.collect_nodes-returns-then-n-eq0 c).Then-n-eq0 c.requires.1 c.node_number.result
+    collects-node c.args.i (none (goal.at.collect_nodes-returns-then-n-eq0 c).Then-n-eq0 c.requires c.node_number.result
         c.node_number.ensures stands (c.head_at-head.ensures d u stands)
 
 pub collect_nodes-overflow_add-i : goal.collect_nodes-overflow_add-i
 collect_nodes-overflow_add-i t c =
-    omega (arith, c.requires.1.room.few)
+    omega (arith, c.requires.room.few)
 
 pub collect_nodes-collect_children-passed-requires : goal.collect_nodes-collect_children-passed-requires
 collect_nodes-collect_children-passed-requires t c =
-    let fits = c.requires.1 in
+    let fits = c.requires in
     let head = c.head_at-head in
     let its = head.ensures fits.columns fits.tree fits.stands in (
-      omega (arith, c.requires.0, node-some fits.stands, after-head fits.stands head.result.next its.next),
+      omega (arith, node-some fits.stands, after-head fits.stands head.result.next its.next),
       children-fit fits head.result its,
     )
 
 pub collect_nodes-bounds-s-at-2 : goal.collect_nodes-bounds-s-at-2
 collect_nodes-bounds-s-at-2 t c =
-    node-some c.requires.1.stands
+    node-some c.requires.stands
 
 pub collect_nodes-node_number-requires-2 : goal.collect_nodes-node_number-requires-2
 collect_nodes-node_number-requires-2 t c =
@@ -196,5 +196,5 @@ collect_nodes-shape_of-next t c =
 pub collect_nodes-returns : goal.collect_nodes-returns
 collect_nodes-returns t c =
     λ d u stands.
-    collects-node c.args.i c.collect_children-passed.ensures c.requires.1 c.node_number-2.result
+    collects-node c.args.i c.collect_children-passed.ensures c.requires c.node_number-2.result
         c.node_number-2.ensures stands (c.head_at-head.ensures d u stands)

@@ -10,14 +10,18 @@ use Rattle.node_rows.specs.Rows.{CollectedAll}
 use Rattle.node_rows.proofs.CollectWalk.{fits-tree, children-fit, Own, own-fits, collects-node, Collecting, collecting-begins, collecting-first, collecting-goes-on, collecting-ends, collects-none}
 use Rattle.node_rows.proofs.collecting.+collect_children_collect_nodes.Given as goal
 
-abbrev pub collect_children-invariant-loop-left : goal.collect_children-invariant-loop-left
-collect_children-invariant-loop-left l =
+abbrev pub invariant-collect_children-loop-left : goal.invariant-collect_children-loop-left
+invariant-collect_children-loop-left l =
     Collecting l.s l.at l.n l.i l.initial.numbers l.initial.next l.end l.left l.index l.numbers l.next
 
-abbrev pub collect_children-decreases-loop-left : goal.collect_children-decreases-loop-left
-collect_children-decreases-loop-left l =
+abbrev pub decreases-collect_children-loop-left : goal.decreases-collect_children-loop-left
+decreases-collect_children-loop-left l =
     l.left
 
--- MEASURE μ-row 2 * (length a.1.1.0.now - a.1.1.1.0) + 1
+abbrev pub decreases-collect_children : goal.decreases-collect_children
+decreases-collect_children l =
+    2 * (length l.s.now - l.at) + 1
 
--- MEASURE μ-node 2 * (length a.1.1.0.now - a.1.1.1.0)
+abbrev pub decreases-collect_nodes : goal.decreases-collect_nodes
+decreases-collect_nodes l =
+    2 * (length l.s.now - l.at)
