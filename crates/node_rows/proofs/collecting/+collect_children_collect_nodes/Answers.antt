@@ -11,43 +11,30 @@ use Rattle.node_rows.proofs.CollectWalk.{fits-tree, children-fit, Own, own-fits,
 use Rattle.node_rows.proofs.collecting.+collect_children_collect_nodes.Goals as goal
 use Rattle.node_rows.proofs.collecting.+collect_children_collect_nodes.Goals.{collect_nodes-After-collect_children-passed, collect_nodes-Then-n-eq0}
 
-abbrev node_at : ℕ → In 3 node-kinds.ps
-node_at t = and 3 node-kinds.ps (is 3 node-kinds.ps μ-node t) node.Pre
-
-abbrev node-claims : ℕ → node-lts.Claims
-node-claims t = (
-  head_at.Asked,
-  head_at.Learnt,
-  node-number.Asked,
-  node-number.Learnt,
-  below 3 row-kinds.ps μ-row row.Pre t,
-  row.Post,
-)
-
--- A node without children has none to collect: its own place in the rows is known at once.
-none : (c : collect_nodes-Then-n-eq0)
+-- A node without children has none t c collect: its own place in the rows is known t c once.
+none : (t : ℕ) (c : collect_nodes-Then-n-eq0 t)
     → let start = c.args in
     let head = c.head_at-head.result in
     OfTrees start.s.now head.next head.children
     (CollectedAll head.next (start.i + 1) start.numbers.now start.next.now start.numbers.now start.next.now
     (record { end = head.next; index = start.i + 1 }))
-none c = λ d ts row. collects-none row c.if-n-eq0.true
+none t c = λ d ts row. collects-none row c.if-n-eq0.true
 
-bare : (c : collect_nodes-Then-n-eq0)
+bare : (t : ℕ) (c : collect_nodes-Then-n-eq0 t)
     → let start = c.args in
     Own start.s.now start.at start.i start.numbers.now start.next.now
     (record { end = c.head_at-head.result.next; index = start.i + 1 })
-bare c =
+bare t c =
     let fits = c.requires in
     own-fits c.args.i (none t c) refl refl fits
     (c.head_at-head.ensures fits.columns fits.tree fits.stands)
 
 -- Once the children are collected, it is known too.
-known : (c : collect_nodes-After-collect_children-passed)
+known : (t : ℕ) (c : collect_nodes-After-collect_children-passed t)
     → let start = c.args in
     Own start.s.now start.at start.i c.collect_children-passed.new.numbers c.collect_children-passed.new.next
     c.collect_children-passed.result
-known c =
+known t c =
     let call = c.collect_children-passed in
     let fits = c.requires in
     own-fits c.args.i call.ensures call.auto.numbers call.auto.next fits
@@ -100,35 +87,35 @@ collect_nodes-bounds-s-at t c =
 
 pub collect_nodes-node_number-requires : goal.collect_nodes-node_number-requires
 collect_nodes-node_number-requires t c =
-    let own = bare (goal.at.collect_nodes-node_number-requires c).Then-n-eq0 in (own.kind, own.start, own.end)
+    let own = bare t (goal.at.collect_nodes-node_number-requires t c).Then-n-eq0 in (own.kind, own.start, own.end)
 
 pub collect_nodes-offset_bounds-numbers-i : goal.collect_nodes-offset_bounds-numbers-i
 collect_nodes-offset_bounds-numbers-i t c =
-    omega (arith, (bare (goal.at.collect_nodes-offset_bounds-numbers-i c).Then-n-eq0).numbered, c.well_formed)
+    omega (arith, (bare t (goal.at.collect_nodes-offset_bounds-numbers-i t c).Then-n-eq0).numbered, c.well_formed)
 
 pub collect_nodes-bounds-numbers-i : goal.collect_nodes-bounds-numbers-i
 collect_nodes-bounds-numbers-i t c =
-    (bare (goal.at.collect_nodes-bounds-numbers-i c).Then-n-eq0).numbered
+    (bare t (goal.at.collect_nodes-bounds-numbers-i t c).Then-n-eq0).numbered
 
 pub collect_nodes-overflow_add-next : goal.collect_nodes-overflow_add-next
 collect_nodes-overflow_add-next t c =
-    omega (arith, (bare (goal.at.collect_nodes-overflow_add-next c).Then-n-eq0).few)
+    omega (arith, (bare t (goal.at.collect_nodes-overflow_add-next t c).Then-n-eq0).few)
 
 pub collect_nodes-overflow_cast-next : goal.collect_nodes-overflow_cast-next
 collect_nodes-overflow_cast-next t c =
-    omega (arith, (bare (goal.at.collect_nodes-overflow_cast-next c).Then-n-eq0).few)
+    omega (arith, (bare t (goal.at.collect_nodes-overflow_cast-next t c).Then-n-eq0).few)
 
 pub collect_nodes-offset_bounds-next-i : goal.collect_nodes-offset_bounds-next-i
 collect_nodes-offset_bounds-next-i t c =
-    omega (arith, (bare (goal.at.collect_nodes-offset_bounds-next-i c).Then-n-eq0).followed, c.well_formed)
+    omega (arith, (bare t (goal.at.collect_nodes-offset_bounds-next-i t c).Then-n-eq0).followed, c.well_formed)
 
 pub collect_nodes-bounds-next-i : goal.collect_nodes-bounds-next-i
 collect_nodes-bounds-next-i t c =
-    (bare (goal.at.collect_nodes-bounds-next-i c).Then-n-eq0).followed
+    (bare t (goal.at.collect_nodes-bounds-next-i t c).Then-n-eq0).followed
 
 pub collect_nodes-overflow_add-result : goal.collect_nodes-overflow_add-result
 collect_nodes-overflow_add-result t c =
-    omega (arith, (bare (goal.at.collect_nodes-overflow_add-result c).Then-n-eq0).few)
+    omega (arith, (bare t (goal.at.collect_nodes-overflow_add-result t c).Then-n-eq0).few)
 
 pub collect_nodes-shape_of-numbers-then-n-eq0 : goal.collect_nodes-shape_of-numbers-then-n-eq0
 collect_nodes-shape_of-numbers-then-n-eq0 t c =
@@ -141,7 +128,7 @@ collect_nodes-shape_of-next-then-n-eq0 t c =
 pub collect_nodes-returns-then-n-eq0 : goal.collect_nodes-returns-then-n-eq0
 collect_nodes-returns-then-n-eq0 t c =
     λ d u stands.
-    collects-node c.args.i (none (goal.at.collect_nodes-returns-then-n-eq0 c).Then-n-eq0 c.requires c.node_number.result
+    collects-node c.args.i (none t (goal.at.collect_nodes-returns-then-n-eq0 t c).Then-n-eq0) c.requires c.node_number.result
         c.node_number.ensures stands (c.head_at-head.ensures d u stands)
 
 pub collect_nodes-overflow_add-i : goal.collect_nodes-overflow_add-i
@@ -163,27 +150,27 @@ collect_nodes-bounds-s-at-2 t c =
 
 pub collect_nodes-node_number-requires-2 : goal.collect_nodes-node_number-requires-2
 collect_nodes-node_number-requires-2 t c =
-    let own = known (goal.at.collect_nodes-node_number-requires-2 c).After-collect_children-passed in (own.kind, own.start, own.end)
+    let own = known t (goal.at.collect_nodes-node_number-requires-2 t c).After-collect_children-passed in (own.kind, own.start, own.end)
 
 pub collect_nodes-offset_bounds-numbers-i-2 : goal.collect_nodes-offset_bounds-numbers-i-2
 collect_nodes-offset_bounds-numbers-i-2 t c =
-    omega (arith, (known (goal.at.collect_nodes-offset_bounds-numbers-i-2 c).After-collect_children-passed).numbered, c.well_formed)
+    omega (arith, (known t (goal.at.collect_nodes-offset_bounds-numbers-i-2 t c).After-collect_children-passed).numbered, c.well_formed)
 
 pub collect_nodes-bounds-numbers-i-2 : goal.collect_nodes-bounds-numbers-i-2
 collect_nodes-bounds-numbers-i-2 t c =
-    omega (arith, (known (goal.at.collect_nodes-bounds-numbers-i-2 c).After-collect_children-passed).numbered)
+    omega (arith, (known t (goal.at.collect_nodes-bounds-numbers-i-2 t c).After-collect_children-passed).numbered)
 
 pub collect_nodes-overflow_cast-next-2 : goal.collect_nodes-overflow_cast-next-2
 collect_nodes-overflow_cast-next-2 t c =
-    omega (arith, (known (goal.at.collect_nodes-overflow_cast-next-2 c).After-collect_children-passed).few)
+    omega (arith, (known t (goal.at.collect_nodes-overflow_cast-next-2 t c).After-collect_children-passed).few)
 
 pub collect_nodes-offset_bounds-next-i-2 : goal.collect_nodes-offset_bounds-next-i-2
 collect_nodes-offset_bounds-next-i-2 t c =
-    omega (arith, (known (goal.at.collect_nodes-offset_bounds-next-i-2 c).After-collect_children-passed).followed, c.well_formed)
+    omega (arith, (known t (goal.at.collect_nodes-offset_bounds-next-i-2 t c).After-collect_children-passed).followed, c.well_formed)
 
 pub collect_nodes-bounds-next-i-2 : goal.collect_nodes-bounds-next-i-2
 collect_nodes-bounds-next-i-2 t c =
-    omega (arith, (known (goal.at.collect_nodes-bounds-next-i-2 c).After-collect_children-passed).followed)
+    omega (arith, (known t (goal.at.collect_nodes-bounds-next-i-2 t c).After-collect_children-passed).followed)
 
 pub collect_nodes-shape_of-numbers : goal.collect_nodes-shape_of-numbers
 collect_nodes-shape_of-numbers t c =

@@ -41,5 +41,5 @@ overflow_cast-result c =
 pub returns : goal.returns
 returns c =
     λ at a b more h.
-    two-are h _ c.start_of.ensures c.end_of_lem.ensures _ refl
+    two-are h _ c.start_of.ensures c.end_of.ensures _ refl
         c.end_of-2.ensures refl

@@ -5,7 +5,8 @@ use Rattle.writing.proofs.copies.copy_at.Goals as goal
 
 pub copy_bytes-requires : goal.copy_bytes-requires
 copy_bytes-requires c =
-    span_fits c.requires
+    let both = span_fits c.requires in
+    record { n_in_bounds = both.0; n_in_bounds_2 = both.1; }
 
 pub returns : goal.returns
 returns c =
