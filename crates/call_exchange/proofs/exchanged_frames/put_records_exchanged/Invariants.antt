@@ -1,0 +1,16 @@
+-- `put_records_exchanged`: the records are copied, and a turn negates the side of the next.
+use Prim.Native.Nat.{◌*◌, ◌-◌, ◌≤◌}
+use native.Mathlib.Omega.{arith}
+use borrow.Author.Rules.{rules}
+use mathlib.Core.Path.{◌≡◌, refl}
+use lib.ListN.{length, length-set}
+use Rattle.call_exchange.proofs.RecordLaws.{Negated, records-fit, negated-next, records-put}
+use Rattle.call_exchange.proofs.exchanged_frames.put_records_exchanged.Given as goal
+
+abbrev pub invariant-loop-i : goal.invariant-loop-i
+invariant-loop-i l =
+    (l.i ≤ l.count) × (5 * l.count ≤ length l.out) × (length l.out ≡ length l.initial.out) × Negated l.src l.rec l.count l.initial.out l.out l.i
+
+abbrev pub decreases-loop-i : goal.decreases-loop-i
+decreases-loop-i l =
+    l.count - l.i

@@ -1,0 +1,24 @@
+-- `put_remainder_exchanged`: one byte for none, or the frame.
+use borrow.Author.Rules.{rules}
+use Rattle.writing.proofs.Sequence.{from_zero, known-room, known-put, stored-room, stored-put}
+use Rattle.call_exchange.proofs.FrameViews.{nothing-bytes, remainder-view}
+use Rattle.call_exchange.proofs.exchanged_frames.put_remainder_exchanged.Goals as goal
+
+pub bounds-out-0 : goal.bounds-out-0
+bounds-out-0 c =
+    known-room nothing-bytes (rw c.in-Nothing.is at c.requires)
+
+pub put_frame_exchanged-requires : goal.put_frame_exchanged-requires
+put_frame_exchanged-requires c =
+    let rest = c.rest-1.given in
+    stored-room (remainder-view c.args.end rest.0.0) (rw rest.1 at c.requires)
+
+pub returns-in-Nothing : goal.returns-in-Nothing
+returns-in-Nothing c =
+    rw c.in-Nothing.is (known-put nothing-bytes (rw c.in-Nothing.is at c.requires))
+
+pub returns-in-Frame : goal.returns-in-Frame
+returns-in-Frame c =
+    let rest = c.rest-1.given in
+    rw rest.1 (stored-put (remainder-view c.args.end rest.0.0) (rw rest.1 at c.requires)
+    (from_zero c.put_frame_exchanged.ensures))

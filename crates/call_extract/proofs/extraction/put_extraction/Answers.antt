@@ -1,0 +1,54 @@
+-- The predicate by the table of child indexes, and the remainder into the part where it ended.
+use Prim.Native.Nat.{◌≤◌}
+use native.Mathlib.Omega.{arith}
+use lib.ListN.{length}
+use borrow.Author.Rules.{rules}
+use Rattle.call_extract.proofs.Taking.{taken-records, predicate-fits, predicate-ends, remainder-fits, extraction-is, extraction-ends}
+use Rattle.call_extract.proofs.extraction.put_extraction.Goals as goal
+use Rattle.call_extract.proofs.extraction.put_extraction.Goals.{After-child_indexes}
+
+-- What is known of the table, and of the predicate that was written by it.
+wide : (c : After-child_indexes) → 256 ≤ length c.child_indexes.new.to
+wide c = omega (arith, c.child_indexes.auto.to)
+
+pub child_indexes-requires : goal.child_indexes-requires
+child_indexes-requires c =
+    let fits = c.requires in
+    record {
+      recorded = taken-records fits.taking;
+      count_in_bounds = omega (arith, fits.taking.few);
+    }
+
+pub put_predicate-w-requires : goal.put_predicate-w-requires
+put_predicate-w-requires c =
+    predicate-fits c.requires c.child_indexes.new.to (wide (goal.at.put_predicate-w-requires c).After-child_indexes)
+    c.child_indexes.ensures.0
+
+pub slice_bounds-put_remainder-count : goal.slice_bounds-put_remainder-count
+slice_bounds-put_remainder-count c =
+    let put = c.put_predicate-w in
+    predicate-ends c.requires c.child_indexes.new.to (wide (goal.at.slice_bounds-put_remainder-count c).After-child_indexes)
+    c.child_indexes.ensures.0
+    put.new.out put.result put.auto.out put.ensures
+
+pub slice_bounds-put_remainder-start : goal.slice_bounds-put_remainder-start
+slice_bounds-put_remainder-start c =
+    omega (arith, sub-put-remainder c)
+
+pub put_remainder-requires : goal.put_remainder-requires
+put_remainder-requires c =
+    let put = c.put_predicate-w in
+    remainder-fits c.requires c.child_indexes.new.to (wide (goal.at.put_remainder-requires c).After-child_indexes)
+    c.child_indexes.ensures.0
+    put.new.out put.result put.auto.out put.ensures
+
+pub overflow_add-result : goal.overflow_add-result
+overflow_add-result c =
+    omega (arith, c.well_formed, extraction-ends (returns c) c.requires)
+
+pub returns : goal.returns
+returns c =
+    let rest = c.put_remainder in
+    let put = c.put_predicate-w in
+    extraction-is c.child_indexes.new.to (wide (goal.at.returns c).After-child_indexes) c.child_indexes.ensures.0
+    c.args.out.now put.new.out rest.new.out put.result rest.result put.ensures rest.ensures

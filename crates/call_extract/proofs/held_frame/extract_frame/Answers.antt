@@ -1,0 +1,78 @@
+-- Each refusal is the definition's; the frame is kept in the scratch and its extraction written from there.
+use borrow.Author.Rules.{rules}
+use mathlib.Core.Path.{sym}
+use lib.ListN.{take}
+use Rattle.definitions.specs.Settings.{match_under}
+use Rattle.terms.specs.Settings.{settings_of}
+use Rattle.theorems.proofs.SettingsLaws.{settings-laws}
+use Rattle.leaf_pick.specs.Picks.{TakenIs}
+use Rattle.node_reader.proofs.Standing.{all-bytes}
+use Rattle.join_filter.proofs.Keeping.{plan-length, kept-length}
+use Rattle.call_extract.proofs.Extracting.{scratch-short, no-leaf, over, extraction-fits, extracts}
+use Rattle.call_extract.proofs.held_frame.extract_frame.Goals as goal
+use Rattle.call_extract.proofs.held_frame.extract_frame.Goals.{In-Leaf-2}
+
+-- What the pick took, of the held frame.
+taken : (c : In-Leaf-2)
+    → let h = c.requires.holds_frame in
+    TakenIs (match_under (settings_of c.args.settings)) (take c.args.n c.args.plan.now) c.args.f.records c.args.f.root c.in-Leaf.pick
+    h.frame.records h.frame.expr
+taken c =
+    rw c.in-Leaf.is at
+    (c.extract_in_one_walk-walked.ensures _ _
+    (over (match_under (settings_of c.args.settings)) c.args.n c.args.plan.now c.args.scratch.now c.requires.holds_frame)).picked
+
+pub returns-then-scratch-n : goal.returns-then-scratch-n
+returns-then-scratch-n c =
+    scratch-short _ _ _ _ c.requires.holds_frame c.if-scratch-n.true
+
+pub slice_bounds-extract_in_one_walk-end : goal.slice_bounds-extract_in_one_walk-end
+slice_bounds-extract_in_one_walk-end c =
+    c.requires.holds_frame.fits
+
+pub slice_bounds-extract_in_one_walk-end-2 : goal.slice_bounds-extract_in_one_walk-end-2
+slice_bounds-extract_in_one_walk-end-2 c =
+    sym (plan-length _ _ c.requires.holds_frame.fits)
+
+pub extract_in_one_walk-walked-requires : goal.extract_in_one_walk-walked-requires
+extract_in_one_walk-walked-requires c =
+    record {
+      framed = (_, _, over (match_under (settings_of c.args.settings)) c.args.n c.args.plan.now c.args.scratch.now c.requires.holds_frame);
+      of_tree = c.requires.indexed.0;
+    }
+
+pub slice_bounds-put_extraction-end-in-Leaf : goal.slice_bounds-put_extraction-end-in-Leaf
+slice_bounds-put_extraction-end-in-Leaf c =
+    let fits = c.requires.holds_frame.fits
+    in
+    kept-length _ _ fits _ _ c.copy_bytes.ensures
+
+pub put_extraction-length-requires : goal.put_extraction-length-requires
+put_extraction-length-requires c =
+    let at-pick = c in
+    let start = at-pick.before.before.before.before.before.before.before.before.before in
+    let a = start.args in
+    extraction-fits (match_under (settings_of start.args.settings)) a.n a.plan.now a.scratch.now start.requires.0
+    (settings-laws (settings_of start.args.settings) start.requires.1.1)
+    (all-bytes a.plan.now at-pick.before.before.before.before.before.before.before.before.slice-known.given) _
+    (taken (goal.at.put_extraction-length-requires c).In-Leaf-2) _ c.copy_bytes.ensures
+
+pub returns-in-Nothing : goal.returns-in-Nothing
+returns-in-Nothing c =
+    let a = c.args in
+    let walked = c.extract_in_one_walk-walked.ensures _ _ (over (match_under (settings_of c.args.settings)) a.n a.plan.now a.scratch.now c.requires.holds_frame) in
+    no-leaf (match_under (settings_of c.args.settings)) a.n a.plan.now a.scratch.now c.requires.holds_frame c.if-scratch-n.false
+    (rw c.in-Nothing.is at walked.picked) _ walked.walk
+
+pub returns-in-Leaf : goal.returns-in-Leaf
+returns-in-Leaf c =
+    let written = c.put_extraction-length in
+    let at-pick = c in
+    let start = at-pick.before.before.before.before.before.before.before.before.before in
+    extracts (match_under (settings_of start.args.settings)) start.args.n start.args.plan.now start.args.scratch.now start.requires.0
+    (settings-laws (settings_of start.args.settings) start.requires.1.1)
+    (all-bytes start.args.plan.now at-pick.before.before.before.before.before.before.before.before.slice-known.given) _
+    (taken (goal.at.returns-in-Leaf c).In-Leaf-2) _ c.copy_bytes.ensures
+    at-pick.before.before.before.before.if1.false written.new.out written.result written.ensures _
+    (at-pick.before.before.extract-in-one-walk.ensures _ _
+    (over (match_under (settings_of start.args.settings)) start.args.n start.args.plan.now start.args.scratch.now start.requires.0)).walk

@@ -1,0 +1,263 @@
+-- `list_matches`: an And is its left side and then its right side, in the parts where the left one ended; any other node is an AND-leaf.
+-- A call goes to a place further on, so the measure is the bytes left.
+use Prim.Native.Nat.{ℕ, ◌+◌, ◌-◌, ◌≤◌, ◌<◌}
+use native.Mathlib.Omega.{arith}
+use mathlib.Core.Path.{◌≡◌, refl, sym, ap, ◌∙◌, subst⁻¹}
+use mathlib.Core.List.{List}
+use lib.ListN.{length}
+use mir.Facts.{Fits-16_64}
+use Rattle.definitions.specs.Settings.{match_under}
+use Rattle.terms.specs.Settings.{settings_of}
+use borrow.Author.Rules.{rules}
+use Rattle.definitions.specs.Expression.{Expr, Record, and as expr-and}
+use Rattle.definitions.specs.Encode.{expr_bytes}
+use Rattle.definitions.specs.Decode.{index_below, Columns}
+use Rattle.expression.specs.Nodes.{Stands}
+use Rattle.expression.specs.Leaves.{Both}
+use Rattle.expression.proofs.Standing.{node-some}
+use Rattle.node_rows.specs.Rows.{Tabled}
+use Rattle.node_rows.proofs.RowLaws.{tabled-end, tabled-next, tabled-within}
+use Rattle.node_rows.proofs.IndexLaws.{left-tabled, right-tabled}
+use Rattle.node_rows.proofs.OneTree.{of_tree}
+use Rattle.writing.proofs.Written.{together, together-length}
+use Rattle.leaf_pick.proofs.Nodes.{single-leaf}
+use Rattle.leaf_pick.specs.Picks.{matches}
+use Rattle.call_extract_all.specs.Listings.{Listable, ListIs}
+use Rattle.call_extract_all.proofs.ListLaws.{and-listed}
+use Rattle.call_extract_all.proofs.ListWalk.{left_after, left-list, right-list, both-matches, as-many, left-fits, parts-fit, right-fits, count-short}
+use Rattle.call_extract_all.proofs.listing.+list_matches.Goals as goal
+use Rattle.call_extract_all.proofs.listing.+list_matches.Goals.{After-end_of-place, After-list_matches-two, In-And-2}
+
+-- The And that was found.
+found : (t : ℕ) (c : In-And-2 t) (d : Columns) (u : Expr)
+    → Stands d c.args.src.now
+    c.args.at u
+    → Both expr-and d c.args.src.now
+    c.args.at c.in-And.left u
+found t c d u stands = rw c.in-And.is at (c.node_at-node.ensures d u stands)
+
+-- Its left side, in the rows.
+left-rows : (t : ℕ) (c : In-And-2 t) (d : Columns) (u : Expr)
+    (stands : Stands d c.args.src.now
+    c.args.at u)
+    → Tabled c.args.numbers.now
+    c.args.next.now c.in-And.left
+    (c.args.i + 1) (found t c d u stands).l
+left-rows t c d u stands =
+    left-tabled (c.requires.of_tree d u stands)
+    (found t c d u stands)
+
+within : (t : ℕ) (c : In-And-2 t)
+    → (c.args.i + 1 < length
+    c.args.numbers.now)
+    × (c.args.i + 1 < length
+    c.args.next.now)
+within t c = let f = c.requires.list_fits in tabled-within
+    (left-rows t c _ f.tree f.frame.tree)
+
+-- Where the right side stands.
+right-at : (t : ℕ) (c : After-end_of-place t) (d : Columns) (u : Expr)
+    (stands : Stands d c.args.src.now c.args.at u)
+    → c.end_of-place.result ≡ c.in-And.left + length (expr_bytes (found t c d u stands).l)
+right-at t c d u stands =
+    c.end_of-place.ensures ∙ tabled-end
+    (left-rows t c d u stands)
+
+-- Both sides were listed.
+done : (t : ℕ) (c : After-list_matches-two t) (records : List Record)
+    (u : Expr)
+    → Listable c.args.src.now c.args.rec c.args.count c.args.at records u
+    → let one = c.list_matches-one in
+    let two = c.list_matches-two in
+    ListIs c.args.position (matches (match_under (settings_of c.args.settings)) records u) c.args.knns.now (together one.result.knn one.new.knns two.new.knns)
+    c.args.others.now (together one.result.other one.new.others two.new.others) c.args.gone.now two.new.gone
+    (record {
+      position = two.result.position;
+      knn = one.result.knn + two.result.knn;
+      other = one.result.other + two.result.other;
+      rounds = one.result.rounds + two.result.rounds;
+    })
+done t c records u frame =
+    let one = c.list_matches-one in
+    let two = c.list_matches-two in
+    let both = found t c _ u frame.tree in
+    let first = one.ensures records both.l (left-list frame both) in
+    let second = two.ensures records both.r
+    (right-list frame both _ (right-at t c _ u frame.tree)) in
+    let room : c.args.position ≤ length c.args.gone.now = omega (arith, c.requires.list_fits.flags) in
+    and-listed c.args.position (matches (match_under (settings_of c.args.settings)) records u) (matches (match_under (settings_of c.args.settings)) records both.l) (matches (match_under (settings_of c.args.settings)) records both.r) _ _ _ _ _ _ _ _ _ one.result
+    two.result (both-matches frame both (match_under (settings_of c.args.settings))) room first second
+
+pub node_at-node-requires : goal.node_at-node-requires
+node_at-node-requires t c =
+    let f =
+    c.requires.list_fits in (index_below (length f.records), f.tree, f.frame.tree)
+
+pub list_leaf-requires : goal.list_leaf-requires
+list_leaf-requires t c =
+    let node = c.node_at-node in
+        let both = (
+          c.requires.list_fits,
+          (c.requires.of_tree, (node.ensures, λ d u stands. single-leaf node.result node.ensures stands c.in_default.in_default-own.keys2)),
+        ) in
+    record { list_fits = both.0; of_tree = both.1; of_tree_in = both.2; of_tree_2 = both.3; }
+
+pub shape_of-knns-in_default : goal.shape_of-knns-in_default
+shape_of-knns-in_default t c =
+    c.list_leaf.auto.knns
+
+pub shape_of-others-in_default : goal.shape_of-others-in_default
+shape_of-others-in_default t c =
+    c.list_leaf.auto.others
+
+pub shape_of-gone-in_default : goal.shape_of-gone-in_default
+shape_of-gone-in_default t c =
+    c.list_leaf.auto.gone
+
+pub returns-in_default : goal.returns-in_default
+returns-in_default t c =
+    c.list_leaf.ensures
+
+pub overflow_add-i : goal.overflow_add-i
+overflow_add-i t c =
+    omega (arith, c.well_formed, (within t (goal.at.overflow_add-i t c).In-And-2).0)
+
+pub list_matches-one-requires : goal.list_matches-one-requires
+list_matches-one-requires t c =
+    let at-and = c in
+    let f = c.requires.list_fits in
+    let both = found t (goal.at.list_matches-one-requires t c).In-And-2 _ f.tree f.frame.tree in (
+      omega (arith, left_after f.frame both, node-some (left-list f.frame both).tree),
+      (left-fits f both, of_tree _ (left-list f.frame both).tree (left-rows t (goal.at.list_matches-one-requires t c).In-And-2 _ f.tree f.frame.tree)),
+    )
+
+pub overflow_add-i-2 : goal.overflow_add-i-2
+overflow_add-i-2 t c =
+    omega (arith, c.well_formed, (within t (goal.at.overflow_add-i-2 t c).In-And-2).0)
+
+pub end_of-place-requires : goal.end_of-place-requires
+end_of-place-requires t c =
+    (within t (goal.at.end_of-place-requires t c).In-And-2).0
+
+pub overflow_add-index : goal.overflow_add-index
+overflow_add-index t c =
+    omega (arith, c.well_formed, (within t (goal.at.overflow_add-index t c).In-And-2).0)
+
+pub offset_bounds-next-i : goal.offset_bounds-next-i
+offset_bounds-next-i t c =
+    omega (arith, c.well_formed, (within t (goal.at.offset_bounds-next-i t c).In-And-2).1)
+
+pub bounds-next-i : goal.bounds-next-i
+bounds-next-i t c =
+    (within t (goal.at.bounds-next-i t c).In-And-2).1
+
+pub overflow_cast-index : goal.overflow_cast-index
+overflow_cast-index t c =
+    Fits-16_64 (c.shared_slice_known-5-1.given _)
+
+pub slice_bounds-list_matches-count : goal.slice_bounds-list_matches-count
+slice_bounds-list_matches-count t c =
+    let f = c.requires.list_fits in
+    let one = c.list_matches-one in
+    let both = found t (goal.at.slice_bounds-list_matches-count t c).In-And-2 _
+    f.tree f.frame.tree in
+    (parts-fit f both (one.ensures f.records both.l (left-list f.frame both)) one.auto.knns one.auto.others
+    one.auto.gone).0
+
+pub slice_bounds-list_matches-start : goal.slice_bounds-list_matches-start
+slice_bounds-list_matches-start t c =
+    let f = c.requires.list_fits in
+    let one = c.list_matches-one in
+    let both = found t (goal.at.slice_bounds-list_matches-start t c).In-And-2 _
+    f.tree f.frame.tree in
+    (parts-fit f both (one.ensures f.records both.l (left-list f.frame both)) one.auto.knns one.auto.others
+    one.auto.gone).0
+
+pub slice_bounds-list_matches-count-2 : goal.slice_bounds-list_matches-count-2
+slice_bounds-list_matches-count-2 t c =
+    let f = c.requires.list_fits in
+    let one = c.list_matches-one in
+    let both = found t (goal.at.slice_bounds-list_matches-count-2 t c).In-And-2 _ f.tree f.frame.tree in
+    (parts-fit f both (one.ensures f.records both.l (left-list f.frame both)) one.auto.knns one.auto.others
+    one.auto.gone).1
+
+pub slice_bounds-list_matches-start-2 : goal.slice_bounds-list_matches-start-2
+slice_bounds-list_matches-start-2 t c =
+    let f = c.requires.list_fits in
+    let one = c.list_matches-one in
+    let both = found t (goal.at.slice_bounds-list_matches-start-2 t c).In-And-2 _ f.tree f.frame.tree in
+    (parts-fit f both (one.ensures f.records both.l (left-list f.frame both)) one.auto.knns one.auto.others
+    one.auto.gone).1
+
+pub list_matches-two-requires : goal.list_matches-two-requires
+list_matches-two-requires t c =
+    let at-and = c in
+    let one = c.list_matches-one in
+    let f = c.requires.list_fits in
+    let both = found t (goal.at.list_matches-two-requires t c).In-And-2 _ f.tree f.frame.tree in
+    let e = right-at t (goal.at.list_matches-two-requires t c).After-end_of-place _ f.tree f.frame.tree in
+    let right = right-list f.frame both _ e in (
+      omega (arith, e, left_after f.frame both, node-some right.tree),
+      (
+        right-fits f both (one.ensures f.records both.l (left-list f.frame both)) one.auto.knns one.auto.others
+            one.auto.gone _ e,
+        of_tree _ right.tree (right-tabled (c.requires.of_tree _ f.tree f.frame.tree) both _ _ e
+            (tabled-next (left-rows t (goal.at.list_matches-two-requires t c).In-And-2 _ f.tree f.frame.tree))),
+      ),
+    )
+
+pub overflow_add-result : goal.overflow_add-result
+overflow_add-result t c =
+    let f = c.requires.list_fits in
+    let all = done t (goal.at.overflow_add-result t c).After-list_matches-two f.records f.tree f.frame in
+    omega (arith, c.well_formed, all.knn, f.knn)
+
+pub overflow_add-result-2 : goal.overflow_add-result-2
+overflow_add-result-2 t c =
+    let f = c.requires.list_fits in
+    let all = done t (goal.at.overflow_add-result-2 t c).After-list_matches-two f.records f.tree f.frame in
+    omega (arith, c.well_formed, all.other, f.other)
+
+pub overflow_add-result-3 : goal.overflow_add-result-3
+overflow_add-result-3 t c =
+    let f = c.requires.list_fits in
+    let both = found t (goal.at.overflow_add-result-3 t c).In-And-2 _ f.tree f.frame.tree in
+    let all = done t (goal.at.overflow_add-result-3 t c).After-list_matches-two f.records f.tree
+    f.frame in
+    omega (
+      arith,
+      c.well_formed,
+      all.rounds,
+      count-short (matches (match_under (settings_of c.args.settings)) f.records f.tree),
+      as-many f.frame both (match_under (settings_of c.args.settings)) f.tree,
+      f.flags,
+    )
+
+pub shape_of-knns : goal.shape_of-knns
+shape_of-knns t c =
+    let f = c.requires.list_fits in
+    let one = c.list_matches-one in
+    let two = c.list_matches-two in
+    let both = found t (goal.at.shape_of-knns t c).In-And-2 _ f.tree f.frame.tree in
+    let fits = parts-fit f both (one.ensures f.records both.l (left-list f.frame both)) one.auto.knns one.auto.others
+    one.auto.gone in
+    together-length one.result.knn one.new.knns two.new.knns fits.0 two.auto.knns ∙ one.auto.knns
+
+pub shape_of-others : goal.shape_of-others
+shape_of-others t c =
+    let f = c.requires.list_fits in
+    let one = c.list_matches-one in
+    let two = c.list_matches-two in
+    let both = found t (goal.at.shape_of-others t c).In-And-2 _ f.tree f.frame.tree in
+    let fits = parts-fit f both (one.ensures f.records both.l (left-list f.frame both)) one.auto.knns one.auto.others
+    one.auto.gone in
+    together-length one.result.other one.new.others two.new.others fits.1 two.auto.others ∙ one.auto.others
+
+pub shape_of-gone : goal.shape_of-gone
+shape_of-gone t c =
+    c.list_matches-two.auto.gone
+    ∙ c.list_matches-one.auto.gone
+
+pub returns : goal.returns
+returns t c =
+    done t (goal.at.returns t c).After-list_matches-two

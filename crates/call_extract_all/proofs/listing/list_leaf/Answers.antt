@@ -1,0 +1,96 @@
+-- `list_leaf`: the only AND-leaf below the node is the node: a KNN match, another, or none.
+use native.Mathlib.Omega.{arith}
+use mathlib.Core.Path.{refl, ◌∙◌}
+use lib.ListN.{length}
+use Rattle.definitions.specs.Settings.{match_under}
+use Rattle.terms.specs.Settings.{settings_of}
+use borrow.Author.Rules.{rules}
+use Rattle.definitions.specs.Extract.{is_knn}
+use Rattle.leaf_pick.specs.Picks as picks
+use Rattle.call_extract_all.proofs.LeafList.{knn-listed, other-listed, none-is-listed, miss-lacks, both-lack, over, framed, by-table, flag-room, knn-room, other-room, leaf-is}
+use Rattle.call_extract_all.proofs.listing.list_leaf.Goals as goal
+
+pub match_knn-requires : goal.match_knn-requires
+match_knn-requires c =
+    let p = c.requires in
+    record { framed = framed p.0; tabled = p.1.0; is = p.1.1.0 }
+
+pub put_predicate-w-requires : goal.put_predicate-w-requires
+put_predicate-w-requires c =
+    let p = c.requires in
+    let f = p.0 in
+    knn-room f (p.1.1.1 _ f.tree f.frame.tree) c.in-Matched.predicate
+    (rw c.in-Matched.is at
+    (c.match_knn.ensures f.records f.tree (over f f.frame)))
+
+pub bounds-gone-position : goal.bounds-gone-position
+bounds-gone-position c =
+    let p =
+    c.requires in flag-room p.0 (p.1.1.1 _ p.0.tree p.0.frame.tree)
+
+pub returns-in-Matched : goal.returns-in-Matched
+returns-in-Matched c =
+    λ records t l.
+    let p = c.requires in
+    let f = p.0 in
+    let put = c.put_predicate-w in
+    let m = rw c.in-Matched.is at
+    (c.match_knn.ensures records t (over f l)) in
+    let stands = by-table f l c.in-Matched.predicate m.q m.stands in
+    leaf-is (match_under (settings_of c.args.settings)) records (p.1.1.1 _ t l.tree) _ m.is
+    (knn-listed (slice-write-gone c) m.q put.result m.passes (put.ensures.size m.q stands)
+    (put.ensures.wrote m.q stands))
+
+pub match_other-requires : goal.match_other-requires
+match_other-requires c =
+    let p = c.requires in
+    record { framed = framed p.0; tabled = p.1.0; is = p.1.1.0 }
+
+pub put_predicate-w-requires-in-Matched-match_other : goal.put_predicate-w-requires-in-Matched-match_other
+put_predicate-w-requires-in-Matched-match_other c =
+    let p = c.requires in
+    let f = p.0 in
+    other-room f (p.1.1.1 _ f.tree f.frame.tree) c.in-Matched-match_other.predicate
+    (rw c.in-Matched-match_other.is at
+    (c.match_other.ensures f.records f.tree (over f f.frame)))
+
+pub bounds-gone-position-in-Matched-match_other : goal.bounds-gone-position-in-Matched-match_other
+bounds-gone-position-in-Matched-match_other c =
+    let p =
+    c.requires in flag-room p.0 (p.1.1.1 _ p.0.tree p.0.frame.tree)
+
+pub overflow_add-result-in-Matched-match_other : goal.overflow_add-result-in-Matched-match_other
+overflow_add-result-in-Matched-match_other c =
+    omega (arith, c.well_formed, slice-write-gone-2 c)
+
+pub returns-in-Matched-match_other : goal.returns-in-Matched-match_other
+returns-in-Matched-match_other c =
+    λ records t l.
+    let p = c.requires in
+    let f = p.0 in
+    let put = c.put_predicate-w-in-Matched-match_other in
+    let m = rw c.in-Matched-match_other.is at
+    (c.match_other.ensures records t (over f l)) in
+    let stands = by-table f l c.in-Matched-match_other.predicate m.q m.stands in
+    leaf-is (match_under (settings_of c.args.settings)) records (p.1.1.1 _ t l.tree) _ m.is
+    (other-listed (slice-write-gone-2 c) m.q put.result m.passes (put.ensures.size m.q stands)
+    (put.ensures.wrote m.q stands))
+
+pub bounds-gone-position-2 : goal.bounds-gone-position-2
+bounds-gone-position-2 c =
+    let p =
+    c.requires in flag-room p.0
+    (p.1.1.1 _ p.0.tree p.0.frame.tree)
+
+pub returns : goal.returns
+returns c =
+    λ records t l.
+    let p = c.requires in
+    let f = p.0 in
+    let one = c.match_knn in
+    let two = c.match_other in
+    leaf-is (match_under (settings_of c.args.settings)) records (p.1.1.1 _ t l.tree) _
+    (both-lack _
+    (miss-lacks is_knn _ _ records _ one.result c.in_default.in_default-own.keys2 (one.ensures records t (over f l)))
+    (miss-lacks picks.is_other _ _ records _ two.result c.in_default-match_other.in_default-match_other-own.keys2 (two.ensures records t (over f l))))
+    (none-is-listed (slice-write-gone-3 c))

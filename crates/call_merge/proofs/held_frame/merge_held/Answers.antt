@@ -1,0 +1,120 @@
+-- The limits, then the room; the held frame is kept in the scratch, and the merged one written from there and from the new frame.
+use Prim.Native.Nat.{◌+◌, ◌≤◌}
+use borrow.Author.Rules.{rules}
+use native.Mathlib.Omega.{arith}
+use mathlib.Core.Path.{◌≡◌, refl, sym, ◌∙◌}
+use mathlib.Core.Bool.{false}
+use lib.ListN.{length}
+use Rattle.node_reader.proofs.Standing.{all-bytes}
+use Rattle.call_merge.specs.Together.{over_together}
+use Rattle.call_merge.proofs.Merging.{Both, counts, not-empty, root-bounds, too_large, scratch-short, plan-short, table-short, Ready, copy-length, merged-room, merges}
+use Rattle.call_merge.proofs.held_frame.merge_held.Goals as goal
+use Rattle.call_merge.proofs.held_frame.merge_held.Goals.{After-copy_bytes, After-over_limits-over, After-shared_slice_known-1}
+
+-- Both frames stand there.
+both : (c : After-shared_slice_known-1)
+    → let a = c.args in Both a.frame.now a.n a.plan.now a.old a.new
+both c =
+    record {
+      held = c.requires.holds_frame;
+      given = c.requires.given_frame;
+      bytes = all-bytes c.args.plan.now c.slice_known-1.given;
+      frame_bytes = all-bytes c.args.frame.now c.shared_slice_known-1.given;
+    }
+
+-- There is a merged length.
+some-length : (c : After-shared_slice_known-1)
+    → let a = c.args in (1 ≤ a.n + length a.frame.now) × (a.n + length a.frame.now ≤ 32768)
+some-length c = (not-empty (both c), omega (arith, (counts (both c)).bytes))
+
+-- The merged expression begins past one head.
+roots : (c : After-shared_slice_known-1)
+    → let a = c.args in (6 ≤ a.old.root + a.new.root) × (a.old.root + a.new.root ≤ 32768)
+roots c = root-bounds (both c)
+
+-- The limits, where they are not passed.
+under : (c : After-over_limits-over) → c.over_limits-over.result ≡ false
+    → let a = c.args in false ≡ over_together a.n (length a.frame.now) a.old a.new
+under c e = sym e ∙ c.over_limits-over.ensures
+
+-- Limits and room allow it, and the old plan is kept.
+ready : (c : After-copy_bytes)
+    → let a = c.args in
+    Ready a.frame.now a.n a.plan.now a.scratch.now a.old a.new a.held c.copy_bytes.new.out
+ready c =
+    record {
+      both = both c;
+      under = under c c.if-over.false;
+      enough = omega (arith, c.if-scratch-n.false);
+      c = omega (arith, c.if-plan-n.false);
+      tabled = omega (arith, c.if-held-count.false);
+      copied = c.copy_bytes.ensures;
+    }
+
+pub over_limits-over-requires : goal.over_limits-over-requires
+over_limits-over-requires c =
+    counts (both (goal.at.over_limits-over-requires c).After-shared_slice_known-1)
+
+pub returns-then-over : goal.returns-then-over
+returns-then-over c =
+    rw c.unfilled.ensures (too_large (both (goal.at.returns-then-over c).After-shared_slice_known-1) _ _ (sym c.if-over.true ∙ c.over_limits-over.ensures))
+
+pub returns-then-scratch-n : goal.returns-then-scratch-n
+returns-then-scratch-n c =
+    rw c.unfilled-then-scratch-n.ensures
+    (scratch-short (both (goal.at.returns-then-scratch-n c).After-shared_slice_known-1) _ _ (under (goal.at.returns-then-scratch-n c).After-over_limits-over c.if-over.false) c.if-scratch-n.true)
+
+pub overflow_add-n : goal.overflow_add-n
+overflow_add-n c =
+    omega (arith, some-length (goal.at.overflow_add-n c).After-shared_slice_known-1)
+
+pub overflow_sub-n : goal.overflow_sub-n
+overflow_sub-n c =
+    omega (arith, some-length (goal.at.overflow_sub-n c).After-shared_slice_known-1)
+
+pub returns-then-plan-n : goal.returns-then-plan-n
+returns-then-plan-n c =
+    rw c.unfilled-then-plan-n.ensures
+    (plan-short (both (goal.at.returns-then-plan-n c).After-shared_slice_known-1) _ _ (under (goal.at.returns-then-plan-n c).After-over_limits-over c.if-over.false) (omega (arith, c.if-scratch-n.false))
+    c.if-plan-n.true)
+
+pub overflow_add-count : goal.overflow_add-count
+overflow_add-count c =
+    omega (arith, (counts (both (goal.at.overflow_add-count c).After-shared_slice_known-1)).nodes)
+
+pub overflow_add-count-2 : goal.overflow_add-count-2
+overflow_add-count-2 c =
+    omega (arith, (counts (both (goal.at.overflow_add-count-2 c).After-shared_slice_known-1)).nodes)
+
+pub returns-then-held-count : goal.returns-then-held-count
+returns-then-held-count c =
+    rw c.unfilled-then-held-count.ensures
+    (table-short (both (goal.at.returns-then-held-count c).After-shared_slice_known-1) _ _ (under (goal.at.returns-then-held-count c).After-over_limits-over c.if-over.false) (omega (arith, c.if-scratch-n.false))
+    (omega (arith, c.if-plan-n.false)) c.if-held-count.true)
+
+pub overflow_add-root : goal.overflow_add-root
+overflow_add-root c =
+    omega (arith, roots (goal.at.overflow_add-root c).After-shared_slice_known-1)
+
+pub overflow_sub-root : goal.overflow_sub-root
+overflow_sub-root c =
+    omega (arith, roots (goal.at.overflow_sub-root c).After-shared_slice_known-1)
+
+pub copy_bytes-requires : goal.copy_bytes-requires
+copy_bytes-requires c =
+    let both = omega (arith, c.requires.holds_frame.fits) in
+    record { n_in_bounds = both.0; n_in_bounds_2 = both.1; }
+
+pub slice_bounds-put_merged-end-2 : goal.slice_bounds-put_merged-end-2
+slice_bounds-put_merged-end-2 c =
+    copy-length (ready (goal.at.slice_bounds-put_merged-end-2 c).After-copy_bytes)
+
+pub put_merged-length-requires : goal.put_merged-length-requires
+put_merged-length-requires c =
+    let both = merged-room (ready (goal.at.put_merged-length-requires c).After-copy_bytes) in
+    record { room = both.0; columns_bound = both.1; }
+
+pub returns : goal.returns
+returns c =
+    let wrote = c.put_merged-length in
+    merges (ready (goal.at.returns c).After-copy_bytes) wrote.new.out wrote.result _ refl wrote.ensures

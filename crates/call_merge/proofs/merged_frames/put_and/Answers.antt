@@ -1,0 +1,39 @@
+-- `put_and`: the two bytes of And, the held filter after them, the new one where that ended.
+use native.Mathlib.Omega.{arith}
+use mathlib.Core.Path.{◌∙◌}
+use lib.ListN.{length-set}
+use Rattle.writing.proofs.Sequence.{first-room, second-room, both-put, head-room, stored-room, stored-put}
+use Rattle.call_merge.specs.Merging.{raised_expr}
+use Rattle.call_merge.proofs.MergeViews.{and_view}
+use Rattle.call_merge.proofs.merged_frames.put_and.Goals as goal
+
+pub bounds-out-0 : goal.bounds-out-0
+bounds-out-0 c =
+    omega (arith, head-room (and_view c.args.f c.args.g) c.requires.room)
+
+pub bounds-out-1 : goal.bounds-out-1
+bounds-out-1 c =
+    simp length-set (head-room (and_view c.args.f c.args.g) c.requires.room)
+
+pub copy_at-v-requires : goal.copy_at-v-requires
+copy_at-v-requires c =
+    first-room (raised_expr c.args.f.columns) (stored-room (and_view c.args.f c.args.g) c.requires.room)
+
+pub put_raised-requires : goal.put_raised-requires
+put_raised-requires c =
+    let held = c.copy_at-v in
+    record {
+      room = second-room (stored-room (and_view c.args.f c.args.g) c.requires.room) held.ensures held.auto.out;
+      columns_bound = c.requires.columns_bound;
+    }
+
+pub shape_of-out : goal.shape_of-out
+shape_of-out c =
+    c.put_raised.auto.out ∙ c.copy_at-v.auto.out ∙ simp length-set
+
+pub returns : goal.returns
+returns c =
+    let held = c.copy_at-v in
+    let view = and_view c.args.f c.args.g in
+    stored-put view c.requires.room
+    (both-put (simp length-set (head-room view c.requires.room)) held.ensures c.put_raised.ensures)

@@ -1,0 +1,44 @@
+-- `put_merged`: head and tables, and the And into the part where they ended.
+use native.Mathlib.Omega.{arith}
+use borrow.Author.Rules.{rules}
+use Rattle.writing.proofs.Sequence.{from_zero, part_room, part-put, ends-within, part-starts, first-room, second-room, both-put, stored-room, stored-put}
+use Rattle.call_merge.specs.Merging.{merged_expr}
+use Rattle.call_merge.proofs.MergeViews.{merged-view}
+use Rattle.call_merge.proofs.merged_frames.put_merged.Goals as goal
+
+pub put_tables-w-requires : goal.put_tables-w-requires
+put_tables-w-requires c =
+    let p = c.requires in record {
+      room = first-room merged_expr (stored-room (merged-view _ _) p.0);
+      columns_bound = p.1;
+    }
+
+pub slice_bounds-put_and-count : goal.slice_bounds-put_and-count
+slice_bounds-put_and-count c =
+    let tables = c.put_tables-w in
+    part-starts (first-room merged_expr (stored-room (merged-view _ _) c.requires.room))
+    (from_zero tables.ensures) tables.auto.out
+
+pub slice_bounds-put_and-start : goal.slice_bounds-put_and-start
+slice_bounds-put_and-start c =
+    omega (arith, sub-put-and c)
+
+pub put_and-requires : goal.put_and-requires
+put_and-requires c =
+    let tables = c.put_tables-w in
+    let room = stored-room (merged-view c.args.f c.args.g) c.requires.room in
+    record {
+      room = part_room (second-room room (from_zero tables.ensures) tables.auto.out);
+      columns_bound = c.requires.columns_bound;
+    }
+
+pub overflow_add-result : goal.overflow_add-result
+overflow_add-result c =
+    omega (arith, c.well_formed, ends-within c.requires.room (from_zero (returns c)))
+
+pub returns : goal.returns
+returns c =
+    let and = c.put_and in
+    let tables = c.put_tables-w in
+    stored-put (merged-view c.args.f c.args.g) c.requires.room
+    (both-put (omega arith) (from_zero tables.ensures) (part-put tables.new.out and.new.out tables.result and.ensures))

@@ -1,0 +1,65 @@
+-- `check_arity`: of an And the left child is checked by a call, and the loop goes on with the right one, from where the left one ended;
+-- the measure is the bytes left.
+use Prim.Native.Nat.{◌-◌}
+use lib.ListN.{length}
+use borrow.Author.Rules.{rules}
+use Rattle.expression.proofs.There.{pair-there, call-there, plain-there}
+use Rattle.frame_reader.proofs.ArityLaws.{OnRight, right-begins, left_below, left-lacks, right-less, right-goes-on, binary-last, call-last, plain-last}
+use Rattle.frame_reader.proofs.arity.+check_arity.Goals as goal
+
+pub loop-left-init : goal.loop-left-init
+loop-left-init t c =
+    right-begins c.requires
+
+pub node_at-requires : goal.node_at-requires
+node_at-requires t c =
+    c.loop-left.invariant.there
+
+pub check_arity-requires : goal.check_arity-requires
+check_arity-requires t c =
+    left_below c.loop-left.invariant c.node_at.ensures c.in-And.is c.MEASURE
+
+pub loop-left-smaller : goal.loop-left-smaller
+loop-left-smaller t c =
+    right-less c.loop-left.invariant c.node_at.ensures c.in-And.is _
+    (rw c.in-Enough.is at c.check_arity.ensures)
+
+pub loop-left-preserved : goal.loop-left-preserved
+loop-left-preserved t c =
+    right-goes-on c.loop-left.invariant c.node_at.ensures c.in-And.is _
+    (rw c.in-Enough.is at c.check_arity.ensures)
+
+pub returns-in-Short : goal.returns-in-Short
+returns-in-Short t c =
+    left-lacks c.loop-left.invariant c.node_at.ensures c.in-And.is
+    (rw c.in-Short.is at c.check_arity.ensures)
+
+pub comparison_arity-requires : goal.comparison_arity-requires
+comparison_arity-requires t c =
+    pair-there c.loop-left.invariant.there c.node_at.ensures
+    c.in-Binary.is
+
+pub returns-in-Binary : goal.returns-in-Binary
+returns-in-Binary t c =
+    binary-last c.loop-left.invariant c.node_at.ensures
+    c.in-Binary.is c.comparison_arity.result c.comparison_arity.ensures
+
+pub call_arity-requires : goal.call_arity-requires
+call_arity-requires t c =
+    call-there c.loop-left.invariant.there c.node_at.ensures
+    c.in-Call.is
+
+pub returns-in-Call : goal.returns-in-Call
+returns-in-Call t c =
+    call-last c.loop-left.invariant c.node_at.ensures
+    c.in-Call.is c.call_arity.result c.call_arity.ensures
+
+pub end_children-requires : goal.end_children-requires
+end_children-requires t c =
+    plain-there c.loop-left.invariant.there c.node_at.ensures
+    c.in-Plain.is
+
+pub returns-in-Plain : goal.returns-in-Plain
+returns-in-Plain t c =
+    plain-last c.loop-left.invariant c.node_at.ensures
+    c.in-Plain.is _ c.end_children.ensures

@@ -1,0 +1,44 @@
+-- `comparison_arity`: only the side that is read is asked; a comparison ends where its right side does.
+use mathlib.Core.Path.{sym, ◌∙◌}
+use mathlib.Core.Logic.{⊎_elim}
+use borrow.Author.Rules.{rules}
+use borrow.Author.Tests.{not-true, not-false}
+use Rattle.expression.proofs.Parts.{pair_ends}
+use Rattle.expression.proofs.There.{first-of-pair, second-of-pair}
+use Rattle.sedona_expr.proofs.Comparing.{sides-found, sides-missing, measured-there}
+use Rattle.frame_reader.proofs.ArityLaws.{not-asked, asked}
+use Rattle.frame_reader.proofs.arity.comparison_arity.Goals as goal
+
+pub end_node-right-requires : goal.end_node-right-requires
+end_node-right-requires c =
+    first-of-pair c.requires
+
+pub enough_to_measure-requires : goal.enough_to_measure-requires
+enough_to_measure-requires c =
+    let right = c.end_node-right in
+    measured-there c.requires right.result right.ensures _ c.decreases.given.1
+    c.comparison.ensures
+
+pub returns-then-not-enough_to_measure : goal.returns-then-not-enough_to_measure
+returns-then-not-enough_to_measure c =
+    λ d l r row.
+    let sides =
+    sides-found row c.end_node-right.result c.end_node-right.ensures _ c.decreases.given.1
+    c.comparison.ensures in
+    asked _ l r sides ∙ sym (c.enough_to_measure.ensures d sides.m sides.stands_measured) ∙ not-true _ c.if-not-enough_to_measure.true
+
+pub end_node-requires : goal.end_node-requires
+end_node-requires c =
+    second-of-pair c.requires _ c.end_node-right.ensures
+
+pub returns : goal.returns
+returns c =
+    λ d l r row.
+    let right = c.end_node-right in (
+      ⊎_elim (λ w.
+          let sides = sides-found row right.result right.ensures _ w.1.given.1 c.comparison.ensures in
+          asked _ l r sides ∙ sym (w.3.ensures d sides.m sides.stands_measured) ∙ not-false _ w.4.left)
+          (λ w. not-asked _ l r (sides-missing row right.result right.ensures _ w.1.given.1 c.comparison.ensures))
+          c.match-comparison.branch,
+      pair_ends row right.result c.end_node.result right.ensures c.end_node.ensures,
+    )

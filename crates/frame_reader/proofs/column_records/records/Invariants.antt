@@ -1,0 +1,16 @@
+-- One record and then the others: what is right for those left is right for all.
+use borrow.Author.Rules.{rules}
+use native.Mathlib.Omega.{arith}
+use Prim.Native.Nat.{◌≤◌}
+use lib.ListN.{length}
+use Rattle.definitions.specs.Decode.{one_record}
+use Rattle.node_reader.proofs.Repeats.{Left, all-left, one_fewer, one-stops, none-left}
+use Rattle.frame_reader.proofs.column_records.records.Given as goal
+
+abbrev pub invariant-loop-left : goal.invariant-loop-left
+invariant-loop-left l =
+    (l.next ≤ length l.s) × Left l.s l.at l.many one_record l.next l.left
+
+abbrev pub decreases-loop-left : goal.decreases-loop-left
+decreases-loop-left l =
+    l.left

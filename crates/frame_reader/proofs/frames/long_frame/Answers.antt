@@ -1,0 +1,13 @@
+-- `long_frame`: no frame has more than 1,024 nodes.
+use native.Mathlib.Omega.{arith}
+use borrow.Author.Rules.{rules}
+use Rattle.frame_reader.proofs.FrameRows.{clear-roomy, without-rows}
+use Rattle.frame_reader.proofs.frames.long_frame.Goals as goal
+
+pub physical_frame_in-requires : goal.physical_frame_in-requires
+physical_frame_in-requires c =
+    clear-roomy 1024 _ (omega arith)
+
+pub returns : goal.returns
+returns c =
+    let call = c.physical_frame_in in without-rows _ _ _ _ call.result call.ensures

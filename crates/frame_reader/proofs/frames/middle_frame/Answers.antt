@@ -1,0 +1,13 @@
+-- `middle_frame`: a frame of 768 bytes has at most 256 nodes.
+use native.Mathlib.Omega.{arith}
+use borrow.Author.Rules.{rules}
+use Rattle.frame_reader.proofs.FrameRows.{clear-roomy, without-rows}
+use Rattle.frame_reader.proofs.frames.middle_frame.Goals as goal
+
+pub physical_frame_in-requires : goal.physical_frame_in-requires
+physical_frame_in-requires c =
+    clear-roomy 256 _ (omega arith)
+
+pub returns : goal.returns
+returns c =
+    let call = c.physical_frame_in in without-rows _ _ _ _ call.result call.ensures

@@ -1,0 +1,15 @@
+-- `encode`: the digits of i bytes are written, and a turn adds two.
+use Prim.Native.Nat.{◌+◌, ◌-◌, ◌<◌}
+use borrow.Author.Rules.{rules}
+use native.Mathlib.Omega.{arith}
+use lib.ListN.{length, length-set}
+use Rattle.hexadecimal.proofs.EncodeLaws.{Encoded, encoded-none, encoded-room, encoded-more, all-encoded}
+use Rattle.hexadecimal.proofs.hex.encode.Given as goal
+
+abbrev pub invariant-loop-i : goal.invariant-loop-i
+invariant-loop-i l =
+    Encoded l.bytes l.at l.i l.initial.out l.out l.next
+
+abbrev pub decreases-loop-i : goal.decreases-loop-i
+decreases-loop-i l =
+    length l.bytes - l.i

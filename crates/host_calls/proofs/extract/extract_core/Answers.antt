@@ -1,0 +1,20 @@
+-- Right because it is the extract by the table's row with its answer as one number.
+use native.Mathlib.Omega.{arith}
+use borrow.Author.Rules.{rules}
+use Rattle.node_reader.proofs.Standing.{all-bytes}
+use Rattle.host_calls.proofs.Numbers.{given_back}
+use Rattle.host_calls.proofs.Hosting.{extract-hosted}
+use Rattle.host_calls.proofs.CoreLaws.{extract-short}
+use Rattle.host_calls.proofs.extract.extract_core.Goals as goal
+
+pub walk_number-requires : goal.walk_number-requires
+walk_number-requires c =
+    let call = c.extract_by_table in
+    extract-short _ _ _ _ _ _ c.requires.0 call.result (call.ensures c.requires.0 c.requires.1) (omega arith)
+    (all-bytes c.args.plan.now c.slice_known-1.given)
+
+pub returns : goal.returns
+returns c =
+    let call = c.extract_by_table in
+    λ table so. extract-hosted c.args.plan.now (all-bytes c.args.plan.now c.slice_known-1.given) _ _ _ _ _ call.result
+    (call.ensures table so) _ (given_back _ _ c.walk_number.type_inv c.walk_number.ensures)

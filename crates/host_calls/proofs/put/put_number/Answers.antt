@@ -1,0 +1,14 @@
+-- `put_number`: the put's answer as one number.
+use borrow.Author.Rules.{rules}
+use Rattle.host_calls.proofs.Numbers.{given_back}
+use Rattle.host_calls.proofs.QueueHosting.{put-short, put-hosted}
+use Rattle.host_calls.proofs.put.put_number.Goals as goal
+
+pub answer_number-requires : goal.answer_number-requires
+answer_number-requires c =
+    let call = c.put-added in put-short _ _ _ _ call.result call.ensures
+
+pub returns : goal.returns
+returns c =
+    let call = c.put-added in
+    put-hosted _ _ _ _ call.result call.ensures _ (given_back _ _ c.answer_number.type_inv c.answer_number.ensures)

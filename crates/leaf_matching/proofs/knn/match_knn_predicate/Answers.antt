@@ -1,0 +1,83 @@
+-- `match_knn_predicate`: the geometries and the options are read where the definitions take them from the arguments.
+use native.Mathlib.Omega.{arith}
+use mathlib.Core.Path.{sym, ◌∙◌}
+use mathlib.Core.Logic.{⊎_elim}
+use borrow.Author.Tests.{ltb-true, ltb-false, not-true, not-false}
+use Rattle.definitions.specs.Basics.{ascii}
+use Rattle.leaf_matching.proofs.Asked.{other_name}
+use Rattle.leaf_matching.proofs.MatchLaws.{pair-framed, pair-begins, rest-trees, named}
+use Rattle.leaf_matching.proofs.KnnLaws.{few-lacks, many-lacks, Walked, knn-unread, knn-neither, knn-left, knn-right}
+use borrow.Author.Rules.{rules}
+use Rattle.leaf_matching.proofs.knn.match_knn_predicate.Goals as goal
+use Rattle.leaf_matching.proofs.knn.match_knn_predicate.Goals.{After-knn_options}
+
+-- ALIGNED tie: old 15 new 14
+
+walked : (c : After-knn_options)
+    → let start = c.args in
+    Walked start.default-k start.s.now start.rec start.called c.resolve_geometries-geometries.result c.knn_options.result
+unfolding ascii
+walked c =
+    let at-if2 = c in
+    let at-if1 = at-if2.before in
+    let at-same-name = at-if1.before in
+    record {
+      same = sym (not-false _ at-if1.if1.false) ∙ at-same-name.same-name.ensures;
+      enough = at-if2.if2.false;
+      geometries = c.resolve_geometries-geometries.ensures;
+      options = c.knn_options.ensures;
+    }
+
+pub returns-then-not-same_name : goal.returns-then-not-same_name
+unfolding ascii
+returns-then-not-same_name c =
+    λ records name ts over. other_name _ records name ts
+    (named over _ (ascii "st_knn") c.same_name.ensures ∙ not-true _ c.if-not-same_name.true)
+
+pub returns-then-count-lt2 : goal.returns-then-count-lt2
+unfolding ascii
+returns-then-count-lt2 c =
+    let at-same-name = c in
+    let start = at-same-name.before.before.before.before.before in
+    λ records name ts over.
+    let same = named over _ (ascii "st_knn") at-same-name.same-name.ensures ∙ not-false _ c.if-not-same_name.false-raw in
+    ⊎_elim (λ w. few-lacks _ records name ts same (omega (arith, w.taken)))
+    (λ w. many-lacks _ records name ts same (omega (arith, ltb-true 5 start.args.called.count w.1.taken))) c.then-count-lt2.branch
+
+pub resolve_geometries-geometries-requires : goal.resolve_geometries-geometries-requires
+resolve_geometries-geometries-requires c =
+    let enough = c.then-count-lt2.false in
+    record {
+      framed_two = pair-framed c.requires.call_framed enough;
+      of_frame_two = pair-begins c.requires.call_framed enough c.requires.of_call;
+    }
+
+pub knn_options-requires : goal.knn_options-requires
+knn_options-requires c =
+    let at-if3 = c in
+    let start = at-if3.before.before.before.before.before.before.before.before in record {
+      trees = rest-trees start.requires.0 at-if3.before.if2.false _ c.resolve_geometries-geometries.ensures;
+      n_bound = omega (arith, ltb-false 5 start.args.called.count at-if3.if3.false);
+    }
+
+pub returns-in_default : goal.returns-in_default
+returns-in_default c =
+    λ records name ts over. knn-unread (walked (goal.at.returns-in_default c).After-knn_options) over c.in_default.is
+
+pub returns-in-Neither : goal.returns-in-Neither
+returns-in-Neither c =
+    let at-k = c in
+    λ records name ts over. knn-neither (walked (goal.at.returns-in-Neither c).After-knn_options) over _ _ _ at-k.k.given.1
+    c.in-Neither.is
+
+pub returns-in-LeftRight : goal.returns-in-LeftRight
+returns-in-LeftRight c =
+    let at-k = c in
+    λ records name ts over. knn-left (walked (goal.at.returns-in-LeftRight c).After-knn_options) over _ _ _ at-k.k.given.1
+    c.in-LeftRight.is
+
+pub returns-in-RightLeft : goal.returns-in-RightLeft
+returns-in-RightLeft c =
+    let at-k = c in
+    λ records name ts over. knn-right (walked (goal.at.returns-in-RightLeft c).After-knn_options) over _ _ _ at-k.k.given.1
+    c.in-RightLeft.is

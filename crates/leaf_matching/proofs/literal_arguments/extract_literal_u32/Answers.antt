@@ -1,0 +1,54 @@
+-- `extract_literal_u32`: the type says whether the eight bytes have a sign.
+use native.Mathlib.Omega.{arith}
+use mathlib.Core.Path.{ap, ◌∙◌}
+use lib.IntN.{pos}
+use mir.Syntax.{w64}
+use mir.Facts.{to_z-of_z}
+use Rattle.definitions.specs.Literals.{signed, u32}
+use Rattle.expression.proofs.Standing.{node-some}
+use Rattle.leaf_matching.proofs.LiteralLaws.{literal-is, no-literal, literal-number, number-below, number-signed, number-unsigned, number-above}
+use borrow.Author.Rules.{rules}
+use Rattle.leaf_matching.proofs.literal_arguments.extract_literal_u32.Goals as goal
+
+pub bounds-s-at : goal.bounds-s-at
+bounds-s-at c =
+    node-some c.requires.2
+
+pub returns-then-s-at-ne1 : goal.returns-then-s-at-ne1
+returns-then-s-at-ne1 c =
+    λ d t h. (no-literal h c.if-s-at-ne1.true).0
+
+pub long_at-bytes-requires : goal.long_at-bytes-requires
+long_at-bytes-requires c =
+    omega (arith, (literal-is c.requires.2 c.if-s-at-ne1.false).fits)
+
+pub bounds-s-at-2 : goal.bounds-s-at-2
+bounds-s-at-2 c =
+    omega (arith, (literal-is c.requires.2 c.if-s-at-ne1.false).fits)
+
+pub returns-in-2 : goal.returns-in-2
+returns-in-2 c =
+    let at-if3 = c in
+    let at-if2 = at-if3.before in
+    let at-long-at = at-if2.before.before in
+    let at-if1 = at-long-at.before in
+    λ d t h. literal-number h at-if1.if1.false _
+    (c.u32_of_i64.ensures ∙ ap u32 (to_z-of_z {w = w64} (record { sfits = c.signed.type_inv }) ∙ c.signed.ensures ∙ ap signed
+    at-long-at.long-at.ensures) ∙ number-signed _ _ at-if2.if2.false at-if3.if3.true)
+
+pub returns-in-4 : goal.returns-in-4
+returns-in-4 c =
+    let at-if3 = c in
+    let at-long-at = at-if3.before.before.before in
+    let at-if1 = at-long-at.before in
+    λ d t h. literal-number h at-if1.if1.false _
+    (c.u32_of_u64.ensures ∙ ap (λ n. u32 (pos n)) at-long-at.long-at.ensures
+    ∙ number-unsigned _ _ at-if3.if3.false c.in-4.if-this-lt6-own.true)
+
+pub returns-in_default : goal.returns-in_default
+returns-in_default c =
+    λ d t h. literal-number h c.if-s-at-ne1.false _ (number-below _ _ c.in_default.if-s-at-lt2-own.true)
+
+pub returns-in_default-2 : goal.returns-in_default-2
+returns-in_default-2 c =
+    λ d t h. literal-number h c.if-s-at-ne1.false _ (number-above _ _ c.in_default.if-this-lt6-own.false)

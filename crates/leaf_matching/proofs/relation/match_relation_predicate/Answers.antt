@@ -1,0 +1,62 @@
+-- `match_relation_predicate`: the name decides what is asked, the sides of the two geometries which is stored first.
+use mathlib.Core.Path.{sym, ap, ◌∙◌}
+use native.Mathlib.Omega.{arith}
+use Rattle.definitions.specs.Leaves.{relation_named}
+use Rattle.sedona_query_planner.specs.Relations.{named_relation}
+use Rattle.leaf_matching.proofs.Asked.{no-relation}
+use Rattle.leaf_matching.proofs.MatchLaws.{pair-framed, pair-begins}
+use Rattle.leaf_matching.proofs.RelationLaws.{few-lacks, Walked, relation-neither, relation-left, relation-right}
+use borrow.Author.Rules.{rules}
+use Rattle.leaf_matching.proofs.relation.match_relation_predicate.Statement.{
+use Rattle.leaf_matching.proofs.relation.match_relation_predicate.Goals as goal
+use Rattle.leaf_matching.proofs.relation.match_relation_predicate.Goals.{After-resolve_geometries-geometries}
+
+walked : (c : After-resolve_geometries-geometries)
+    → let start = c.args in
+    Walked start.s.now start.rec start.called c.resolve_geometries-geometries.result c.in-Relation.relation_type
+walked c =
+    let at-if1 = c in
+    let at_named = at-if1.before.before in
+    let at-from-name = at_named.before.before in
+    record {
+      named = sym at-from-name.from-name.ensures ∙ ap named_relation at_named.named.given.1;
+      enough = at-if1.if1.false;
+      geometries = c.resolve_geometries-geometries.ensures;
+    }
+
+  statement,
+}
+
+pub returns-in_default : goal.returns-in_default
+returns-in_default c =
+    let at-from-name = c in
+    λ records name ts over. no-relation records name ts
+    (ap relation_named (sym over.stands.spelling) ∙ sym at-from-name.from-name.ensures
+    ∙ ap named_relation c.in_default.is)
+
+pub returns-then-count-lt2 : goal.returns-then-count-lt2
+returns-then-count-lt2 c =
+    let at-from-name = c in
+    λ records name ts over. few-lacks records name ts
+    (ap relation_named (sym over.stands.spelling) ∙ sym at-from-name.from-name.ensures
+    ∙ ap named_relation c.in-Relation.is) (omega (arith, over.stands.row.counted))
+
+pub resolve_geometries-geometries-requires : goal.resolve_geometries-geometries-requires
+resolve_geometries-geometries-requires c =
+    record {
+      framed_two = pair-framed c.requires.call_framed c.if-count-lt2.false;
+      of_frame_two = pair-begins c.requires.call_framed c.if-count-lt2.false c.requires.of_call;
+    }
+
+pub returns-in-Neither : goal.returns-in-Neither
+returns-in-Neither c =
+    λ records name ts over. relation-neither (walked (goal.at.returns-in-Neither c).After-resolve_geometries-geometries) over c.in-Neither.is
+
+pub returns-in-LeftRight : goal.returns-in-LeftRight
+returns-in-LeftRight c =
+    λ records name ts over. relation-left (walked (goal.at.returns-in-LeftRight c).After-resolve_geometries-geometries) over c.in-LeftRight.is
+
+pub returns-in-RightLeft : goal.returns-in-RightLeft
+returns-in-RightLeft c =
+    λ records name ts over. relation-right (walked (goal.at.returns-in-RightLeft c).After-resolve_geometries-geometries) over _ c.invert.ensures
+    c.in-RightLeft.is

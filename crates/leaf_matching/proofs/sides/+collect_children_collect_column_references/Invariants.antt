@@ -1,0 +1,24 @@
+-- A column's side is seen; of any other node the children are walked, one after the other. The measure is twice the bytes left.
+use Prim.Native.Nat.{◌+◌, ◌-◌, ◌*◌}
+use native.Mathlib.Omega.{arith}
+use lib.ListN.{length}
+use Rattle.expression.proofs.Standing.{node-some, after-head}
+use Rattle.leaf_matching.proofs.Framing.{framed-tree, entry-within, column_fits, children-framed}
+use Rattle.leaf_matching.proofs.SideWalk.{side-column, side-other, sides-none, Seeing, seeing-begins, seeing-first, seeing-goes-on, seeing-ends}
+use Rattle.leaf_matching.proofs.sides.+collect_children_collect_column_references.Given as goal
+
+abbrev pub invariant-collect_children-loop-left : goal.invariant-collect_children-loop-left
+invariant-collect_children-loop-left l =
+    Seeing l.s l.rec l.at l.n l.initial.sides l.next l.left l.sides
+
+abbrev pub decreases-collect_children-loop-left : goal.decreases-collect_children-loop-left
+decreases-collect_children-loop-left l =
+    l.left
+
+abbrev pub decreases-collect_children : goal.decreases-collect_children
+decreases-collect_children l =
+    2 * (length l.s.now - l.at) + 1
+
+abbrev pub decreases-collect_column_references : goal.decreases-collect_column_references
+decreases-collect_column_references l =
+    2 * (length l.s.now - l.at)

@@ -1,0 +1,23 @@
+-- `resolve_geometries`: the second geometry stands where the rows say that the first ends.
+use Rattle.leaf_matching.proofs.SideWalk.{two-tabled, second-framed, geometries-are}
+use borrow.Author.Rules.{rules}
+use Rattle.leaf_matching.proofs.sides.resolve_geometries.Goals as goal
+
+pub two_at-two-requires : goal.two_at-two-requires
+two_at-two-requires c =
+    two-tabled c.requires.of_frame_two c.requires.framed_two
+
+pub side_of_column_references-first-requires : goal.side_of_column_references-first-requires
+side_of_column_references-first-requires c =
+    let p = c.requires.framed_two in (p.0, p.1, p.3.one)
+
+pub side_of_column_references-second-requires : goal.side_of_column_references-second-requires
+side_of_column_references-second-requires c =
+    second-framed c.requires.of_frame_two c.two_at-two.ensures c.requires.framed_two
+
+pub returns : goal.returns
+returns c =
+    let two = c.two_at-two in
+    geometries-are c.requires.of_frame_two two.ensures _ _
+    c.side_of_column_references-first.ensures
+    c.side_of_column_references-second.ensures _ c.resolve_column_reference_sides.ensures

@@ -1,0 +1,99 @@
+-- `first_match`: in an And, what the left side finds comes first, and the loop goes on with the right side, where the rows say that the
+-- left one ends.
+-- A call goes to a place further on, so the measure is the bytes left.
+use native.Mathlib.Omega.{arith}
+use mathlib.Core.Path.{refl}
+use lib.ListN.{length}
+use mir.Facts.{Fits-16_64}
+use Rattle.definitions.specs.Settings.{match_under}
+use Rattle.terms.specs.Settings.{settings_of}
+use Rattle.leaf_matching.proofs.Framing.{framed-tree}
+use Rattle.leaf_pick.proofs.Nodes.{single-leaf}
+use Rattle.leaf_pick.proofs.FirstLaws.{Along, along-begins, along-within, along-tabled, left-within}
+use Rattle.leaf_pick.proofs.FirstLaws.{left_there, along-left, along-less, along-right}
+use borrow.Author.Rules.{rules}
+use Prim.Native.Nat.{ℕ, ◌-◌}
+use Rattle.leaf_pick.proofs.first_match.+first_match.Goals as goal
+
+pub loop-left-init : goal.loop-left-init
+loop-left-init t c =
+    let pre = c.requires in along-begins pre.0 pre.1.0 pre.1.1
+
+pub node_at-node-requires : goal.node_at-node-requires
+node_at-node-requires t c =
+    framed-tree c.loop-left.invariant.there
+
+pub leaf_match-requires : goal.leaf_match-requires
+leaf_match-requires t c =
+    let inv = c.loop-left.invariant in
+    let node = c.node_at-node in (
+      record { framed = inv.there; tabled = inv.tabled; is = node.ensures },
+      ((λ records u over. single-leaf node.result node.ensures over.tree c.in_default.in_default-own.keys2), inv.few),
+    )
+
+pub returns-in_default : goal.returns-in_default
+returns-in_default t c =
+    c.loop-left.invariant.rest c.leaf_match.result c.leaf_match.ensures
+
+pub overflow_add-index : goal.overflow_add-index
+overflow_add-index t c =
+    omega (arith, c.well_formed, (along-within c.loop-left.invariant).0)
+
+pub first_match-requires : goal.first_match-requires
+first_match-requires t c =
+    let is = c.node_at-node.ensures in
+    let told = c.in-And.is in
+    let left = left_there c.loop-left.invariant is told c.MEASURE in
+    (left.0, (left.1.0, (along-tabled c.loop-left.invariant is told, left.1.1)))
+
+pub returns-in-Leaf : goal.returns-in-Leaf
+returns-in-Leaf t c =
+    let an-and = c in
+    along-left an-and.before.before.before.loop.invariant an-and.before.before.node_at.ensures an-and.node.given.1
+    (λ records u over. rw c.in-Leaf.is at (c.first_match.ensures records u over))
+
+pub overflow_add-index-in-Nothing : goal.overflow_add-index-in-Nothing
+overflow_add-index-in-Nothing t c =
+    omega (arith, c.well_formed, (along-within c.loop-left.invariant).0)
+
+pub end_of-place-requires : goal.end_of-place-requires
+end_of-place-requires t c =
+    let an-and = c in
+    (left-within an-and.before.before.before.loop.invariant an-and.before.before.node_at.ensures an-and.node.given.1).0
+
+pub overflow_add-index-in-Nothing-2 : goal.overflow_add-index-in-Nothing-2
+overflow_add-index-in-Nothing-2 t c =
+    omega (arith, c.well_formed, (along-within c.loop-left.invariant).0)
+
+pub offset_bounds-next-index : goal.offset_bounds-next-index
+offset_bounds-next-index t c =
+    let an-and = c in
+    let turn = an-and.before.before.before in
+    omega (
+      arith,
+      turn.before.before.before.before.well-formed,
+      (left-within turn.loop.invariant an-and.before.before.node_at.ensures an-and.node.given.1).1,
+    )
+
+pub bounds-next-index : goal.bounds-next-index
+bounds-next-index t c =
+    let an-and = c in
+    (left-within an-and.before.before.before.loop.invariant an-and.before.before.node_at.ensures an-and.node.given.1).1
+
+pub overflow_cast-index : goal.overflow_cast-index
+overflow_cast-index t c =
+    Fits-16_64 (c.shared_slice_known-in-Nothing-1.given _)
+
+pub loop-left-smaller : goal.loop-left-smaller
+loop-left-smaller t c =
+    let an-and = c in
+    along-less an-and.before.before.before.loop.invariant an-and.before.before.node_at.ensures an-and.node.given.1
+    (λ records u over. rw c.in-Nothing.is at (c.first_match.ensures records u over))
+    c.end_of-place.ensures
+
+pub loop-left-preserved : goal.loop-left-preserved
+loop-left-preserved t c =
+    let an-and = c in
+    along-right an-and.before.before.before.loop.invariant an-and.before.before.node_at.ensures an-and.node.given.1
+    (λ records u over. rw c.in-Nothing.is at (c.first_match.ensures records u over))
+    c.end_of-place.ensures _ refl

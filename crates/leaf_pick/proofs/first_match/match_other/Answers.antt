@@ -1,0 +1,17 @@
+-- `match_other`: a relation and a distance match with any default k as with 1; the settings leave what they allow.
+use Rattle.definitions.specs.Match.{match_leaf_by}
+use Rattle.definitions.specs.Settings.{only_if, match_under}
+use Rattle.leaf_pick.specs.Picks.{is_other}
+use Rattle.leaf_pick.proofs.Defaults.{other-default}
+use borrow.Author.Rules.{rules}
+use Rattle.leaf_pick.proofs.first_match.match_other.Goals as goal
+
+pub returns : goal.returns
+unfolding match_under only_if
+returns c =
+    λ records t over.
+    let found = c.match_relation_or_distance-matching in
+    let a = c.args in
+    let k = a.settings.default_k in
+    c.only_allowed.ensures is_other a.s.now a.rec records (match_leaf_by k records t)
+    (other-default 1 k a.s.now a.rec records t found.result (found.ensures records t over))

@@ -1,0 +1,42 @@
+-- `put_answer`: each answer is a line of one byte and more, `00` and the bytes or the refusal's number alone.
+use Prim.Native.Nat.{◌≤◌}
+use borrow.Author.Rules.{rules}
+use native.Mathlib.Omega.{arith}
+use mathlib.Core.Path.{sym}
+use lib.ListN.{length}
+use lib.Seq.{length-take-le}
+use Rattle.definitions.specs.Program.{written_line}
+use Rattle.lines.proofs.answers.put_answer.Goals as goal
+use Rattle.lines.proofs.answers.put_answer.Goals.{After-put_line-arg-in-Logical-1}
+
+-- The plan is as long as the answer says.
+plan-fits : (c : After-put_line-arg-in-Logical-1)
+    → c.answer-1.given.0.0 ≤ length c.args.plan.now
+plan-fits c = rw c.answer-1.given.1 at c.requires.0
+
+pub slice_bounds-put_line-end : goal.slice_bounds-put_line-end
+slice_bounds-put_line-end c =
+    sym (length-take-le _ _ (plan-fits (goal.at.slice_bounds-put_line-end c).After-put_line-arg-in-Logical-1))
+
+pub put_line-requires : goal.put_line-requires
+put_line-requires c =
+    rw (length-take-le _ _ (plan-fits (goal.at.put_line-requires c).After-put_line-arg-in-Logical-1)) (omega (arith, plan-fits (goal.at.put_line-requires c).After-put_line-arg-in-Logical-1))
+
+pub returns-in-Plan : goal.returns-in-Plan
+unfolding written_line
+returns-in-Plan c =
+    rw c.in-Plan.is c.put_line.ensures
+
+pub returns-in-Logical : goal.returns-in-Logical
+unfolding written_line
+returns-in-Logical c =
+    rw c.in-Logical.is c.put_line-in-Logical.ensures
+
+pub returns-in-Refused : goal.returns-in-Refused
+unfolding written_line
+returns-in-Refused c =
+    rw (
+      c.in-Refused.is,
+      ← c.refusal_number-number.ensures,
+    )
+    c.put_line-in-Refused.ensures

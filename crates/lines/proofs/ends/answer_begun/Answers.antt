@@ -1,0 +1,29 @@
+-- `answer_begun`: a counted line stands in the buffer, or has over 32,768 characters.
+use borrow.Author.Rules.{rules}
+use native.Mathlib.Omega.{arith}
+use mathlib.Core.Path.{refl, sym}
+use lib.Seq.{length-take-le}
+use borrow.Author.Tests.{le-leb, lt-leb}
+use Rattle.lines.proofs.SessionLaws.{too_long}
+use Rattle.lines.proofs.ends.answer_begun.Goals as goal
+
+pub returns-then-line-count : goal.returns-then-line-count
+returns-then-line-count c =
+    let both = (
+      omega arith,
+      (λ begun b. too_long b _ _ c.requires.1 c.if-line-count.true, rw (lt-leb _ _ c.if-line-count.true) refl),
+    ) in
+    record { result_in_bounds = both.0; by_index = both.1; scratch_after = both.2; }
+
+pub slice_bounds-answer_line-end : goal.slice_bounds-answer_line-end
+slice_bounds-answer_line-end c =
+    sym (length-take-le _ _ (search rules))
+
+pub returns : goal.returns
+returns c =
+    let call = c.answer_line in
+        let short = c.if-line-count.false in let both = (
+          omega (arith, call.ensures.0.fits, call.auto.plan),
+          (λ begun b. rw (b.held short) at call.ensures.0, rw (le-leb _ _ short) call.ensures.1),
+        ) in
+    record { result_in_bounds = both.0; by_index = both.1; scratch_after = both.2; }

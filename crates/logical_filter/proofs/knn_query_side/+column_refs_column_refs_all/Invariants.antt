@@ -1,0 +1,28 @@
+-- `column_refs` and `column_refs_all`: a column has its bits, any other node those below it; the measure is twice the bytes left, and one
+-- more for a row.
+use Prim.Native.Nat.{◌+◌, ◌-◌, ◌*◌}
+use native.Mathlib.Omega.{arith}
+use lib.ListN.{length}
+use borrow.Author.Rules.{rules}
+use Rattle.expression.proofs.Standing.{node-some, after-head}
+use Rattle.expression.proofs.EndWalk.{children-there}
+use Rattle.logical_filter.proofs.QueryWalk.{bits-within, a-field-is, node-columns, Joining, joining-begins, joining-first, joining-goes-on, joining-ends}
+use Rattle.logical_filter.proofs.knn_query_side.+column_refs_column_refs_all.{
+use Rattle.logical_filter.proofs.knn_query_side.+column_refs_column_refs_all.Tie.{
+use Rattle.logical_filter.proofs.knn_query_side.+column_refs_column_refs_all.Given as goal
+
+abbrev pub invariant-column_refs_all-loop-more : goal.invariant-column_refs_all-loop-more
+invariant-column_refs_all-loop-more l =
+    Joining l.s l.at l.n l.next l.left l.right l.more
+
+abbrev pub decreases-column_refs_all-loop-more : goal.decreases-column_refs_all-loop-more
+decreases-column_refs_all-loop-more l =
+    l.more
+
+abbrev pub decreases-column_refs : goal.decreases-column_refs
+decreases-column_refs l =
+    2 * (length l.s.now - l.at)
+
+abbrev pub decreases-column_refs_all : goal.decreases-column_refs_all
+decreases-column_refs_all l =
+    2 * (length l.s.now - l.at) + 1

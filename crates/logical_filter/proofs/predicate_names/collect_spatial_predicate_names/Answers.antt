@@ -1,0 +1,15 @@
+-- `collect_spatial_predicate_names`: distinct names are the ones of the mask.
+use mathlib.Core.Path.{sym, ap, ◌∙◌}
+use mathlib.Core.List.{map}
+use lib.Count.{ones}
+use borrow.Author.Rules.{rules}
+use Rattle.definitions.specs.Leaves.{leaves}
+use Rattle.definitions.specs.Logical.{spatial_names, leaf_name}
+use Rattle.definitions.proofs.Names.{names-ones}
+use Rattle.logical_filter.proofs.predicate_names.collect_spatial_predicate_names.Goals as goal
+
+pub returns : goal.returns
+returns c =
+    λ d t h.
+    let found = (c.collect-all.ensures d t h).names in
+    record { found = found; counted = ap ones found ∙ sym (names-ones spatial_names (map leaf_name (leaves t))) }

@@ -1,0 +1,67 @@
+-- `put_before`: nothing before the first child; else a comma, or a binary's operator.
+use borrow.Author.Rules.{rules}
+use native.Mathlib.Omega.{arith}
+use mathlib.Core.Path.{◌≡◌, ◌∙◌}
+use mathlib.Core.List.{◌∷◌}
+use lib.ListN.{length-set}
+use Rattle.definitions.specs.Expression.{Expr}
+use Rattle.printing.specs.Marks.{marked, before_of, PhysicalAt}
+use Rattle.printing.proofs.NodeFields.{kind-within}
+use Rattle.printing.proofs.Sequences.{known-fits, known-puts, mark-fits, mark-written, begins-within, after-fits, after-written, nothing_written}
+use Rattle.printing.proofs.MarkLaws.{nothing-before, operator-before, comma-before}
+use Rattle.printing.proofs.marks.put_before.Goals as goal
+use Rattle.printing.proofs.marks.put_before.Goals.{After-leading_number-operator}
+
+-- What is written before a later child of a binary.
+operator : (c : After-leading_number-operator) → let a = c.args in (t : Expr)
+    → PhysicalAt a.src.now a.at t → before_of a.position t ≡ 32 ∷ marked 111 c.leading_number-operator.result 32
+operator c =
+    operator-before c.args.position c.if-position-eq0.false
+    c.if-src-at-eq2.true c.leading_number-operator.result c.leading_number-operator.ensures
+
+pub returns-then-position-eq0 : goal.returns-then-position-eq0
+returns-then-position-eq0 c =
+    known-puts (nothing-before c.args.position c.if-position-eq0.true) (nothing_written _ _)
+
+pub bounds-src-at : goal.bounds-src-at
+bounds-src-at c =
+    kind-within c.requires.stands
+
+pub bounds-out-w : goal.bounds-out-w
+bounds-out-w c =
+    begins-within 32 _ (known-fits (operator (goal.at.bounds-out-w c).After-leading_number-operator) c.requires)
+
+pub overflow_add-w : goal.overflow_add-w
+overflow_add-w c =
+    omega (arith, slice-write-out c)
+
+pub put_marked-requires : goal.put_marked-requires
+put_marked-requires c =
+    after-fits 32 _ (known-fits (operator (goal.at.put_marked-requires c).After-leading_number-operator) c.requires)
+
+pub shape_of-out-then-src-at-eq2 : goal.shape_of-out-then-src-at-eq2
+shape_of-out-then-src-at-eq2 c =
+    c.put_marked.auto.out ∙ simp length-set
+
+pub returns-then-src-at-eq2 : goal.returns-then-src-at-eq2
+returns-then-src-at-eq2 c =
+    known-puts (operator (goal.at.returns-then-src-at-eq2 c).After-leading_number-operator)
+    (after-written 32 _ (known-fits (operator (goal.at.returns-then-src-at-eq2 c).After-leading_number-operator) c.requires)
+    c.put_marked.ensures)
+
+pub bounds-out-w-2 : goal.bounds-out-w-2
+bounds-out-w-2 c =
+    mark-fits 44 (known-fits (comma-before c.args.position c.if-position-eq0.false c.if-src-at-eq2.false) c.requires)
+
+pub overflow_add-result : goal.overflow_add-result
+overflow_add-result c =
+    omega (arith, slice-write-out-2 c)
+
+pub shape_of-out : goal.shape_of-out
+shape_of-out c =
+    simp length-set
+
+pub returns : goal.returns
+returns c =
+    let is = comma-before c.args.position c.if-position-eq0.false c.if-src-at-eq2.false in
+    known-puts is (mark-written 44 (known-fits is c.requires))

@@ -1,0 +1,141 @@
+-- `own_size`: each arm adds up the characters of its kind.
+use borrow.Author.Rules.{rules}
+use native.Mathlib.Omega.{arith}
+use mathlib.Core.Path.{ap}
+use Rattle.definitions.specs.Printed.{decimal_width}
+use Rattle.printing.proofs.NodeFields.{kind-within, tag-within}
+use Rattle.printing.proofs.SizeLaws.{width_small, few-children, short-name, own-column, own-literal, own-binary, own-call, own-other}
+use Rattle.printing.proofs.sizes.own_size.Goals as goal
+
+pub bounds-src-at : goal.bounds-src-at
+bounds-src-at c =
+    kind-within c.requires.1
+
+pub overflow_add-result : goal.overflow_add-result
+overflow_add-result c =
+    omega (
+      arith,
+      c.decimal_width-width.ensures,
+      width_small
+          c.leading_number-number.result,
+    )
+
+pub short_at-requires : goal.short_at-requires
+short_at-requires c =
+    omega (arith, tag-within c.requires.1 c.in-0.is)
+
+pub overflow_add-result-in-0 : goal.overflow_add-result-in-0
+overflow_add-result-in-0 c =
+    omega (
+      arith,
+      c.decimal_width.ensures,
+      width_small c.short_at.result,
+      c.decimal_width-width.ensures,
+      width_small c.leading_number-number.result,
+    )
+
+pub overflow_add-result-in-1 : goal.overflow_add-result-in-1
+overflow_add-result-in-1 c =
+    omega (
+      arith,
+      c.decimal_width-width.ensures,
+      width_small
+          c.leading_number-number.result,
+    )
+
+pub overflow_add-result-in-2 : goal.overflow_add-result-in-2
+overflow_add-result-in-2 c =
+    omega (
+      arith,
+      c.decimal_width-width.ensures,
+      width_small
+          c.leading_number-number.result,
+    )
+
+pub overflow_add-result-in-3 : goal.overflow_add-result-in-3
+overflow_add-result-in-3 c =
+    omega (
+      arith,
+      c.decimal_width-width.ensures,
+      width_small
+          c.leading_number-number.result,
+    )
+
+pub overflow_add-result-in-3-2 : goal.overflow_add-result-in-3-2
+overflow_add-result-in-3-2 c =
+    omega (arith, name-sum c)
+
+pub overflow_add-result-in-3-3 : goal.overflow_add-result-in-3-3
+overflow_add-result-in-3-3 c =
+    let call = c.leading_number-number in
+    omega (
+      arith,
+      c.decimal_width-width.ensures,
+      width_small call.result,
+      call.ensures c.requires.0 c.requires.1,
+      short-name c.requires.1 c.in-3.is,
+      c.commas-between.ensures,
+      c.requires.2,
+      few-children c.requires.1,
+    )
+
+pub overflow_add-result-in_default : goal.overflow_add-result-in_default
+overflow_add-result-in_default c =
+    omega (arith, tag-sum c)
+
+pub overflow_add-result-in_default-2 : goal.overflow_add-result-in_default-2
+overflow_add-result-in_default-2 c =
+    omega (
+      arith,
+      c.decimal_width-width.ensures,
+      width_small c.leading_number-number.result,
+      c.commas-between.ensures,
+      c.requires.2,
+      few-children c.requires.1,
+    )
+
+pub returns-in-0 : goal.returns-in-0
+returns-in-0 c =
+    λ t h k.
+    let call = c.leading_number-number in
+        omega (
+          arith,
+          own-column call.result call.ensures t h c.in-0.is,
+          c.decimal_width-width.ensures,
+          c.decimal_width.ensures,
+          ap decimal_width c.short_at.ensures,
+        )
+
+pub returns-in-1 : goal.returns-in-1
+returns-in-1 c =
+    λ t h k.
+    let call = c.leading_number-number in
+        omega (arith, own-literal call.result call.ensures t h c.in-1.is, c.decimal_width-width.ensures)
+
+pub returns-in-2 : goal.returns-in-2
+returns-in-2 c =
+    λ t h k.
+    let call = c.leading_number-number in
+        omega (arith, own-binary call.result call.ensures t h c.in-2.is, c.decimal_width-width.ensures)
+
+pub returns-in-3 : goal.returns-in-3
+returns-in-3 c =
+    λ t h k.
+    let call = c.leading_number-number in
+        omega (
+          arith,
+          own-call call.result call.ensures t h _ k c.in-3.is,
+          c.decimal_width-width.ensures,
+          c.commas-between.ensures,
+        )
+
+pub returns-in_default : goal.returns-in_default
+returns-in_default c =
+    λ t h k.
+    let call = c.leading_number-number in
+        omega (
+          arith,
+          own-other call.result call.ensures t h _ k (omega arith),
+          c.decimal_width-width.ensures,
+          c.commas-between.ensures,
+        )

@@ -1,0 +1,45 @@
+-- `collect_extraction`: the records of a remainder come after the predicate's arguments.
+use Prim.Native.Nat.{◌+◌}
+use native.Mathlib.Omega.{arith}
+use borrow.Author.Rules.{rules}
+use Rattle.projection.specs.Rows.{RecordsFit}
+use Rattle.projection.proofs.ExtractionLaws.{arguments-fit, records-fit, collected-nothing, collected-records}
+use Rattle.projection.proofs.plan_spots.collect_extraction.Goals as goal
+use Rattle.projection.proofs.plan_spots.collect_extraction.Goals.{After-struct_known-1}
+
+-- The records of the remainder have room.
+fits : (c : After-struct_known-1)
+    → let call = c.collect_arguments-passed in
+    RecordsFit c.args.src.now (call.result.end + 3) c.in-Frame.f.columns
+    call.result.index call.new.row
+fits c =
+    let call = c.collect_arguments-passed in
+    records-fit c.requires _ (rw c.in-Frame.is at c.requires.there.read.remainder)
+    call.new.row call.auto.row call.result call.ensures
+
+pub collect_arguments-passed-requires : goal.collect_arguments-passed-requires
+collect_arguments-passed-requires c =
+    arguments-fit c.requires
+
+pub overflow_add-passed : goal.overflow_add-passed
+overflow_add-passed c =
+    omega (arith, (fits (goal.at.overflow_add-passed c).After-struct_known-1).short)
+
+pub collect_records-requires : goal.collect_records-requires
+collect_records-requires c =
+    fits (goal.at.collect_records-requires c).After-struct_known-1
+
+pub returns-in-Nothing : goal.returns-in-Nothing
+returns-in-Nothing c =
+    λ X there.
+    let call = c.collect_arguments-passed in
+        collected-nothing c.args.row.now call.new.row call.result call.ensures X there
+        (rw c.in-Nothing.is at there.read.remainder)
+
+pub returns-in-Frame : goal.returns-in-Frame
+returns-in-Frame c =
+    λ X there.
+    let records = c.collect_records in
+        let call = c.collect_arguments-passed in
+        collected-records c.args.row.now call.new.row call.result call.ensures X there _
+        (rw c.in-Frame.is at there.read.remainder) records.new.row records.result records.ensures

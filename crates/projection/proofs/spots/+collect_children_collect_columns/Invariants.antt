@@ -1,0 +1,26 @@
+-- `collect_columns` and `collect_children`: a column is put into the row, of any other node the children are walked, one after the other.
+use Prim.Native.Nat.{ℕ, ◌+◌, ◌-◌, ◌*◌}
+use native.Mathlib.Omega.{arith}
+use mathlib.Core.Path.{ap, ◌∙◌}
+use lib.ListN.{length, length-set}
+use Rattle.expression.proofs.Standing.{node-some, after-head}
+use Rattle.terms.specs.Sides.{join_side}
+use Rattle.projection.specs.Spots.{spot_number}
+use Rattle.projection.proofs.SpotWalk.{collect-column, collect-other, collects-none, columns-tree, column-within, children-fit, Collecting, collecting-begins, collecting-first, collecting-goes-on, collecting-ends}
+use Rattle.projection.proofs.spots.+collect_children_collect_columns.Given as goal
+
+abbrev pub invariant-collect_children-loop-left : goal.invariant-collect_children-loop-left
+invariant-collect_children-loop-left l =
+    Collecting l.src l.at l.n (join_side l.side) l.i l.initial.row l.end l.left l.index l.row
+
+abbrev pub decreases-collect_children-loop-left : goal.decreases-collect_children-loop-left
+decreases-collect_children-loop-left l =
+    l.left
+
+abbrev pub decreases-collect_children : goal.decreases-collect_children
+decreases-collect_children l =
+    2 * (length l.src.now - l.at) + 1
+
+abbrev pub decreases-collect_columns : goal.decreases-collect_columns
+decreases-collect_columns l =
+    2 * (length l.src.now - l.at)

@@ -1,0 +1,10 @@
+-- `spot_number`: 14 bits, two and 16 fit 32.
+use native.Mathlib.Omega.{arith}
+use borrow.Author.Rules.{rules}
+use Rattle.terms.specs.Sides.{join_side}
+use Rattle.projection.proofs.SpotLaws.{side-small}
+use Rattle.projection.proofs.spots.spot_number.Goals as goal
+
+pub overflow_cast-result-2 : goal.overflow_cast-result-2
+overflow_cast-result-2 c =
+    omega (arith, c.requires, c.side_number.ensures, side-small (join_side c.args.side))

@@ -1,0 +1,37 @@
+-- `keep_each`: those that stay of the first j records are written, and the first j columns have their new indexes.
+use Prim.Native.Nat.{◌-◌}
+use native.Mathlib.Omega.{arith}
+use lib.ListN.{length}
+use Rattle.remainder.proofs.RecordLaws.{Keeping, keeping_none, next_fits, keeping-more, keeping_all}
+use Rattle.remainder.proofs.kept_records.keep_each.Goals as goal
+
+pub loop-j-init : goal.loop-j-init
+loop-j-init c =
+    keeping_none c.args.to.now
+
+pub overflow_cast-to : goal.overflow_cast-to
+overflow_cast-to c =
+    omega (arith, c.requires.all_fit.few)
+
+pub keep_record-kept-requires : goal.keep_record-kept-requires
+keep_record-kept-requires c =
+    let both = (next_fits c.loop-j.invariant c.loop-j-test.true c.requires.all_fit, (c.requires.count_in_bounds.0.0, c.requires.count_in_bounds.1)) in
+    record { one_fits = both.0; count_in_bounds = both.1; key_row = both.2; }
+
+pub loop-j-preserved : goal.loop-j-preserved
+loop-j-preserved c =
+    let call = c.keep_record-kept in
+    keeping-more c.loop-j.invariant c.loop-j-test.true c.requires.all_fit call.new.out call.auto.out (omega arith)
+    call.result call.ensures
+
+pub shape_of-out : goal.shape_of-out
+shape_of-out c =
+    c.loop-j.invariant.long
+
+pub shape_of-to : goal.shape_of-to
+shape_of-to c =
+    c.loop-j.invariant.wide
+
+pub returns : goal.returns
+returns c =
+    keeping_all c.loop-j.invariant (omega arith)

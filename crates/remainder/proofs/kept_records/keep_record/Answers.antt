@@ -1,0 +1,61 @@
+-- `keep_record`: a record that stays is copied after those kept, any other changes nothing.
+use Prim.Native.Nat.{◌+◌, ◌*◌, ◌≤◌}
+use native.Mathlib.Omega.{arith}
+use lib.ListN.{length}
+use borrow.Author.Rules.{rules}
+use Rattle.writing.proofs.Written.{behind-length}
+use Rattle.remainder.proofs.RecordLaws.{one-within, one-room, one_kept, none_kept}
+use Rattle.remainder.proofs.kept_records.keep_record.Goals as goal
+use Rattle.remainder.proofs.kept_records.keep_record.Goals.{Then-is_referenced}
+
+room : (c : Then-is_referenced) → let args = c.args in 5 * args.kept + 5 ≤ length args.out.now
+room c = one-room c.requires.one_fits (rw c.if-is_referenced.true at c.is_referenced.ensures)
+
+within : (c : Then-is_referenced)
+    → let args = c.args in args.rec + 5 * args.j + 5 ≤ length args.src.now
+within c = one-within c.requires.one_fits
+
+pub is_referenced-requires : goal.is_referenced-requires
+is_referenced-requires c =
+    let p = c.requires.one_fits in
+        let both = ((p.records, p.is.entries), ((c.requires.count_in_bounds.0, p.below), c.requires.count_in_bounds.1)) in
+    record { recorded = both.0; count_in_bounds = both.1; key_row = both.2; }
+
+pub overflow_mul-w : goal.overflow_mul-w
+overflow_mul-w c =
+    omega (arith, room (goal.at.overflow_mul-w c).Then-is_referenced)
+
+pub slice_bounds-copy_bytes-start : goal.slice_bounds-copy_bytes-start
+slice_bounds-copy_bytes-start c =
+    omega (arith, room (goal.at.slice_bounds-copy_bytes-start c).Then-is_referenced)
+
+pub overflow_mul-j : goal.overflow_mul-j
+overflow_mul-j c =
+    omega (arith, within (goal.at.overflow_mul-j c).Then-is_referenced)
+
+pub overflow_add-rec : goal.overflow_add-rec
+overflow_add-rec c =
+    omega (arith, within (goal.at.overflow_add-rec c).Then-is_referenced)
+
+pub copy_bytes-requires : goal.copy_bytes-requires
+copy_bytes-requires c =
+    let args = c.args in
+    record {
+      n_in_bounds = within (goal.at.copy_bytes-requires c).Then-is_referenced;
+      n_in_bounds_2 = omega (arith, room (goal.at.copy_bytes-requires c).Then-is_referenced, behind-length (5 * args.kept) args.out.now);
+    }
+
+pub overflow_add-result : goal.overflow_add-result
+overflow_add-result c =
+    omega (arith, room (goal.at.overflow_add-result c).Then-is_referenced)
+
+pub returns-then-is_referenced : goal.returns-then-is_referenced
+returns-then-is_referenced c =
+    let copy = c.copy_bytes in
+    one_kept c.args.j c.args.kept c.args.out.now copy.new.out copy.ensures c.requires.one_fits.below
+    (rw c.if-is_referenced.true at c.is_referenced.ensures)
+
+pub returns : goal.returns
+returns c =
+    let args = c.args in
+    none_kept args.j args.kept args.out.now (rw c.if-is_referenced.false at c.is_referenced.ensures)

@@ -1,0 +1,74 @@
+-- `put_records`: the records are written from the fourth byte on, then the first byte and their count before them.
+use Prim.Native.Nat.{◌+◌, ◌*◌, ◌≤◌}
+use native.Mathlib.Omega.{arith}
+use mathlib.Core.Path.{◌≡◌, ◌∙◌}
+use lib.ListN.{length}
+use borrow.Author.Rules.{rules}
+use Rattle.writing.proofs.Written.{together, together-length}
+use Rattle.remainder.proofs.RecordLaws.{part-fit, columns-put}
+use Rattle.remainder.proofs.kept_records.put_records.Goals as goal
+use Rattle.remainder.proofs.kept_records.put_records.Goals.{After-keep_records-kept}
+
+-- The buffer keeps its length once the lent part is back.
+long : (c : After-keep_records-kept)
+    → let out = c.args.out.now in length
+    (together 3 out c.keep_records-kept.new.out) ≡ length out
+long c =
+    together-length 3 c.args.out.now c.keep_records-kept.new.out (omega (arith, c.requires.all_fit.room)) c.keep_records-kept.auto.out
+
+few : (c : After-keep_records-kept)
+    → 3 + 5 * c.keep_records-kept.result ≤ length c.args.out.now
+few c =
+    let p = c.requires.all_fit in
+    omega (arith, p.room, (c.keep_records-kept.ensures p.records p.columns p.is).out.ends)
+
+-- The call, from where the function returns.
+abbrev kept : tie.After-slice-known7 → tie.After-keep-records
+kept c = c.before.before.before.before.before.before.before.before.before.before
+
+pub slice_bounds-keep_records-count : goal.slice_bounds-keep_records-count
+slice_bounds-keep_records-count c =
+    omega (arith, c.requires.all_fit.room)
+
+pub slice_bounds-keep_records-start : goal.slice_bounds-keep_records-start
+slice_bounds-keep_records-start c =
+    omega (arith, c.requires.all_fit.room)
+
+pub keep_records-kept-requires : goal.keep_records-kept-requires
+keep_records-kept-requires c =
+    record {
+      all_fit = part-fit c.requires.all_fit;
+      rows_fit = c.requires.rows_fit;
+    }
+
+pub put_frame_head-requires : goal.put_frame_head-requires
+put_frame_head-requires c =
+    omega (arith, long (goal.at.put_frame_head-requires c).After-keep_records-kept, few (goal.at.put_frame_head-requires c).After-keep_records-kept)
+
+pub overflow_mul-result : goal.overflow_mul-result
+overflow_mul-result c =
+    omega (arith, few (kept c))
+
+pub overflow_add-result : goal.overflow_add-result
+overflow_add-result c =
+    omega (arith, few (kept c))
+
+pub shape_of-out : goal.shape_of-out
+shape_of-out c =
+    c.put_frame_head.auto.out ∙ long (kept c)
+
+pub shape_of-to : goal.shape_of-to
+shape_of-to c =
+    (kept c).keep-records.auto.1.0
+
+pub shape_of-keys : goal.shape_of-keys
+shape_of-keys c =
+    (kept c).keep-records.auto.1.1.0
+
+pub returns : goal.returns
+returns c =
+    let call = kept c in
+    let start = call.before.before.before.before.before.before.before.before.before in
+    columns-put start.args.out.now call.keep-records.last.0 call.keep-records.result (omega (arith, start.pre.0.room))
+    call.keep-records.ensures
+    c.put_frame_head.ensures

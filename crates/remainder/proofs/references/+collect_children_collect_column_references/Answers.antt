@@ -1,0 +1,101 @@
+-- `collect_column_references` and `collect_children`: a column is marked, of any other node the children are walked, one after the other.
+use Prim.Native.Nat.{◌+◌, ◌-◌, ◌*◌}
+use native.Mathlib.Omega.{arith}
+use lib.ListN.{length, length-set}
+use Rattle.expression.proofs.Standing.{node-some, after-head}
+use Rattle.remainder.proofs.ReferenceWalk.{collect-column, collect-other, collects-none, flagged-tree, column-flag, children-flagged, Collecting, collecting-begins, collecting-first, collecting-goes-on, collecting-ends}
+use Rattle.remainder.proofs.references.+collect_children_collect_column_references.Goals as goal
+
+pub collect_children-loop-left-init : goal.collect_children-loop-left-init
+collect_children-loop-left-init t c =
+    collecting-begins c.args.used.now c.requires
+
+pub collect_children-collect_column_references-next-requires : goal.collect_children-collect_column_references-next-requires
+collect_children-collect_column_references-next-requires t c =
+    let loop = c.loop-left in
+    (
+      omega (arith, loop.invariant.low),
+      collecting-first c.args.used.now loop.invariant c.loop-left-test.true,
+    )
+
+pub collect_children-loop-left-preserved : goal.collect_children-loop-left-preserved
+collect_children-loop-left-preserved t c =
+    let call = c.collect_column_references-next in
+    let loop = c.loop-left in
+    collecting-goes-on c.args.used.now loop.invariant c.loop-left-test.true
+    call.new.used call.auto.used call.result call.ensures
+
+pub collect_children-shape_of-used : goal.collect_children-shape_of-used
+collect_children-shape_of-used t c =
+    c.loop-left.invariant.same
+
+pub collect_children-returns : goal.collect_children-returns
+collect_children-returns t c =
+    let loop = c.loop-left in
+    collecting-ends c.args.used.now loop.invariant c.loop-left-test.false
+
+pub collect_column_references-bounds-src-at : goal.collect_column_references-bounds-src-at
+collect_column_references-bounds-src-at t c =
+    node-some c.requires.1
+
+pub collect_column_references-overflow_add-at : goal.collect_column_references-overflow_add-at
+collect_column_references-overflow_add-at t c =
+    omega (arith, (column-flag c.args.used.now c.requires c.if-src-at-eq0.true).0)
+
+pub collect_column_references-short_at-index-requires : goal.collect_column_references-short_at-index-requires
+collect_column_references-short_at-index-requires t c =
+    omega (arith, (column-flag c.args.used.now c.requires c.if-src-at-eq0.true).0)
+
+pub collect_column_references-bounds-used-index : goal.collect_column_references-bounds-used-index
+collect_column_references-bounds-used-index t c =
+    omega (arith, c.short_at-index.ensures, (column-flag c.args.used.now c.requires c.if-src-at-eq0.true).1)
+
+pub collect_column_references-overflow_add-result : goal.collect_column_references-overflow_add-result
+collect_column_references-overflow_add-result t c =
+    omega (arith, (column-flag c.args.used.now c.requires c.if-src-at-eq0.true).0)
+
+pub collect_column_references-shape_of-used-then-src-at-eq0 : goal.collect_column_references-shape_of-used-then-src-at-eq0
+collect_column_references-shape_of-used-then-src-at-eq0 t c =
+    simp length-set
+
+pub collect_column_references-returns-then-src-at-eq0 : goal.collect_column_references-returns-then-src-at-eq0
+collect_column_references-returns-then-src-at-eq0 t c =
+    λ t stands. collect-column c.args.used.now t stands c.if-src-at-eq0.true c.short_at-index.result c.short_at-index.ensures
+
+pub collect_column_references-head_at-head-requires : goal.collect_column_references-head_at-head-requires
+collect_column_references-head_at-head-requires t c =
+    flagged-tree c.args.used.now c.requires
+
+pub collect_column_references-returns-then-n-eq0 : goal.collect_column_references-returns-then-n-eq0
+collect_column_references-returns-then-n-eq0 t c =
+    λ t stands.
+    let head = c.head_at-head in
+        let used = c.args.used.now in
+        collect-other used used t stands c.if-src-at-eq0.false head.result head.ensures head.result.next
+        (λ ts row. collects-none used ts row c.if-n-eq0.true)
+
+pub collect_column_references-collect_children-requires : goal.collect_column_references-collect_children-requires
+collect_column_references-collect_children-requires t c =
+    let head = c.head_at-head in
+    let used = c.args.used.now in
+    let tree = flagged-tree used c.requires in (
+      omega (
+        arith,
+        node-some tree.2,
+        after-head tree.2 head.result.next (head.ensures tree.0 tree.1 tree.2).next,
+      ),
+      children-flagged used c.requires head.result head.ensures,
+    )
+
+pub collect_column_references-shape_of-used : goal.collect_column_references-shape_of-used
+collect_column_references-shape_of-used t c =
+    c.collect_children.auto.used
+
+pub collect_column_references-returns : goal.collect_column_references-returns
+collect_column_references-returns t c =
+    λ t stands.
+    let some = c.if-src-at-eq0.false in
+        let head = c.head_at-head in
+        let others = c.collect_children in
+        collect-other c.args.used.now others.new.used t stands some head.result head.ensures others.result
+        others.ensures

@@ -1,0 +1,17 @@
+-- `replace_over_many`: rows of 256 are enough for the records of any frame.
+use borrow.Author.Rules.{rules}
+use Rattle.remainder.proofs.RemainderLaws.{clear-rows}
+use Rattle.remainder.proofs.remainder.replace_over_many.Goals as goal
+
+pub replace_join_filter_expr-requires : goal.replace_join_filter_expr-requires
+replace_join_filter_expr-requires c =
+    let both = (c.requires.remainder_fits, (c.requires.fact, clear-rows 256 c.args.count c.requires.remainder_fits.frame.few)) in
+    record { remainder_fits = both.0; fact = both.1; rows_fit = both.2; }
+
+pub shape_of-out : goal.shape_of-out
+shape_of-out c =
+    c.replace_join_filter_expr.auto.out
+
+pub returns : goal.returns
+returns c =
+    c.replace_join_filter_expr.ensures

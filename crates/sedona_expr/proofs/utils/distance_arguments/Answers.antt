@@ -1,0 +1,46 @@
+-- `distance_arguments`: only a function has a name, and it is compared byte by byte.
+use borrow.Author.Rules.{rules}
+use Rattle.definitions.specs.Basics.{ascii}
+use Rattle.expression.proofs.LeafLaws.{no-call}
+use Rattle.expression.proofs.There.{name-there}
+use Rattle.sedona_expr.proofs.Comparing.{no_arguments, distance-found, distance-other}
+use Rattle.sedona_expr.proofs.utils.distance_arguments.Goals as goal
+
+-- ALIGNED tie: old 7 new 6
+
+pub node_at-requires : goal.node_at-requires
+unfolding ascii
+node_at-requires c =
+    search rules
+
+pub enum_known-call : goal.enum_known-call
+unfolding ascii
+enum_known-call c =
+    search rules
+
+pub returns-in_default : goal.returns-in_default
+unfolding ascii
+returns-in_default c =
+    λ d t h. no_arguments t (no-call h c.node_at.result c.in_default.in_default-own.keys2 (c.node_at.ensures d t h))
+
+pub same_name-requires : goal.same_name-requires
+unfolding ascii
+same_name-requires c =
+    name-there c.requires c.node_at.ensures
+    c.in-Call.is
+
+pub returns-then-same_name : goal.returns-then-same_name
+unfolding ascii
+returns-then-same_name c =
+    λ d t h.
+    distance-found
+        (rw c.in-Call.is at (c.node_at.ensures d t h))
+        _ c.same_name.ensures c.if-same_name.true
+
+pub returns-else-same_name : goal.returns-else-same_name
+unfolding ascii
+returns-else-same_name c =
+    λ d t h.
+    distance-other
+        (rw c.in-Call.is at (c.node_at.ensures d t h))
+        _ c.same_name.ensures c.if-same_name.false

@@ -1,0 +1,49 @@
+-- `parse_dwithin`: of the functions only `st_dwithin` asks for a distance, and it needs three arguments, one after the other.
+use borrow.Author.Rules.{rules}
+use borrow.Author.Tests.{not-true, not-false}
+use Rattle.definitions.specs.Basics.{ascii}
+use Rattle.sedona_expr.proofs.Distances.{not-dwithin, dwithin-too-few, two-given, third-within, dwithin-distance}
+use Rattle.sedona_expr.proofs.utils.parse_dwithin.Goals as goal
+
+-- ALIGNED tie: old 7 new 6
+
+pub same_name-requires : goal.same_name-requires
+unfolding ascii
+same_name-requires c =
+    let call = c.requires.calls in (call.3.low, call.3.high)
+
+pub returns-then-not-same_name : goal.returns-then-not-same_name
+unfolding ascii
+returns-then-not-same_name c =
+    λ d name args st. not-dwithin st c.same_name.ensures (not-true _ c.if-not-same_name.true)
+
+pub returns-then-call-lt3 : goal.returns-then-call-lt3
+unfolding ascii
+returns-then-call-lt3 c =
+    λ d name args st.
+    dwithin-too-few st c.same_name.ensures (not-false _ c.if-not-same_name.false-raw)
+        c.if-call-lt3.true
+
+pub two_at-geometries-requires : goal.two_at-geometries-requires
+unfolding ascii
+two_at-geometries-requires c =
+    let p = c.requires in
+    two-given p.0.3 c.same_name.ensures (not-false _ c.if-not-same_name.false-raw) (p.1 _ _ _ p.0.3)
+    c.if-call-lt3.false
+
+pub end_of-requires : goal.end_of-requires
+unfolding ascii
+end_of-requires c =
+    let p = c.requires in
+    third-within p.0.3 c.same_name.ensures (not-false _ c.if-not-same_name.false-raw)
+    c.if-call-lt3.false
+    (p.1 _ _ _ p.0.3) c.two_at-geometries.ensures
+
+pub returns : goal.returns
+unfolding ascii
+returns c =
+    λ d name args st.
+    let p = c.requires in
+        dwithin-distance st c.same_name.ensures
+        (not-false _ c.if-not-same_name.false-raw) c.if-call-lt3.false
+        (p.1 d name args st) c.two_at-geometries.ensures _ c.end_of.ensures

@@ -1,0 +1,7 @@
+-- `main`: at the end of the input nothing waits.
+use borrow.Author.Rules.{rules}
+use Rattle.spatialjoin.proofs.main.Goals as goal
+
+pub write_last-requires : goal.write_last-requires
+write_last-requires c =
+    (rw c.in-Ended.is at c.run.ensures).0

@@ -1,0 +1,20 @@
+-- `feed_all`: what a turn takes follows what was handed over; it takes at least one character, since there is room for what a line gives.
+use Prim.Native.Nat.{◌≤◌, ◌-◌, ◌<◌}
+use borrow.Author.Rules.{rules}
+use native.Mathlib.Omega.{arith}
+use mathlib.Core.Path.{◌≡◌}
+use lib.ListN.{length, take, length-take, length-drop}
+use Rattle.lines.specs.Sessions.{lent, most_filled}
+use Rattle.lines.proofs.SessionLaws.{taken-within, taken-some, fed-room}
+use Rattle.streams.specs.Handing.{Handing, none}
+use Rattle.streams.proofs.Handing.{taken, has_room}
+use Rattle.streams.proofs.chunks.feed_all.Given as goal
+
+abbrev pub invariant-loop-at : goal.invariant-loop-at
+invariant-loop-at l =
+    (l.at ≤ l.size) × (l.current.filled ≤ most_filled) × (l.current.filled ≤ length l.out)
+    × Handing (lent l.initial.out l.initial.plan l.initial.scratch l.initial.line) l.initial.current (take l.at l.chunk) (lent l.out l.plan l.scratch l.line) l.current
+
+abbrev pub decreases-loop-at : goal.decreases-loop-at
+decreases-loop-at l =
+    l.size - l.at
