@@ -78,10 +78,7 @@ returns-in-Refused-byte_up_to c =
 pub returns-in-Value-byte_up_to : goal.returns-in-Value-byte_up_to
 unfolding call_node children_of
 returns-in-Value-byte_up_to c =
-    let at-many = c in
-    let at-arguments = at-many.before.before.before.before in
-    let at_size = at-arguments.before.before.before.before in
-    let size = rw at_size.size.given.1 at at_size.before.before.byte-between.ensures in
-    let name = rw at-arguments.arguments.given.1 at at-arguments.before.before.name-bytes.ensures in
-    let many = rw at-many.many.given.1 at at-many.before.before.byte-up-to.ensures in
+    let size = rw c.in-Value.is at c.byte_between.ensures in
+    let name = rw c.in-To.is at c.name_bytes.ensures in
+    let many = rw c.in-Value-byte_up_to.is at c.byte_up_to.ensures in
     (many.0, call name.1, (λ child n. after _ (size.1 n) ∙ after _ (name.2 n) ∙ after _ (many.1 n)), λ es as-many. refl)

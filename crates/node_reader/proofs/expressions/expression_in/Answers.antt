@@ -12,4 +12,4 @@ returns c =
     let a = c.args in
     expression-stands _ a.s.now a.at a.count c.node.result a.numbers.now a.indexes.now _ _
     (all-bytes a.s.now c.shared_slice_known-1.given) c.requires.0 c.requires.1
-    c.node.auto.numbers c.node.ensures.0 c.node.ensures.1
+    c.node.auto.numbers c.node.ensures.read c.node.ensures.counted

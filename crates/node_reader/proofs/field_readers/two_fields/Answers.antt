@@ -5,16 +5,17 @@ use borrow.Author.Rules.{rules}
 use mathlib.Core.Path.{◌∙◌}
 use Rattle.theorems.proofs.ReaderLaws.{after, halts}
 use Rattle.node_reader.proofs.field_readers.two_fields.Goals as goal
+use Rattle.node_reader.proofs.field_readers.two_fields.Goals.{In-Value}
 
 -- The first field was read.
-one : (p : tie.After-a)
-    → let a = p.before.before.before.before.args in
-    let read = p.a.given.0 in FieldIs a.s.now a.at (Value read.0 read.1.0) (reader_of a.first)
-one p = rw p.a.given.1 at p.before.before.field_of.ensures
+one : (c : In-Value)
+    → let a = c.args in
+    FieldIs a.s.now a.at (Value c.in-Value.a c.in-Value.middle) (reader_of a.first)
+one c = rw c.in-Value.is at c.field_of.ensures
 
 pub field_of-requires-in-Value : goal.field_of-requires-in-Value
 field_of-requires-in-Value c =
-    ((one c).0, c.requires.2)
+    ((one (goal.at.field_of-requires-in-Value c).In-Value).0, c.requires.2)
 
 pub returns-in-Refused : goal.returns-in-Refused
 returns-in-Refused c =
@@ -23,10 +24,10 @@ returns-in-Refused c =
 pub returns-in-Refused-field_of : goal.returns-in-Refused-field_of
 returns-in-Refused-field_of c =
     λ n.
-    after _ ((one c).1 n)
+    after _ ((one (goal.at.returns-in-Refused-field_of c).In-Value).1 n)
         ∙ (rw c.in-Refused-field_of.is at c.field_of-in-Value.ensures) n
 
 pub returns-in-Value-field_of : goal.returns-in-Value-field_of
 returns-in-Value-field_of c =
     let second = rw c.in-Value-field_of.is at c.field_of-in-Value.ensures in
-    (second.0, c.in-Value.middle, (one c).1, second.1)
+    (second.0, c.in-Value.middle, (one (goal.at.returns-in-Value-field_of c).In-Value).1, second.1)

@@ -21,8 +21,7 @@ use Rattle.node_reader.proofs.walk.+node_nodes.Goals.{node-In-Children, node-In-
 -- The node's head, once it is read.
 the-head : (t : ℕ) (c : node-In-Children t)
     → let a = c.args in
-    let children = c.first-1.given.0 in
-    NodeHead a.s.now a.at a.levels a.count (columns_of a.columns) (Children children.0 children.1.0)
+    NodeHead a.s.now a.at a.levels a.count (columns_of a.columns) (Children c.in-Children.first c.in-Children.many)
 the-head t c = rw c.in-Children.is at c.node_head.ensures
 
 -- A node without children has none to walk.
@@ -35,7 +34,7 @@ leaf-walk : (t : ℕ) (c : node-Then-many-eq0 t)
     (CollectedAll first (a.count + 1) a.numbers.now a.indexes.now a.numbers.now a.indexes.now)
 leaf-walk t c =
     let a = c.args in
-    let head = the-head t c in
+    let head = (rw c.in-Children.is at c.node_head.ensures) in
     let first = c.in-Children.first in
     row_ends a.s.now first (a.count + 1) _ (decode.node (columns_of a.columns) (a.levels - 1)) a.numbers.now a.indexes.now
     first (a.count + 1) 0 _ a.numbers.now a.indexes.now
@@ -44,12 +43,11 @@ leaf-walk t c =
 
 leaf : (t : ℕ) (c : node-Then-many-eq0 t)
     → let a = c.args in
-    let children = c.first-1.given.0 in
-    Below (columns_of a.columns) a.s.now a.at a.levels a.count children.0 children.1.0 a.numbers.now
-    a.indexes.now a.numbers.now a.indexes.now children.0 (a.count + 1) 1
+    Below (columns_of a.columns) a.s.now a.at a.levels a.count c.in-Children.first c.in-Children.many a.numbers.now
+    a.indexes.now a.numbers.now a.indexes.now c.in-Children.first (a.count + 1) 1
 leaf t c =
     record {
-      head = the-head t c;
+      head = (rw c.in-Children.is at c.node_head.ensures);
       bytes = all-bytes c.args.s.now c.shared_slice_known-1.given;
       within = c.requires.0;
       lent = c.requires.1;
@@ -61,28 +59,25 @@ leaf t c =
 -- A node whose children were walked.
 inner : (t : ℕ) (c : node-In-To t)
     → let a = c.args in
-    let children = c.first-1.given.0 in
-    let row = c.next-1.given.0 in
-    Below (columns_of a.columns) a.s.now a.at a.levels a.count children.0 children.1.0 a.numbers.now
-    a.indexes.now c.nodes.new.numbers c.nodes.new.indexes row.0 row.1.0 row.1.1.0
+    Below (columns_of a.columns) a.s.now a.at a.levels a.count c.in-Children.first c.in-Children.many a.numbers.now
+    a.indexes.now c.nodes.new.numbers c.nodes.new.indexes c.in-To.next c.in-To.total c.in-To.depth
 inner t c =
     record {
-      head = the-head t c;
+      head = (rw c.in-Children.is at c.node_head.ensures);
       bytes = all-bytes c.args.s.now
           c.shared_slice_known-1.given;
       within = c.requires.0;
       lent = c.requires.1;
       same = c.nodes.auto.numbers;
       alike = c.nodes.auto.indexes;
-      walked = (rw c.in-To.is at c.nodes.ensures).0;
+      walked = (rw c.in-To.is at c.nodes.ensures).read;
     }
 
 inner-counted : (t : ℕ) (c : node-In-To t)
     → let a = c.args in
-    let row = c.next-1.given.0 in
-    Counted (a.count + 1) 1 (To row.0 row.1.0 row.1.1.0)
+    Counted (a.count + 1) 1 (To c.in-To.next c.in-To.total c.in-To.depth)
 inner-counted t c =
-    (rw c.in-To.is at c.nodes.ensures).1
+    (rw c.in-To.is at c.nodes.ensures).counted
 
 pub node-node_head-requires : goal.node-node_head-requires
 node-node_head-requires t c =
@@ -144,11 +139,10 @@ pub node-returns-in-Refused-nodes : goal.node-returns-in-Refused-nodes
 node-returns-in-Refused-nodes t c =
     let head = the-head t (goal.at.node-returns-in-Refused-nodes t c).In-Children in
     let a = c.args in
-    let children = c.first-1.given.0 in
     let stop = rw c.in-Refused-nodes.is at c.nodes.ensures in
     let reader = decode.node (columns_of a.columns) in record {
-      read = node-stops a.s.now a.at children.0 a.count children.1.0 (reader a.levels) (reader (a.levels - 1)) head.1
-          head.2 head.3 0 c.in-Refused-nodes.why stop.0;
+      read = node-stops a.s.now a.at c.in-Children.first a.count c.in-Children.many (reader a.levels) (reader (a.levels - 1)) head.1
+          head.2 head.3 0 c.in-Refused-nodes.why stop.read;
       counted = tt;
     }
 
@@ -207,7 +201,7 @@ pub nodes-returns-in-Refused : goal.nodes-returns-in-Refused
 nodes-returns-in-Refused t c =
     let stop = rw c.in-Refused.is at c.node.ensures in
     record {
-      read = row-stops _ _ _ _ _ _ _ _ _ _ _ _ _ c.loop-left.invariant c.loop-left-test.true c.in-Refused.why stop.0;
+      read = row-stops _ _ _ _ _ _ _ _ _ _ _ _ _ c.loop-left.invariant c.loop-left-test.true c.in-Refused.why stop.read;
       counted = tt;
     }
 
@@ -215,7 +209,7 @@ pub nodes-loop-left-preserved : goal.nodes-loop-left-preserved
 nodes-loop-left-preserved t c =
     let one = rw c.in-To.is at c.node.ensures in
     row-goes-on _ _ _ _ _ _ _ _ _ _ _ _ _ c.loop-left.invariant c.requires.2.long c.loop-left-test.true _ _
-    c.node.auto.numbers c.node.auto.indexes _ _ _ one.0 one.1 _ c.deeper-deepest.ensures
+    c.node.auto.numbers c.node.auto.indexes _ _ _ one.read one.counted _ c.deeper-deepest.ensures
 
 pub nodes-overflow_add-result : goal.nodes-overflow_add-result
 nodes-overflow_add-result t c =

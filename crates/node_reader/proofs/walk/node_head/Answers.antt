@@ -25,8 +25,7 @@ returns-in-Refused c =
 
 pub returns-else-count-ge1024 : goal.returns-else-count-ge1024
 returns-else-count-ge1024 c =
-    let at-kind = c in
-    let kind = rw at-kind.kind.given.1 at at-kind.before.before.node-kind.ensures in
-    let a = at-kind.before.before.before.before.args in
+    let kind = rw c.in-Value.is at c.node_kind.ensures in
+    let a = c.args in
     below-limits _ a.s.now a.at _ _ a.levels a.count (kind.1 a.count) c.if-levels-eq0.false (omega arith)
     c.head_of_kind.result c.head_of_kind.ensures

@@ -11,7 +11,7 @@ use Rattle.node_rows.proofs.CollectWalk.{fits-tree, children-fit, Own, own-fits,
 use Rattle.node_rows.proofs.collecting.+collect_children_collect_nodes.Goals as goal
 use Rattle.node_rows.proofs.collecting.+collect_children_collect_nodes.Goals.{collect_nodes-After-collect_children-passed, collect_nodes-Then-n-eq0}
 
--- A node without children has none t c collect: its own place in the rows is known t c once.
+-- A node without children has none to collect: its own place in the rows is known at once.
 none : (t : ℕ) (c : collect_nodes-Then-n-eq0 t)
     → let start = c.args in
     let head = c.head_at-head.result in
