@@ -7,7 +7,7 @@ use Rattle.spatialjoin.proofs.run.Goals as goal
 
 pub loop-turns-init : goal.loop-turns-init
 loop-turns-init c =
-    reached-none c.fresh-state.ensures.0 (rw c.requires (c.fresh-state.ensures.1 _ _ _))
+    reached-none c.fresh-state.ensures.filled_value (rw c.requires (c.fresh-state.ensures.by_index _ _ _))
 
 pub loop-turns-preserved : goal.loop-turns-preserved
 loop-turns-preserved c =

@@ -10,8 +10,7 @@ bounds-out-0 c =
 
 pub put_frame_exchanged-requires : goal.put_frame_exchanged-requires
 put_frame_exchanged-requires c =
-    let rest = c.rest-1.given in
-    stored-room (remainder-view c.args.end rest.0.0) (rw rest.1 at c.requires)
+    stored-room (remainder-view c.args.end c.in-Frame.f) (rw c.in-Frame.is at c.requires)
 
 pub returns-in-Nothing : goal.returns-in-Nothing
 returns-in-Nothing c =
@@ -19,6 +18,5 @@ returns-in-Nothing c =
 
 pub returns-in-Frame : goal.returns-in-Frame
 returns-in-Frame c =
-    let rest = c.rest-1.given in
-    rw rest.1 (stored-put (remainder-view c.args.end rest.0.0) (rw rest.1 at c.requires)
+    rw c.in-Frame.is (stored-put (remainder-view c.args.end c.in-Frame.f) (rw c.in-Frame.is at c.requires)
     (from_zero c.put_frame_exchanged.ensures))

@@ -6,24 +6,25 @@ use Rattle.call_exchange.specs.ExchangedBytes.{remainder_exchanged}
 use Rattle.call_exchange.proofs.FrameViews.{ExtractionView, extraction-view}
 use Rattle.call_exchange.proofs.exchanged_plans.put_extraction_exchanged.Statement.{
 use Rattle.call_exchange.proofs.exchanged_plans.put_extraction_exchanged.Goals as goal
+use Rattle.call_exchange.proofs.exchanged_plans.put_extraction_exchanged.Goals.{After-swap_for_swapped_children-swapped}
 
-view : (p : tie.After-swap-for-swapped-children)
-    → let a = p.before.before.before.args in ExtractionView a.src.now a.end a.x p.swap-for-swapped-children.result
-view p =
-    let a = p.before.before.before.args in
-    extraction-view a.end a.x p.swap-for-swapped-children.result p.swap-for-swapped-children.ensures
+view : (c : After-swap_for_swapped_children-swapped)
+    → let a = c.args in ExtractionView a.src.now a.end a.x c.swap_for_swapped_children-swapped.result
+view c =
+    let a = c.args in
+    extraction-view a.end a.x c.swap_for_swapped_children-swapped.result c.swap_for_swapped_children-swapped.ensures
 
   statement,
 }
 
 pub put_predicate-w-requires : goal.put_predicate-w-requires
 put_predicate-w-requires c =
-    first-room remainder_exchanged (stored-room (view c) c.requires)
+    first-room remainder_exchanged (stored-room (view (goal.at.put_predicate-w-requires c).After-swap_for_swapped_children-swapped) c.requires)
 
 pub slice_bounds-put_remainder_exchanged-count : goal.slice_bounds-put_remainder_exchanged-count
 slice_bounds-put_remainder_exchanged-count c =
     let one = c.put_predicate-w in
-    part-starts (first-room remainder_exchanged (stored-room (view c) c.requires)) (from_zero one.ensures)
+    part-starts (first-room remainder_exchanged (stored-room (view (goal.at.slice_bounds-put_remainder_exchanged-count c).After-swap_for_swapped_children-swapped) c.requires)) (from_zero one.ensures)
     one.auto.out
 
 pub slice_bounds-put_remainder_exchanged-start : goal.slice_bounds-put_remainder_exchanged-start
@@ -33,18 +34,18 @@ slice_bounds-put_remainder_exchanged-start c =
 pub put_remainder_exchanged-requires : goal.put_remainder_exchanged-requires
 put_remainder_exchanged-requires c =
     let one = c.put_predicate-w in
-    part_room (second-room (stored-room (view c) c.requires) (from_zero one.ensures) one.auto.out)
+    part_room (second-room (stored-room (view (goal.at.put_remainder_exchanged-requires c).After-swap_for_swapped_children-swapped) c.requires) (from_zero one.ensures) one.auto.out)
 
 pub overflow_add-result : goal.overflow_add-result
 overflow_add-result c =
     let rest = c.put_remainder_exchanged in
     let one = c.put_predicate-w in
-    let room = second-room (stored-room (view c) c.requires) (from_zero one.ensures) one.auto.out in
+    let room = second-room (stored-room (view (goal.at.overflow_add-result c).After-swap_for_swapped_children-swapped) c.requires) (from_zero one.ensures) one.auto.out in
     omega (arith, c.well_formed, one.auto.out, ends-within room (part-put one.new.out rest.new.out one.result rest.ensures))
 
 pub returns : goal.returns
 returns c =
     let rest = c.put_remainder_exchanged in
     let one = c.put_predicate-w in
-    stored-put (view c) c.requires
+    stored-put (view (goal.at.returns c).After-swap_for_swapped_children-swapped) c.requires
     (both-put (omega arith) (from_zero one.ensures) (part-put one.new.out rest.new.out one.result rest.ensures))

@@ -14,13 +14,13 @@ use Rattle.call_extract.proofs.Tables.{unheld, over-long}
 use Rattle.call_extract.proofs.by_table.extract_by_table.Goals as goal
 use Rattle.call_extract.proofs.by_table.extract_by_table.Goals.{Else-not-good_settings}
 
--- The settings are good c the first test is passed.
+-- The settings are good once the first test is passed.
 good : (c : Else-not-good_settings) → GoodSettings (settings_of c.args.settings)
-good c = c.good_settings.ensures.1 (not-false _ c.if-not-good_settings.false-raw)
+good c = c.good_settings.ensures.good_settings (not-false _ c.if-not-good_settings.false-raw)
 
 pub returns-then-not-good_settings : goal.returns-then-not-good_settings
 returns-then-not-good_settings c =
-    λ table of. lent-24 _ _ _ _ table (sym c.good_settings.ensures.0 ∙ not-true _ c.if-not-good_settings.true)
+    λ table of. lent-24 _ _ _ _ table (sym c.good_settings.ensures.value ∙ not-true _ c.if-not-good_settings.true)
 
 pub returns-then-plan-n : goal.returns-then-plan-n
 unfolding table_fits

@@ -11,13 +11,13 @@ use Rattle.call_extract.proofs.Settling.{filled-24, filled-settled}
 use Rattle.call_extract.proofs.call.extract.Goals as goal
 use Rattle.call_extract.proofs.call.extract.Goals.{Else-not-good_settings}
 
--- The settings are good c the first test is passed.
+-- The settings are good once the first test is passed.
 good : (c : Else-not-good_settings) → GoodSettings (settings_of c.args.settings)
-good c = c.good_settings.ensures.1 (not-false _ c.if-not-good_settings.false-raw)
+good c = c.good_settings.ensures.good_settings (not-false _ c.if-not-good_settings.false-raw)
 
 pub returns-then-not-good_settings : goal.returns-then-not-good_settings
 returns-then-not-good_settings c =
-    filled-24 _ _ _ _ (sym c.good_settings.ensures.0 ∙ not-true _ c.if-not-good_settings.true)
+    filled-24 _ _ _ _ (sym c.good_settings.ensures.value ∙ not-true _ c.if-not-good_settings.true)
 
 pub returns-then-plan-n : goal.returns-then-plan-n
 returns-then-plan-n c =

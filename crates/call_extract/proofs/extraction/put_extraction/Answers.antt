@@ -22,13 +22,13 @@ child_indexes-requires c =
 pub put_predicate-w-requires : goal.put_predicate-w-requires
 put_predicate-w-requires c =
     predicate-fits c.requires c.child_indexes.new.to (wide (goal.at.put_predicate-w-requires c).After-child_indexes)
-    c.child_indexes.ensures.0
+    c.child_indexes.ensures.child_table
 
 pub slice_bounds-put_remainder-count : goal.slice_bounds-put_remainder-count
 slice_bounds-put_remainder-count c =
     let put = c.put_predicate-w in
     predicate-ends c.requires c.child_indexes.new.to (wide (goal.at.slice_bounds-put_remainder-count c).After-child_indexes)
-    c.child_indexes.ensures.0
+    c.child_indexes.ensures.child_table
     put.new.out put.result put.auto.out put.ensures
 
 pub slice_bounds-put_remainder-start : goal.slice_bounds-put_remainder-start
@@ -39,7 +39,7 @@ pub put_remainder-requires : goal.put_remainder-requires
 put_remainder-requires c =
     let put = c.put_predicate-w in
     remainder-fits c.requires c.child_indexes.new.to (wide (goal.at.put_remainder-requires c).After-child_indexes)
-    c.child_indexes.ensures.0
+    c.child_indexes.ensures.child_table
     put.new.out put.result put.auto.out put.ensures
 
 pub overflow_add-result : goal.overflow_add-result
@@ -50,5 +50,5 @@ pub returns : goal.returns
 returns c =
     let rest = c.put_remainder in
     let put = c.put_predicate-w in
-    extraction-is c.child_indexes.new.to (wide (goal.at.returns c).After-child_indexes) c.child_indexes.ensures.0
+    extraction-is c.child_indexes.new.to (wide (goal.at.returns c).After-child_indexes) c.child_indexes.ensures.child_table
     c.args.out.now put.new.out rest.new.out put.result rest.result put.ensures rest.ensures

@@ -10,10 +10,10 @@ use Rattle.node_reader.proofs.Standing.{all-bytes}
 use Rattle.join_filter.proofs.Keeping.{plan-length, kept-length}
 use Rattle.call_extract.proofs.Extracting.{scratch-short, no-leaf, over, extraction-fits, extracts}
 use Rattle.call_extract.proofs.held_frame.extract_frame.Goals as goal
-use Rattle.call_extract.proofs.held_frame.extract_frame.Goals.{In-Leaf-2}
+use Rattle.call_extract.proofs.held_frame.extract_frame.Goals.{In-Leaf}
 
 -- What the pick took, of the held frame.
-taken : (c : In-Leaf-2)
+taken : (c : In-Leaf)
     → let h = c.requires.holds_frame in
     TakenIs (match_under (settings_of c.args.settings)) (take c.args.n c.args.plan.now) c.args.f.records c.args.f.root c.in-Leaf.pick
     h.frame.records h.frame.expr
@@ -49,13 +49,11 @@ slice_bounds-put_extraction-end-in-Leaf c =
 
 pub put_extraction-length-requires : goal.put_extraction-length-requires
 put_extraction-length-requires c =
-    let at-pick = c in
-    let start = at-pick.before.before.before.before.before.before.before.before.before in
-    let a = start.args in
-    extraction-fits (match_under (settings_of start.args.settings)) a.n a.plan.now a.scratch.now start.requires.0
-    (settings-laws (settings_of start.args.settings) start.requires.1.1)
-    (all-bytes a.plan.now at-pick.before.before.before.before.before.before.before.before.slice-known.given) _
-    (taken (goal.at.put_extraction-length-requires c).In-Leaf-2) _ c.copy_bytes.ensures
+    let a = c.args in
+    extraction-fits (match_under (settings_of c.args.settings)) a.n a.plan.now a.scratch.now c.requires.holds_frame
+    (settings-laws (settings_of c.args.settings) c.requires.indexed.1)
+    (all-bytes a.plan.now c.slice_known-1.given) _
+    (taken (goal.at.put_extraction-length-requires c).In-Leaf) _ c.copy_bytes.ensures
 
 pub returns-in-Nothing : goal.returns-in-Nothing
 returns-in-Nothing c =
@@ -67,12 +65,10 @@ returns-in-Nothing c =
 pub returns-in-Leaf : goal.returns-in-Leaf
 returns-in-Leaf c =
     let written = c.put_extraction-length in
-    let at-pick = c in
-    let start = at-pick.before.before.before.before.before.before.before.before.before in
-    extracts (match_under (settings_of start.args.settings)) start.args.n start.args.plan.now start.args.scratch.now start.requires.0
-    (settings-laws (settings_of start.args.settings) start.requires.1.1)
-    (all-bytes start.args.plan.now at-pick.before.before.before.before.before.before.before.before.slice-known.given) _
-    (taken (goal.at.returns-in-Leaf c).In-Leaf-2) _ c.copy_bytes.ensures
-    at-pick.before.before.before.before.if1.false written.new.out written.result written.ensures _
-    (at-pick.before.before.extract-in-one-walk.ensures _ _
-    (over (match_under (settings_of start.args.settings)) start.args.n start.args.plan.now start.args.scratch.now start.requires.0)).walk
+    extracts (match_under (settings_of c.args.settings)) c.args.n c.args.plan.now c.args.scratch.now c.requires.holds_frame
+    (settings-laws (settings_of c.args.settings) c.requires.indexed.1)
+    (all-bytes c.args.plan.now c.slice_known-1.given) _
+    (taken (goal.at.returns-in-Leaf c).In-Leaf) _ c.copy_bytes.ensures
+    c.if-scratch-n.false written.new.out written.result written.ensures _
+    (c.extract_in_one_walk-walked.ensures _ _
+    (over (match_under (settings_of c.args.settings)) c.args.n c.args.plan.now c.args.scratch.now c.requires.holds_frame)).walk

@@ -10,11 +10,11 @@ use Rattle.call_extract_all.proofs.call.extract_all.Goals.{Else-not-good_setting
 
 -- Else the settings are good.
 settled : (c : Else-not-good_settings) → GoodSettings (settings_of c.args.settings)
-settled c = c.good_settings.ensures.1 (not-false _ c.if-not-good_settings.false-raw)
+settled c = c.good_settings.ensures.good_settings (not-false _ c.if-not-good_settings.false-raw)
 
 pub returns-then-not-good_settings : goal.returns-then-not-good_settings
 returns-then-not-good_settings c =
-    all-unsettled _ _ _ (sym c.good_settings.ensures.0 ∙ not-true _ c.if-not-good_settings.true)
+    all-unsettled _ _ _ (sym c.good_settings.ensures.value ∙ not-true _ c.if-not-good_settings.true)
 
 pub all_of_short-requires : goal.all_of_short-requires
 all_of_short-requires c =

@@ -30,7 +30,7 @@ pub list_matches-listed-requires : goal.list_matches-listed-requires
 list_matches-listed-requires c =
     let p = c.requires.all_fits in
     record {
-      list_fits = list-fits p.at (all-taken (goal.at.list_matches-listed-requires c).Start) (wide (goal.at.list_matches-listed-requires c).After-child_indexes) c.child_indexes.ensures.0 p.room p.memory;
+      list_fits = list-fits p.at (all-taken (goal.at.list_matches-listed-requires c).Start) (wide (goal.at.list_matches-listed-requires c).After-child_indexes) c.child_indexes.ensures.child_table p.room p.memory;
       of_tree = c.requires.of_tree;
     }
 

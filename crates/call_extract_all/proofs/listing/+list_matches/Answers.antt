@@ -26,10 +26,10 @@ use Rattle.call_extract_all.specs.Listings.{Listable, ListIs}
 use Rattle.call_extract_all.proofs.ListLaws.{and-listed}
 use Rattle.call_extract_all.proofs.ListWalk.{left_after, left-list, right-list, both-matches, as-many, left-fits, parts-fit, right-fits, count-short}
 use Rattle.call_extract_all.proofs.listing.+list_matches.Goals as goal
-use Rattle.call_extract_all.proofs.listing.+list_matches.Goals.{After-end_of-place, After-list_matches-two, In-And-2}
+use Rattle.call_extract_all.proofs.listing.+list_matches.Goals.{After-end_of-place, After-list_matches-two, In-And}
 
 -- The And that was found.
-found : (t : ℕ) (c : In-And-2 t) (d : Columns) (u : Expr)
+found : (t : ℕ) (c : In-And t) (d : Columns) (u : Expr)
     → Stands d c.args.src.now
     c.args.at u
     → Both expr-and d c.args.src.now
@@ -37,7 +37,7 @@ found : (t : ℕ) (c : In-And-2 t) (d : Columns) (u : Expr)
 found t c d u stands = rw c.in-And.is at (c.node_at-node.ensures d u stands)
 
 -- Its left side, in the rows.
-left-rows : (t : ℕ) (c : In-And-2 t) (d : Columns) (u : Expr)
+left-rows : (t : ℕ) (c : In-And t) (d : Columns) (u : Expr)
     (stands : Stands d c.args.src.now
     c.args.at u)
     → Tabled c.args.numbers.now
@@ -47,7 +47,7 @@ left-rows t c d u stands =
     left-tabled (c.requires.of_tree d u stands)
     (found t c d u stands)
 
-within : (t : ℕ) (c : In-And-2 t)
+within : (t : ℕ) (c : In-And t)
     → (c.args.i + 1 < length
     c.args.numbers.now)
     × (c.args.i + 1 < length
@@ -58,10 +58,11 @@ within t c = let f = c.requires.list_fits in tabled-within
 -- Where the right side stands.
 right-at : (t : ℕ) (c : After-end_of-place t) (d : Columns) (u : Expr)
     (stands : Stands d c.args.src.now c.args.at u)
-    → c.end_of-place.result ≡ c.in-And.left + length (expr_bytes (found t c d u stands).l)
+    → c.end_of-place.result ≡ c.in-And.left + length (expr_bytes ((rw c.in-And.is at (c.node_at-node.ensures d u stands)) d u stands).l)
 right-at t c d u stands =
     c.end_of-place.ensures ∙ tabled-end
-    (left-rows t c d u stands)
+    ((left-tabled (c.requires.of_tree d u stands)
+    (found t c d u stands)) d u stands)
 
 -- Both sides were listed.
 done : (t : ℕ) (c : After-list_matches-two t) (records : List Record)
@@ -80,10 +81,11 @@ done : (t : ℕ) (c : After-list_matches-two t) (records : List Record)
 done t c records u frame =
     let one = c.list_matches-one in
     let two = c.list_matches-two in
-    let both = found t c _ u frame.tree in
+    let both = (rw c.in-And.is at (c.node_at-node.ensures d u stands)) _ u frame.tree in
     let first = one.ensures records both.l (left-list frame both) in
     let second = two.ensures records both.r
-    (right-list frame both _ (right-at t c _ u frame.tree)) in
+    (right-list frame both _ ((c.end_of-place.ensures ∙ tabled-end
+    (left-rows t c d u stands)) _ u frame.tree)) in
     let room : c.args.position ≤ length c.args.gone.now = omega (arith, c.requires.list_fits.flags) in
     and-listed c.args.position (matches (match_under (settings_of c.args.settings)) records u) (matches (match_under (settings_of c.args.settings)) records both.l) (matches (match_under (settings_of c.args.settings)) records both.r) _ _ _ _ _ _ _ _ _ one.result
     two.result (both-matches frame both (match_under (settings_of c.args.settings))) room first second
@@ -120,36 +122,35 @@ returns-in_default t c =
 
 pub overflow_add-i : goal.overflow_add-i
 overflow_add-i t c =
-    omega (arith, c.well_formed, (within t (goal.at.overflow_add-i t c).In-And-2).0)
+    omega (arith, c.well_formed, (within t (goal.at.overflow_add-i t c).In-And).0)
 
 pub list_matches-one-requires : goal.list_matches-one-requires
 list_matches-one-requires t c =
-    let at-and = c in
     let f = c.requires.list_fits in
-    let both = found t (goal.at.list_matches-one-requires t c).In-And-2 _ f.tree f.frame.tree in (
+    let both = found t (goal.at.list_matches-one-requires t c).In-And _ f.tree f.frame.tree in (
       omega (arith, left_after f.frame both, node-some (left-list f.frame both).tree),
-      (left-fits f both, of_tree _ (left-list f.frame both).tree (left-rows t (goal.at.list_matches-one-requires t c).In-And-2 _ f.tree f.frame.tree)),
+      (left-fits f both, of_tree _ (left-list f.frame both).tree (left-rows t (goal.at.list_matches-one-requires t c).In-And _ f.tree f.frame.tree)),
     )
 
 pub overflow_add-i-2 : goal.overflow_add-i-2
 overflow_add-i-2 t c =
-    omega (arith, c.well_formed, (within t (goal.at.overflow_add-i-2 t c).In-And-2).0)
+    omega (arith, c.well_formed, (within t (goal.at.overflow_add-i-2 t c).In-And).0)
 
 pub end_of-place-requires : goal.end_of-place-requires
 end_of-place-requires t c =
-    (within t (goal.at.end_of-place-requires t c).In-And-2).0
+    (within t (goal.at.end_of-place-requires t c).In-And).0
 
 pub overflow_add-index : goal.overflow_add-index
 overflow_add-index t c =
-    omega (arith, c.well_formed, (within t (goal.at.overflow_add-index t c).In-And-2).0)
+    omega (arith, c.well_formed, (within t (goal.at.overflow_add-index t c).In-And).0)
 
 pub offset_bounds-next-i : goal.offset_bounds-next-i
 offset_bounds-next-i t c =
-    omega (arith, c.well_formed, (within t (goal.at.offset_bounds-next-i t c).In-And-2).1)
+    omega (arith, c.well_formed, (within t (goal.at.offset_bounds-next-i t c).In-And).1)
 
 pub bounds-next-i : goal.bounds-next-i
 bounds-next-i t c =
-    (within t (goal.at.bounds-next-i t c).In-And-2).1
+    (within t (goal.at.bounds-next-i t c).In-And).1
 
 pub overflow_cast-index : goal.overflow_cast-index
 overflow_cast-index t c =
@@ -159,7 +160,7 @@ pub slice_bounds-list_matches-count : goal.slice_bounds-list_matches-count
 slice_bounds-list_matches-count t c =
     let f = c.requires.list_fits in
     let one = c.list_matches-one in
-    let both = found t (goal.at.slice_bounds-list_matches-count t c).In-And-2 _
+    let both = found t (goal.at.slice_bounds-list_matches-count t c).In-And _
     f.tree f.frame.tree in
     (parts-fit f both (one.ensures f.records both.l (left-list f.frame both)) one.auto.knns one.auto.others
     one.auto.gone).0
@@ -168,7 +169,7 @@ pub slice_bounds-list_matches-start : goal.slice_bounds-list_matches-start
 slice_bounds-list_matches-start t c =
     let f = c.requires.list_fits in
     let one = c.list_matches-one in
-    let both = found t (goal.at.slice_bounds-list_matches-start t c).In-And-2 _
+    let both = found t (goal.at.slice_bounds-list_matches-start t c).In-And _
     f.tree f.frame.tree in
     (parts-fit f both (one.ensures f.records both.l (left-list f.frame both)) one.auto.knns one.auto.others
     one.auto.gone).0
@@ -177,7 +178,7 @@ pub slice_bounds-list_matches-count-2 : goal.slice_bounds-list_matches-count-2
 slice_bounds-list_matches-count-2 t c =
     let f = c.requires.list_fits in
     let one = c.list_matches-one in
-    let both = found t (goal.at.slice_bounds-list_matches-count-2 t c).In-And-2 _ f.tree f.frame.tree in
+    let both = found t (goal.at.slice_bounds-list_matches-count-2 t c).In-And _ f.tree f.frame.tree in
     (parts-fit f both (one.ensures f.records both.l (left-list f.frame both)) one.auto.knns one.auto.others
     one.auto.gone).1
 
@@ -185,16 +186,15 @@ pub slice_bounds-list_matches-start-2 : goal.slice_bounds-list_matches-start-2
 slice_bounds-list_matches-start-2 t c =
     let f = c.requires.list_fits in
     let one = c.list_matches-one in
-    let both = found t (goal.at.slice_bounds-list_matches-start-2 t c).In-And-2 _ f.tree f.frame.tree in
+    let both = found t (goal.at.slice_bounds-list_matches-start-2 t c).In-And _ f.tree f.frame.tree in
     (parts-fit f both (one.ensures f.records both.l (left-list f.frame both)) one.auto.knns one.auto.others
     one.auto.gone).1
 
 pub list_matches-two-requires : goal.list_matches-two-requires
 list_matches-two-requires t c =
-    let at-and = c in
     let one = c.list_matches-one in
     let f = c.requires.list_fits in
-    let both = found t (goal.at.list_matches-two-requires t c).In-And-2 _ f.tree f.frame.tree in
+    let both = found t (goal.at.list_matches-two-requires t c).In-And _ f.tree f.frame.tree in
     let e = right-at t (goal.at.list_matches-two-requires t c).After-end_of-place _ f.tree f.frame.tree in
     let right = right-list f.frame both _ e in (
       omega (arith, e, left_after f.frame both, node-some right.tree),
@@ -202,7 +202,7 @@ list_matches-two-requires t c =
         right-fits f both (one.ensures f.records both.l (left-list f.frame both)) one.auto.knns one.auto.others
             one.auto.gone _ e,
         of_tree _ right.tree (right-tabled (c.requires.of_tree _ f.tree f.frame.tree) both _ _ e
-            (tabled-next (left-rows t (goal.at.list_matches-two-requires t c).In-And-2 _ f.tree f.frame.tree))),
+            (tabled-next (left-rows t (goal.at.list_matches-two-requires t c).In-And _ f.tree f.frame.tree))),
       ),
     )
 
@@ -221,7 +221,7 @@ overflow_add-result-2 t c =
 pub overflow_add-result-3 : goal.overflow_add-result-3
 overflow_add-result-3 t c =
     let f = c.requires.list_fits in
-    let both = found t (goal.at.overflow_add-result-3 t c).In-And-2 _ f.tree f.frame.tree in
+    let both = found t (goal.at.overflow_add-result-3 t c).In-And _ f.tree f.frame.tree in
     let all = done t (goal.at.overflow_add-result-3 t c).After-list_matches-two f.records f.tree
     f.frame in
     omega (
@@ -238,7 +238,7 @@ shape_of-knns t c =
     let f = c.requires.list_fits in
     let one = c.list_matches-one in
     let two = c.list_matches-two in
-    let both = found t (goal.at.shape_of-knns t c).In-And-2 _ f.tree f.frame.tree in
+    let both = found t (goal.at.shape_of-knns t c).In-And _ f.tree f.frame.tree in
     let fits = parts-fit f both (one.ensures f.records both.l (left-list f.frame both)) one.auto.knns one.auto.others
     one.auto.gone in
     together-length one.result.knn one.new.knns two.new.knns fits.0 two.auto.knns ∙ one.auto.knns
@@ -248,7 +248,7 @@ shape_of-others t c =
     let f = c.requires.list_fits in
     let one = c.list_matches-one in
     let two = c.list_matches-two in
-    let both = found t (goal.at.shape_of-others t c).In-And-2 _ f.tree f.frame.tree in
+    let both = found t (goal.at.shape_of-others t c).In-And _ f.tree f.frame.tree in
     let fits = parts-fit f both (one.ensures f.records both.l (left-list f.frame both)) one.auto.knns one.auto.others
     one.auto.gone in
     together-length one.result.other one.new.others two.new.others fits.1 two.auto.others ∙ one.auto.others

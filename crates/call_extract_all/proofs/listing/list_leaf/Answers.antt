@@ -13,13 +13,13 @@ use Rattle.call_extract_all.proofs.listing.list_leaf.Goals as goal
 pub match_knn-requires : goal.match_knn-requires
 match_knn-requires c =
     let p = c.requires in
-    record { framed = framed p.0; tabled = p.1.0; is = p.1.1.0 }
+    record { framed = framed p.list_fits; tabled = p.of_tree.0; is = p.of_tree.1.0 }
 
 pub put_predicate-w-requires : goal.put_predicate-w-requires
 put_predicate-w-requires c =
     let p = c.requires in
-    let f = p.0 in
-    knn-room f (p.1.1.1 _ f.tree f.frame.tree) c.in-Matched.predicate
+    let f = p.list_fits in
+    knn-room f (p.of_tree.1.1 _ f.tree f.frame.tree) c.in-Matched.predicate
     (rw c.in-Matched.is at
     (c.match_knn.ensures f.records f.tree (over f f.frame)))
 
@@ -32,25 +32,25 @@ pub returns-in-Matched : goal.returns-in-Matched
 returns-in-Matched c =
     λ records t l.
     let p = c.requires in
-    let f = p.0 in
+    let f = p.list_fits in
     let put = c.put_predicate-w in
     let m = rw c.in-Matched.is at
     (c.match_knn.ensures records t (over f l)) in
     let stands = by-table f l c.in-Matched.predicate m.q m.stands in
-    leaf-is (match_under (settings_of c.args.settings)) records (p.1.1.1 _ t l.tree) _ m.is
+    leaf-is (match_under (settings_of c.args.settings)) records (p.of_tree.1.1 _ t l.tree) _ m.is
     (knn-listed (slice-write-gone c) m.q put.result m.passes (put.ensures.size m.q stands)
     (put.ensures.wrote m.q stands))
 
 pub match_other-requires : goal.match_other-requires
 match_other-requires c =
     let p = c.requires in
-    record { framed = framed p.0; tabled = p.1.0; is = p.1.1.0 }
+    record { framed = framed p.list_fits; tabled = p.of_tree.0; is = p.of_tree.1.0 }
 
 pub put_predicate-w-requires-in-Matched-match_other : goal.put_predicate-w-requires-in-Matched-match_other
 put_predicate-w-requires-in-Matched-match_other c =
     let p = c.requires in
-    let f = p.0 in
-    other-room f (p.1.1.1 _ f.tree f.frame.tree) c.in-Matched-match_other.predicate
+    let f = p.list_fits in
+    other-room f (p.of_tree.1.1 _ f.tree f.frame.tree) c.in-Matched-match_other.predicate
     (rw c.in-Matched-match_other.is at
     (c.match_other.ensures f.records f.tree (over f f.frame)))
 
@@ -67,12 +67,12 @@ pub returns-in-Matched-match_other : goal.returns-in-Matched-match_other
 returns-in-Matched-match_other c =
     λ records t l.
     let p = c.requires in
-    let f = p.0 in
+    let f = p.list_fits in
     let put = c.put_predicate-w-in-Matched-match_other in
     let m = rw c.in-Matched-match_other.is at
     (c.match_other.ensures records t (over f l)) in
     let stands = by-table f l c.in-Matched-match_other.predicate m.q m.stands in
-    leaf-is (match_under (settings_of c.args.settings)) records (p.1.1.1 _ t l.tree) _ m.is
+    leaf-is (match_under (settings_of c.args.settings)) records (p.of_tree.1.1 _ t l.tree) _ m.is
     (other-listed (slice-write-gone-2 c) m.q put.result m.passes (put.ensures.size m.q stands)
     (put.ensures.wrote m.q stands))
 
@@ -86,10 +86,10 @@ pub returns : goal.returns
 returns c =
     λ records t l.
     let p = c.requires in
-    let f = p.0 in
+    let f = p.list_fits in
     let one = c.match_knn in
     let two = c.match_other in
-    leaf-is (match_under (settings_of c.args.settings)) records (p.1.1.1 _ t l.tree) _
+    leaf-is (match_under (settings_of c.args.settings)) records (p.of_tree.1.1 _ t l.tree) _
     (both-lack _
     (miss-lacks is_knn _ _ records _ one.result c.in_default.in_default-own.keys2 (one.ensures records t (over f l)))
     (miss-lacks picks.is_other _ _ records _ two.result c.in_default-match_other.in_default-match_other-own.keys2 (two.ensures records t (over f l))))

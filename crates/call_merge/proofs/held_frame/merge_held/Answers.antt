@@ -43,8 +43,13 @@ ready : (c : After-copy_bytes)
     Ready a.frame.now a.n a.plan.now a.scratch.now a.old a.new a.held c.copy_bytes.new.out
 ready c =
     record {
-      both = both c;
-      under = under c c.if-over.false;
+      both = (record {
+      held = c.requires.holds_frame;
+      given = c.requires.given_frame;
+      bytes = all-bytes c.args.plan.now c.slice_known-1.given;
+      frame_bytes = all-bytes c.args.frame.now c.shared_slice_known-1.given;
+    });
+      under = (sym e ∙ c.over_limits-over.ensures) c.if-over.false;
       enough = omega (arith, c.if-scratch-n.false);
       c = omega (arith, c.if-plan-n.false);
       tabled = omega (arith, c.if-held-count.false);

@@ -9,8 +9,8 @@ use Rattle.call_merge.proofs.merged_frames.put_merged.Goals as goal
 pub put_tables-w-requires : goal.put_tables-w-requires
 put_tables-w-requires c =
     let p = c.requires in record {
-      room = first-room merged_expr (stored-room (merged-view _ _) p.0);
-      columns_bound = p.1;
+      room = first-room merged_expr (stored-room (merged-view _ _) p.room);
+      columns_bound = p.columns_bound;
     }
 
 pub slice_bounds-put_and-count : goal.slice_bounds-put_and-count

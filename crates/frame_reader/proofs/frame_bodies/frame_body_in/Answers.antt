@@ -13,29 +13,24 @@ use Rattle.node_reader.specs.Places.{ExpressionIn}
 use Rattle.node_reader.proofs.Standing.{all-bytes}
 use Rattle.frame_reader.proofs.Wholes.{frame-stands}
 use Rattle.frame_reader.proofs.frame_bodies.frame_body_in.Goals as goal
+use Rattle.frame_reader.proofs.frame_bodies.frame_body_in.Goals.{In-To, In-To-expression_in, In-Value}
 
 -- The column count was read, the records, and the expression.
-many : (p : tie.After-columns)
-    → let a = p.before.before.before.before.before.before.args in
-    let read = p.columns.given.0 in FieldIs a.s.now a.at (Value read.0 read.1.0) record_count
-many p = rw p.columns.given.1 at p.before.before.record-count.ensures
+many : (c : In-Value)
+    → let a = c.args in
+    FieldIs a.s.now a.at (Value c.in-Value.columns c.in-Value.first) record_count
+many c = rw c.in-Value.is at c.record_count.ensures
 
-all : (p : tie.After-root)
-    → let q = p.before.before.before.before in
-    let read = q.columns.given.0 in
-    SkippedIs q.before.before.before.before.before.before.args.s.now read.1.0 (To p.root.given.0.0)
-    (repeat read.0 one_record)
-all p = rw p.root.given.1 at p.before.before.records.ensures
+all : (c : In-To)
+    → SkippedIs c.args.s.now c.in-Value.first (To c.in-To.root)
+    (repeat c.in-Value.columns one_record)
+all c = rw c.in-To.is at c.records.ensures
 
-walked : (p : tie.After-next)
-    → let call = p.before.before.before.before.before.before in
-    let q = call.before.before.before.before in
-    let r = q.before.before.before.before in
-    let a = r.before.before.before.before.before.before.args in
-    let read = p.next.given.0 in
-    ExpressionIn a.s.now q.root.given.0.0 a.nodes (walk.To read.0 read.1.0 read.1.1.0)
-    (index_below r.columns.given.0.0) call.expression-in.new.0 call.expression-in.new.1.0
-walked p = rw p.next.given.1 at p.before.before.before.before.before.before.expression-in.ensures
+walked : (c : In-To-expression_in)
+    → let a = c.args in
+    ExpressionIn a.s.now c.in-To.root a.nodes (walk.To c.in-To-expression_in.next c.in-To-expression_in.count c.in-To-expression_in.depth)
+    (index_below c.in-Value.columns) c.expression_in.new.numbers c.expression_in.new.indexes
+walked c = rw c.in-To-expression_in.is at c.expression_in.ensures
 
 pub record_count-requires : goal.record_count-requires
 unfolding frame_body
@@ -55,7 +50,7 @@ enum_known-columns c =
 pub records-requires : goal.records-requires
 unfolding frame_body
 records-requires c =
-    (many c).0
+    (many (goal.at.records-requires c).In-Value).0
 
 pub enum_known-why-in-Refused-records : goal.enum_known-why-in-Refused-records
 unfolding frame_body
@@ -70,7 +65,7 @@ enum_known-root c =
 pub expression_in-requires : goal.expression_in-requires
 unfolding frame_body
 expression_in-requires c =
-    ((all c).0, c.requires.1)
+    ((all (goal.at.expression_in-requires c).In-To).0, c.requires.1)
 
 pub enum_known-why-in-Refused-expression_in : goal.enum_known-why-in-Refused-expression_in
 unfolding frame_body
@@ -85,7 +80,7 @@ enum_known-next c =
 pub overflow_sub-result : goal.overflow_sub-result
 unfolding frame_body
 overflow_sub-result c =
-    omega (arith, (walked c).3)
+    omega (arith, (walked (goal.at.overflow_sub-result c).In-To-expression_in).3)
 
 pub returns-in-Refused : goal.returns-in-Refused
 unfolding frame_body
@@ -95,7 +90,7 @@ returns-in-Refused c =
 pub returns-in-Refused-records : goal.returns-in-Refused-records
 unfolding frame_body
 returns-in-Refused-records c =
-    after _ ((many c).1 _)
+    after _ ((many (goal.at.returns-in-Refused-records c).In-Value).1 _)
     ∙ halts _ ((rw c.in-Refused-records.is at c.records.ensures) _)
 
 pub shape_of-numbers-in-Refused-expression_in : goal.shape_of-numbers-in-Refused-expression_in
@@ -111,8 +106,7 @@ shape_of-indexes-in-Refused-expression_in c =
 pub returns-in-Refused-expression_in : goal.returns-in-Refused-expression_in
 unfolding frame_body
 returns-in-Refused-expression_in c =
-    let at-root = c in
-    after _ ((many at-root.before.before.before.before).1 _) ∙ after _ ((all at-root).2 _)
+    after _ ((many (goal.at.returns-in-Refused-expression_in c).In-Value).1 _) ∙ after _ ((all (goal.at.returns-in-Refused-expression_in c).In-To).2 _)
     ∙ halts _ (rw c.in-Refused-expression_in.is at c.expression_in.ensures)
 
 pub shape_of-numbers-in-To-expression_in : goal.shape_of-numbers-in-To-expression_in
@@ -128,16 +122,13 @@ shape_of-indexes-in-To-expression_in c =
 pub returns-in-To-expression_in : goal.returns-in-To-expression_in
 unfolding frame_body
 returns-in-To-expression_in c =
-    let at-root = c in
-    let at-columns = at-root.before.before.before.before in
-    let start = at-columns.before.before.before in
-    let s = start.before.before.before.args.s.now in
-    let records = all at-root in
-    let expr = walked c in (
+    let s = c.args.s.now in
+    let records = all (goal.at.returns-in-To-expression_in c).In-To in
+    let expr = walked (goal.at.returns-in-To-expression_in c).In-To-expression_in in (
       expr.2.bytes.within,
       _,
-      after _ ((many at-columns).1 _) ∙ after _ (records.2 _) ∙ after _ expr.1,
-      frame-stands s _ _ _ _ _ _ records.1 expr.0 (all-bytes s start.shared-slice-known.given) (many at-columns).0 records.0
+      after _ ((many (goal.at.returns-in-To-expression_in c).In-Value).1 _) ∙ after _ (records.2 _) ∙ after _ expr.1,
+      frame-stands s _ _ _ _ _ _ records.1 expr.0 (all-bytes s c.shared_slice_known-1.given) (many (goal.at.returns-in-To-expression_in c).In-Value).0 records.0
           records.2 expr.2 (omega (arith, expr.3)) expr.4,
       omega (arith, expr.3),
       expr.5,

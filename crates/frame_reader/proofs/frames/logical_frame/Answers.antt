@@ -9,10 +9,11 @@ use Rattle.definitions.specs.Decode.{fields, expression}
 use Rattle.definitions.specs.Plans.{logical_frame, logical_of}
 use Rattle.frame_reader.proofs.Wholes.{unopened, body-stops, ends, goes_on}
 use Rattle.frame_reader.proofs.frames.logical_frame.Goals as goal
+use Rattle.frame_reader.proofs.frames.logical_frame.Goals.{In-To}
 
 -- The opening was read.
-begin : (p : tie.After-root) → SkippedIs p.before.before.before.before.args.s.now 0 (To p.root.given.0.0) (opening 2)
-begin p = rw p.root.given.1 at p.before.before.opened.ensures
+begin : (c : In-To) → SkippedIs c.args.s.now 0 (To c.in-To.root) (opening 2)
+begin c = rw c.in-To.is at c.opened.ensures
 
 pub opened-requires : goal.opened-requires
 unfolding logical_of logical_frame result_of
@@ -32,7 +33,7 @@ enum_known-root c =
 pub expression-requires : goal.expression-requires
 unfolding logical_of logical_frame result_of
 expression-requires c =
-    (begin c).0
+    (begin (goal.at.expression-requires c).In-To).0
 
 pub enum_known-why-in-Refused-expression : goal.enum_known-why-in-Refused-expression
 unfolding logical_of logical_frame result_of
@@ -53,22 +54,19 @@ returns-in-Refused c =
 pub returns-in-Refused-expression : goal.returns-in-Refused-expression
 unfolding logical_of logical_frame result_of
 returns-in-Refused-expression c =
-    let at-root = c in
-    ap result_of (body-stops 2 (expression fields) give _ at-root.root.given.0.0 _ ((begin at-root).2 0)
+    ap result_of (body-stops 2 (expression fields) give _ c.in-To.root _ ((begin (goal.at.returns-in-Refused-expression c).In-To).2 0)
     (rw c.in-Refused-expression.is at c.expression.ensures))
 
 pub returns-then-next-s : goal.returns-then-next-s
 unfolding logical_of logical_frame result_of
 returns-then-next-s c =
     let expr = rw c.in-To-expression.is at c.expression.ensures in
-    let at-root = c in
-    let all = ends 2 (expression fields) give _ at-root.root.given.0.0 _ ((begin at-root).2 0) _ _ _ expr.1 c.if-next-s.true in
+    let all = ends 2 (expression fields) give _ c.in-To.root _ ((begin (goal.at.returns-then-next-s c).In-To).2 0) _ _ _ expr.1 c.if-next-s.true in
     (expr.0, rw c.if-next-s.true at expr.2, ap result_of all)
 
 pub returns-else-next-s : goal.returns-else-next-s
 unfolding logical_of logical_frame result_of
 returns-else-next-s c =
     let expr = rw c.in-To-expression.is at c.expression.ensures in
-    let at-root = c in
-    ap result_of (goes_on 2 (expression fields) give _ at-root.root.given.0.0 _ ((begin at-root).2 0) _ _ _ expr.1
+    ap result_of (goes_on 2 (expression fields) give _ c.in-To.root _ ((begin (goal.at.returns-else-next-s c).In-To).2 0) _ _ _ expr.1
     expr.2.bytes.within c.if-next-s.false)

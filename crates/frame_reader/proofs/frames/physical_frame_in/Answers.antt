@@ -15,31 +15,26 @@ use Rattle.theorems.proofs.ReaderLaws.{passes, fails}
 use Rattle.frame_reader.proofs.FrameRows.{opened-short, roomy-lent, body-tabled, frame-listed, frame-arity, frame-up-to}
 use Rattle.frame_reader.proofs.Wholes.{unopened, body-stops, ends, goes_on}
 use Rattle.frame_reader.proofs.frames.physical_frame_in.Goals as goal
+use Rattle.frame_reader.proofs.frames.physical_frame_in.Goals.{In-Read, In-To}
 
 abbrev last : Frame → Reader Frame
 last F = require 8 (arity F.expr) >> give F
 
 -- The opening was read, and then the body.
-begin : (p : tie.After-at)
-    → SkippedIs p.before.before.before.before.before.before.args.s.now 0 (To p.at.given.0.0) (opening 1)
-begin p = rw p.at.given.1 at p.before.before.opened.ensures
+begin : (c : In-To)
+    → SkippedIs c.args.s.now 0 (To c.in-To.at) (opening 1)
+begin c = rw c.in-To.is at c.opened.ensures
 
-body : (p : tie.After-frame)
-    → let call = p.before.before.before.before.before.before in
-    let q = call.before.before.before.before in
-    let read = p.frame.given.0 in
-    BodyIn q.before.before.before.before.before.before.args.s.now q.at.given.0.0 0
-    (Read read.0 read.1.0 read.1.1.0) frame_body call.frame-body-in.new.0 call.frame-body-in.new.1.0
-body p = rw p.frame.given.1 at p.before.before.before.before.before.before.frame-body-in.ensures
+body : (c : In-Read)
+    → BodyIn c.args.s.now c.in-To.at 0
+    (Read c.in-Read.frame c.in-Read.next c.in-Read.count) frame_body c.frame_body_in.new.numbers c.frame_body_in.new.indexes
+body c = rw c.in-Read.is at c.frame_body_in.ensures
 
 -- Its nodes are in the rows.
-tabled : (p : tie.After-frame)
-    → let call = p.before.before.before.before.before.before in
-    Tabled call.frame-body-in.new.0 call.frame-body-in.new.1.0 p.frame.given.0.0.root 0 (body p).1.expr
-tabled p =
-    let call = p.before.before.before.before.before.before in
-    let q = call.before.before.before.before in
-    body-tabled q.before.before.before.before.before.before.requires call.frame-body-in.auto.0 q.at.given.0.0 (body p)
+tabled : (c : In-Read)
+    → Tabled c.frame_body_in.new.numbers c.frame_body_in.new.indexes c.in-Read.frame.root 0 (body c).1.expr
+tabled c =
+    body-tabled c.requires c.frame_body_in.auto.numbers c.in-To.at (body c)
 
 pub opened-requires : goal.opened-requires
 unfolding frame_of physical_frame result_of
@@ -59,7 +54,7 @@ enum_known-at c =
 pub frame_body_in-requires : goal.frame_body_in-requires
 unfolding frame_of physical_frame result_of
 frame_body_in-requires c =
-    ((begin c).0, roomy-lent c.requires (opened-short 1 _ _ _ ((begin c).2 0)))
+    ((begin (goal.at.frame_body_in-requires c).In-To).0, roomy-lent c.requires (opened-short 1 _ _ _ ((begin (goal.at.frame_body_in-requires c).In-To).2 0)))
 
 pub enum_known-why-in-Refused-frame_body_in : goal.enum_known-why-in-Refused-frame_body_in
 unfolding frame_of physical_frame result_of
@@ -84,14 +79,14 @@ shape_of-indexes-then-next-s c =
 pub returns-then-next-s : goal.returns-then-next-s
 unfolding frame_of physical_frame result_of
 returns-then-next-s c =
-    let read = body c in
-    ap result_of (goes_on 1 frame_body last _ c.in-To.at _ ((begin c).2 0) _ _ _ read.2 read.0 c.if-next-s.true)
+    let read = body (goal.at.returns-then-next-s c).In-Read in
+    ap result_of (goes_on 1 frame_body last _ c.in-To.at _ ((begin (goal.at.returns-then-next-s c).In-To).2 0) _ _ _ read.2 read.0 c.if-next-s.true)
 
 pub arity_by_rows-requires : goal.arity_by_rows-requires
 unfolding frame_of physical_frame result_of
 arity_by_rows-requires c =
-    let read = body c in
-        let both = frame-listed read.3 (tabled c) read.4 in
+    let read = body (goal.at.arity_by_rows-requires c).In-Read in
+        let both = frame-listed read.3 (tabled (goal.at.arity_by_rows-requires c).In-Read) read.4 in
     record { listed = both.0; of_tree = both.1; }
 
 pub returns-in-Refused : goal.returns-in-Refused
@@ -112,7 +107,7 @@ shape_of-indexes-in-Refused-frame_body_in c =
 pub returns-in-Refused-frame_body_in : goal.returns-in-Refused-frame_body_in
 unfolding frame_of physical_frame result_of
 returns-in-Refused-frame_body_in c =
-    ap result_of (body-stops 1 frame_body last _ c.in-To.at _ ((begin c).2 0)
+    ap result_of (body-stops 1 frame_body last _ c.in-To.at _ ((begin (goal.at.returns-in-Refused-frame_body_in c).In-To).2 0)
     (rw c.in-Refused-frame_body_in.is at c.frame_body_in.ensures))
 
 pub shape_of-numbers-then-arity_by_rows : goal.shape_of-numbers-then-arity_by_rows
@@ -128,13 +123,13 @@ shape_of-indexes-then-arity_by_rows c =
 pub returns-then-arity_by_rows : goal.returns-then-arity_by_rows
 unfolding frame_of physical_frame result_of
 returns-then-arity_by_rows c =
-    let read = body c in
+    let read = body (goal.at.returns-then-arity_by_rows c).In-Read in
     let left = c.if-next-s.false in
-    let enough = sym (frame-arity read.3 (tabled c) c.arity_by_rows.ensures) ∙ c.if-arity_by_rows.true in (
+    let enough = sym (frame-arity read.3 (tabled (goal.at.returns-then-arity_by_rows c).In-Read) c.arity_by_rows.ensures) ∙ c.if-arity_by_rows.true in (
       read.1,
       frame-up-to left read.3,
-      ap result_of (ends 1 frame_body last _ c.in-To.at _ ((begin c).2 0) _ _ _ read.2 left ∙ passes 8 _ _ _ enough),
-      tabled c,
+      ap result_of (ends 1 frame_body last _ c.in-To.at _ ((begin (goal.at.returns-then-arity_by_rows c).In-To).2 0) _ _ _ read.2 left ∙ passes 8 _ _ _ enough),
+      tabled (goal.at.returns-then-arity_by_rows c).In-Read,
     )
 
 pub shape_of-numbers-else-arity_by_rows : goal.shape_of-numbers-else-arity_by_rows
@@ -150,7 +145,7 @@ shape_of-indexes-else-arity_by_rows c =
 pub returns-else-arity_by_rows : goal.returns-else-arity_by_rows
 unfolding frame_of physical_frame result_of
 returns-else-arity_by_rows c =
-    let read = body c in
-    let short = sym (frame-arity read.3 (tabled c) c.arity_by_rows.ensures) ∙ c.if-arity_by_rows.false in
-    ap result_of (ends 1 frame_body last _ c.in-To.at _ ((begin c).2 0) _ _ _ read.2
+    let read = body (goal.at.returns-else-arity_by_rows c).In-Read in
+    let short = sym (frame-arity read.3 (tabled (goal.at.returns-else-arity_by_rows c).In-Read) c.arity_by_rows.ensures) ∙ c.if-arity_by_rows.false in
+    ap result_of (ends 1 frame_body last _ c.in-To.at _ ((begin (goal.at.returns-else-arity_by_rows c).In-To).2 0) _ _ _ read.2
     c.if-next-s.false ∙ fails 8 _ _ _ short)

@@ -7,7 +7,7 @@ use Rattle.hexadecimal.proofs.EncodeLaws.{Encoded, encoded-none, encoded-room, e
 use Rattle.hexadecimal.proofs.hex.encode.Goals as goal
 use Rattle.hexadecimal.proofs.hex.encode.Goals.{After-digit}
 
--- There is room c two digits.
+-- There is room for two digits.
 room : (c : After-digit) → c.loop-i.next + 1 < length c.loop-i.out
 room c = encoded-room c.loop-i.invariant c.loop-i-test.true (search rules)
 

@@ -14,8 +14,7 @@ framed : (c : In-Distance)
     Framed start.s.now start.rec found.arg0 × Framed start.s.now start.rec found.arg1
     × Framed start.s.now start.rec found.arg_distance
 framed c =
-    let at-parsed = c in
-    arguments-framed (parses at-parsed.before.before.parse-distance-predicate.ensures at-parsed.parsed.given.1)
+    arguments-framed (parses c.parse_distance_predicate.ensures c.in-Distance.is)
     c.requires.framed
 
 walked : (c : After-side_of_column_references-arg1)
@@ -24,9 +23,8 @@ walked : (c : After-side_of_column_references-arg1)
     c.side_of_column_references-arg0.result
     c.side_of_column_references-arg1.result c.side_of_column_references-distance.result
 walked c =
-    let at-parsed = c in
     record {
-      asked = parses at-parsed.before.before.parse-distance-predicate.ensures at-parsed.parsed.given.1;
+      asked = parses c.parse_distance_predicate.ensures c.in-Distance.is;
       first = c.side_of_column_references-arg0.ensures;
       second = c.side_of_column_references-arg1.ensures;
       limit = c.side_of_column_references-distance.ensures;
@@ -44,9 +42,8 @@ parse_distance_predicate-requires c =
 
 pub returns-in_default : goal.returns-in_default
 returns-in_default c =
-    let at-parse-distance-predicate = c in
     λ records t over. no_distance records t (rw c.in_default.is at
-    (at-parse-distance-predicate.parse-distance-predicate.ensures _ t over.tree))
+    (c.parse_distance_predicate.ensures _ t over.tree))
 
 pub side_of_column_references-distance-requires : goal.side_of_column_references-distance-requires
 side_of_column_references-distance-requires c =

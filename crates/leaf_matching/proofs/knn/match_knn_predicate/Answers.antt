@@ -18,12 +18,9 @@ walked : (c : After-knn_options)
     Walked start.default-k start.s.now start.rec start.called c.resolve_geometries-geometries.result c.knn_options.result
 unfolding ascii
 walked c =
-    let at-if2 = c in
-    let at-if1 = at-if2.before in
-    let at-same-name = at-if1.before in
     record {
-      same = sym (not-false _ at-if1.if1.false) ∙ at-same-name.same-name.ensures;
-      enough = at-if2.if2.false;
+      same = sym (not-false _ c.if-not-same_name.false-raw) ∙ c.same_name.ensures;
+      enough = c.then-count-lt2.false;
       geometries = c.resolve_geometries-geometries.ensures;
       options = c.knn_options.ensures;
     }
@@ -37,12 +34,10 @@ returns-then-not-same_name c =
 pub returns-then-count-lt2 : goal.returns-then-count-lt2
 unfolding ascii
 returns-then-count-lt2 c =
-    let at-same-name = c in
-    let start = at-same-name.before.before.before.before.before in
     λ records name ts over.
-    let same = named over _ (ascii "st_knn") at-same-name.same-name.ensures ∙ not-false _ c.if-not-same_name.false-raw in
+    let same = named over _ (ascii "st_knn") c.same_name.ensures ∙ not-false _ c.if-not-same_name.false-raw in
     ⊎_elim (λ w. few-lacks _ records name ts same (omega (arith, w.taken)))
-    (λ w. many-lacks _ records name ts same (omega (arith, ltb-true 5 start.args.called.count w.1.taken))) c.then-count-lt2.branch
+    (λ w. many-lacks _ records name ts same (omega (arith, ltb-true 5 c.args.called.count w.1.taken))) c.then-count-lt2.branch
 
 pub resolve_geometries-geometries-requires : goal.resolve_geometries-geometries-requires
 resolve_geometries-geometries-requires c =
@@ -54,10 +49,9 @@ resolve_geometries-geometries-requires c =
 
 pub knn_options-requires : goal.knn_options-requires
 knn_options-requires c =
-    let at-if3 = c in
-    let start = at-if3.before.before.before.before.before.before.before.before in record {
-      trees = rest-trees start.requires.0 at-if3.before.if2.false _ c.resolve_geometries-geometries.ensures;
-      n_bound = omega (arith, ltb-false 5 start.args.called.count at-if3.if3.false);
+    record {
+      trees = rest-trees c.requires.call_framed c.then-count-lt2.false _ c.resolve_geometries-geometries.ensures;
+      n_bound = omega (arith, ltb-false 5 c.args.called.count c.if-count-gt5.false-raw);
     }
 
 pub returns-in_default : goal.returns-in_default
@@ -66,18 +60,15 @@ returns-in_default c =
 
 pub returns-in-Neither : goal.returns-in-Neither
 returns-in-Neither c =
-    let at-k = c in
-    λ records name ts over. knn-neither (walked (goal.at.returns-in-Neither c).After-knn_options) over _ _ _ at-k.k.given.1
+    λ records name ts over. knn-neither (walked (goal.at.returns-in-Neither c).After-knn_options) over _ _ _ c.in-Read.is
     c.in-Neither.is
 
 pub returns-in-LeftRight : goal.returns-in-LeftRight
 returns-in-LeftRight c =
-    let at-k = c in
-    λ records name ts over. knn-left (walked (goal.at.returns-in-LeftRight c).After-knn_options) over _ _ _ at-k.k.given.1
+    λ records name ts over. knn-left (walked (goal.at.returns-in-LeftRight c).After-knn_options) over _ _ _ c.in-Read.is
     c.in-LeftRight.is
 
 pub returns-in-RightLeft : goal.returns-in-RightLeft
 returns-in-RightLeft c =
-    let at-k = c in
-    λ records name ts over. knn-right (walked (goal.at.returns-in-RightLeft c).After-knn_options) over _ _ _ at-k.k.given.1
+    λ records name ts over. knn-right (walked (goal.at.returns-in-RightLeft c).After-knn_options) over _ _ _ c.in-Read.is
     c.in-RightLeft.is

@@ -30,13 +30,11 @@ bounds-s-at-2 c =
 
 pub returns-in-1 : goal.returns-in-1
 returns-in-1 c =
-    let at-long-at = c in
-    let at-if1 = at-long-at.before in
     λ d t h.
-    let kind = at-if1.if1.false in
+    let kind = c.if-s-at-ne1.false in
     let bytes = long_at c.args.s.now (c.args.at + 2) in
     literal-flag h kind _
-    (ap (λ (n : ℕ). some (flag (eqb n 1))) at-long-at.long-at.ensures ∙ flag-is bytes (flag_small h kind c.in-1.is) ∙ ap
+    (ap (λ (n : ℕ). some (flag (eqb n 1))) c.long_at-bytes.ensures ∙ flag-is bytes (flag_small h kind c.in-1.is) ∙ ap
     (λ (y : ℕ). number_bool y bytes) (sym c.in-1.is))
 
 pub returns-in_default : goal.returns-in_default

@@ -28,22 +28,15 @@ bounds-s-at-2 c =
 
 pub returns-in-2 : goal.returns-in-2
 returns-in-2 c =
-    let at-if3 = c in
-    let at-if2 = at-if3.before in
-    let at-long-at = at-if2.before.before in
-    let at-if1 = at-long-at.before in
-    λ d t h. literal-number h at-if1.if1.false _
+    λ d t h. literal-number h c.if-s-at-ne1.false _
     (c.u32_of_i64.ensures ∙ ap u32 (to_z-of_z {w = w64} (record { sfits = c.signed.type_inv }) ∙ c.signed.ensures ∙ ap signed
-    at-long-at.long-at.ensures) ∙ number-signed _ _ at-if2.if2.false at-if3.if3.true)
+    c.long_at-bytes.ensures) ∙ number-signed _ _ c.in-2.if-s-at-lt2-own.false c.in-2.if-this-lt4-own.true)
 
 pub returns-in-4 : goal.returns-in-4
 returns-in-4 c =
-    let at-if3 = c in
-    let at-long-at = at-if3.before.before.before in
-    let at-if1 = at-long-at.before in
-    λ d t h. literal-number h at-if1.if1.false _
-    (c.u32_of_u64.ensures ∙ ap (λ n. u32 (pos n)) at-long-at.long-at.ensures
-    ∙ number-unsigned _ _ at-if3.if3.false c.in-4.if-this-lt6-own.true)
+    λ d t h. literal-number h c.if-s-at-ne1.false _
+    (c.u32_of_u64.ensures ∙ ap (λ n. u32 (pos n)) c.long_at-bytes.ensures
+    ∙ number-unsigned _ _ c.in-4.if-this-lt4-own.false c.in-4.if-this-lt6-own.true)
 
 pub returns-in_default : goal.returns-in_default
 returns-in_default c =

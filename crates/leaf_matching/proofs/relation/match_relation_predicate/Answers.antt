@@ -15,12 +15,9 @@ walked : (c : After-resolve_geometries-geometries)
     → let start = c.args in
     Walked start.s.now start.rec start.called c.resolve_geometries-geometries.result c.in-Relation.relation_type
 walked c =
-    let at-if1 = c in
-    let at_named = at-if1.before.before in
-    let at-from-name = at_named.before.before in
     record {
-      named = sym at-from-name.from-name.ensures ∙ ap named_relation at_named.named.given.1;
-      enough = at-if1.if1.false;
+      named = sym c.from_name-named.ensures ∙ ap named_relation c.in-Relation.is;
+      enough = c.if-count-lt2.false;
       geometries = c.resolve_geometries-geometries.ensures;
     }
 
@@ -29,16 +26,14 @@ walked c =
 
 pub returns-in_default : goal.returns-in_default
 returns-in_default c =
-    let at-from-name = c in
     λ records name ts over. no-relation records name ts
-    (ap relation_named (sym over.stands.spelling) ∙ sym at-from-name.from-name.ensures
+    (ap relation_named (sym over.stands.spelling) ∙ sym c.from_name-named.ensures
     ∙ ap named_relation c.in_default.is)
 
 pub returns-then-count-lt2 : goal.returns-then-count-lt2
 returns-then-count-lt2 c =
-    let at-from-name = c in
     λ records name ts over. few-lacks records name ts
-    (ap relation_named (sym over.stands.spelling) ∙ sym at-from-name.from-name.ensures
+    (ap relation_named (sym over.stands.spelling) ∙ sym c.from_name-named.ensures
     ∙ ap named_relation c.in-Relation.is) (omega (arith, over.stands.row.counted))
 
 pub resolve_geometries-geometries-requires : goal.resolve_geometries-geometries-requires

@@ -10,14 +10,12 @@ returns-in-NoColumns c =
 
 pub returns-then-same_side : goal.returns-then-same_side
 returns-then-same_side c =
-    let told = c.seen-1.given in
-    see-same told.0.0 c.args.side told.1
+    see-same c.in-AllOn.one c.args.side c.in-AllOn.is
     (sym c.if-same_side.true ∙ c.same_side.ensures)
 
 pub returns-else-same_side : goal.returns-else-same_side
 returns-else-same_side c =
-    let told = c.seen-1.given in
-    see-other told.0.0 c.args.side told.1
+    see-other c.in-AllOn.one c.args.side c.in-AllOn.is
     (sym c.if-same_side.false ∙ c.same_side.ensures)
 
 pub returns-in-Mixed : goal.returns-in-Mixed

@@ -17,7 +17,7 @@ use Rattle.leaf_pick.proofs.first_match.+first_match.Goals as goal
 
 pub loop-left-init : goal.loop-left-init
 loop-left-init t c =
-    let pre = c.requires in along-begins pre.0 pre.1.0 pre.1.1
+    let pre = c.requires in along-begins pre.framed pre.of_tree.0 pre.of_tree.1
 
 pub node_at-node-requires : goal.node_at-node-requires
 node_at-node-requires t c =
@@ -48,8 +48,7 @@ first_match-requires t c =
 
 pub returns-in-Leaf : goal.returns-in-Leaf
 returns-in-Leaf t c =
-    let an-and = c in
-    along-left an-and.before.before.before.loop.invariant an-and.before.before.node_at.ensures an-and.node.given.1
+    along-left c.loop-left.invariant c.node_at-node.ensures c.in-And.is
     (λ records u over. rw c.in-Leaf.is at (c.first_match.ensures records u over))
 
 pub overflow_add-index-in-Nothing : goal.overflow_add-index-in-Nothing
@@ -58,8 +57,7 @@ overflow_add-index-in-Nothing t c =
 
 pub end_of-place-requires : goal.end_of-place-requires
 end_of-place-requires t c =
-    let an-and = c in
-    (left-within an-and.before.before.before.loop.invariant an-and.before.before.node_at.ensures an-and.node.given.1).0
+    (left-within c.loop-left.invariant c.node_at-node.ensures c.in-And.is).0
 
 pub overflow_add-index-in-Nothing-2 : goal.overflow_add-index-in-Nothing-2
 overflow_add-index-in-Nothing-2 t c =
@@ -67,18 +65,15 @@ overflow_add-index-in-Nothing-2 t c =
 
 pub offset_bounds-next-index : goal.offset_bounds-next-index
 offset_bounds-next-index t c =
-    let an-and = c in
-    let turn = an-and.before.before.before in
     omega (
       arith,
-      turn.before.before.before.before.well-formed,
-      (left-within turn.loop.invariant an-and.before.before.node_at.ensures an-and.node.given.1).1,
+      c.well_formed,
+      (left-within c.loop-left.invariant c.node_at-node.ensures c.in-And.is).1,
     )
 
 pub bounds-next-index : goal.bounds-next-index
 bounds-next-index t c =
-    let an-and = c in
-    (left-within an-and.before.before.before.loop.invariant an-and.before.before.node_at.ensures an-and.node.given.1).1
+    (left-within c.loop-left.invariant c.node_at-node.ensures c.in-And.is).1
 
 pub overflow_cast-index : goal.overflow_cast-index
 overflow_cast-index t c =
@@ -86,14 +81,12 @@ overflow_cast-index t c =
 
 pub loop-left-smaller : goal.loop-left-smaller
 loop-left-smaller t c =
-    let an-and = c in
-    along-less an-and.before.before.before.loop.invariant an-and.before.before.node_at.ensures an-and.node.given.1
+    along-less c.loop-left.invariant c.node_at-node.ensures c.in-And.is
     (λ records u over. rw c.in-Nothing.is at (c.first_match.ensures records u over))
     c.end_of-place.ensures
 
 pub loop-left-preserved : goal.loop-left-preserved
 loop-left-preserved t c =
-    let an-and = c in
-    along-right an-and.before.before.before.loop.invariant an-and.before.before.node_at.ensures an-and.node.given.1
+    along-right c.loop-left.invariant c.node_at-node.ensures c.in-And.is
     (λ records u over. rw c.in-Nothing.is at (c.first_match.ensures records u over))
     c.end_of-place.ensures _ refl

@@ -10,8 +10,8 @@ returns-in_default c =
 pub parent_of-requires : goal.parent_of-requires
 parent_of-requires c =
     let pre = c.requires in
-    let over = pre.0.2 in
-    walked-spotted (c.walk_once-found.ensures _ _ over) c.in-First.is (pre.1 _ _ over.tree)
+    let over = pre.framed.2 in
+    walked-spotted (c.walk_once-found.ensures _ _ over) c.in-First.is (pre.of_tree _ _ over.tree)
 
 pub returns : goal.returns
 returns c =

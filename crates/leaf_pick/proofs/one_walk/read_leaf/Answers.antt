@@ -28,9 +28,8 @@ returns-in-Unmatched c =
 pub returns-in-First : goal.returns-in-First
 returns-in-First c =
     λ records t over first.
-    let not-asked = c in
     rw c.in-First.is
-    (leaf-known (rw not-asked.enum-told2.given.1 at (not-asked.before.before.match-knn.ensures records t over)) first)
+    (leaf-known (rw c.in-NotAsked.is at (c.match_knn.ensures records t over)) first)
 
 pub seen_here-seen-requires-in-Matched-match_other : goal.seen_here-seen-requires-in-Matched-match_other
 seen_here-seen-requires-in-Matched-match_other c =
@@ -50,6 +49,5 @@ returns-in-Unmatched-match_other c =
 pub returns-in-NotAsked-match_other : goal.returns-in-NotAsked-match_other
 returns-in-NotAsked-match_other c =
     λ records t over.
-    let not-asked = c in
-    leaf-neither (rw not-asked.enum-told2.given.1 at (not-asked.before.before.match-knn.ensures records t over))
+    leaf-neither (rw c.in-NotAsked.is at (c.match_knn.ensures records t over))
     (rw c.in-NotAsked-match_other.is at (c.match_other.ensures records t over))

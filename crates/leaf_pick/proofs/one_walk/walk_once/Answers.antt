@@ -25,7 +25,7 @@ single c records u over = single-leaf c.node_at-node.result c.node_at-node.ensur
 
 pub bounds-next-0 : goal.bounds-next-0
 bounds-next-0 c =
-    let pre = c.requires in (tabled-within (pre.1 _ _ pre.0.2.tree)).1
+    let pre = c.requires in (tabled-within (pre.of_tree _ _ pre.framed.2.tree)).1
 
 pub overflow_cast-last : goal.overflow_cast-last
 overflow_cast-last c =
@@ -33,7 +33,7 @@ overflow_cast-last c =
 
 pub loop-index-init : goal.loop-index-init
 loop-index-init c =
-    let pre = c.requires in along-begins pre.0 pre.1 refl
+    let pre = c.requires in along-begins pre.framed pre.of_tree refl
 
 pub overflow_add-read : goal.overflow_add-read
 overflow_add-read c =

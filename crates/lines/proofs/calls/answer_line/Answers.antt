@@ -10,7 +10,7 @@ use Rattle.lines.proofs.LineLaws.{refused-line, good-bytes, good-leaves, bad-lin
 use Rattle.lines.proofs.calls.answer_line.Goals as goal
 use Rattle.lines.proofs.calls.answer_line.Goals.{In-Bytes}
 
--- The line's bytes c the first of the scratch.
+-- The line's bytes are the first of the scratch.
 bytes : (c : In-Bytes)
     → (let call = c.decode in
     ok (take c.in-Bytes.size call.new.out) ≡ line_bytes
@@ -37,6 +37,6 @@ returns-in-Bad c =
 pub returns-in-Bytes : goal.returns-in-Bytes
 returns-in-Bytes c =
     let call = c.call_line in record {
-      answer_is = rw (← good-bytes _ _ (bytes (goal.at.returns-in-Bytes c).In-Bytes)) call.ensures.0;
-      scratch_after = call.ensures.1 ∙ good-leaves _ _ _ (bytes (goal.at.returns-in-Bytes c).In-Bytes) c.decode.ensures.wrote;
+      answer_is = rw (← good-bytes _ _ (bytes (goal.at.returns-in-Bytes c).In-Bytes)) call.ensures.answer_is;
+      scratch_after = call.ensures.scratch_after ∙ good-leaves _ _ _ (bytes (goal.at.returns-in-Bytes c).In-Bytes) c.decode.ensures.wrote;
     }

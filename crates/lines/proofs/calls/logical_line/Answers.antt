@@ -10,10 +10,9 @@ use Rattle.lines.proofs.CallLaws.{few-names, names-give, refusal-gives}
 use Rattle.lines.proofs.calls.logical_line.Goals as goal
 use Rattle.lines.proofs.calls.logical_line.Goals.{In-Found}
 
--- What was found c the definition's answer.
+-- What was found is the definition's answer.
 found : (c : In-Found)
-    → (let names = c.found-1.given.0 in
-    ok (record { mask = names.0.mask; names = names.0.names; side = query_side_is names.1.0 }) ≡ logical
+    → (ok (record { mask = c.in-Found.found.mask; c.found-1.given.0 = c.in-Found.found.names; side = query_side_is c.in-Found.side }) ≡ logical
     c.args.bytes.now)
 found c = sym (ap names_of c.in-Found.is) ∙ c.logical.ensures
 

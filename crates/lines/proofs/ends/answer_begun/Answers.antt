@@ -23,7 +23,7 @@ pub returns : goal.returns
 returns c =
     let call = c.answer_line in
         let short = c.if-line-count.false in let both = (
-          omega (arith, call.ensures.0.fits, call.auto.plan),
-          (λ begun b. rw (b.held short) at call.ensures.0, rw (le-leb _ _ short) call.ensures.1),
+          omega (arith, call.ensures.answer_is.fits, call.auto.plan),
+          (λ begun b. rw (b.held short) at call.ensures.answer_is, rw (le-leb _ _ short) call.ensures.scratch_after),
         ) in
     record { result_in_bounds = both.0; by_index = both.1; scratch_after = both.2; }

@@ -17,19 +17,19 @@ room c =
       put.ensures.ends,
       put.auto.out,
       call.auto.plan,
-      written-fits call.new.plan call.result (omega (arith, call.ensures.0, call.auto.plan)),
+      written-fits call.new.plan call.result (omega (arith, call.ensures.result_in_bounds, call.auto.plan)),
     )
 
 pub put_answer-filled-requires : goal.put_answer-filled-requires
 put_answer-filled-requires c =
     let call = c.answer_begun-answer in
-    omega (arith, call.ensures.0, call.auto.plan)
+    omega (arith, call.ensures.result_in_bounds, call.auto.plan)
 
 pub returns : goal.returns
 returns c =
     let put = c.put_answer-filled in
     let call = c.answer_begun-answer in
     record {
-      makes = rw c.length_after.ensures (line-ended _ _ call.result call.ensures.1.0 put.ensures (room (goal.at.returns c).After-length_after));
-      scratch = call.ensures.1.1;
+      makes = rw c.length_after.ensures (line-ended _ _ call.result call.ensures.by_index.0 put.ensures (room (goal.at.returns c).After-length_after));
+      scratch = call.ensures.by_index.1;
     }

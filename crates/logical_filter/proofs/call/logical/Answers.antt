@@ -21,8 +21,7 @@ returns-in-Refused c =
 
 pub returns-in-Good : goal.returns-in-Good
 returns-in-Good c =
-    let at-root = c in
-    let good = rw at-root.root.given.1 at at-root.before.before.logical-frame.ensures in
+    let good = rw c.in-Good.is at c.logical_frame.ensures in
     logical-finds _ good.0 good.2 c.collect_spatial_predicate_names-found.result (query_side_is c.find_knn_query_side-side.result)
     (c.collect_spatial_predicate_names-found.ensures _ good.0 (expr-stands good.1))
     (c.find_knn_query_side-side.ensures _ good.0 (expr-stands good.1))

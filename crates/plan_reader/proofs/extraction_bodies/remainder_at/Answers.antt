@@ -42,9 +42,8 @@ returns-in-0 c =
 pub returns-in-1 : goal.returns-in-1
 unfolding remainder remainder_of_kind
 returns-in-1 c =
-    let at-kind = c in
-    let kind = rw at-kind.kind.given.1 at at-kind.before.before.byte.ensures in
-    let a = at-kind.before.before.before.before.args in
+    let kind = rw c.in-Value.is at c.byte.ensures in
+    let a = c.args in
     follows a.s.now a.at _ a.nodes _ _ c.some_remainder.result (after _ (kind.1 _) ∙ rw c.in-1.is)
     c.some_remainder.ensures
 

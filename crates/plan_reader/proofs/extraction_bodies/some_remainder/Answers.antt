@@ -8,12 +8,13 @@ use Rattle.definitions.specs.Decode.{frame_body, some_remainder}
 use Rattle.theorems.proofs.ReaderLaws.{after, halts, passes, fails}
 use Rattle.frame_reader.proofs.Standing.{expr-stands, frame-tree}
 use Rattle.plan_reader.proofs.extraction_bodies.some_remainder.Goals as goal
+use Rattle.plan_reader.proofs.extraction_bodies.some_remainder.Goals.{In-Read}
 
 -- The body was read.
-body : (p : tie.After-frame)
-    → let a = p.before.before.before.before.args in
-    let read = p.frame.given.0 in BodyIs a.s.now a.at a.nodes (Read read.0 read.1.0 read.1.1.0) frame_body
-body p = rw p.frame.given.1 at p.before.before.frame-body.ensures
+body : (c : In-Read)
+    → let a = c.args in
+    BodyIs a.s.now a.at a.nodes (Read c.in-Read.frame c.in-Read.end c.in-Read.field-2) frame_body
+body c = rw c.in-Read.is at c.frame_body.ensures
 
 pub frame_body-requires : goal.frame_body-requires
 unfolding some_remainder
@@ -33,7 +34,7 @@ enum_known-frame c =
 pub enough_arguments-requires : goal.enough_arguments-requires
 unfolding some_remainder
 enough_arguments-requires c =
-    frame-tree (body c).3
+    frame-tree (body (goal.at.enough_arguments-requires c).In-Read).3
 
 pub returns-in-Refused : goal.returns-in-Refused
 unfolding some_remainder
@@ -43,12 +44,12 @@ returns-in-Refused c =
 pub returns-then-enough_arguments : goal.returns-then-enough_arguments
 unfolding some_remainder
 returns-then-enough_arguments c =
-    let f = body c in
+    let f = body (goal.at.returns-then-enough_arguments c).In-Read in
     let enough = sym (c.enough_arguments.ensures _ _ (expr-stands f.3.expr)) ∙ c.if-enough_arguments.true in
     (f.0, some f.1, (f.1, refl, f.3), _, after _ f.2 ∙ passes 8 _ _ _ enough)
 
 pub returns-else-enough_arguments : goal.returns-else-enough_arguments
 unfolding some_remainder
 returns-else-enough_arguments c =
-    let f = body c in
+    let f = body (goal.at.returns-else-enough_arguments c).In-Read in
     after _ f.2 ∙ fails 8 _ _ _ (sym (c.enough_arguments.ensures _ _ (expr-stands f.3.expr)) ∙ c.if-enough_arguments.false)

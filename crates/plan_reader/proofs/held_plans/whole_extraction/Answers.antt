@@ -5,16 +5,16 @@ use Rattle.node_reader.specs.Fields.{FieldIs}
 use borrow.Author.Rules.{rules}
 use Rattle.plan_reader.proofs.Extractions.{unopened, body-stops, ends, goes_on}
 use Rattle.plan_reader.proofs.held_plans.whole_extraction.Goals as goal
+use Rattle.plan_reader.proofs.held_plans.whole_extraction.Goals.{In-Value}
 
 -- The first byte was read.
-first : (p : tie.After-first)
-    → let read = p.first.given.0 in
-    FieldIs p.before.before.before.before.args.s.now 0 (Value read.0 read.1.0) first_of
-first p = rw p.first.given.1 at p.before.before.first_byte.ensures
+first : (c : In-Value)
+    → FieldIs c.args.s.now 0 (Value c.in-Value.first c.in-Value.at) first_of
+first c = rw c.in-Value.is at c.first_byte.ensures
 
 pub extraction_body-requires : goal.extraction_body-requires
 extraction_body-requires c =
-    (first c).0
+    (first (goal.at.extraction_body-requires c).In-Value).0
 
 pub returns-in-Refused : goal.returns-in-Refused
 returns-in-Refused c =
@@ -23,14 +23,14 @@ returns-in-Refused c =
 pub returns-in-Refused-extraction_body : goal.returns-in-Refused-extraction_body
 returns-in-Refused-extraction_body c =
     let stop = rw c.in-Refused-extraction_body.is at c.extraction_body.ensures in
-    (_, body-stops _ _ c.in-Value.at ((first c).1 0) stop)
+    (_, body-stops _ _ c.in-Value.at ((first (goal.at.returns-in-Refused-extraction_body c).In-Value).1 0) stop)
 
 pub returns-then-end-s : goal.returns-then-end-s
 returns-then-end-s c =
     let x = rw c.in-Read.is at c.extraction_body.ensures in
-    (x.1, rw c.if-end-s.true at x.2, ends _ _ c.in-Value.at ((first c).1 0) x.1 _ _ x.4 c.if-end-s.true)
+    (x.1, rw c.if-end-s.true at x.2, ends _ _ c.in-Value.at ((first (goal.at.returns-then-end-s c).In-Value).1 0) x.1 _ _ x.4 c.if-end-s.true)
 
 pub returns-else-end-s : goal.returns-else-end-s
 returns-else-end-s c =
     let x = rw c.in-Read.is at c.extraction_body.ensures in
-    (_, goes_on _ _ c.in-Value.at ((first c).1 0) x.1 _ _ x.4 x.0 c.if-end-s.false)
+    (_, goes_on _ _ c.in-Value.at ((first (goal.at.returns-else-end-s c).In-Value).1 0) x.1 _ _ x.4 x.0 c.if-end-s.false)

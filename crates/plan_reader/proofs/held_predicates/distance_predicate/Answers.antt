@@ -10,12 +10,13 @@ use Rattle.theorems.proofs.ReaderLaws.{after, halts}
 use Rattle.plan_reader.proofs.Fields.{up_to}
 use Rattle.plan_reader.proofs.Predicated.{precedes}
 use Rattle.plan_reader.proofs.held_predicates.distance_predicate.Goals as goal
+use Rattle.plan_reader.proofs.held_predicates.distance_predicate.Goals.{In-Value}
 
 -- The form was read.
-formed : (p : tie.After-form)
-    → let a = p.before.before.before.before.args in
-    let read = p.form.given.0 in FieldIs a.s.now a.at (Value read.0 read.1.0) (byte_up_to 4)
-formed p = rw p.form.given.1 at p.before.before.byte-up-to.ensures
+formed : (c : In-Value)
+    → let a = c.args in
+    FieldIs a.s.now a.at (Value c.in-Value.form c.in-Value.next) (byte_up_to 4)
+formed c = rw c.in-Value.is at c.byte_up_to.ensures
 
 pub byte_up_to-requires : goal.byte_up_to-requires
 unfolding distance_predicate
@@ -35,7 +36,7 @@ enum_known-form c =
 pub side_up_to-requires : goal.side_up_to-requires
 unfolding distance_predicate
 side_up_to-requires c =
-    (formed c).0
+    (formed (goal.at.side_up_to-requires c).In-Value).0
 
 pub enum_known-why-in-Refused-side_up_to : goal.enum_known-why-in-Refused-side_up_to
 unfolding distance_predicate
@@ -50,9 +51,8 @@ enum_known-side c =
 pub overflow_cast-form : goal.overflow_cast-form
 unfolding distance_predicate
 overflow_cast-form c =
-    let at-form = c in
-    let a = at-form.before.before.before.before.args in
-    let read = at-form.form.given.0 in omega (arith, up_to a.s.now a.at read.1.0 read.0 4 (formed at-form).1)
+    let a = c.args in
+    omega (arith, up_to a.s.now a.at c.in-Value.next c.in-Value.form 4 (formed (goal.at.overflow_cast-form c).In-Value).1)
 
 pub distance_arguments-requires : goal.distance_arguments-requires
 unfolding distance_predicate
@@ -67,14 +67,13 @@ returns-in-Refused c =
 pub returns-in-Refused-side_up_to : goal.returns-in-Refused-side_up_to
 unfolding distance_predicate
 returns-in-Refused-side_up_to c =
-    after _ ((formed c).1 0)
+    after _ ((formed (goal.at.returns-in-Refused-side_up_to c).In-Value).1 0)
     ∙ halts _ ((rw c.in-Refused-side_up_to.is at c.side_up_to.ensures) 0)
 
 pub returns-in-Value-side_up_to : goal.returns-in-Value-side_up_to
 unfolding distance_predicate
 returns-in-Value-side_up_to c =
-    let at-form = c in
     let side = rw c.in-Value-side_up_to.is at c.side_up_to.ensures in
-    let a = at-form.before.before.before.before.args in
-    precedes a.s.now a.at _ _ _ c.distance_arguments.result (after _ ((formed at-form).1 0) ∙ after _ (side.1 0))
+    let a = c.args in
+    precedes a.s.now a.at _ _ _ c.distance_arguments.result (after _ ((formed (goal.at.returns-in-Value-side_up_to c).In-Value).1 0) ∙ after _ (side.1 0))
     c.distance_arguments.ensures

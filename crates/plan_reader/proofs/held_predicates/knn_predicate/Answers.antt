@@ -11,18 +11,17 @@ use Rattle.theorems.proofs.ReaderLaws.{after, halts}
 use Rattle.node_reader.proofs.Standing.{all-bytes}
 use Rattle.plan_reader.proofs.Fields.{k-below}
 use Rattle.plan_reader.proofs.held_predicates.knn_predicate.Goals as goal
+use Rattle.plan_reader.proofs.held_predicates.knn_predicate.Goals.{In-Read, In-Value}
 
 -- k was read, and the flags.
-many : (p : tie.After-k)
-    → let a = p.before.before.before.before.args in
-    let read = p.k.given.0 in FieldIs a.s.now a.at (Value read.0 read.1.0) k_field
-many p = rw p.k.given.1 at p.before.before.k-field.ensures
+many : (c : In-Value)
+    → let a = c.args in
+    FieldIs a.s.now a.at (Value c.in-Value.k c.in-Value.next) k_field
+many c = rw c.in-Value.is at c.k_field.ensures
 
-flagged : (p : tie.After-flags)
-    → let q = p.before.before.before.before in
-    let read = p.flags.given.0 in
-    FlagsIs q.before.before.before.before.args.s.now q.k.given.0.1.0 (flags.Read read.0 read.1.0)
-flagged p = rw p.flags.given.1 at p.before.before.knn-flags.ensures
+flagged : (c : In-Read)
+    → FlagsIs c.args.s.now c.in-Value.next (flags.Read c.in-Read.flags c.in-Read.left)
+flagged c = rw c.in-Read.is at c.knn_flags.ensures
 
 pub k_field-requires : goal.k_field-requires
 unfolding knn_predicate
@@ -42,7 +41,7 @@ enum_known-k c =
 pub knn_flags-requires : goal.knn_flags-requires
 unfolding knn_predicate
 knn_flags-requires c =
-    (many c).0
+    (many (goal.at.knn_flags-requires c).In-Value).0
 
 pub enum_known-why-in-Refused-knn_flags : goal.enum_known-why-in-Refused-knn_flags
 unfolding knn_predicate
@@ -57,7 +56,7 @@ enum_known-flags c =
 pub both-requires : goal.both-requires
 unfolding knn_predicate
 both-requires c =
-    (flagged c).0
+    (flagged (goal.at.both-requires c).In-Read).0
 
 pub enum_known-why-in-Refused-both : goal.enum_known-why-in-Refused-both
 unfolding knn_predicate
@@ -72,13 +71,10 @@ enum_known-right c =
 pub overflow_cast-result : goal.overflow_cast-result
 unfolding knn_predicate
 overflow_cast-result c =
-    let at-k = c in
-    let start = at-k.before.before.before in
-    let a = start.before.args in
-    let read = at-k.k.given.0 in
+    let a = c.args in
     omega (
       arith,
-      k-below a.s.now a.at read.1.0 read.0 (all-bytes a.s.now start.shared-slice-known.given) (many at-k).1,
+      k-below a.s.now a.at c.in-Value.next c.in-Value.k (all-bytes a.s.now c.shared_slice_known-1.given) (many (goal.at.overflow_cast-result c).In-Value).1,
     )
 
 pub returns-in-Refused : goal.returns-in-Refused
@@ -89,23 +85,23 @@ returns-in-Refused c =
 pub returns-in-Refused-knn_flags : goal.returns-in-Refused-knn_flags
 unfolding knn_predicate
 returns-in-Refused-knn_flags c =
-    after _ ((many c).1 0)
+    after _ ((many (goal.at.returns-in-Refused-knn_flags c).In-Value).1 0)
     ∙ (rw c.in-Refused-knn_flags.is at c.knn_flags.ensures) _ 0
 
 pub returns-in-Refused-both : goal.returns-in-Refused-both
 unfolding knn_predicate
 returns-in-Refused-both c =
-    after _ ((many c).1 0)
-    ∙ (flagged c).1 _ 0
+    after _ ((many (goal.at.returns-in-Refused-both c).In-Value).1 0)
+    ∙ (flagged (goal.at.returns-in-Refused-both c).In-Read).1 _ 0
     ∙ (rw c.in-Refused-both.is at c.both.ensures) _
 
 pub returns-in-Read-both : goal.returns-in-Read-both
 unfolding knn_predicate
 returns-in-Read-both c =
-    let k = many c in
+    let k = many (goal.at.returns-in-Read-both c).In-Value in
     let both = rw c.in-Read-both.is at c.both.ensures in (
       both.0,
       _,
       record { l = both.1; r = both.2; left = both.3; right = both.4; is = refl },
-      after _ (k.1 0) ∙ (flagged c).1 _ 0 ∙ both.5 _,
+      after _ (k.1 0) ∙ (flagged (goal.at.returns-in-Read-both c).In-Read).1 _ 0 ∙ both.5 _,
     )

@@ -56,8 +56,7 @@ returns-in-Refused-both c =
 pub returns-in-Read : goal.returns-in-Read
 unfolding relation_predicate
 returns-in-Read c =
-    let at-number = c in
-    let type = rw at-number.number.given.1 at at-number.before.before.byte-up-to.ensures in
+    let type = rw c.in-Value.is at c.byte_up_to.ensures in
     let both = rw c.in-Read.is at c.both.ensures in
     let same = ap (λ (x : tree.Relation). tree.relation x both.1 both.2) (sym c.relation_numbered.ensures) in
     (both.0, _, record { l = both.1; r = both.2; left = both.3; right = both.4; is = same }, after _ (type.1 0) ∙ both.5 _)

@@ -39,7 +39,6 @@ pub returns-else-k-eq0 : goal.returns-else-k-eq0
 unfolding k_field
 returns-else-k-eq0 c =
     let a = c.args in
-    let k = c.k-1.given.0 in
     let read = rw c.in-Value.is at c.number.ensures in
-    let few = four-bytes a.s.now a.at k.1.0 k.0 (all-bytes a.s.now c.shared_slice_known-1.given) read.1 in
-    (read.0, λ n. after _ (read.1 n) ∙ passes 4 _ n _ (is-k k.0 c.if-k-eq0.false few))
+    let few = four-bytes a.s.now a.at c.in-Value.next c.in-Value.k (all-bytes a.s.now c.shared_slice_known-1.given) read.1 in
+    (read.0, λ n. after _ (read.1 n) ∙ passes 4 _ n _ (is-k c.in-Value.k c.if-k-eq0.false few))

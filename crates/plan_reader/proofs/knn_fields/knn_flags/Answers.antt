@@ -35,16 +35,11 @@ returns-in-Refused-byte_up_to c =
 
 pub returns-in-Value-byte_up_to : goal.returns-in-Value-byte_up_to
 returns-in-Value-byte_up_to c =
-    let at-ties = c in
-    let at-probe = at-ties.before.before.before.before in
-    let at-spheroid = at-probe.before.before.before.before in
-    let spheroid = rw at-spheroid.spheroid.given.1 at at-spheroid.before.before.byte-up-to.ensures in
-    let probe = rw at-probe.probe-side.given.1 at at-probe.before.before.side-up-to.ensures in
-    let ties = rw at-ties.number.given.1 at at-ties.before.before.byte-up-to2.ensures in
-    let a = at-spheroid.before.before.before.before.args in
-    let one = at-spheroid.spheroid.given.0 in
-    let three = at-ties.number.given.0 in
-    let flag = flag-stored one.0 (up_to a.s.now a.at one.1.0 one.0 1 spheroid.1) in
+    let spheroid = rw c.in-Value.is at c.byte_up_to.ensures in
+    let probe = rw c.in-Value-side_up_to.is at c.side_up_to.ensures in
+    let ties = rw c.in-Value-byte_up_to.is at c.byte_up_to-in-Value-side_up_to.ensures in
+    let a = c.args in
+    let flag = flag-stored c.in-Value.spheroid (up_to a.s.now a.at c.in-Value.second c.in-Value.spheroid 1 spheroid.1) in
     let numbered = c.ties_numbered.ensures
-    ∙ ties-stored three.0 (up_to a.s.now at-probe.probe-side.given.0.1.0 three.1.0 three.0 2 ties.1) in
+    ∙ ties-stored c.in-Value-byte_up_to.number (up_to a.s.now c.in-Value-side_up_to.third c.in-Value-byte_up_to.end c.in-Value-byte_up_to.number 2 ties.1) in
     (ties.0, λ next n. rw (flag, numbered) (after _ (spheroid.1 n) ∙ after _ (probe.1 n) ∙ after _ (ties.1 n)))

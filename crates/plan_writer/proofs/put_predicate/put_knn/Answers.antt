@@ -5,7 +5,7 @@ use Rattle.plan_writer.proofs.PredicateLaws.{Numbers, knn-view, knn-fits}
 use Rattle.plan_writer.proofs.put_predicate.put_knn.Goals as goal
 use Rattle.plan_writer.proofs.put_predicate.put_knn.Goals.{After-negate-other}
 
--- What the numbers c once all are known.
+-- What the numbers are once all are known.
 numbers : (c : After-negate-other)
     → let a = c.args in
     Numbers a.indexes a.to.now a.src.now a.p c.flag_number-spheroid.result

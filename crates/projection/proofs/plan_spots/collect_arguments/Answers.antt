@@ -30,7 +30,7 @@ returns-in-Relation c =
     let call = c.collect_both in
         let told = c.enum_told-1 in
         two-collected c.args.row.now call.new.row call.result
-        call.ensures (relation-two (rw told.given.1 at there))
+        call.ensures (relation-two (rw c.in-Relation.is at there))
 
 pub returns-in-Distance : goal.returns-in-Distance
 returns-in-Distance c =

@@ -10,7 +10,7 @@ use Rattle.projection.proofs.RecordLoop.{Filling, filling-begins, short-child, f
 use Rattle.projection.proofs.spots.collect_records.Goals as goal
 use Rattle.projection.proofs.spots.collect_records.Goals.{In-loop-k}
 
--- The record at hand lies within c bytes, and has its entry.
+-- The record at hand lies within the bytes, and has its entry.
 within : (c : In-loop-k)
     → let args = c.args in
     let loop = c.loop-k in

@@ -18,7 +18,7 @@ within : (c : After-queue_start-at)
     → c.queue_start-at.result + 16417 ≤ length c.args.queues.now
 within c =
     let a = c.args in
-    part-within a.queues.now (held c) (queue_is a.queue) c.queue_start-at.result c.queue_start-at.ensures
+    part-within a.queues.now ((is_held _ c.good_queues.result c.good_queues.ensures c.if-not-good_queues.false-raw)) (queue_is a.queue) c.queue_start-at.result c.queue_start-at.ensures
 
 pub returns-then-not-good_queues : goal.returns-then-not-good_queues
 returns-then-not-good_queues c =

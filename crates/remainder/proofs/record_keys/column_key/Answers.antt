@@ -16,11 +16,9 @@ overflow_mul-result c =
 pub overflow_cast-result-2 : goal.overflow_cast-result-2
 overflow_cast-result-2 c =
     let at = c.args.at in
-    let byte = c.shared_slice_known-2-1.given in
-    omega (arith, c.short_at.ensures, byte (at + 1), byte (at + 1 + 1))
+    omega (arith, c.short_at.ensures, c.shared_slice_known-2-1.given (at + 1), c.shared_slice_known-2-1.given (at + 1 + 1))
 
 pub overflow_add-result : goal.overflow_add-result
 overflow_add-result c =
     let at = c.args.at in
-    let byte = c.shared_slice_known-2-1.given in
-    omega (arith, c.short_at.ensures, byte at, byte (at + 1), byte (at + 1 + 1))
+    omega (arith, c.short_at.ensures, c.shared_slice_known-2-1.given at, c.shared_slice_known-2-1.given (at + 1), c.shared_slice_known-2-1.given (at + 1 + 1))

@@ -15,10 +15,10 @@ use Rattle.writing.proofs.Written.{together-length}
 use Rattle.remainder.proofs.AroundLaws.{lone-leaf, left_at}
 use Rattle.remainder.proofs.RemainderWalk.{copy-leaf, lone-fits, copy-lone, parent-fits, copy-parent, and-room, and-fits, copy-and, left-fits, left-wrote, left-later, right-fits, copy-sides}
 use Rattle.remainder.proofs.reprojecting.+reproject_remainder_reproject_sides.Goals as goal
-use Rattle.remainder.proofs.reprojecting.+reproject_remainder_reproject_sides.Goals.{reproject_remainder-Else-at-cut-2, reproject_remainder-In-And-2}
+use Rattle.remainder.proofs.reprojecting.+reproject_remainder_reproject_sides.Goals.{reproject_remainder-Else-at-cut-2, reproject_remainder-In-And}
 
 -- The And that was found.
-found-and : (t : ℕ) (c : reproject_remainder-In-And-2 t) (u : Expr)
+found-and : (t : ℕ) (c : reproject_remainder-In-And t) (u : Expr)
     → let d = index_below (length c.args.to.now) in
     Stands d c.args.src.now c.args.at u
     → Both expr-and d c.args.src.now c.args.at c.in-And.left u
@@ -30,7 +30,7 @@ room : (t : ℕ) (c : reproject_remainder-Else-at-cut-2 t)
 room t c =
     let p = c.requires in
     let to = c.args.to.now in
-    let both = found-and t c p.tree p.stands in
+    let both = (rw c.in-And.is at (c.node_at.ensures (index_below (length c.args.to.now)) u stands)) p.tree p.stands in
     and-room to c.args.cut both p.ends c.if-at-cut.false c.if-at-cut-2.false c.args.out.now p.room
 
 pub reproject_remainder-returns-then-at-cut : goal.reproject_remainder-returns-then-at-cut
@@ -67,7 +67,7 @@ pub reproject_remainder-reproject_sides-requires : goal.reproject_remainder-repr
 reproject_remainder-reproject_sides-requires t c =
     let p = c.requires in
     let to = c.args.to.now in
-    let both = found-and t (goal.at.reproject_remainder-reproject_sides-requires t c).In-And-2 p.tree p.stands in (
+    let both = found-and t (goal.at.reproject_remainder-reproject_sides-requires t c).In-And p.tree p.stands in (
       omega (arith, node-some p.stands, left_at both),
       parent-fits to c.args.cut both p.ends c.if-at-cut.false c.if-at-cut-2.true p.room,
     )
@@ -80,7 +80,7 @@ pub reproject_remainder-returns-then-at-cut-2 : goal.reproject_remainder-returns
 reproject_remainder-returns-then-at-cut-2 t c =
     λ u stands ends.
     let to = c.args.to.now in
-        let both = found-and t (goal.at.reproject_remainder-returns-then-at-cut-2 t c).In-And-2 u stands in
+        let both = found-and t (goal.at.reproject_remainder-returns-then-at-cut-2 t c).In-And u stands in
         copy-parent to c.args.cut both ends c.if-at-cut.false c.if-at-cut-2.true
         c.reproject_sides.ensures
 
@@ -104,7 +104,7 @@ pub reproject_remainder-reproject_sides-sides-requires : goal.reproject_remainde
 reproject_remainder-reproject_sides-sides-requires t c =
     let p = c.requires in
     let to = c.args.to.now in
-    let both = found-and t (goal.at.reproject_remainder-reproject_sides-sides-requires t c).In-And-2 p.tree p.stands in (
+    let both = found-and t (goal.at.reproject_remainder-reproject_sides-sides-requires t c).In-And p.tree p.stands in (
       omega (arith, node-some p.stands, left_at both),
       and-fits to c.args.cut both p.ends c.if-at-cut.false c.if-at-cut-2.false c.args.out.now
           p.room,
@@ -128,7 +128,7 @@ reproject_remainder-returns t c =
     λ u stands ends.
     let to = c.args.to.now in
     let call = c.reproject_sides-sides in
-    let both = found-and t (goal.at.reproject_remainder-returns t c).In-And-2 u stands in
+    let both = found-and t (goal.at.reproject_remainder-returns t c).In-And u stands in
     copy-and to c.args.cut both ends c.if-at-cut.false c.if-at-cut-2.false c.args.out.now
     call.new.out (room t (goal.at.reproject_remainder-returns t c).Else-at-cut-2) call.ensures
 

@@ -21,10 +21,10 @@ use Rattle.remainder.specs.Rests.{RestPut}
 use Rattle.remainder.proofs.RestLaws.{and-put}
 use Rattle.remainder.proofs.RestWalk.{lone-leaf, left_after, right-stands, right-fits, left-fits, head-fits}
 use Rattle.remainder.proofs.rests.+put_rest.Goals as goal
-use Rattle.remainder.proofs.rests.+put_rest.Goals.{After-end_of-place, After-put_rest-right, In-And-2}
+use Rattle.remainder.proofs.rests.+put_rest.Goals.{After-end_of-place, After-put_rest-right, In-And}
 
 -- The And that was found.
-found : (t : ℕ) (c : In-And-2 t) (d : Columns) (u : Expr)
+found : (t : ℕ) (c : In-And t) (d : Columns) (u : Expr)
     → Stands d c.args.src.now
     c.args.at u
     → Both expr-and d c.args.src.now
@@ -32,7 +32,7 @@ found : (t : ℕ) (c : In-And-2 t) (d : Columns) (u : Expr)
 found t c d u stands = rw c.in-And.is at (c.node_at.ensures d u stands)
 
 -- Its left side, in the rows.
-left-rows : (t : ℕ) (c : In-And-2 t) (d : Columns) (u : Expr)
+left-rows : (t : ℕ) (c : In-And t) (d : Columns) (u : Expr)
     (stands : Stands d c.args.src.now
     c.args.at u)
     → Tabled c.args.numbers.now
@@ -42,7 +42,7 @@ left-rows : (t : ℕ) (c : In-And-2 t) (d : Columns) (u : Expr)
 left-rows t c d u stands =
     left-tabled (c.requires.of_tree d u stands) (found t c d u stands)
 
-within : (t : ℕ) (c : In-And-2 t)
+within : (t : ℕ) (c : In-And t)
     → (c.args.i + 1 < length
     c.args.numbers.now)
     × (c.args.i + 1 < length
@@ -54,8 +54,8 @@ within t c = let f = c.requires.rest_fits in tabled-within
 right-at : (t : ℕ) (c : After-end_of-place t) (d : Columns) (u : Expr)
     (stands : Stands d c.args.src.now
     c.args.at u)
-    → c.end_of-place.result ≡ c.in-And.left + length (expr_bytes (found t c d u stands).l)
-right-at t c d u stands = c.end_of-place.ensures ∙ tabled-end (left-rows t c d u stands)
+    → c.end_of-place.result ≡ c.in-And.left + length (expr_bytes ((rw c.in-And.is at (c.node_at.ensures d u stands)) d u stands).l)
+right-at t c d u stands = c.end_of-place.ensures ∙ tabled-end ((left-tabled (c.requires.of_tree d u stands) (found t c d u stands)) d u stands)
 
 -- What the call for the right side left.
 right-put : (t : ℕ) (c : After-put_rest-right t) (d : Columns) (u : Expr)
@@ -65,10 +65,10 @@ right-put : (t : ℕ) (c : After-put_rest-right t) (d : Columns) (u : Expr)
     c.args.gone.now
     c.args.out.now
     c.put_rest-right.new.out
-    c.put_rest-right.result (found t c d u stands).r
+    c.put_rest-right.result ((rw c.in-And.is at (c.node_at.ensures d u stands)) d u stands).r
 right-put t c d u stands =
     c.put_rest-right.ensures d _
-    (right-stands (found t c d u stands) _ (right-at t c d u stands))
+    (right-stands ((rw c.in-And.is at (c.node_at.ensures d u stands)) d u stands) _ ((c.end_of-place.ensures ∙ tabled-end (left-rows t c d u stands)) d u stands))
 
 pub node_at-requires : goal.node_at-requires
 node_at-requires t c =
@@ -77,7 +77,7 @@ node_at-requires t c =
 pub end_of-stop-requires : goal.end_of-stop-requires
 end_of-stop-requires t c =
     let p = c.requires in
-    (tabled-within (p.1 _ p.0.tree p.0.stands)).0
+    (tabled-within (p.of_tree _ p.rest_fits.tree p.rest_fits.stands)).0
 
 pub put_leaf-requires : goal.put_leaf-requires
 put_leaf-requires t c =
@@ -99,18 +99,18 @@ returns-in_default t c =
 
 pub overflow_add-i : goal.overflow_add-i
 overflow_add-i t c =
-    omega (arith, c.well_formed, (within t (goal.at.overflow_add-i t c).In-And-2).0)
+    omega (arith, c.well_formed, (within t (goal.at.overflow_add-i t c).In-And).0)
 
 pub end_of-place-requires : goal.end_of-place-requires
 end_of-place-requires t c =
-    (within t (goal.at.end_of-place-requires t c).In-And-2).0
+    (within t (goal.at.end_of-place-requires t c).In-And).0
 
 pub overflow_add-index : goal.overflow_add-index
 overflow_add-index t c =
     omega (
       arith,
       c.well_formed,
-      (within t (goal.at.overflow_add-index t c).In-And-2).0,
+      (within t (goal.at.overflow_add-index t c).In-And).0,
     )
 
 pub offset_bounds-next-i : goal.offset_bounds-next-i
@@ -118,12 +118,12 @@ offset_bounds-next-i t c =
     omega (
       arith,
       c.well_formed,
-      (within t (goal.at.offset_bounds-next-i t c).In-And-2).1,
+      (within t (goal.at.offset_bounds-next-i t c).In-And).1,
     )
 
 pub bounds-next-i : goal.bounds-next-i
 bounds-next-i t c =
-    (within t (goal.at.bounds-next-i t c).In-And-2).1
+    (within t (goal.at.bounds-next-i t c).In-And).1
 
 pub overflow_cast-index : goal.overflow_cast-index
 overflow_cast-index t c =
@@ -132,28 +132,28 @@ overflow_cast-index t c =
 pub put_rest-right-requires : goal.put_rest-right-requires
 put_rest-right-requires t c =
     let f = c.requires.rest_fits in
-    let both = found t (goal.at.put_rest-right-requires t c).In-And-2 f.columns f.tree f.stands in
+    let both = found t (goal.at.put_rest-right-requires t c).In-And f.columns f.tree f.stands in
     let e = right-at t (goal.at.put_rest-right-requires t c).After-end_of-place f.columns f.tree f.stands in (
       omega (arith, e, left_after both, node-some (right-stands both _ e)),
       (
         right-fits f both _ e,
         of_tree _ (right-stands both _ e) (right-tabled (c.requires.of_tree _ f.tree f.stands) both _ _ e
-            (tabled-next (left-rows t (goal.at.put_rest-right-requires t c).In-And-2 f.columns f.tree f.stands))),
+            (tabled-next (left-rows t (goal.at.put_rest-right-requires t c).In-And f.columns f.tree f.stands))),
       ),
     )
 
 pub overflow_add-i-2 : goal.overflow_add-i-2
 overflow_add-i-2 t c =
-    omega (arith, c.well_formed, (within t (goal.at.overflow_add-i-2 t c).In-And-2).0)
+    omega (arith, c.well_formed, (within t (goal.at.overflow_add-i-2 t c).In-And).0)
 
 pub put_rest-first-requires : goal.put_rest-first-requires
 put_rest-first-requires t c =
     let f = c.requires.rest_fits in
-    let both = found t (goal.at.put_rest-first-requires t c).In-And-2 f.columns f.tree f.stands in (
+    let both = found t (goal.at.put_rest-first-requires t c).In-And f.columns f.tree f.stands in (
       omega (arith, left_after both, node-some (first-stands both.row)),
       (
         left-fits f both (right-put t (goal.at.put_rest-first-requires t c).After-put_rest-right f.columns f.tree f.stands) c.put_rest-right.auto.out,
-        of_tree _ (first-stands both.row) (left-rows t (goal.at.put_rest-first-requires t c).In-And-2 f.columns f.tree f.stands),
+        of_tree _ (first-stands both.row) (left-rows t (goal.at.put_rest-first-requires t c).In-And f.columns f.tree f.stands),
       ),
     )
 
@@ -161,7 +161,7 @@ pub put_and-requires : goal.put_and-requires
 put_and-requires t c =
     let one = c.put_rest-first in
     let f = c.requires.rest_fits in
-    let both = found t (goal.at.put_and-requires t c).In-And-2 f.columns f.tree f.stands in
+    let both = found t (goal.at.put_and-requires t c).In-And f.columns f.tree f.stands in
     head-fits f both (right-put t (goal.at.put_and-requires t c).After-put_rest-right f.columns f.tree f.stands) c.put_rest-right.auto.out
     (one.ensures _ both.l (first-stands both.row)) one.auto.out
 
@@ -174,7 +174,7 @@ pub returns : goal.returns
 returns t c =
     λ d u stands.
     let one = c.put_rest-first in
-    let both = found t (goal.at.returns t c).In-And-2 d u stands in
+    let both = found t (goal.at.returns t c).In-And d u stands in
     subst⁻¹ (RestPut _ _ _ _ _ _) both.is
     (and-put c.requires.rest_fits.within (right-put t (goal.at.returns t c).After-put_rest-right d u stands) refl (one.ensures d both.l (first-stands both.row))
     c.put_and.ensures)

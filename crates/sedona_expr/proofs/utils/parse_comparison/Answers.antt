@@ -13,12 +13,11 @@ use Rattle.sedona_expr.proofs.Distances.{not-compared, not-measured, too_few, tw
 use Rattle.sedona_expr.proofs.utils.parse_comparison.Goals as goal
 use Rattle.sedona_expr.proofs.utils.parse_comparison.Goals.{In-Sides}
 
--- Where a comparison was found, its sides c told by their indexes.
+-- Where a comparison was found, its sides are told by their indexes.
 sides : (c : In-Sides)
     → let a = c.args in
-    let found = c.decreases.given.0 in
     OfPair a.s.now (start_at a.numbers.now a.i) (λ d l r.
-    SidesOf (Indexed d a.s.now a.numbers.now a.next.now) found.0 found.1.0 (comparison a.operator l r))
+    SidesOf (Indexed d a.s.now a.numbers.now a.next.now) c.decreases.given.0.0 c.decreases.given.0.1.0 (comparison a.operator l r))
 sides c = index-sides c.requires.of_pair _
     c.comparison.ensures c.decreases.given.1
 

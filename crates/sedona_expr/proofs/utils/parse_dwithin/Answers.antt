@@ -28,16 +28,16 @@ pub two_at-geometries-requires : goal.two_at-geometries-requires
 unfolding ascii
 two_at-geometries-requires c =
     let p = c.requires in
-    two-given p.0.3 c.same_name.ensures (not-false _ c.if-not-same_name.false-raw) (p.1 _ _ _ p.0.3)
+    two-given p.calls.3 c.same_name.ensures (not-false _ c.if-not-same_name.false-raw) (p.of_call _ _ _ p.calls.3)
     c.if-call-lt3.false
 
 pub end_of-requires : goal.end_of-requires
 unfolding ascii
 end_of-requires c =
     let p = c.requires in
-    third-within p.0.3 c.same_name.ensures (not-false _ c.if-not-same_name.false-raw)
+    third-within p.calls.3 c.same_name.ensures (not-false _ c.if-not-same_name.false-raw)
     c.if-call-lt3.false
-    (p.1 _ _ _ p.0.3) c.two_at-geometries.ensures
+    (p.of_call _ _ _ p.calls.3) c.two_at-geometries.ensures
 
 pub returns : goal.returns
 unfolding ascii
@@ -46,4 +46,4 @@ returns c =
     let p = c.requires in
         dwithin-distance st c.same_name.ensures
         (not-false _ c.if-not-same_name.false-raw) c.if-call-lt3.false
-        (p.1 d name args st) c.two_at-geometries.ensures _ c.end_of.ensures
+        (p.of_call d name args st) c.two_at-geometries.ensures _ c.end_of.ensures
