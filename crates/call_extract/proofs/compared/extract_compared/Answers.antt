@@ -27,7 +27,7 @@ begins : (c : Else-row-f) (table : List NodeRecord)
     RowOf a.n a.row.now a.places table → Begins a.f.nodes a.row.now table
 begins c table of =
     let a = c.args in
-    row-begins a.n a.f.nodes a.places a.row.now table c.then-places-f.false (few c)
+    row-begins a.n a.f.nodes a.places a.row.now table c.if-places-f.false (few c)
     (small c) of
 
 -- What the comparison told.

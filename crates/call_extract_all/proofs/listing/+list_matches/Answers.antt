@@ -129,7 +129,7 @@ pub list_matches-one-requires : goal.list_matches-one-requires
 list_matches-one-requires t c =
     let f = c.requires.list_fits in
     let both = found t (goal.at.list_matches-one-requires t c).In-And _ f.tree f.frame.tree in (
-      omega (arith, left_after f.frame both, node-some (left-list f.frame both).tree),
+      omega (arith, c.decreases, left_after f.frame both, node-some (left-list f.frame both).tree),
       (left-fits f both, of_tree _ (left-list f.frame both).tree (left-rows t (goal.at.list_matches-one-requires t c).In-And _ f.tree f.frame.tree)),
     )
 
@@ -198,7 +198,7 @@ list_matches-two-requires t c =
     let both = found t (goal.at.list_matches-two-requires t c).In-And _ f.tree f.frame.tree in
     let e = right-at t (goal.at.list_matches-two-requires t c).After-end_of-place _ f.tree f.frame.tree in
     let right = right-list f.frame both _ e in (
-      omega (arith, e, left_after f.frame both, node-some right.tree),
+      omega (arith, c.decreases, e, left_after f.frame both, node-some right.tree),
       (
         right-fits f both (one.ensures f.records both.l (left-list f.frame both)) one.auto.knns one.auto.others
             one.auto.gone _ e,

@@ -39,7 +39,8 @@ returns-in-Matched c =
     (c.match_knn.ensures records t (over f l)) in
     let stands = by-table f l c.in-Matched.predicate m.q m.stands in
     leaf-is (match_under (settings_of c.args.settings)) records (p.of_tree.1.1 _ t l.tree) _ m.is
-    (knn-listed (slice-write-gone c) m.q put.result m.passes (put.ensures.size m.q stands)
+    (knn-listed ((let p =
+    c.requires in flag-room p.list_fits (p.of_tree.1.1 _ p.list_fits.tree p.list_fits.frame.tree))) m.q put.result m.passes (put.ensures.size m.q stands)
     (put.ensures.wrote m.q stands))
 
 pub match_other-requires : goal.match_other-requires
@@ -62,7 +63,8 @@ bounds-gone-position-in-Matched-match_other c =
 
 pub overflow_add-result-in-Matched-match_other : goal.overflow_add-result-in-Matched-match_other
 overflow_add-result-in-Matched-match_other c =
-    omega (arith, c.well_formed, slice-write-gone-2 c)
+    omega (arith, c.well_formed, (let p =
+    c.requires in flag-room p.list_fits (p.of_tree.1.1 _ p.list_fits.tree p.list_fits.frame.tree)))
 
 pub returns-in-Matched-match_other : goal.returns-in-Matched-match_other
 returns-in-Matched-match_other c =
@@ -74,7 +76,8 @@ returns-in-Matched-match_other c =
     (c.match_other.ensures records t (over f l)) in
     let stands = by-table f l c.in-Matched-match_other.predicate m.q m.stands in
     leaf-is (match_under (settings_of c.args.settings)) records (p.of_tree.1.1 _ t l.tree) _ m.is
-    (other-listed (slice-write-gone-2 c) m.q put.result m.passes (put.ensures.size m.q stands)
+    (other-listed ((let p =
+    c.requires in flag-room p.list_fits (p.of_tree.1.1 _ p.list_fits.tree p.list_fits.frame.tree))) m.q put.result m.passes (put.ensures.size m.q stands)
     (put.ensures.wrote m.q stands))
 
 pub bounds-gone-position-2 : goal.bounds-gone-position-2
@@ -94,4 +97,6 @@ returns c =
     (both-lack _
     (miss-lacks is_knn _ _ records _ one.result (opened c.in_default.in_default-own.keys2) (one.ensures records t (over f l)))
     (miss-lacks picks.is_other _ _ records _ two.result (opened c.in_default-match_other.in_default-match_other-own.keys2) (two.ensures records t (over f l))))
-    (none-is-listed (slice-write-gone-3 c))
+    (none-is-listed ((let p =
+    c.requires in flag-room p.list_fits
+    (p.of_tree.1.1 _ p.list_fits.tree p.list_fits.frame.tree))))

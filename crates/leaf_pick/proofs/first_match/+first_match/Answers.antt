@@ -44,7 +44,7 @@ pub first_match-requires : goal.first_match-requires
 first_match-requires t c =
     let is = c.node_at-node.ensures in
     let told = c.in-And.is in
-    let left = left_there c.loop-left.invariant is told c.MEASURE in
+    let left = left_there c.loop-left.invariant is told c.decreases in
     (left.0, (left.1.0, (along-tabled c.loop-left.invariant is told, left.1.1)))
 
 pub returns-in-Leaf : goal.returns-in-Leaf
