@@ -99,11 +99,12 @@ node_at-node-requires t c =
 pub list_leaf-requires : goal.list_leaf-requires
 list_leaf-requires t c =
     let node = c.node_at-node in
-        let both = (
-          c.requires.list_fits,
-          (c.requires.of_tree, (node.ensures, λ d u stands. single-leaf node.result node.ensures stands (opened c.in_default.in_default-own.keys2))),
-        ) in
-    record { list_fits = both.0; of_tree = both.1; of_tree_in = both.2; of_tree_2 = both.3; }
+    record {
+      list_fits = c.requires.list_fits;
+      of_tree = c.requires.of_tree;
+      of_tree_in = node.ensures;
+      of_tree_2 = λ d u stands. single-leaf node.result node.ensures stands (opened c.in_default.in_default-own.keys2);
+    }
 
 pub shape_of-knns-in_default : goal.shape_of-knns-in_default
 shape_of-knns-in_default t c =

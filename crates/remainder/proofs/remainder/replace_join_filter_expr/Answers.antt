@@ -8,8 +8,8 @@ use Rattle.remainder.proofs.remainder.replace_join_filter_expr.Goals as goal
 pub collect_held-requires : goal.collect_held-requires
 collect_held-requires c =
     let p = c.requires.remainder_fits in
-    let left = (something-left p.cutting c.requires.fact.0).1 in
-    still-unheld p.frame left c.args.used.now p.cutting c.requires.fact.1.0.flagged c.requires.fact.1.1
+    let left = (something-left p.cutting c.requires.fact).1 in
+    still-unheld p.frame left c.args.used.now p.cutting c.requires.rows_fit.0.flagged c.requires.rows_fit.1
 
 pub put_records-w-requires : goal.put_records-w-requires
 put_records-w-requires c =
