@@ -51,7 +51,7 @@ ready c =
     });
       under = (sym e ∙ c.over_limits-over.ensures) c.if-over.false;
       enough = omega (arith, c.if-scratch-n.false);
-      c = omega (arith, c.if-plan-n.false);
+      room = omega (arith, c.if-plan-n.false);
       tabled = omega (arith, c.if-held-count.false);
       copied = c.copy_bytes.ensures;
     }
