@@ -4,7 +4,6 @@ use borrow.Author.Rules.{rules}
 use Rattle.writing.proofs.Sequence.{from_zero, part_room, part-put, ends-within, part-starts, first-room, second-room, both-put, stored-room, stored-put}
 use Rattle.call_exchange.specs.ExchangedBytes.{remainder_exchanged}
 use Rattle.call_exchange.proofs.FrameViews.{ExtractionView, extraction-view}
-use Rattle.call_exchange.proofs.exchanged_plans.put_extraction_exchanged.Statement.{
 use Rattle.call_exchange.proofs.exchanged_plans.put_extraction_exchanged.Goals as goal
 use Rattle.call_exchange.proofs.exchanged_plans.put_extraction_exchanged.Goals.{After-swap_for_swapped_children-swapped}
 
@@ -13,9 +12,6 @@ view : (c : After-swap_for_swapped_children-swapped)
 view c =
     let a = c.args in
     extraction-view a.end a.x c.swap_for_swapped_children-swapped.result c.swap_for_swapped_children-swapped.ensures
-
-  statement,
-}
 
 pub put_predicate-w-requires : goal.put_predicate-w-requires
 put_predicate-w-requires c =

@@ -20,7 +20,7 @@ good c = c.good_settings.ensures.good_settings (not-false _ c.if-not-good_settin
 
 pub returns-then-not-good_settings : goal.returns-then-not-good_settings
 returns-then-not-good_settings c =
-    λ table of. lent-24 _ _ _ _ table (sym c.good_settings.ensures.value ∙ not-true _ c.if-not-good_settings.true)
+    λ table of. lent-24 _ _ _ _ table (sym c.good_settings.ensures.value ∙ not-true _ c.if-not-good_settings.true-raw)
 
 pub returns-then-plan-n : goal.returns-then-plan-n
 unfolding table_fits

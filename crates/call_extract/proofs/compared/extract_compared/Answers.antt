@@ -19,7 +19,7 @@ use Rattle.call_extract.specs.ExtractByTable.{Begins, RowOf}
 use Rattle.call_extract.proofs.Collecting.{few-nodes, small-nodes}
 use Rattle.call_extract.proofs.Tables.{row-begins, row-long, short-refused, own-long, same-fits, other-refused, row-indexed}
 use Rattle.call_extract.proofs.compared.extract_compared.Goals as goal
-use Rattle.call_extract.proofs.compared.extract_compared.Goals.{After-same_numbers, Else-row-f}
+use Rattle.call_extract.proofs.compared.extract_compared.Goals.{After-same_numbers, After-struct_known-1, Else-row-f}
 
 -- A table that is as long lends its row.
 begins : (c : Else-row-f) (table : List NodeRecord)
@@ -39,31 +39,30 @@ told c e =
     subst (SameIs a.own.now a.row.now a.f.nodes) e c.same_numbers.ensures
 
 -- A good frame has few nodes.
-module _ (c : tie.After-struct-known) where
-  bytes : AllBytes c.before.before.before.before.before.before.args.plan.now
+module _ (c : After-struct_known-1) where
+  bytes : AllBytes c.args.plan.now
   bytes =
-      all-bytes c.before.before.before.before.before.before.args.plan.now
-      c.before.before.before.before.before.slice-known.given
+      all-bytes c.args.plan.now
+      c.slice_known-1.given
 
-  few : c.before.before.before.before.before.before.args.f.nodes ≤ 1024
+  few : c.args.f.nodes ≤ 1024
   few =
-      let start = c.before.before.before.before.before.before in
-      few-nodes start.args.n start.args.plan.now start.requires.0 bytes
+      few-nodes c.args.n c.args.plan.now c.requires.holds_frame bytes
 
-  small : 3 * c.before.before.before.before.before.before.args.f.nodes ≤ c.before.before.before.before.before.before.args.n
+  small : 3 * c.args.f.nodes ≤ c.args.n
   small =
-      small-nodes c.before.before.before.before.before.before.args.n
-      c.before.before.before.before.before.before.args.plan.now c.before.before.before.before.before.before.requires.0 bytes
+      small-nodes c.args.n
+      c.args.plan.now c.requires.holds_frame bytes
 
 pub returns-then-places-f : goal.returns-then-places-f
 returns-then-places-f c =
     λ table of.
     let a = c.args in
     ⊎_elim
-    (λ w. short-refused a.n a.plan.now c.requires.holds_frame (bytes c) (match_under (settings_of a.settings)) a.scratch.now a.row.now a.places table w.taken of)
+    (λ w. short-refused a.n a.plan.now c.requires.holds_frame (bytes (goal.at.returns-then-places-f c).After-struct_known-1) (match_under (settings_of a.settings)) a.scratch.now a.row.now a.places table w.taken of)
     (λ w. absurd (omega (
       arith,
-      row-long a.n a.f.nodes a.places a.row.now table w.0.left (few c) (small c) of,
+      row-long a.n a.f.nodes a.places a.row.now table w.0.left (few (goal.at.returns-then-places-f c).After-struct_known-1) (small (goal.at.returns-then-places-f c).After-struct_known-1) of,
       ltb-true (length a.row.now) a.f.nodes w.2.taken,
     )))
     c.then-places-f.branch
@@ -71,7 +70,7 @@ returns-then-places-f c =
 pub same_numbers-requires : goal.same_numbers-requires
 same_numbers-requires c =
     let a = c.args in (
-      own-long a.n a.plan.now c.requires.holds_frame (bytes c) c.requires.indexed.0,
+      own-long a.n a.plan.now c.requires.holds_frame (bytes (goal.at.same_numbers-requires c).After-struct_known-1) c.requires.indexed.0,
       ltb-false (length a.row.now) a.f.nodes c.if-row-f.false-raw,
     )
 
@@ -80,7 +79,7 @@ extract_frame-requires c =
     let a = c.args in let both = (
           c.requires.holds_frame,
           (
-            row-indexed a.n a.plan.now c.requires.holds_frame (bytes c) c.requires.indexed.0 a.row.now
+            row-indexed a.n a.plan.now c.requires.holds_frame (bytes (goal.at.extract_frame-requires c).After-struct_known-1) c.requires.indexed.0 a.row.now
                 (told (goal.at.extract_frame-requires c).After-same_numbers c.if-same_numbers.true),
             c.requires.indexed.1,
           ),
@@ -91,7 +90,7 @@ pub returns-then-same_numbers : goal.returns-then-same_numbers
 returns-then-same_numbers c =
     λ table of.
     let a = c.args in
-    same-fits a.n a.plan.now c.requires.holds_frame (bytes c) c.requires.indexed.0 (match_under (settings_of a.settings))
+    same-fits a.n a.plan.now c.requires.holds_frame (bytes (goal.at.returns-then-same_numbers c).After-struct_known-1) c.requires.indexed.0 (match_under (settings_of a.settings))
     a.scratch.now
     a.row.now table (begins (goal.at.returns-then-same_numbers c).Else-row-f table of)
     (told (goal.at.returns-then-same_numbers c).After-same_numbers c.if-same_numbers.true)
@@ -101,5 +100,5 @@ pub returns : goal.returns
 returns c =
     λ table of.
     let a = c.args in
-    other-refused a.n a.plan.now c.requires.holds_frame (bytes c) c.requires.indexed.0
+    other-refused a.n a.plan.now c.requires.holds_frame (bytes (goal.at.returns c).After-struct_known-1) c.requires.indexed.0
     (match_under (settings_of a.settings)) a.scratch.now a.row.now table (begins (goal.at.returns c).Else-row-f table of) (told (goal.at.returns c).After-same_numbers c.if-same_numbers.false)

@@ -14,7 +14,7 @@ settled c = c.good_settings.ensures.good_settings (not-false _ c.if-not-good_set
 
 pub returns-then-not-good_settings : goal.returns-then-not-good_settings
 returns-then-not-good_settings c =
-    all-unsettled _ _ _ (sym c.good_settings.ensures.value ∙ not-true _ c.if-not-good_settings.true)
+    all-unsettled _ _ _ (sym c.good_settings.ensures.value ∙ not-true _ c.if-not-good_settings.true-raw)
 
 pub all_of_short-requires : goal.all_of_short-requires
 all_of_short-requires c =

@@ -25,6 +25,7 @@ use Rattle.leaf_pick.specs.Picks.{matches}
 use Rattle.call_extract_all.specs.Listings.{Listable, ListIs}
 use Rattle.call_extract_all.proofs.ListLaws.{and-listed}
 use Rattle.call_extract_all.proofs.ListWalk.{left_after, left-list, right-list, both-matches, as-many, left-fits, parts-fit, right-fits, count-short}
+use borrow.Enum.Refused.{opened}
 use Rattle.call_extract_all.proofs.listing.+list_matches.Goals as goal
 use Rattle.call_extract_all.proofs.listing.+list_matches.Goals.{After-end_of-place, After-list_matches-two, In-And}
 
@@ -100,7 +101,7 @@ list_leaf-requires t c =
     let node = c.node_at-node in
         let both = (
           c.requires.list_fits,
-          (c.requires.of_tree, (node.ensures, λ d u stands. single-leaf node.result node.ensures stands c.in_default.in_default-own.keys2)),
+          (c.requires.of_tree, (node.ensures, λ d u stands. single-leaf node.result node.ensures stands (opened c.in_default.in_default-own.keys2))),
         ) in
     record { list_fits = both.0; of_tree = both.1; of_tree_in = both.2; of_tree_2 = both.3; }
 

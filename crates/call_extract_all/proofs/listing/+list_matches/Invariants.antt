@@ -25,6 +25,7 @@ use Rattle.leaf_pick.specs.Picks.{matches}
 use Rattle.call_extract_all.specs.Listings.{Listable, ListIs}
 use Rattle.call_extract_all.proofs.ListLaws.{and-listed}
 use Rattle.call_extract_all.proofs.ListWalk.{left_after, left-list, right-list, both-matches, as-many, left-fits, parts-fit, right-fits, count-short}
+use borrow.Enum.Refused.{opened}
 use Rattle.call_extract_all.proofs.listing.+list_matches.Given as goal
 
 abbrev pub decreases-list_matches : goal.decreases-list_matches

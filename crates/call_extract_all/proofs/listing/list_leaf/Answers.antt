@@ -8,6 +8,7 @@ use borrow.Author.Rules.{rules}
 use Rattle.definitions.specs.Extract.{is_knn}
 use Rattle.leaf_pick.specs.Picks as picks
 use Rattle.call_extract_all.proofs.LeafList.{knn-listed, other-listed, none-is-listed, miss-lacks, both-lack, over, framed, by-table, flag-room, knn-room, other-room, leaf-is}
+use borrow.Enum.Refused.{opened}
 use Rattle.call_extract_all.proofs.listing.list_leaf.Goals as goal
 
 pub match_knn-requires : goal.match_knn-requires
@@ -26,7 +27,7 @@ put_predicate-w-requires c =
 pub bounds-gone-position : goal.bounds-gone-position
 bounds-gone-position c =
     let p =
-    c.requires in flag-room p.0 (p.1.1.1 _ p.0.tree p.0.frame.tree)
+    c.requires in flag-room p.list_fits (p.of_tree.1.1 _ p.list_fits.tree p.list_fits.frame.tree)
 
 pub returns-in-Matched : goal.returns-in-Matched
 returns-in-Matched c =
@@ -57,7 +58,7 @@ put_predicate-w-requires-in-Matched-match_other c =
 pub bounds-gone-position-in-Matched-match_other : goal.bounds-gone-position-in-Matched-match_other
 bounds-gone-position-in-Matched-match_other c =
     let p =
-    c.requires in flag-room p.0 (p.1.1.1 _ p.0.tree p.0.frame.tree)
+    c.requires in flag-room p.list_fits (p.of_tree.1.1 _ p.list_fits.tree p.list_fits.frame.tree)
 
 pub overflow_add-result-in-Matched-match_other : goal.overflow_add-result-in-Matched-match_other
 overflow_add-result-in-Matched-match_other c =
@@ -79,8 +80,8 @@ returns-in-Matched-match_other c =
 pub bounds-gone-position-2 : goal.bounds-gone-position-2
 bounds-gone-position-2 c =
     let p =
-    c.requires in flag-room p.0
-    (p.1.1.1 _ p.0.tree p.0.frame.tree)
+    c.requires in flag-room p.list_fits
+    (p.of_tree.1.1 _ p.list_fits.tree p.list_fits.frame.tree)
 
 pub returns : goal.returns
 returns c =
@@ -91,6 +92,6 @@ returns c =
     let two = c.match_other in
     leaf-is (match_under (settings_of c.args.settings)) records (p.of_tree.1.1 _ t l.tree) _
     (both-lack _
-    (miss-lacks is_knn _ _ records _ one.result c.in_default.in_default-own.keys2 (one.ensures records t (over f l)))
-    (miss-lacks picks.is_other _ _ records _ two.result c.in_default-match_other.in_default-match_other-own.keys2 (two.ensures records t (over f l))))
+    (miss-lacks is_knn _ _ records _ one.result (opened c.in_default.in_default-own.keys2) (one.ensures records t (over f l)))
+    (miss-lacks picks.is_other _ _ records _ two.result (opened c.in_default-match_other.in_default-match_other-own.keys2) (two.ensures records t (over f l))))
     (none-is-listed (slice-write-gone-3 c))

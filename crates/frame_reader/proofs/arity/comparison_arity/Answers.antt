@@ -16,16 +16,16 @@ end_node-right-requires c =
 pub enough_to_measure-requires : goal.enough_to_measure-requires
 enough_to_measure-requires c =
     let right = c.end_node-right in
-    measured-there c.requires right.result right.ensures _ c.decreases.given.1
+    measured-there c.requires right.result right.ensures _ c.in-Sides.is
     c.comparison.ensures
 
 pub returns-then-not-enough_to_measure : goal.returns-then-not-enough_to_measure
 returns-then-not-enough_to_measure c =
     λ d l r row.
     let sides =
-    sides-found row c.end_node-right.result c.end_node-right.ensures _ c.decreases.given.1
+    sides-found row c.end_node-right.result c.end_node-right.ensures _ c.in-Sides.is
     c.comparison.ensures in
-    asked _ l r sides ∙ sym (c.enough_to_measure.ensures d sides.m sides.stands_measured) ∙ not-true _ c.if-not-enough_to_measure.true
+    asked _ l r sides ∙ sym (c.enough_to_measure.ensures d sides.m sides.stands_measured) ∙ not-true _ c.if-not-enough_to_measure.true-raw
 
 pub end_node-requires : goal.end_node-requires
 end_node-requires c =

@@ -28,19 +28,19 @@ returns-in_default c =
 
 pub start_of-requires : goal.start_of-requires
 start_of-requires c =
-    let both = index-sides c.requires.of_pair _ c.comparison.ensures c.decreases.given.1 _ _ _
+    let both = index-sides c.requires.of_pair _ c.comparison.ensures c.in-Sides.is _ _ _
     c.requires.pair.3 in
     (tabled-within both.stands_measured.tabled).0
 
 pub enough_to_measure-requires : goal.enough_to_measure-requires
 enough_to_measure-requires c =
     let both = index-sides c.requires.of_pair _ c.comparison.ensures
-    c.decreases.given.1 _ _ _ c.requires.pair.3 in
+    c.in-Sides.is _ _ _ c.requires.pair.3 in
     (_, both.m, starts both.stands_measured c.start_of.ensures)
 
 pub returns : goal.returns
 returns c =
     λ d l r row.
     let both = index-sides c.requires.of_pair _
-        c.comparison.ensures c.decreases.given.1 d l r row in
+        c.comparison.ensures c.in-Sides.is d l r row in
         c.enough_to_measure.ensures d both.m (starts both.stands_measured c.start_of.ensures) ∙ sym (asked _ l r both)

@@ -7,7 +7,7 @@ use Rattle.leaf_matching.proofs.allowing.only_allowed.Goals as goal
 pub returns-then-not-is_allowed : goal.returns-then-not-is_allowed
 returns-then-not-is_allowed c =
     rw c.in-Matched.is
-    (goes _ c.in-Matched.predicate _ c.is_allowed.ensures (not-true _ c.if-not-is_allowed.true))
+    (goes _ c.in-Matched.predicate _ c.is_allowed.ensures (not-true _ c.if-not-is_allowed.true-raw))
 
 pub returns-else-not-is_allowed : goal.returns-else-not-is_allowed
 returns-else-not-is_allowed c =

@@ -3,7 +3,6 @@ use Rattle.leaf_matching.specs.Frames.{Framed}
 use Rattle.leaf_matching.proofs.Framing.{framed-tree}
 use Rattle.leaf_matching.proofs.DistanceLaws.{no_distance, parses, arguments-framed, Walked, distance-undefined, distance-neither, distance-left, distance-right}
 use borrow.Author.Rules.{rules}
-use Rattle.leaf_matching.proofs.distance.match_distance_predicate.Statement.{
 use Rattle.leaf_matching.proofs.distance.match_distance_predicate.Goals as goal
 use Rattle.leaf_matching.proofs.distance.match_distance_predicate.Goals.{After-side_of_column_references-arg1, In-Distance}
 
@@ -29,9 +28,6 @@ walked c =
       second = c.side_of_column_references-arg1.ensures;
       limit = c.side_of_column_references-distance.ensures;
     }
-
-  statement,
-}
 
 pub parse_distance_predicate-requires : goal.parse_distance_predicate-requires
 parse_distance_predicate-requires c =

@@ -29,7 +29,7 @@ pub returns-then-not-same_name : goal.returns-then-not-same_name
 unfolding ascii
 returns-then-not-same_name c =
     λ records name ts over. other_name _ records name ts
-    (named over _ (ascii "st_knn") c.same_name.ensures ∙ not-true _ c.if-not-same_name.true)
+    (named over _ (ascii "st_knn") c.same_name.ensures ∙ not-true _ c.if-not-same_name.true-raw)
 
 pub returns-then-count-lt2 : goal.returns-then-count-lt2
 unfolding ascii

@@ -7,7 +7,6 @@ use Rattle.leaf_matching.proofs.Asked.{no-relation}
 use Rattle.leaf_matching.proofs.MatchLaws.{pair-framed, pair-begins}
 use Rattle.leaf_matching.proofs.RelationLaws.{few-lacks, Walked, relation-neither, relation-left, relation-right}
 use borrow.Author.Rules.{rules}
-use Rattle.leaf_matching.proofs.relation.match_relation_predicate.Statement.{
 use Rattle.leaf_matching.proofs.relation.match_relation_predicate.Goals as goal
 use Rattle.leaf_matching.proofs.relation.match_relation_predicate.Goals.{After-resolve_geometries-geometries}
 
@@ -20,9 +19,6 @@ walked c =
       enough = c.if-count-lt2.false;
       geometries = c.resolve_geometries-geometries.ensures;
     }
-
-  statement,
-}
 
 pub returns-in_default : goal.returns-in_default
 returns-in_default c =

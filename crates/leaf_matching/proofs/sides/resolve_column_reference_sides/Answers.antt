@@ -6,7 +6,6 @@ use Rattle.definitions.specs.Match.{is_side}
 use Rattle.leaf_matching.specs.Sides.{argument_side}
 use Rattle.leaf_matching.proofs.SideLaws.{order-left, order-right, order-none, not-both}
 use borrow.Author.Rules.{rules}
-use Rattle.leaf_matching.proofs.sides.resolve_column_reference_sides.Statement.{
 use Rattle.leaf_matching.proofs.sides.resolve_column_reference_sides.Goals as goal
 use Rattle.leaf_matching.proofs.sides.resolve_column_reference_sides.Goals.{Joined-else-is_side}
 
@@ -16,9 +15,6 @@ left-fails : (c : Joined-else-is_side)
     (argument_side c.args.second.side)) ≡ false
 left-fails c =
     not-both _ _ (λ w. sym w.1.ensures ∙ w.2.left) (λ w. sym c.is_side.ensures ∙ w.left) c.else-is_side.branch
-
-  statement,
-}
 
 pub returns-then-is_side-2 : goal.returns-then-is_side-2
 returns-then-is_side-2 c =

@@ -13,6 +13,7 @@ use Rattle.leaf_pick.proofs.FirstLaws.{Along, along-begins, along-within, along-
 use Rattle.leaf_pick.proofs.FirstLaws.{left_there, along-left, along-less, along-right}
 use borrow.Author.Rules.{rules}
 use Prim.Native.Nat.{ℕ, ◌-◌}
+use borrow.Enum.Refused.{opened}
 use Rattle.leaf_pick.proofs.first_match.+first_match.Goals as goal
 
 pub loop-left-init : goal.loop-left-init
@@ -28,7 +29,7 @@ leaf_match-requires t c =
     let inv = c.loop-left.invariant in
     let node = c.node_at-node in (
       record { framed = inv.there; tabled = inv.tabled; is = node.ensures },
-      ((λ records u over. single-leaf node.result node.ensures over.tree c.in_default.in_default-own.keys2), inv.few),
+      ((λ records u over. single-leaf node.result node.ensures over.tree (opened c.in_default.in_default-own.keys2)), inv.few),
     )
 
 pub returns-in_default : goal.returns-in_default

@@ -13,6 +13,7 @@ use Rattle.leaf_pick.proofs.FirstLaws.{Along, along-begins, along-within, along-
 use Rattle.leaf_pick.proofs.FirstLaws.{left_there, along-left, along-less, along-right}
 use borrow.Author.Rules.{rules}
 use Prim.Native.Nat.{ℕ, ◌-◌}
+use borrow.Enum.Refused.{opened}
 use Rattle.leaf_pick.proofs.first_match.+first_match.Given as goal
 
 abbrev pub invariant-loop-left : goal.invariant-loop-left

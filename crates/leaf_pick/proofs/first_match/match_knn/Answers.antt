@@ -8,6 +8,7 @@ use Rattle.leaf_matching.proofs.AllowLaws.{passing-lacks}
 use Rattle.leaf_pick.proofs.Nodes.{no-function}
 use Rattle.leaf_pick.proofs.LeafLaws.{leaf-within, call-given, call-leaf}
 use borrow.Author.Rules.{rules}
+use borrow.Enum.Refused.{opened}
 use Rattle.leaf_pick.proofs.first_match.match_knn.Goals as goal
 
 pub returns-in_default : goal.returns-in_default
@@ -15,7 +16,7 @@ unfolding match_under only_if
 returns-in_default c =
     λ records t over.
     passing-lacks (settings_of c.args.settings) is_knn _
-    (no-function c.args.leaf.node c.requires.is over.tree c.in_default.in_default-own.keys2 c.args.settings.default_k records).0
+    (no-function c.args.leaf.node c.requires.is over.tree (opened c.in_default.in_default-own.keys2) c.args.settings.default_k records).0
 
 pub overflow_add-index : goal.overflow_add-index
 overflow_add-index c =

@@ -5,6 +5,7 @@ use Rattle.leaf_matching.specs.Matches.{is_relation, LeafMatching}
 use Rattle.leaf_pick.proofs.Nodes.{no-function}
 use Rattle.leaf_pick.proofs.LeafLaws.{leaf-within, call-given, call-leaf, relation-matched, distance-matching}
 use borrow.Author.Rules.{rules}
+use borrow.Enum.Refused.{opened}
 use Rattle.leaf_pick.proofs.first_match.match_relation_or_distance.Goals as goal
 use Rattle.leaf_pick.proofs.first_match.match_relation_or_distance.Goals.{After-match_relation_predicate}
 
@@ -28,7 +29,7 @@ match_distance_predicate-requires c =
 pub returns-in_default : goal.returns-in_default
 returns-in_default c =
     λ records t over. distance-matching over c.match_distance_predicate.result
-    (no-function c.args.leaf.node c.requires.is over.tree c.in_default.in_default-own.keys2 1 records).1
+    (no-function c.args.leaf.node c.requires.is over.tree (opened c.in_default.in_default-own.keys2) 1 records).1
     (c.match_distance_predicate.ensures records t over)
 
 pub overflow_add-index : goal.overflow_add-index

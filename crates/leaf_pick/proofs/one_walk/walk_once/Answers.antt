@@ -14,6 +14,7 @@ use Rattle.leaf_pick.proofs.Nodes.{single-leaf}
 use Rattle.leaf_pick.proofs.Ahead.{Along, along-begins, along-ends, along-and, along-stopped, along-going}
 use Rattle.leaf_pick.proofs.Ahead.{here-framed, here-tabled, here-within, next-index}
 use borrow.Author.Rules.{rules}
+use borrow.Enum.Refused.{opened}
 use Rattle.leaf_pick.proofs.one_walk.walk_once.Goals as goal
 use Rattle.leaf_pick.proofs.one_walk.walk_once.Goals.{In_default}
 
@@ -21,7 +22,7 @@ use Rattle.leaf_pick.proofs.one_walk.walk_once.Goals.{In_default}
 single : (c : In_default)
     → let start = c.args in
     OfFrame start.s.now start.rec c.loop-index.place (λ records u. leaves u ≡ u ∷ [])
-single c records u over = single-leaf c.node_at-node.result c.node_at-node.ensures over.tree c.in_default.in_default-own.keys2
+single c records u over = single-leaf c.node_at-node.result c.node_at-node.ensures over.tree (opened c.in_default.in_default-own.keys2)
 
 pub bounds-next-0 : goal.bounds-next-0
 bounds-next-0 c =

@@ -14,6 +14,7 @@ use Rattle.leaf_pick.proofs.Nodes.{single-leaf}
 use Rattle.leaf_pick.proofs.Ahead.{Along, along-begins, along-ends, along-and, along-stopped, along-going}
 use Rattle.leaf_pick.proofs.Ahead.{here-framed, here-tabled, here-within, next-index}
 use borrow.Author.Rules.{rules}
+use borrow.Enum.Refused.{opened}
 use Rattle.leaf_pick.proofs.one_walk.walk_once.Given as goal
 
 abbrev pub invariant-loop-index : goal.invariant-loop-index

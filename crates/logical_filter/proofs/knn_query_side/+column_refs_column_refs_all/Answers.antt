@@ -7,14 +7,7 @@ use borrow.Author.Rules.{rules}
 use Rattle.expression.proofs.Standing.{node-some, after-head}
 use Rattle.expression.proofs.EndWalk.{children-there}
 use Rattle.logical_filter.proofs.QueryWalk.{bits-within, a-field-is, node-columns, Joining, joining-begins, joining-first, joining-goes-on, joining-ends}
-use Rattle.logical_filter.proofs.knn_query_side.+column_refs_column_refs_all.{
-use Rattle.logical_filter.proofs.knn_query_side.+column_refs_column_refs_all.Tie.{
 use Rattle.logical_filter.proofs.knn_query_side.+column_refs_column_refs_all.Goals as goal
-
-  statement,
-}
-  close,
-}
 
 pub column_refs-bounds-s-at : goal.column_refs-bounds-s-at
 column_refs-bounds-s-at t c =

@@ -7,16 +7,9 @@ use Rattle.expression.proofs.EndWalk.{end-node}
 use Rattle.expression.proofs.Parts.{left-stands, both_end, call-end}
 use Rattle.expression.proofs.There.{and-left-there, and-right-there, pair-there, plain-there, both-there, name-there, arguments-there}
 use Rattle.logical_filter.proofs.QueryWalk.{no_plain, no-binary, is-knn, no-knn, knn-left, knn-right}
-use Rattle.logical_filter.proofs.knn_query_side.+find_st_knn_call.{
-use Rattle.logical_filter.proofs.knn_query_side.+find_st_knn_call.Tie.{
 use Rattle.logical_filter.proofs.knn_query_side.+find_st_knn_call.Goals as goal
 
 -- ALIGNED lts: old 20 new 19
-
-  statement,
-}
-  close,
-}
 
 pub node_at-requires : goal.node_at-requires
 unfolding ascii

@@ -15,24 +15,23 @@ use Rattle.expression.proofs.There.{first-of-pair, second-of-pair}
 use Rattle.sedona_expr.proofs.Comparing.{sides-found, sides-missing, measured-there}
 use Rattle.logical_filter.proofs.NameWalk.{unnamed, named-dwithin, compares-nothing, compares-side}
 use Rattle.logical_filter.proofs.predicate_names.collect_comparison.Goals as goal
+use Rattle.logical_filter.proofs.predicate_names.collect_comparison.Goals.{After-is_distance_expr}
 
 -- The name of a comparison that was found, and where it ends.
-module _ (c : tie.After-is-distance-expr) (d : Columns) (l r : Expr)
-    (row : Row d c.before.before.before.before.before.before.before.before.args.s.now
-    c.before.before.before.before.before.before.before.before.args.left 2 (cons l (cons r nil))) where
-  name-is : leaf_name (binary c.before.before.before.before.before.before.before.before.args.operator l r)
-      ≡ (if c.is-distance-expr.result then ascii "st_dwithin" else [])
+module _ (c : After-is_distance_expr) (d : Columns) (l r : Expr)
+    (row : Row d c.args.s.now
+    c.args.left 2 (cons l (cons r nil))) where
+  name-is : leaf_name (binary c.args.operator l r)
+      ≡ (if c.is_distance_expr.result then ascii "st_dwithin" else [])
   name-is =
-      let found = c.before.before.before.before in
-      let right = found.before.before.end-node in
-      let sides = sides-found row right.result right.ensures _ c.before.before.decreases.given.1 found.comparison.ensures in
-      compares-side _ l r sides c.is-distance-expr.result (c.is-distance-expr.ensures d sides.m sides.stands_measured)
+      let right = c.end_node-right in
+      let sides = sides-found row right.result right.ensures _ c.in-Sides.is c.comparison.ensures in
+      compares-side _ l r sides c.is_distance_expr.result (c.is_distance_expr.ensures d sides.m sides.stands_measured)
 
-  ends_at : c.before.before.before.before.before.end-node2.result
-      ≡ c.before.before.before.before.before.before.before.before.args.left + length (exprs_bytes (cons l (cons r nil)))
+  ends_at : c.end_node-next.result
+      ≡ c.args.left + length (exprs_bytes (cons l (cons r nil)))
   ends_at =
-      let end = c.before.before.before.before.before in
-      pair_ends row end.before.end-node.result end.end-node2.result end.before.end-node.ensures end.end-node2.ensures
+      pair_ends row c.end_node-right.result c.end_node-next.result c.end_node-right.ensures c.end_node-next.ensures
 
 pub end_node-right-requires : goal.end_node-right-requires
 end_node-right-requires c =
@@ -57,13 +56,13 @@ returns-in_default c =
 pub is_distance_expr-requires : goal.is_distance_expr-requires
 is_distance_expr-requires c =
     let right = c.end_node-right in
-    measured-there c.requires right.result right.ensures _ c.decreases.given.1
+    measured-there c.requires right.result right.ensures _ c.in-Sides.is
     c.comparison.ensures
 
 pub returns-then-is_distance_expr : goal.returns-then-is_distance_expr
 returns-then-is_distance_expr c =
-    λ d l r row. record { names = named-dwithin (name-is c d l r row ∙ rw c.if-is_distance_expr.true); next = ends_at c d l r row }
+    λ d l r row. record { names = named-dwithin (name-is (goal.at.returns-then-is_distance_expr c).After-is_distance_expr d l r row ∙ rw c.if-is_distance_expr.true); next = ends_at (goal.at.returns-then-is_distance_expr c).After-is_distance_expr d l r row }
 
 pub returns-else-is_distance_expr : goal.returns-else-is_distance_expr
 returns-else-is_distance_expr c =
-    λ d l r row. record { names = unnamed (name-is c d l r row ∙ rw c.if-is_distance_expr.false); next = ends_at c d l r row }
+    λ d l r row. record { names = unnamed (name-is (goal.at.returns-else-is_distance_expr c).After-is_distance_expr d l r row ∙ rw c.if-is_distance_expr.false); next = ends_at (goal.at.returns-else-is_distance_expr c).After-is_distance_expr d l r row }

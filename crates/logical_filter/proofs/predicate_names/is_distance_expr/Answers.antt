@@ -7,6 +7,7 @@ use Rattle.definitions.specs.Basics.{ascii, same_name}
 use Rattle.expression.proofs.LeafLaws.{no-call}
 use Rattle.expression.proofs.There.{name-there}
 use Rattle.logical_filter.proofs.NameWalk.{no_distance, small-name}
+use borrow.Enum.Refused.{opened}
 use Rattle.logical_filter.proofs.predicate_names.is_distance_expr.Goals as goal
 
 -- ALIGNED tie: old 6 new 5
@@ -24,7 +25,7 @@ enum_known-call c =
 pub returns-in_default : goal.returns-in_default
 unfolding ascii
 returns-in_default c =
-    λ d t h. no_distance t (no-call h c.node_at.result c.in_default.in_default-own.keys2 (c.node_at.ensures d t h))
+    λ d t h. no_distance t (no-call h c.node_at.result (opened c.in_default.in_default-own.keys2) (c.node_at.ensures d t h))
 
 pub same_name_ignore_case-requires : goal.same_name_ignore_case-requires
 unfolding ascii

@@ -164,31 +164,25 @@ reproject_column_references-reproject_children-rest-requires t c =
 
 pub reproject_column_references-overflow_add-result-2 : goal.reproject_column_references-overflow_add-result-2
 reproject_column_references-overflow_add-result-2 t c =
-    let start =
-    c in
-    let p = start.pre.1 in
-    omega (arith, start.good, p.room, (node-returns-3 t c p.tree p.stands).wrote)
+    let p = c.requires in
+    omega (arith, c.well_formed, p.room, (node-returns-3 t c p.tree p.stands).wrote)
 
 pub reproject_column_references-shape_of-out : goal.reproject_column_references-shape_of-out
 reproject_column_references-shape_of-out t c =
-    let start =
-    c in
     let some = c.if-src-at-eq0.false in
     let head = c.head_at-head in
     let copy = c.copy_bytes in
     let others = c.reproject_children-rest in
-    let room = head-room start.pre.1 some head.result head.ensures in
-    together-length (head.result.next - start.args.at) copy.new.out others.new.out (omega (arith, room, copy.auto.out))
+    let room = head-room c.requires some head.result head.ensures in
+    together-length (head.result.next - c.args.at) copy.new.out others.new.out (omega (arith, room, copy.auto.out))
     others.auto.out ∙ copy.auto.out
 
 pub reproject_column_references-returns : goal.reproject_column_references-returns
 reproject_column_references-returns t c =
     λ u stands.
-    let start =
-    c in
     let some = c.if-src-at-eq0.false in
     let head = c.head_at-head in
     let copy = c.copy_bytes in
     let others = c.reproject_children-rest in
-    copy-other start.args.to.now u stands some head.result head.ensures start.args.out.now copy.new.out others.new.out
-    (head.result.next - start.args.at) refl copy.ensures others.result others.ensures
+    copy-other c.args.to.now u stands some head.result head.ensures c.args.out.now copy.new.out others.new.out
+    (head.result.next - c.args.at) refl copy.ensures others.result others.ensures

@@ -3,11 +3,7 @@ use native.Mathlib.Omega.{arith}
 use borrow.Author.Rules.{rules}
 use mathlib.Core.Path.{sym, ◌∙◌}
 use Rattle.plan_writer.proofs.ArgumentLaws.{kept-room, kept_put, moved-fits, moved-put, moved_sum}
-use Rattle.plan_writer.proofs.arguments.reproject_column_references_for_side.Statement.{
 use Rattle.plan_writer.proofs.arguments.reproject_column_references_for_side.Goals as goal
-
-  statement,
-}
 
 pub copy_at-requires : goal.copy_at-requires
 copy_at-requires c =

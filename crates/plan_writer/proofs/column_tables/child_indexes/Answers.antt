@@ -3,22 +3,13 @@ use Prim.Native.Nat.{◌≤◌, ◌-◌, ◌+◌, ◌*◌}
 use native.Mathlib.Omega.{arith}
 use lib.ListN.{length}
 use Rattle.expression.specs.Places.{short_at}
-use Rattle.plan_writer.proofs.TableLaws.{
+use Rattle.plan_writer.proofs.TableLaws.{Filling, filling-begins, filling-goes-on, filling-ends, records-within, child_fits, child-table}
 use Rattle.plan_writer.proofs.column_tables.child_indexes.Goals as goal
 use Rattle.plan_writer.proofs.column_tables.child_indexes.Goals.{In-loop-j}
 
 within : (c : In-loop-j)
     → let args = c.args in args.rec + 5 * args.count ≤ length args.src.now
 within c = records-within c.requires.recorded
-
-  Filling,
-  filling-begins,
-  filling-goes-on,
-  filling-ends,
-  records-within,
-  child_fits,
-  child-table,
-}
 
 pub loop-j-init : goal.loop-j-init
 loop-j-init c =

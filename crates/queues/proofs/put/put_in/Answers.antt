@@ -24,7 +24,7 @@ pub returns-then-not-good_queues : goal.returns-then-not-good_queues
 returns-then-not-good_queues c =
     let a = c.args in
     put-unheld a.queues.now (queue_is a.queue) a.frame.now c.good_queues.result c.good_queues.ensures
-    c.if-not-good_queues.true
+    c.if-not-good_queues.true-raw
 
 pub returns-then-n-lt1 : goal.returns-then-n-lt1
 returns-then-n-lt1 c =

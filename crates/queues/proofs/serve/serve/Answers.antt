@@ -12,7 +12,7 @@ held c = is_held _ c.good_queues.result c.good_queues.ensures c.if-not-good_queu
 pub returns-then-not-good_queues : goal.returns-then-not-good_queues
 returns-then-not-good_queues c =
     let a = c.args in
-    serve-unheld a.queues.now a.out.now c.good_queues.result c.good_queues.ensures c.if-not-good_queues.true
+    serve-unheld a.queues.now a.out.now c.good_queues.result c.good_queues.ensures c.if-not-good_queues.true-raw
 
 pub find_due-requires : goal.find_due-requires
 find_due-requires c =

@@ -8,6 +8,7 @@ use Rattle.definitions.specs.Decode.{index_below}
 use Rattle.expression.proofs.Standing.{first-stands, node-some}
 use Rattle.remainder.proofs.AroundLaws.{lone-leaf, left_at, left-ends}
 use Rattle.remainder.proofs.ReferenceWalk.{rest-leaf, rest-lone, rest-and, right-flagged}
+use borrow.Enum.Refused.{opened}
 use Rattle.remainder.proofs.references.+collect_remainder.Goals as goal
 
 pub returns-then-at-cut : goal.returns-then-at-cut
@@ -33,7 +34,7 @@ returns-in_default t c =
     let node = c.node_at in
         let call = c.collect_column_references in
         rest-lone c.args.cut c.args.used.now call.new.used t c.if-at-cut.false
-        (lone-leaf stands node.result c.in_default.in_default-own.keys2 (node.ensures (index_below (length c.args.used.now)) t stands))
+        (lone-leaf stands node.result (opened c.in_default.in_default-own.keys2) (node.ensures (index_below (length c.args.used.now)) t stands))
         call.result (call.ensures t stands)
 
 pub collect_remainder-right-requires : goal.collect_remainder-right-requires

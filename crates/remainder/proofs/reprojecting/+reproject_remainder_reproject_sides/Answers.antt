@@ -14,6 +14,7 @@ use Rattle.expression.proofs.Standing.{first-stands, node-some}
 use Rattle.writing.proofs.Written.{together-length}
 use Rattle.remainder.proofs.AroundLaws.{lone-leaf, left_at}
 use Rattle.remainder.proofs.RemainderWalk.{copy-leaf, lone-fits, copy-lone, parent-fits, copy-parent, and-room, and-fits, copy-and, left-fits, left-wrote, left-later, right-fits, copy-sides}
+use borrow.Enum.Refused.{opened}
 use Rattle.remainder.proofs.reprojecting.+reproject_remainder_reproject_sides.Goals as goal
 use Rattle.remainder.proofs.reprojecting.+reproject_remainder_reproject_sides.Goals.{reproject_remainder-Else-at-cut-2, reproject_remainder-In-And}
 
@@ -48,7 +49,7 @@ reproject_remainder-reproject_column_references-requires t c =
     let p = c.requires in
     let to = c.args.to.now in
     lone-fits to c.args.cut p c.if-at-cut.false
-    (lone-leaf p.stands node.result c.in_default.in_default-own.keys2 (node.ensures (index_below (length to)) p.tree p.stands))
+    (lone-leaf p.stands node.result (opened c.in_default.in_default-own.keys2) (node.ensures (index_below (length to)) p.tree p.stands))
 
 pub reproject_remainder-shape_of-out-in_default : goal.reproject_remainder-shape_of-out-in_default
 reproject_remainder-shape_of-out-in_default t c =
@@ -60,7 +61,7 @@ reproject_remainder-returns-in_default t c =
     let node = c.node_at in
         let to = c.args.to.now in
         copy-lone to c.args.cut c.if-at-cut.false
-        (lone-leaf stands node.result c.in_default.in_default-own.keys2 (node.ensures (index_below (length to)) t stands))
+        (lone-leaf stands node.result (opened c.in_default.in_default-own.keys2) (node.ensures (index_below (length to)) t stands))
         (c.reproject_column_references.ensures t stands)
 
 pub reproject_remainder-reproject_sides-requires : goal.reproject_remainder-reproject_sides-requires
@@ -112,10 +113,8 @@ reproject_remainder-reproject_sides-sides-requires t c =
 
 pub reproject_remainder-overflow_add-result : goal.reproject_remainder-overflow_add-result
 reproject_remainder-overflow_add-result t c =
-    let start =
-    c in
-    let p = start.pre.1 in
-    omega (arith, start.good, p.room, (and-returns t c p.tree p.stands p.ends).wrote)
+    let p = c.requires in
+    omega (arith, c.well_formed, p.room, (and-returns t c p.tree p.stands p.ends).wrote)
 
 pub reproject_remainder-shape_of-out : goal.reproject_remainder-shape_of-out
 reproject_remainder-shape_of-out t c =

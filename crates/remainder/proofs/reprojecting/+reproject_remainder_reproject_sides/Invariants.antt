@@ -14,6 +14,7 @@ use Rattle.expression.proofs.Standing.{first-stands, node-some}
 use Rattle.writing.proofs.Written.{together-length}
 use Rattle.remainder.proofs.AroundLaws.{lone-leaf, left_at}
 use Rattle.remainder.proofs.RemainderWalk.{copy-leaf, lone-fits, copy-lone, parent-fits, copy-parent, and-room, and-fits, copy-and, left-fits, left-wrote, left-later, right-fits, copy-sides}
+use borrow.Enum.Refused.{opened}
 use Rattle.remainder.proofs.reprojecting.+reproject_remainder_reproject_sides.Given as goal
 
 abbrev pub decreases-reproject_remainder : goal.decreases-reproject_remainder

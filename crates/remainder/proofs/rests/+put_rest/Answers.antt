@@ -20,6 +20,7 @@ use Rattle.node_rows.proofs.OneTree.{of_tree}
 use Rattle.remainder.specs.Rests.{RestPut}
 use Rattle.remainder.proofs.RestLaws.{and-put}
 use Rattle.remainder.proofs.RestWalk.{lone-leaf, left_after, right-stands, right-fits, left-fits, head-fits}
+use borrow.Enum.Refused.{opened}
 use Rattle.remainder.proofs.rests.+put_rest.Goals as goal
 use Rattle.remainder.proofs.rests.+put_rest.Goals.{After-end_of-place, After-put_rest-right, In-And}
 
@@ -84,7 +85,7 @@ put_leaf-requires t c =
     let node = c.node_at in record {
       rest_fits = c.requires.rest_fits;
       of_tree = λ d u stands. (
-        lone-leaf d c.args.src.now c.args.at u node.result c.in_default.in_default-own.keys2 (node.ensures d u stands),
+        lone-leaf d c.args.src.now c.args.at u node.result (opened c.in_default.in_default-own.keys2) (node.ensures d u stands),
         c.end_of-stop.ensures ∙ tabled-end (c.requires.of_tree d u stands),
       );
     }

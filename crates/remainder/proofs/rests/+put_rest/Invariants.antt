@@ -20,6 +20,7 @@ use Rattle.node_rows.proofs.OneTree.{of_tree}
 use Rattle.remainder.specs.Rests.{RestPut}
 use Rattle.remainder.proofs.RestLaws.{and-put}
 use Rattle.remainder.proofs.RestWalk.{lone-leaf, left_after, right-stands, right-fits, left-fits, head-fits}
+use borrow.Enum.Refused.{opened}
 use Rattle.remainder.proofs.rests.+put_rest.Given as goal
 
 abbrev pub decreases-put_rest : goal.decreases-put_rest

@@ -4,6 +4,7 @@ use Rattle.definitions.specs.Basics.{ascii}
 use Rattle.expression.proofs.LeafLaws.{no-call}
 use Rattle.expression.proofs.There.{name-there}
 use Rattle.sedona_expr.proofs.Comparing.{no_arguments, distance-found, distance-other}
+use borrow.Enum.Refused.{opened}
 use Rattle.sedona_expr.proofs.utils.distance_arguments.Goals as goal
 
 -- ALIGNED tie: old 7 new 6
@@ -21,7 +22,7 @@ enum_known-call c =
 pub returns-in_default : goal.returns-in_default
 unfolding ascii
 returns-in_default c =
-    λ d t h. no_arguments t (no-call h c.node_at.result c.in_default.in_default-own.keys2 (c.node_at.ensures d t h))
+    λ d t h. no_arguments t (no-call h c.node_at.result (opened c.in_default.in_default-own.keys2) (c.node_at.ensures d t h))
 
 pub same_name-requires : goal.same_name-requires
 unfolding ascii

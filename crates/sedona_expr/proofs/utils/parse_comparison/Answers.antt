@@ -17,9 +17,9 @@ use Rattle.sedona_expr.proofs.utils.parse_comparison.Goals.{In-Sides}
 sides : (c : In-Sides)
     → let a = c.args in
     OfPair a.s.now (start_at a.numbers.now a.i) (λ d l r.
-    SidesOf (Indexed d a.s.now a.numbers.now a.next.now) c.decreases.given.0.0 c.decreases.given.0.1.0 (comparison a.operator l r))
+    SidesOf (Indexed d a.s.now a.numbers.now a.next.now) c.in-Sides.measured c.in-Sides.bound (comparison a.operator l r))
 sides c = index-sides c.requires.of_pair _
-    c.comparison.ensures c.decreases.given.1
+    c.comparison.ensures c.in-Sides.is
 
 pub offset_bounds-next-i : goal.offset_bounds-next-i
 offset_bounds-next-i c =
@@ -89,10 +89,8 @@ start_of-requires-2 c =
 
 pub end_of-requires : goal.end_of-requires
 end_of-requires c =
-    let start =
-    c in
     (tabled-within
-    (sides (goal.at.end_of-requires c).In-Sides _ _ _ start.pre.0.3).stands_bound.tabled).0
+    (sides (goal.at.end_of-requires c).In-Sides _ _ _ c.requires.pair.3).stands_bound.tabled).0
 
 pub returns : goal.returns
 returns c =

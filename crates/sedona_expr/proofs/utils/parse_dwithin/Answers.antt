@@ -15,7 +15,7 @@ same_name-requires c =
 pub returns-then-not-same_name : goal.returns-then-not-same_name
 unfolding ascii
 returns-then-not-same_name c =
-    λ d name args st. not-dwithin st c.same_name.ensures (not-true _ c.if-not-same_name.true)
+    λ d name args st. not-dwithin st c.same_name.ensures (not-true _ c.if-not-same_name.true-raw)
 
 pub returns-then-call-lt3 : goal.returns-then-call-lt3
 unfolding ascii

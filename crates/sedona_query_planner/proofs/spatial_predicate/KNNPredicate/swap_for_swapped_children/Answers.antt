@@ -4,11 +4,7 @@ use mathlib.Core.Path.{sym, ap, ◌∙◌}
 use Rattle.definitions.specs.Expression.{Side, knn}
 use Rattle.definitions.specs.Exchange.{exchange_predicate}
 use Rattle.sedona_query_planner.specs.Predicates.{flag, ties_number}
-use Rattle.sedona_query_planner.proofs.spatial_predicate.KNNPredicate.swap_for_swapped_children.Statement.{
 use Rattle.sedona_query_planner.proofs.spatial_predicate.KNNPredicate.swap_for_swapped_children.Goals as goal
-
-  statement,
-}
 
 pub returns : goal.returns
 unfolding exchange_predicate

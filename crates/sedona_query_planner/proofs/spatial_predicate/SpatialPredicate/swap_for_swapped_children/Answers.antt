@@ -1,10 +1,6 @@
 -- `swap_for_swapped_children`: each kind by its own rule.
 use borrow.Author.Rules.{rules}
-use Rattle.sedona_query_planner.proofs.spatial_predicate.SpatialPredicate.swap_for_swapped_children.Statement.{
 use Rattle.sedona_query_planner.proofs.spatial_predicate.SpatialPredicate.swap_for_swapped_children.Goals as goal
-
-  statement,
-}
 
 pub returns-in-Relation : goal.returns-in-Relation
 returns-in-Relation c =
