@@ -23,10 +23,11 @@ held_plan_in-requires c =
 
 pub extract_compared-requires : goal.extract_compared-requires
 extract_compared-requires c =
-    let good = rw c.in-Frame.is at c.held_plan_in.ensures in (
-      record { frame = good.0; fits = c.requires.room_in.0; stands = good.1; is = good.2 },
-      (frame-indexed c.args.n c.args.plan.now good.1 good.3, c.requires.good_settings),
-    )
+    let good = rw c.in-Frame.is at c.held_plan_in.ensures in record {
+      holds_frame = record { frame = good.0; fits = c.requires.room_in.0; stands = good.1; is = good.2 };
+      indexed = frame-indexed c.args.n c.args.plan.now good.1 good.3;
+      good_settings = c.requires.good_settings;
+    }
 
 pub returns-in-Bad : goal.returns-in-Bad
 returns-in-Bad c =

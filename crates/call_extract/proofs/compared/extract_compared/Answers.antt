@@ -27,7 +27,7 @@ begins : (c : Else-row-f) (table : List NodeRecord)
     RowOf a.n a.row.now a.places table → Begins a.f.nodes a.row.now table
 begins c table of =
     let a = c.args in
-    row-begins a.n a.f.nodes a.places a.row.now table c.then-places-f.false (few c)
+    row-begins a.n a.f.nodes a.places a.row.now table c.if-places-f.false (few c)
     (small c) of
 
 -- What the comparison told.
@@ -70,27 +70,24 @@ returns-then-places-f c =
 pub same_numbers-requires : goal.same_numbers-requires
 same_numbers-requires c =
     let a = c.args in (
-      own-long a.n a.plan.now c.requires.holds_frame (bytes (goal.at.same_numbers-requires c).After-struct_known-1) c.requires.indexed.0,
+      own-long a.n a.plan.now c.requires.holds_frame (bytes (goal.at.same_numbers-requires c).After-struct_known-1) c.requires.indexed,
       ltb-false (length a.row.now) a.f.nodes c.if-row-f.false-raw,
     )
 
 pub extract_frame-requires : goal.extract_frame-requires
 extract_frame-requires c =
-    let a = c.args in let both = (
-          c.requires.holds_frame,
-          (
-            row-indexed a.n a.plan.now c.requires.holds_frame (bytes (goal.at.extract_frame-requires c).After-struct_known-1) c.requires.indexed.0 a.row.now
-                (told (goal.at.extract_frame-requires c).After-same_numbers c.if-same_numbers.true),
-            c.requires.indexed.1,
-          ),
-        ) in
-    record { holds_frame = both.0; indexed = both.1; good_settings = both.2; }
+    let a = c.args in record {
+      holds_frame = c.requires.holds_frame;
+      indexed = row-indexed a.n a.plan.now c.requires.holds_frame (bytes (goal.at.extract_frame-requires c).After-struct_known-1) c.requires.indexed a.row.now
+            (told (goal.at.extract_frame-requires c).After-same_numbers c.if-same_numbers.true);
+      good_settings = c.requires.good_settings;
+    }
 
 pub returns-then-same_numbers : goal.returns-then-same_numbers
 returns-then-same_numbers c =
     λ table of.
     let a = c.args in
-    same-fits a.n a.plan.now c.requires.holds_frame (bytes (goal.at.returns-then-same_numbers c).After-struct_known-1) c.requires.indexed.0 (match_under (settings_of a.settings))
+    same-fits a.n a.plan.now c.requires.holds_frame (bytes (goal.at.returns-then-same_numbers c).After-struct_known-1) c.requires.indexed (match_under (settings_of a.settings))
     a.scratch.now
     a.row.now table (begins (goal.at.returns-then-same_numbers c).Else-row-f table of)
     (told (goal.at.returns-then-same_numbers c).After-same_numbers c.if-same_numbers.true)
@@ -100,5 +97,5 @@ pub returns : goal.returns
 returns c =
     λ table of.
     let a = c.args in
-    other-refused a.n a.plan.now c.requires.holds_frame (bytes (goal.at.returns c).After-struct_known-1) c.requires.indexed.0
+    other-refused a.n a.plan.now c.requires.holds_frame (bytes (goal.at.returns c).After-struct_known-1) c.requires.indexed
     (match_under (settings_of a.settings)) a.scratch.now a.row.now table (begins (goal.at.returns c).Else-row-f table of) (told (goal.at.returns c).After-same_numbers c.if-same_numbers.false)

@@ -38,7 +38,7 @@ pub extract_in_one_walk-walked-requires : goal.extract_in_one_walk-walked-requir
 extract_in_one_walk-walked-requires c =
     record {
       framed = (_, _, over (match_under (settings_of c.args.settings)) c.args.n c.args.plan.now c.args.scratch.now c.requires.holds_frame);
-      of_tree = c.requires.indexed.0;
+      of_tree = c.requires.indexed;
     }
 
 pub slice_bounds-put_extraction-end-in-Leaf : goal.slice_bounds-put_extraction-end-in-Leaf
@@ -51,7 +51,7 @@ pub put_extraction-length-requires : goal.put_extraction-length-requires
 put_extraction-length-requires c =
     let a = c.args in
     extraction-fits (match_under (settings_of c.args.settings)) a.n a.plan.now a.scratch.now c.requires.holds_frame
-    (settings-laws (settings_of c.args.settings) c.requires.indexed.1)
+    (settings-laws (settings_of c.args.settings) c.requires.good_settings)
     (all-bytes a.plan.now c.slice_known-1.given) _
     (taken (goal.at.put_extraction-length-requires c).In-Leaf) _ c.copy_bytes.ensures
 
@@ -66,7 +66,7 @@ pub returns-in-Leaf : goal.returns-in-Leaf
 returns-in-Leaf c =
     let written = c.put_extraction-length in
     extracts (match_under (settings_of c.args.settings)) c.args.n c.args.plan.now c.args.scratch.now c.requires.holds_frame
-    (settings-laws (settings_of c.args.settings) c.requires.indexed.1)
+    (settings-laws (settings_of c.args.settings) c.requires.good_settings)
     (all-bytes c.args.plan.now c.slice_known-1.given) _
     (taken (goal.at.returns-in-Leaf c).In-Leaf) _ c.copy_bytes.ensures
     c.if-scratch-n.false written.new.out written.result written.ensures _

@@ -7,13 +7,13 @@ use Rattle.call_extract_all.proofs.call.all_in.Goals as goal
 pub all_of-requires : goal.all_of-requires
 all_of-requires c =
     let call = c.physical_frame_in in
-        let s = c.args.frame.now in
-        let bytes = all-bytes s c.shared_slice_known-1.given in
-        let good = rw c.in-Good.is at call.ensures in let both = (
-          c.requires.good_settings,
-          (good-frame s bytes good.1 good.2, in_rows s bytes good.1 good.2 call.new.numbers call.new.indexes good.3),
-        ) in
-    record { good_settings = both.0; good_frame = both.1; of_tree = both.2; }
+    let s = c.args.frame.now in
+    let bytes = all-bytes s c.shared_slice_known-1.given in
+    let good = rw c.in-Good.is at call.ensures in record {
+      good_settings = c.requires.good_settings;
+      good_frame = good-frame s bytes good.1 good.2;
+      of_tree = in_rows s bytes good.1 good.2 call.new.numbers call.new.indexes good.3;
+    }
 
 pub returns-in-Refused : goal.returns-in-Refused
 returns-in-Refused c =

@@ -99,11 +99,12 @@ node_at-node-requires t c =
 pub list_leaf-requires : goal.list_leaf-requires
 list_leaf-requires t c =
     let node = c.node_at-node in
-        let both = (
-          c.requires.list_fits,
-          (c.requires.of_tree, (node.ensures, λ d u stands. single-leaf node.result node.ensures stands (opened c.in_default.in_default-own.keys2))),
-        ) in
-    record { list_fits = both.0; of_tree = both.1; of_tree_in = both.2; of_tree_2 = both.3; }
+    record {
+      list_fits = c.requires.list_fits;
+      of_tree = c.requires.of_tree;
+      of_tree_in = node.ensures;
+      of_tree_2 = λ d u stands. single-leaf node.result node.ensures stands (opened c.in_default.in_default-own.keys2);
+    }
 
 pub shape_of-knns-in_default : goal.shape_of-knns-in_default
 shape_of-knns-in_default t c =
@@ -129,7 +130,7 @@ pub list_matches-one-requires : goal.list_matches-one-requires
 list_matches-one-requires t c =
     let f = c.requires.list_fits in
     let both = found t (goal.at.list_matches-one-requires t c).In-And _ f.tree f.frame.tree in (
-      omega (arith, left_after f.frame both, node-some (left-list f.frame both).tree),
+      omega (arith, c.decreases, left_after f.frame both, node-some (left-list f.frame both).tree),
       (left-fits f both, of_tree _ (left-list f.frame both).tree (left-rows t (goal.at.list_matches-one-requires t c).In-And _ f.tree f.frame.tree)),
     )
 
@@ -198,7 +199,7 @@ list_matches-two-requires t c =
     let both = found t (goal.at.list_matches-two-requires t c).In-And _ f.tree f.frame.tree in
     let e = right-at t (goal.at.list_matches-two-requires t c).After-end_of-place _ f.tree f.frame.tree in
     let right = right-list f.frame both _ e in (
-      omega (arith, e, left_after f.frame both, node-some right.tree),
+      omega (arith, c.decreases, e, left_after f.frame both, node-some right.tree),
       (
         right-fits f both (one.ensures f.records both.l (left-list f.frame both)) one.auto.knns one.auto.others
             one.auto.gone _ e,

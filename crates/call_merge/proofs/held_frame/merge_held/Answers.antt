@@ -107,8 +107,10 @@ overflow_sub-root c =
 
 pub copy_bytes-requires : goal.copy_bytes-requires
 copy_bytes-requires c =
-    let both = omega (arith, c.requires.holds_frame.fits) in
-    record { n_in_bounds = both.0; n_in_bounds_2 = both.1; }
+    record {
+      n_in_bounds = omega (arith, c.requires.holds_frame.fits);
+      n_in_bounds_2 = omega (arith, c.requires.holds_frame.fits);
+    }
 
 pub slice_bounds-put_merged-end-2 : goal.slice_bounds-put_merged-end-2
 slice_bounds-put_merged-end-2 c =

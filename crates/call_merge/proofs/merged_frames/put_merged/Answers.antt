@@ -21,7 +21,9 @@ slice_bounds-put_and-count c =
 
 pub slice_bounds-put_and-start : goal.slice_bounds-put_and-start
 slice_bounds-put_and-start c =
-    omega (arith, sub-put-and c)
+    omega (arith, (let tables = c.put_tables-w in
+    part-starts (first-room merged_expr (stored-room (merged-view _ _) c.requires.room))
+    (from_zero tables.ensures) tables.auto.out))
 
 pub put_and-requires : goal.put_and-requires
 put_and-requires c =
@@ -34,7 +36,10 @@ put_and-requires c =
 
 pub overflow_add-result : goal.overflow_add-result
 overflow_add-result c =
-    omega (arith, c.well_formed, ends-within c.requires.room (from_zero (returns c)))
+    omega (arith, c.well_formed, ends-within c.requires.room (from_zero ((let and = c.put_and in
+    let tables = c.put_tables-w in
+    stored-put (merged-view c.args.f c.args.g) c.requires.room
+    (both-put (omega arith) (from_zero tables.ensures) (part-put tables.new.out and.new.out tables.result and.ensures))))))
 
 pub returns : goal.returns
 returns c =

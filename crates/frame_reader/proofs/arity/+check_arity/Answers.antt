@@ -17,7 +17,7 @@ node_at-requires t c =
 
 pub check_arity-requires : goal.check_arity-requires
 check_arity-requires t c =
-    left_below c.loop-left.invariant c.node_at.ensures c.in-And.is c.MEASURE
+    left_below c.loop-left.invariant c.node_at.ensures c.in-And.is c.decreases
 
 pub loop-left-smaller : goal.loop-left-smaller
 loop-left-smaller t c =

@@ -8,6 +8,7 @@ use Rattle.expression.proofs.There.{first-of-pair, second-of-pair}
 use Rattle.sedona_expr.proofs.Comparing.{sides-found, sides-missing, measured-there}
 use Rattle.frame_reader.proofs.ArityLaws.{not-asked, asked}
 use Rattle.frame_reader.proofs.arity.comparison_arity.Goals as goal
+use Rattle.frame_reader.proofs.arity.comparison_arity.Goals.{in-Sides+else-not-enough_to_measure, in_default}
 
 pub end_node-right-requires : goal.end_node-right-requires
 end_node-right-requires c =
@@ -35,10 +36,12 @@ pub returns : goal.returns
 returns c =
     λ d l r row.
     let right = c.end_node-right in (
-      ⊎_elim (λ w.
-          let sides = sides-found row right.result right.ensures _ w.1.given.1 c.comparison.ensures in
-          asked _ l r sides ∙ sym (w.3.ensures d sides.m sides.stands_measured) ∙ not-false _ w.4.left)
-          (λ w. not-asked _ l r (sides-missing row right.result right.ensures _ w.1.given.1 c.comparison.ensures))
-          c.match-comparison.branch,
+      elim c.match-comparison.branch [
+        in-Sides+else-not-enough_to_measure w ↦
+            let sides = sides-found row right.result right.ensures _ w.in-Sides.is c.comparison.ensures in
+            asked _ l r sides ∙ sym (w.enough_to_measure.ensures d sides.m sides.stands_measured)
+                ∙ not-false _ w.if-not-enough_to_measure.false-raw
+      | in_default w ↦ not-asked _ l r (sides-missing row right.result right.ensures _ w.in_default.is c.comparison.ensures)
+      ],
       pair_ends row right.result c.end_node.result right.ensures c.end_node.ensures,
     )

@@ -17,16 +17,13 @@ low : (c : In-Value-digit_value)
     → some c.in-Value-digit_value.l ≡ digit_value c.args.low
 low c = sym (ap value_of c.in-Value-digit_value.is) ∙ c.digit_value-in-Value.ensures
 
-abbrev before-low : tie.After-known-told2 → tie.After-known-told
-before-low c = c.before.before.before.before
-
 pub overflow_mul-result : goal.overflow_mul-result
 overflow_mul-result c =
-    omega (arith, value-below _ (high (before-low c)))
+    omega (arith, value-below _ (high (goal.at.overflow_mul-result c).In-Value))
 
 pub overflow_add-result : goal.overflow_add-result
 overflow_add-result c =
-    omega (arith, value-below _ (high (before-low c)), value-below _ (low (goal.at.overflow_add-result c).In-Value-digit_value))
+    omega (arith, value-below _ (high (goal.at.overflow_add-result c).In-Value), value-below _ (low (goal.at.overflow_add-result c).In-Value-digit_value))
 
 pub returns-in-Other : goal.returns-in-Other
 returns-in-Other c =
@@ -38,4 +35,4 @@ returns-in-Other-digit_value c =
 
 pub returns-in-Value-digit_value : goal.returns-in-Value-digit_value
 returns-in-Value-digit_value c =
-    both-digits _ _ (high (before-low c)) (low (goal.at.returns-in-Value-digit_value c).In-Value-digit_value)
+    both-digits _ _ (high (goal.at.returns-in-Value-digit_value c).In-Value) (low (goal.at.returns-in-Value-digit_value c).In-Value-digit_value)

@@ -15,12 +15,12 @@ use Rattle.leaf_matching.proofs.knn.match_knn_predicate.Goals.{After-knn_options
 
 walked : (c : After-knn_options)
     → let start = c.args in
-    Walked start.default-k start.s.now start.rec start.called c.resolve_geometries-geometries.result c.knn_options.result
+    Walked start.default_k start.s.now start.rec start.called c.resolve_geometries-geometries.result c.knn_options.result
 unfolding ascii
 walked c =
     record {
       same = sym (not-false _ c.if-not-same_name.false-raw) ∙ c.same_name.ensures;
-      enough = c.then-count-lt2.false;
+      enough = c.if-count-lt2.false;
       geometries = c.resolve_geometries-geometries.ensures;
       options = c.knn_options.ensures;
     }
@@ -36,12 +36,12 @@ unfolding ascii
 returns-then-count-lt2 c =
     λ records name ts over.
     let same = named over _ (ascii "st_knn") c.same_name.ensures ∙ not-false _ c.if-not-same_name.false-raw in
-    ⊎_elim (λ w. few-lacks _ records name ts same (omega (arith, w.taken)))
-    (λ w. many-lacks _ records name ts same (omega (arith, ltb-true 5 c.args.called.count w.1.taken))) c.then-count-lt2.branch
+    ⊎_elim (λ w. few-lacks _ records name ts same (omega (arith, w)))
+    (λ w. many-lacks _ records name ts same (omega (arith, w))) c.then-count-lt2.either
 
 pub resolve_geometries-geometries-requires : goal.resolve_geometries-geometries-requires
 resolve_geometries-geometries-requires c =
-    let enough = c.then-count-lt2.false in
+    let enough = c.if-count-lt2.false in
     record {
       framed_two = pair-framed c.requires.call_framed enough;
       of_frame_two = pair-begins c.requires.call_framed enough c.requires.of_call;
@@ -50,7 +50,7 @@ resolve_geometries-geometries-requires c =
 pub knn_options-requires : goal.knn_options-requires
 knn_options-requires c =
     record {
-      trees = rest-trees c.requires.call_framed c.then-count-lt2.false _ c.resolve_geometries-geometries.ensures;
+      trees = rest-trees c.requires.call_framed c.if-count-lt2.false _ c.resolve_geometries-geometries.ensures;
       n_bound = omega (arith, ltb-false 5 c.args.called.count c.if-count-gt5.false-raw);
     }
 

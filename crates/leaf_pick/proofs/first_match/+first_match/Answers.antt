@@ -18,7 +18,7 @@ use Rattle.leaf_pick.proofs.first_match.+first_match.Goals as goal
 
 pub loop-left-init : goal.loop-left-init
 loop-left-init t c =
-    let pre = c.requires in along-begins pre.framed pre.of_tree.0 pre.of_tree.1
+    let pre = c.requires in along-begins pre.framed pre.of_tree pre.position_le_at
 
 pub node_at-node-requires : goal.node_at-node-requires
 node_at-node-requires t c =
@@ -27,10 +27,11 @@ node_at-node-requires t c =
 pub leaf_match-requires : goal.leaf_match-requires
 leaf_match-requires t c =
     let inv = c.loop-left.invariant in
-    let node = c.node_at-node in (
-      record { framed = inv.there; tabled = inv.tabled; is = node.ensures },
-      ((λ records u over. single-leaf node.result node.ensures over.tree (opened c.in_default.in_default-own.keys2)), inv.few),
-    )
+    let node = c.node_at-node in record {
+      leaf_there = record { framed = inv.there; tabled = inv.tabled; is = node.ensures };
+      of_frame = (λ records u over. single-leaf node.result node.ensures over.tree (opened c.in_default.in_default-own.keys2));
+      position_le_at = inv.few;
+    }
 
 pub returns-in_default : goal.returns-in_default
 returns-in_default t c =
@@ -44,7 +45,7 @@ pub first_match-requires : goal.first_match-requires
 first_match-requires t c =
     let is = c.node_at-node.ensures in
     let told = c.in-And.is in
-    let left = left_there c.loop-left.invariant is told c.MEASURE in
+    let left = left_there c.loop-left.invariant is told c.decreases in
     (left.0, (left.1.0, (along-tabled c.loop-left.invariant is told, left.1.1)))
 
 pub returns-in-Leaf : goal.returns-in-Leaf

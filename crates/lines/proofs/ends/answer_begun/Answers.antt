@@ -9,11 +9,11 @@ use Rattle.lines.proofs.ends.answer_begun.Goals as goal
 
 pub returns-then-line-count : goal.returns-then-line-count
 returns-then-line-count c =
-    let both = (
-      omega arith,
-      (λ begun b. too_long b _ _ c.requires.1 c.if-line-count.true, rw (lt-leb _ _ c.if-line-count.true) refl),
-    ) in
-    record { result_in_bounds = both.0; by_index = both.1; scratch_after = both.2; }
+    record {
+      result_in_bounds = omega arith;
+      by_index = λ begun b. too_long b _ _ c.requires.1 c.if-line-count.true;
+      scratch_after = rw (lt-leb _ _ c.if-line-count.true) refl;
+    }
 
 pub slice_bounds-answer_line-end : goal.slice_bounds-answer_line-end
 slice_bounds-answer_line-end c =
@@ -22,8 +22,8 @@ slice_bounds-answer_line-end c =
 pub returns : goal.returns
 returns c =
     let call = c.answer_line in
-        let short = c.if-line-count.false in let both = (
-          omega (arith, call.ensures.answer_is.fits, call.auto.plan),
-          (λ begun b. rw (b.held short) at call.ensures.answer_is, rw (le-leb _ _ short) call.ensures.scratch_after),
-        ) in
-    record { result_in_bounds = both.0; by_index = both.1; scratch_after = both.2; }
+    let short = c.if-line-count.false in record {
+      result_in_bounds = omega (arith, call.ensures.answer_is.fits, call.auto.plan);
+      by_index = λ begun b. rw (b.held short) at call.ensures.answer_is;
+      scratch_after = rw (le-leb _ _ short) call.ensures.scratch_after;
+    }

@@ -29,7 +29,7 @@ pub column_refs-column_refs_all-requires : goal.column_refs-column_refs_all-requ
 column_refs-column_refs_all-requires t c =
     let tree = c.requires in
     let head = c.head_at-head.ensures tree.0 tree.1 tree.2 in (
-      omega (arith, node-some tree.2, after-head tree.2 c.head_at-head.result.next head.next),
+      omega (arith, c.decreases, node-some tree.2, after-head tree.2 c.head_at-head.result.next head.next),
       children-there tree c.head_at-head.result head,
     )
 
@@ -47,7 +47,7 @@ column_refs_all-loop-more-init t c =
 pub column_refs_all-column_refs-one-requires : goal.column_refs_all-column_refs-one-requires
 column_refs_all-column_refs-one-requires t c =
     let loop = c.loop-more in
-    (omega (arith, loop.invariant.low), joining-first loop.invariant c.loop-more-test.true)
+    (omega (arith, c.decreases, loop.invariant.low), joining-first loop.invariant c.loop-more-test.true)
 
 pub column_refs_all-loop-more-preserved : goal.column_refs_all-loop-more-preserved
 column_refs_all-loop-more-preserved t c =

@@ -24,7 +24,7 @@ enum_known-left t c =
 pub find_st_knn_call-requires : goal.find_st_knn_call-requires
 unfolding ascii
 find_st_knn_call-requires t c =
-    and-left-there c.requires c.node_at.ensures c.in-And.is c.MEASURE
+    and-left-there c.requires c.node_at.ensures c.in-And.is c.decreases
 
 pub enum_known-first : goal.enum_known-first
 unfolding ascii
@@ -40,7 +40,7 @@ pub find_st_knn_call-requires-in-Nothing : goal.find_st_knn_call-requires-in-Not
 unfolding ascii
 find_st_knn_call-requires-in-Nothing t c =
     let left = rw c.in-Nothing.is at c.find_st_knn_call.ensures in
-    and-right-there c.requires c.node_at.ensures c.in-And.is c.MEASURE _
+    and-right-there c.requires c.node_at.ensures c.in-And.is c.decreases _
     (λ d l st. left d l st .1)
 
 pub enum_known-left-in-Binary-1 : goal.enum_known-left-in-Binary-1

@@ -13,11 +13,11 @@ node_at-requires t c =
 
 pub collect-left-requires : goal.collect-left-requires
 collect-left-requires t c =
-    and-left-there c.requires c.node_at.ensures c.in-And.is c.MEASURE
+    and-left-there c.requires c.node_at.ensures c.in-And.is c.decreases
 
 pub collect-right-requires : goal.collect-right-requires
 collect-right-requires t c =
-    and-right-there c.requires c.node_at.ensures c.in-And.is c.MEASURE
+    and-right-there c.requires c.node_at.ensures c.in-And.is c.decreases
     c.collect-left.result.next (λ d l st. (c.collect-left.ensures d l st).next)
 
 pub collect_comparison-requires : goal.collect_comparison-requires

@@ -26,7 +26,7 @@ reproject_children-slice_bounds-reproject_column_references-start t c =
 pub reproject_children-reproject_column_references-one-requires : goal.reproject_children-reproject_column_references-one-requires
 reproject_children-reproject_column_references-one-requires t c =
     let inv = c.loop-left.invariant in
-    (omega (arith, inv.low), copying-first inv c.loop-left-test.true)
+    (omega (arith, c.decreases, inv.low), copying-first inv c.loop-left-test.true)
 
 pub reproject_children-overflow_add-w : goal.reproject_children-overflow_add-w
 reproject_children-overflow_add-w t c =
@@ -108,12 +108,18 @@ reproject_column_references-overflow_sub-w t c =
 pub reproject_column_references-copy_bytes-requires : goal.reproject_column_references-copy_bytes-requires
 reproject_column_references-copy_bytes-requires t c =
     let call = c.head_at-head in
-        let both = omega (
-          arith,
-          head-room c.requires c.if-src-at-eq0.false
-              call.result call.ensures,
-        ) in
-    record { n_in_bounds = both.0; n_in_bounds_2 = both.1; }
+    record {
+      n_in_bounds = omega (
+      arith,
+      head-room c.requires c.if-src-at-eq0.false
+          call.result call.ensures,
+    );
+      n_in_bounds_2 = omega (
+      arith,
+      head-room c.requires c.if-src-at-eq0.false
+          call.result call.ensures,
+    );
+    }
 
 pub reproject_column_references-shape_of-out-then-n-eq0 : goal.reproject_column_references-shape_of-out-then-n-eq0
 reproject_column_references-shape_of-out-then-n-eq0 t c =
@@ -156,6 +162,7 @@ reproject_column_references-reproject_children-rest-requires t c =
     let tree = fits-tree c.requires in (
       omega (
         arith,
+        c.decreases,
         node-some tree.2,
         after-head tree.2 head.result.next (head.ensures tree.0 tree.1 tree.2).next,
       ),
@@ -165,7 +172,12 @@ reproject_column_references-reproject_children-rest-requires t c =
 pub reproject_column_references-overflow_add-result-2 : goal.reproject_column_references-overflow_add-result-2
 reproject_column_references-overflow_add-result-2 t c =
     let p = c.requires in
-    omega (arith, c.well_formed, p.room, (node-returns-3 t c p.tree p.stands).wrote)
+    let some = c.if-src-at-eq0.false in
+    let head = c.head_at-head in
+    let copy = c.copy_bytes in
+    let others = c.reproject_children-rest in
+    omega (arith, c.well_formed, p.room, (copy-other c.args.to.now p.tree p.stands some head.result head.ensures c.args.out.now
+    copy.new.out others.new.out (head.result.next - c.args.at) refl copy.ensures others.result others.ensures).wrote)
 
 pub reproject_column_references-shape_of-out : goal.reproject_column_references-shape_of-out
 reproject_column_references-shape_of-out t c =

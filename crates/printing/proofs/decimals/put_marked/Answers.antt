@@ -26,7 +26,8 @@ pub overflow_add-result : goal.overflow_add-result
 overflow_add-result c =
     omega (
       arith,
-      slice-write-out-2 c,
+      (let put = c.put_decimal-v in
+    last_within c.args.first _ c.args.last c.requires put.ensures put.auto.out),
       c.well_formed,
       simp length-set at
           c.put_decimal-v.auto.out,

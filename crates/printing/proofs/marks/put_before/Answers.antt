@@ -33,7 +33,7 @@ bounds-out-w c =
 
 pub overflow_add-w : goal.overflow_add-w
 overflow_add-w c =
-    omega (arith, slice-write-out c)
+    omega (arith, (begins-within 32 _ (known-fits (operator (goal.at.overflow_add-w c).After-leading_number-operator) c.requires)))
 
 pub put_marked-requires : goal.put_marked-requires
 put_marked-requires c =
@@ -55,7 +55,7 @@ bounds-out-w-2 c =
 
 pub overflow_add-result : goal.overflow_add-result
 overflow_add-result c =
-    omega (arith, slice-write-out-2 c)
+    omega (arith, (mark-fits 44 (known-fits (comma-before c.args.position c.if-position-eq0.false c.if-src-at-eq2.false) c.requires)))
 
 pub shape_of-out : goal.shape_of-out
 shape_of-out c =

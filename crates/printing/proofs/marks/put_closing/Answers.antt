@@ -16,7 +16,7 @@ bounds-out-w c =
 
 pub overflow_add-result : goal.overflow_add-result
 overflow_add-result c =
-    omega (arith, slice-write-out c)
+    omega (arith, (mark-fits 41 (known-fits (binary-closes c.in-2.is) c.requires)))
 
 pub bounds-out-w-in_default : goal.bounds-out-w-in_default
 bounds-out-w-in_default c =
@@ -24,7 +24,7 @@ bounds-out-w-in_default c =
 
 pub overflow_add-result-in_default : goal.overflow_add-result-in_default
 overflow_add-result-in_default c =
-    omega (arith, slice-write-out-2 c)
+    omega (arith, (mark-fits 93 (known-fits (list-closes (omega arith)) c.requires)))
 
 pub shape_of-out-in-2 : goal.shape_of-out-in-2
 shape_of-out-in-2 c =

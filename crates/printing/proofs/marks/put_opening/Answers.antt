@@ -39,11 +39,13 @@ bounds-out-w c =
 
 pub overflow_add-result : goal.overflow_add-result
 overflow_add-result c =
-    omega (arith, slice-write-out c)
+    omega (arith, (mark-fits 40 (known-fits (binary-opens c.in-2.is) c.requires)))
 
 pub overflow_add-at-in-3-3 : goal.overflow_add-at-in-3-3
 overflow_add-at-in-3-3 c =
-    omega (arith, part-put-name-end c)
+    omega (arith, (let p = c.requires in
+    let call = c.leading_number-number in
+    omega (arith, name-within p.stands c.in-3.is call.result (call.ensures p.it p.stands))))
 
 pub slice_bounds-put_name-end : goal.slice_bounds-put_name-end
 slice_bounds-put_name-end c =

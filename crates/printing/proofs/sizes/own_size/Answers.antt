@@ -63,7 +63,17 @@ overflow_add-result-in-3 c =
 
 pub overflow_add-result-in-3-2 : goal.overflow_add-result-in-3-2
 overflow_add-result-in-3-2 c =
-    omega (arith, name-sum c)
+    omega (arith, (let call = c.leading_number-number in
+    omega (
+      arith,
+      c.decimal_width-width.ensures,
+      width_small call.result,
+      call.ensures c.requires.0 c.requires.1,
+      short-name c.requires.1 c.in-3.is,
+      c.commas-between.ensures,
+      c.requires.2,
+      few-children c.requires.1,
+    )))
 
 pub overflow_add-result-in-3-3 : goal.overflow_add-result-in-3-3
 overflow_add-result-in-3-3 c =
@@ -81,7 +91,14 @@ overflow_add-result-in-3-3 c =
 
 pub overflow_add-result-in_default : goal.overflow_add-result-in_default
 overflow_add-result-in_default c =
-    omega (arith, tag-sum c)
+    omega (arith, (omega (
+      arith,
+      c.decimal_width-width.ensures,
+      width_small c.leading_number-number.result,
+      c.commas-between.ensures,
+      c.requires.2,
+      few-children c.requires.1,
+    )))
 
 pub overflow_add-result-in_default-2 : goal.overflow_add-result-in_default-2
 overflow_add-result-in_default-2 c =

@@ -20,7 +20,7 @@ pub print_children-print_node-one-requires : goal.print_children-print_node-one-
 print_children-print_node-one-requires t c =
     let inv = c.loop-position.invariant in
     let put = c.put_before-v in (
-      omega (arith, inv.low),
+      omega (arith, c.decreases, inv.low),
       child-room inv c.loop-position-test.true put.ensures put.auto.out,
     )
 
@@ -61,6 +61,7 @@ print_node-print_children-row-requires t c =
     let room = c.requires in (
       omega (
         arith,
+        c.decreases,
         node-some room.stands.stands,
         children-later room put.ensures put.auto.out head.result head.ensures,
       ),

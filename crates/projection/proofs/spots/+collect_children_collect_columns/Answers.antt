@@ -17,7 +17,7 @@ pub collect_children-collect_columns-one-requires : goal.collect_children-collec
 collect_children-collect_columns-one-requires t c =
     let loop = c.loop-left in
     (
-      omega (arith, loop.invariant.low),
+      omega (arith, c.decreases, loop.invariant.low),
       collecting-first loop.invariant c.loop-left-test.true,
     )
 
@@ -103,6 +103,7 @@ collect_columns-collect_children-requires t c =
     let fits = c.requires in (
       omega (
         arith,
+        c.decreases,
         node-some fits.stands,
         after-head fits.stands head.result.next (head.ensures _ fits.tree fits.stands).next,
       ),

@@ -16,7 +16,7 @@ within c = records-within c.requires.recorded
 pub returns-then-used-j-eq1 : goal.returns-then-used-j-eq1
 returns-then-used-j-eq1 c =
     λ records columns m.
-    marked-stays m c.args.j c.requires.count_in_bounds.0.1 c.if-used-j-eq1.true
+    marked-stays m c.args.j c.requires.count_in_bounds.1 c.if-used-j-eq1.true
 
 pub overflow_mul-j : goal.overflow_mul-j
 overflow_mul-j c =
@@ -32,11 +32,11 @@ column_key-key-requires c =
 
 pub among-requires : goal.among-requires
 among-requires c =
-    c.requires.count_in_bounds.1.room
+    c.requires.key_row.room
 
 pub returns : goal.returns
 returns c =
     λ records columns m.
-    among-stays m c.args.j c.requires.count_in_bounds.0.1 c.requires.count_in_bounds.1 c.among.result
+    among-stays m c.args.j c.requires.count_in_bounds.1 c.requires.key_row c.among.result
     (subst (λ key. AmongIs c.args.keys.now c.args.n key c.among.result) c.column_key-key.ensures
     c.among.ensures)

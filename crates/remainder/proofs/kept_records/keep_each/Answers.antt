@@ -15,8 +15,11 @@ overflow_cast-to c =
 
 pub keep_record-kept-requires : goal.keep_record-kept-requires
 keep_record-kept-requires c =
-    let both = (next_fits c.loop-j.invariant c.loop-j-test.true c.requires.all_fit, (c.requires.count_in_bounds.0.0, c.requires.count_in_bounds.1)) in
-    record { one_fits = both.0; count_in_bounds = both.1; key_row = both.2; }
+    record {
+      one_fits = next_fits c.loop-j.invariant c.loop-j-test.true c.requires.all_fit;
+      count_in_bounds = c.requires.count_in_bounds.0;
+      key_row = c.requires.key_row;
+    }
 
 pub loop-j-preserved : goal.loop-j-preserved
 loop-j-preserved c =

@@ -18,8 +18,11 @@ within c = one-within c.requires.one_fits
 pub is_referenced-requires : goal.is_referenced-requires
 is_referenced-requires c =
     let p = c.requires.one_fits in
-        let both = ((p.records, p.is.entries), ((c.requires.count_in_bounds.0, p.below), c.requires.count_in_bounds.1)) in
-    record { recorded = both.0; count_in_bounds = both.1; key_row = both.2; }
+    record {
+      recorded = (p.records, p.is.entries);
+      count_in_bounds = (c.requires.count_in_bounds, p.below);
+      key_row = c.requires.key_row;
+    }
 
 pub overflow_mul-w : goal.overflow_mul-w
 overflow_mul-w c =

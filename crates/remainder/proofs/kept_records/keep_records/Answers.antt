@@ -13,8 +13,11 @@ marked_keys-n-requires c =
 pub keep_each-requires : goal.keep_each-requires
 keep_each-requires c =
     let row = c.marked_keys-n in
-        let both = (c.requires.all_fit, ((c.requires.rows_fit.flagged, c.requires.rows_fit.numbered), row.ensures)) in
-    record { all_fit = both.0; count_in_bounds = both.1; key_row = both.2; }
+    record {
+      all_fit = c.requires.all_fit;
+      count_in_bounds = (c.requires.rows_fit.flagged, c.requires.rows_fit.numbered);
+      key_row = row.ensures;
+    }
 
 pub shape_of-out : goal.shape_of-out
 shape_of-out c =

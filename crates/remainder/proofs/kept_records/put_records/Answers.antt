@@ -22,10 +22,6 @@ few c =
     let p = c.requires.all_fit in
     omega (arith, p.room, (c.keep_records-kept.ensures p.records p.columns p.is).out.ends)
 
--- The call, from where the function returns.
-abbrev kept : tie.After-slice-known7 → tie.After-keep-records
-kept c = c.before.before.before.before.before.before.before.before.before.before
-
 pub slice_bounds-keep_records-count : goal.slice_bounds-keep_records-count
 slice_bounds-keep_records-count c =
     omega (arith, c.requires.all_fit.room)
@@ -47,27 +43,27 @@ put_frame_head-requires c =
 
 pub overflow_mul-result : goal.overflow_mul-result
 overflow_mul-result c =
-    omega (arith, few (kept c))
+    omega (arith, few ((c)))
 
 pub overflow_add-result : goal.overflow_add-result
 overflow_add-result c =
-    omega (arith, few (kept c))
+    omega (arith, few ((c)))
 
 pub shape_of-out : goal.shape_of-out
 shape_of-out c =
-    c.put_frame_head.auto.out ∙ long (kept c)
+    c.put_frame_head.auto.out ∙ long ((c))
 
 pub shape_of-to : goal.shape_of-to
 shape_of-to c =
-    (kept c).keep-records.auto.1.0
+    ((c)).keep-records.auto.1.0
 
 pub shape_of-keys : goal.shape_of-keys
 shape_of-keys c =
-    (kept c).keep-records.auto.1.1.0
+    ((c)).keep-records.auto.1.1.0
 
 pub returns : goal.returns
 returns c =
-    let call = kept c in
+    let call = (c) in
     let start = call.before.before.before.before.before.before.before.before.before in
     columns-put start.args.out.now call.keep-records.last.0 call.keep-records.result (omega (arith, start.pre.0.room))
     call.keep-records.ensures

@@ -25,7 +25,9 @@ returns-then-start-end c =
     λ goes records t left.
     let call = c.put_rest-stays in
     none-put left (call.ensures _ t left.frame.tree) call.auto.out c.if-start-end.true
-    c.args.out.now (slice-write-out c)
+    c.args.out.now ((let p = c.requires.last_fits in
+    let call = c.put_rest-stays in
+    omega (arith, p.room, ap length (none-bytes p.left (call.ensures _ p.tree p.left.frame.tree) call.auto.out c.if-start-end.true))))
 
 pub put_pruned-requires : goal.put_pruned-requires
 put_pruned-requires c =

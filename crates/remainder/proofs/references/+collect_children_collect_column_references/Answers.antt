@@ -14,7 +14,7 @@ pub collect_children-collect_column_references-next-requires : goal.collect_chil
 collect_children-collect_column_references-next-requires t c =
     let loop = c.loop-left in
     (
-      omega (arith, loop.invariant.low),
+      omega (arith, c.decreases, loop.invariant.low),
       collecting-first c.args.used.now loop.invariant c.loop-left-test.true,
     )
 
@@ -81,6 +81,7 @@ collect_column_references-collect_children-requires t c =
     let tree = flagged-tree used c.requires in (
       omega (
         arith,
+        c.decreases,
         node-some tree.2,
         after-head tree.2 head.result.next (head.ensures tree.0 tree.1 tree.2).next,
       ),

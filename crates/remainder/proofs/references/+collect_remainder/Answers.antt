@@ -42,7 +42,7 @@ collect_remainder-right-requires t c =
     let p = c.requires in
     let both =
     rw c.in-And.is at (c.node_at.ensures (index_below (length c.args.used.now)) p.0 p.1) in (
-      omega (arith, node-some p.1, left_at both),
+      omega (arith, c.decreases, node-some p.1, left_at both),
       (both.l, first-stands both.row, left-ends both c.args.cut p.2),
     )
 
@@ -54,7 +54,7 @@ collect_remainder-requires t c =
     let call = c.collect_remainder-right in
     let both = rw c.in-And.is at (c.node_at.ensures (index_below (length used)) p.0 p.1) in
     let l = call.ensures both.l (first-stands both.row) (left-ends both cut p.2) in (
-      omega (arith, node-some p.1, left_at both, l.ends),
+      omega (arith, c.decreases, node-some p.1, left_at both, l.ends),
       right-flagged cut used call.new.used call.auto.used call.result call.ensures both p.2,
     )
 

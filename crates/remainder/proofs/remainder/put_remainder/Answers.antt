@@ -11,7 +11,8 @@ bounds-out-0 c =
 pub returns-then-at-cut : goal.returns-then-at-cut
 returns-then-at-cut c =
     λ records t up position frame cutting. none-put c.if-at-cut.true records cutting c.args.out.now
-    (room c)
+    ((let p = c.requires in
+    none-room c.if-at-cut.true p.records p.cutting c.args.out.now p.room))
 
 pub replace_over_few-requires : goal.replace_over_few-requires
 replace_over_few-requires c =

@@ -5,8 +5,11 @@ use Rattle.remainder.proofs.remainder.replace_over_many.Goals as goal
 
 pub replace_join_filter_expr-requires : goal.replace_join_filter_expr-requires
 replace_join_filter_expr-requires c =
-    let both = (c.requires.remainder_fits, (c.requires.fact, clear-rows 256 c.args.count c.requires.remainder_fits.frame.few)) in
-    record { remainder_fits = both.0; fact = both.1; rows_fit = both.2; }
+    record {
+      remainder_fits = c.requires.remainder_fits;
+      fact = c.requires.fact;
+      rows_fit = clear-rows 256 c.args.count c.requires.remainder_fits.frame.few;
+    }
 
 pub shape_of-out : goal.shape_of-out
 shape_of-out c =

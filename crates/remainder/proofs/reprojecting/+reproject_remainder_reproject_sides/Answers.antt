@@ -69,7 +69,7 @@ reproject_remainder-reproject_sides-requires t c =
     let p = c.requires in
     let to = c.args.to.now in
     let both = found-and t (goal.at.reproject_remainder-reproject_sides-requires t c).In-And p.tree p.stands in (
-      omega (arith, node-some p.stands, left_at both),
+      omega (arith, c.decreases, node-some p.stands, left_at both),
       parent-fits to c.args.cut both p.ends c.if-at-cut.false c.if-at-cut-2.true p.room,
     )
 
@@ -106,7 +106,7 @@ reproject_remainder-reproject_sides-sides-requires t c =
     let p = c.requires in
     let to = c.args.to.now in
     let both = found-and t (goal.at.reproject_remainder-reproject_sides-sides-requires t c).In-And p.tree p.stands in (
-      omega (arith, node-some p.stands, left_at both),
+      omega (arith, c.decreases, node-some p.stands, left_at both),
       and-fits to c.args.cut both p.ends c.if-at-cut.false c.if-at-cut-2.false c.args.out.now
           p.room,
     )
@@ -114,7 +114,12 @@ reproject_remainder-reproject_sides-sides-requires t c =
 pub reproject_remainder-overflow_add-result : goal.reproject_remainder-overflow_add-result
 reproject_remainder-overflow_add-result t c =
     let p = c.requires in
-    omega (arith, c.well_formed, p.room, (and-returns t c p.tree p.stands p.ends).wrote)
+    omega (arith, c.well_formed, p.room, ((λ u stands ends.
+    let to = c.args.to.now in
+    let call = c.reproject_sides-sides in
+    let both = found-and t (goal.at.reproject_remainder-overflow_add-result t c).In-And u stands in
+    copy-and to c.args.cut both ends c.if-at-cut.false c.if-at-cut-2.false c.args.out.now
+    call.new.out (room t (goal.at.reproject_remainder-overflow_add-result t c).Else-at-cut-2) call.ensures) p.tree p.stands p.ends).wrote)
 
 pub reproject_remainder-shape_of-out : goal.reproject_remainder-shape_of-out
 reproject_remainder-shape_of-out t c =
@@ -133,7 +138,7 @@ reproject_remainder-returns t c =
 
 pub reproject_sides-reproject_remainder-left-requires : goal.reproject_sides-reproject_remainder-left-requires
 reproject_sides-reproject_remainder-left-requires t c =
-    (omega (arith), left-fits c.requires)
+    (omega (arith, c.decreases), left-fits c.requires)
 
 pub reproject_sides-slice_bounds-reproject_remainder-count : goal.reproject_sides-slice_bounds-reproject_remainder-count
 reproject_sides-slice_bounds-reproject_remainder-count t c =
@@ -157,14 +162,16 @@ pub reproject_sides-reproject_remainder-right-requires : goal.reproject_sides-re
 reproject_sides-reproject_remainder-right-requires t c =
     let call = c.reproject_remainder-left in
     let p = c.requires in (
-      omega (arith, node-some (first-stands p.stand.row), left-later call.new.out call.result call.ensures p),
+      omega (arith, c.decreases, node-some (first-stands p.stand.row), left-later call.new.out call.result call.ensures p),
       right-fits call.new.out call.result call.ensures p call.auto.out,
     )
 
 pub reproject_sides-overflow_add-result : goal.reproject_sides-overflow_add-result
 reproject_sides-overflow_add-result t c =
     let p = c.requires in
-    omega (arith, c.well_formed, p.room, (sides-return t c p.l p.r p.stand).wrote)
+    omega (arith, c.well_formed, p.room, ((let one = c.reproject_remainder-left in
+    let two = c.reproject_remainder-right in
+    copy-sides one.new.out one.result one.ensures two.new.out two.result two.ensures) p.l p.r p.stand).wrote)
 
 pub reproject_sides-shape_of-out : goal.reproject_sides-shape_of-out
 reproject_sides-shape_of-out t c =

@@ -135,7 +135,7 @@ put_rest-right-requires t c =
     let f = c.requires.rest_fits in
     let both = found t (goal.at.put_rest-right-requires t c).In-And f.columns f.tree f.stands in
     let e = right-at t (goal.at.put_rest-right-requires t c).After-end_of-place f.columns f.tree f.stands in (
-      omega (arith, e, left_after both, node-some (right-stands both _ e)),
+      omega (arith, c.decreases, e, left_after both, node-some (right-stands both _ e)),
       (
         right-fits f both _ e,
         of_tree _ (right-stands both _ e) (right-tabled (c.requires.of_tree _ f.tree f.stands) both _ _ e
@@ -151,7 +151,7 @@ pub put_rest-first-requires : goal.put_rest-first-requires
 put_rest-first-requires t c =
     let f = c.requires.rest_fits in
     let both = found t (goal.at.put_rest-first-requires t c).In-And f.columns f.tree f.stands in (
-      omega (arith, left_after both, node-some (first-stands both.row)),
+      omega (arith, c.decreases, left_after both, node-some (first-stands both.row)),
       (
         left-fits f both (right-put t (goal.at.put_rest-first-requires t c).After-put_rest-right f.columns f.tree f.stands) c.put_rest-right.auto.out,
         of_tree _ (first-stands both.row) (left-rows t (goal.at.put_rest-first-requires t c).In-And f.columns f.tree f.stands),
