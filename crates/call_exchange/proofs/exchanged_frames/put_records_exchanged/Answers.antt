@@ -13,7 +13,8 @@ overflow_mul-n c =
 
 pub copy_bytes-requires : goal.copy_bytes-requires
 copy_bytes-requires c =
-    records-fit c.requires
+    let both = records-fit c.requires in
+    record { n_in_bounds = both.0; n_in_bounds_2 = both.1; }
 
 pub loop-i-init : goal.loop-i-init
 loop-i-init c =

@@ -25,9 +25,9 @@ slice_bounds-put_remainder_exchanged-count c =
 
 pub slice_bounds-put_remainder_exchanged-start : goal.slice_bounds-put_remainder_exchanged-start
 slice_bounds-put_remainder_exchanged-start c =
-    omega (arith, (let one = c.put_predicate-w in
+    let one = c.put_predicate-w in
     part-starts (first-room remainder_exchanged (stored-room (view (goal.at.slice_bounds-put_remainder_exchanged-start c).After-swap_for_swapped_children-swapped) c.requires)) (from_zero one.ensures)
-    one.auto.out))
+    one.auto.out
 
 pub put_remainder_exchanged-requires : goal.put_remainder_exchanged-requires
 put_remainder_exchanged-requires c =

@@ -27,8 +27,10 @@ begins : (c : Else-row-f) (table : List NodeRecord)
     RowOf a.n a.row.now a.places table → Begins a.f.nodes a.row.now table
 begins c table of =
     let a = c.args in
-    row-begins a.n a.f.nodes a.places a.row.now table c.if-places-f.false (few c)
-    (small c) of
+    let bytes = all-bytes c.args.plan.now c.slice_known-1.given in
+    row-begins a.n a.f.nodes a.places a.row.now table c.if-places-f.false
+    (few-nodes c.args.n c.args.plan.now c.requires.holds_frame bytes)
+    (small-nodes c.args.n c.args.plan.now c.requires.holds_frame bytes) of
 
 -- What the comparison told.
 told : (c : After-same_numbers) {b : Bool} → c.same_numbers.result ≡ b
@@ -58,14 +60,16 @@ pub returns-then-places-f : goal.returns-then-places-f
 returns-then-places-f c =
     λ table of.
     let a = c.args in
+    let known = (goal.at.returns-then-places-f c).After-struct_known-1 in
     ⊎_elim
-    (λ w. short-refused a.n a.plan.now c.requires.holds_frame (bytes (goal.at.returns-then-places-f c).After-struct_known-1) (match_under (settings_of a.settings)) a.scratch.now a.row.now a.places table w.taken of)
+    (λ w. short-refused a.n a.plan.now c.requires.holds_frame (bytes known) (match_under (settings_of a.settings)) a.scratch.now
+    a.row.now a.places table w of)
     (λ w. absurd (omega (
       arith,
-      row-long a.n a.f.nodes a.places a.row.now table w.0.left (few (goal.at.returns-then-places-f c).After-struct_known-1) (small (goal.at.returns-then-places-f c).After-struct_known-1) of,
-      ltb-true (length a.row.now) a.f.nodes w.2.taken,
+      row-long a.n a.f.nodes a.places a.row.now table (omega (arith, w)) (few known) (small known) of,
+      w,
     )))
-    c.then-places-f.branch
+    c.then-places-f.either
 
 pub same_numbers-requires : goal.same_numbers-requires
 same_numbers-requires c =

@@ -30,7 +30,7 @@ use Rattle.call_extract_all.proofs.listing.+list_matches.Goals as goal
 use Rattle.call_extract_all.proofs.listing.+list_matches.Goals.{After-end_of-place, After-list_matches-two, In-And}
 
 -- The And that was found.
-found : (t : ℕ) (c : In-And t) (d : Columns) (u : Expr)
+abbrev found : (t : ℕ) (c : In-And t) (d : Columns) (u : Expr)
     → Stands d c.args.src.now
     c.args.at u
     → Both expr-and d c.args.src.now
@@ -59,11 +59,11 @@ within t c = let f = c.requires.list_fits in tabled-within
 -- Where the right side stands.
 right-at : (t : ℕ) (c : After-end_of-place t) (d : Columns) (u : Expr)
     (stands : Stands d c.args.src.now c.args.at u)
-    → c.end_of-place.result ≡ c.in-And.left + length (expr_bytes ((rw c.in-And.is at (c.node_at-node.ensures d u stands)) d u stands).l)
+    → c.end_of-place.result ≡ c.in-And.left + length (expr_bytes (rw c.in-And.is at (c.node_at-node.ensures d u stands)).l)
 right-at t c d u stands =
     c.end_of-place.ensures ∙ tabled-end
-    ((left-tabled (c.requires.of_tree d u stands)
-    (found t c d u stands)) d u stands)
+    (left-tabled (c.requires.of_tree d u stands)
+    (rw c.in-And.is at (c.node_at-node.ensures d u stands)))
 
 -- Both sides were listed.
 done : (t : ℕ) (c : After-list_matches-two t) (records : List Record)
@@ -82,11 +82,12 @@ done : (t : ℕ) (c : After-list_matches-two t) (records : List Record)
 done t c records u frame =
     let one = c.list_matches-one in
     let two = c.list_matches-two in
-    let both = (rw c.in-And.is at (c.node_at-node.ensures d u stands)) _ u frame.tree in
+    let d = index_below (length records) in
+    let both = rw c.in-And.is at (c.node_at-node.ensures d u frame.tree) in
     let first = one.ensures records both.l (left-list frame both) in
     let second = two.ensures records both.r
-    (right-list frame both _ ((c.end_of-place.ensures ∙ tabled-end
-    (left-rows t c d u stands)) _ u frame.tree)) in
+    (right-list frame both _ (c.end_of-place.ensures ∙ tabled-end
+    (left-tabled (c.requires.of_tree d u frame.tree) both))) in
     let room : c.args.position ≤ length c.args.gone.now = omega (arith, c.requires.list_fits.flags) in
     and-listed c.args.position (matches (match_under (settings_of c.args.settings)) records u) (matches (match_under (settings_of c.args.settings)) records both.l) (matches (match_under (settings_of c.args.settings)) records both.r) _ _ _ _ _ _ _ _ _ one.result
     two.result (both-matches frame both (match_under (settings_of c.args.settings))) room first second

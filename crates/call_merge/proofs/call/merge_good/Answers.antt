@@ -76,7 +76,7 @@ unfolding new_after_merge
 merge_held-requires c =
     let good = rw c.in-Frame.is at c.held_plan.ensures in
     record {
-      holds_frame = record { frame = good.0; c = c.if-plan-n.false; stands = good.1; is = good.2 };
+      holds_frame = record { frame = good.0; fits = c.if-plan-n.false; stands = good.1; is = good.2 };
       given_frame = c.requires;
     }
 

@@ -49,9 +49,9 @@ ready c =
       bytes = all-bytes c.args.plan.now c.slice_known-1.given;
       frame_bytes = all-bytes c.args.frame.now c.shared_slice_known-1.given;
     });
-      under = (sym e ∙ c.over_limits-over.ensures) c.if-over.false;
+      under = sym c.if-over.false ∙ c.over_limits-over.ensures;
       enough = omega (arith, c.if-scratch-n.false);
-      c = omega (arith, c.if-plan-n.false);
+      room = omega (arith, c.if-plan-n.false);
       tabled = omega (arith, c.if-held-count.false);
       copied = c.copy_bytes.ensures;
     }

@@ -21,9 +21,9 @@ slice_bounds-put_and-count c =
 
 pub slice_bounds-put_and-start : goal.slice_bounds-put_and-start
 slice_bounds-put_and-start c =
-    omega (arith, (let tables = c.put_tables-w in
+    let tables = c.put_tables-w in
     part-starts (first-room merged_expr (stored-room (merged-view _ _) c.requires.room))
-    (from_zero tables.ensures) tables.auto.out))
+    (from_zero tables.ensures) tables.auto.out
 
 pub put_and-requires : goal.put_and-requires
 put_and-requires c =

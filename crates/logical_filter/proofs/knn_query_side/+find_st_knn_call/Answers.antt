@@ -41,7 +41,7 @@ unfolding ascii
 find_st_knn_call-requires-in-Nothing t c =
     let left = rw c.in-Nothing.is at c.find_st_knn_call.ensures in
     and-right-there c.requires c.node_at.ensures c.in-And.is c.decreases _
-    (λ d l st. left d l st .1)
+    (λ d l st. (left d l st).1)
 
 pub enum_known-left-in-Binary-1 : goal.enum_known-left-in-Binary-1
 unfolding ascii
@@ -119,7 +119,7 @@ returns-else-same_name_ignore_case t c =
     λ d t h.
     let call = rw c.in-Call.is at (c.node_at.ensures d t h) in (
           no-knn call c.same_name_ignore_case.result c.same_name_ignore_case.ensures c.if-same_name_ignore_case.false,
-          call-end call c.end_children-else-same_name_ignore_case.result (c.end_children-else-same_name_ignore_case.ensures d (call .arguments) (call .stands .row)),
+          call-end call c.end_children-else-same_name_ignore_case.result (c.end_children-else-same_name_ignore_case.ensures d call.arguments call.stands.row),
         )
 
 pub returns-in-Plain : goal.returns-in-Plain

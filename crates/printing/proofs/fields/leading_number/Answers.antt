@@ -7,12 +7,16 @@ use mir.Facts.{Fits-8_64}
 use lib.ListN.{get_or}
 use Rattle.printing.proofs.NodeFields.{short-leads, byte-leads, kind-within, byte-within, short-within}
 use Rattle.printing.proofs.fields.leading_number.Goals as goal
-use Rattle.printing.proofs.fields.leading_number.Goals.{In_default}
+use Rattle.printing.proofs.fields.leading_number.Goals.{In_default, in_default-via-then-src-at-lt1, in_default-via-else-src-at-lt1+else-this-lt4}
 
 -- In the last arm the kind is neither 1, 2 nor 3.
 outside : (c : In_default) → let a =
     c.args in 0 < get_or a.src.now a.at 0 → get_or a.src.now a.at 0 < 4 → ⊥
-outside c some few = ⊎_elim (λ w. omega arith) (λ w. omega arith) c.in_default.branch
+outside c some few =
+    elim c.in_default.branch [
+      in_default-via-then-src-at-lt1 w ↦ omega arith
+    | in_default-via-else-src-at-lt1+else-this-lt4 w ↦ omega arith
+    ]
 
 pub bounds-src-at : goal.bounds-src-at
 bounds-src-at c =

@@ -55,7 +55,7 @@ bounds-out-w-2 c =
 
 pub overflow_add-result : goal.overflow_add-result
 overflow_add-result c =
-    omega (arith, (mark-fits 44 (known-fits (comma-before c.args.position c.if-position-eq0.false c.if-src-at-eq2.false) c.requires)))
+    omega (arith, mark-fits 44 (known-fits (comma-before c.args.position c.if-position-eq0.false c.if-src-at-eq2.false) c.requires))
 
 pub shape_of-out : goal.shape_of-out
 shape_of-out c =

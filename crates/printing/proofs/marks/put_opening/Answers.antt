@@ -43,9 +43,9 @@ overflow_add-result c =
 
 pub overflow_add-at-in-3-3 : goal.overflow_add-at-in-3-3
 overflow_add-at-in-3-3 c =
-    omega (arith, (let p = c.requires in
+    let p = c.requires in
     let call = c.leading_number-number in
-    omega (arith, name-within p.stands c.in-3.is call.result (call.ensures p.it p.stands))))
+    omega (arith, name-within p.stands c.in-3.is call.result (call.ensures p.it p.stands))
 
 pub slice_bounds-put_name-end : goal.slice_bounds-put_name-end
 slice_bounds-put_name-end c =

@@ -63,7 +63,7 @@ overflow_add-result-in-3 c =
 
 pub overflow_add-result-in-3-2 : goal.overflow_add-result-in-3-2
 overflow_add-result-in-3-2 c =
-    omega (arith, (let call = c.leading_number-number in
+    let call = c.leading_number-number in
     omega (
       arith,
       c.decimal_width-width.ensures,
@@ -73,7 +73,7 @@ overflow_add-result-in-3-2 c =
       c.commas-between.ensures,
       c.requires.2,
       few-children c.requires.1,
-    )))
+    )
 
 pub overflow_add-result-in-3-3 : goal.overflow_add-result-in-3-3
 overflow_add-result-in-3-3 c =
@@ -91,14 +91,14 @@ overflow_add-result-in-3-3 c =
 
 pub overflow_add-result-in_default : goal.overflow_add-result-in_default
 overflow_add-result-in_default c =
-    omega (arith, (omega (
+    omega (
       arith,
       c.decimal_width-width.ensures,
       width_small c.leading_number-number.result,
       c.commas-between.ensures,
       c.requires.2,
       few-children c.requires.1,
-    )))
+    )
 
 pub overflow_add-result-in_default-2 : goal.overflow_add-result-in_default-2
 overflow_add-result-in_default-2 c =

@@ -9,6 +9,7 @@ use borrow.Author.Rules.{rules}
 use Rattle.projection.specs.Chains.{Chained}
 use Rattle.projection.proofs.ChainLaws.{chained-none, chain-of, chained-stays, chained-new}
 use Rattle.projection.proofs.places.fill_places.Goals as goal
+use Rattle.projection.proofs.places.fill_places.Goals.{in-Missing, in_default}
 
 pub loop-k-init : goal.loop-k-init
 loop-k-init c =
@@ -57,18 +58,18 @@ loop-k-preserved c =
     let chained = loop.invariant.2 in
     let index = get_or c.args.items.now loop.k 0 in
     let answer = call.ensures _ (chained.walks index) in
-    ⊎_elim
-    (λ w. (
-      omega arith,
-      rw w.4 (simp length-set loop.invariant.1),
-      rw (w.3, w.4) (chained-new chained c.loop-k-test.true index refl (rw w.1.given.1 at answer)),
-    ))
-    (λ w. (
-      omega arith,
-      rw w.3 loop.invariant.1,
-      rw (w.2, w.3) (chained-stays chained c.loop-k-test.true index refl _ (rw w.1.given.1 at answer)),
-    ))
-    c.match-chain_place.branch
+    elim c.match-chain_place.branch [
+      in-Missing w ↦ (
+        omega arith,
+        rw w.nexts-is (simp length-set loop.invariant.1),
+        rw (w.heads-is, w.nexts-is) (chained-new chained c.loop-k-test.true index refl (rw w.in-Missing.is at answer)),
+      )
+    | in_default w ↦ (
+        omega arith,
+        rw w.nexts-is loop.invariant.1,
+        rw (w.heads-is, w.nexts-is) (chained-stays chained c.loop-k-test.true index refl _ (rw w.in_default.is at answer)),
+      )
+    ]
 
 pub shape_of-heads : goal.shape_of-heads
 shape_of-heads c =

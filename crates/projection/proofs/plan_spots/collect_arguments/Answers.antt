@@ -28,7 +28,6 @@ pub returns-in-Relation : goal.returns-in-Relation
 returns-in-Relation c =
     λ P there.
     let call = c.collect_both in
-        let told = c.enum_told-1 in
         two-collected c.args.row.now call.new.row call.result
         call.ensures (relation-two (rw c.in-Relation.is at there))
 

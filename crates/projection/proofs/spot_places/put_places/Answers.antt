@@ -10,7 +10,7 @@ use Rattle.definitions.specs.Project.{place_in}
 use Rattle.projection.proofs.PlaceLaws.{place-within}
 use Rattle.projection.proofs.PlacingLaws.{other-has, other-stays, missing-lacks, found-has, found-placed, Placing, placing-begins, placing-length, placing-goes-on, placing-passes, placing-fails, placing-ends}
 use Rattle.projection.proofs.spot_places.put_places.Goals as goal
-use Rattle.projection.proofs.spot_places.put_places.Goals.{In-At, In-loop-k}
+use Rattle.projection.proofs.spot_places.put_places.Goals.{In-At, In-loop-k, then-spot-wanted+in-At, else-spot-wanted}
 
 -- The number at hand is in the row, and its place in the list fits.
 inside : (c : In-loop-k) → c.loop-k.k < length c.loop-k.row
@@ -19,7 +19,7 @@ inside c = let inv = c.loop-k.invariant in omega (arith, placing-length inv, inv
 found : (c : In-At)
     → let items = c.args.items.now in
     some c.in-At.place ≡ place_in items (get_or c.loop-k.row c.loop-k.k 0 % 65536)
-found c = rw c.in-At.is at c.IsPlace-in.ensures
+found c = rw c.in-At.is at c.place_in.ensures
 
 low : (c : In-At) → c.in-At.place < 4096
 low c =
@@ -68,7 +68,7 @@ returns-in-Missing c =
     let loop = c.loop-k in
     rw (← side.ensures)
     (placing-fails loop.invariant c.loop-k-test.true (missing-lacks _ _ _ c.if-spot-wanted.true
-    (rw c.in-Missing.is at c.IsPlace-in.ensures)))
+    (rw c.in-Missing.is at c.place_in.ensures)))
 
 pub overflow_add-k : goal.overflow_add-k
 overflow_add-k c =
@@ -81,16 +81,17 @@ loop-k-smaller c =
 pub loop-k-preserved : goal.loop-k-preserved
 loop-k-preserved c =
     let loop = c.loop-k in
-    ⊎_elim
-    (λ w.
-    let place : some w.3.given.0.0 ≡ _ = rw w.3.given.1 at w.1.ensures in
-    rw w.5
-    (placing-goes-on loop.invariant c.loop-k-test.true (found-has _ _ _ w.0.taken _ place) _
-    (found-placed _ _ _ w.0.taken _ place)))
-    (λ w.
-    rw w.1
-    (placing-passes loop.invariant c.loop-k-test.true (other-has _ _ _ w.0.left) (other-stays _ _ _ w.0.left)))
-    c.if-spot-wanted.branch
+    elim c.if-spot-wanted.branch [
+      then-spot-wanted+in-At w ↦
+          let place : some w.in-At.place ≡ _ = rw w.in-At.is at w.place_in.ensures in
+          rw w.row-is
+          (placing-goes-on loop.invariant c.loop-k-test.true (found-has _ _ _ w.if-spot-wanted.true _ place) _
+          (found-placed _ _ _ w.if-spot-wanted.true _ place))
+    | else-spot-wanted w ↦
+        rw w.row-is
+        (placing-passes loop.invariant c.loop-k-test.true (other-has _ _ _ w.if-spot-wanted.false)
+        (other-stays _ _ _ w.if-spot-wanted.false))
+    ]
 
 pub shape_of-row : goal.shape_of-row
 shape_of-row c =

@@ -43,28 +43,26 @@ put_frame_head-requires c =
 
 pub overflow_mul-result : goal.overflow_mul-result
 overflow_mul-result c =
-    omega (arith, few ((c)))
+    omega (arith, few (goal.at.overflow_mul-result c).After-keep_records-kept)
 
 pub overflow_add-result : goal.overflow_add-result
 overflow_add-result c =
-    omega (arith, few ((c)))
+    omega (arith, few (goal.at.overflow_add-result c).After-keep_records-kept)
 
 pub shape_of-out : goal.shape_of-out
 shape_of-out c =
-    c.put_frame_head.auto.out ∙ long ((c))
+    c.put_frame_head.auto.out ∙ long (goal.at.shape_of-out c).After-keep_records-kept
 
 pub shape_of-to : goal.shape_of-to
 shape_of-to c =
-    ((c)).keep-records.auto.1.0
+    c.keep_records-kept.auto.to
 
 pub shape_of-keys : goal.shape_of-keys
 shape_of-keys c =
-    ((c)).keep-records.auto.1.1.0
+    c.keep_records-kept.auto.keys
 
 pub returns : goal.returns
 returns c =
-    let call = (c) in
-    let start = call.before.before.before.before.before.before.before.before.before in
-    columns-put start.args.out.now call.keep-records.last.0 call.keep-records.result (omega (arith, start.pre.0.room))
-    call.keep-records.ensures
+    columns-put c.args.out.now c.keep_records-kept.new.out c.keep_records-kept.result (omega (arith, c.requires.all_fit.room))
+    c.keep_records-kept.ensures
     c.put_frame_head.ensures

@@ -6,7 +6,7 @@ use lib.ListN.{length}
 use Rattle.plan_writer.proofs.TableLaws.{records-within}
 use Rattle.remainder.proofs.KeyLaws.{Filled, filled_none, filled-marked, filled-passed, filled-all}
 use Rattle.remainder.proofs.record_keys.marked_keys.Goals as goal
-use Rattle.remainder.proofs.record_keys.marked_keys.Goals.{After-column_key, Then-used-i-eq1}
+use Rattle.remainder.proofs.record_keys.marked_keys.Goals.{After-column_key, Then-used-i-eq1, then-used-i-eq1, else-used-i-eq1}
 
 within : (c : Then-used-i-eq1)
     → let args = c.args in args.rec + 5 * args.count ≤ length args.src.now
@@ -50,11 +50,13 @@ pub loop-i-preserved : goal.loop-i-preserved
 loop-i-preserved c =
     let loop = c.loop-i in
     let less = c.loop-i-test.true in
-    ⊎_elim
-    (λ w. rw (w.2, w.3) (filled-marked loop.invariant less w.0.taken
-    (room (record { before = record { before = c; if1 = w.0 }; column-key = w.1 })) w.1.result w.1.ensures))
-    (λ w. rw (w.1, w.2) (filled-passed loop.invariant less w.0.left))
-    c.if-used-i-eq1.branch
+    let row = loop.invariant.row in
+    elim c.if-used-i-eq1.branch [
+      then-used-i-eq1 w ↦
+          rw (w.keys-is, w.n-is) (filled-marked loop.invariant less w.if-used-i-eq1.true
+          (omega (arith, row.few, loop.invariant.same, c.requires.count_in_bounds)) w.column_key.result w.column_key.ensures)
+    | else-used-i-eq1 w ↦ rw (w.keys-is, w.n-is) (filled-passed loop.invariant less w.if-used-i-eq1.false)
+    ]
 
 pub shape_of-keys : goal.shape_of-keys
 shape_of-keys c =

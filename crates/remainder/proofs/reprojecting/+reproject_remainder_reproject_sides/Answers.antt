@@ -31,7 +31,7 @@ room : (t : ℕ) (c : reproject_remainder-Else-at-cut-2 t)
 room t c =
     let p = c.requires in
     let to = c.args.to.now in
-    let both = (rw c.in-And.is at (c.node_at.ensures (index_below (length c.args.to.now)) u stands)) p.tree p.stands in
+    let both = rw c.in-And.is at (c.node_at.ensures (index_below (length c.args.to.now)) p.tree p.stands) in
     and-room to c.args.cut both p.ends c.if-at-cut.false c.if-at-cut-2.false c.args.out.now p.room
 
 pub reproject_remainder-returns-then-at-cut : goal.reproject_remainder-returns-then-at-cut
@@ -114,12 +114,11 @@ reproject_remainder-reproject_sides-sides-requires t c =
 pub reproject_remainder-overflow_add-result : goal.reproject_remainder-overflow_add-result
 reproject_remainder-overflow_add-result t c =
     let p = c.requires in
-    omega (arith, c.well_formed, p.room, ((λ u stands ends.
-    let to = c.args.to.now in
+    omega (arith, c.well_formed, p.room, ((let to = c.args.to.now in
     let call = c.reproject_sides-sides in
-    let both = found-and t (goal.at.reproject_remainder-overflow_add-result t c).In-And u stands in
-    copy-and to c.args.cut both ends c.if-at-cut.false c.if-at-cut-2.false c.args.out.now
-    call.new.out (room t (goal.at.reproject_remainder-overflow_add-result t c).Else-at-cut-2) call.ensures) p.tree p.stands p.ends).wrote)
+    let both = found-and t (goal.at.reproject_remainder-overflow_add-result t c).In-And p.tree p.stands in
+    copy-and to c.args.cut both p.ends c.if-at-cut.false c.if-at-cut-2.false c.args.out.now
+    call.new.out (room t (goal.at.reproject_remainder-overflow_add-result t c).Else-at-cut-2) call.ensures)).wrote)
 
 pub reproject_remainder-shape_of-out : goal.reproject_remainder-shape_of-out
 reproject_remainder-shape_of-out t c =

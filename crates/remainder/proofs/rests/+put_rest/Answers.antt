@@ -25,7 +25,7 @@ use Rattle.remainder.proofs.rests.+put_rest.Goals as goal
 use Rattle.remainder.proofs.rests.+put_rest.Goals.{After-end_of-place, After-put_rest-right, In-And}
 
 -- The And that was found.
-found : (t : ℕ) (c : In-And t) (d : Columns) (u : Expr)
+abbrev found : (t : ℕ) (c : In-And t) (d : Columns) (u : Expr)
     → Stands d c.args.src.now
     c.args.at u
     → Both expr-and d c.args.src.now
@@ -55,8 +55,8 @@ within t c = let f = c.requires.rest_fits in tabled-within
 right-at : (t : ℕ) (c : After-end_of-place t) (d : Columns) (u : Expr)
     (stands : Stands d c.args.src.now
     c.args.at u)
-    → c.end_of-place.result ≡ c.in-And.left + length (expr_bytes ((rw c.in-And.is at (c.node_at.ensures d u stands)) d u stands).l)
-right-at t c d u stands = c.end_of-place.ensures ∙ tabled-end ((left-tabled (c.requires.of_tree d u stands) (found t c d u stands)) d u stands)
+    → c.end_of-place.result ≡ c.in-And.left + length (expr_bytes (rw c.in-And.is at (c.node_at.ensures d u stands)).l)
+right-at t c d u stands = c.end_of-place.ensures ∙ tabled-end (left-tabled (c.requires.of_tree d u stands) (rw c.in-And.is at (c.node_at.ensures d u stands)))
 
 -- What the call for the right side left.
 right-put : (t : ℕ) (c : After-put_rest-right t) (d : Columns) (u : Expr)
@@ -66,10 +66,10 @@ right-put : (t : ℕ) (c : After-put_rest-right t) (d : Columns) (u : Expr)
     c.args.gone.now
     c.args.out.now
     c.put_rest-right.new.out
-    c.put_rest-right.result ((rw c.in-And.is at (c.node_at.ensures d u stands)) d u stands).r
+    c.put_rest-right.result (rw c.in-And.is at (c.node_at.ensures d u stands)).r
 right-put t c d u stands =
     c.put_rest-right.ensures d _
-    (right-stands ((rw c.in-And.is at (c.node_at.ensures d u stands)) d u stands) _ ((c.end_of-place.ensures ∙ tabled-end (left-rows t c d u stands)) d u stands))
+    (right-stands (rw c.in-And.is at (c.node_at.ensures d u stands)) _ (c.end_of-place.ensures ∙ tabled-end (left-tabled (c.requires.of_tree d u stands) (rw c.in-And.is at (c.node_at.ensures d u stands)))))
 
 pub node_at-requires : goal.node_at-requires
 node_at-requires t c =
