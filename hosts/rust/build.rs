@@ -1,5 +1,5 @@
 //! Finds the archive and has it linked: the file that `SPATIALJOIN_LIB` names, or else the
-//! repository's `target/staticlib/libspatialjoin_c.a`, which `rt staticlib spatialjoin_c` builds.
+//! repository's `target/staticlib/libspatialjoin_c.a`, which `scripts/build-library` builds.
 
 use std::path::{Path, PathBuf};
 use std::{env, fs};
@@ -16,7 +16,7 @@ fn main() {
     if let Err(error) = link(&archive) {
         let archive = archive.display();
         println!("cargo::error={archive}: {error}");
-        println!("cargo::error=run `rt staticlib spatialjoin_c` in the repository's folder");
+        println!("cargo::error=run `scripts/build-library` in the repository's folder");
         println!("cargo::error=or set SPATIALJOIN_LIB to the path of the archive");
     }
 }

@@ -1,4 +1,4 @@
-// All of extract but the table, the answer as a host gets it: what has no lent table needs no proof by hand. Public for `spatialjoin_c`.
+// All of extract but the table, the answer as a host gets it. Public for `spatialjoin_c`.
 ghost use Rattle.host_calls.specs.Hosted.{settings_by};
 ghost use Rattle.host_calls.specs.Cores.{Lent, ExtractBy};
 

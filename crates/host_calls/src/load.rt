@@ -1,4 +1,4 @@
-// All of load but the table, the answer as a host gets it: what has no lent table needs no proof by hand. Public for `spatialjoin_c`.
+// All of load but the table, the answer as a host gets it. Public for `spatialjoin_c`.
 ghost use Rattle.std.specs.Prelude.{◌≡◌, length};
 ghost use Rattle.node_rows.specs.Rows.{RowHas};
 ghost use Rattle.host_calls.specs.Cores.{LoadLeft};

@@ -1,4 +1,4 @@
-// All of merge but the table, the answer as a host gets it: what has no lent table needs no proof by hand. Public for `spatialjoin_c`.
+// All of merge but the table, the answer as a host gets it. Public for `spatialjoin_c`.
 ghost use Rattle.host_calls.specs.Cores.{MergeLeft};
 
 use super::answers::answer_number;

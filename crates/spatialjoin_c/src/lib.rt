@@ -1,5 +1,5 @@
-// What C and Rust hosts call; include/spatialjoin.h declares it. Each answer is a number of 64 bits; the buffers are as the
-// definitions' calls leave them.
+// What C and Rust hosts call: the crate `spatialjoin_c_c` exports each of these functions under its name, and include/spatialjoin.h
+// declares it. Each answer is a number of 64 bits; the buffers are as the definitions' calls leave them.
 #![tactic(auto)]
 
 ghost use Rattle.std.specs.Prelude.{◌≡◌, pos};
@@ -29,8 +29,7 @@ use node_table::{NodeRecord, fill_table, put_nodes, take_nodes};
 use terms::settings::Settings;
 
 // Loads a frame as the new plan and fills the table with its nodes; reads nothing of what both held.
-#[unsafe(no_mangle)]
-pub extern "C" fn spatialjoin_load(frame: &[u8], plan: &mut [u8], table: &mut [NodeRecord]) -> i64
+pub fn spatialjoin_load(frame: &[u8], plan: &mut [u8], table: &mut [NodeRecord]) -> i64
     ensures { LoadHosted frame.now plan.old (nodes_of table.old) plan.new
         (nodes_of table.new) result }
 {
@@ -42,8 +41,7 @@ pub extern "C" fn spatialjoin_load(frame: &[u8], plan: &mut [u8], table: &mut [N
 
 // Pulls the predicate out of the plan in the first n bytes, by the table of the nodes of the frame that is held. The settings are the kinds
 // allowed (bit 0 relation, bit 1 distance, bit 2 KNN), the default k and the greatest k.
-#[unsafe(no_mangle)]
-pub extern "C" fn spatialjoin_extract(
+pub fn spatialjoin_extract(
     plan: &mut [u8],
     n: usize,
     scratch: &mut [u8],
@@ -75,8 +73,7 @@ pub extern "C" fn spatialjoin_extract(
 }
 
 // Exchanges the join's children in the plan in the first n bytes.
-#[unsafe(no_mangle)]
-pub extern "C" fn spatialjoin_exchange(plan: &mut [u8], n: usize, scratch: &mut [u8]) -> i64
+pub fn spatialjoin_exchange(plan: &mut [u8], n: usize, scratch: &mut [u8]) -> i64
     ensures { CallHosted plan.old (definitions.exchange n plan.old scratch.old)
         plan.new scratch.new result }
 {
@@ -84,24 +81,21 @@ pub extern "C" fn spatialjoin_exchange(plan: &mut [u8], n: usize, scratch: &mut 
 }
 
 // The spatial names of a logical frame, how many they are, and its KNN query side.
-#[unsafe(no_mangle)]
-pub extern "C" fn spatialjoin_logical(frame: &[u8]) -> i64
+pub fn spatialjoin_logical(frame: &[u8]) -> i64
     ensures { result ≡ hosted_names (logicals.logical frame.now) }
 {
     logical_number(frame)
 }
 
 // Writes the expression of a frame as text.
-#[unsafe(no_mangle)]
-pub extern "C" fn spatialjoin_print(frame: &[u8], text: &mut [u8]) -> i64
+pub fn spatialjoin_print(frame: &[u8], text: &mut [u8]) -> i64
     ensures { PrintHosted frame.now text.old text.new result }
 {
     print_number(frame, text)
 }
 
 // Joins a frame's filter to that of the plan in the first n bytes, and fills the table with the new plan's nodes.
-#[unsafe(no_mangle)]
-pub extern "C" fn spatialjoin_merge(
+pub fn spatialjoin_merge(
     frame: &[u8],
     plan: &mut [u8],
     n: usize,
@@ -118,8 +112,7 @@ pub extern "C" fn spatialjoin_merge(
 }
 
 // Puts the plan's extraction, in the first n bytes, on children narrowed to lists of their columns.
-#[unsafe(no_mangle)]
-pub extern "C" fn spatialjoin_project(
+pub fn spatialjoin_project(
     plan: &mut [u8],
     n: usize,
     scratch: &mut [u8],
@@ -134,24 +127,21 @@ pub extern "C" fn spatialjoin_project(
 }
 
 // The version of this archive: major · 65,536 + minor · 256 + patch. The header and the cargo package have the same.
-#[unsafe(no_mangle)]
-pub extern "C" fn spatialjoin_version() -> i64
+pub fn spatialjoin_version() -> i64
     ensures { result ≡ pos version }
 {
     0 * 65536 + 14 * 256 + 0
 }
 
 // Adds a frame at the end of a queue of two that share a buffer; nothing looks into the frame.
-#[unsafe(no_mangle)]
-pub extern "C" fn spatialjoin_put(queues: &mut [u8], queue: u8, frame: &[u8]) -> i64
+pub fn spatialjoin_put(queues: &mut [u8], queue: u8, frame: &[u8]) -> i64
     ensures { PutHosted (queued.put queues.old queue frame.now) queues.new result }
 {
     put_number(queues, queue, frame)
 }
 
 // Gives the frame that is due: the oldest of the queue that was not served last, or of the other where that one is empty.
-#[unsafe(no_mangle)]
-pub extern "C" fn spatialjoin_serve(queues: &mut [u8], out: &mut [u8]) -> i64
+pub fn spatialjoin_serve(queues: &mut [u8], out: &mut [u8]) -> i64
     ensures { ServeHosted (queued.serve queues.old out.old) queues.new
         out.new result }
 {
@@ -159,8 +149,7 @@ pub extern "C" fn spatialjoin_serve(queues: &mut [u8], out: &mut [u8]) -> i64
 }
 
 // Writes all indexable conjuncts of a frame under settings: rounds · 65,536 + length.
-#[unsafe(no_mangle)]
-pub extern "C" fn spatialjoin_extract_all(
+pub fn spatialjoin_extract_all(
     frame: &[u8],
     out: &mut [u8],
     kinds: u8,

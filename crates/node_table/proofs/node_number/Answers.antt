@@ -1,6 +1,5 @@
 -- Right because it gives the greatest number where one of the three bounds is passed, and else joins the three.
 use native.Mathlib.Omega.{arith}
-use borrow.Author.Rules.{rules}
 use mathlib.Core.Path.{sym}
 use Rattle.node_table.specs.Records.{node_of}
 use Rattle.node_rows.proofs.NumberLaws.{number-told}

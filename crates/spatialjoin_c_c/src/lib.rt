@@ -1,0 +1,145 @@
+// The calls of the crate `spatialjoin_c` as a C host has them, under their own names and with the same contracts; include/spatialjoin.h
+// declares them. Each is right because the function that it calls is.
+#![tactic(auto)]
+
+ghost use Rattle.std.specs.Prelude.{◌≡◌, pos};
+ghost use Rattle.definitions.specs.Calls as definitions;
+ghost use Rattle.definitions.specs.Hosts.{hosted_names};
+ghost use Rattle.definitions.specs.Logical as logicals;
+ghost use Rattle.definitions.specs.Merge as merges;
+ghost use Rattle.definitions.specs.Project as projects;
+ghost use Rattle.definitions.specs.QueueBytes as queued;
+ghost use Rattle.definitions.specs.Settings as settled;
+ghost use Rattle.spatialjoin_c.specs.Version.{version};
+ghost use Rattle.node_table.specs.Records.{nodes_of};
+ghost use Rattle.host_calls.specs.Hosted.{LoadHosted, CallHosted, settings_by, ExtractHosted, MergeHosted, PrintHosted, PutHosted, ServeHosted, AllHosted};
+
+use node_table::NodeRecord;
+
+// Loads a frame as the new plan and fills the table with its nodes; reads nothing of what both held.
+#[unsafe(no_mangle)]
+pub extern "C" fn spatialjoin_load(frame: &[u8], plan: &mut [u8], table: &mut [NodeRecord]) -> i64
+    ensures { LoadHosted frame.now plan.old (nodes_of table.old) plan.new
+        (nodes_of table.new) result }
+{
+    spatialjoin_c::spatialjoin_load(frame, plan, table)
+}
+
+// Pulls the predicate out of the plan in the first n bytes, by the table of the nodes of the frame that is held. The settings are the kinds
+// allowed (bit 0 relation, bit 1 distance, bit 2 KNN), the default k and the greatest k.
+#[unsafe(no_mangle)]
+pub extern "C" fn spatialjoin_extract(
+    plan: &mut [u8],
+    n: usize,
+    scratch: &mut [u8],
+    table: &[NodeRecord],
+    kinds: u8,
+    default_k: u32,
+    greatest_k: u32,
+) -> i64
+    ensures { ExtractHosted plan.old
+        (settled.extract_under (settings_by kinds default_k greatest_k) n plan.old scratch.old
+        (nodes_of table.now))
+        (settled.extract_walk_under (settings_by kinds default_k greatest_k) n plan.old scratch.old
+        (nodes_of table.now))
+        plan.new scratch.new result }
+{
+    spatialjoin_c::spatialjoin_extract(plan, n, scratch, table, kinds, default_k, greatest_k)
+}
+
+// Exchanges the join's children in the plan in the first n bytes.
+#[unsafe(no_mangle)]
+pub extern "C" fn spatialjoin_exchange(plan: &mut [u8], n: usize, scratch: &mut [u8]) -> i64
+    ensures { CallHosted plan.old (definitions.exchange n plan.old scratch.old)
+        plan.new scratch.new result }
+{
+    spatialjoin_c::spatialjoin_exchange(plan, n, scratch)
+}
+
+// The spatial names of a logical frame, how many they are, and its KNN query side.
+#[unsafe(no_mangle)]
+pub extern "C" fn spatialjoin_logical(frame: &[u8]) -> i64
+    ensures { result ≡ hosted_names (logicals.logical frame.now) }
+{
+    spatialjoin_c::spatialjoin_logical(frame)
+}
+
+// Writes the expression of a frame as text.
+#[unsafe(no_mangle)]
+pub extern "C" fn spatialjoin_print(frame: &[u8], text: &mut [u8]) -> i64
+    ensures { PrintHosted frame.now text.old text.new result }
+{
+    spatialjoin_c::spatialjoin_print(frame, text)
+}
+
+// Joins a frame's filter to that of the plan in the first n bytes, and fills the table with the new plan's nodes.
+#[unsafe(no_mangle)]
+pub extern "C" fn spatialjoin_merge(
+    frame: &[u8],
+    plan: &mut [u8],
+    n: usize,
+    scratch: &mut [u8],
+    table: &mut [NodeRecord],
+) -> i64
+    ensures { MergeHosted frame.now plan.old
+        (merges.merge frame.now n plan.old scratch.old
+        (nodes_of table.old)) plan.new scratch.new (nodes_of table.new) result }
+{
+    spatialjoin_c::spatialjoin_merge(frame, plan, n, scratch, table)
+}
+
+// Puts the plan's extraction, in the first n bytes, on children narrowed to lists of their columns.
+#[unsafe(no_mangle)]
+pub extern "C" fn spatialjoin_project(
+    plan: &mut [u8],
+    n: usize,
+    scratch: &mut [u8],
+    left: &[u16],
+    right: &[u16],
+) -> i64
+    ensures { CallHosted plan.old
+        (projects.project n plan.old scratch.old left.now right.now)
+        plan.new scratch.new result }
+{
+    spatialjoin_c::spatialjoin_project(plan, n, scratch, left, right)
+}
+
+// The version of this archive: major · 65,536 + minor · 256 + patch. The header and the cargo package have the same.
+#[unsafe(no_mangle)]
+pub extern "C" fn spatialjoin_version() -> i64
+    ensures { result ≡ pos version }
+{
+    spatialjoin_c::spatialjoin_version()
+}
+
+// Adds a frame at the end of a queue of two that share a buffer; nothing looks into the frame.
+#[unsafe(no_mangle)]
+pub extern "C" fn spatialjoin_put(queues: &mut [u8], queue: u8, frame: &[u8]) -> i64
+    ensures { PutHosted (queued.put queues.old queue frame.now) queues.new result }
+{
+    spatialjoin_c::spatialjoin_put(queues, queue, frame)
+}
+
+// Gives the frame that is due: the oldest of the queue that was not served last, or of the other where that one is empty.
+#[unsafe(no_mangle)]
+pub extern "C" fn spatialjoin_serve(queues: &mut [u8], out: &mut [u8]) -> i64
+    ensures { ServeHosted (queued.serve queues.old out.old) queues.new
+        out.new result }
+{
+    spatialjoin_c::spatialjoin_serve(queues, out)
+}
+
+// Writes all indexable conjuncts of a frame under settings: rounds · 65,536 + length.
+#[unsafe(no_mangle)]
+pub extern "C" fn spatialjoin_extract_all(
+    frame: &[u8],
+    out: &mut [u8],
+    kinds: u8,
+    default_k: u32,
+    greatest_k: u32,
+) -> i64
+    ensures { AllHosted frame.now (settled.extract_all_under (settings_by kinds default_k greatest_k) frame.now
+        out.old) out.new result }
+{
+    spatialjoin_c::spatialjoin_extract_all(frame, out, kinds, default_k, greatest_k)
+}
