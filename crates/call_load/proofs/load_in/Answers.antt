@@ -1,5 +1,4 @@
 -- A good frame with room is copied, and its nodes are told; each refusal is the frame's own, then 9 for the room, then 17 for the table.
-use borrow.Author.Rules.{rules}
 use native.Mathlib.Omega.{arith}
 use Rattle.node_reader.proofs.Standing.{all-bytes}
 use Rattle.call_load.proofs.Loading.{load-refuses, load-short, load-untabled, load-copies, none_has, frame_has}

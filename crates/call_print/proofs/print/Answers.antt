@@ -1,5 +1,4 @@
 -- A good frame whose text has room is written; each refusal is the frame's own, 15 for the room.
-use borrow.Author.Rules.{rules}
 use Rattle.node_reader.proofs.Standing.{all-bytes}
 use Rattle.call_print.proofs.Texting.{print-refuses, text-there, print-short, text-room, print-writes}
 use Rattle.call_print.proofs.print.Goals as goal

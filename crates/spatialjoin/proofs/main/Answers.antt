@@ -1,5 +1,4 @@
 -- `main`: at the end of the input nothing waits.
-use borrow.Author.Rules.{rules}
 use Rattle.spatialjoin.proofs.main.Goals as goal
 
 pub write_last-requires : goal.write_last-requires

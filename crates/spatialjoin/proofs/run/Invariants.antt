@@ -1,8 +1,6 @@
 -- `run`: between two reads the state stands for what came before; the measure is the turns that are left.
-use borrow.Author.Rules.{rules}
 use Rattle.lines.specs.Sessions.{lent}
 use Rattle.spatialjoin.specs.Runs.{Reached}
-use Rattle.spatialjoin.proofs.Running.{reached-none, reached-more, reached-end}
 use Rattle.spatialjoin.proofs.run.Given as goal
 
 abbrev pub invariant-loop-turns : goal.invariant-loop-turns

@@ -12,8 +12,7 @@ pub extract_core-requires : goal.extract_core-requires
 extract_core-requires c =
     let args = c.args in
     let count = c.taken_count-count in
-    let taken = c.take_nodes in
-    (
+    let taken = c.take_nodes in (
       nodes_of args.table.now,
       row_of args.n args.table.now count.result (replicate 1024 0) taken.new.row count.ensures taken.ensures,
     )

@@ -1,5 +1,4 @@
 -- Right because the core says what is left to put, the row begins with the numbers of these records, and `put_nodes` puts them.
-use native.Mathlib.Omega.{arith}
 use borrow.Author.Rules.{rules}
 use mir.Syntax.{w64}
 use mir.Val.{SFits}

@@ -1,5 +1,4 @@
 -- Right because the core says what is left to fill, which `fill_table` fills.
-use native.Mathlib.Omega.{arith}
 use borrow.Author.Rules.{rules}
 use mir.Syntax.{w64}
 use mir.Val.{SFits}

@@ -1,5 +1,4 @@
 -- Each refusal is the definition's; a held frame or extraction is exchanged.
-use borrow.Author.Rules.{rules}
 use mathlib.Core.Path.{sym}
 use Rattle.join_filter.proofs.Keeping.{plan-length}
 use Rattle.join_filter.proofs.Refusing.{exchange-call, no-room-for-n, no-plan, empty-plan}

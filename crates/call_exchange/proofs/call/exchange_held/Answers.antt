@@ -1,5 +1,4 @@
 -- The held plan is kept in the scratch, and its exchange written from there.
-use borrow.Author.Rules.{rules}
 use Rattle.node_reader.proofs.Standing.{all-bytes}
 use Rattle.call_exchange.proofs.Exchanging.{scratch-short, exchanges, is-exchangeable, copy-length, still-there, held-there}
 use Rattle.call_exchange.proofs.call.exchange_held.Goals as goal

@@ -1,6 +1,5 @@
 -- `put_records_at`: what was written to the lent part stands from w on.
 use native.Mathlib.Omega.{arith}
-use borrow.Author.Rules.{rules}
 use Rattle.writing.proofs.Sequence.{part_room, part-put, ends-within}
 use Rattle.call_exchange.proofs.exchanged_frames.put_records_at.Goals as goal
 

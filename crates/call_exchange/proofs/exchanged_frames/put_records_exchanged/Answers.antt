@@ -1,10 +1,9 @@
 -- `put_records_exchanged`: the records are copied, and a turn negates the side of the next.
-use Prim.Native.Nat.{◌*◌, ◌-◌, ◌≤◌}
+use Prim.Native.Nat.{◌-◌}
 use native.Mathlib.Omega.{arith}
-use borrow.Author.Rules.{rules}
-use mathlib.Core.Path.{◌≡◌, refl}
-use lib.ListN.{length, length-set}
-use Rattle.call_exchange.proofs.RecordLaws.{Negated, records-fit, negated-next, records-put}
+use mathlib.Core.Path.{refl}
+use lib.ListN.{length-set}
+use Rattle.call_exchange.proofs.RecordLaws.{records-fit, negated-next, records-put}
 use Rattle.call_exchange.proofs.exchanged_frames.put_records_exchanged.Goals as goal
 
 pub overflow_mul-n : goal.overflow_mul-n
@@ -14,7 +13,7 @@ overflow_mul-n c =
 pub copy_bytes-requires : goal.copy_bytes-requires
 copy_bytes-requires c =
     let both = records-fit c.requires in
-    record { n_in_bounds = both.0; n_in_bounds_2 = both.1; }
+    record { n_in_bounds = both.0; n_in_bounds_2 = both.1 }
 
 pub loop-i-init : goal.loop-i-init
 loop-i-init c =

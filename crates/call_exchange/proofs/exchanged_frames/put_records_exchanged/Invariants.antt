@@ -1,10 +1,8 @@
 -- `put_records_exchanged`: the records are copied, and a turn negates the side of the next.
 use Prim.Native.Nat.{◌*◌, ◌-◌, ◌≤◌}
-use native.Mathlib.Omega.{arith}
-use borrow.Author.Rules.{rules}
-use mathlib.Core.Path.{◌≡◌, refl}
-use lib.ListN.{length, length-set}
-use Rattle.call_exchange.proofs.RecordLaws.{Negated, records-fit, negated-next, records-put}
+use mathlib.Core.Path.{◌≡◌}
+use lib.ListN.{length}
+use Rattle.call_exchange.proofs.RecordLaws.{Negated}
 use Rattle.call_exchange.proofs.exchanged_frames.put_records_exchanged.Given as goal
 
 abbrev pub invariant-loop-i : goal.invariant-loop-i

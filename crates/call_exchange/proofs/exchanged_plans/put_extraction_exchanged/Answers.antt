@@ -1,6 +1,5 @@
 -- The exchanged predicate, written with its indexes kept, and the remainder where it ended.
 use native.Mathlib.Omega.{arith}
-use borrow.Author.Rules.{rules}
 use Rattle.writing.proofs.Sequence.{from_zero, part_room, part-put, ends-within, part-starts, first-room, second-room, both-put, stored-room, stored-put}
 use Rattle.call_exchange.specs.ExchangedBytes.{remainder_exchanged}
 use Rattle.call_exchange.proofs.FrameViews.{ExtractionView, extraction-view}

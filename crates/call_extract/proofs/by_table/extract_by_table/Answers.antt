@@ -2,7 +2,6 @@
 -- as long as n asks for.
 use native.Mathlib.Omega.{arith}
 use mathlib.Core.Path.{refl, sym, ◌∙◌}
-use borrow.Author.Rules.{rules}
 use borrow.Author.Tests.{not-true, not-false}
 use Rattle.definitions.specs.Calls.{table_fits}
 use Rattle.definitions.specs.Settings.{match_under}

@@ -1,5 +1,4 @@
 -- `extract_lent`: without a held frame the table does not matter.
-use borrow.Author.Rules.{rules}
 use Prim.Native.Nat.{◌≤◌}
 use mathlib.Core.Path.{sym}
 use lib.ListN.{length}
@@ -33,19 +32,19 @@ pub returns-in-Bad : goal.returns-in-Bad
 returns-in-Bad c =
     λ table of.
     let none = rw c.in-Bad.is at c.held_plan_in.ensures in
-        bad-lent _ _ _ _ table (fits (goal.at.returns-in-Bad c).After-held_plan_in) none.0 none.1
+    bad-lent _ _ _ _ table (fits (goal.at.returns-in-Bad c).After-held_plan_in) none.0 none.1
 
 pub returns-in-Empty : goal.returns-in-Empty
 returns-in-Empty c =
     λ table of.
     let none = rw c.in-Empty.is at c.held_plan_in.ensures in
-        empty-lent _ _ _ _ table (fits (goal.at.returns-in-Empty c).After-held_plan_in) none
+    empty-lent _ _ _ _ table (fits (goal.at.returns-in-Empty c).After-held_plan_in) none
 
 pub returns-in-Extraction : goal.returns-in-Extraction
 returns-in-Extraction c =
     λ table of.
     let good = rw c.in-Extraction.is at c.held_plan_in.ensures in
-        extracted-lent _ _ _ _ table (fits (goal.at.returns-in-Extraction c).After-held_plan_in) good.0 good.2
+    extracted-lent _ _ _ _ table (fits (goal.at.returns-in-Extraction c).After-held_plan_in) good.0 good.2
 
 pub returns-in-Frame : goal.returns-in-Frame
 returns-in-Frame c =

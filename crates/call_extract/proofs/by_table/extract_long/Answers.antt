@@ -1,6 +1,5 @@
 -- `extract_long`: no plan has more than 1,024 nodes.
 use native.Mathlib.Omega.{arith}
-use borrow.Author.Rules.{rules}
 use Rattle.call_extract.proofs.Collecting.{clear-rows}
 use Rattle.call_extract.proofs.by_table.extract_long.Goals as goal
 

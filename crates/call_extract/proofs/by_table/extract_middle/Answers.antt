@@ -1,6 +1,5 @@
 -- `extract_middle`: a plan of 768 bytes has at most 256 nodes.
 use native.Mathlib.Omega.{arith}
-use borrow.Author.Rules.{rules}
 use Rattle.call_extract.proofs.Collecting.{clear-rows}
 use Rattle.call_extract.proofs.by_table.extract_middle.Goals as goal
 

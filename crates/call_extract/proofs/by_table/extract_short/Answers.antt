@@ -1,6 +1,5 @@
 -- `extract_short`: a plan of 96 bytes has at most 32 nodes.
 use native.Mathlib.Omega.{arith}
-use borrow.Author.Rules.{rules}
 use Rattle.call_extract.proofs.Collecting.{clear-rows}
 use Rattle.call_extract.proofs.by_table.extract_short.Goals as goal
 

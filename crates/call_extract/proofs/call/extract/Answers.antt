@@ -1,7 +1,6 @@
 -- 24 where the settings are not good; a plan buffer shorter than n holds nothing; rows of 1,024 are enough for every plan.
 use native.Mathlib.Omega.{arith}
 use mathlib.Core.Path.{sym, ◌∙◌}
-use borrow.Author.Rules.{rules}
 use borrow.Author.Tests.{not-true, not-false}
 use Rattle.definitions.specs.SettingsClaims.{GoodSettings}
 use Rattle.terms.specs.Settings.{settings_of}

@@ -1,5 +1,4 @@
 -- Each refusal is the definition's; a held frame, whose nodes are in the rows, is extracted.
-use borrow.Author.Rules.{rules}
 use mathlib.Core.Path.{sym}
 use Rattle.join_filter.proofs.Keeping.{plan-length}
 use Rattle.join_filter.proofs.Walking.{bad-refused, empty-refused, extracted-refused}

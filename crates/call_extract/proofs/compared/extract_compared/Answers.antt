@@ -7,8 +7,7 @@ use mathlib.Core.Logic.{⊎_elim}
 use mathlib.Core.List.{List}
 use mathlib.Core.Path.{◌≡◌, subst}
 use lib.ListN.{length}
-use borrow.Author.Rules.{rules}
-use borrow.Author.Tests.{ltb-true, ltb-false}
+use borrow.Author.Tests.{ltb-false}
 use Rattle.definitions.specs.Good.{AllBytes}
 use Rattle.definitions.specs.Settings.{match_under}
 use Rattle.terms.specs.Settings.{settings_of}
@@ -83,7 +82,7 @@ extract_frame-requires c =
     let a = c.args in record {
       holds_frame = c.requires.holds_frame;
       indexed = row-indexed a.n a.plan.now c.requires.holds_frame (bytes (goal.at.extract_frame-requires c).After-struct_known-1) c.requires.indexed a.row.now
-            (told (goal.at.extract_frame-requires c).After-same_numbers c.if-same_numbers.true);
+          (told (goal.at.extract_frame-requires c).After-same_numbers c.if-same_numbers.true);
       good_settings = c.requires.good_settings;
     }
 

@@ -2,7 +2,6 @@
 use Prim.Native.Nat.{◌≤◌}
 use native.Mathlib.Omega.{arith}
 use lib.ListN.{length}
-use borrow.Author.Rules.{rules}
 use Rattle.call_extract.proofs.Taking.{taken-records, predicate-fits, predicate-ends, remainder-fits, extraction-is, extraction-ends}
 use Rattle.call_extract.proofs.extraction.put_extraction.Goals as goal
 use Rattle.call_extract.proofs.extraction.put_extraction.Goals.{After-child_indexes}
@@ -33,10 +32,13 @@ slice_bounds-put_remainder-count c =
 
 pub slice_bounds-put_remainder-start : goal.slice_bounds-put_remainder-start
 slice_bounds-put_remainder-start c =
-    omega (arith, (let put = c.put_predicate-w in
-    predicate-ends c.requires c.child_indexes.new.to (wide (goal.at.slice_bounds-put_remainder-start c).After-child_indexes)
-    c.child_indexes.ensures.child_table
-    put.new.out put.result put.auto.out put.ensures))
+    omega (
+      arith,
+      (let put = c.put_predicate-w in
+          predicate-ends c.requires c.child_indexes.new.to (wide (goal.at.slice_bounds-put_remainder-start c).After-child_indexes)
+          c.child_indexes.ensures.child_table
+          put.new.out put.result put.auto.out put.ensures),
+    )
 
 pub put_remainder-requires : goal.put_remainder-requires
 put_remainder-requires c =
@@ -47,10 +49,14 @@ put_remainder-requires c =
 
 pub overflow_add-result : goal.overflow_add-result
 overflow_add-result c =
-    omega (arith, c.well_formed, extraction-ends ((let rest = c.put_remainder in
-    let put = c.put_predicate-w in
-    extraction-is c.child_indexes.new.to (wide (goal.at.overflow_add-result c).After-child_indexes) c.child_indexes.ensures.child_table
-    c.args.out.now put.new.out rest.new.out put.result rest.result put.ensures rest.ensures)) c.requires)
+    omega (
+      arith,
+      c.well_formed,
+      extraction-ends ((let rest = c.put_remainder in
+          let put = c.put_predicate-w in
+          extraction-is c.child_indexes.new.to (wide (goal.at.overflow_add-result c).After-child_indexes) c.child_indexes.ensures.child_table
+          c.args.out.now put.new.out rest.new.out put.result rest.result put.ensures rest.ensures)) c.requires,
+    )
 
 pub returns : goal.returns
 returns c =

@@ -1,5 +1,4 @@
 -- Each refusal is the definition's; the frame is kept in the scratch and its extraction written from there.
-use borrow.Author.Rules.{rules}
 use mathlib.Core.Path.{sym}
 use lib.ListN.{take}
 use Rattle.definitions.specs.Settings.{match_under}

@@ -1,5 +1,4 @@
 -- `all_in`: a refused frame has its own refusal; a good one, whose nodes are in the rows, has its conjuncts.
-use borrow.Author.Rules.{rules}
 use Rattle.node_reader.proofs.Standing.{all-bytes}
 use Rattle.call_extract_all.proofs.Calling.{all-refused, good-frame, in_rows}
 use Rattle.call_extract_all.proofs.call.all_in.Goals as goal

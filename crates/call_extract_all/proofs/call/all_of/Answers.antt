@@ -1,5 +1,4 @@
 -- `all_of`: a buffer as long as the frame is written at once; a shorter one once it is known to be long enough.
-use borrow.Author.Rules.{rules}
 use Rattle.call_extract_all.proofs.Calling.{straight-fits, straight, own-fits, own-holds, too_short, copied}
 use Rattle.call_extract_all.proofs.call.all_of.Goals as goal
 

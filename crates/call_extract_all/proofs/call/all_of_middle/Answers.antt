@@ -1,6 +1,5 @@
 -- `all_of_middle`: one of 768 bytes has at most 256 nodes.
 use native.Mathlib.Omega.{arith}
-use borrow.Author.Rules.{rules}
 use Rattle.frame_reader.proofs.FrameRows.{clear-roomy}
 use Rattle.call_extract_all.proofs.Calling.{clear-memory}
 use Rattle.call_extract_all.proofs.call.all_of_middle.Goals as goal

@@ -1,6 +1,5 @@
 -- `all_of_short`: a frame of 96 bytes has at most 32 nodes.
 use native.Mathlib.Omega.{arith}
-use borrow.Author.Rules.{rules}
 use Rattle.frame_reader.proofs.FrameRows.{clear-roomy}
 use Rattle.call_extract_all.proofs.Calling.{clear-memory}
 use Rattle.call_extract_all.proofs.call.all_of_short.Goals as goal

@@ -1,6 +1,5 @@
 -- `extract_all`: 24 before everything else; then the frame's length says which memory is enough.
 use mathlib.Core.Path.{sym, ◌∙◌}
-use borrow.Author.Rules.{rules}
 use borrow.Author.Tests.{not-true, not-false}
 use Rattle.definitions.specs.SettingsClaims.{GoodSettings}
 use Rattle.terms.specs.Settings.{settings_of}

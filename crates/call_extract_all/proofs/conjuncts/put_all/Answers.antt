@@ -2,7 +2,6 @@
 use native.Mathlib.Omega.{arith}
 use Prim.Native.Nat.{◌≤◌}
 use lib.ListN.{length}
-use borrow.Author.Rules.{rules}
 use Rattle.definitions.specs.Settings.{match_under, FairUnder}
 use Rattle.definitions.specs.AllClaims.{TakesAll}
 use Rattle.theorems.proofs.SettingsClaimed.{all-settings-hold}
@@ -43,10 +42,13 @@ slice_bounds-copy_bytes-count c =
 
 pub slice_bounds-copy_bytes-start : goal.slice_bounds-copy_bytes-start
 slice_bounds-copy_bytes-start c =
-    omega (arith, (let p = c.requires.all_fits in
-    let call = c.list_matches-listed in
-    let is = call.ensures p.frame.records p.frame.expr (listable p.at) in
-    (copy-fits p.at (all-taken (goal.at.slice_bounds-copy_bytes-start c).Start) is call.auto.knns call.auto.others call.auto.gone p.room (row-long p.at p.memory)).0))
+    omega (
+      arith,
+      (let p = c.requires.all_fits in
+          let call = c.list_matches-listed in
+          let is = call.ensures p.frame.records p.frame.expr (listable p.at) in
+          (copy-fits p.at (all-taken (goal.at.slice_bounds-copy_bytes-start c).Start) is call.auto.knns call.auto.others call.auto.gone p.room (row-long p.at p.memory)).0),
+    )
 
 pub copy_bytes-requires : goal.copy_bytes-requires
 copy_bytes-requires c =
@@ -61,11 +63,15 @@ copy_bytes-requires c =
 
 pub overflow_add-w : goal.overflow_add-w
 overflow_add-w c =
-    omega (arith, (let p = c.requires.all_fits in
-    let call = c.list_matches-listed in
-    let is = call.ensures p.frame.records p.frame.expr (listable p.at) in
-    let copy = c.copy_bytes in
-    rest-starts p.at (all-taken (goal.at.overflow_add-w c).Start) is call.auto.knns call.auto.others call.auto.gone copy.new.out copy.ensures p.room (row-long p.at p.memory) copy.auto.out), c.well_formed)
+    omega (
+      arith,
+      (let p = c.requires.all_fits in
+          let call = c.list_matches-listed in
+          let is = call.ensures p.frame.records p.frame.expr (listable p.at) in
+          let copy = c.copy_bytes in
+          rest-starts p.at (all-taken (goal.at.overflow_add-w c).Start) is call.auto.knns call.auto.others call.auto.gone copy.new.out copy.ensures p.room (row-long p.at p.memory) copy.auto.out),
+      c.well_formed,
+    )
 
 pub slice_bounds-put_left-count : goal.slice_bounds-put_left-count
 slice_bounds-put_left-count c =
@@ -77,11 +83,14 @@ slice_bounds-put_left-count c =
 
 pub slice_bounds-put_left-start : goal.slice_bounds-put_left-start
 slice_bounds-put_left-start c =
-    omega (arith, (let p = c.requires.all_fits in
-    let call = c.list_matches-listed in
-    let is = call.ensures p.frame.records p.frame.expr (listable p.at) in
-    let copy = c.copy_bytes in
-    rest-starts p.at (all-taken (goal.at.slice_bounds-put_left-start c).Start) is call.auto.knns call.auto.others call.auto.gone copy.new.out copy.ensures p.room (row-long p.at p.memory) copy.auto.out))
+    omega (
+      arith,
+      (let p = c.requires.all_fits in
+          let call = c.list_matches-listed in
+          let is = call.ensures p.frame.records p.frame.expr (listable p.at) in
+          let copy = c.copy_bytes in
+          rest-starts p.at (all-taken (goal.at.slice_bounds-put_left-start c).Start) is call.auto.knns call.auto.others call.auto.gone copy.new.out copy.ensures p.room (row-long p.at p.memory) copy.auto.out),
+    )
 
 pub put_left-rest-requires : goal.put_left-rest-requires
 put_left-rest-requires c =

@@ -2,7 +2,6 @@
 use native.Mathlib.Omega.{arith}
 use mathlib.Core.Path.{ap}
 use lib.ListN.{length}
-use borrow.Author.Rules.{rules}
 use Rattle.call_extract_all.proofs.AllLaws.{whole-left, whole-put, last_fits, last-put}
 use Rattle.call_extract_all.proofs.conjuncts.put_left.Goals as goal
 

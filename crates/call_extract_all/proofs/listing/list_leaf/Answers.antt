@@ -1,10 +1,7 @@
 -- `list_leaf`: the only AND-leaf below the node is the node: a KNN match, another, or none.
 use native.Mathlib.Omega.{arith}
-use mathlib.Core.Path.{refl, ◌∙◌}
-use lib.ListN.{length}
 use Rattle.definitions.specs.Settings.{match_under}
 use Rattle.terms.specs.Settings.{settings_of}
-use borrow.Author.Rules.{rules}
 use Rattle.definitions.specs.Extract.{is_knn}
 use Rattle.leaf_pick.specs.Picks as picks
 use Rattle.call_extract_all.proofs.LeafList.{knn-listed, other-listed, none-is-listed, miss-lacks, both-lack, over, framed, by-table, flag-room, knn-room, other-room, leaf-is}
@@ -63,8 +60,12 @@ bounds-gone-position-in-Matched-match_other c =
 
 pub overflow_add-result-in-Matched-match_other : goal.overflow_add-result-in-Matched-match_other
 overflow_add-result-in-Matched-match_other c =
-    omega (arith, c.well_formed, (let p =
-    c.requires in flag-room p.list_fits (p.of_tree_2 _ p.list_fits.tree p.list_fits.frame.tree)))
+    omega (
+      arith,
+      c.well_formed,
+      (let p =
+          c.requires in flag-room p.list_fits (p.of_tree_2 _ p.list_fits.tree p.list_fits.frame.tree)),
+    )
 
 pub returns-in-Matched-match_other : goal.returns-in-Matched-match_other
 returns-in-Matched-match_other c =

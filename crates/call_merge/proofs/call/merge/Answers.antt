@@ -1,5 +1,4 @@
 -- A frame that is refused is refused by merge; a good one is merged into what is held.
-use borrow.Author.Rules.{rules}
 use Rattle.join_filter.proofs.Refusing.{frame_refused}
 use Rattle.call_merge.proofs.Merging.{unfilled-is}
 use Rattle.call_merge.proofs.call.merge.Goals as goal

@@ -1,6 +1,5 @@
 -- The limits, then the room; the held frame is kept in the scratch, and the merged one written from there and from the new frame.
 use Prim.Native.Nat.{◌+◌, ◌≤◌}
-use borrow.Author.Rules.{rules}
 use native.Mathlib.Omega.{arith}
 use mathlib.Core.Path.{◌≡◌, refl, sym, ◌∙◌}
 use mathlib.Core.Bool.{false}
@@ -44,11 +43,11 @@ ready : (c : After-copy_bytes)
 ready c =
     record {
       both = (record {
-      held = c.requires.holds_frame;
-      given = c.requires.given_frame;
-      bytes = all-bytes c.args.plan.now c.slice_known-1.given;
-      frame_bytes = all-bytes c.args.frame.now c.shared_slice_known-1.given;
-    });
+        held = c.requires.holds_frame;
+        given = c.requires.given_frame;
+        bytes = all-bytes c.args.plan.now c.slice_known-1.given;
+        frame_bytes = all-bytes c.args.frame.now c.shared_slice_known-1.given;
+      });
       under = sym c.if-over.false ∙ c.over_limits-over.ensures;
       enough = omega (arith, c.if-scratch-n.false);
       room = omega (arith, c.if-plan-n.false);
@@ -119,7 +118,7 @@ slice_bounds-put_merged-end-2 c =
 pub put_merged-length-requires : goal.put_merged-length-requires
 put_merged-length-requires c =
     let both = merged-room (ready (goal.at.put_merged-length-requires c).After-copy_bytes) in
-    record { room = both.0; columns_bound = both.1; }
+    record { room = both.0; columns_bound = both.1 }
 
 pub returns : goal.returns
 returns c =

@@ -1,6 +1,5 @@
 -- `put_merged`: head and tables, and the And into the part where they ended.
 use native.Mathlib.Omega.{arith}
-use borrow.Author.Rules.{rules}
 use Rattle.writing.proofs.Sequence.{from_zero, part_room, part-put, ends-within, part-starts, first-room, second-room, both-put, stored-room, stored-put}
 use Rattle.call_merge.specs.Merging.{merged_expr}
 use Rattle.call_merge.proofs.MergeViews.{merged-view}
@@ -36,10 +35,14 @@ put_and-requires c =
 
 pub overflow_add-result : goal.overflow_add-result
 overflow_add-result c =
-    omega (arith, c.well_formed, ends-within c.requires.room (from_zero ((let and = c.put_and in
-    let tables = c.put_tables-w in
-    stored-put (merged-view c.args.f c.args.g) c.requires.room
-    (both-put (omega arith) (from_zero tables.ensures) (part-put tables.new.out and.new.out tables.result and.ensures))))))
+    omega (
+      arith,
+      c.well_formed,
+      ends-within c.requires.room (from_zero ((let and = c.put_and in
+          let tables = c.put_tables-w in
+          stored-put (merged-view c.args.f c.args.g) c.requires.room
+          (both-put (omega arith) (from_zero tables.ensures) (part-put tables.new.out and.new.out tables.result and.ensures))))),
+    )
 
 pub returns : goal.returns
 returns c =

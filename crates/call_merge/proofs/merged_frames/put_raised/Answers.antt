@@ -1,6 +1,5 @@
 -- `put_raised`: each index is raised by the table, and the copy by it stands from w on.
 use native.Mathlib.Omega.{arith}
-use borrow.Author.Rules.{rules}
 use Prim.Native.Nat.{◌≤◌}
 use lib.ListN.{length}
 use Rattle.writing.proofs.Sequence.{part_room, part-put, ends-within}
@@ -18,10 +17,14 @@ reproject_column_references-copied-requires c =
 
 pub overflow_add-result : goal.overflow_add-result
 overflow_add-result c =
-    omega (arith, c.well_formed, ends-within c.requires.room ((let copy = c.reproject_column_references-copied in
-    let a = c.args in
-    part-put a.out.now copy.new.out a.w
-    (raised-put a.by (wide (goal.at.overflow_add-result c).After-raised_indexes) c.raised_indexes.ensures.raised_table copy.ensures))))
+    omega (
+      arith,
+      c.well_formed,
+      ends-within c.requires.room ((let copy = c.reproject_column_references-copied in
+          let a = c.args in
+          part-put a.out.now copy.new.out a.w
+          (raised-put a.by (wide (goal.at.overflow_add-result c).After-raised_indexes) c.raised_indexes.ensures.raised_table copy.ensures))),
+    )
 
 pub returns : goal.returns
 returns c =

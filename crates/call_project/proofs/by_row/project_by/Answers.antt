@@ -1,5 +1,4 @@
 -- `project_by`: where the lists have all child indexes, the old plan is kept in the scratch and its places are put into the plan.
-use borrow.Author.Rules.{rules}
 use mathlib.Core.Path.{sym}
 use Rattle.join_filter.proofs.Keeping.{plan-length}
 use Rattle.projection.proofs.ProjectedBytes.{within}

@@ -1,5 +1,4 @@
 -- Each refusal is the definition's; a held extraction is projected.
-use borrow.Author.Rules.{rules}
 use mathlib.Core.Path.{sym}
 use Rattle.node_reader.proofs.Standing.{all-bytes}
 use Rattle.join_filter.proofs.Keeping.{plan-length}

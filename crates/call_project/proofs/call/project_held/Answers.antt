@@ -1,6 +1,5 @@
 -- `project_held`: lists, then scratch, then the child indexes; a row of 64 entries has room for those of 320 bytes.
 use native.Mathlib.Omega.{arith}
-use borrow.Author.Rules.{rules}
 use Rattle.call_project.proofs.ProjectCall.{left-long, right-long, scratch-short, held-short}
 use Rattle.call_project.proofs.call.project_held.Goals as goal
 

@@ -1,10 +1,9 @@
 -- `end_node` and `end_children`: a node walk goes further on, a row walk to a node at its own place; so the measure is twice the bytes
 -- left, one more for a row.
-use Prim.Native.Nat.{◌+◌, ◌-◌, ◌*◌}
+use Prim.Native.Nat.{◌-◌}
 use native.Mathlib.Omega.{arith}
-use lib.ListN.{length}
 use Rattle.expression.proofs.Standing.{node-some, after-head}
-use Rattle.expression.proofs.EndWalk.{end-node, end_none, children-there, InEnds, ends-begin, ends-first, ends-go-on, ends-end}
+use Rattle.expression.proofs.EndWalk.{end-node, end_none, children-there, ends-begin, ends-first, ends-go-on, ends-end}
 use Rattle.expression.proofs.ends.+end_children_end_node.Goals as goal
 
 pub end_children-loop-left-init : goal.end_children-loop-left-init
@@ -32,7 +31,7 @@ pub end_node-returns-then-n-eq0 : goal.end_node-returns-then-n-eq0
 end_node-returns-then-n-eq0 t c =
     λ d t stands.
     let head = c.head_at-head in
-        end-node stands head.result (head.ensures d t stands) head.result.next (λ e ts row. end_none row c.if-n-eq0.true)
+    end-node stands head.result (head.ensures d t stands) head.result.next (λ e ts row. end_none row c.if-n-eq0.true)
 
 pub end_node-end_children-requires : goal.end_node-end_children-requires
 end_node-end_children-requires t c =
@@ -47,4 +46,4 @@ pub end_node-returns : goal.end_node-returns
 end_node-returns t c =
     λ d t stands.
     let head = c.head_at-head in
-        end-node stands head.result (head.ensures d t stands) c.end_children.result c.end_children.ensures
+    end-node stands head.result (head.ensures d t stands) c.end_children.result c.end_children.ensures

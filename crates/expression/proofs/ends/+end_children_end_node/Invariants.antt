@@ -1,10 +1,8 @@
 -- `end_node` and `end_children`: a node walk goes further on, a row walk to a node at its own place; so the measure is twice the bytes
 -- left, one more for a row.
 use Prim.Native.Nat.{◌+◌, ◌-◌, ◌*◌}
-use native.Mathlib.Omega.{arith}
 use lib.ListN.{length}
-use Rattle.expression.proofs.Standing.{node-some, after-head}
-use Rattle.expression.proofs.EndWalk.{end-node, end_none, children-there, InEnds, ends-begin, ends-first, ends-go-on, ends-end}
+use Rattle.expression.proofs.EndWalk.{InEnds}
 use Rattle.expression.proofs.ends.+end_children_end_node.Given as goal
 
 abbrev pub invariant-end_children-loop-left : goal.invariant-end_children-loop-left

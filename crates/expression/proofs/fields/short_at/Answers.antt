@@ -2,7 +2,6 @@
 use native.Mathlib.Omega.{arith}
 use mir.Facts.{Fits-8_64}
 use Prim.Native.Nat.{◌+◌}
-use borrow.Author.Rules.{rules}
 use Rattle.expression.proofs.fields.short_at.Goals as goal
 
 pub overflow_cast-result : goal.overflow_cast-result

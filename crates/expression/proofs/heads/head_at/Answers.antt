@@ -3,7 +3,6 @@ use mir.Facts.{Fits-8_64}
 use native.Mathlib.Omega.{arith}
 use Rattle.expression.proofs.Standing.{node-some}
 use Rattle.expression.proofs.HeadLaws.{head-column, head-literal, head-binary, head-call, head-other, head-field, call-within, other-within}
-use borrow.Author.Rules.{rules}
 use Rattle.expression.proofs.heads.head_at.Goals as goal
 
 pub bounds-s-at : goal.bounds-s-at

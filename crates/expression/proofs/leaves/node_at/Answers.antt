@@ -1,7 +1,6 @@
 -- `node_at`: the first byte tells the kind, an operator's second byte And from the others; the head says where the children stand.
 use native.Mathlib.Omega.{arith}
 use mathlib.Core.Path.{sym, ◌∙◌}
-use borrow.Author.Rules.{rules}
 use Rattle.expression.proofs.Standing.{node-some, kind-is, after-head}
 use Rattle.expression.proofs.LeafLaws.{operator-within, node-and, node-binary, node_call, plain-node}
 use Rattle.expression.proofs.leaves.node_at.Goals as goal

@@ -1,5 +1,4 @@
 -- The lower half are the numbers from 0 on, and the upper half count down from −1.
-use borrow.Author.Rules.{rules}
 use mir.Facts.{to_z-of_z}
 use Rattle.expression.proofs.Signed.{lower, upper, upper_fits}
 use Rattle.expression.proofs.literals.signed.Goals as goal

@@ -1,7 +1,6 @@
 -- `letter_in`: 65 to 90 are the capital letters.
 use native.Mathlib.Omega.{arith}
 use mathlib.Core.Path.{sym}
-use borrow.Author.Rules.{rules}
 use Rattle.expression.proofs.NameLaws.{capital, below-capitals, above-capitals}
 use Rattle.expression.proofs.names.letter_in.Goals as goal
 

@@ -1,12 +1,9 @@
 -- `name_index`: none of the names before `from` is this one, and `i` counts them; so the next word is it, or is counted too.
 use Prim.Native.Nat.{◌-◌}
-use lib.ListN.{length}
-use borrow.Author.Rules.{rules}
 use native.Mathlib.Omega.{arith}
 use mathlib.Core.Path.{sym, ◌∙◌}
 use Rattle.expression.specs.Places.{part}
-use Rattle.expression.specs.Names.{spelled}
-use Rattle.expression.proofs.WordLaws.{Passed, none_passed, end-there, word-there, name-found, name-missing, name-passed}
+use Rattle.expression.proofs.WordLaws.{none_passed, end-there, word-there, name-found, name-missing, name-passed}
 use Rattle.expression.proofs.names.name_index.Goals as goal
 
 pub loop-case-init : goal.loop-case-init

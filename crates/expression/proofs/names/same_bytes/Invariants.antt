@@ -1,12 +1,9 @@
 -- `same_bytes`: names of one length are the same if no byte differs; the loop keeps that the rest decides.
 use Prim.Native.Nat.{◌-◌}
 use lib.ListN.{length}
-use borrow.Author.Rules.{rules}
-use native.Mathlib.Omega.{arith}
-use mathlib.Core.Path.{refl, sym}
 use Rattle.expression.specs.Places.{part}
 use Rattle.expression.specs.Names.{spelled}
-use Rattle.expression.proofs.NameLaws.{SoFar, other_length, same_more, same-less, same-all}
+use Rattle.expression.proofs.NameLaws.{SoFar}
 use Rattle.expression.proofs.names.same_bytes.Given as goal
 
 abbrev pub invariant-loop-i : goal.invariant-loop-i

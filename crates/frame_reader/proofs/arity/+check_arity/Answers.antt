@@ -1,10 +1,8 @@
 -- `check_arity`: of an And the left child is checked by a call, and the loop goes on with the right one, from where the left one ended;
 -- the measure is the bytes left.
 use Prim.Native.Nat.{◌-◌}
-use lib.ListN.{length}
-use borrow.Author.Rules.{rules}
 use Rattle.expression.proofs.There.{pair-there, call-there, plain-there}
-use Rattle.frame_reader.proofs.ArityLaws.{OnRight, right-begins, left_below, left-lacks, right-less, right-goes-on, binary-last, call-last, plain-last}
+use Rattle.frame_reader.proofs.ArityLaws.{right-begins, left_below, left-lacks, right-less, right-goes-on, binary-last, call-last, plain-last}
 use Rattle.frame_reader.proofs.arity.+check_arity.Goals as goal
 
 pub loop-left-init : goal.loop-left-init

@@ -2,9 +2,7 @@
 -- the measure is the bytes left.
 use Prim.Native.Nat.{◌-◌}
 use lib.ListN.{length}
-use borrow.Author.Rules.{rules}
-use Rattle.expression.proofs.There.{pair-there, call-there, plain-there}
-use Rattle.frame_reader.proofs.ArityLaws.{OnRight, right-begins, left_below, left-lacks, right-less, right-goes-on, binary-last, call-last, plain-last}
+use Rattle.frame_reader.proofs.ArityLaws.{OnRight}
 use Rattle.frame_reader.proofs.arity.+check_arity.Given as goal
 
 abbrev pub invariant-loop-left : goal.invariant-loop-left

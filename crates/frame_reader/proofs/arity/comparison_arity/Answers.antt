@@ -1,7 +1,5 @@
 -- `comparison_arity`: only the side that is read is asked; a comparison ends where its right side does.
 use mathlib.Core.Path.{sym, ◌∙◌}
-use mathlib.Core.Logic.{⊎_elim}
-use borrow.Author.Rules.{rules}
 use borrow.Author.Tests.{not-true, not-false}
 use Rattle.expression.proofs.Parts.{pair_ends}
 use Rattle.expression.proofs.There.{first-of-pair, second-of-pair}
@@ -37,11 +35,11 @@ returns c =
     λ d l r row.
     let right = c.end_node-right in (
       elim c.match-comparison.branch [
-        in-Sides+else-not-enough_to_measure w ↦
+        | in-Sides+else-not-enough_to_measure w ↦
             let sides = sides-found row right.result right.ensures _ w.in-Sides.is c.comparison.ensures in
             asked _ l r sides ∙ sym (w.enough_to_measure.ensures d sides.m sides.stands_measured)
-                ∙ not-false _ w.if-not-enough_to_measure.false-raw
-      | in_default w ↦ not-asked _ l r (sides-missing row right.result right.ensures _ w.in_default.is c.comparison.ensures)
+            ∙ not-false _ w.if-not-enough_to_measure.false-raw
+        | in_default w ↦ not-asked _ l r (sides-missing row right.result right.ensures _ w.in_default.is c.comparison.ensures)
       ],
       pair_ends row right.result c.end_node.result right.ensures c.end_node.ensures,
     )

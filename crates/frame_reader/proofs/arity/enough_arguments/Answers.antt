@@ -6,7 +6,6 @@ use Rattle.definitions.specs.Leaves.{relation_arity}
 use Rattle.frame_reader.proofs.ArityLaws.{call_needs}
 use Rattle.frame_reader.proofs.arity.enough_arguments.Goals as goal
 
-
 pub same_name-requires : goal.same_name-requires
 unfolding ascii relation_arity
 same_name-requires c =
@@ -37,11 +36,11 @@ unfolding ascii relation_arity
 returns-in-Relation c =
     λ d name args st.
     rw (c.if-same_name.false, c.in-Relation.is) at
-        (call_needs st c.same_name.ensures _ c.from_name.ensures)
+    (call_needs st c.same_name.ensures _ c.from_name.ensures)
 
 pub returns-in-Nothing : goal.returns-in-Nothing
 unfolding ascii relation_arity
 returns-in-Nothing c =
     λ d name args st.
     rw (c.if-same_name.false, c.in-Nothing.is) at
-        (call_needs st c.same_name.ensures _ c.from_name.ensures)
+    (call_needs st c.same_name.ensures _ c.from_name.ensures)

@@ -1,8 +1,7 @@
 -- `arity_by_rows`: what is left to check is a row of expressions; an And is replaced by its children, and a leaf that has enough falls out.
 use Prim.Native.Nat.{◌-◌}
 use native.Mathlib.Omega.{arith}
-use borrow.Author.Rules.{rules}
-use Rattle.frame_reader.proofs.ByRows.{Checking, checking-begins, left-listed, lacks, goes_on, all-checked}
+use Rattle.frame_reader.proofs.ByRows.{checking-begins, left-listed, lacks, goes_on, all-checked}
 use Rattle.frame_reader.proofs.by_rows.arity_by_rows.Goals as goal
 
 pub loop-i-init : goal.loop-i-init

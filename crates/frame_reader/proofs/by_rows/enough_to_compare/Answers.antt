@@ -2,7 +2,6 @@
 use native.Mathlib.Omega.{arith}
 use mathlib.Core.Path.{sym, ◌∙◌}
 use mir.Facts.{Fits-16_64}
-use borrow.Author.Rules.{rules}
 use Rattle.node_rows.proofs.RowLaws.{tabled-within}
 use Rattle.sedona_expr.proofs.Comparing.{pair-within, index-sides, index-nothing, starts}
 use Rattle.frame_reader.proofs.ArityLaws.{not-asked, asked}
@@ -24,7 +23,7 @@ pub returns-in_default : goal.returns-in_default
 returns-in_default c =
     λ d l r row.
     sym (not-asked _ l r (index-nothing c.requires.of_pair _
-        c.comparison.ensures c.in_default.is d l r row))
+    c.comparison.ensures c.in_default.is d l r row))
 
 pub start_of-requires : goal.start_of-requires
 start_of-requires c =
@@ -42,5 +41,5 @@ pub returns : goal.returns
 returns c =
     λ d l r row.
     let both = index-sides c.requires.of_pair _
-        c.comparison.ensures c.in-Sides.is d l r row in
-        c.enough_to_measure.ensures d both.m (starts both.stands_measured c.start_of.ensures) ∙ sym (asked _ l r both)
+    c.comparison.ensures c.in-Sides.is d l r row in
+    c.enough_to_measure.ensures d both.m (starts both.stands_measured c.start_of.ensures) ∙ sym (asked _ l r both)

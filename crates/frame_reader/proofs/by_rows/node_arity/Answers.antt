@@ -2,7 +2,6 @@
 use native.Mathlib.Omega.{arith}
 use mathlib.Core.Path.{sym, ◌∙◌, subst, subst⁻¹}
 use mir.Facts.{Fits-16_64}
-use borrow.Author.Rules.{rules}
 use Rattle.expression.specs.Nodes.{Tree, OfTreeIn}
 use Rattle.expression.specs.Leaves.{NodeIs}
 use Rattle.expression.proofs.There.{call-there}
@@ -59,9 +58,9 @@ overflow_add-i c =
 pub enough_to_compare-requires : goal.enough_to_compare-requires
 enough_to_compare-requires c =
     let both = pair-listed c.requires.0
-        c.requires.1 (is (goal.at.enough_to_compare-requires c).After-node_at)
-        c.in-Binary.is in
-    record { pair = both.0; of_pair = both.1; }
+    c.requires.1 (is (goal.at.enough_to_compare-requires c).After-node_at)
+    c.in-Binary.is in
+    record { pair = both.0; of_pair = both.1 }
 
 pub enough_arguments-requires : goal.enough_arguments-requires
 enough_arguments-requires c =

@@ -48,8 +48,8 @@ unfolding one_record
 returns-in-Refused-two_fields c =
     λ n.
     after _ ((rw c.in-Value.is at
-        c.side_up_to.ensures).1 n)
-        ∙ stops-in-two (number 2 n _) (number 2) _ ((rw c.in-Refused-two_fields.is at c.two_fields.ensures) n)
+    c.side_up_to.ensures).1 n)
+    ∙ stops-in-two (number 2 n _) (number 2) _ ((rw c.in-Refused-two_fields.is at c.two_fields.ensures) n)
 
 pub returns-in-Values : goal.returns-in-Values
 unfolding one_record

@@ -38,4 +38,4 @@ unfolding record_count
 returns-else-value-le256 c =
     λ n.
     let many = rw c.in-Value.is at c.number.ensures in
-        after _ (many.1 n) ∙ fails 4 _ n _ (lt-leb c.in-Value.value 256 (omega arith))
+    after _ (many.1 n) ∙ fails 4 _ n _ (lt-leb c.in-Value.value 256 (omega arith))

@@ -1,10 +1,7 @@
 -- One record and then the others: what is right for those left is right for all.
-use borrow.Author.Rules.{rules}
 use native.Mathlib.Omega.{arith}
-use Prim.Native.Nat.{◌≤◌}
-use lib.ListN.{length}
 use Rattle.definitions.specs.Decode.{one_record}
-use Rattle.node_reader.proofs.Repeats.{Left, all-left, one_fewer, one-stops, none-left}
+use Rattle.node_reader.proofs.Repeats.{all-left, one_fewer, one-stops, none-left}
 use Rattle.frame_reader.proofs.column_records.records.Goals as goal
 
 pub loop-left-init : goal.loop-left-init

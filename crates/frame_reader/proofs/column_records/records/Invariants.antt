@@ -1,10 +1,8 @@
 -- One record and then the others: what is right for those left is right for all.
-use borrow.Author.Rules.{rules}
-use native.Mathlib.Omega.{arith}
 use Prim.Native.Nat.{◌≤◌}
 use lib.ListN.{length}
 use Rattle.definitions.specs.Decode.{one_record}
-use Rattle.node_reader.proofs.Repeats.{Left, all-left, one_fewer, one-stops, none-left}
+use Rattle.node_reader.proofs.Repeats.{Left}
 use Rattle.frame_reader.proofs.column_records.records.Given as goal
 
 abbrev pub invariant-loop-left : goal.invariant-loop-left

@@ -1,5 +1,4 @@
 -- The arity is what the walk over the AND-leaves found.
-use borrow.Author.Rules.{rules}
 use mathlib.Core.Path.{sym}
 use Rattle.frame_reader.proofs.frame_bodies.enough_arguments.Goals as goal
 

@@ -1,5 +1,4 @@
 -- Rows without a place are lent, and what is said of them is left out.
-use borrow.Author.Rules.{rules}
 use Rattle.frame_reader.proofs.FrameRows.{body-without-rows}
 use Rattle.frame_reader.proofs.frame_bodies.frame_body.Goals as goal
 

@@ -38,4 +38,4 @@ unfolding opening
 returns-else-first-sort c =
     λ n.
     let first = rw c.in-Value.is at c.first_byte.ensures in
-        after _ (first.1 n) ∙ rw (ne_eqb _ _ c.if-first-sort.false)
+    after _ (first.1 n) ∙ rw (ne_eqb _ _ c.if-first-sort.false)

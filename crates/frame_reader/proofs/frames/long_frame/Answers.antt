@@ -1,6 +1,5 @@
 -- `long_frame`: no frame has more than 1,024 nodes.
 use native.Mathlib.Omega.{arith}
-use borrow.Author.Rules.{rules}
 use Rattle.frame_reader.proofs.FrameRows.{clear-roomy, without-rows}
 use Rattle.frame_reader.proofs.frames.long_frame.Goals as goal
 

@@ -1,6 +1,5 @@
 -- `middle_frame`: a frame of 768 bytes has at most 256 nodes.
 use native.Mathlib.Omega.{arith}
-use borrow.Author.Rules.{rules}
 use Rattle.frame_reader.proofs.FrameRows.{clear-roomy, without-rows}
 use Rattle.frame_reader.proofs.frames.middle_frame.Goals as goal
 

@@ -86,8 +86,8 @@ pub arity_by_rows-requires : goal.arity_by_rows-requires
 unfolding frame_of physical_frame result_of
 arity_by_rows-requires c =
     let read = body (goal.at.arity_by_rows-requires c).In-Read in
-        let both = frame-listed read.3 (tabled (goal.at.arity_by_rows-requires c).In-Read) read.4 in
-    record { listed = both.0; of_tree = both.1; }
+    let both = frame-listed read.3 (tabled (goal.at.arity_by_rows-requires c).In-Read) read.4 in
+    record { listed = both.0; of_tree = both.1 }
 
 pub returns-in-Refused : goal.returns-in-Refused
 unfolding frame_of physical_frame result_of

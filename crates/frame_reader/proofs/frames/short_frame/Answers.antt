@@ -1,6 +1,5 @@
 -- `short_frame`: a frame of 96 bytes has at most 32 nodes.
 use native.Mathlib.Omega.{arith}
-use borrow.Author.Rules.{rules}
 use Rattle.frame_reader.proofs.FrameRows.{clear-roomy, without-rows}
 use Rattle.frame_reader.proofs.frames.short_frame.Goals as goal
 

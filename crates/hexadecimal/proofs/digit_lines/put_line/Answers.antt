@@ -18,9 +18,12 @@ bounds-out-end c =
 
 pub overflow_add-result : goal.overflow_add-result
 overflow_add-result c =
-    omega (arith, (let head = c.encode-middle in
-    let body = c.encode-end in
-    feed-room _ _ head.ensures head.auto.out (search rules) body.ensures body.auto.out))
+    omega (
+      arith,
+      (let head = c.encode-middle in
+          let body = c.encode-end in
+          feed-room _ _ head.ensures head.auto.out (search rules) body.ensures body.auto.out),
+    )
 
 pub shape_of-out : goal.shape_of-out
 shape_of-out c =

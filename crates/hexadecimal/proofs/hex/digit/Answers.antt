@@ -1,5 +1,4 @@
 -- `digit`: the test of the code is that of the definition.
-use borrow.Author.Rules.{rules}
 use Rattle.hexadecimal.proofs.DigitLaws.{below-ten, from-ten}
 use Rattle.hexadecimal.proofs.hex.digit.Goals as goal
 

@@ -1,5 +1,4 @@
 -- `digit_pair`: both characters are digits, or one of them is none.
-use borrow.Author.Rules.{rules}
 use native.Mathlib.Omega.{arith}
 use mathlib.Core.Path.{◌≡◌, sym, ap, ◌∙◌}
 use mathlib.Core.Option.{some}

@@ -1,5 +1,4 @@
 -- `digit_value`: each range of characters is a case of the definition.
-use borrow.Author.Rules.{rules}
 use native.Mathlib.Omega.{arith}
 use Rattle.hexadecimal.proofs.DigitLaws.{is_number, is-letter, below-numbers, between, above-letters}
 use Rattle.hexadecimal.proofs.hex.digit_value.Goals as goal

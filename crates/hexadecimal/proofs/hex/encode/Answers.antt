@@ -3,7 +3,7 @@ use Prim.Native.Nat.{◌+◌, ◌-◌, ◌<◌}
 use borrow.Author.Rules.{rules}
 use native.Mathlib.Omega.{arith}
 use lib.ListN.{length, length-set}
-use Rattle.hexadecimal.proofs.EncodeLaws.{Encoded, encoded-none, encoded-room, encoded-more, all-encoded}
+use Rattle.hexadecimal.proofs.EncodeLaws.{encoded-none, encoded-room, encoded-more, all-encoded}
 use Rattle.hexadecimal.proofs.hex.encode.Goals as goal
 use Rattle.hexadecimal.proofs.hex.encode.Goals.{After-digit}
 

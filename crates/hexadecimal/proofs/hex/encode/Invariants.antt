@@ -1,9 +1,7 @@
 -- `encode`: the digits of i bytes are written, and a turn adds two.
-use Prim.Native.Nat.{◌+◌, ◌-◌, ◌<◌}
-use borrow.Author.Rules.{rules}
-use native.Mathlib.Omega.{arith}
-use lib.ListN.{length, length-set}
-use Rattle.hexadecimal.proofs.EncodeLaws.{Encoded, encoded-none, encoded-room, encoded-more, all-encoded}
+use Prim.Native.Nat.{◌-◌}
+use lib.ListN.{length}
+use Rattle.hexadecimal.proofs.EncodeLaws.{Encoded}
 use Rattle.hexadecimal.proofs.hex.encode.Given as goal
 
 abbrev pub invariant-loop-i : goal.invariant-loop-i

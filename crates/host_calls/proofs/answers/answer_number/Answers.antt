@@ -1,5 +1,4 @@
 -- `answer_number`: each answer by itself.
-use borrow.Author.Rules.{rules}
 use native.Mathlib.Omega.{arith}
 use Rattle.definitions.specs.Hosts.{hosted}
 use Rattle.host_calls.proofs.Numbers.{given_back}

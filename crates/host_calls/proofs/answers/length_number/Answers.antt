@@ -1,5 +1,4 @@
 -- `length_number`: so small a number is the same with a sign.
-use borrow.Author.Rules.{rules}
 use native.Mathlib.Omega.{arith}
 use Rattle.host_calls.proofs.Numbers.{number-is}
 use Rattle.host_calls.proofs.answers.length_number.Goals as goal

@@ -1,5 +1,4 @@
 -- `minus_number`: 0 less the number is minus the number.
-use borrow.Author.Rules.{rules}
 use native.Mathlib.Omega.{arith}
 use mir.Facts.{to_z-of_z}
 use Rattle.host_calls.proofs.Numbers.{minus_is, minus-fits}

@@ -1,7 +1,6 @@
 -- `walk_number`: a length with its walk, and minus a refusal's number with its walk.
 use Prim.Native.Nat.{ℕ, ◌+◌, ◌*◌}
 use native.Mathlib.Omega.{arith}
-use borrow.Author.Rules.{rules}
 use mathlib.Core.Path.{ap, ◌∙◌}
 use lib.IntN.{pos, neg_ℤ}
 use Rattle.definitions.specs.Hosts.{hosted_walk}

@@ -1,5 +1,4 @@
 -- `exchange_number`: the exchange's answer as one number.
-use borrow.Author.Rules.{rules}
 use Rattle.node_reader.proofs.Standing.{all-bytes}
 use Rattle.host_calls.proofs.Numbers.{given_back}
 use Rattle.host_calls.proofs.Hosting.{call-hosted}

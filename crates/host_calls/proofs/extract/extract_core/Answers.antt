@@ -1,6 +1,5 @@
 -- Right because it is the extract by the table's row with its answer as one number.
 use native.Mathlib.Omega.{arith}
-use borrow.Author.Rules.{rules}
 use Rattle.node_reader.proofs.Standing.{all-bytes}
 use Rattle.host_calls.proofs.Numbers.{given_back}
 use Rattle.host_calls.proofs.Hosting.{extract-hosted}

@@ -2,7 +2,6 @@
 use Prim.Native.Nat.{◌≤◌}
 use native.Mathlib.Omega.{arith}
 use mathlib.Core.Path.{ap}
-use borrow.Author.Rules.{rules}
 use Rattle.node_reader.proofs.Standing.{all-bytes}
 use Rattle.definitions.specs.Hosts.{hosted_all}
 use Rattle.terms.specs.Settings.{settings_of}

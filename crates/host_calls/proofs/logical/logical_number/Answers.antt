@@ -1,5 +1,4 @@
 -- `logical_number`: mask, count and side as one number.
-use borrow.Author.Rules.{rules}
 use native.Mathlib.Omega.{arith}
 use Rattle.definitions.specs.Hosts.{hosted_names}
 use Rattle.host_calls.proofs.Numbers.{number-is, given_back}

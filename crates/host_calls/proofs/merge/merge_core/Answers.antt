@@ -1,5 +1,4 @@
 -- Right because it is the merge with its answer as one number.
-use borrow.Author.Rules.{rules}
 use Rattle.node_reader.proofs.Standing.{all-bytes}
 use Rattle.host_calls.proofs.Numbers.{given_back}
 use Rattle.host_calls.proofs.CoreLaws.{merge-short, merge-left}

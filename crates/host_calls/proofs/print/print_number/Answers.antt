@@ -1,5 +1,4 @@
 -- `print_number`: the answer as one number.
-use borrow.Author.Rules.{rules}
 use Rattle.node_reader.proofs.Standing.{all-bytes}
 use Rattle.host_calls.proofs.Numbers.{given_back}
 use Rattle.host_calls.proofs.Lengths.{text-short, print-hosted}

@@ -1,5 +1,4 @@
 -- `put_number`: the put's answer as one number.
-use borrow.Author.Rules.{rules}
 use Rattle.host_calls.proofs.Numbers.{given_back}
 use Rattle.host_calls.proofs.QueueHosting.{put-short, put-hosted}
 use Rattle.host_calls.proofs.put.put_number.Goals as goal

@@ -1,5 +1,4 @@
 -- `serve_number`: the serve's answer as one number.
-use borrow.Author.Rules.{rules}
 use Rattle.host_calls.proofs.Numbers.{given_back}
 use Rattle.host_calls.proofs.QueueHosting.{serve-short, serve-hosted}
 use Rattle.host_calls.proofs.serve.serve_number.Goals as goal

@@ -1,5 +1,4 @@
 -- `is_allowed`: each kind has its bit.
-use borrow.Author.Rules.{rules}
 use Rattle.leaf_matching.proofs.AllowLaws.{relation-allowed, distance-allowed, knn-not-allowed, knn-allowed}
 use Rattle.leaf_matching.proofs.allowing.is_allowed.Goals as goal
 

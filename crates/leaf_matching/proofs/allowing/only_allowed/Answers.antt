@@ -1,5 +1,4 @@
 -- `only_allowed`: a match that is not allowed is none.
-use borrow.Author.Rules.{rules}
 use borrow.Author.Tests.{not-true, not-false}
 use Rattle.leaf_matching.proofs.AllowLaws.{stays, goes, none_stays, lacks-stays}
 use Rattle.leaf_matching.proofs.allowing.only_allowed.Goals as goal

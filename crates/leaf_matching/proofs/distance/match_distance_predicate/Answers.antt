@@ -2,7 +2,6 @@
 use Rattle.leaf_matching.specs.Frames.{Framed}
 use Rattle.leaf_matching.proofs.Framing.{framed-tree}
 use Rattle.leaf_matching.proofs.DistanceLaws.{no_distance, parses, arguments-framed, Walked, distance-undefined, distance-neither, distance-left, distance-right}
-use borrow.Author.Rules.{rules}
 use Rattle.leaf_matching.proofs.distance.match_distance_predicate.Goals as goal
 use Rattle.leaf_matching.proofs.distance.match_distance_predicate.Goals.{After-side_of_column_references-arg1, In-Distance}
 
@@ -62,16 +61,16 @@ pub returns-in-Neither : goal.returns-in-Neither
 returns-in-Neither c =
     λ records t over.
     distance-neither (walked (goal.at.returns-in-Neither c).After-side_of_column_references-arg1) over _ c.side_of_distance.ensures _
-        c.in-Known.is _ c.resolve_column_reference_sides.ensures c.in-Neither.is
+    c.in-Known.is _ c.resolve_column_reference_sides.ensures c.in-Neither.is
 
 pub returns-in-LeftRight : goal.returns-in-LeftRight
 returns-in-LeftRight c =
     λ records t over.
     distance-left (walked (goal.at.returns-in-LeftRight c).After-side_of_column_references-arg1) over _ c.side_of_distance.ensures _
-        c.in-Known.is _ c.resolve_column_reference_sides.ensures c.in-LeftRight.is
+    c.in-Known.is _ c.resolve_column_reference_sides.ensures c.in-LeftRight.is
 
 pub returns-in-RightLeft : goal.returns-in-RightLeft
 returns-in-RightLeft c =
     λ records t over.
     distance-right (walked (goal.at.returns-in-RightLeft c).After-side_of_column_references-arg1) over _ c.side_of_distance.ensures _
-        c.in-Known.is _ c.resolve_column_reference_sides.ensures c.in-RightLeft.is
+    c.in-Known.is _ c.resolve_column_reference_sides.ensures c.in-RightLeft.is

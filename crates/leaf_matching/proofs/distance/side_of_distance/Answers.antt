@@ -5,7 +5,6 @@ use Rattle.leaf_matching.specs.declared.sides.Sides.{Sides}
 use Rattle.leaf_matching.specs.declared.sides.Sides.TheVariants.{AllOn}
 use Rattle.leaf_matching.specs.declared.distance.DistanceSide.{DistanceSide}
 use Rattle.leaf_matching.specs.Distances.{distance_side}
-use borrow.Author.Rules.{rules}
 use Rattle.leaf_matching.proofs.distance.side_of_distance.Goals as goal
 
 -- Columns that are all on this side.

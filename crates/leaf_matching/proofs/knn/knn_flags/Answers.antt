@@ -2,7 +2,6 @@
 use native.Mathlib.Omega.{arith}
 use Rattle.expression.proofs.EndWalk.{first-there, rest-there}
 use Rattle.leaf_matching.proofs.KnnOptionLaws.{flags-none, flags-unread, flag-next, flags-one, ties-unread, flags-two}
-use borrow.Author.Rules.{rules}
 use Rattle.leaf_matching.proofs.knn.knn_flags.Goals as goal
 
 pub returns-then-n-eq0 : goal.returns-then-n-eq0

@@ -1,7 +1,6 @@
 -- `knn_options`: a literal has ten bytes, so the flags stand ten bytes after k.
 use Rattle.expression.proofs.EndWalk.{first-there, rest-there}
 use Rattle.leaf_matching.proofs.KnnOptionLaws.{options-none, k-unread, k-next, options-unread, options-read}
-use borrow.Author.Rules.{rules}
 use Rattle.leaf_matching.proofs.knn.knn_options.Goals as goal
 
 pub returns-then-n-eq0 : goal.returns-then-n-eq0

@@ -2,15 +2,13 @@
 use native.Mathlib.Omega.{arith}
 use mathlib.Core.Path.{sym, ◌∙◌}
 use mathlib.Core.Logic.{⊎_elim}
-use borrow.Author.Tests.{ltb-true, ltb-false, not-true, not-false}
+use borrow.Author.Tests.{ltb-false, not-true, not-false}
 use Rattle.definitions.specs.Basics.{ascii}
 use Rattle.leaf_matching.proofs.Asked.{other_name}
 use Rattle.leaf_matching.proofs.MatchLaws.{pair-framed, pair-begins, rest-trees, named}
 use Rattle.leaf_matching.proofs.KnnLaws.{few-lacks, many-lacks, Walked, knn-unread, knn-neither, knn-left, knn-right}
-use borrow.Author.Rules.{rules}
 use Rattle.leaf_matching.proofs.knn.match_knn_predicate.Goals as goal
 use Rattle.leaf_matching.proofs.knn.match_knn_predicate.Goals.{After-knn_options}
-
 
 walked : (c : After-knn_options)
     → let start = c.args in

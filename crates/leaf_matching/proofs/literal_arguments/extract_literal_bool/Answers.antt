@@ -9,7 +9,6 @@ use Rattle.expression.proofs.Standing.{node-some}
 use Rattle.leaf_matching.specs.Literals.{long_at}
 use Rattle.sedona_query_planner.specs.Predicates.{flag}
 use Rattle.leaf_matching.proofs.LiteralLaws.{literal-is, no-literal, literal-flag, flag_small, flag-is, no_flag}
-use borrow.Author.Rules.{rules}
 use Rattle.leaf_matching.proofs.literal_arguments.extract_literal_bool.Goals as goal
 
 pub bounds-s-at : goal.bounds-s-at

@@ -21,4 +21,4 @@ pub returns : goal.returns
 returns c =
     λ d t h.
     only-some _ c.if-k-eq0.false (search rules)
-        ∙ k-of t _ (sym (ap number_is c.in-Value.is) ∙ c.extract_literal_u32.ensures d t h)
+    ∙ k-of t _ (sym (ap number_is c.in-Value.is) ∙ c.extract_literal_u32.ensures d t h)

@@ -7,7 +7,6 @@ use mir.Facts.{to_z-of_z}
 use Rattle.definitions.specs.Literals.{signed, u32}
 use Rattle.expression.proofs.Standing.{node-some}
 use Rattle.leaf_matching.proofs.LiteralLaws.{literal-is, no-literal, literal-number, number-below, number-signed, number-unsigned, number-above}
-use borrow.Author.Rules.{rules}
 use Rattle.leaf_matching.proofs.literal_arguments.extract_literal_u32.Goals as goal
 
 pub bounds-s-at : goal.bounds-s-at

@@ -2,7 +2,6 @@
 use native.Mathlib.Omega.{arith}
 use Prim.Native.Nat.{◌+◌, ◌<◌}
 use Rattle.leaf_matching.proofs.LiteralLaws.{short-below}
-use borrow.Author.Rules.{rules}
 use Rattle.leaf_matching.proofs.literal_arguments.long_at.Goals as goal
 use Rattle.leaf_matching.proofs.literal_arguments.long_at.Goals.{After-short_at-fourth}
 

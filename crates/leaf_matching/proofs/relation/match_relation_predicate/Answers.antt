@@ -6,7 +6,6 @@ use Rattle.sedona_query_planner.specs.Relations.{named_relation}
 use Rattle.leaf_matching.proofs.Asked.{no-relation}
 use Rattle.leaf_matching.proofs.MatchLaws.{pair-framed, pair-begins}
 use Rattle.leaf_matching.proofs.RelationLaws.{few-lacks, Walked, relation-neither, relation-left, relation-right}
-use borrow.Author.Rules.{rules}
 use Rattle.leaf_matching.proofs.relation.match_relation_predicate.Goals as goal
 use Rattle.leaf_matching.proofs.relation.match_relation_predicate.Goals.{After-resolve_geometries-geometries}
 

@@ -1,10 +1,9 @@
 -- A column's side is seen; of any other node the children are walked, one after the other. The measure is twice the bytes left.
-use Prim.Native.Nat.{◌+◌, ◌-◌, ◌*◌}
+use Prim.Native.Nat.{◌-◌}
 use native.Mathlib.Omega.{arith}
-use lib.ListN.{length}
 use Rattle.expression.proofs.Standing.{node-some, after-head}
 use Rattle.leaf_matching.proofs.Framing.{framed-tree, entry-within, column_fits, children-framed}
-use Rattle.leaf_matching.proofs.SideWalk.{side-column, side-other, sides-none, Seeing, seeing-begins, seeing-first, seeing-goes-on, seeing-ends}
+use Rattle.leaf_matching.proofs.SideWalk.{side-column, side-other, sides-none, seeing-begins, seeing-first, seeing-goes-on, seeing-ends}
 use Rattle.leaf_matching.proofs.sides.+collect_children_collect_column_references.Goals as goal
 
 pub collect_children-loop-left-init : goal.collect_children-loop-left-init
@@ -57,7 +56,7 @@ pub collect_column_references-returns-then-s-at-eq0 : goal.collect_column_refere
 collect_column_references-returns-then-s-at-eq0 t c =
     λ records t o.
     side-column t o c.if-s-at-eq0.true c.short_at-index.result c.short_at-index.ensures
-        c.side_at-side.result c.side_at-side.ensures c.see_side-sides.result c.see_side-sides.ensures
+    c.side_at-side.result c.side_at-side.ensures c.see_side-sides.result c.see_side-sides.ensures
 
 pub collect_column_references-head_at-head-requires : goal.collect_column_references-head_at-head-requires
 collect_column_references-head_at-head-requires t c =
@@ -67,7 +66,7 @@ pub collect_column_references-returns-then-n-eq0 : goal.collect_column_reference
 collect_column_references-returns-then-n-eq0 t c =
     λ records t o.
     let head = c.head_at-head in
-        side-other t o c.if-s-at-eq0.false head.result head.ensures _ (λ records ts row. sides-none ts row c.if-n-eq0.true)
+    side-other t o c.if-s-at-eq0.false head.result head.ensures _ (λ records ts row. sides-none ts row c.if-n-eq0.true)
 
 pub collect_column_references-collect_children-requires : goal.collect_column_references-collect_children-requires
 collect_column_references-collect_children-requires t c =
@@ -85,5 +84,5 @@ pub collect_column_references-returns : goal.collect_column_references-returns
 collect_column_references-returns t c =
     λ records t o.
     let head = c.head_at-head in
-        side-other t o c.if-s-at-eq0.false head.result head.ensures c.collect_children.result
-        c.collect_children.ensures
+    side-other t o c.if-s-at-eq0.false head.result head.ensures c.collect_children.result
+    c.collect_children.ensures

@@ -1,10 +1,7 @@
 -- A column's side is seen; of any other node the children are walked, one after the other. The measure is twice the bytes left.
 use Prim.Native.Nat.{◌+◌, ◌-◌, ◌*◌}
-use native.Mathlib.Omega.{arith}
 use lib.ListN.{length}
-use Rattle.expression.proofs.Standing.{node-some, after-head}
-use Rattle.leaf_matching.proofs.Framing.{framed-tree, entry-within, column_fits, children-framed}
-use Rattle.leaf_matching.proofs.SideWalk.{side-column, side-other, sides-none, Seeing, seeing-begins, seeing-first, seeing-goes-on, seeing-ends}
+use Rattle.leaf_matching.proofs.SideWalk.{Seeing}
 use Rattle.leaf_matching.proofs.sides.+collect_children_collect_column_references.Given as goal
 
 abbrev pub invariant-collect_children-loop-left : goal.invariant-collect_children-loop-left

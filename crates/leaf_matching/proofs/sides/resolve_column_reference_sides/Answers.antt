@@ -17,8 +17,8 @@ left-fails c =
     not-both {First = is_side left (argument_side c.args.first.side) ≡ false}
     {Second = is_side right (argument_side c.args.second.side) ≡ false} _ _ (λ w. w) (λ w. w)
     (elim c.else-is_side.branch [
-      else-is_side-via-then-is_side+else-is_side-2 w ↦ inl (sym w.is_side-then-is_side.ensures ∙ w.if-is_side-2.false)
-    | else-is_side-via-else-is_side w ↦ inr (sym c.is_side.ensures ∙ w.if-is_side.false)
+      | else-is_side-via-then-is_side+else-is_side-2 w ↦ inl (sym w.is_side-then-is_side.ensures ∙ w.if-is_side-2.false)
+      | else-is_side-via-else-is_side w ↦ inr (sym c.is_side.ensures ∙ w.if-is_side.false)
     ])
 
 pub returns-then-is_side-2 : goal.returns-then-is_side-2
@@ -37,6 +37,6 @@ returns c =
     (not-both {First = is_side right (argument_side c.args.first.side) ≡ false}
     {Second = is_side left (argument_side c.args.second.side) ≡ false} _ _ (λ w. w) (λ w. w)
     (elim c.else-is_side-3.branch [
-      else-is_side-3-via-then-is_side-3+else-is_side-4 w ↦ inl (sym w.is_side-then-is_side-3.ensures ∙ w.if-is_side-4.false)
-    | else-is_side-3-via-else-is_side-3 w ↦ inr (sym c.is_side-2.ensures ∙ w.if-is_side-3.false)
+      | else-is_side-3-via-then-is_side-3+else-is_side-4 w ↦ inl (sym w.is_side-then-is_side-3.ensures ∙ w.if-is_side-4.false)
+      | else-is_side-3-via-else-is_side-3 w ↦ inr (sym c.is_side-2.ensures ∙ w.if-is_side-3.false)
     ]))

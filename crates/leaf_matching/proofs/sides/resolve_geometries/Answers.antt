@@ -1,6 +1,5 @@
 -- `resolve_geometries`: the second geometry stands where the rows say that the first ends.
 use Rattle.leaf_matching.proofs.SideWalk.{two-tabled, second-framed, geometries-are}
-use borrow.Author.Rules.{rules}
 use Rattle.leaf_matching.proofs.sides.resolve_geometries.Goals as goal
 
 pub two_at-two-requires : goal.two_at-two-requires

@@ -2,7 +2,6 @@
 use mathlib.Core.Path.{ap₂, ◌∙◌}
 use lib.Dec.{eqb}
 use Rattle.leaf_matching.proofs.SideLaws.{same_number}
-use borrow.Author.Rules.{rules}
 use Rattle.leaf_matching.proofs.sides.same_side.Goals as goal
 
 pub returns : goal.returns

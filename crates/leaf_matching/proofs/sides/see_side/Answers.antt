@@ -1,7 +1,6 @@
 -- `see_side`: each case of what was seen is one of the definition.
 use mathlib.Core.Path.{sym, ◌∙◌}
 use Rattle.leaf_matching.proofs.SideLaws.{see-first, see-same, see-other, see-none}
-use borrow.Author.Rules.{rules}
 use Rattle.leaf_matching.proofs.sides.see_side.Goals as goal
 
 pub returns-in-NoColumns : goal.returns-in-NoColumns

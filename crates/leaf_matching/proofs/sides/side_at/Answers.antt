@@ -1,5 +1,4 @@
 -- `side_at`: a byte is the number of its side.
-use borrow.Author.Rules.{rules}
 use native.Mathlib.Omega.{arith}
 use Rattle.leaf_matching.proofs.sides.side_at.Goals as goal
 

@@ -1,6 +1,5 @@
 -- `side_of_column_references`: what the walk has seen in the end is the side of all columns.
 use Rattle.leaf_matching.proofs.SideWalk.{argument_is}
-use borrow.Author.Rules.{rules}
 use Rattle.leaf_matching.proofs.sides.side_of_column_references.Goals as goal
 
 pub returns : goal.returns

@@ -3,16 +3,12 @@
 -- A call goes to a place further on, so the measure is the bytes left.
 use native.Mathlib.Omega.{arith}
 use mathlib.Core.Path.{refl}
-use lib.ListN.{length}
 use mir.Facts.{Fits-16_64}
-use Rattle.definitions.specs.Settings.{match_under}
-use Rattle.terms.specs.Settings.{settings_of}
 use Rattle.leaf_matching.proofs.Framing.{framed-tree}
 use Rattle.leaf_pick.proofs.Nodes.{single-leaf}
-use Rattle.leaf_pick.proofs.FirstLaws.{Along, along-begins, along-within, along-tabled, left-within}
+use Rattle.leaf_pick.proofs.FirstLaws.{along-begins, along-within, along-tabled, left-within}
 use Rattle.leaf_pick.proofs.FirstLaws.{left_there, along-left, along-less, along-right}
-use borrow.Author.Rules.{rules}
-use Prim.Native.Nat.{ℕ, ◌-◌}
+use Prim.Native.Nat.{◌-◌}
 use borrow.Enum.Refused.{opened}
 use Rattle.leaf_pick.proofs.first_match.+first_match.Goals as goal
 

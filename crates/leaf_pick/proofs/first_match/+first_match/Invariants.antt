@@ -1,19 +1,11 @@
 -- `first_match`: in an And, what the left side finds comes first, and the loop goes on with the right side, where the rows say that the
 -- left one ends.
 -- A call goes to a place further on, so the measure is the bytes left.
-use native.Mathlib.Omega.{arith}
-use mathlib.Core.Path.{refl}
 use lib.ListN.{length}
-use mir.Facts.{Fits-16_64}
 use Rattle.definitions.specs.Settings.{match_under}
 use Rattle.terms.specs.Settings.{settings_of}
-use Rattle.leaf_matching.proofs.Framing.{framed-tree}
-use Rattle.leaf_pick.proofs.Nodes.{single-leaf}
-use Rattle.leaf_pick.proofs.FirstLaws.{Along, along-begins, along-within, along-tabled, left-within}
-use Rattle.leaf_pick.proofs.FirstLaws.{left_there, along-left, along-less, along-right}
-use borrow.Author.Rules.{rules}
-use Prim.Native.Nat.{ℕ, ◌-◌}
-use borrow.Enum.Refused.{opened}
+use Rattle.leaf_pick.proofs.FirstLaws.{Along}
+use Prim.Native.Nat.{◌-◌}
 use Rattle.leaf_pick.proofs.first_match.+first_match.Given as goal
 
 abbrev pub invariant-loop-left : goal.invariant-loop-left

@@ -7,7 +7,6 @@ use Rattle.leaf_pick.specs.Picks.{wants}
 use Rattle.leaf_matching.proofs.Asked.{none-lacks}
 use Rattle.leaf_pick.proofs.LeafLaws.{leaf-within}
 use Rattle.leaf_pick.proofs.FirstLaws.{leaf-matched, leaf-lacks}
-use borrow.Author.Rules.{rules}
 use Rattle.leaf_pick.proofs.first_match.leaf_match.Goals as goal
 
 pub match_wanted-requires : goal.match_wanted-requires

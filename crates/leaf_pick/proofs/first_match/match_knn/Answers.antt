@@ -7,7 +7,6 @@ use Rattle.terms.specs.Settings.{settings_of}
 use Rattle.leaf_matching.proofs.AllowLaws.{passing-lacks}
 use Rattle.leaf_pick.proofs.Nodes.{no-function}
 use Rattle.leaf_pick.proofs.LeafLaws.{leaf-within, call-given, call-leaf}
-use borrow.Author.Rules.{rules}
 use borrow.Enum.Refused.{opened}
 use Rattle.leaf_pick.proofs.first_match.match_knn.Goals as goal
 
@@ -25,7 +24,7 @@ overflow_add-index c =
 pub match_knn_predicate-matching-requires : goal.match_knn_predicate-matching-requires
 match_knn_predicate-matching-requires c =
     let both = call-given c.requires c.in-Call.is in
-    record { call_framed = both.0; of_call = both.1; }
+    record { call_framed = both.0; of_call = both.1 }
 
 pub returns : goal.returns
 unfolding match_under only_if

@@ -3,7 +3,6 @@ use Rattle.definitions.specs.Match.{match_leaf_by}
 use Rattle.definitions.specs.Settings.{only_if, match_under}
 use Rattle.leaf_pick.specs.Picks.{is_other}
 use Rattle.leaf_pick.proofs.Defaults.{other-default}
-use borrow.Author.Rules.{rules}
 use Rattle.leaf_pick.proofs.first_match.match_other.Goals as goal
 
 pub returns : goal.returns

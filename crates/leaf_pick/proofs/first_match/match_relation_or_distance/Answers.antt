@@ -4,7 +4,6 @@ use Rattle.leaf_matching.specs.Frames.{OfFrame}
 use Rattle.leaf_matching.specs.Matches.{is_relation, LeafMatching}
 use Rattle.leaf_pick.proofs.Nodes.{no-function}
 use Rattle.leaf_pick.proofs.LeafLaws.{leaf-within, call-given, call-leaf, relation-matched, distance-matching}
-use borrow.Author.Rules.{rules}
 use borrow.Enum.Refused.{opened}
 use Rattle.leaf_pick.proofs.first_match.match_relation_or_distance.Goals as goal
 use Rattle.leaf_pick.proofs.first_match.match_relation_or_distance.Goals.{After-match_relation_predicate}
@@ -39,7 +38,7 @@ overflow_add-index c =
 pub match_relation_predicate-requires : goal.match_relation_predicate-requires
 match_relation_predicate-requires c =
     let both = call-given c.requires c.in-Call.is in
-    record { call_framed = both.0; of_call = both.1; }
+    record { call_framed = both.0; of_call = both.1 }
 
 pub match_distance_predicate-requires-in-NotAsked : goal.match_distance_predicate-requires-in-NotAsked
 match_distance_predicate-requires-in-NotAsked c =
@@ -52,7 +51,7 @@ pub returns-in-Matched : goal.returns-in-Matched
 returns-in-Matched c =
     λ records t over.
     relation-matched over _
-        (rw c.in-Matched.is at (as-relation (goal.at.returns-in-Matched c).After-match_relation_predicate records t over))
+    (rw c.in-Matched.is at (as-relation (goal.at.returns-in-Matched c).After-match_relation_predicate records t over))
 
 pub returns-in-Unmatched : goal.returns-in-Unmatched
 returns-in-Unmatched c =

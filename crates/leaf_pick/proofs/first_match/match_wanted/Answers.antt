@@ -1,5 +1,4 @@
 -- `match_wanted`: each kind has its own matching.
-use borrow.Author.Rules.{rules}
 use Rattle.leaf_pick.proofs.first_match.match_wanted.Goals as goal
 
 pub returns-in-Knn : goal.returns-in-Knn

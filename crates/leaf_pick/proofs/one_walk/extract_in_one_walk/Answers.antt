@@ -1,5 +1,4 @@
 -- `extract_in_one_walk`: what the walk remembers is the pick, and the And above it is found.
-use borrow.Author.Rules.{rules}
 use Rattle.leaf_pick.proofs.Taking.{walked-nothing, walked-spotted, walked-leaf}
 use Rattle.leaf_pick.proofs.one_walk.extract_in_one_walk.Goals as goal
 
@@ -17,4 +16,4 @@ pub returns : goal.returns
 returns c =
     λ records t over.
     walked-leaf (c.walk_once-found.ensures records t over) c.in-First.is
-        (c.requires.of_tree _ t over.tree) c.parent_of.ensures
+    (c.requires.of_tree _ t over.tree) c.parent_of.ensures

@@ -1,7 +1,6 @@
 -- `is_passed`: a plain node and an operator over 4 ask for nothing, so no leaf that is one matches.
 use mathlib.Core.Bool.{false≢true}
 use borrow.Author.Tests.{ltb-true}
-use borrow.Author.Rules.{rules}
 use Rattle.leaf_pick.proofs.Nodes.{plain-passed, binary-passed}
 use Rattle.leaf_pick.proofs.one_walk.is_passed.Goals as goal
 

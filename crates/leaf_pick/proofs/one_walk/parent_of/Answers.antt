@@ -2,7 +2,7 @@
 use native.Mathlib.Omega.{arith}
 use Prim.Native.Nat.{◌-◌}
 use mir.Facts.{Fits-16_64}
-use Rattle.leaf_pick.proofs.Parents.{Down, down-begins, down-last, down-within, down-further, down-left, down-right}
+use Rattle.leaf_pick.proofs.Parents.{down-begins, down-last, down-within, down-further, down-left, down-right}
 use Rattle.leaf_pick.proofs.one_walk.parent_of.Goals as goal
 
 pub loop-place-init : goal.loop-place-init

@@ -1,8 +1,6 @@
 -- `parent_of`: down from the root, to the left where the leaf stands before the left side's end, else to the right.
-use native.Mathlib.Omega.{arith}
 use Prim.Native.Nat.{◌-◌}
-use mir.Facts.{Fits-16_64}
-use Rattle.leaf_pick.proofs.Parents.{Down, down-begins, down-last, down-within, down-further, down-left, down-right}
+use Rattle.leaf_pick.proofs.Parents.{Down}
 use Rattle.leaf_pick.proofs.one_walk.parent_of.Given as goal
 
 abbrev pub invariant-loop-place : goal.invariant-loop-place

@@ -1,5 +1,4 @@
 -- `read_leaf`: a leaf that is passed matches nothing; a KNN match stops the walk; another is remembered where nothing was.
-use borrow.Author.Rules.{rules}
 use Rattle.leaf_pick.proofs.LeafLaws.{leaf-within}
 use Rattle.leaf_pick.proofs.OneWalkLeafLaws.{leaf-stops, leaf-unmatched, leaf-known, leaf_first, leaf-neither}
 use Rattle.leaf_pick.proofs.one_walk.read_leaf.Goals as goal

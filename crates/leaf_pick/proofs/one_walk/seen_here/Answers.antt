@@ -1,5 +1,4 @@
 -- `seen_here`: the leaf's own numbers, and its end from the rows.
-use borrow.Author.Rules.{rules}
 use Rattle.leaf_pick.proofs.one_walk.seen_here.Goals as goal
 
 pub returns : goal.returns

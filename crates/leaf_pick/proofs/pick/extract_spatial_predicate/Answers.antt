@@ -3,7 +3,6 @@ use mathlib.Core.Path.{◌∙◌}
 use Rattle.definitions.specs.Extract.{matches_by}
 use Rattle.leaf_pick.proofs.PickLaws.{pick-knn, pick_other}
 use Rattle.leaf_pick.proofs.FirstLaws.{taken_is}
-use borrow.Author.Rules.{rules}
 use Rattle.leaf_pick.proofs.pick.extract_spatial_predicate.Goals as goal
 
 pub returns-in-Leaf : goal.returns-in-Leaf

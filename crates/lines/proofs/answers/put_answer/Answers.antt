@@ -1,6 +1,5 @@
 -- `put_answer`: each answer is a line of one byte and more, `00` and the bytes or the refusal's number alone.
 use Prim.Native.Nat.{◌≤◌}
-use borrow.Author.Rules.{rules}
 use native.Mathlib.Omega.{arith}
 use mathlib.Core.Path.{sym}
 use lib.ListN.{length}

@@ -1,6 +1,5 @@
 -- `answer_line`: what was decoded to the scratch is the line's bytes.
 use mathlib.Core.Path.{◌≡◌, sym, ap, ◌∙◌}
-use borrow.Author.Rules.{rules}
 use native.Mathlib.Omega.{arith}
 use lib.ListN.{take}
 use Rattle.definitions.specs.Basics.{ok}

@@ -1,5 +1,4 @@
 -- `load_line`: the call's answer as that of its line.
-use borrow.Author.Rules.{rules}
 use Rattle.lines.proofs.CallLaws.{load_gives}
 use Rattle.lines.proofs.calls.load_line.Goals as goal
 

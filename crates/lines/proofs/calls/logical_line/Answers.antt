@@ -1,6 +1,5 @@
 -- `logical_line`: mask, high byte first, count and side are the answer's bytes.
 use mathlib.Core.Path.{◌≡◌, sym, ap, ◌∙◌}
-use borrow.Author.Rules.{rules}
 use native.Mathlib.Omega.{arith}
 use Rattle.definitions.specs.Basics.{ok}
 use Rattle.definitions.specs.Logical.{logical}

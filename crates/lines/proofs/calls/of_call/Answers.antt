@@ -1,5 +1,4 @@
 -- `of_call`: each answer by itself.
-use borrow.Author.Rules.{rules}
 use mathlib.Core.Path.{sym, ap}
 use Rattle.lines.specs.Calling.{line_answer}
 use Rattle.lines.proofs.calls.of_call.Goals as goal

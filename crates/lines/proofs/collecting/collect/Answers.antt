@@ -1,9 +1,6 @@
 -- `collect`: the characters so far joined the line, and none of them is a line feed.
 use Prim.Native.Nat.{◌-◌}
-use borrow.Author.Rules.{rules}
-use native.Mathlib.Omega.{arith}
-use lib.ListN.{length}
-use Rattle.lines.proofs.CollectLaws.{Collecting, collect-none, collect-one, collect-past, at-feed, at-end}
+use Rattle.lines.proofs.CollectLaws.{collect-none, collect-one, collect-past, at-feed, at-end}
 use Rattle.lines.proofs.collecting.collect.Goals as goal
 
 pub loop-at-init : goal.loop-at-init

@@ -1,7 +1,6 @@
 -- `end_line`: what the line gives is written, and it is what the state stands for afterwards.
 use Prim.Native.Nat.{◌≤◌}
 use lib.ListN.{length}
-use borrow.Author.Rules.{rules}
 use native.Mathlib.Omega.{arith}
 use Rattle.lines.proofs.SessionLaws.{written-fits, line-ended}
 use Rattle.lines.proofs.ends.end_line.Goals as goal

@@ -1,5 +1,4 @@
 -- `feed`: what is collected is a piece of the input, which ends a line or goes on with it.
-use borrow.Author.Rules.{rules}
 use native.Mathlib.Omega.{arith}
 use Rattle.lines.proofs.SessionLaws.{fed-none, fed-ended, fed-open}
 use Rattle.lines.proofs.feeding.feed.Goals as goal

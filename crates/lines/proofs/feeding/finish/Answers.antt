@@ -1,5 +1,4 @@
 -- `finish`: no line has begun where the count is 0, else it is at its end.
-use borrow.Author.Rules.{rules}
 use native.Mathlib.Omega.{arith}
 use Rattle.lines.proofs.SessionLaws.{finished-none, finished-full}
 use Rattle.lines.proofs.feeding.finish.Goals as goal

@@ -1,5 +1,4 @@
 -- A good frame's names and query side are those of the expression that stands in it; a refusal is the frame's own.
-use borrow.Author.Rules.{rules}
 use Rattle.logical_filter.specs.QuerySides.{query_side_is}
 use Rattle.frame_reader.proofs.Standing.{expr-stands}
 use Rattle.logical_filter.proofs.Naming.{logical-refuses, logical-finds}

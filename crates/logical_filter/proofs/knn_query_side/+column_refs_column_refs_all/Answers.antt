@@ -1,12 +1,10 @@
 -- `column_refs` and `column_refs_all`: a column has its bits, any other node those below it; the measure is twice the bytes left, and one
 -- more for a row.
-use Prim.Native.Nat.{◌+◌, ◌-◌, ◌*◌}
+use Prim.Native.Nat.{◌-◌}
 use native.Mathlib.Omega.{arith}
-use lib.ListN.{length}
-use borrow.Author.Rules.{rules}
 use Rattle.expression.proofs.Standing.{node-some, after-head}
 use Rattle.expression.proofs.EndWalk.{children-there}
-use Rattle.logical_filter.proofs.QueryWalk.{bits-within, a-field-is, node-columns, Joining, joining-begins, joining-first, joining-goes-on, joining-ends}
+use Rattle.logical_filter.proofs.QueryWalk.{bits-within, a-field-is, node-columns, joining-begins, joining-first, joining-goes-on, joining-ends}
 use Rattle.logical_filter.proofs.knn_query_side.+column_refs_column_refs_all.Goals as goal
 
 pub column_refs-bounds-s-at : goal.column_refs-bounds-s-at
@@ -37,8 +35,8 @@ pub column_refs-returns : goal.column_refs-returns
 column_refs-returns t c =
     λ d t h.
     let head = c.head_at-head in
-        node-columns h c.if-s-at-eq5.false head.result (head.ensures d t h) c.column_refs_all.result
-        c.column_refs_all.ensures
+    node-columns h c.if-s-at-eq5.false head.result (head.ensures d t h) c.column_refs_all.result
+    c.column_refs_all.ensures
 
 pub column_refs_all-loop-more-init : goal.column_refs_all-loop-more-init
 column_refs_all-loop-more-init t c =

@@ -1,12 +1,8 @@
 -- `column_refs` and `column_refs_all`: a column has its bits, any other node those below it; the measure is twice the bytes left, and one
 -- more for a row.
 use Prim.Native.Nat.{◌+◌, ◌-◌, ◌*◌}
-use native.Mathlib.Omega.{arith}
 use lib.ListN.{length}
-use borrow.Author.Rules.{rules}
-use Rattle.expression.proofs.Standing.{node-some, after-head}
-use Rattle.expression.proofs.EndWalk.{children-there}
-use Rattle.logical_filter.proofs.QueryWalk.{bits-within, a-field-is, node-columns, Joining, joining-begins, joining-first, joining-goes-on, joining-ends}
+use Rattle.logical_filter.proofs.QueryWalk.{Joining}
 use Rattle.logical_filter.proofs.knn_query_side.+column_refs_column_refs_all.Given as goal
 
 abbrev pub invariant-column_refs_all-loop-more : goal.invariant-column_refs_all-loop-more

@@ -1,6 +1,5 @@
 -- `find_knn_query_side`: the first KNN call decides; a side has all columns of its first argument and the other side has not.
 use mathlib.Core.Path.{◌≡◌}
-use borrow.Author.Rules.{rules}
 use Rattle.definitions.specs.Expression.{Expr}
 use Rattle.definitions.specs.Leaves.{leaves}
 use Rattle.definitions.specs.Decode.{Columns}

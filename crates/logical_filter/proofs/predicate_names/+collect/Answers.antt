@@ -1,7 +1,5 @@
 -- `collect`: the names of both children of an And are put together; the measure is the bytes left.
 use Prim.Native.Nat.{◌-◌}
-use lib.ListN.{length}
-use borrow.Author.Rules.{rules}
 use Rattle.expression.proofs.EndWalk.{end-node}
 use Rattle.expression.proofs.There.{and-left-there, and-right-there, pair-there, plain-there, name-there, arguments-there}
 use Rattle.logical_filter.proofs.NameWalk.{both-names, binary-names, call-names, plain-names}
@@ -44,22 +42,22 @@ pub returns-in-And : goal.returns-in-And
 returns-in-And t c =
     λ d t h.
     let both = rw c.in-And.is at (c.node_at.ensures d t h) in
-        both-names both c.collect-left.result c.collect-right.result c.collect-left.ensures c.collect-right.ensures
+    both-names both c.collect-left.result c.collect-right.result c.collect-left.ensures c.collect-right.ensures
 
 pub returns-in-Binary : goal.returns-in-Binary
 returns-in-Binary t c =
     λ d t h.
     let pair = rw c.in-Binary.is at (c.node_at.ensures d t h) in
-        binary-names pair (c.collect_comparison.ensures d pair.l pair.r pair.row)
+    binary-names pair (c.collect_comparison.ensures d pair.l pair.r pair.row)
 
 pub returns-in-Call : goal.returns-in-Call
 returns-in-Call t c =
     λ d t h.
     let call = rw c.in-Call.is at (c.node_at.ensures d t h) in
-        call-names call c.name_bit.result c.end_children.result c.name_bit.ensures c.end_children.ensures
+    call-names call c.name_bit.result c.end_children.result c.name_bit.ensures c.end_children.ensures
 
 pub returns-in-Plain : goal.returns-in-Plain
 returns-in-Plain t c =
     λ d t h.
     let plain = rw c.in-Plain.is at (c.node_at.ensures d t h) in
-        plain-names plain.0 _ _ (end-node h _ plain.1 c.end_children-in-Plain.result c.end_children-in-Plain.ensures)
+    plain-names plain.0 _ _ (end-node h _ plain.1 c.end_children-in-Plain.result c.end_children-in-Plain.ensures)

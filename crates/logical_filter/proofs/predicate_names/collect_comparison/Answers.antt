@@ -3,7 +3,6 @@ use Prim.Native.Nat.{◌+◌}
 use mathlib.Core.Path.{◌≡◌, ◌∙◌}
 use mathlib.Core.List.{[]}
 use lib.ListN.{length}
-use borrow.Author.Rules.{rules}
 use Rattle.definitions.specs.Basics.{if◌then◌else◌, ascii}
 use Rattle.definitions.specs.Expression.{Expr, binary, nil, cons}
 use Rattle.definitions.specs.Encode.{exprs_bytes}

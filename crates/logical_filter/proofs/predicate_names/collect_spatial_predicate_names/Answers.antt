@@ -2,7 +2,6 @@
 use mathlib.Core.Path.{sym, ap, ◌∙◌}
 use mathlib.Core.List.{map}
 use lib.Count.{ones}
-use borrow.Author.Rules.{rules}
 use Rattle.definitions.specs.Leaves.{leaves}
 use Rattle.definitions.specs.Logical.{spatial_names, leaf_name}
 use Rattle.definitions.proofs.Names.{names-ones}

@@ -10,7 +10,6 @@ use Rattle.logical_filter.proofs.NameWalk.{no_distance, small-name}
 use borrow.Enum.Refused.{opened}
 use Rattle.logical_filter.proofs.predicate_names.is_distance_expr.Goals as goal
 
-
 pub node_at-requires : goal.node_at-requires
 unfolding ascii
 node_at-requires c =
@@ -37,4 +36,4 @@ unfolding ascii
 returns c =
     λ d t h.
     let call = rw c.in-Call.is at (c.node_at.ensures d t h) in
-        c.same_name_ignore_case.ensures ∙ ap (λ (n : List ℕ). same_name n (ascii "st_distance")) (small-name call)
+    c.same_name_ignore_case.ensures ∙ ap (λ (n : List ℕ). same_name n (ascii "st_distance")) (small-name call)

@@ -62,18 +62,18 @@ unfolding call_node
 returns-in-Refused-name_bytes c =
     λ child n.
     after _ ((rw c.in-Value.is at
-        c.byte_between.ensures).1 n)
-        ∙ halts _ ((rw c.in-Refused-name_bytes.is at c.name_bytes.ensures) n)
+    c.byte_between.ensures).1 n)
+    ∙ halts _ ((rw c.in-Refused-name_bytes.is at c.name_bytes.ensures) n)
 
 pub returns-in-Refused-byte_up_to : goal.returns-in-Refused-byte_up_to
 unfolding call_node
 returns-in-Refused-byte_up_to c =
     λ child n.
     after _ ((rw c.in-Value.is at
-        c.byte_between.ensures).1 n)
-        ∙ after _ ((rw c.in-To.is at
-        c.name_bytes.ensures).2 n)
-        ∙ halts _ ((rw c.in-Refused-byte_up_to.is at c.byte_up_to.ensures) n)
+    c.byte_between.ensures).1 n)
+    ∙ after _ ((rw c.in-To.is at
+    c.name_bytes.ensures).2 n)
+    ∙ halts _ ((rw c.in-Refused-byte_up_to.is at c.byte_up_to.ensures) n)
 
 pub returns-in-Value-byte_up_to : goal.returns-in-Value-byte_up_to
 unfolding call_node children_of

@@ -1,5 +1,4 @@
 -- Rows without a place are lent, and what is said of them is left out.
-use borrow.Author.Rules.{rules}
 use Rattle.node_reader.proofs.Standing.{without-rows}
 use Rattle.node_reader.proofs.expressions.expression.Goals as goal
 

@@ -1,5 +1,4 @@
 -- An expression is a node with 64 levels left, and stands where it was read.
-use borrow.Author.Rules.{rules}
 use Rattle.node_reader.proofs.Standing.{all-bytes, expression-stands}
 use Rattle.node_reader.proofs.expressions.expression_in.Goals as goal
 

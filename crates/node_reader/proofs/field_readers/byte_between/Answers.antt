@@ -26,7 +26,7 @@ unfolding byte_between
 returns-then-value-least c =
     λ n.
     let f = rw c.in-Value.is at c.byte.ensures in
-        after _ (f.1 n) ∙ fails 4 _ n _ (below _ _ _ c.if-value-least.true)
+    after _ (f.1 n) ∙ fails 4 _ n _ (below _ _ _ c.if-value-least.true)
 
 pub returns-in-Refused : goal.returns-in-Refused
 unfolding byte_between
@@ -44,4 +44,4 @@ unfolding byte_between
 returns-else-value-most c =
     λ n.
     let f = rw c.in-Value.is at c.byte.ensures in
-        after _ (f.1 n) ∙ fails 4 _ n _ (above _ _ _ c.if-value-least.false c.if-value-most.false)
+    after _ (f.1 n) ∙ fails 4 _ n _ (above _ _ _ c.if-value-least.false c.if-value-most.false)

@@ -37,4 +37,4 @@ unfolding byte_up_to
 returns-else-value-most c =
     λ n.
     let f = rw c.in-Value.is at c.byte.ensures in
-        after _ (f.1 n) ∙ fails 4 _ n _ (lt-leb _ _ c.if-value-most.false)
+    after _ (f.1 n) ∙ fails 4 _ n _ (lt-leb _ _ c.if-value-most.false)

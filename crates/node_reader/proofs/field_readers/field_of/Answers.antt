@@ -1,5 +1,4 @@
 -- Each sort's arm is its reader.
-use borrow.Author.Rules.{rules}
 use Rattle.node_reader.proofs.field_readers.field_of.Goals as goal
 
 pub number-requires : goal.number-requires

@@ -1,9 +1,7 @@
 -- `name_like`: one byte more at each turn.
-use Prim.Native.Nat.{◌-◌, ◌≤◌}
+use Prim.Native.Nat.{◌-◌}
 use native.Mathlib.Omega.{arith}
 use mathlib.Core.Path.{◌≡◌}
-use lib.ListN.{take, drop}
-use Rattle.node_reader.specs.Fields.{name_like}
 use Rattle.node_reader.proofs.NameBytes.{like-none, like-more}
 use Rattle.node_reader.proofs.field_readers.name_like.Goals as goal
 

@@ -1,8 +1,7 @@
 -- The loop has read the first digits, and the rest are left to read from the place reached.
-use borrow.Author.Rules.{rules}
 use Prim.Native.Nat.{◌-◌}
 use native.Mathlib.Omega.{arith}
-use Rattle.node_reader.proofs.Numbers.{Digits, number-ends, digits-none, digits_more, digits-fit, digits-all}
+use Rattle.node_reader.proofs.Numbers.{number-ends, digits-none, digits_more, digits-fit, digits-all}
 use Rattle.node_reader.proofs.field_readers.number.Goals as goal
 
 pub returns-then-s-at : goal.returns-then-s-at

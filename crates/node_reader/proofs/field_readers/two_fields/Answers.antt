@@ -1,7 +1,6 @@
 -- The second field starts where the first ended.
 use Rattle.node_reader.specs.declared.field_readers.Field.TheVariants.{Value}
 use Rattle.node_reader.specs.Fields.{FieldIs, reader_of}
-use borrow.Author.Rules.{rules}
 use mathlib.Core.Path.{◌∙◌}
 use Rattle.theorems.proofs.ReaderLaws.{after, halts}
 use Rattle.node_reader.proofs.field_readers.two_fields.Goals as goal
@@ -25,7 +24,7 @@ pub returns-in-Refused-field_of : goal.returns-in-Refused-field_of
 returns-in-Refused-field_of c =
     λ n.
     after _ ((one (goal.at.returns-in-Refused-field_of c).In-Value).1 n)
-        ∙ (rw c.in-Refused-field_of.is at c.field_of-in-Value.ensures) n
+    ∙ (rw c.in-Refused-field_of.is at c.field_of-in-Value.ensures) n
 
 pub returns-in-Value-field_of : goal.returns-in-Value-field_of
 returns-in-Value-field_of c =

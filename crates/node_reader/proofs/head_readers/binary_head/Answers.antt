@@ -41,5 +41,5 @@ unfolding byte_up_to binary_node
 returns-in_default c =
     λ child n.
     let operator = rw c.in-Value.is at c.byte.ensures in
-        let high = lt-leb c.in-Value.operator 63 (omega arith) in
-        halts _ (after _ (operator.1 n) ∙ fails 4 _ n _ high)
+    let high = lt-leb c.in-Value.operator 63 (omega arith) in
+    halts _ (after _ (operator.1 n) ∙ fails 4 _ n _ high)

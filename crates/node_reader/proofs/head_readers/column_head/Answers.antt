@@ -31,7 +31,7 @@ unfolding column_node
 returns-in-Refused c =
     λ child n.
     stops-in-two (number 2 n _) (number 2) _
-        ((rw c.in-Refused.is at c.two_fields.ensures) n)
+    ((rw c.in-Refused.is at c.two_fields.ensures) n)
 
 pub returns-then-index-bound : goal.returns-then-index-bound
 unfolding repeat_exprs column_node children_of
@@ -49,4 +49,4 @@ unfolding column_node
 returns-else-index-bound c =
     λ child n.
     let two = rw c.in-Values.is at c.two_fields.ensures in
-        after _ (two.2 n) ∙ after _ (two.3 n) ∙ fails 6 _ n _ (le-ltb _ _ c.if-index-bound.false)
+    after _ (two.2 n) ∙ after _ (two.3 n) ∙ fails 6 _ n _ (le-ltb _ _ c.if-index-bound.false)

@@ -30,7 +30,7 @@ unfolding repeat_exprs field_node children_of
 returns-in-Refused c =
     λ child n.
     stops-in-two (byte_up_to 3 n _) (number 2) _
-        ((rw c.in-Refused.is at c.two_fields.ensures) n)
+    ((rw c.in-Refused.is at c.two_fields.ensures) n)
 
 pub returns-in-Values : goal.returns-in-Values
 unfolding repeat_exprs field_node children_of

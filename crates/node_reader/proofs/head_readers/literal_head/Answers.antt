@@ -35,7 +35,7 @@ unfolding literal_node
 returns-in-Refused c =
     λ child n.
     stops-in-two (byte_up_to 6 n _) (number 8) _
-        ((rw c.in-Refused.is at c.two_fields.ensures) n)
+    ((rw c.in-Refused.is at c.two_fields.ensures) n)
 
 pub returns-then-literal_in_range : goal.returns-then-literal_in_range
 unfolding repeat_exprs literal_node children_of
@@ -54,5 +54,5 @@ unfolding literal_node
 returns-else-literal_in_range c =
     λ child n.
     let two = rw c.in-Values.is at c.two_fields.ensures in
-        let out = sym c.literal_in_range.ensures ∙ c.if-literal_in_range.false in
-        after _ (two.2 n) ∙ after _ (two.3 n) ∙ fails 4 _ n _ out
+    let out = sym c.literal_in_range.ensures ∙ c.if-literal_in_range.false in
+    after _ (two.2 n) ∙ after _ (two.3 n) ∙ fails 4 _ n _ out

@@ -41,4 +41,4 @@ unfolding node_kind
 returns-else-allowed_kind c =
     λ n.
     let f = rw c.in-Value.is at c.byte.ensures in
-        after _ (f.1 n) ∙ fails 4 _ n _ (sym c.allowed_kind.ensures ∙ c.if-allowed_kind.false)
+    after _ (f.1 n) ∙ fails 4 _ n _ (sym c.allowed_kind.ensures ∙ c.if-allowed_kind.false)

@@ -29,7 +29,7 @@ unfolding other_node
 returns-in-Refused c =
     λ child n.
     stops-in-two (number 2 n _) (byte_up_to 16) _
-        ((rw c.in-Refused.is at c.two_fields.ensures) n)
+    ((rw c.in-Refused.is at c.two_fields.ensures) n)
 
 pub returns-in-Values : goal.returns-in-Values
 unfolding other_node children_of

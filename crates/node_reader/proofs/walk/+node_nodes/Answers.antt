@@ -1,18 +1,16 @@
 -- A node is its head and a row of children, and its own places in the rows are stored last; a row is a node and the rest of the row. Nodes
 -- left to count fall with each node.
-use Prim.Native.Nat.{ℕ, ◌+◌, ◌-◌, ◌*◌, ◌≤◌}
+use Prim.Native.Nat.{ℕ, ◌+◌, ◌-◌}
 use native.Mathlib.Omega.{arith}
-use borrow.Author.Rules.{rules}
 use lib.ListN.{length}
 use mathlib.Core.Path.{refl, ◌∙◌}
 use Rattle.definitions.specs.Decode as decode
-use Rattle.expression.proofs.Cycles.{below}
 use Rattle.node_reader.specs.Heads.{columns_of, depth_above}
 use Rattle.node_reader.specs.declared.call_heads.Head.TheVariants.{Children}
 use Rattle.node_rows.specs.Rows.{CollectedAll}
 use Rattle.node_reader.specs.Nodes.{WalkedIs, Counted, NodeHead}
 use Rattle.node_reader.specs.declared.walk.Walked.TheVariants.{To}
-use Rattle.node_reader.proofs.Walks.{node-stops, InRow, row-begins, row-goes-on, row-stops, row_ends}
+use Rattle.node_reader.proofs.Walks.{node-stops, row-begins, row-goes-on, row-stops, row_ends}
 use Rattle.node_reader.proofs.Standing.{all-bytes}
 use Rattle.node_reader.proofs.Storing.{Below, has-kind, storable, node-filled, lent_again}
 use Rattle.node_reader.proofs.walk.+node_nodes.Goals as goal
@@ -183,8 +181,7 @@ nodes-loop-left-init t c =
 
 pub nodes-node-requires : goal.nodes-node-requires
 nodes-node-requires t c =
-    let inv = c.loop-left.invariant in
-    (
+    let inv = c.loop-left.invariant in (
       omega (arith, inv.low),
       (inv.place, lent_again inv.same inv.alike c.requires.2),
     )

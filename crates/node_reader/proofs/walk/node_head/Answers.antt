@@ -1,6 +1,5 @@
 -- The kind, then the two limits, then the fields of that kind.
 use native.Mathlib.Omega.{arith}
-use borrow.Author.Rules.{rules}
 use Rattle.node_reader.proofs.Walks.{kind-stops, too-deep, too_many, below-limits}
 use Rattle.node_reader.proofs.walk.node_head.Goals as goal
 

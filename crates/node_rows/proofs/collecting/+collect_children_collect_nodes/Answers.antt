@@ -1,13 +1,12 @@
 -- `collect_nodes` and `collect_children`: the children fill the rows from the next index on, and then the node's own place is known.
-use Prim.Native.Nat.{ℕ, ◌+◌, ◌-◌, ◌*◌}
+use Prim.Native.Nat.{ℕ, ◌+◌, ◌-◌}
 use native.Mathlib.Omega.{arith}
 use mathlib.Core.Path.{refl}
-use lib.ListN.{length, length-set}
+use lib.ListN.{length-set}
 use Rattle.expression.specs.Nodes.{OfTrees}
-use Rattle.expression.proofs.Cycles.{below}
 use Rattle.expression.proofs.Standing.{node-some, after-head}
 use Rattle.node_rows.specs.Rows.{CollectedAll}
-use Rattle.node_rows.proofs.CollectWalk.{fits-tree, children-fit, Own, own-fits, collects-node, Collecting, collecting-begins, collecting-first, collecting-goes-on, collecting-ends, collects-none}
+use Rattle.node_rows.proofs.CollectWalk.{fits-tree, children-fit, Own, own-fits, collects-node, collecting-begins, collecting-first, collecting-goes-on, collecting-ends, collects-none}
 use Rattle.node_rows.proofs.collecting.+collect_children_collect_nodes.Goals as goal
 use Rattle.node_rows.proofs.collecting.+collect_children_collect_nodes.Goals.{collect_nodes-After-collect_children-passed, collect_nodes-Then-n-eq0}
 
@@ -46,8 +45,7 @@ collect_children-loop-left-init t c =
 
 pub collect_children-collect_nodes-one-requires : goal.collect_children-collect_nodes-one-requires
 collect_children-collect_nodes-one-requires t c =
-    let loop = c.loop-left in
-    (
+    let loop = c.loop-left in (
       omega (arith, loop.invariant.low),
       collecting-first loop.invariant c.loop-left-test.true,
     )
@@ -129,7 +127,7 @@ pub collect_nodes-returns-then-n-eq0 : goal.collect_nodes-returns-then-n-eq0
 collect_nodes-returns-then-n-eq0 t c =
     λ d u stands.
     collects-node c.args.i (none t (goal.at.collect_nodes-returns-then-n-eq0 t c).Then-n-eq0) c.requires c.node_number.result
-        c.node_number.ensures stands (c.head_at-head.ensures d u stands)
+    c.node_number.ensures stands (c.head_at-head.ensures d u stands)
 
 pub collect_nodes-overflow_add-i : goal.collect_nodes-overflow_add-i
 collect_nodes-overflow_add-i t c =
@@ -184,4 +182,4 @@ pub collect_nodes-returns : goal.collect_nodes-returns
 collect_nodes-returns t c =
     λ d u stands.
     collects-node c.args.i c.collect_children-passed.ensures c.requires c.node_number-2.result
-        c.node_number-2.ensures stands (c.head_at-head.ensures d u stands)
+    c.node_number-2.ensures stands (c.head_at-head.ensures d u stands)

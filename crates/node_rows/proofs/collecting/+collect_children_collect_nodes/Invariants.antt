@@ -1,13 +1,7 @@
 -- `collect_nodes` and `collect_children`: the children fill the rows from the next index on, and then the node's own place is known.
-use Prim.Native.Nat.{ℕ, ◌+◌, ◌-◌, ◌*◌}
-use native.Mathlib.Omega.{arith}
-use mathlib.Core.Path.{refl}
-use lib.ListN.{length, length-set}
-use Rattle.expression.specs.Nodes.{OfTrees}
-use Rattle.expression.proofs.Cycles.{below}
-use Rattle.expression.proofs.Standing.{node-some, after-head}
-use Rattle.node_rows.specs.Rows.{CollectedAll}
-use Rattle.node_rows.proofs.CollectWalk.{fits-tree, children-fit, Own, own-fits, collects-node, Collecting, collecting-begins, collecting-first, collecting-goes-on, collecting-ends, collects-none}
+use Prim.Native.Nat.{◌+◌, ◌-◌, ◌*◌}
+use lib.ListN.{length}
+use Rattle.node_rows.proofs.CollectWalk.{Collecting}
 use Rattle.node_rows.proofs.collecting.+collect_children_collect_nodes.Given as goal
 
 abbrev pub invariant-collect_children-loop-left : goal.invariant-collect_children-loop-left

@@ -1,6 +1,5 @@
 -- `node_row`: the walk writes the numbers of the nodes from the row's first place on; a row of 32 is enough for at most 32 nodes.
 use native.Mathlib.Omega.{arith}
-use borrow.Author.Rules.{rules}
 use Rattle.node_rows.proofs.FillLaws.{nothing-filled, fits-rows, nodes-filled}
 use Rattle.node_rows.proofs.collecting.node_row.Goals as goal
 

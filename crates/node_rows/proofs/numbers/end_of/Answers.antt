@@ -1,6 +1,5 @@
 -- `end_of`: a number of 32 bits is one of 64.
 use mir.Facts.{Fits-32_64}
-use borrow.Author.Rules.{rules}
 use Rattle.node_rows.proofs.numbers.end_of.Goals as goal
 
 pub overflow_cast-result : goal.overflow_cast-result

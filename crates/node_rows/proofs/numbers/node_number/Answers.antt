@@ -1,6 +1,5 @@
 -- `node_number`: kind, start and end each have their room in it.
 use native.Mathlib.Omega.{arith}
-use borrow.Author.Rules.{rules}
 use Rattle.node_rows.proofs.NumberLaws.{number-told}
 use Rattle.node_rows.proofs.numbers.node_number.Goals as goal
 

@@ -1,5 +1,5 @@
 -- `same_numbers`: so far says whether those passed are equal.
-use Prim.Native.Nat.{ℕ, ◌≤◌, ◌-◌}
+use Prim.Native.Nat.{ℕ, ◌-◌}
 use native.Mathlib.Omega.{arith}
 use mathlib.Core.Path.{subst}
 use Rattle.node_rows.specs.Stores.{SameIs}

@@ -1,9 +1,6 @@
 -- `same_numbers`: so far says whether those passed are equal.
-use Prim.Native.Nat.{ℕ, ◌≤◌, ◌-◌}
-use native.Mathlib.Omega.{arith}
-use mathlib.Core.Path.{subst}
+use Prim.Native.Nat.{◌≤◌, ◌-◌}
 use Rattle.node_rows.specs.Stores.{SameIs}
-use Rattle.node_rows.proofs.NumberLaws.{same_none, same_more}
 use Rattle.node_rows.proofs.numbers.same_numbers.Given as goal
 
 abbrev pub invariant-loop-k : goal.invariant-loop-k

@@ -2,7 +2,6 @@
 use native.Mathlib.Omega.{arith}
 use mathlib.Core.Path.{refl}
 use mir.Facts.{Fits-16_64}
-use borrow.Author.Rules.{rules}
 use Rattle.node_rows.proofs.RowLaws.{two-are, two-within}
 use Rattle.node_rows.proofs.pairs.two_at.Goals as goal
 
@@ -42,4 +41,4 @@ pub returns : goal.returns
 returns c =
     λ at a b more h.
     two-are h _ c.start_of.ensures c.end_of.ensures _ refl
-        c.end_of-2.ensures refl
+    c.end_of-2.ensures refl

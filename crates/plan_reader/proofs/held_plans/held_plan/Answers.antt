@@ -1,5 +1,4 @@
 -- The first byte says which of the two it is to be read as; no byte is the empty plan.
-use borrow.Author.Rules.{rules}
 use native.Mathlib.Omega.{arith}
 use mathlib.Core.Path.{ap, ◌∙◌}
 use Rattle.definitions.specs.Basics.{map_result}

@@ -1,5 +1,4 @@
 -- As `held_plan`; only a frame has nodes that are in the rows.
-use borrow.Author.Rules.{rules}
 use native.Mathlib.Omega.{arith}
 use mathlib.Core.Path.{ap, ◌∙◌}
 use Rattle.definitions.specs.Basics.{map_result}

@@ -2,7 +2,6 @@
 use Rattle.frame_reader.specs.Frames.{first_of}
 use Rattle.node_reader.specs.declared.field_readers.Field.TheVariants.{Value}
 use Rattle.node_reader.specs.Fields.{FieldIs}
-use borrow.Author.Rules.{rules}
 use Rattle.plan_reader.proofs.Extractions.{unopened, body-stops, ends, goes_on}
 use Rattle.plan_reader.proofs.held_plans.whole_extraction.Goals as goal
 use Rattle.plan_reader.proofs.held_plans.whole_extraction.Goals.{In-Value}

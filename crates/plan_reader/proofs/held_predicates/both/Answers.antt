@@ -46,8 +46,8 @@ unfolding argument
 returns-in-Refused-argument c =
     λ next.
     after _ (rw c.in-To.is at
-        c.argument.ensures).1
-        ∙ halts _ (rw c.in-Refused-argument.is at c.argument-in-To.ensures)
+    c.argument.ensures).1
+    ∙ halts _ (rw c.in-Refused-argument.is at c.argument-in-To.ensures)
 
 pub returns-in-To-argument : goal.returns-in-To-argument
 unfolding argument

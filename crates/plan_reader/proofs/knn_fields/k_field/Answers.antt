@@ -33,7 +33,7 @@ unfolding k_field
 returns-then-k-eq0 c =
     λ n.
     let read = rw c.in-Value.is at c.number.ensures in
-        after _ (read.1 n) ∙ fails 4 _ n _ (zero-no-k _ c.if-k-eq0.true)
+    after _ (read.1 n) ∙ fails 4 _ n _ (zero-no-k _ c.if-k-eq0.true)
 
 pub returns-else-k-eq0 : goal.returns-else-k-eq0
 unfolding k_field

@@ -1,5 +1,4 @@
 -- Three fields in a row, whatever comes after them.
-use borrow.Author.Rules.{rules}
 use mathlib.Core.Path.{◌∙◌}
 use Rattle.theorems.proofs.ReaderLaws.{after, halts}
 use Rattle.plan_reader.proofs.Fields.{up_to, flag-stored, ties-stored}
@@ -21,17 +20,17 @@ pub returns-in-Refused-side_up_to : goal.returns-in-Refused-side_up_to
 returns-in-Refused-side_up_to c =
     λ next n.
     after _ ((rw c.in-Value.is at
-        c.byte_up_to.ensures).1 n)
-        ∙ halts _ ((rw c.in-Refused-side_up_to.is at c.side_up_to.ensures) n)
+    c.byte_up_to.ensures).1 n)
+    ∙ halts _ ((rw c.in-Refused-side_up_to.is at c.side_up_to.ensures) n)
 
 pub returns-in-Refused-byte_up_to : goal.returns-in-Refused-byte_up_to
 returns-in-Refused-byte_up_to c =
     λ next n.
     after _ ((rw c.in-Value.is at
-        c.byte_up_to.ensures).1 n)
-        ∙ after _ ((rw c.in-Value-side_up_to.is at
-        c.side_up_to.ensures).1 n)
-        ∙ halts _ ((rw c.in-Refused-byte_up_to.is at c.byte_up_to-in-Value-side_up_to.ensures) n)
+    c.byte_up_to.ensures).1 n)
+    ∙ after _ ((rw c.in-Value-side_up_to.is at
+    c.side_up_to.ensures).1 n)
+    ∙ halts _ ((rw c.in-Refused-byte_up_to.is at c.byte_up_to-in-Value-side_up_to.ensures) n)
 
 pub returns-in-Value-byte_up_to : goal.returns-in-Value-byte_up_to
 returns-in-Value-byte_up_to c =

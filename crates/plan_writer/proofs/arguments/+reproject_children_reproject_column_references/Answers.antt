@@ -1,14 +1,12 @@
 -- `reproject_column_references` and `reproject_children`: a head is copied and its children after it, one after the other; a column is put
 -- with its new index.
 use Rattle.expression.proofs.Cycles.{below}
-use Prim.Native.Nat.{ℕ, ◌+◌, ◌-◌, ◌*◌}
+use Prim.Native.Nat.{◌-◌}
 use native.Mathlib.Omega.{arith}
 use mathlib.Core.Path.{refl, ◌∙◌}
-use lib.ListN.{length}
-use borrow.Author.Rules.{rules}
 use Rattle.expression.proofs.Standing.{node-some, after-head}
 use Rattle.writing.proofs.Written.{together-length}
-use Rattle.plan_writer.proofs.CopyWalk.{copy-column, copy-other, copy-alone, fits-tree, column_fits, head-room, children-fit, Copying, copying-begins, copying-room, copying-ends, copying-first, copying-sum, copying-goes-on}
+use Rattle.plan_writer.proofs.CopyWalk.{copy-column, copy-other, copy-alone, fits-tree, column_fits, head-room, children-fit, copying-begins, copying-room, copying-ends, copying-first, copying-sum, copying-goes-on}
 use Rattle.plan_writer.proofs.arguments.+reproject_children_reproject_column_references.Goals as goal
 
 pub reproject_children-loop-left-init : goal.reproject_children-loop-left-init
@@ -92,9 +90,9 @@ pub reproject_column_references-returns-then-src-at-eq0 : goal.reproject_column_
 reproject_column_references-returns-then-src-at-eq0 t c =
     λ t stands.
     let kind = c.if-src-at-eq0.true in
-        let index = c.short_at-index in
-        let put = c.put_column in
-        copy-column c.args.to.now t stands kind index.result index.ensures c.args.out.now put.new.out put.ensures
+    let index = c.short_at-index in
+    let put = c.put_column in
+    copy-column c.args.to.now t stands kind index.result index.ensures c.args.out.now put.new.out put.ensures
 
 pub reproject_column_references-head_at-head-requires : goal.reproject_column_references-head_at-head-requires
 reproject_column_references-head_at-head-requires t c =
@@ -110,15 +108,15 @@ reproject_column_references-copy_bytes-requires t c =
     let call = c.head_at-head in
     record {
       n_in_bounds = omega (
-      arith,
-      head-room c.requires c.if-src-at-eq0.false
-          call.result call.ensures,
-    );
+        arith,
+        head-room c.requires c.if-src-at-eq0.false
+            call.result call.ensures,
+      );
       n_in_bounds_2 = omega (
-      arith,
-      head-room c.requires c.if-src-at-eq0.false
-          call.result call.ensures,
-    );
+        arith,
+        head-room c.requires c.if-src-at-eq0.false
+            call.result call.ensures,
+      );
     }
 
 pub reproject_column_references-shape_of-out-then-n-eq0 : goal.reproject_column_references-shape_of-out-then-n-eq0
@@ -129,10 +127,10 @@ pub reproject_column_references-returns-then-n-eq0 : goal.reproject_column_refer
 reproject_column_references-returns-then-n-eq0 t c =
     λ u stands.
     let head = c.head_at-head in
-        let copy = c.copy_bytes in
-        copy-alone c.args.to.now u stands c.if-src-at-eq0.false head.result
-        head.ensures c.if-n-eq0.true c.args.out.now copy.new.out
-        (head.result.next - c.args.at) refl copy.ensures
+    let copy = c.copy_bytes in
+    copy-alone c.args.to.now u stands c.if-src-at-eq0.false head.result
+    head.ensures c.if-n-eq0.true c.args.out.now copy.new.out
+    (head.result.next - c.args.at) refl copy.ensures
 
 pub reproject_column_references-slice_bounds-reproject_children-count : goal.reproject_column_references-slice_bounds-reproject_children-count
 reproject_column_references-slice_bounds-reproject_children-count t c =
@@ -176,8 +174,13 @@ reproject_column_references-overflow_add-result-2 t c =
     let head = c.head_at-head in
     let copy = c.copy_bytes in
     let others = c.reproject_children-rest in
-    omega (arith, c.well_formed, p.room, (copy-other c.args.to.now p.tree p.stands some head.result head.ensures c.args.out.now
-    copy.new.out others.new.out (head.result.next - c.args.at) refl copy.ensures others.result others.ensures).wrote)
+    omega (
+      arith,
+      c.well_formed,
+      p.room,
+      (copy-other c.args.to.now p.tree p.stands some head.result head.ensures c.args.out.now
+          copy.new.out others.new.out (head.result.next - c.args.at) refl copy.ensures others.result others.ensures).wrote,
+    )
 
 pub reproject_column_references-shape_of-out : goal.reproject_column_references-shape_of-out
 reproject_column_references-shape_of-out t c =

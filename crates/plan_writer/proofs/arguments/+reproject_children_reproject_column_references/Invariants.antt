@@ -1,14 +1,8 @@
 -- `reproject_column_references` and `reproject_children`: a head is copied and its children after it, one after the other; a column is put
 -- with its new index.
-use Rattle.expression.proofs.Cycles.{below}
-use Prim.Native.Nat.{ℕ, ◌+◌, ◌-◌, ◌*◌}
-use native.Mathlib.Omega.{arith}
-use mathlib.Core.Path.{refl, ◌∙◌}
+use Prim.Native.Nat.{◌+◌, ◌-◌, ◌*◌}
 use lib.ListN.{length}
-use borrow.Author.Rules.{rules}
-use Rattle.expression.proofs.Standing.{node-some, after-head}
-use Rattle.writing.proofs.Written.{together-length}
-use Rattle.plan_writer.proofs.CopyWalk.{copy-column, copy-other, copy-alone, fits-tree, column_fits, head-room, children-fit, Copying, copying-begins, copying-room, copying-ends, copying-first, copying-sum, copying-goes-on}
+use Rattle.plan_writer.proofs.CopyWalk.{Copying}
 use Rattle.plan_writer.proofs.arguments.+reproject_children_reproject_column_references.Given as goal
 
 abbrev pub invariant-reproject_children-loop-left : goal.invariant-reproject_children-loop-left

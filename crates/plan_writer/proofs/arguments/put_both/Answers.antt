@@ -1,6 +1,5 @@
 -- The second argument begins where the first ended.
 use native.Mathlib.Omega.{arith}
-use borrow.Author.Rules.{rules}
 use Rattle.writing.proofs.Sequence.{first-room, second-room, both-put}
 use Rattle.plan_writer.specs.Arguments.{written}
 use Rattle.plan_writer.proofs.arguments.put_both.Goals as goal

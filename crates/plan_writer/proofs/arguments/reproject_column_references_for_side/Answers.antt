@@ -1,6 +1,5 @@
 -- Copied as it stands, or its columns renumbered by the table, into the part from w on.
 use native.Mathlib.Omega.{arith}
-use borrow.Author.Rules.{rules}
 use mathlib.Core.Path.{sym, ◌∙◌}
 use Rattle.plan_writer.proofs.ArgumentLaws.{kept-room, kept_put, moved-fits, moved-put, moved_sum}
 use Rattle.plan_writer.proofs.arguments.reproject_column_references_for_side.Goals as goal

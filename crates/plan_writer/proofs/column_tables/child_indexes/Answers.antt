@@ -3,7 +3,7 @@ use Prim.Native.Nat.{◌≤◌, ◌-◌, ◌+◌, ◌*◌}
 use native.Mathlib.Omega.{arith}
 use lib.ListN.{length}
 use Rattle.expression.specs.Places.{short_at}
-use Rattle.plan_writer.proofs.TableLaws.{Filling, filling-begins, filling-goes-on, filling-ends, records-within, child_fits, child-table}
+use Rattle.plan_writer.proofs.TableLaws.{filling-begins, filling-goes-on, filling-ends, records-within, child_fits, child-table}
 use Rattle.plan_writer.proofs.column_tables.child_indexes.Goals as goal
 use Rattle.plan_writer.proofs.column_tables.child_indexes.Goals.{In-loop-j}
 

@@ -1,7 +1,7 @@
 -- `raised_indexes`: the entries before j are their places raised by the count.
 use Prim.Native.Nat.{◌-◌, ◌+◌}
 use native.Mathlib.Omega.{arith}
-use Rattle.plan_writer.proofs.TableLaws.{Filling, filling-begins, filling-goes-on, filling-ends}
+use Rattle.plan_writer.proofs.TableLaws.{filling-begins, filling-goes-on, filling-ends}
 use Rattle.plan_writer.proofs.column_tables.raised_indexes.Goals as goal
 
 pub loop-j-init : goal.loop-j-init

@@ -1,7 +1,6 @@
 -- `raised_indexes`: the entries before j are their places raised by the count.
 use Prim.Native.Nat.{◌-◌, ◌+◌}
-use native.Mathlib.Omega.{arith}
-use Rattle.plan_writer.proofs.TableLaws.{Filling, filling-begins, filling-goes-on, filling-ends}
+use Rattle.plan_writer.proofs.TableLaws.{Filling}
 use Rattle.plan_writer.proofs.column_tables.raised_indexes.Given as goal
 
 abbrev pub invariant-loop-j : goal.invariant-loop-j

@@ -1,6 +1,5 @@
 -- Form and side, then left, right and the distance.
 use native.Mathlib.Omega.{arith}
-use borrow.Author.Rules.{rules}
 use mathlib.Core.Path.{◌∙◌}
 use lib.ListN.{length-set}
 use Rattle.writing.proofs.Sequence.{stored-room, stored-put, first-room, second-room, both-put}

@@ -1,5 +1,4 @@
 -- Each kind has its own fields.
-use borrow.Author.Rules.{rules}
 use Rattle.plan_writer.proofs.put_predicate.put_fields.Goals as goal
 
 pub put_relation-requires : goal.put_relation-requires

@@ -1,5 +1,4 @@
 -- Its head, then query and object.
-use borrow.Author.Rules.{rules}
 use Rattle.writing.proofs.Sequence.{rest-room, headed-put}
 use Rattle.plan_writer.proofs.PredicateLaws.{Numbers, knn-view, knn-fits}
 use Rattle.plan_writer.proofs.put_predicate.put_knn.Goals as goal

@@ -1,6 +1,5 @@
 -- The first byte with the position, and the fields into the part after them.
 use native.Mathlib.Omega.{arith}
-use borrow.Author.Rules.{rules}
 use Rattle.definitions.specs.Basics.{big_endian}
 use Rattle.definitions.specs.Encode.{predicate_fields}
 use Rattle.sedona_query_planner.specs.Predicates.{PredicateAt}

@@ -1,6 +1,5 @@
 -- The number of its type, then left and right.
 use native.Mathlib.Omega.{arith}
-use borrow.Author.Rules.{rules}
 use mathlib.Core.Path.{◌∙◌}
 use lib.ListN.{length-set}
 use Rattle.writing.proofs.Sequence.{stored-room, stored-put}

@@ -1,5 +1,4 @@
 -- `put_decimal`: the digits of the definition's width.
-use borrow.Author.Rules.{rules}
 use Rattle.printing.proofs.DecimalLaws.{figures-fit, figures-put}
 use Rattle.printing.proofs.decimals.put_decimal.Goals as goal
 

@@ -27,7 +27,7 @@ overflow_add-result c =
     omega (
       arith,
       (let put = c.put_decimal-v in
-    last_within c.args.first _ c.args.last c.requires put.ensures put.auto.out),
+          last_within c.args.first _ c.args.last c.requires put.ensures put.auto.out),
       c.well_formed,
       simp length-set at
           c.put_decimal-v.auto.out,

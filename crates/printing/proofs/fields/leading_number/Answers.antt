@@ -2,7 +2,6 @@
 use Prim.Native.Nat.{◌<◌}
 use native.Mathlib.Omega.{arith}
 use mathlib.Core.Path.{◌∙◌}
-use mathlib.Core.Logic.{⊎_elim}
 use mir.Facts.{Fits-8_64}
 use lib.ListN.{get_or}
 use Rattle.printing.proofs.NodeFields.{short-leads, byte-leads, kind-within, byte-within, short-within}
@@ -14,8 +13,8 @@ outside : (c : In_default) → let a =
     c.args in 0 < get_or a.src.now a.at 0 → get_or a.src.now a.at 0 < 4 → ⊥
 outside c some few =
     elim c.in_default.branch [
-      in_default-via-then-src-at-lt1 w ↦ omega arith
-    | in_default-via-else-src-at-lt1+else-this-lt4 w ↦ omega arith
+      | in_default-via-then-src-at-lt1 w ↦ omega arith
+      | in_default-via-else-src-at-lt1+else-this-lt4 w ↦ omega arith
     ]
 
 pub bounds-src-at : goal.bounds-src-at

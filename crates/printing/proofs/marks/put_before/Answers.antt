@@ -1,5 +1,4 @@
 -- `put_before`: nothing before the first child; else a comma, or a binary's operator.
-use borrow.Author.Rules.{rules}
 use native.Mathlib.Omega.{arith}
 use mathlib.Core.Path.{◌≡◌, ◌∙◌}
 use mathlib.Core.List.{◌∷◌}

@@ -1,5 +1,4 @@
 -- `put_opening`: each arm writes what its kind opens with.
-use borrow.Author.Rules.{rules}
 use native.Mathlib.Omega.{arith}
 use Rattle.expression.specs.Places.{part}
 use Rattle.printing.proofs.NodeFields.{kind-within, tag-within, literal-within, name-within}

@@ -25,8 +25,8 @@ overflow_add-result c =
     omega (
       arith,
       (let put = c.put_marked-v in
-    let copy = c.copy_at-end in
-    bracket-within c.args.name.now c.requires put.ensures put.auto.out copy.ensures copy.auto.out),
+          let copy = c.copy_at-end in
+          bracket-within c.args.name.now c.requires put.ensures put.auto.out copy.ensures copy.auto.out),
       c.well_formed,
       c.put_marked-v.auto.out,
       c.copy_at-end.auto.out,

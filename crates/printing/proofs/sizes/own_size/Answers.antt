@@ -1,5 +1,4 @@
 -- `own_size`: each arm adds up the characters of its kind.
-use borrow.Author.Rules.{rules}
 use native.Mathlib.Omega.{arith}
 use mathlib.Core.Path.{ap}
 use Rattle.definitions.specs.Printed.{decimal_width}
@@ -115,44 +114,44 @@ pub returns-in-0 : goal.returns-in-0
 returns-in-0 c =
     λ t h k.
     let call = c.leading_number-number in
-        omega (
-          arith,
-          own-column call.result call.ensures t h c.in-0.is,
-          c.decimal_width-width.ensures,
-          c.decimal_width.ensures,
-          ap decimal_width c.short_at.ensures,
-        )
+    omega (
+      arith,
+      own-column call.result call.ensures t h c.in-0.is,
+      c.decimal_width-width.ensures,
+      c.decimal_width.ensures,
+      ap decimal_width c.short_at.ensures,
+    )
 
 pub returns-in-1 : goal.returns-in-1
 returns-in-1 c =
     λ t h k.
     let call = c.leading_number-number in
-        omega (arith, own-literal call.result call.ensures t h c.in-1.is, c.decimal_width-width.ensures)
+    omega (arith, own-literal call.result call.ensures t h c.in-1.is, c.decimal_width-width.ensures)
 
 pub returns-in-2 : goal.returns-in-2
 returns-in-2 c =
     λ t h k.
     let call = c.leading_number-number in
-        omega (arith, own-binary call.result call.ensures t h c.in-2.is, c.decimal_width-width.ensures)
+    omega (arith, own-binary call.result call.ensures t h c.in-2.is, c.decimal_width-width.ensures)
 
 pub returns-in-3 : goal.returns-in-3
 returns-in-3 c =
     λ t h k.
     let call = c.leading_number-number in
-        omega (
-          arith,
-          own-call call.result call.ensures t h _ k c.in-3.is,
-          c.decimal_width-width.ensures,
-          c.commas-between.ensures,
-        )
+    omega (
+      arith,
+      own-call call.result call.ensures t h _ k c.in-3.is,
+      c.decimal_width-width.ensures,
+      c.commas-between.ensures,
+    )
 
 pub returns-in_default : goal.returns-in_default
 returns-in_default c =
     λ t h k.
     let call = c.leading_number-number in
-        omega (
-          arith,
-          own-other call.result call.ensures t h _ k (omega arith),
-          c.decimal_width-width.ensures,
-          c.commas-between.ensures,
-        )
+    omega (
+      arith,
+      own-other call.result call.ensures t h _ k (omega arith),
+      c.decimal_width-width.ensures,
+      c.commas-between.ensures,
+    )

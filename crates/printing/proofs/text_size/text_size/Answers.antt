@@ -1,8 +1,7 @@
 -- `text_size`: a turn passes one node; its own characters and those of what is left are those of the whole.
 use Prim.Native.Nat.{◌-◌}
 use native.Mathlib.Omega.{arith}
-use lib.ListN.{length}
-use Rattle.printing.proofs.Sizing.{Sizing, sizing-begins, sizing-ends, tree-there, counted, head-later, sizing-goes-on, size_small}
+use Rattle.printing.proofs.Sizing.{sizing-begins, sizing-ends, tree-there, counted, head-later, sizing-goes-on, size_small}
 use Rattle.printing.proofs.text_size.text_size.Goals as goal
 
 pub loop-next-init : goal.loop-next-init

@@ -1,11 +1,8 @@
 -- `print_node` and `print_children`: what a node opens with, its children with what stands before each, and what it closes with; a node
 -- walk goes further on, a row walk to a node at its own place.
 use Prim.Native.Nat.{◌+◌, ◌-◌, ◌*◌}
-use native.Mathlib.Omega.{arith}
-use mathlib.Core.Path.{◌∙◌}
 use lib.ListN.{length}
-use Rattle.expression.proofs.Standing.{node-some}
-use Rattle.printing.proofs.PrintWalk.{tree_of, opening-room, children-later, children-fit, closing-room, node-printed, Printing, printing-begins, printing-ends, before-room, child-room, printing-goes-on}
+use Rattle.printing.proofs.PrintWalk.{Printing}
 use Rattle.printing.proofs.texts.+print_children_print_node.Given as goal
 
 abbrev pub invariant-print_children-loop-position : goal.invariant-print_children-loop-position

@@ -3,8 +3,7 @@ use Prim.Native.Nat.{◌-◌, ◌<◌}
 use native.Mathlib.Omega.{arith}
 use lib.ListN.{length}
 use mir.Facts.{Fits-16_64}
-use Rattle.projection.specs.Chains.{link_of}
-use Rattle.projection.proofs.ChainLaws.{Searching, search-begins, search-inside, search-found, search-falls, search-goes-on, search-ends}
+use Rattle.projection.proofs.ChainLaws.{search-begins, search-inside, search-found, search-falls, search-goes-on, search-ends}
 use Rattle.projection.proofs.places.chain_place.Goals as goal
 use Rattle.projection.proofs.places.chain_place.Goals.{In-loop-link}
 

@@ -1,10 +1,7 @@
 -- `chain_place`: from its link on the chain has what it has from the start, and links fall.
-use Prim.Native.Nat.{◌-◌, ◌<◌}
-use native.Mathlib.Omega.{arith}
-use lib.ListN.{length}
-use mir.Facts.{Fits-16_64}
+use Prim.Native.Nat.{◌-◌}
 use Rattle.projection.specs.Chains.{link_of}
-use Rattle.projection.proofs.ChainLaws.{Searching, search-begins, search-inside, search-found, search-falls, search-goes-on, search-ends}
+use Rattle.projection.proofs.ChainLaws.{Searching}
 use Rattle.projection.proofs.places.chain_place.Given as goal
 
 abbrev pub invariant-loop-link : goal.invariant-loop-link

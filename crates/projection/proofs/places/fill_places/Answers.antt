@@ -1,11 +1,9 @@
 -- `fill_places`: the chains have the items passed.
-use Prim.Native.Nat.{◌-◌, ◌≤◌}
+use Prim.Native.Nat.{◌-◌}
 use native.Mathlib.Omega.{arith}
-use mathlib.Core.Path.{◌≡◌, refl, subst}
-use mathlib.Core.Logic.{⊎_elim}
-use lib.ListN.{length, get_or, length-set}
+use mathlib.Core.Path.{refl, subst}
+use lib.ListN.{get_or, length-set}
 use mir.Facts.{Fits-16_64}
-use borrow.Author.Rules.{rules}
 use Rattle.projection.specs.Chains.{Chained}
 use Rattle.projection.proofs.ChainLaws.{chained-none, chain-of, chained-stays, chained-new}
 use Rattle.projection.proofs.places.fill_places.Goals as goal
@@ -59,12 +57,12 @@ loop-k-preserved c =
     let index = get_or c.args.items.now loop.k 0 in
     let answer = call.ensures _ (chained.walks index) in
     elim c.match-chain_place.branch [
-      in-Missing w ↦ (
+      | in-Missing w ↦ (
         omega arith,
         rw w.nexts-is (simp length-set loop.invariant.1),
         rw (w.heads-is, w.nexts-is) (chained-new chained c.loop-k-test.true index refl (rw w.in-Missing.is at answer)),
       )
-    | in_default w ↦ (
+      | in_default w ↦ (
         omega arith,
         rw w.nexts-is loop.invariant.1,
         rw (w.heads-is, w.nexts-is) (chained-stays chained c.loop-k-test.true index refl _ (rw w.in_default.is at answer)),

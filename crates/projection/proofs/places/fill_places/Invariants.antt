@@ -1,13 +1,8 @@
 -- `fill_places`: the chains have the items passed.
 use Prim.Native.Nat.{◌-◌, ◌≤◌}
-use native.Mathlib.Omega.{arith}
-use mathlib.Core.Path.{◌≡◌, refl, subst}
-use mathlib.Core.Logic.{⊎_elim}
-use lib.ListN.{length, get_or, length-set}
-use mir.Facts.{Fits-16_64}
-use borrow.Author.Rules.{rules}
+use mathlib.Core.Path.{◌≡◌}
+use lib.ListN.{length}
 use Rattle.projection.specs.Chains.{Chained}
-use Rattle.projection.proofs.ChainLaws.{chained-none, chain-of, chained-stays, chained-new}
 use Rattle.projection.proofs.places.fill_places.Given as goal
 
 abbrev pub invariant-loop-k : goal.invariant-loop-k

@@ -1,9 +1,7 @@
 -- `first_place`: the items passed are others.
-use Prim.Native.Nat.{◌-◌, ◌≤◌}
+use Prim.Native.Nat.{◌-◌}
 use native.Mathlib.Omega.{arith}
-use mathlib.Core.Path.{◌≡◌, sym, ap, ◌∙◌}
-use mathlib.Core.Option.{none}
-use lib.ListN.{length, take}
+use mathlib.Core.Path.{sym, ap, ◌∙◌}
 use lib.Seq.{take_all}
 use Rattle.definitions.specs.Project.{place_in}
 use Rattle.projection.proofs.PlaceLaws.{place-passed, place_found, place-nothing}

@@ -1,5 +1,4 @@
 -- `collect_arguments`: a relation and KNN have two arguments, a distance a third.
-use borrow.Author.Rules.{rules}
 use Rattle.projection.proofs.PredicateLaws.{relation-two, knn-two, two-fit, two-collected, distance-three, distance-fits, bound-fits, three-collected}
 use Rattle.projection.proofs.plan_spots.collect_arguments.Goals as goal
 
@@ -28,20 +27,20 @@ pub returns-in-Relation : goal.returns-in-Relation
 returns-in-Relation c =
     λ P there.
     let call = c.collect_both in
-        two-collected c.args.row.now call.new.row call.result
-        call.ensures (relation-two (rw c.in-Relation.is at there))
+    two-collected c.args.row.now call.new.row call.result
+    call.ensures (relation-two (rw c.in-Relation.is at there))
 
 pub returns-in-Distance : goal.returns-in-Distance
 returns-in-Distance c =
     λ P there.
     let last = c.collect_columns in
-        let both = c.collect_both-both in
-        three-collected c.args.row.now both.new.row last.new.row both.result last.result
-        both.ensures last.ensures (distance-three (rw c.in-Distance.is at there))
+    let both = c.collect_both-both in
+    three-collected c.args.row.now both.new.row last.new.row both.result last.result
+    both.ensures last.ensures (distance-three (rw c.in-Distance.is at there))
 
 pub returns-in-KNearestNeighbors : goal.returns-in-KNearestNeighbors
 returns-in-KNearestNeighbors c =
     λ P there.
     let call = c.collect_both-in-KNearestNeighbors in
-        two-collected c.args.row.now call.new.row call.result
-        call.ensures (knn-two (rw c.in-KNearestNeighbors.is at there) _ c.negate-other.ensures)
+    two-collected c.args.row.now call.new.row call.result
+    call.ensures (knn-two (rw c.in-KNearestNeighbors.is at there) _ c.negate-other.ensures)

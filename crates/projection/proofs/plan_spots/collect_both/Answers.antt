@@ -1,5 +1,4 @@
 -- `collect_both`: the second is collected from where the first ended.
-use borrow.Author.Rules.{rules}
 use Rattle.terms.specs.Sides.{join_side}
 use Rattle.projection.proofs.BothLaws.{first_fits, second_fits, both-collected}
 use Rattle.projection.proofs.plan_spots.collect_both.Goals as goal

@@ -1,7 +1,6 @@
 -- `collect_extraction`: the records of a remainder come after the predicate's arguments.
 use Prim.Native.Nat.{◌+◌}
 use native.Mathlib.Omega.{arith}
-use borrow.Author.Rules.{rules}
 use Rattle.projection.specs.Rows.{RecordsFit}
 use Rattle.projection.proofs.ExtractionLaws.{arguments-fit, records-fit, collected-nothing, collected-records}
 use Rattle.projection.proofs.plan_spots.collect_extraction.Goals as goal
@@ -33,13 +32,13 @@ pub returns-in-Nothing : goal.returns-in-Nothing
 returns-in-Nothing c =
     λ X there.
     let call = c.collect_arguments-passed in
-        collected-nothing c.args.row.now call.new.row call.result call.ensures X there
-        (rw c.in-Nothing.is at there.read.remainder)
+    collected-nothing c.args.row.now call.new.row call.result call.ensures X there
+    (rw c.in-Nothing.is at there.read.remainder)
 
 pub returns-in-Frame : goal.returns-in-Frame
 returns-in-Frame c =
     λ X there.
     let records = c.collect_records in
-        let call = c.collect_arguments-passed in
-        collected-records c.args.row.now call.new.row call.result call.ensures X there _
-        (rw c.in-Frame.is at there.read.remainder) records.new.row records.result records.ensures
+    let call = c.collect_arguments-passed in
+    collected-records c.args.row.now call.new.row call.result call.ensures X there _
+    (rw c.in-Frame.is at there.read.remainder) records.new.row records.result records.ensures

@@ -1,7 +1,6 @@
 -- `project_spots`: the left ones are found and then the right ones.
 use mathlib.Core.Path.{◌≡◌}
 use mathlib.Core.Bool.{Bool, true, false}
-use borrow.Author.Rules.{rules}
 use Rattle.definitions.specs.Basics.{if◌then◌else◌}
 use Rattle.definitions.specs.Expression as tree
 use Rattle.projection.specs.Extractions.{ExtractionThere}
@@ -47,4 +46,4 @@ pub returns-else-find_places : goal.returns-else-find_places
 returns-else-find_places c =
     λ X there.
     let first = c.find_places in
-        left-lacks _ X there _ (c.collect_extraction-count.ensures X there) first.new.row (rw c.if-find_places.false at first.ensures)
+    left-lacks _ X there _ (c.collect_extraction-count.ensures X there) first.new.row (rw c.if-find_places.false at first.ensures)

@@ -2,7 +2,7 @@
 use Prim.Native.Nat.{◌-◌}
 use native.Mathlib.Omega.{arith}
 use mir.Facts.{Fits-32_64}
-use Rattle.projection.proofs.ProjectionLaws.{Putting, putting-begins, putting-goes-on, putting-ends}
+use Rattle.projection.proofs.ProjectionLaws.{putting-begins, putting-goes-on, putting-ends}
 use Rattle.projection.proofs.projecting.put_indexes.Goals as goal
 
 pub loop-k-init : goal.loop-k-init

@@ -1,8 +1,6 @@
 -- `put_indexes`: those passed are in the plan.
 use Prim.Native.Nat.{◌-◌}
-use native.Mathlib.Omega.{arith}
-use mir.Facts.{Fits-32_64}
-use Rattle.projection.proofs.ProjectionLaws.{Putting, putting-begins, putting-goes-on, putting-ends}
+use Rattle.projection.proofs.ProjectionLaws.{Putting}
 use Rattle.projection.proofs.projecting.put_indexes.Given as goal
 
 abbrev pub invariant-loop-k : goal.invariant-loop-k

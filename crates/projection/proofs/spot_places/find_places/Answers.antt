@@ -1,6 +1,5 @@
 -- `find_places`: with no chains the list is searched; else the chains are filled from rows of nothing but 0.
 use mathlib.Core.Path.{refl}
-use borrow.Author.Rules.{rules}
 use Rattle.projection.proofs.ChainLaws.{zeros-unfilled}
 use Rattle.projection.proofs.spot_places.find_places.Goals as goal
 

@@ -1,14 +1,12 @@
 -- `put_places`: the numbers passed were found and changed.
 use Prim.Native.Nat.{◌-◌, ◌%◌, ◌<◌}
 use native.Mathlib.Omega.{arith}
-use borrow.Author.Rules.{rules}
 use mathlib.Core.Path.{◌≡◌}
 use mathlib.Core.Option.{some}
-use mathlib.Core.Logic.{⊎_elim}
 use lib.ListN.{length, get_or}
 use Rattle.definitions.specs.Project.{place_in}
 use Rattle.projection.proofs.PlaceLaws.{place-within}
-use Rattle.projection.proofs.PlacingLaws.{other-has, other-stays, missing-lacks, found-has, found-placed, Placing, placing-begins, placing-length, placing-goes-on, placing-passes, placing-fails, placing-ends}
+use Rattle.projection.proofs.PlacingLaws.{other-has, other-stays, missing-lacks, found-has, found-placed, placing-begins, placing-length, placing-goes-on, placing-passes, placing-fails, placing-ends}
 use Rattle.projection.proofs.spot_places.put_places.Goals as goal
 use Rattle.projection.proofs.spot_places.put_places.Goals.{In-At, In-loop-k, then-spot-wanted+in-At, else-spot-wanted}
 
@@ -82,15 +80,15 @@ pub loop-k-preserved : goal.loop-k-preserved
 loop-k-preserved c =
     let loop = c.loop-k in
     elim c.if-spot-wanted.branch [
-      then-spot-wanted+in-At w ↦
+      | then-spot-wanted+in-At w ↦
           let place : some w.in-At.place ≡ _ = rw w.in-At.is at w.place_in.ensures in
           rw w.row-is
           (placing-goes-on loop.invariant c.loop-k-test.true (found-has _ _ _ w.if-spot-wanted.true _ place) _
           (found-placed _ _ _ w.if-spot-wanted.true _ place))
-    | else-spot-wanted w ↦
-        rw w.row-is
-        (placing-passes loop.invariant c.loop-k-test.true (other-has _ _ _ w.if-spot-wanted.false)
-        (other-stays _ _ _ w.if-spot-wanted.false))
+      | else-spot-wanted w ↦
+          rw w.row-is
+          (placing-passes loop.invariant c.loop-k-test.true (other-has _ _ _ w.if-spot-wanted.false)
+          (other-stays _ _ _ w.if-spot-wanted.false))
     ]
 
 pub shape_of-row : goal.shape_of-row

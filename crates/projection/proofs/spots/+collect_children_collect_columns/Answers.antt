@@ -1,12 +1,12 @@
 -- `collect_columns` and `collect_children`: a column is put into the row, of any other node the children are walked, one after the other.
-use Prim.Native.Nat.{ℕ, ◌+◌, ◌-◌, ◌*◌}
+use Prim.Native.Nat.{ℕ, ◌+◌, ◌-◌}
 use native.Mathlib.Omega.{arith}
 use mathlib.Core.Path.{ap, ◌∙◌}
-use lib.ListN.{length, length-set}
+use lib.ListN.{length-set}
 use Rattle.expression.proofs.Standing.{node-some, after-head}
 use Rattle.terms.specs.Sides.{join_side}
 use Rattle.projection.specs.Spots.{spot_number}
-use Rattle.projection.proofs.SpotWalk.{collect-column, collect-other, collects-none, columns-tree, column-within, children-fit, Collecting, collecting-begins, collecting-first, collecting-goes-on, collecting-ends}
+use Rattle.projection.proofs.SpotWalk.{collect-column, collect-other, collects-none, columns-tree, column-within, children-fit, collecting-begins, collecting-first, collecting-goes-on, collecting-ends}
 use Rattle.projection.proofs.spots.+collect_children_collect_columns.Goals as goal
 
 pub collect_children-loop-left-init : goal.collect_children-loop-left-init
@@ -15,8 +15,7 @@ collect_children-loop-left-init t c =
 
 pub collect_children-collect_columns-one-requires : goal.collect_children-collect_columns-one-requires
 collect_children-collect_columns-one-requires t c =
-    let loop = c.loop-left in
-    (
+    let loop = c.loop-left in (
       omega (arith, c.decreases, loop.invariant.low),
       collecting-first loop.invariant c.loop-left-test.true,
     )
@@ -79,10 +78,10 @@ pub collect_columns-returns-then-src-at-eq0 : goal.collect_columns-returns-then-
 collect_columns-returns-then-src-at-eq0 t c =
     λ u stands.
     let side = join_side c.args.side in
-        collect-column side c.args.row.now u stands c.if-src-at-eq0.true c.spot_number.result
-        (c.spot_number.ensures
-        ∙ ap (λ (n : ℕ). spot_number (record { side = side; at = c.args.at + 1; child = n })) c.short_at.ensures)
-        (column-within c.requires c.if-src-at-eq0.true).entry
+    collect-column side c.args.row.now u stands c.if-src-at-eq0.true c.spot_number.result
+    (c.spot_number.ensures
+    ∙ ap (λ (n : ℕ). spot_number (record { side = side; at = c.args.at + 1; child = n })) c.short_at.ensures)
+    (column-within c.requires c.if-src-at-eq0.true).entry
 
 pub collect_columns-head_at-head-requires : goal.collect_columns-head_at-head-requires
 collect_columns-head_at-head-requires t c =
@@ -92,10 +91,10 @@ pub collect_columns-returns-then-n-eq0 : goal.collect_columns-returns-then-n-eq0
 collect_columns-returns-then-n-eq0 t c =
     λ u stands.
     let head = c.head_at-head in
-        let row = c.args.row.now in
-        let side = join_side c.args.side in
-        collect-other side row row u stands c.if-src-at-eq0.false head.result head.ensures _
-        (λ ts o. collects-none side row ts o c.if-n-eq0.true)
+    let row = c.args.row.now in
+    let side = join_side c.args.side in
+    collect-other side row row u stands c.if-src-at-eq0.false head.result head.ensures _
+    (λ ts o. collects-none side row ts o c.if-n-eq0.true)
 
 pub collect_columns-collect_children-requires : goal.collect_columns-collect_children-requires
 collect_columns-collect_children-requires t c =
@@ -118,7 +117,7 @@ pub collect_columns-returns : goal.collect_columns-returns
 collect_columns-returns t c =
     λ u stands.
     let others = c.collect_children in
-        let head = c.head_at-head in
-        let some = c.if-src-at-eq0.false in
-        collect-other (join_side c.args.side) c.args.row.now others.new.row u stands some head.result head.ensures
-        others.result others.ensures
+    let head = c.head_at-head in
+    let some = c.if-src-at-eq0.false in
+    collect-other (join_side c.args.side) c.args.row.now others.new.row u stands some head.result head.ensures
+    others.result others.ensures

@@ -1,12 +1,8 @@
 -- `collect_columns` and `collect_children`: a column is put into the row, of any other node the children are walked, one after the other.
-use Prim.Native.Nat.{ℕ, ◌+◌, ◌-◌, ◌*◌}
-use native.Mathlib.Omega.{arith}
-use mathlib.Core.Path.{ap, ◌∙◌}
-use lib.ListN.{length, length-set}
-use Rattle.expression.proofs.Standing.{node-some, after-head}
+use Prim.Native.Nat.{◌+◌, ◌-◌, ◌*◌}
+use lib.ListN.{length}
 use Rattle.terms.specs.Sides.{join_side}
-use Rattle.projection.specs.Spots.{spot_number}
-use Rattle.projection.proofs.SpotWalk.{collect-column, collect-other, collects-none, columns-tree, column-within, children-fit, Collecting, collecting-begins, collecting-first, collecting-goes-on, collecting-ends}
+use Rattle.projection.proofs.SpotWalk.{Collecting}
 use Rattle.projection.proofs.spots.+collect_children_collect_columns.Given as goal
 
 abbrev pub invariant-collect_children-loop-left : goal.invariant-collect_children-loop-left

@@ -1,12 +1,11 @@
 -- `collect_records`: the child indexes of the records passed are in the row.
 use Prim.Native.Nat.{◌+◌, ◌-◌, ◌*◌, ◌≤◌, ◌<◌}
 use native.Mathlib.Omega.{arith}
-use borrow.Author.Rules.{rules}
 use lib.ListN.{length}
 use mir.Facts.{Fits-8_64}
 use Rattle.terms.specs.Sides.{join_side}
 use Rattle.plan_writer.proofs.TableLaws.{records-within}
-use Rattle.projection.proofs.RecordLoop.{Filling, filling-begins, short-child, filling-goes-on, filling-ends}
+use Rattle.projection.proofs.RecordLoop.{filling-begins, short-child, filling-goes-on, filling-ends}
 use Rattle.projection.proofs.spots.collect_records.Goals as goal
 use Rattle.projection.proofs.spots.collect_records.Goals.{In-loop-k}
 
@@ -51,11 +50,10 @@ short_at-requires c =
     omega (arith, (within (goal.at.short_at-requires c).In-loop-k).0)
 
 pub spot_number-requires : goal.spot_number-requires
-spot_number-requires c =
-    (
-      omega (arith, c.requires.short, c.loop-k-test.true),
-      omega (arith, c.short_at.ensures, short-child c.requires c.loop-k.k c.loop-k-test.true),
-    )
+spot_number-requires c = (
+  omega (arith, c.requires.short, c.loop-k-test.true),
+  omega (arith, c.short_at.ensures, short-child c.requires c.loop-k.k c.loop-k-test.true),
+)
 
 pub overflow_add-row : goal.overflow_add-row
 overflow_add-row c =

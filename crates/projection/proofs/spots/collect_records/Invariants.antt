@@ -1,12 +1,6 @@
 -- `collect_records`: the child indexes of the records passed are in the row.
-use Prim.Native.Nat.{◌+◌, ◌-◌, ◌*◌, ◌≤◌, ◌<◌}
-use native.Mathlib.Omega.{arith}
-use borrow.Author.Rules.{rules}
-use lib.ListN.{length}
-use mir.Facts.{Fits-8_64}
-use Rattle.terms.specs.Sides.{join_side}
-use Rattle.plan_writer.proofs.TableLaws.{records-within}
-use Rattle.projection.proofs.RecordLoop.{Filling, filling-begins, short-child, filling-goes-on, filling-ends}
+use Prim.Native.Nat.{◌-◌}
+use Rattle.projection.proofs.RecordLoop.{Filling}
 use Rattle.projection.proofs.spots.collect_records.Given as goal
 
 abbrev pub invariant-loop-k : goal.invariant-loop-k

@@ -1,6 +1,5 @@
 -- `spot_number`: 14 bits, two and 16 fit 32.
 use native.Mathlib.Omega.{arith}
-use borrow.Author.Rules.{rules}
 use Rattle.terms.specs.Sides.{join_side}
 use Rattle.projection.proofs.SpotLaws.{side-small}
 use Rattle.projection.proofs.spots.spot_number.Goals as goal

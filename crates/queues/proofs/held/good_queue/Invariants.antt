@@ -1,7 +1,6 @@
 -- `good_queue`: what is left to read decides, until a length is out of range or none is left.
 use Prim.Native.Nat.{◌-◌}
-use native.Mathlib.Omega.{arith}
-use Rattle.queues.proofs.Reading.{Read, count-bad, too_short, too_long, none_read, length-bad, one-read, all_read}
+use Rattle.queues.proofs.Reading.{Read}
 use Rattle.queues.proofs.held.good_queue.Given as goal
 
 abbrev pub invariant-loop-i : goal.invariant-loop-i

@@ -1,5 +1,4 @@
 -- `good_queues`: length, mark and first queue each decide if bad; then the second queue does.
-use borrow.Author.Rules.{rules}
 use Rattle.queues.proofs.Reading.{length-other, mark-bad, first-bad, second-decides}
 use Rattle.queues.proofs.held.good_queues.Goals as goal
 

@@ -1,7 +1,7 @@
 -- `move_bytes`: a byte is read before anything is written over it, since it moves down.
 use Prim.Native.Nat.{◌-◌}
 use native.Mathlib.Omega.{arith}
-use Rattle.queues.proofs.Moving.{Moved, none-moved, one-moved, all_moved}
+use Rattle.queues.proofs.Moving.{none-moved, one-moved, all_moved}
 use Rattle.queues.proofs.parts.move_bytes.Goals as goal
 
 pub loop-i-init : goal.loop-i-init

@@ -1,7 +1,6 @@
 -- `move_bytes`: a byte is read before anything is written over it, since it moves down.
 use Prim.Native.Nat.{◌-◌}
-use native.Mathlib.Omega.{arith}
-use Rattle.queues.proofs.Moving.{Moved, none-moved, one-moved, all_moved}
+use Rattle.queues.proofs.Moving.{Moved}
 use Rattle.queues.proofs.parts.move_bytes.Given as goal
 
 abbrev pub invariant-loop-i : goal.invariant-loop-i

@@ -1,5 +1,4 @@
 -- `move_frame`: a length and a frame written one place further down.
-use borrow.Author.Rules.{rules}
 use Rattle.queues.proofs.QueueLaws.{frame-moved}
 use Rattle.queues.proofs.parts.move_frame.Goals as goal
 

@@ -2,7 +2,7 @@
 use Prim.Native.Nat.{◌-◌}
 use native.Mathlib.Omega.{arith}
 use lib.ListN.{length-set}
-use Rattle.queues.proofs.Shifting.{Shifting, count-is, few-later, begins, has-next, goes_on, ends}
+use Rattle.queues.proofs.Shifting.{count-is, few-later, begins, has-next, goes_on, ends}
 use Rattle.queues.proofs.parts.take_first.Goals as goal
 
 pub bounds-part-0 : goal.bounds-part-0

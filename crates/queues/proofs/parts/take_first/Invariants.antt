@@ -1,8 +1,6 @@
 -- `take_first`: the invariant is that k frames are moved down and the rest is as it was.
 use Prim.Native.Nat.{◌-◌}
-use native.Mathlib.Omega.{arith}
-use lib.ListN.{length-set}
-use Rattle.queues.proofs.Shifting.{Shifting, count-is, few-later, begins, has-next, goes_on, ends}
+use Rattle.queues.proofs.Shifting.{Shifting}
 use Rattle.queues.proofs.parts.take_first.Given as goal
 
 abbrev pub invariant-loop-k : goal.invariant-loop-k

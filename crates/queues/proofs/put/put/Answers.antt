@@ -1,5 +1,4 @@
 -- `put`: the number says the queue, or that there is none.
-use borrow.Author.Rules.{rules}
 use Rattle.queues.proofs.Putting.{put-nowhere}
 use Rattle.queues.proofs.put.put.Goals as goal
 

@@ -1,6 +1,5 @@
 -- `put_in`: each check refuses with its number; then the frame is added to the bytes of its queue.
 use Prim.Native.Nat.{◌+◌, ◌-◌, ◌≤◌}
-use borrow.Author.Rules.{rules}
 use lib.ListN.{length}
 use native.Mathlib.Omega.{arith}
 use Rattle.queues.specs.Outcomes.{queue_is}

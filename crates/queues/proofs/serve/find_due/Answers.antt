@@ -1,5 +1,4 @@
 -- `find_due`: the mark says which queue is tried first.
-use borrow.Author.Rules.{rules}
 use native.Mathlib.Omega.{arith}
 use Rattle.theorems.proofs.QueueStates.{held_in}
 use Rattle.queues.proofs.Serving.{fixed-turn, chassis-turn}

@@ -1,5 +1,4 @@
 -- `first_of`: a queue's count says whether it holds a frame.
-use borrow.Author.Rules.{rules}
 use native.Mathlib.Omega.{arith}
 use Rattle.queues.specs.Outcomes.{queue_is}
 use Rattle.queues.proofs.Putting.{part-within}

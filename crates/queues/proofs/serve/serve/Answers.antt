@@ -1,5 +1,4 @@
 -- `serve`: a state that is held has a frame that is due, or none.
-use borrow.Author.Rules.{rules}
 use Rattle.queues.specs.Held.{Held}
 use Rattle.queues.proofs.Putting.{is_held}
 use Rattle.queues.proofs.Serving.{serve-unheld, serve-nothing, holds_frame, serve-one}

@@ -1,7 +1,6 @@
 -- `serve_from`: the oldest frame is copied out, the later ones move down, and the queue is marked.
 use Prim.Native.Nat.{◌+◌, ◌-◌, ◌≤◌}
 use lib.ListN.{length}
-use borrow.Author.Rules.{rules}
 use native.Mathlib.Omega.{arith}
 use Rattle.queues.specs.Outcomes.{queue_is}
 use Rattle.theorems.proofs.Tools.{all-bytes}

@@ -1,8 +1,7 @@
 -- `keep_each`: those that stay of the first j records are written, and the first j columns have their new indexes.
 use Prim.Native.Nat.{◌-◌}
 use native.Mathlib.Omega.{arith}
-use lib.ListN.{length}
-use Rattle.remainder.proofs.RecordLaws.{Keeping, keeping_none, next_fits, keeping-more, keeping_all}
+use Rattle.remainder.proofs.RecordLaws.{keeping_none, next_fits, keeping-more, keeping_all}
 use Rattle.remainder.proofs.kept_records.keep_each.Goals as goal
 
 pub loop-j-init : goal.loop-j-init

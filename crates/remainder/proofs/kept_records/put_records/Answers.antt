@@ -3,7 +3,6 @@ use Prim.Native.Nat.{◌+◌, ◌*◌, ◌≤◌}
 use native.Mathlib.Omega.{arith}
 use mathlib.Core.Path.{◌≡◌, ◌∙◌}
 use lib.ListN.{length}
-use borrow.Author.Rules.{rules}
 use Rattle.writing.proofs.Written.{together, together-length}
 use Rattle.remainder.proofs.RecordLaws.{part-fit, columns-put}
 use Rattle.remainder.proofs.kept_records.put_records.Goals as goal

@@ -2,7 +2,6 @@
 use native.Mathlib.Omega.{arith}
 use mathlib.Core.Path.{ap}
 use lib.ListN.{length}
-use borrow.Author.Rules.{rules}
 use Rattle.remainder.proofs.LastLaws.{rest-fits, none-bytes, none-put, pruned-fits, pruned-put}
 use Rattle.remainder.proofs.last.put_last.Goals as goal
 

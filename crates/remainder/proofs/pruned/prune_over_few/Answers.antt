@@ -1,5 +1,4 @@
 -- `prune_over_few`: rows of 16 are enough for at most 16 records.
-use borrow.Author.Rules.{rules}
 use Rattle.remainder.proofs.RemainderLaws.{clear-rows}
 use Rattle.remainder.proofs.pruned.prune_over_few.Goals as goal
 

@@ -1,5 +1,4 @@
 -- `prune_over_many`: rows of 256 are enough for all records.
-use borrow.Author.Rules.{rules}
 use Rattle.remainder.proofs.RemainderLaws.{clear-rows}
 use Rattle.remainder.proofs.pruned.prune_over_many.Goals as goal
 

@@ -1,6 +1,5 @@
 -- `put_pruned_in`: the flags are those of the expression, its records are written, and the expression over them after those.
 use native.Mathlib.Omega.{arith}
-use borrow.Author.Rules.{rules}
 use Rattle.remainder.proofs.RemainderLaws.{rows-still}
 use Rattle.remainder.proofs.PrunedLaws.{plain-flagged, records-fit, records-end, expr-fits, frame-put}
 use Rattle.remainder.proofs.pruned.put_pruned_in.Goals as goal
@@ -56,12 +55,17 @@ reproject_column_references-copied-requires c =
 pub overflow_add-result : goal.overflow_add-result
 overflow_add-result c =
     let p = c.requires.pruned_fits in
-    omega (arith, c.well_formed, p.room, ((let flags = c.collect_column_references in
-    let put = c.put_records-w in
-    let expr = c.reproject_column_references-copied in
-    let rows = c.requires.rows_fit.0 in
-    frame-put p.frame c.args.used.now flags.new.used rows.flagged c.requires.rows_fit.1 flags.auto.used flags.ensures
-    put.ensures expr.new.out expr.result (omega (arith, put.auto.to, rows.numbered)) expr.ensures)).0)
+    omega (
+      arith,
+      c.well_formed,
+      p.room,
+      ((let flags = c.collect_column_references in
+          let put = c.put_records-w in
+          let expr = c.reproject_column_references-copied in
+          let rows = c.requires.rows_fit.0 in
+          frame-put p.frame c.args.used.now flags.new.used rows.flagged c.requires.rows_fit.1 flags.auto.used flags.ensures
+          put.ensures expr.new.out expr.result (omega (arith, put.auto.to, rows.numbered)) expr.ensures)).0,
+    )
 
 pub shape_of-used : goal.shape_of-used
 shape_of-used c =

@@ -1,5 +1,5 @@
 -- `among`: found so far says whether the key is among those passed.
-use Prim.Native.Nat.{ℕ, ◌≤◌, ◌-◌}
+use Prim.Native.Nat.{ℕ, ◌-◌}
 use native.Mathlib.Omega.{arith}
 use mathlib.Core.Path.{subst}
 use Rattle.remainder.specs.Keys.{AmongIs}

@@ -1,9 +1,6 @@
 -- `among`: found so far says whether the key is among those passed.
-use Prim.Native.Nat.{ℕ, ◌≤◌, ◌-◌}
-use native.Mathlib.Omega.{arith}
-use mathlib.Core.Path.{subst}
+use Prim.Native.Nat.{◌≤◌, ◌-◌}
 use Rattle.remainder.specs.Keys.{AmongIs}
-use Rattle.remainder.proofs.KeyLaws.{among_none, among-more}
 use Rattle.remainder.proofs.record_keys.among.Given as goal
 
 abbrev pub invariant-loop-k : goal.invariant-loop-k

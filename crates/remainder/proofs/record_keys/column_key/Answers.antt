@@ -2,7 +2,6 @@
 use Prim.Native.Nat.{◌+◌}
 use native.Mathlib.Omega.{arith}
 use mir.Facts.{Fits-8_32}
-use borrow.Author.Rules.{rules}
 use Rattle.remainder.proofs.record_keys.column_key.Goals as goal
 
 pub overflow_cast-result : goal.overflow_cast-result

@@ -1,10 +1,9 @@
 -- `marked_keys`: the keys of the marked ones among the records passed are in the row.
 use Prim.Native.Nat.{◌+◌, ◌-◌, ◌*◌, ◌≤◌, ◌<◌}
 use native.Mathlib.Omega.{arith}
-use mathlib.Core.Logic.{⊎_elim}
 use lib.ListN.{length}
 use Rattle.plan_writer.proofs.TableLaws.{records-within}
-use Rattle.remainder.proofs.KeyLaws.{Filled, filled_none, filled-marked, filled-passed, filled-all}
+use Rattle.remainder.proofs.KeyLaws.{filled_none, filled-marked, filled-passed, filled-all}
 use Rattle.remainder.proofs.record_keys.marked_keys.Goals as goal
 use Rattle.remainder.proofs.record_keys.marked_keys.Goals.{After-column_key, Then-used-i-eq1, then-used-i-eq1, else-used-i-eq1}
 
@@ -52,10 +51,10 @@ loop-i-preserved c =
     let less = c.loop-i-test.true in
     let row = loop.invariant.row in
     elim c.if-used-i-eq1.branch [
-      then-used-i-eq1 w ↦
+      | then-used-i-eq1 w ↦
           rw (w.keys-is, w.n-is) (filled-marked loop.invariant less w.if-used-i-eq1.true
           (omega (arith, row.few, loop.invariant.same, c.requires.count_in_bounds)) w.column_key.result w.column_key.ensures)
-    | else-used-i-eq1 w ↦ rw (w.keys-is, w.n-is) (filled-passed loop.invariant less w.if-used-i-eq1.false)
+      | else-used-i-eq1 w ↦ rw (w.keys-is, w.n-is) (filled-passed loop.invariant less w.if-used-i-eq1.false)
     ]
 
 pub shape_of-keys : goal.shape_of-keys

@@ -1,10 +1,7 @@
 -- `marked_keys`: the keys of the marked ones among the records passed are in the row.
-use Prim.Native.Nat.{◌+◌, ◌-◌, ◌*◌, ◌≤◌, ◌<◌}
-use native.Mathlib.Omega.{arith}
-use mathlib.Core.Logic.{⊎_elim}
+use Prim.Native.Nat.{◌-◌}
 use lib.ListN.{length}
-use Rattle.plan_writer.proofs.TableLaws.{records-within}
-use Rattle.remainder.proofs.KeyLaws.{Filled, filled_none, filled-marked, filled-passed, filled-all}
+use Rattle.remainder.proofs.KeyLaws.{Filled}
 use Rattle.remainder.proofs.record_keys.marked_keys.Given as goal
 
 abbrev pub invariant-loop-i : goal.invariant-loop-i

@@ -1,9 +1,9 @@
 -- `collect_column_references` and `collect_children`: a column is marked, of any other node the children are walked, one after the other.
-use Prim.Native.Nat.{◌+◌, ◌-◌, ◌*◌}
+use Prim.Native.Nat.{◌-◌}
 use native.Mathlib.Omega.{arith}
-use lib.ListN.{length, length-set}
+use lib.ListN.{length-set}
 use Rattle.expression.proofs.Standing.{node-some, after-head}
-use Rattle.remainder.proofs.ReferenceWalk.{collect-column, collect-other, collects-none, flagged-tree, column-flag, children-flagged, Collecting, collecting-begins, collecting-first, collecting-goes-on, collecting-ends}
+use Rattle.remainder.proofs.ReferenceWalk.{collect-column, collect-other, collects-none, flagged-tree, column-flag, children-flagged, collecting-begins, collecting-first, collecting-goes-on, collecting-ends}
 use Rattle.remainder.proofs.references.+collect_children_collect_column_references.Goals as goal
 
 pub collect_children-loop-left-init : goal.collect_children-loop-left-init
@@ -12,8 +12,7 @@ collect_children-loop-left-init t c =
 
 pub collect_children-collect_column_references-next-requires : goal.collect_children-collect_column_references-next-requires
 collect_children-collect_column_references-next-requires t c =
-    let loop = c.loop-left in
-    (
+    let loop = c.loop-left in (
       omega (arith, c.decreases, loop.invariant.low),
       collecting-first c.args.used.now loop.invariant c.loop-left-test.true,
     )
@@ -70,9 +69,9 @@ pub collect_column_references-returns-then-n-eq0 : goal.collect_column_reference
 collect_column_references-returns-then-n-eq0 t c =
     λ t stands.
     let head = c.head_at-head in
-        let used = c.args.used.now in
-        collect-other used used t stands c.if-src-at-eq0.false head.result head.ensures head.result.next
-        (λ ts row. collects-none used ts row c.if-n-eq0.true)
+    let used = c.args.used.now in
+    collect-other used used t stands c.if-src-at-eq0.false head.result head.ensures head.result.next
+    (λ ts row. collects-none used ts row c.if-n-eq0.true)
 
 pub collect_column_references-collect_children-requires : goal.collect_column_references-collect_children-requires
 collect_column_references-collect_children-requires t c =
@@ -96,7 +95,7 @@ pub collect_column_references-returns : goal.collect_column_references-returns
 collect_column_references-returns t c =
     λ t stands.
     let some = c.if-src-at-eq0.false in
-        let head = c.head_at-head in
-        let others = c.collect_children in
-        collect-other c.args.used.now others.new.used t stands some head.result head.ensures others.result
-        others.ensures
+    let head = c.head_at-head in
+    let others = c.collect_children in
+    collect-other c.args.used.now others.new.used t stands some head.result head.ensures others.result
+    others.ensures

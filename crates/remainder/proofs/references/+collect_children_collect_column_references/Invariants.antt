@@ -1,9 +1,7 @@
 -- `collect_column_references` and `collect_children`: a column is marked, of any other node the children are walked, one after the other.
 use Prim.Native.Nat.{◌+◌, ◌-◌, ◌*◌}
-use native.Mathlib.Omega.{arith}
-use lib.ListN.{length, length-set}
-use Rattle.expression.proofs.Standing.{node-some, after-head}
-use Rattle.remainder.proofs.ReferenceWalk.{collect-column, collect-other, collects-none, flagged-tree, column-flag, children-flagged, Collecting, collecting-begins, collecting-first, collecting-goes-on, collecting-ends}
+use lib.ListN.{length}
+use Rattle.remainder.proofs.ReferenceWalk.{Collecting}
 use Rattle.remainder.proofs.references.+collect_children_collect_column_references.Given as goal
 
 abbrev pub invariant-collect_children-loop-left : goal.invariant-collect_children-loop-left

@@ -3,7 +3,6 @@ use Prim.Native.Nat.{◌-◌}
 use native.Mathlib.Omega.{arith}
 use mathlib.Core.Path.{◌∙◌}
 use lib.ListN.{length}
-use borrow.Author.Rules.{rules}
 use Rattle.definitions.specs.Decode.{index_below}
 use Rattle.expression.proofs.Standing.{first-stands, node-some}
 use Rattle.remainder.proofs.AroundLaws.{lone-leaf, left_at, left-ends}
@@ -32,10 +31,10 @@ pub returns-in_default : goal.returns-in_default
 returns-in_default t c =
     λ t stands ends.
     let node = c.node_at in
-        let call = c.collect_column_references in
-        rest-lone c.args.cut c.args.used.now call.new.used t c.if-at-cut.false
-        (lone-leaf stands node.result (opened c.in_default.in_default-own.keys2) (node.ensures (index_below (length c.args.used.now)) t stands))
-        call.result (call.ensures t stands)
+    let call = c.collect_column_references in
+    rest-lone c.args.cut c.args.used.now call.new.used t c.if-at-cut.false
+    (lone-leaf stands node.result (opened c.in_default.in_default-own.keys2) (node.ensures (index_below (length c.args.used.now)) t stands))
+    call.result (call.ensures t stands)
 
 pub collect_remainder-right-requires : goal.collect_remainder-right-requires
 collect_remainder-right-requires t c =
@@ -66,9 +65,9 @@ pub returns : goal.returns
 returns t c =
     λ t stands ends.
     let used = c.args.used.now in
-        let one = c.collect_remainder-right in
-        let two = c.collect_remainder in
-        let both = rw c.in-And.is at (c.node_at.ensures (index_below (length used)) t stands) in
-        rest-and c.args.cut used one.new.used one.auto.used one.result one.ensures both ends two.new.used
-        c.if-at-cut.false two.result
-        two.ensures
+    let one = c.collect_remainder-right in
+    let two = c.collect_remainder in
+    let both = rw c.in-And.is at (c.node_at.ensures (index_below (length used)) t stands) in
+    rest-and c.args.cut used one.new.used one.auto.used one.result one.ensures both ends two.new.used
+    c.if-at-cut.false two.result
+    two.ensures

@@ -1,5 +1,4 @@
 -- `put_remainder`: the leaf is the whole expression exactly when it stands at its place.
-use borrow.Author.Rules.{rules}
 use Rattle.remainder.proofs.RemainderLaws.{none-room, none-put}
 use Rattle.remainder.proofs.remainder.put_remainder.Goals as goal
 

@@ -1,6 +1,5 @@
 -- `replace_join_filter_expr`: the flags are those of what is left, its records are written, and the expression over them after those.
 use native.Mathlib.Omega.{arith}
-use borrow.Author.Rules.{rules}
 use Rattle.remainder.proofs.CutLaws.{something-left}
 use Rattle.remainder.proofs.RemainderLaws.{still-unheld, rows-still, records-fit, records-end, expr-fits, frame-put}
 use Rattle.remainder.proofs.remainder.replace_join_filter_expr.Goals as goal
@@ -62,13 +61,18 @@ reproject_remainder-copied-requires c =
 pub overflow_add-result : goal.overflow_add-result
 overflow_add-result c =
     let p = c.requires.remainder_fits in
-    omega (arith, c.well_formed, p.room, ((let flags = c.collect_held in
-    let left = (something-left p.cutting c.requires.fact).1 in
-    let put = c.put_records-w in
-    let expr = c.reproject_remainder-copied in
-    let rows = c.requires.rows_fit.0 in
-    frame-put p.frame left c.args.used.now flags.new.used p.cutting rows.flagged flags.auto.used flags.ensures put.ensures
-    expr.new.out expr.result (omega (arith, put.auto.to, rows.numbered)) expr.ensures)).0)
+    omega (
+      arith,
+      c.well_formed,
+      p.room,
+      ((let flags = c.collect_held in
+          let left = (something-left p.cutting c.requires.fact).1 in
+          let put = c.put_records-w in
+          let expr = c.reproject_remainder-copied in
+          let rows = c.requires.rows_fit.0 in
+          frame-put p.frame left c.args.used.now flags.new.used p.cutting rows.flagged flags.auto.used flags.ensures put.ensures
+          expr.new.out expr.result (omega (arith, put.auto.to, rows.numbered)) expr.ensures)).0,
+    )
 
 pub shape_of-used : goal.shape_of-used
 shape_of-used c =

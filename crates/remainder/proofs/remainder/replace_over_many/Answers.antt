@@ -1,5 +1,4 @@
 -- `replace_over_many`: rows of 256 are enough for the records of any frame.
-use borrow.Author.Rules.{rules}
 use Rattle.remainder.proofs.RemainderLaws.{clear-rows}
 use Rattle.remainder.proofs.remainder.replace_over_many.Goals as goal
 

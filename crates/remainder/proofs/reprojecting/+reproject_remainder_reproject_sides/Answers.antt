@@ -1,11 +1,9 @@
 -- `reproject_remainder` and `reproject_sides`: nothing is written at the leaf, an And is its head and its two sides, its parent has no
 -- head, any other node is copied.
-use Rattle.expression.proofs.Cycles.{below}
-use Prim.Native.Nat.{ℕ, ◌≤◌, ◌+◌, ◌-◌, ◌*◌}
+use Prim.Native.Nat.{ℕ, ◌≤◌, ◌-◌}
 use native.Mathlib.Omega.{arith}
 use mathlib.Core.Path.{◌∙◌}
 use lib.ListN.{length, set, length-set}
-use borrow.Author.Rules.{rules}
 use Rattle.definitions.specs.Expression.{Expr, and as expr-and}
 use Rattle.definitions.specs.Decode.{index_below}
 use Rattle.expression.specs.Nodes.{Stands}
@@ -59,10 +57,10 @@ pub reproject_remainder-returns-in_default : goal.reproject_remainder-returns-in
 reproject_remainder-returns-in_default t c =
     λ t stands ends.
     let node = c.node_at in
-        let to = c.args.to.now in
-        copy-lone to c.args.cut c.if-at-cut.false
-        (lone-leaf stands node.result (opened c.in_default.in_default-own.keys2) (node.ensures (index_below (length to)) t stands))
-        (c.reproject_column_references.ensures t stands)
+    let to = c.args.to.now in
+    copy-lone to c.args.cut c.if-at-cut.false
+    (lone-leaf stands node.result (opened c.in_default.in_default-own.keys2) (node.ensures (index_below (length to)) t stands))
+    (c.reproject_column_references.ensures t stands)
 
 pub reproject_remainder-reproject_sides-requires : goal.reproject_remainder-reproject_sides-requires
 reproject_remainder-reproject_sides-requires t c =
@@ -81,9 +79,9 @@ pub reproject_remainder-returns-then-at-cut-2 : goal.reproject_remainder-returns
 reproject_remainder-returns-then-at-cut-2 t c =
     λ u stands ends.
     let to = c.args.to.now in
-        let both = found-and t (goal.at.reproject_remainder-returns-then-at-cut-2 t c).In-And u stands in
-        copy-parent to c.args.cut both ends c.if-at-cut.false c.if-at-cut-2.true
-        c.reproject_sides.ensures
+    let both = found-and t (goal.at.reproject_remainder-returns-then-at-cut-2 t c).In-And u stands in
+    copy-parent to c.args.cut both ends c.if-at-cut.false c.if-at-cut-2.true
+    c.reproject_sides.ensures
 
 pub reproject_remainder-bounds-out-0 : goal.reproject_remainder-bounds-out-0
 reproject_remainder-bounds-out-0 t c =
@@ -114,11 +112,16 @@ reproject_remainder-reproject_sides-sides-requires t c =
 pub reproject_remainder-overflow_add-result : goal.reproject_remainder-overflow_add-result
 reproject_remainder-overflow_add-result t c =
     let p = c.requires in
-    omega (arith, c.well_formed, p.room, ((let to = c.args.to.now in
-    let call = c.reproject_sides-sides in
-    let both = found-and t (goal.at.reproject_remainder-overflow_add-result t c).In-And p.tree p.stands in
-    copy-and to c.args.cut both p.ends c.if-at-cut.false c.if-at-cut-2.false c.args.out.now
-    call.new.out (room t (goal.at.reproject_remainder-overflow_add-result t c).Else-at-cut-2) call.ensures)).wrote)
+    omega (
+      arith,
+      c.well_formed,
+      p.room,
+      ((let to = c.args.to.now in
+          let call = c.reproject_sides-sides in
+          let both = found-and t (goal.at.reproject_remainder-overflow_add-result t c).In-And p.tree p.stands in
+          copy-and to c.args.cut both p.ends c.if-at-cut.false c.if-at-cut-2.false c.args.out.now
+          call.new.out (room t (goal.at.reproject_remainder-overflow_add-result t c).Else-at-cut-2) call.ensures)).wrote,
+    )
 
 pub reproject_remainder-shape_of-out : goal.reproject_remainder-shape_of-out
 reproject_remainder-shape_of-out t c =
@@ -168,9 +171,14 @@ reproject_sides-reproject_remainder-right-requires t c =
 pub reproject_sides-overflow_add-result : goal.reproject_sides-overflow_add-result
 reproject_sides-overflow_add-result t c =
     let p = c.requires in
-    omega (arith, c.well_formed, p.room, ((let one = c.reproject_remainder-left in
-    let two = c.reproject_remainder-right in
-    copy-sides one.new.out one.result one.ensures two.new.out two.result two.ensures) p.l p.r p.stand).wrote)
+    omega (
+      arith,
+      c.well_formed,
+      p.room,
+      ((let one = c.reproject_remainder-left in
+          let two = c.reproject_remainder-right in
+          copy-sides one.new.out one.result one.ensures two.new.out two.result two.ensures) p.l p.r p.stand).wrote,
+    )
 
 pub reproject_sides-shape_of-out : goal.reproject_sides-shape_of-out
 reproject_sides-shape_of-out t c =

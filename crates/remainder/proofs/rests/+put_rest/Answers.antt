@@ -2,11 +2,9 @@
 -- A call goes to a place further on, so the measure is the bytes left.
 use Prim.Native.Nat.{ℕ, ◌+◌, ◌-◌, ◌<◌}
 use native.Mathlib.Omega.{arith}
-use mathlib.Core.Path.{◌≡◌, refl, sym, ap, ◌∙◌, subst⁻¹}
-use mathlib.Core.List.{List}
-use lib.ListN.{length, get_or}
+use mathlib.Core.Path.{◌≡◌, refl, ◌∙◌, subst⁻¹}
+use lib.ListN.{length}
 use mir.Facts.{Fits-16_64}
-use borrow.Author.Rules.{rules}
 use Rattle.definitions.specs.Expression.{Expr, and as expr-and}
 use Rattle.definitions.specs.Encode.{expr_bytes}
 use Rattle.definitions.specs.Decode.{Columns}

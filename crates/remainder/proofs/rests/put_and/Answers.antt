@@ -3,7 +3,6 @@ use native.Mathlib.Omega.{arith}
 use mathlib.Core.Path.{refl}
 use lib.ListN.{length-set}
 use Rattle.remainder.proofs.RestLaws.{and-no-left, and-no-right, and-headed}
-use borrow.Author.Rules.{rules}
 use Rattle.remainder.proofs.rests.put_and.Goals as goal
 
 pub returns-then-left-middle : goal.returns-then-left-middle

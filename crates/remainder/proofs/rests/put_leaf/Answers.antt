@@ -5,7 +5,6 @@ use lib.ListN.{length}
 use Rattle.expression.proofs.Standing.{spans-between}
 use Rattle.definitions.specs.Encode.{expr_bytes}
 use Rattle.remainder.proofs.RestLaws.{leaf-goes, leaf-stays}
-use borrow.Author.Rules.{rules}
 use Rattle.remainder.proofs.rests.put_leaf.Goals as goal
 
 pub overflow_sub-leaf : goal.overflow_sub-leaf

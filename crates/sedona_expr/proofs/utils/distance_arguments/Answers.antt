@@ -7,7 +7,6 @@ use Rattle.sedona_expr.proofs.Comparing.{no_arguments, distance-found, distance-
 use borrow.Enum.Refused.{opened}
 use Rattle.sedona_expr.proofs.utils.distance_arguments.Goals as goal
 
-
 pub node_at-requires : goal.node_at-requires
 unfolding ascii
 node_at-requires c =
@@ -34,13 +33,13 @@ unfolding ascii
 returns-then-same_name c =
     λ d t h.
     distance-found
-        (rw c.in-Call.is at (c.node_at.ensures d t h))
-        _ c.same_name.ensures c.if-same_name.true
+    (rw c.in-Call.is at (c.node_at.ensures d t h))
+    _ c.same_name.ensures c.if-same_name.true
 
 pub returns-else-same_name : goal.returns-else-same_name
 unfolding ascii
 returns-else-same_name c =
     λ d t h.
     distance-other
-        (rw c.in-Call.is at (c.node_at.ensures d t h))
-        _ c.same_name.ensures c.if-same_name.false
+    (rw c.in-Call.is at (c.node_at.ensures d t h))
+    _ c.same_name.ensures c.if-same_name.false

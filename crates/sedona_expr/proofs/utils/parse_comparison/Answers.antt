@@ -1,7 +1,6 @@
 -- `parse_comparison`: the side that is read must be `st_distance`, and its first two arguments have the indexes after it.
 use native.Mathlib.Omega.{arith}
 use mir.Facts.{Fits-16_64}
-use borrow.Author.Rules.{rules}
 use Rattle.definitions.specs.Leaves.{comparison}
 use Rattle.expression.specs.Leaves.{OfPair}
 use Rattle.node_rows.specs.Numbers.{start_at}
@@ -42,7 +41,7 @@ pub returns-in_default : goal.returns-in_default
 returns-in_default c =
     λ d l r row.
     not-compared _ (index-nothing c.requires.of_pair _
-        c.comparison.ensures c.in_default.is d l r row)
+    c.comparison.ensures c.in_default.is d l r row)
 
 pub start_of-requires : goal.start_of-requires
 start_of-requires c =
@@ -58,17 +57,17 @@ pub returns-in_default-distance_arguments : goal.returns-in_default-distance_arg
 returns-in_default-distance_arguments c =
     λ d l r row.
     let both = sides (goal.at.returns-in_default-distance_arguments c).In-Sides d l r row in
-        not-measured _ both (rw c.in_default-distance_arguments.is at
-        (c.distance_arguments.ensures d both.m
-        (starts both.stands_measured c.start_of.ensures)))
+    not-measured _ both (rw c.in_default-distance_arguments.is at
+    (c.distance_arguments.ensures d both.m
+    (starts both.stands_measured c.start_of.ensures)))
 
 pub returns-then-count-lt2 : goal.returns-then-count-lt2
 returns-then-count-lt2 c =
     λ d l r row.
     let both = sides (goal.at.returns-then-count-lt2 c).In-Sides d l r row in
-        too_few _ both (rw c.in-Arguments.is at
-        (c.distance_arguments.ensures d both.m
-        (starts both.stands_measured c.start_of.ensures))) c.if-count-lt2.true
+    too_few _ both (rw c.in-Arguments.is at
+    (c.distance_arguments.ensures d both.m
+    (starts both.stands_measured c.start_of.ensures))) c.if-count-lt2.true
 
 pub overflow_add-measured : goal.overflow_add-measured
 overflow_add-measured c =
@@ -96,7 +95,7 @@ pub returns : goal.returns
 returns c =
     λ d l r row.
     let both = sides (goal.at.returns c).In-Sides d l r row in
-        compared-distance _ both (rw c.in-Arguments.is at
-        (c.distance_arguments.ensures d both.m
-        (starts both.stands_measured c.start_of.ensures)))
-        c.if-count-lt2.false c.two_at-geometries.ensures _ _ c.start_of-2.ensures c.end_of.ensures
+    compared-distance _ both (rw c.in-Arguments.is at
+    (c.distance_arguments.ensures d both.m
+    (starts both.stands_measured c.start_of.ensures)))
+    c.if-count-lt2.false c.two_at-geometries.ensures _ _ c.start_of-2.ensures c.end_of.ensures

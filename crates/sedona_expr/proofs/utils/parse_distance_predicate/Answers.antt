@@ -1,6 +1,5 @@
 -- `parse_distance_predicate`: what a node asks for is what its operator or its name asks for; the other nodes ask for no distance.
 use native.Mathlib.Omega.{arith}
-use borrow.Author.Rules.{rules}
 use Rattle.expression.proofs.There.{call-there}
 use Rattle.node_rows.proofs.RowLaws.{tabled-within}
 use Rattle.node_rows.proofs.IndexLaws.{pair_row, pair-listed, call-tabled}
@@ -19,9 +18,9 @@ overflow_add-i c =
 pub parse_comparison-requires : goal.parse_comparison-requires
 parse_comparison-requires c =
     let both = pair-listed c.requires.tree
-        c.requires.of_tree c.node_at.ensures
-        c.in-Binary.is in
-    record { pair = both.0; of_pair = both.1; }
+    c.requires.of_tree c.node_at.ensures
+    c.in-Binary.is in
+    record { pair = both.0; of_pair = both.1 }
 
 pub overflow_add-i-in-Call : goal.overflow_add-i-in-Call
 overflow_add-i-in-Call c =

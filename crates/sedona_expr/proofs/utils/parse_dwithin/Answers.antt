@@ -1,10 +1,8 @@
 -- `parse_dwithin`: of the functions only `st_dwithin` asks for a distance, and it needs three arguments, one after the other.
-use borrow.Author.Rules.{rules}
 use borrow.Author.Tests.{not-true, not-false}
 use Rattle.definitions.specs.Basics.{ascii}
 use Rattle.sedona_expr.proofs.Distances.{not-dwithin, dwithin-too-few, two-given, third-within, dwithin-distance}
 use Rattle.sedona_expr.proofs.utils.parse_dwithin.Goals as goal
-
 
 pub same_name-requires : goal.same_name-requires
 unfolding ascii
@@ -21,7 +19,7 @@ unfolding ascii
 returns-then-call-lt3 c =
     λ d name args st.
     dwithin-too-few st c.same_name.ensures (not-false _ c.if-not-same_name.false-raw)
-        c.if-call-lt3.true
+    c.if-call-lt3.true
 
 pub two_at-geometries-requires : goal.two_at-geometries-requires
 unfolding ascii
@@ -43,6 +41,6 @@ unfolding ascii
 returns c =
     λ d name args st.
     let p = c.requires in
-        dwithin-distance st c.same_name.ensures
-        (not-false _ c.if-not-same_name.false-raw) c.if-call-lt3.false
-        (p.of_call d name args st) c.two_at-geometries.ensures _ c.end_of.ensures
+    dwithin-distance st c.same_name.ensures
+    (not-false _ c.if-not-same_name.false-raw) c.if-call-lt3.false
+    (p.of_call d name args st) c.two_at-geometries.ensures _ c.end_of.ensures

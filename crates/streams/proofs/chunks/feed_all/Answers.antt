@@ -1,12 +1,10 @@
 -- `feed_all`: what a turn takes follows what was handed over; it takes at least one character, since there is room for what a line gives.
 use Prim.Native.Nat.{◌≤◌, ◌-◌, ◌<◌}
-use borrow.Author.Rules.{rules}
 use native.Mathlib.Omega.{arith}
 use mathlib.Core.Path.{◌≡◌}
-use lib.ListN.{length, take, length-take, length-drop}
-use Rattle.lines.specs.Sessions.{lent, most_filled}
+use lib.ListN.{length, length-take, length-drop}
 use Rattle.lines.proofs.SessionLaws.{taken-within, taken-some, fed-room}
-use Rattle.streams.specs.Handing.{Handing, none}
+use Rattle.streams.specs.Handing.{none}
 use Rattle.streams.proofs.Handing.{taken, has_room}
 use Rattle.streams.proofs.chunks.feed_all.Goals as goal
 use Rattle.streams.proofs.chunks.feed_all.Goals.{After-feed-fed}

@@ -1,13 +1,8 @@
 -- `feed_all`: what a turn takes follows what was handed over; it takes at least one character, since there is room for what a line gives.
-use Prim.Native.Nat.{◌≤◌, ◌-◌, ◌<◌}
-use borrow.Author.Rules.{rules}
-use native.Mathlib.Omega.{arith}
-use mathlib.Core.Path.{◌≡◌}
-use lib.ListN.{length, take, length-take, length-drop}
+use Prim.Native.Nat.{◌≤◌, ◌-◌}
+use lib.ListN.{length, take}
 use Rattle.lines.specs.Sessions.{lent, most_filled}
-use Rattle.lines.proofs.SessionLaws.{taken-within, taken-some, fed-room}
-use Rattle.streams.specs.Handing.{Handing, none}
-use Rattle.streams.proofs.Handing.{taken, has_room}
+use Rattle.streams.specs.Handing.{Handing}
 use Rattle.streams.proofs.chunks.feed_all.Given as goal
 
 abbrev pub invariant-loop-at : goal.invariant-loop-at

@@ -1,5 +1,4 @@
 -- `take_in`: what the read gave decides, and as many characters as it says are handed over.
-use borrow.Author.Rules.{rules}
 use mathlib.Core.Path.{refl, sym, ap, ◌∙◌}
 use mir.Facts.{to_z-of_z}
 use mir.Syntax.{w64}

@@ -1,5 +1,4 @@
 -- `make_room`: what waits is written just where no room is left.
-use borrow.Author.Rules.{rules}
 use native.Mathlib.Omega.{arith}
 use Rattle.streams.proofs.Flushing.{flushed-roomy, roomy-kept}
 use Rattle.streams.proofs.output.make_room.Goals as goal

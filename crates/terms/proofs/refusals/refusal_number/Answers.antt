@@ -1,9 +1,7 @@
 -- `refusal_number`: each refusal by itself.
-use borrow.Author.Rules.{rules}
 use mathlib.Core.Path.{sym, ap}
 use Rattle.terms.specs.Refusals.{number_of}
 use Rattle.terms.proofs.refusals.refusal_number.Goals as goal
-
 
 pub returns-in-EmptyOrTooLong : goal.returns-in-EmptyOrTooLong
 returns-in-EmptyOrTooLong c =

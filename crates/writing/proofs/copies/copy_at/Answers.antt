@@ -1,12 +1,11 @@
 -- `copy_at`: what was copied to the lent part stands from w on.
-use borrow.Author.Rules.{rules}
 use Rattle.writing.proofs.SpanLaws.{span_fits, span-put}
 use Rattle.writing.proofs.copies.copy_at.Goals as goal
 
 pub copy_bytes-requires : goal.copy_bytes-requires
 copy_bytes-requires c =
     let both = span_fits c.requires in
-    record { n_in_bounds = both.0; n_in_bounds_2 = both.1; }
+    record { n_in_bounds = both.0; n_in_bounds_2 = both.1 }
 
 pub returns : goal.returns
 returns c =

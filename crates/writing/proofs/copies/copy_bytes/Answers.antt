@@ -1,9 +1,9 @@
 -- `copy_bytes`: the invariant is that i bytes are copied and the rest is as it was.
-use Prim.Native.Nat.{ℕ, ◌≤◌, ◌-◌}
+use Prim.Native.Nat.{ℕ, ◌-◌}
 use native.Mathlib.Omega.{arith}
 use mathlib.Core.Path.{◌≡◌, refl, sym, ap, ◌∙◌}
 use mathlib.Core.List.{◌++◌}
-use lib.ListN.{length, take, drop, set, length-set, length-drop}
+use lib.ListN.{take, drop, set, length-set, length-drop}
 use lib.Seq.{get_or-drop}
 use Rattle.writing.proofs.Written.{write-more}
 use Rattle.writing.proofs.copies.copy_bytes.Goals as goal

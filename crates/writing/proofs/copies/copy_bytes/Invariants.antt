@@ -1,11 +1,8 @@
 -- `copy_bytes`: the invariant is that i bytes are copied and the rest is as it was.
-use Prim.Native.Nat.{ℕ, ◌≤◌, ◌-◌}
-use native.Mathlib.Omega.{arith}
-use mathlib.Core.Path.{◌≡◌, refl, sym, ap, ◌∙◌}
+use Prim.Native.Nat.{◌≤◌, ◌-◌}
+use mathlib.Core.Path.{◌≡◌}
 use mathlib.Core.List.{◌++◌}
-use lib.ListN.{length, take, drop, set, length-set, length-drop}
-use lib.Seq.{get_or-drop}
-use Rattle.writing.proofs.Written.{write-more}
+use lib.ListN.{length, take, drop}
 use Rattle.writing.proofs.copies.copy_bytes.Given as goal
 
 abbrev pub invariant-loop-i : goal.invariant-loop-i

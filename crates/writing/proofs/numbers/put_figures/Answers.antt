@@ -3,7 +3,7 @@ use native.Mathlib.Omega.{arith}
 use Prim.Native.Nat.{◌%◌}
 use Rattle.definitions.specs.Program.{digit}
 use Rattle.theorems.proofs.Figures.{digit-small}
-use Rattle.writing.proofs.NumberLaws.{Written, none_written, one_written, all-written, figures-are}
+use Rattle.writing.proofs.NumberLaws.{none_written, one_written, all-written, figures-are}
 use Rattle.writing.proofs.numbers.put_figures.Goals as goal
 
 pub loop-i-init : goal.loop-i-init

@@ -1,9 +1,6 @@
 -- `put_figures`: as `put_number`, to base 10; a digit is its value and 48.
-use native.Mathlib.Omega.{arith}
-use Prim.Native.Nat.{◌%◌}
 use Rattle.definitions.specs.Program.{digit}
-use Rattle.theorems.proofs.Figures.{digit-small}
-use Rattle.writing.proofs.NumberLaws.{Written, none_written, one_written, all-written, figures-are}
+use Rattle.writing.proofs.NumberLaws.{Written}
 use Rattle.writing.proofs.numbers.put_figures.Given as goal
 
 abbrev pub invariant-loop-i : goal.invariant-loop-i

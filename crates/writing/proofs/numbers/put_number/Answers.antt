@@ -1,6 +1,6 @@
 -- `put_number`: the bytes from i on are written, and what is left is the number without them.
 use native.Mathlib.Omega.{arith}
-use Rattle.writing.proofs.NumberLaws.{Written, none_written, one_written, all-written, bytes-are}
+use Rattle.writing.proofs.NumberLaws.{none_written, one_written, all-written, bytes-are}
 use Rattle.writing.proofs.numbers.put_number.Goals as goal
 
 pub loop-i-init : goal.loop-i-init

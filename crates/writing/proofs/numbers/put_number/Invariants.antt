@@ -1,6 +1,5 @@
 -- `put_number`: the bytes from i on are written, and what is left is the number without them.
-use native.Mathlib.Omega.{arith}
-use Rattle.writing.proofs.NumberLaws.{Written, none_written, one_written, all-written, bytes-are}
+use Rattle.writing.proofs.NumberLaws.{Written}
 use Rattle.writing.proofs.numbers.put_number.Given as goal
 
 abbrev pub invariant-loop-i : goal.invariant-loop-i

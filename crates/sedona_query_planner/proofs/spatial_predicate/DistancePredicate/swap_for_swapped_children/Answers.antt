@@ -15,5 +15,5 @@ unfolding exchange_predicate
 returns c =
     λ s P h.
     let is = ap exchange_predicate h.is
-        ∙ ap (λ (side : Side). distance c.args.self.form side h.r h.l h.bound) (sym c.negate-other.ensures) in
-        record { l = h.r; r = h.l; bound = h.bound; left = h.right; right = h.left; limit = h.limit; is = is }
+    ∙ ap (λ (side : Side). distance c.args.self.form side h.r h.l h.bound) (sym c.negate-other.ensures) in
+    record { l = h.r; r = h.l; bound = h.bound; left = h.right; right = h.left; limit = h.limit; is = is }

@@ -1,5 +1,4 @@
 -- `swap_for_swapped_children`: query and object stay, and the probe side is the other.
-use borrow.Author.Rules.{rules}
 use mathlib.Core.Path.{sym, ap, ◌∙◌}
 use Rattle.definitions.specs.Expression.{Side, knn}
 use Rattle.definitions.specs.Exchange.{exchange_predicate}

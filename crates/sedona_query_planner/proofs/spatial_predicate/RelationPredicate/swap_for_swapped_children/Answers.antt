@@ -15,4 +15,4 @@ unfolding exchange_predicate
 returns c =
     λ s P h.
     let is = ap exchange_predicate h.is ∙ ap (λ (type : Relation). relation type h.r h.l) (sym c.invert-inverse.ensures) in
-        record { l = h.r; r = h.l; left = h.right; right = h.left; is = is }
+    record { l = h.r; r = h.l; left = h.right; right = h.left; is = is }

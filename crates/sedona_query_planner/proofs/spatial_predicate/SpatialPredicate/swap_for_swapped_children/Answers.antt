@@ -1,5 +1,4 @@
 -- `swap_for_swapped_children`: each kind by its own rule.
-use borrow.Author.Rules.{rules}
 use Rattle.sedona_query_planner.proofs.spatial_predicate.SpatialPredicate.swap_for_swapped_children.Goals as goal
 
 pub returns-in-Relation : goal.returns-in-Relation
