@@ -13,14 +13,16 @@ ghost use Rattle.std.specs.Prelude.{◌≡◌, replicate};
 ghost use Rattle.lines.specs.Sessions.{lent};
 ghost use Rattle.spatialjoin.specs.Runs.{ReadOn, Ran, LastIs};
 
-use libc::{STDERR_FILENO, STDIN_FILENO};
 use lines::feeding::finish;
 use lines::states::{State, fresh};
+use std::io::{Read, Stderr, Stdin, Stdout};
 use streams::chunks::take_in;
 use streams::output::{Turn, flush};
 
-// Reads once, handles what came, and writes what waits then.
+// Reads once, handles what came, and writes what waits then. A read that fails counts as one that gave a number below 0.
 fn read_on(
+    mut stdin: Stdin,
+    stdout: Stdout,
     out: &mut [u8; 65536],
     plan: &mut [u8; 16384],
     scratch: &mut [u8; 16384],
@@ -33,9 +35,12 @@ fn read_on(
         (lent out.old plan.old scratch.old line.old) state
         (lent out.new plan.new scratch.new line.new) result }
 {
-    let got = libc::read(STDIN_FILENO, chunk);
-    match take_in(out, plan, scratch, line, chunk, got, state) {
-        Turn::More(next) => flush(out, next),
+    let got = match stdin.read(chunk) {
+        Ok(size) => size as isize,
+        Err(_) => -1,
+    };
+    match take_in(stdout, out, plan, scratch, line, chunk, got, state) {
+        Turn::More(next) => flush(stdout, out, next),
         Turn::Ended(last) => Turn::Ended(last),
         Turn::NotRead => Turn::NotRead,
         Turn::NotWritten => Turn::NotWritten,
@@ -45,6 +50,8 @@ fn read_on(
 // Reads up to the end of the input, or until reading or writing fails. A proved loop has to end, and nothing says that the input
 // does: so the loop counts its turns down, from a number that no run uses up.
 fn run(
+    stdin: Stdin,
+    stdout: Stdout,
     out: &mut [u8; 65536],
     plan: &mut [u8; 16384],
     scratch: &mut [u8; 16384],
@@ -58,7 +65,7 @@ fn run(
     let mut turns = u64::MAX;
     while turns > 0 {
         turns -= 1;
-        match read_on(out, plan, scratch, line, chunk, state) {
+        match read_on(stdin, stdout, out, plan, scratch, line, chunk, state) {
             Turn::More(next) => {
                 state = next;
             }
@@ -78,6 +85,7 @@ fn run(
 
 // Ends a last line without a line feed, and writes what waits then.
 fn write_last(
+    stdout: Stdout,
     out: &mut [u8; 65536],
     plan: &mut [u8; 16384],
     scratch: &mut [u8; 16384],
@@ -90,44 +98,49 @@ fn write_last(
         (lent out.new plan.new scratch.new line.now) result }
 {
     let last = finish(out, plan, scratch, line, state);
-    flush(out, last)
+    flush(stdout, out, last)
 }
 
 // Says what failed, if anything did.
-fn report(turn: Turn) {
+fn report(stderr: Stderr, turn: Turn) {
     match turn {
         Turn::NotRead => {
-            io::write_all(
-                STDERR_FILENO,
-                b"spatialjoin: standard input could not be read\n",
-            );
+            let _ = stderr.write_all(b"spatialjoin: standard input could not be read\n");
         }
         Turn::NotWritten => {
-            io::write_all(
-                STDERR_FILENO,
-                b"spatialjoin: standard output could not be written\n",
-            );
+            let _ = stderr.write_all(b"spatialjoin: standard output could not be written\n");
         }
         Turn::More(_) => {}
         Turn::Ended(_) => {}
     }
 }
 
-fn main() {
+fn main(rt: HostRuntime) {
     let mut out = [0u8; 65536];
     let mut plan = [0u8; 16384];
     let mut scratch = [0u8; 16384];
     let mut line = [0u8; 32768];
     let mut chunk = [0u8; 65536];
-    match run(&mut out, &mut plan, &mut scratch, &mut line, &mut chunk) {
+    match run(
+        rt.stdin(),
+        rt.stdout(),
+        &mut out,
+        &mut plan,
+        &mut scratch,
+        &mut line,
+        &mut chunk,
+    ) {
         Turn::Ended(last) => {
-            report(write_last(&mut out, &mut plan, &mut scratch, &line, last));
+            report(
+                rt.stderr(),
+                write_last(rt.stdout(), &mut out, &mut plan, &mut scratch, &line, last),
+            );
         }
         Turn::NotRead => {
-            report(Turn::NotRead);
+            report(rt.stderr(), Turn::NotRead);
         }
         Turn::NotWritten => {
-            report(Turn::NotWritten);
+            report(rt.stderr(), Turn::NotWritten);
         }
         Turn::More(_) => {}
     }

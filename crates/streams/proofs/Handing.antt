@@ -1,12 +1,12 @@
 -- What was handed over makes up the piece that the state stands after, and there is room for what another line gives.
-use Prim.Native.Nat.{ℕ, ◌≤◌, ◌<◌, ◌+◌, ◌-◌}
+use Prim.Native.Nat.{ℕ, ◌≤◌, ◌<◌, ◌+◌, ◌-◌, min}
 use native.Mathlib.Omega.{arith}
 use mathlib.Core.Path.{◌≡◌, refl}
 use mathlib.Core.Bool.{Bool, true, false}
 use mathlib.Core.List.{List}
 use lib.ListN.{length, take, drop, length-take}
 use lib.Seq.{take-add, take-take}
-use lib.IntN.{ℤ, pos, negsuc}
+use lib.IntN.{ℤ, pos, negsuc, nat_abs}
 use lib.Signed.{lt_z}
 use lib.Dec.{leb}
 use borrow.Author.Tests.{leb-true, ltb-true}
@@ -51,7 +51,7 @@ roomed-stands true h = h
 roomed-stands false h = settled-stands h
 
 -- The state stands for what came before and these characters.
-pub stands_after : {before after : Lent} {state next : State} {p : List ℕ} → Handing before state p after next
+pub stands_after : {before : Lent} {state : State} {after : Lent} {next : State} {p : List ℕ} → Handing before state p after next
     → After p before state after next
 unfolding piece
 stands_after none s h = h
@@ -70,6 +70,10 @@ some-given size chunk h = omega (arith, simp length-take at h)
 pub below-zero : (z : ℤ) → lt_z z (pos 0) ≡ true → Below z
 below-zero (pos n) e = omega (arith, ltb-true n 0 e)
 below-zero (negsuc n) e = tt
+
+pub given-some : (got : ℤ) (chunk : List ℕ) → lt_z got (pos 0) ≡ false → min (nat_abs got) (length chunk) ≡ given got chunk
+given-some (pos n) chunk e = refl
+given-some (negsuc n) chunk e = cc
 
 pub taken_in : (got : ℤ) (chunk : List ℕ) (size : ℕ) (before b : Lent) (state : State) (r : Turn) → size ≡ given got chunk
     → Handed (take size chunk) before state b r → TakenIn got chunk before state b r

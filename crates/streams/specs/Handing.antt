@@ -1,6 +1,5 @@
 -- What holds once characters were handed over.
-use Rattle.std.specs.Prelude.{ℕ, ◌<◌, ◌≡◌, List, [], ◌++◌, take, length, ℤ, pos, negsuc}
-use Rattle.io.specs.Counts.{clamp_len}
+use Rattle.std.specs.Prelude.{ℕ, ◌<◌, ◌≡◌, min, List, [], ◌++◌, take, length, ℤ, pos, negsuc}
 use Rattle.lines.specs.Pieces.{Session, piece}
 use Rattle.lines.specs.Sessions.{Lent, Stands, Makes}
 use Rattle.lines.specs.declared.states.State.{State}
@@ -27,9 +26,10 @@ abbrev pub Below : ℤ → Type 0
 Below (pos k) = ⊥
 Below (negsuc k) = Unit {0}
 
--- How many characters of a chunk a read gave.
+-- How many characters of a chunk a read gave: no more than there are, and none where it failed.
 abbrev pub given : (got : ℤ) (chunk : List ℕ) → ℕ
-given got chunk = clamp_len got (length chunk)
+given (pos k) chunk = min k (length chunk)
+given (negsuc k) chunk = 0
 
 -- What a read gave was taken in: as many characters of the chunk as it says were handed over; 0 is the end of the input and a
 -- number below it a failure, and all is as it was. A write fails only where the read gave something.

@@ -6,9 +6,11 @@ ghost use Rattle.streams.specs.Handing.{Handed, TakenIn};
 use super::output::{Turn, make_room};
 use lines::feeding::feed;
 use lines::states::State;
+use std::io::Stdout;
 
 // Hands over the first `size` characters of a chunk. What they give waits, but for what is written where there is no room.
 fn feed_all(
+    stdout: Stdout,
     out: &mut [u8; 65536],
     plan: &mut [u8; 16384],
     scratch: &mut [u8; 16384],
@@ -27,7 +29,7 @@ fn feed_all(
     while at < size {
         let fed = feed(out, plan, scratch, line, &chunk[at..size], current);
         let taken = fed.taken;
-        let Turn::More(next) = make_room(out, fed.state) else {
+        let Turn::More(next) = make_room(stdout, out, fed.state) else {
             return Turn::NotWritten;
         };
         at += taken;
@@ -38,6 +40,7 @@ fn feed_all(
 
 // Handles what a read gave: as many characters of the chunk as it says, the end of the input, or that it failed.
 pub fn take_in(
+    stdout: Stdout,
     out: &mut [u8; 65536],
     plan: &mut [u8; 16384],
     scratch: &mut [u8; 16384],
@@ -57,6 +60,6 @@ pub fn take_in(
     if got == 0 {
         return Turn::Ended(state);
     }
-    let size = io::count(got, chunk);
-    feed_all(out, plan, scratch, line, chunk, size, state)
+    let size = (got as usize).min(chunk.len());
+    feed_all(stdout, out, plan, scratch, line, chunk, size, state)
 }

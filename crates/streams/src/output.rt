@@ -2,8 +2,8 @@
 ghost use Rattle.std.specs.Prelude.{◌≡◌, ◌≤◌, length};
 ghost use Rattle.streams.specs.Turns.{Flushed, Roomy};
 
-use libc::STDOUT_FILENO;
 use lines::states::{MOST_FILLED, State};
+use std::io::Stdout;
 
 // What follows a read: another one, or the end of the input; or it failed, or a write did.
 #[derive(Clone, Copy)]
@@ -15,12 +15,12 @@ pub enum Turn {
 }
 
 // Writes what waits.
-pub fn flush(out: &[u8], state: State) -> Turn
+pub fn flush(stdout: Stdout, out: &[u8], state: State) -> Turn
     requires { (length out.now ≡ 65536) × (state.filled ≤ 65536) }
     ensures { Flushed state result }
 {
     let filled = state.filled;
-    if io::write_all(STDOUT_FILENO, &out[..filled]) {
+    if stdout.write_all(&out[..filled]).is_ok() {
         Turn::More(State {
             n: state.n,
             count: state.count,
@@ -32,12 +32,12 @@ pub fn flush(out: &[u8], state: State) -> Turn
 }
 
 // Writes what waits where there is no room for what another line gives.
-pub fn make_room(out: &[u8], state: State) -> Turn
+pub fn make_room(stdout: Stdout, out: &[u8], state: State) -> Turn
     requires { (length out.now ≡ 65536) × (state.filled ≤ 65536) }
     ensures { Roomy state result }
 {
     if MOST_FILLED < state.filled {
-        return flush(out, state);
+        return flush(stdout, out, state);
     }
     Turn::More(state)
 }

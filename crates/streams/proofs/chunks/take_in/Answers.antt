@@ -3,7 +3,7 @@ use mathlib.Core.Path.{refl, sym, ap, ◌∙◌}
 use mir.Facts.{to_z-of_z}
 use mir.Syntax.{w64}
 use mir.Val.{to_z}
-use Rattle.streams.proofs.Handing.{below-zero, taken_in}
+use Rattle.streams.proofs.Handing.{below-zero, given-some, taken_in}
 use Rattle.streams.proofs.chunks.take_in.Goals as goal
 
 pub returns-then-got-lt0 : goal.returns-then-got-lt0
@@ -16,6 +16,7 @@ returns-then-got-eq0 c =
 
 pub returns : goal.returns
 returns c =
-    let count = c.count-size in
-    taken_in c.args.got c.args.chunk.now count.result _ _ _ c.feed_all.result
-    (rw (to_z-of_z c.ranges.got) at count.ensures.1) c.feed_all.ensures
+    let got = c.args.got in
+    let some = given-some got c.args.chunk.now (rw (to_z-of_z c.ranges.got) at c.if-got-lt0.false) in
+    let size = rw (to_z-of_z c.ranges.got) at c.min-size.ensures in
+    taken_in got c.args.chunk.now c.min-size.result _ _ _ c.feed_all.result (size ∙ some) c.feed_all.ensures
