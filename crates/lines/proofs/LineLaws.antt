@@ -88,9 +88,9 @@ module _ {bytes more : List ℕ} {first : ℕ} (kept : Kept) (e : bytes ≡ firs
         → AnswerIs (line_of bytes kept) n after r × (t ≡ bytes_scratch bytes kept s)
     exchange-line is h = (rw (← exchange-byte is) h.0, h.1 ∙ exchange-leaves s is)
 
-    pub load_line : first ≡ 1 → AnswerIs (load_line bytes kept) n after r
+    pub load-line : first ≡ 1 → AnswerIs (load_line bytes kept) n after r
         → AnswerIs (line_of bytes kept) n after r × (s ≡ bytes_scratch bytes kept s)
-    load_line is h = (rw (← load_byte is) h, other-leaves s (λ x. omega arith) (λ x. omega arith))
+    load-line is h = (rw (← load_byte is) h, other-leaves s (λ x. omega arith) (λ x. omega arith))
 
     pub logical-line : first ≡ 2 → AnswerIs (logical_line bytes kept) n after r
         → AnswerIs (line_of bytes kept) n after r × (s ≡ bytes_scratch bytes kept s)

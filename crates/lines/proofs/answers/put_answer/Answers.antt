@@ -7,20 +7,20 @@ use lib.ListN.{length}
 use lib.Seq.{length-take-le}
 use Rattle.definitions.specs.Program.{written_line}
 use Rattle.lines.proofs.answers.put_answer.Goals as goal
-use Rattle.lines.proofs.answers.put_answer.Goals.{After-put_line-arg-in-Logical-1}
+use Rattle.lines.proofs.answers.put_answer.Goals.{In-Plan}
 
 -- The plan is as long as the answer says.
-plan-fits : (c : After-put_line-arg-in-Logical-1)
-    → c.answer-1.given.0.0 ≤ length c.args.plan.now
-plan-fits c = rw c.answer-1.given.1 at c.requires.0
+plan-fits : (c : In-Plan)
+    → c.in-Plan.n ≤ length c.args.plan.now
+plan-fits c = rw c.in-Plan.is at c.requires.0
 
 pub slice_bounds-put_line-end : goal.slice_bounds-put_line-end
 slice_bounds-put_line-end c =
-    sym (length-take-le _ _ (plan-fits (goal.at.slice_bounds-put_line-end c).After-put_line-arg-in-Logical-1))
+    sym (length-take-le _ _ (plan-fits (goal.at.slice_bounds-put_line-end c).In-Plan))
 
 pub put_line-requires : goal.put_line-requires
 put_line-requires c =
-    rw (length-take-le _ _ (plan-fits (goal.at.put_line-requires c).After-put_line-arg-in-Logical-1)) (omega (arith, plan-fits (goal.at.put_line-requires c).After-put_line-arg-in-Logical-1))
+    rw (length-take-le _ _ (plan-fits (goal.at.put_line-requires c).In-Plan)) (omega (arith, plan-fits (goal.at.put_line-requires c).In-Plan))
 
 pub returns-in-Plan : goal.returns-in-Plan
 unfolding written_line

@@ -5,7 +5,7 @@ use mathlib.Core.List.{◌∷◌}
 use lib.ListN.{take, drop, get_or}
 use lib.Seq.{length-take-le}
 use Rattle.lines.proofs.LineLaws.{refused-line, no_bytes, begins, other_byte, none-leave, other-leaves}
-use Rattle.lines.proofs.LineLaws.{load_line, logical-line, extract-line, exchange-line}
+use Rattle.lines.proofs.LineLaws.{load-line, logical-line, extract-line, exchange-line}
 use Rattle.lines.proofs.calls.call_line.Goals as goal
 use Rattle.lines.proofs.calls.call_line.Goals.{After-slice_known-3-1}
 
@@ -33,27 +33,27 @@ slice_bounds-logical_line-end-in-2 c =
 
 pub returns-in-1 : goal.returns-in-1
 returns-in-1 c =
-    let both = load_line _ (first (goal.at.returns-in-1 c).After-slice_known-3-1) _
-        c.in-1.is
-        c.load_line.ensures in
-    record { answer_is = both.0; scratch_after = both.1; }
+    let both = load-line _ (first (goal.at.returns-in-1 c).After-slice_known-3-1) _
+    c.in-1.is
+    c.load_line.ensures in
+    record { answer_is = both.0; scratch_after = both.1 }
 
 pub returns-in-2 : goal.returns-in-2
 returns-in-2 c =
     let both = logical-line _ (first (goal.at.returns-in-2 c).After-slice_known-3-1) _ c.in-2.is (c.logical_line.ensures _ _) in
-    record { answer_is = both.0; scratch_after = both.1; }
+    record { answer_is = both.0; scratch_after = both.1 }
 
 pub returns-in-33 : goal.returns-in-33
 returns-in-33 c =
     let both = extract-line _ (first (goal.at.returns-in-33 c).After-slice_known-3-1) _
-        c.in-33.is c.plan_line.ensures in
-    record { answer_is = both.0; scratch_after = both.1; }
+    c.in-33.is (c.plan_line.ensures.answer_is, c.plan_line.ensures.scratch_after) in
+    record { answer_is = both.0; scratch_after = both.1 }
 
 pub returns-in-34 : goal.returns-in-34
 returns-in-34 c =
     let both = exchange-line _ (first (goal.at.returns-in-34 c).After-slice_known-3-1) _
-        c.in-34.is c.plan_line-in-34.ensures in
-    record { answer_is = both.0; scratch_after = both.1; }
+    c.in-34.is (c.plan_line-in-34.ensures.answer_is, c.plan_line-in-34.ensures.scratch_after) in
+    record { answer_is = both.0; scratch_after = both.1 }
 
 pub returns-in_default : goal.returns-in_default
 returns-in_default c =

@@ -12,7 +12,7 @@ use Rattle.lines.proofs.calls.logical_line.Goals.{In-Found}
 
 -- What was found is the definition's answer.
 found : (c : In-Found)
-    → (ok (record { mask = c.in-Found.found.mask; c.found-1.given.0 = c.in-Found.found.names; side = query_side_is c.in-Found.side }) ≡ logical
+    → (ok (record { mask = c.in-Found.found.mask; names = c.in-Found.found.names; side = query_side_is c.in-Found.side }) ≡ logical
     c.args.bytes.now)
 found c = sym (ap names_of c.in-Found.is) ∙ c.logical.ensures
 

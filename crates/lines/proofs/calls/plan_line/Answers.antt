@@ -65,10 +65,14 @@ shape_of-scratch-in-Extract c =
 pub returns-in-Extract : goal.returns-in-Extract
 unfolding line_call
 returns-in-Extract c =
-    let both = rw (c.of_call.ensures, c.in-Extract.is)
-        (alone-gives extract_call _ _ c.if-size-gt1.false _ _ _ c.extract-extracted.result.answer
-        (sym (filled-default _ _ _ _ c.default_settings-settings.ensures) ∙ c.extract-extracted.ensures.outcome) (search rules)) in
-    record { answer_is = both.0; scratch_after = both.1; }
+    record {
+      answer_is = rw (c.of_call.ensures, c.in-Extract.is)
+          ((alone-gives extract_call _ _ c.if-size-gt1.false _ _ _ c.extract-extracted.result.answer
+          (sym (filled-default _ _ _ _ c.default_settings-settings.ensures) ∙ c.extract-extracted.ensures.outcome) (search rules))).0;
+      scratch_after = rw c.in-Extract.is
+          ((alone-gives extract_call _ _ c.if-size-gt1.false _ _ _ c.extract-extracted.result.answer
+          (sym (filled-default _ _ _ _ c.default_settings-settings.ensures) ∙ c.extract-extracted.ensures.outcome) (search rules))).1;
+    }
 
 pub shape_of-plan-in-Exchange : goal.shape_of-plan-in-Exchange
 unfolding line_call
@@ -83,8 +87,13 @@ shape_of-scratch-in-Exchange c =
 pub returns-in-Exchange : goal.returns-in-Exchange
 unfolding line_call
 returns-in-Exchange c =
-    let both = rw (c.of_call-in-Exchange.ensures, c.in-Exchange.is)
-        (alone-gives exchange_call _ _ c.if-size-gt1.false _ _ _
-        c.exchange.result c.exchange.ensures
-        (search rules)) in
-    record { answer_is = both.0; scratch_after = both.1; }
+    record {
+      answer_is = rw (c.of_call-in-Exchange.ensures, c.in-Exchange.is)
+          ((alone-gives exchange_call _ _ c.if-size-gt1.false _ _ _
+          c.exchange.result c.exchange.ensures
+          (search rules))).0;
+      scratch_after = rw c.in-Exchange.is
+          ((alone-gives exchange_call _ _ c.if-size-gt1.false _ _ _
+          c.exchange.result c.exchange.ensures
+          (search rules))).1;
+    }
