@@ -91,12 +91,12 @@ plan-out (ok k) n m buffer plan e f = ap ok (subst (λ (j : ℕ). take j buffer 
 plan-out (refused number) n m buffer plan e f = refl
 
 -- An outcome that agrees with the machine's call.
-call_line : (a : Answered) (n : ℕ) (o : LoadOutcome) → CallAgrees match-laws most_bytes most_nodes a o → o.n ≡ next_n n o.answer
+call-line : (a : Answered) (n : ℕ) (o : LoadOutcome) → CallAgrees match-laws most_bytes most_nodes a o → o.n ≡ next_n n o.answer
     → LineAgrees (line_of_call a) (record {
       answer = map_result (λ k. take k o.buffer) o.answer;
       kept = record { n = o.n; buffer = o.buffer };
     })
-call_line a n o c e = record {
+call-line a n o c e = record {
   answer =
       plan-out o.answer n o.n o.buffer (plan_bytes (state_plan match_leaf a.state)) e
       (state-left match-laws most_bytes most_nodes a.state o.n o.buffer o.table c.holds).0
@@ -137,7 +137,7 @@ load-agrees s k bytes b (table, h) =
     unfold one_call_by in call-agrees match-laws most_bytes most_nodes s k.n k.buffer table (loading bytes) b h in
     subst (λ (o : Outcome). LineAgrees (line_of_call (program_call s (loading bytes))) (line_by o))
     (load-alike bytes k.n k.buffer table (replicate most_nodes blank) size)
-    (call_line (program_call s (loading bytes)) k.n (load bytes k.n k.buffer table) agrees (load-n bytes k.n k.buffer table))
+    (call-line (program_call s (loading bytes)) k.n (load bytes k.n k.buffer table) agrees (load-n bytes k.n k.buffer table))
 
 -- ---- extract and exchange
 
@@ -168,7 +168,7 @@ make-agrees kind s k [] (table, h) =
     let c : Made = record { kind = kind; scratch = scratch } in
     let o : Outcome = make kind k.n k.buffer scratch table in
     subst (λ (o : Outcome). LineAgrees (line_of_call (program_call s (making c))) (line_by o)) (same-call kind s k scratch table h)
-    (call_line (program_call s (making c)) k.n (but_scratch o table)
+    (call-line (program_call s (making c)) k.n (but_scratch o table)
     (made-agrees c s k table h) (make-n match_leaf kind k.n k.buffer scratch table))
 
 -- ---- a line

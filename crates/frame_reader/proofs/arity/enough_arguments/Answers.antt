@@ -6,7 +6,6 @@ use Rattle.definitions.specs.Leaves.{relation_arity}
 use Rattle.frame_reader.proofs.ArityLaws.{call_needs}
 use Rattle.frame_reader.proofs.arity.enough_arguments.Goals as goal
 
--- ALIGNED tie: old 8 new 7
 
 pub same_name-requires : goal.same_name-requires
 unfolding ascii relation_arity

@@ -11,7 +11,6 @@ use borrow.Author.Rules.{rules}
 use Rattle.leaf_matching.proofs.knn.match_knn_predicate.Goals as goal
 use Rattle.leaf_matching.proofs.knn.match_knn_predicate.Goals.{After-knn_options}
 
--- ALIGNED tie: old 15 new 14
 
 walked : (c : After-knn_options)
     → let start = c.args in

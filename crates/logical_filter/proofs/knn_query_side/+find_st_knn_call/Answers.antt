@@ -9,7 +9,6 @@ use Rattle.expression.proofs.There.{and-left-there, and-right-there, pair-there,
 use Rattle.logical_filter.proofs.QueryWalk.{no_plain, no-binary, is-knn, no-knn, knn-left, knn-right}
 use Rattle.logical_filter.proofs.knn_query_side.+find_st_knn_call.Goals as goal
 
--- ALIGNED lts: old 20 new 19
 
 pub node_at-requires : goal.node_at-requires
 unfolding ascii

@@ -10,7 +10,6 @@ use Rattle.logical_filter.proofs.NameWalk.{no_distance, small-name}
 use borrow.Enum.Refused.{opened}
 use Rattle.logical_filter.proofs.predicate_names.is_distance_expr.Goals as goal
 
--- ALIGNED tie: old 6 new 5
 
 pub node_at-requires : goal.node_at-requires
 unfolding ascii

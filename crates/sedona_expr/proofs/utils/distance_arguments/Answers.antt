@@ -7,7 +7,6 @@ use Rattle.sedona_expr.proofs.Comparing.{no_arguments, distance-found, distance-
 use borrow.Enum.Refused.{opened}
 use Rattle.sedona_expr.proofs.utils.distance_arguments.Goals as goal
 
--- ALIGNED tie: old 7 new 6
 
 pub node_at-requires : goal.node_at-requires
 unfolding ascii

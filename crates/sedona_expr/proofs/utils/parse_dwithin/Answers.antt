@@ -5,7 +5,6 @@ use Rattle.definitions.specs.Basics.{ascii}
 use Rattle.sedona_expr.proofs.Distances.{not-dwithin, dwithin-too-few, two-given, third-within, dwithin-distance}
 use Rattle.sedona_expr.proofs.utils.parse_dwithin.Goals as goal
 
--- ALIGNED tie: old 7 new 6
 
 pub same_name-requires : goal.same_name-requires
 unfolding ascii

@@ -4,7 +4,6 @@ use mathlib.Core.Path.{sym, ap}
 use Rattle.terms.specs.Refusals.{number_of}
 use Rattle.terms.proofs.refusals.refusal_number.Goals as goal
 
--- ALIGNED tie: old 48 new 24
 
 pub returns-in-EmptyOrTooLong : goal.returns-in-EmptyOrTooLong
 returns-in-EmptyOrTooLong c =

@@ -3,7 +3,6 @@ use borrow.Author.Rules.{rules}
 use Rattle.definitions.specs.Encode.{side_number}
 use Rattle.terms.proofs.sides.side_number.Goals as goal
 
--- ALIGNED tie: old 6 new 3
 
 pub returns-in-Left : goal.returns-in-Left
 unfolding side_number

@@ -3,7 +3,6 @@ use borrow.Author.Rules.{rules}
 use Rattle.definitions.specs.Exchange.{negate}
 use Rattle.terms.proofs.sides.JoinSide.negate.Goals as goal
 
--- ALIGNED tie: old 6 new 3
 
 pub returns-in-Left : goal.returns-in-Left
 unfolding negate
