@@ -1,10 +1,11 @@
 -- The extract under settings, with the table of the frame's own nodes: 24 where they are not good, else the extract with their matcher;
 -- with the default settings 01's.
+use Rattle.std.specs.Prelude.{if◌then◌else◌}
 use Prim.Native.Nat.{ℕ}
 use mathlib.Core.Path.{◌≡◌, refl, ap, ◌∙◌}
 use mathlib.Core.Bool.{Bool, false}
 use mathlib.Core.List.{List}
-use Rattle.definitions.specs.Basics.{if◌then◌else◌, refused}
+use Rattle.definitions.specs.Basics.{refused}
 use Rattle.definitions.specs.Extract.{Matcher}
 use Rattle.definitions.specs.Calls.{finish, extract_filled_by, extract_filled, walk_filled_by}
 use Rattle.definitions.specs.Settings.{Settings, good_settings, default_settings, match_under}

@@ -1,4 +1,5 @@
 -- When a table begins with a frame's records: its numbers tell.
+use Rattle.std.specs.Prelude.{if◌then◌else◌}
 use Prim.Native.Nat.{ℕ, zero, suc, ◌+◌, ◌*◌, ◌≤◌, ◌<◌}
 use native.Mathlib.Omega.{arith}
 use mathlib.Core.Path.{◌≡◌, refl, sym, ap, ◌∙◌}
@@ -7,7 +8,7 @@ use mathlib.Core.List.{List, [], ◌∷◌, map}
 use lib.ListN.{length, take, get_or, length-take, length-map}
 use lib.Seq.{take-take, get_or-take}
 use borrow.Author.Tests.{lt-leb}
-use Rattle.definitions.specs.Basics.{if◌then◌else◌, Result, ok, refused}
+use Rattle.definitions.specs.Basics.{Result, ok, refused}
 use Rattle.definitions.specs.Expression as tree
 use Rattle.definitions.specs.Encode.{plan_bytes}
 use Rattle.definitions.specs.Plans.{plan_of}

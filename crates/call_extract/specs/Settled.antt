@@ -1,6 +1,6 @@
 -- Request 13 of document 02: the extract of a held frame with the table of its own nodes, under settings. (Ours.)
-use Rattle.std.specs.Prelude.{ℕ, List}
-use Rattle.definitions.specs.Basics.{if◌then◌else◌, refused}
+use Rattle.std.specs.Prelude.{ℕ, List, if◌then◌else◌}
+use Rattle.definitions.specs.Basics.{refused}
 use Rattle.definitions.specs.Calls.{Outcome, finish, extract_filled_by, walk_filled_by}
 use Rattle.definitions.specs.Settings.{Settings, good_settings, match_under}
 

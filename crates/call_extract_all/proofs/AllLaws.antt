@@ -1,4 +1,5 @@
 -- A good frame for the writers of its conjuncts, and their parts together.
+use Rattle.std.specs.Prelude.{if◌then◌else◌}
 use Prim.Native.Nat.{ℕ, ◌+◌, ◌*◌, ◌≤◌}
 use native.Mathlib.Omega.{arith}
 use mathlib.Core.Path.{◌≡◌, refl, sym, ap, ap₂, ◌∙◌, subst}
@@ -8,7 +9,7 @@ use mathlib.Core.Option
 use mathlib.Core.Option.{Option, none, some}
 use lib.ListN.{length, take, drop, length-append, length-map}
 use lib.Seq.{take_all}
-use Rattle.definitions.specs.Basics.{if◌then◌else◌, any}
+use Rattle.definitions.specs.Basics.{any}
 use Rattle.definitions.specs.Expression as tree
 use Rattle.definitions.specs.Expression.{Expr, Record, Predicate}
 use Rattle.definitions.specs.Encode.{expr_bytes, frame_bytes, remainder_bytes, plan_bytes}

@@ -1,4 +1,5 @@
 -- What a load is, once the frame's answer and the lengths of buffer and table are known.
+use Rattle.std.specs.Prelude.{if◌then◌else◌}
 use Prim.Native.Nat.{ℕ, ◌≤◌, ◌<◌}
 use native.Mathlib.Omega.{arith}
 use mathlib.Core.Path.{◌≡◌, refl, sym, ap, ap₂, ◌∙◌}
@@ -8,7 +9,7 @@ use lib.ListN.{length, take, drop}
 use lib.Seq.{take-length}
 use lib.Dec.{leb}
 use borrow.Author.Tests.{le-leb, lt-leb}
-use Rattle.definitions.specs.Basics.{if◌then◌else◌, ok, refused}
+use Rattle.definitions.specs.Basics.{ok, refused}
 use Rattle.definitions.specs.Expression.{Frame}
 use Rattle.definitions.specs.Encode.{plan_bytes}
 use Rattle.definitions.specs.Plans.{frame_of}

@@ -1,11 +1,12 @@
 -- The mask's lowest binary digit says whether the first name is found, and its half is the other names' mask; the tables compute.
+use Rattle.std.specs.Prelude.{if◌then◌else◌}
 use Prim.Native.Nat.{ℕ, ◌+◌, ◌*◌}
 use native.Mathlib.Omega.{arith}
 use mathlib.Core.Path.{◌≡◌, refl, sym, ap, ap₂, ◌∙◌}
 use mathlib.Core.Bool.{Bool, true, false}
 use mathlib.Core.List.{[], ◌∷◌}
 use lib.Count.{ones, ones_step}
-use Rattle.definitions.specs.Basics.{if◌then◌else◌, any, same_name}
+use Rattle.definitions.specs.Basics.{any, same_name}
 use Rattle.definitions.specs.Logical.{mask, distinct}
 use Rattle.definitions.specs.Claims.{NamesAreOnes, NamesOnce, occurrences}
 use Rattle.definitions.specs.NameTables.{NameTables}

@@ -1,8 +1,8 @@
 -- Request 14 of document 02: what is claimed of all indexable conjuncts, with any lawful matcher; crate `theorems` proves it.
-use Rattle.std.specs.Prelude.{ℕ, suc, ◌+◌, ◌≤◌, ◌<◌, ◌≡◌, Bool, true, false, not, List, [], ◌∷◌, ◌++◌, length, take, leb, eqb}
+use Rattle.std.specs.Prelude.{ℕ, suc, ◌+◌, ◌≤◌, ◌<◌, ◌≡◌, Bool, true, false, not, List, [], ◌∷◌, ◌++◌, length, take, leb, eqb, if◌then◌else◌}
 use Rattle.std.proofs.Math.Option.{Option, none, some}
 use Rattle.definitions.specs.Limits.{most_bytes, most_nodes}
-use Rattle.definitions.specs.Basics.{if◌then◌else◌, Result, ok, refused, all, keep}
+use Rattle.definitions.specs.Basics.{Result, ok, refused, all, keep}
 use Rattle.definitions.specs.Expression.{Expr, Frame, Predicate, Extraction, held}
 use Rattle.definitions.specs.Encode.{frame_bytes, remainder_bytes}
 use Rattle.definitions.specs.Leaves.{leaves}

@@ -1,14 +1,8 @@
 -- Tools without a subject of their own: choice, answers, checks in a row, names, numbers as bytes, lists under a test.
-use Rattle.std.specs.Prelude.{ℕ, zero, suc, ◌/◌, ◌%◌, ◌^◌, Bool, true, false, ◌&&◌, ◌||◌, List, [], ◌∷◌, eqb}
+use Rattle.std.specs.Prelude.{ℕ, zero, suc, ◌/◌, ◌%◌, ◌^◌, Bool, true, false, ◌&&◌, ◌||◌, List, [], ◌∷◌, eqb, if◌then◌else◌}
 use Prim.Native.String.{String, [] as no_text, ◌∷◌ as ◌then◌}
 use Prim.Native.Char.{code}
 use Rattle.std.proofs.Math.Option.{Option, none, some}
-
-infix 5 if◌then◌else◌
--- The first value if the test holds, else the second.
-abbrev pub if◌then◌else◌ {ℓ} : {X : Type ℓ} → Bool → X → X → X
-if◌then◌else◌ true x y = x
-if◌then◌else◌ false x y = y
 
 infix 5 given◌then◌else◌
 -- The function of a value where there is one, else the last.

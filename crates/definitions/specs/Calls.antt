@@ -1,7 +1,7 @@
 -- The calls load, extract and exchange on lent buffers. (The logical call has no buffers: Logical.)
-use Rattle.std.specs.Prelude.{ℕ, Bool, true, List, ◌++◌, length, take, drop, leb}
+use Rattle.std.specs.Prelude.{ℕ, Bool, true, List, ◌++◌, length, take, drop, leb, if◌then◌else◌}
 use Rattle.std.proofs.Math.Option.{Option, none, some}
-use Rattle.definitions.specs.Basics.{if◌then◌else◌, Result, ok, refused}
+use Rattle.definitions.specs.Basics.{Result, ok, refused}
 use Rattle.definitions.specs.Expression.{Frame, Extraction, Plan, empty, held, extracted}
 use Rattle.definitions.specs.Encode.{plan_bytes}
 use Rattle.definitions.specs.Plans.{frame_of, plan_of}

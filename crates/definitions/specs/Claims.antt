@@ -1,10 +1,10 @@
 -- What is claimed of the definitions; crate `theorems` proves each claim.
-use Rattle.std.specs.Prelude.{ℕ, suc, ◌+◌, ◌*◌, ◌≤◌, ◌<◌, ◌≡◌, Bool, true, false, ◌&&◌, not, List, [], ◌∷◌, ◌++◌, map, length, take, drop, get_or, replicate, leb, eqb}
+use Rattle.std.specs.Prelude.{ℕ, suc, ◌+◌, ◌*◌, ◌≤◌, ◌<◌, ◌≡◌, Bool, true, false, ◌&&◌, not, List, [], ◌∷◌, ◌++◌, map, length, take, drop, get_or, replicate, leb, eqb, if◌then◌else◌}
 use Rattle.std.proofs.Math.Option
 use Rattle.std.proofs.Math.Option.{Option, none, some}
 use Rattle.std.specs.Int.Count.{ones}
 use Rattle.definitions.specs.Limits.{most_bytes, most_nodes}
-use Rattle.definitions.specs.Basics.{if◌then◌else◌, Result, ok, refused, same_name, any}
+use Rattle.definitions.specs.Basics.{Result, ok, refused, same_name, any}
 use Rattle.definitions.specs.Expression.{Expr, Frame, Predicate, Extraction, Plan, held, extracted}
 use Rattle.definitions.specs.Encode.{expr_bytes, frame_bytes, predicate_kind, extraction_bytes, plan_bytes}
 use Rattle.definitions.specs.Leaves.{leaves}

@@ -1,8 +1,7 @@
 -- Nodes, records, frames and extractions read from bytes; the lines of a `do` block are refused in their order.
-use Rattle.std.specs.Prelude.{ℕ, zero, suc, Bool, true, ◌&&◌, map, get_or, leb, ltb, eqb}
+use Rattle.std.specs.Prelude.{ℕ, zero, suc, Bool, true, ◌&&◌, map, get_or, leb, ltb, eqb, if◌then◌else◌}
 use Rattle.std.proofs.Math.Option.{Option, none, some}
 use Rattle.definitions.specs.Limits.{most_nodes, most_levels, most_records, most_operator, most_name_bytes, first_name_byte, last_name_byte, most_children, two_bytes}
-use Rattle.definitions.specs.Basics.{if◌then◌else◌}
 use Rattle.definitions.specs.Expression.{Side, left, right, no_side, Relation, equals, relations, Expr, column, literal, and, binary, call, other, field, Exprs, nil, cons, Record, Frame, Predicate, relation, distance, knn, Extraction}
 use Rattle.definitions.specs.Literals.{literal_in_range, is_k}
 use Rattle.definitions.specs.Leaves.{arity}

@@ -1,8 +1,8 @@
 -- The bytes of frames, extractions and plans.
-use Rattle.std.specs.Prelude.{ℕ, suc, List, [], ◌∷◌, ◌++◌, length}
+use Rattle.std.specs.Prelude.{ℕ, suc, List, [], ◌∷◌, ◌++◌, length, if◌then◌else◌}
 use Rattle.std.proofs.Math.Bool.{decide}
 use Rattle.std.proofs.Math.Option.{Option, none, some}
-use Rattle.definitions.specs.Basics.{if◌then◌else◌, big_endian}
+use Rattle.definitions.specs.Basics.{big_endian}
 use Rattle.definitions.specs.Expression.{Side, left, right, no_side, Relation, same_relation, Named, relations, Expr, column, literal, and, binary, call, other, field, Exprs, nil, cons, count, Record, Frame, Predicate, relation, distance, knn, Extraction, Plan, empty, held, extracted}
 
 -- Sides: 0 left, 1 right, 2 none.

@@ -1,8 +1,8 @@
 -- The pick, the remainder, and the extraction of a frame.
-use Rattle.std.specs.Prelude.{ℕ, suc, ◌-◌, Bool, true, false, ◌&&◌, List, [], ◌∷◌, map, length, take, ltb, eqb}
+use Rattle.std.specs.Prelude.{ℕ, suc, ◌-◌, Bool, true, false, ◌&&◌, List, [], ◌∷◌, map, length, take, ltb, eqb, if◌then◌else◌}
 use Rattle.std.proofs.Math.Option
 use Rattle.std.proofs.Math.Option.{Option, none, some}
-use Rattle.definitions.specs.Basics.{if◌then◌else◌, any, keep}
+use Rattle.definitions.specs.Basics.{any, keep}
 use Rattle.definitions.specs.Expression.{Expr, column, literal, and, binary, call, other, field, Record, Frame, Predicate, relation, distance, knn, Extraction}
 use Rattle.definitions.specs.Leaves.{leaves}
 use Rattle.definitions.specs.References.{columns_of, record_at, same_side, map_columns}

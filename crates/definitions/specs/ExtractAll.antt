@@ -1,8 +1,8 @@
 -- Request 14 of document 02: all indexable conjuncts of a frame, by repeated extraction.
-use Rattle.std.specs.Prelude.{ℕ, zero, suc, Bool, not, List, [], ◌∷◌, ◌++◌, map, length, take, drop, get_or, leb}
+use Rattle.std.specs.Prelude.{ℕ, zero, suc, Bool, not, List, [], ◌∷◌, ◌++◌, map, length, take, drop, get_or, leb, if◌then◌else◌}
 use Rattle.std.proofs.Math.Option
 use Rattle.std.proofs.Math.Option.{Option, none, some}
-use Rattle.definitions.specs.Basics.{if◌then◌else◌, Result, ok, refused, big_endian, any}
+use Rattle.definitions.specs.Basics.{Result, ok, refused, big_endian, any}
 use Rattle.definitions.specs.Expression.{Expr, column, literal, and, binary, call, other, field, Frame, Predicate, Extraction}
 use Rattle.definitions.specs.Encode.{predicate_kind, predicate_fields, remainder_bytes}
 use Rattle.definitions.specs.Leaves.{leaves}

@@ -1,8 +1,8 @@
 -- Requests 2 and 7 of document 02: lists of load, extract, exchange, merge and project from an empty plan, and the machine that they are
 -- held to. (Ours.)
-use Rattle.std.specs.Prelude.{ℕ, Bool, false, ◌&&◌, List, [], ◌∷◌, length, leb}
+use Rattle.std.specs.Prelude.{ℕ, Bool, false, ◌&&◌, List, [], ◌∷◌, length, leb, if◌then◌else◌}
 use Rattle.std.proofs.Math.Option.{Option, none, some}
-use Rattle.definitions.specs.Basics.{if◌then◌else◌, Result, ok, refused}
+use Rattle.definitions.specs.Basics.{Result, ok, refused}
 use Rattle.definitions.specs.Expression.{Frame, Extraction, Plan, empty, held, extracted}
 use Rattle.definitions.specs.Encode.{frame_bytes, plan_bytes}
 use Rattle.definitions.specs.Plans.{frame_of}

@@ -1,7 +1,7 @@
 -- AND-leaves, the names and comparisons that they are read by, and the arity that they need (refusal 8).
-use Rattle.std.specs.Prelude.{ℕ, Bool, true, ◌||◌, List, [], ◌∷◌, ◌++◌, leb, eqb}
+use Rattle.std.specs.Prelude.{ℕ, Bool, true, ◌||◌, List, [], ◌∷◌, ◌++◌, leb, eqb, if◌then◌else◌}
 use Rattle.std.proofs.Math.Option.{Option, none, some}
-use Rattle.definitions.specs.Basics.{if◌then◌else◌, given◌then◌else◌, ascii, same_name, any, all}
+use Rattle.definitions.specs.Basics.{given◌then◌else◌, ascii, same_name, any, all}
 use Rattle.definitions.specs.Expression.{Relation, Named, relations, Expr, column, literal, and, binary, call, other, field, Exprs, count, function_of, binary_of}
 
 -- The nodes reached from the root through And nodes only, left to right.

@@ -1,8 +1,7 @@
 -- Literals: types 0 null, 1 Boolean, 2 Int32, 3 Int64, 4 UInt32, 5 UInt64, 6 other; the eight bytes are one unsigned number.
-use Rattle.std.specs.Prelude.{ℕ, ◌-◌, Bool, true, ◌&&◌, ◌||◌, leb, ltb, eqb, ℤ, pos, negsuc}
+use Rattle.std.specs.Prelude.{ℕ, ◌-◌, Bool, true, ◌&&◌, ◌||◌, leb, ltb, eqb, ℤ, pos, negsuc, if◌then◌else◌}
 use Rattle.std.proofs.Math.Option.{Option, none, some}
 use Rattle.definitions.specs.Limits.{four_bytes}
-use Rattle.definitions.specs.Basics.{if◌then◌else◌}
 
 -- The whole number that eight bytes are in two's complement (`negsuc n` is −(n + 1)).
 unfoldable pub signed : (bytes : ℕ) → ℤ

@@ -1,7 +1,7 @@
 -- The logical call: which spatial names a filter has, and the query side of its first KNN call.
-use Rattle.std.specs.Prelude.{ℕ, ◌+◌, ◌*◌, ◌/◌, ◌%◌, Bool, ◌&&◌, not, List, [], ◌∷◌, ◌++◌, map, leb, eqb}
+use Rattle.std.specs.Prelude.{ℕ, ◌+◌, ◌*◌, ◌/◌, ◌%◌, Bool, ◌&&◌, not, List, [], ◌∷◌, ◌++◌, map, leb, eqb, if◌then◌else◌}
 use Rattle.std.proofs.Math.Option.{Option, none, some}
-use Rattle.definitions.specs.Basics.{if◌then◌else◌, given◌then◌else◌, Result, map_result, ascii, same_name, big_endian, any, all}
+use Rattle.definitions.specs.Basics.{given◌then◌else◌, Result, map_result, ascii, same_name, big_endian, any, all}
 use Rattle.definitions.specs.Expression.{Side, left, right, no_side, Expr, column, literal, and, binary, call, other, field, Exprs, nil, cons, function_of, binary_of}
 use Rattle.definitions.specs.Encode.{side_number}
 use Rattle.definitions.specs.Leaves.{leaves, Comparison, compares, no_comparison, comparison}

@@ -1,7 +1,7 @@
 -- The two-bit machine: fed a frame and, for each call of a list, its kind and the length of its scratch. 01's matcher is `match_leaf`.
-use Rattle.std.specs.Prelude.{ℕ, Bool, true, false, not, List, [], ◌∷◌, length, leb}
+use Rattle.std.specs.Prelude.{ℕ, Bool, true, false, not, List, [], ◌∷◌, length, leb, if◌then◌else◌}
 use Rattle.std.proofs.Math.Option.{Option, none, some}
-use Rattle.definitions.specs.Basics.{if◌then◌else◌, Result, ok, refused}
+use Rattle.definitions.specs.Basics.{Result, ok, refused}
 use Rattle.definitions.specs.Expression.{Frame, Extraction, Plan, held, extracted}
 use Rattle.definitions.specs.Encode.{plan_bytes}
 use Rattle.definitions.specs.Extract.{Matcher, extraction_by}

@@ -1,7 +1,7 @@
 -- What an AND-leaf asks for, the sides of its arguments, and whether it matches.
-use Rattle.std.specs.Prelude.{ℕ, Bool, false, ◌&&◌, List, [], ◌∷◌, map}
+use Rattle.std.specs.Prelude.{ℕ, Bool, false, ◌&&◌, List, [], ◌∷◌, map, if◌then◌else◌}
 use Rattle.std.proofs.Math.Option.{Option, none, some}
-use Rattle.definitions.specs.Basics.{if◌then◌else◌, given◌then◌else◌, ascii, same_name, all}
+use Rattle.definitions.specs.Basics.{given◌then◌else◌, ascii, same_name, all}
 use Rattle.definitions.specs.Expression.{Side, left, right, no_side, Relation, Expr, Exprs, nil, cons, function_of, binary_of, literal_of, Record, Predicate, relation, distance, knn}
 use Rattle.definitions.specs.Literals.{number_u32, only_k, number_bool}
 unfoldable pub use Rattle.definitions.specs.Expression.{invert}

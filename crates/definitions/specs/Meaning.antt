@@ -1,7 +1,7 @@
 -- Truth values of frames and extractions.
-use Rattle.std.specs.Prelude.{ℕ, zero, suc, ◌≡◌, List, [], ◌∷◌, eqb, length}
+use Rattle.std.specs.Prelude.{ℕ, zero, suc, ◌≡◌, List, [], ◌∷◌, eqb, length, if◌then◌else◌}
 use Rattle.std.proofs.Math.Option.{Option, none, some}
-use Rattle.definitions.specs.Basics.{if◌then◌else◌, ascii}
+use Rattle.definitions.specs.Basics.{ascii}
 use Rattle.definitions.specs.Expression.{Side, left, right, Relation, Expr, column, literal, and, binary, call, other, field, Exprs, nil, cons, Record, Frame, Predicate, relation, distance, knn, Extraction, Plan, empty, held, extracted, invert}
 use Rattle.definitions.specs.Leaves.{relation_named}
 use Rattle.definitions.specs.References.{record_at}

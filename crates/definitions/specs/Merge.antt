@@ -1,7 +1,7 @@
 -- Request 2 of document 02: a second filter on the same join, joined to the held one by And; the call merge.
-use Rattle.std.specs.Prelude.{ℕ, ◌+◌, Bool, ◌&&◌, ◌||◌, List, ◌++◌, length, leb, ltb}
+use Rattle.std.specs.Prelude.{ℕ, ◌+◌, Bool, ◌&&◌, ◌||◌, List, ◌++◌, length, leb, ltb, if◌then◌else◌}
 use Rattle.definitions.specs.Limits.{most_bytes, most_nodes, most_levels, most_records}
-use Rattle.definitions.specs.Basics.{if◌then◌else◌, Result, ok, refused, map_result}
+use Rattle.definitions.specs.Basics.{Result, ok, refused, map_result}
 use Rattle.definitions.specs.Expression.{Expr, and, Frame, Plan, empty, held, extracted}
 use Rattle.definitions.specs.Encode.{frame_bytes}
 use Rattle.definitions.specs.Plans.{frame_of}

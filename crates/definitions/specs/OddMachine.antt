@@ -1,6 +1,6 @@
 -- Request 7 of document 02: a machine with the odd bit alone, for an extraction that is held. (Ours.)
-use Rattle.std.specs.Prelude.{ℕ, Bool, not, List, [], ◌∷◌, length, leb}
-use Rattle.definitions.specs.Basics.{if◌then◌else◌, Result, ok, refused}
+use Rattle.std.specs.Prelude.{ℕ, Bool, not, List, [], ◌∷◌, length, leb, if◌then◌else◌}
+use Rattle.definitions.specs.Basics.{Result, ok, refused}
 use Rattle.definitions.specs.Expression.{Extraction, Plan, extracted}
 use Rattle.definitions.specs.Encode.{plan_bytes}
 use Rattle.definitions.specs.Exchange.{exchange_extraction}

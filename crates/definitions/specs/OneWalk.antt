@@ -1,7 +1,6 @@
 -- Requests 9 and 10 of document 02: one walk over the AND-leaves, what it remembers, and how many nodes it reads.
-use Rattle.std.specs.Prelude.{ℕ, suc, Bool, List, [], ◌∷◌, ◌++◌}
+use Rattle.std.specs.Prelude.{ℕ, suc, Bool, List, [], ◌∷◌, ◌++◌, if◌then◌else◌}
 use Rattle.std.proofs.Math.Option.{Option, none, some}
-use Rattle.definitions.specs.Basics.{if◌then◌else◌}
 use Rattle.definitions.specs.Expression.{Expr, column, literal, and, binary, call, other, field, Frame, Predicate}
 use Rattle.definitions.specs.Match.{match_leaf}
 use Rattle.definitions.specs.Extract.{Pick, is_knn, is_knn_match, first_of, Matcher}

@@ -1,6 +1,6 @@
 -- Whole frames, extractions and held plans: what a list of bytes is, or its first refusal.
-use Rattle.std.specs.Prelude.{ℕ, List, [], ◌∷◌, eqb}
-use Rattle.definitions.specs.Basics.{if◌then◌else◌, Result, ok, map_result}
+use Rattle.std.specs.Prelude.{ℕ, List, [], ◌∷◌, eqb, if◌then◌else◌}
+use Rattle.definitions.specs.Basics.{Result, ok, map_result}
 use Rattle.definitions.specs.Expression.{Expr, Frame, Extraction, Plan, empty, held, extracted}
 use Rattle.definitions.specs.Leaves.{arity}
 use Rattle.definitions.specs.Readers.{Reader, ◌>>=◌, ◌>>◌, give, require, byte, require_length, at_end, result_of}

@@ -1,6 +1,6 @@
 -- Request 1 of document 02: an expression as text for the console, and the call print. A character is its number.
-use Rattle.std.specs.Prelude.{ℕ, zero, suc, ◌/◌, ◌%◌, ◌^◌, List, [], ◌∷◌, ◌++◌, length, leb, ltb}
-use Rattle.definitions.specs.Basics.{if◌then◌else◌, Result, ok, refused, ascii, big_endian}
+use Rattle.std.specs.Prelude.{ℕ, zero, suc, ◌/◌, ◌%◌, ◌^◌, List, [], ◌∷◌, ◌++◌, length, leb, ltb, if◌then◌else◌}
+use Rattle.definitions.specs.Basics.{Result, ok, refused, ascii, big_endian}
 use Rattle.definitions.specs.Expression.{Expr, column, literal, and, binary, call, other, field, Exprs, nil, cons, Frame}
 use Rattle.definitions.specs.Plans.{frame_of}
 use Rattle.definitions.specs.Calls.{written_over}

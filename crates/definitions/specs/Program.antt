@@ -1,8 +1,8 @@
 -- The program `spatialjoin`: lines of hexadecimal in, a line out for each, the plan kept from line to line.
-use Rattle.std.specs.Prelude.{ℕ, ◌+◌, ◌*◌, ◌-◌, ◌/◌, ◌%◌, ◌&&◌, List, [], ◌∷◌, ◌++◌, length, take, replicate, leb, ltb, eqb}
+use Rattle.std.specs.Prelude.{ℕ, ◌+◌, ◌*◌, ◌-◌, ◌/◌, ◌%◌, ◌&&◌, List, [], ◌∷◌, ◌++◌, length, take, replicate, leb, ltb, eqb, if◌then◌else◌}
 use Rattle.std.proofs.Math.Option.{Option, none, some}
 use Rattle.definitions.specs.Limits.{most_bytes, most_digits, most_nodes}
-use Rattle.definitions.specs.Basics.{if◌then◌else◌, Result, ok, refused, map_result}
+use Rattle.definitions.specs.Basics.{Result, ok, refused, map_result}
 use Rattle.definitions.specs.Calls.{LoadOutcome, load, Outcome, extract_filled, exchange}
 use Rattle.definitions.specs.Machine.{Kind, extract_call, exchange_call}
 use Rattle.definitions.specs.Logical.{logical, logical_bytes}

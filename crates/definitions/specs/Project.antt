@@ -1,9 +1,9 @@
 -- Request 7 of document 02: each child narrowed to a list of its columns, and an extraction that follows; the call project.
-use Rattle.std.specs.Prelude.{ℕ, suc, Bool, true, false, ◌&&◌, List, [], ◌∷◌, map, length, leb, eqb}
+use Rattle.std.specs.Prelude.{ℕ, suc, Bool, true, false, ◌&&◌, List, [], ◌∷◌, map, length, leb, eqb, if◌then◌else◌}
 use Rattle.std.proofs.Math.Option
 use Rattle.std.proofs.Math.Option.{Option, none, some}
 use Rattle.definitions.specs.Limits.{most_items}
-use Rattle.definitions.specs.Basics.{if◌then◌else◌, Result, ok, refused, all}
+use Rattle.definitions.specs.Basics.{Result, ok, refused, all}
 use Rattle.definitions.specs.Expression.{Side, left, right, no_side, Expr, Record, Frame, Predicate, relation, distance, knn, Extraction, Plan, empty, held, extracted}
 use Rattle.definitions.specs.Encode.{plan_bytes}
 use Rattle.definitions.specs.References.{columns_of, map_columns}

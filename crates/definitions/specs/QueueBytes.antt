@@ -1,8 +1,8 @@
 -- Request 12 of document 02: the bytes of two queues, and the calls put and serve on lent buffers.
-use Rattle.std.specs.Prelude.{ℕ, zero, suc, ◌+◌, ◌*◌, Bool, ◌&&◌, List, [], ◌∷◌, ◌++◌, map, length, take, drop, get_or, leb, eqb}
+use Rattle.std.specs.Prelude.{ℕ, zero, suc, ◌+◌, ◌*◌, Bool, ◌&&◌, List, [], ◌∷◌, ◌++◌, map, length, take, drop, get_or, leb, eqb, if◌then◌else◌}
 use Rattle.std.proofs.Math.Option.{Option, none, some}
 use Rattle.definitions.specs.Limits.{queue_places, place_bytes, queue_bytes, queues_bytes}
-use Rattle.definitions.specs.Basics.{if◌then◌else◌, Result, ok, refused, ◌>>=◌, ◌>>◌, require, big_endian}
+use Rattle.definitions.specs.Basics.{Result, ok, refused, ◌>>=◌, ◌>>◌, require, big_endian}
 use Rattle.definitions.specs.Calls.{written_over}
 use Rattle.definitions.specs.Queues.{Queue, chassis, fixed_unit, Mark, nobody, last, Frames, State, put_in, Due, due}
 

@@ -1,8 +1,8 @@
 -- Request 12 of document 02: what is claimed of two queues and of the calls put and serve; crate `theorems` proves each claim.
-use Rattle.std.specs.Prelude.{ℕ, ◌+◌, ◌*◌, ◌≤◌, ◌<◌, ◌≡◌, List, [], ◌∷◌, ◌++◌, length, take, leb}
+use Rattle.std.specs.Prelude.{ℕ, ◌+◌, ◌*◌, ◌≤◌, ◌<◌, ◌≡◌, List, [], ◌∷◌, ◌++◌, length, take, leb, if◌then◌else◌}
 use Rattle.std.proofs.Math.Option.{Option, some}
 use Rattle.definitions.specs.Limits.{queue_places, place_bytes, queues_bytes}
-use Rattle.definitions.specs.Basics.{if◌then◌else◌, ok, refused}
+use Rattle.definitions.specs.Basics.{ok, refused}
 use Rattle.definitions.specs.Good.{AllBytes}
 use Rattle.definitions.specs.Queues.{Queue, queue_number, other_queue, Frames, State, waiting, with_frames, marked, first_tried}
 use Rattle.definitions.specs.QueueBytes.{state_of, state_over, PutOutcome, put, frame_from, both_empty, ServeOutcome, serve}

@@ -1,8 +1,8 @@
 -- Request 12 of document 02: lists of puts and serves on one buffer, and what was added and given.
-use Rattle.std.specs.Prelude.{ℕ, Bool, List, [], ◌∷◌, take, replicate, eqb}
+use Rattle.std.specs.Prelude.{ℕ, Bool, List, [], ◌∷◌, take, replicate, eqb, if◌then◌else◌}
 use Rattle.std.proofs.Math.Option.{Option, none, some}
 use Rattle.definitions.specs.Limits.{queues_bytes}
-use Rattle.definitions.specs.Basics.{if◌then◌else◌, Result, ok, refused}
+use Rattle.definitions.specs.Basics.{Result, ok, refused}
 use Rattle.definitions.specs.Queues.{Queue, queue_number, Frames, State, waiting}
 use Rattle.definitions.specs.QueueBytes.{state_of, PutOutcome, put, Served, frame_from, both_empty, ServeOutcome, serve}
 

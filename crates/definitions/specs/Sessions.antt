@@ -1,6 +1,6 @@
 -- Lists of calls made on lent buffers, from a held frame, and what is read off their answers.
-use Rattle.std.specs.Prelude.{ℕ, ◌≤◌, ◌≡◌, Bool, true, false, ◌&&◌, ◌||◌, not, List, [], ◌∷◌, map, length, take}
-use Rattle.definitions.specs.Basics.{if◌then◌else◌, Result, ok, refused}
+use Rattle.std.specs.Prelude.{ℕ, ◌≤◌, ◌≡◌, Bool, true, false, ◌&&◌, ◌||◌, not, List, [], ◌∷◌, map, length, take, if◌then◌else◌}
+use Rattle.definitions.specs.Basics.{Result, ok, refused}
 use Rattle.definitions.specs.Expression.{Frame, held}
 use Rattle.definitions.specs.Encode.{frame_bytes}
 use Rattle.definitions.specs.Match.{match_leaf}

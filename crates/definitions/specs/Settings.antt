@@ -1,7 +1,7 @@
 -- Request 13 of document 02: session settings, and matching under them.
-use Rattle.std.specs.Prelude.{ℕ, ◌/◌, ◌%◌, ◌^◌, Bool, ◌&&◌, List, [], ◌∷◌, leb, eqb}
+use Rattle.std.specs.Prelude.{ℕ, ◌/◌, ◌%◌, ◌^◌, Bool, ◌&&◌, List, [], ◌∷◌, leb, eqb, if◌then◌else◌}
 use Rattle.std.proofs.Math.Option.{Option, none, some}
-use Rattle.definitions.specs.Basics.{if◌then◌else◌, Result, refused}
+use Rattle.definitions.specs.Basics.{Result, refused}
 use Rattle.definitions.specs.Expression.{Predicate, relation, distance, knn}
 use Rattle.definitions.specs.Match.{match_leaf_by}
 use Rattle.definitions.specs.Extract.{Matcher}

@@ -1,7 +1,7 @@
 -- What is claimed of truth values; crate `theorems` proves each claim.
-use Rattle.std.specs.Prelude.{ℕ, ◌≡◌, Bool, List, [], ◌∷◌}
+use Rattle.std.specs.Prelude.{ℕ, ◌≡◌, Bool, List, [], ◌∷◌, if◌then◌else◌}
 use Rattle.std.proofs.Math.Option.{none, some}
-use Rattle.definitions.specs.Basics.{if◌then◌else◌, ok, ascii}
+use Rattle.definitions.specs.Basics.{ok, ascii}
 use Rattle.definitions.specs.Expression.{left, right, no_side, within, column, call, nil, cons, Frame, Predicate, distance, Extraction, Plan, held}
 use Rattle.definitions.specs.Plans.{plan_of}
 use Rattle.definitions.specs.Extract.{extraction}

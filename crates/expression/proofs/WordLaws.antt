@@ -1,4 +1,5 @@
 -- A table of names with spaces between them: one word after the other.
+use Rattle.std.specs.Prelude.{if◌then◌else◌}
 use Prim.Native.Nat.{ℕ, zero, suc, ◌+◌, ◌-◌, ◌≤◌, ◌<◌}
 use native.Mathlib.Numerals.{add-one}
 use native.Mathlib.Omega.{arith}
@@ -9,7 +10,7 @@ use lib.ListN.{length, drop, get_or, length-drop, drop_of_length-le}
 use lib.Dec.{eqb}
 use lib.Seq.{drop-cons, take-suc, get_or-drop}
 use borrow.Author.Tests.{eq-eqb, ne_eqb, eqb-true, eqb-false}
-use Rattle.definitions.specs.Basics.{if◌then◌else◌, same_name}
+use Rattle.definitions.specs.Basics.{same_name}
 use Rattle.expression.specs.Places.{part}
 use Rattle.expression.specs.Names.{before, words_by, words, ends_by, ends_from, word_ends, position, WordIs}
 

@@ -1,6 +1,6 @@
 -- Names as they are compared, and tables of names.
-use Rattle.std.specs.Prelude.{ℕ, suc, ◌+◌, ◌≤◌, ◌<◌, ◌≡◌, Bool, true, false, ◌&&◌, List, [], ◌∷◌, length, drop, leb, eqb}
-use Rattle.definitions.specs.Basics.{if◌then◌else◌, same_name}
+use Rattle.std.specs.Prelude.{ℕ, suc, ◌+◌, ◌≤◌, ◌<◌, ◌≡◌, Bool, true, false, ◌&&◌, List, [], ◌∷◌, length, drop, leb, eqb, if◌then◌else◌}
+use Rattle.definitions.specs.Basics.{same_name}
 use Rattle.definitions.specs.Logical.{lower_case}
 use Rattle.expression.specs.Places.{part}
 use Rattle.expression.specs.declared.names.Case.{Case}

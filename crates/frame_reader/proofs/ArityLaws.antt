@@ -1,4 +1,5 @@
 -- Arity: what each return of the functions about it answers.
+use Rattle.std.specs.Prelude.{if◌then◌else◌}
 use Prim.Native.Nat.{ℕ, ◌+◌, ◌-◌, ◌≤◌, ◌<◌}
 use native.Mathlib.Omega.{arith}
 use mathlib.Core.Path.{◌≡◌, refl, ap, ◌∙◌}
@@ -7,7 +8,7 @@ use mathlib.Core.List.{List, [], ◌∷◌}
 use mathlib.Core.Option.{Option}
 use lib.ListN.{length}
 use lib.Dec.{leb}
-use Rattle.definitions.specs.Basics.{if◌then◌else◌, ascii, same_name, all}
+use Rattle.definitions.specs.Basics.{ascii, same_name, all}
 use Rattle.definitions.specs.Expression.{Relation, Expr, and, binary, call, Exprs, nil, cons, count}
 use Rattle.definitions.specs.Encode.{expr_bytes, exprs_bytes}
 use Rattle.definitions.specs.Leaves.{no_comparison, comparison, leaves, relation_named, relation_arity, call_arity, distance_arity, distance_arguments, comparison_arity, leaf_arity, arity}

@@ -1,8 +1,8 @@
 -- What the answers about hexadecimal say.
-use Rattle.std.specs.Prelude.{ℕ, ◌+◌, ◌*◌, ◌/◌, ◌%◌, ◌&&◌, ◌≡◌, List, [], ◌∷◌, length, take, leb, eqb}
+use Rattle.std.specs.Prelude.{ℕ, ◌+◌, ◌*◌, ◌/◌, ◌%◌, ◌&&◌, ◌≡◌, List, [], ◌∷◌, length, take, leb, eqb, if◌then◌else◌}
 use Rattle.std.proofs.Math.Option.{Option, none, some}
 use Rattle.definitions.specs.Limits.{most_digits}
-use Rattle.definitions.specs.Basics.{if◌then◌else◌, Result, ok, refused}
+use Rattle.definitions.specs.Basics.{Result, ok, refused}
 use Rattle.definitions.specs.Program.{digit_value, line_bytes}
 use Rattle.writing.specs.Written.{Wrote}
 use Rattle.hexadecimal.specs.declared.hex.Digits.{Digits}

@@ -1,4 +1,5 @@
 -- Load and merge keep the table's length, so what they fill has room in it.
+use Rattle.std.specs.Prelude.{if◌then◌else◌}
 use Prim.Native.Nat.{ℕ, ◌≤◌}
 use native.Mathlib.Omega.{arith}
 use mathlib.Core.Path.{◌≡◌, refl, ap, ◌∙◌}
@@ -7,7 +8,7 @@ use mathlib.Core.List.{List, ◌++◌}
 use lib.ListN.{length, drop, length-append, length-drop}
 use lib.Dec.{leb}
 use borrow.Author.Tests.{leb-true}
-use Rattle.definitions.specs.Basics.{if◌then◌else◌, Result, ok, refused}
+use Rattle.definitions.specs.Basics.{Result, ok, refused}
 use Rattle.definitions.specs.Expression.{Frame, Plan, empty, held, extracted}
 use Rattle.definitions.specs.Good.{nodes}
 use Rattle.definitions.specs.NodeTable.{NodeRecord, node_table}

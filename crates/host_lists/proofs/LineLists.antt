@@ -1,4 +1,5 @@
 -- Each line of the program agrees with the machine's, so every list of lines does.
+use Rattle.std.specs.Prelude.{if◌then◌else◌}
 use Prim.Native.Nat.{ℕ, ◌<◌}
 use native.Mathlib.Omega.{arith}
 use mathlib.Core.Path.{◌≡◌, refl, sym, ap, ap₂, ◌∙◌, subst}
@@ -8,7 +9,7 @@ use mathlib.Core.Option.{Option, none, some}
 use lib.ListN.{length, take, replicate, length-replicate}
 use lib.Dec.{leb, eqb}
 use Rattle.definitions.specs.Limits.{most_bytes, most_nodes, most_digits}
-use Rattle.definitions.specs.Basics.{if◌then◌else◌, Result, ok, refused, map_result}
+use Rattle.definitions.specs.Basics.{Result, ok, refused, map_result}
 use Rattle.definitions.specs.Expression.{Frame}
 use Rattle.definitions.specs.Encode.{plan_bytes}
 use Rattle.definitions.specs.Plans.{frame_of}

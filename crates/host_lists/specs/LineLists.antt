@@ -1,7 +1,7 @@
 -- The program's lines by the two-bit machine: each line out is that of the machine's answer and plan.
-use Rattle.std.specs.Prelude.{ℕ, ◌≡◌, List, [], ◌∷◌, ◌++◌, length, take, replicate, eqb}
+use Rattle.std.specs.Prelude.{ℕ, ◌≡◌, List, [], ◌∷◌, ◌++◌, length, take, replicate, eqb, if◌then◌else◌}
 use Rattle.definitions.specs.Limits.{most_bytes, most_nodes}
-use Rattle.definitions.specs.Basics.{if◌then◌else◌, Result, ok, refused, map_result}
+use Rattle.definitions.specs.Basics.{Result, ok, refused, map_result}
 use Rattle.definitions.specs.Encode.{plan_bytes}
 use Rattle.definitions.specs.Match.{match_leaf}
 use Rattle.definitions.specs.Machine.{Kind, extract_call, exchange_call}

@@ -1,4 +1,5 @@
 -- The old plan kept in the scratch: its bytes stand there as they stood in the plan buffer.
+use Rattle.std.specs.Prelude.{if◌then◌else◌}
 use Prim.Native.Nat.{ℕ, ◌≤◌}
 use mathlib.Core.Path.{◌≡◌, sym, ap, ◌∙◌}
 use mathlib.Core.Bool.{Bool}
@@ -6,7 +7,7 @@ use mathlib.Core.List.{List, ◌++◌}
 use lib.ListN.{length, take, drop}
 use lib.Seq.{length-take-le, take-append_seam}
 use borrow.Author.Tests.{le-leb}
-use Rattle.definitions.specs.Basics.{if◌then◌else◌, Result, ok, refused}
+use Rattle.definitions.specs.Basics.{Result, ok, refused}
 use Rattle.definitions.specs.Expression.{Plan}
 use Rattle.definitions.specs.Encode.{plan_bytes}
 use Rattle.definitions.specs.Plans.{plan_of}

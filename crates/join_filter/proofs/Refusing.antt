@@ -1,11 +1,12 @@
 -- What extract, exchange and merge have in common: a call that makes its new plan of the held one, and its refusals 10, 11 and 12.
+use Rattle.std.specs.Prelude.{if◌then◌else◌}
 use Prim.Native.Nat.{ℕ, ◌≤◌, ◌<◌}
 use mathlib.Core.Path.{◌≡◌, refl, ap, ◌∙◌}
 use mathlib.Core.Bool.{Bool}
 use mathlib.Core.List.{List}
 use lib.ListN.{length, take}
 use borrow.Author.Tests.{lt-leb}
-use Rattle.definitions.specs.Basics.{if◌then◌else◌, Result, ok, refused, map_result}
+use Rattle.definitions.specs.Basics.{Result, ok, refused, map_result}
 use Rattle.definitions.specs.Expression.{Frame, Extraction, Plan, empty, extracted}
 use Rattle.definitions.specs.Encode.{frame_bytes}
 use Rattle.definitions.specs.Plans.{frame_of, plan_of}

@@ -1,4 +1,5 @@
 -- Laws of literals: what stands in their bytes, and what number or flag they are.
+use Rattle.std.specs.Prelude.{if◌then◌else◌}
 use Prim.Native.Nat.{ℕ, zero, suc, ◌+◌, ◌*◌, ◌-◌, ◌/◌, ◌%◌, ◌≤◌, ◌<◌}
 use native.Mathlib.Omega.{arith}
 use native.Mathlib.Nat.{add-zero}
@@ -14,7 +15,7 @@ use lib.Signed.{lt_z, le_z, non_neg}
 use mir.Syntax.{w8, w32}
 use mir.Val.{Fits}
 use borrow.Author.Tests.{ne_eqb, leb-true, ltb-true}
-use Rattle.definitions.specs.Basics.{if◌then◌else◌, given◌then◌else◌, big_endian}
+use Rattle.definitions.specs.Basics.{given◌then◌else◌, big_endian}
 use Rattle.definitions.specs.Expression.{Expr, column, literal, and, binary, call, other, field}
 use Rattle.definitions.specs.Encode.{expr_bytes}
 use Rattle.definitions.specs.Literals.{signed, literal_in_range, u32, number_u32, only_k, number_bool}

@@ -1,10 +1,11 @@
 -- Laws of sides, of bytes that are sides, and of what has been seen of them.
+use Rattle.std.specs.Prelude.{if◌then◌else◌}
 use mathlib.Core.Path.{◌≡◌, refl, sym, ap, ◌∙◌}
 use mathlib.Core.Bool.{Bool, true, false, ◌&&◌}
 use mathlib.Core.List.{List, [], ◌∷◌, ◌++◌}
 use mathlib.Core.Logic.{◌⊎◌, ⊎_elim}
 use lib.Dec.{eqb}
-use Rattle.definitions.specs.Basics.{if◌then◌else◌, all}
+use Rattle.definitions.specs.Basics.{all}
 use Rattle.definitions.specs.Expression.{Side, left, right, no_side}
 use Rattle.definitions.specs.Encode.{side_number}
 use Rattle.definitions.specs.Match.{same_side, ArgumentSide, all_on, mixed, common_side, is_side, left_right, right_left, no_order, order_of}

@@ -1,6 +1,5 @@
 -- What the answers about sides mean.
-use Rattle.std.specs.Prelude.{ℕ, ◌+◌, ◌≡◌, List, [], ◌∷◌, map, length}
-use Rattle.definitions.specs.Basics.{if◌then◌else◌}
+use Rattle.std.specs.Prelude.{ℕ, ◌+◌, ◌≡◌, List, [], ◌∷◌, map, length, if◌then◌else◌}
 use Rattle.definitions.specs.Expression.{Side, left, right, no_side, Expr, Exprs, Record}
 use Rattle.definitions.specs.Encode.{expr_bytes, exprs_bytes}
 use Rattle.definitions.specs.Match as definition

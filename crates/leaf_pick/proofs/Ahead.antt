@@ -1,4 +1,5 @@
 -- What the loop of the walk keeps: of the expressions that are still ahead of it, what is picked and reached among them.
+use Rattle.std.specs.Prelude.{if◌then◌else◌}
 use Prim.Native.Nat.{ℕ, suc, ◌+◌, ◌≤◌, ◌<◌}
 use native.Mathlib.Omega.{arith}
 use native.Mathlib.Nat.{zero-add, add-zero}
@@ -8,7 +9,6 @@ use mathlib.Core.List.{List, [], ◌∷◌, map, append-nil}
 use mathlib.Core.Logic.{inl, inr}
 use mathlib.Core.Option.{Option, none, some}
 use lib.ListN.{length, get_or}
-use Rattle.definitions.specs.Basics.{if◌then◌else◌}
 use Rattle.definitions.specs.Expression.{Expr, and, Exprs, nil, cons, count, Record, Predicate}
 use Rattle.definitions.specs.Encode.{expr_bytes, exprs_bytes}
 use Rattle.definitions.specs.Leaves.{leaves}

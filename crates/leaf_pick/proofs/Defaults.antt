@@ -1,4 +1,5 @@
 -- Relations and distances do not depend on the default k of a KNN call of two arguments.
+use Rattle.std.specs.Prelude.{if◌then◌else◌}
 use Prim.Native.Nat.{ℕ}
 use native.Mathlib.Omega.{arith}
 use mathlib.Core.Path.{◌≡◌, refl, sym, ap, ◌∙◌, subst}
@@ -6,7 +7,7 @@ use mathlib.Core.Bool.{Bool, true, false, false≢true}
 use mathlib.Core.List.{List}
 use mathlib.Core.Logic.{◌⊎◌, inl, inr}
 use mathlib.Core.Option.{Option, none, some, some-ne-none}
-use Rattle.definitions.specs.Basics.{if◌then◌else◌, given◌then◌else◌, ascii, same_name}
+use Rattle.definitions.specs.Basics.{given◌then◌else◌, ascii, same_name}
 use Rattle.definitions.specs.Expression.{Side, Expr, column, literal, and, binary, call, other, field, Exprs, nil, cons, Record, Predicate, knn}
 use Rattle.definitions.specs.Leaves.{relation_named}
 use Rattle.definitions.specs.Match.{Request, ask_knn, relation_request, dwithin_request, knn_request_by, call_request_by, request_by, Order, left_right, right_left, no_order, order_of, side_of, on_child, match_knn, match_request, match_leaf_by}

@@ -1,11 +1,12 @@
 -- What the calls answer is what their lines give.
+use Rattle.std.specs.Prelude.{if◌then◌else◌}
 use Prim.Native.Nat.{ℕ, zero, suc, ◌+◌, ◌/◌, ◌%◌, ◌≤◌, ◌<◌}
 use native.Mathlib.Omega.{arith}
 use mathlib.Core.Path.{◌≡◌, refl, sym, ap, ◌∙◌}
 use mathlib.Core.Bool.{Bool, true, false}
 use mathlib.Core.List.{List, [], ◌∷◌, ◌++◌, map}
 use lib.ListN.{length, take, drop, replicate, length-append, length-replicate}
-use Rattle.definitions.specs.Basics.{if◌then◌else◌, Result, ok, refused, map_result, any, same_name, big_endian}
+use Rattle.definitions.specs.Basics.{Result, ok, refused, map_result, any, same_name, big_endian}
 use Rattle.definitions.specs.Encode.{side_number}
 use Rattle.definitions.specs.Expression.{Expr, Side, Frame}
 use Rattle.definitions.specs.Leaves.{leaves}

@@ -1,4 +1,5 @@
 -- Collecting: what is known after the first characters of a piece, none of them a line feed.
+use Rattle.std.specs.Prelude.{if◌then◌else◌}
 use Prim.Native.Nat.{ℕ, zero, suc, ◌+◌, ◌≤◌, ◌<◌}
 use native.Mathlib.Omega.{arith}
 use native.Mathlib.Numerals.{add-one}
@@ -10,7 +11,6 @@ use lib.ListN.{length, take, drop, get_or, set, length-append, length-set, drop_
 use lib.Seq.{drop-cons, take-suc, take-suc-set, length-take-le, set_out, sets}
 use lib.Dec.{ltb}
 use borrow.Author.Tests.{ne_eqb, ltb-true, ltb-false}
-use Rattle.definitions.specs.Basics.{if◌then◌else◌}
 use Rattle.lines.specs.Pieces.{first_line, has_feed}
 use Rattle.lines.specs.Collecting.{Begun, Joined, count_after, CollectedIs}
 

@@ -1,4 +1,5 @@
 -- What a line gives, by its first byte and by what was decoded.
+use Rattle.std.specs.Prelude.{if◌then◌else◌}
 use Prim.Native.Nat.{ℕ, zero, suc, ◌≤◌}
 use native.Mathlib.Omega.{arith}
 use mathlib.Core.Path.{◌≡◌, refl, sym, ◌∙◌}
@@ -7,7 +8,7 @@ use mathlib.Core.List.{List, [], ◌∷◌}
 use lib.ListN.{length, take, drop, get_or}
 use lib.Dec.{leb}
 use borrow.Author.Tests.{ne_eqb, leb-true}
-use Rattle.definitions.specs.Basics.{if◌then◌else◌, ok, refused}
+use Rattle.definitions.specs.Basics.{ok, refused}
 use Rattle.definitions.specs.Calls.{written_over}
 use Rattle.definitions.specs.Machine.{extract_call, exchange_call}
 use Rattle.definitions.specs.Program.{Kept, refused_line, load_line, logical_line, call_line, line_of, digit_bytes, or_refused, line_bytes, read_line, line_outcome}

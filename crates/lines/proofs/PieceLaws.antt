@@ -1,4 +1,5 @@
 -- A piece up to its first line feed: how much that is, and what it does to a session.
+use Rattle.std.specs.Prelude.{if◌then◌else◌}
 use Prim.Native.Nat.{ℕ, suc, ◌+◌, ◌≤◌, ◌<◌}
 use native.Mathlib.Omega.{arith}
 use mathlib.Core.Path.{◌≡◌, refl, sym, ap, ◌∙◌}
@@ -7,7 +8,6 @@ use mathlib.Core.List.{List, [], ◌∷◌, ◌++◌, append_assoc, append-nil}
 use lib.ListN.{length, take}
 use lib.Dec.{eqb}
 use borrow.Author.Tests.{eqb-true, eqb-false, ne_eqb}
-use Rattle.definitions.specs.Basics.{if◌then◌else◌}
 use Rattle.lines.specs.Pieces.{Session, Step, end_line, join, character, piece, first_line, has_feed}
 use Rattle.lines.specs.Collecting.{taken_of}
 use Rattle.lines.proofs.CollectLaws.{no-feed}

@@ -1,7 +1,6 @@
 -- What the answers about the line that has begun say.
-use Rattle.std.specs.Prelude.{ℕ, zero, suc, ◌+◌, ◌≤◌, ◌<◌, min, ◌≡◌, List, ◌++◌, length, take}
+use Rattle.std.specs.Prelude.{ℕ, zero, suc, ◌+◌, ◌≤◌, ◌<◌, min, ◌≡◌, List, ◌++◌, length, take, if◌then◌else◌}
 use Rattle.std.proofs.lemmas.List.Edits.{sets}
-use Rattle.definitions.specs.Basics.{if◌then◌else◌}
 use Rattle.lines.specs.Pieces.{first_line, has_feed}
 use Rattle.lines.specs.declared.collecting.Collected.{Collected}
 

@@ -1,8 +1,7 @@
 -- Which session the program's numbers and buffers stand for, and what a step makes of them.
-use Rattle.std.specs.Prelude.{ℕ, ◌<◌, ◌≤◌, ◌≡◌, List, length, take, leb}
+use Rattle.std.specs.Prelude.{ℕ, ◌<◌, ◌≤◌, ◌≡◌, List, length, take, leb, if◌then◌else◌}
 use Rattle.std.proofs.lemmas.List.Edits.{sets}
 use Rattle.writing.specs.Written.{WroteAt}
-use Rattle.definitions.specs.Basics.{if◌then◌else◌}
 use Rattle.lines.specs.Answers.{kept_as}
 use Rattle.lines.specs.Scratch.{line_scratch}
 use Rattle.lines.specs.Pieces.{Session, Step, end_line, piece, first_line, has_feed}

@@ -1,4 +1,5 @@
 -- Masks of names: a bit for each name of the table, lowest first.
+use Rattle.std.specs.Prelude.{if◌then◌else◌}
 use Prim.Native.Nat.{ℕ, suc, ◌+◌, ◌*◌, ◌/◌, ◌%◌, ◌^◌, ◌≤◌, ◌<◌, max}
 use native.Mathlib.Nat.{pow-suc, mod-eq_of_lt}
 use native.Mathlib.Omega.{arith}
@@ -10,7 +11,7 @@ use lib.Dec.{eqb}
 use lib.Bits.{bit_or, or_step}
 use lib.Pow.{pow-lt}
 use borrow.Author.Tests.{eqb-true, eqb-false, eq-eqb, ne_eqb}
-use Rattle.definitions.specs.Basics.{if◌then◌else◌, ascii, same_name, any}
+use Rattle.definitions.specs.Basics.{ascii, same_name, any}
 use Rattle.definitions.specs.Logical.{mask, spatial_names}
 use Rattle.theorems.proofs.Requests.{same-name}
 use Rattle.expression.specs.Names.{position}

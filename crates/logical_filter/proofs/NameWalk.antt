@@ -1,11 +1,12 @@
 -- The names of AND-leaves: what each return of the walk over them answers.
+use Rattle.std.specs.Prelude.{if◌then◌else◌}
 use Prim.Native.Nat.{ℕ, ◌+◌}
 use mathlib.Core.Path.{◌≡◌, refl, sym, ap, ap₂, ◌∙◌}
 use mathlib.Core.Bool.{Bool, false}
 use mathlib.Core.List.{List, [], ◌∷◌, map, map-append}
 use lib.ListN.{length}
 use lib.Bits.{bit_or}
-use Rattle.definitions.specs.Basics.{if◌then◌else◌, ascii, same_name, any}
+use Rattle.definitions.specs.Basics.{ascii, same_name, any}
 use Rattle.definitions.specs.Expression.{Expr, and, binary, nil, cons}
 use Rattle.definitions.specs.Encode.{expr_bytes, exprs_bytes}
 use Rattle.definitions.specs.Leaves.{leaves, no_comparison, comparison}

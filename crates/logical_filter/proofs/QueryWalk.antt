@@ -1,4 +1,5 @@
 -- The first KNN call and the schemas of its first argument: what each return of the walks answers.
+use Rattle.std.specs.Prelude.{if◌then◌else◌}
 use Prim.Native.Nat.{ℕ, ◌+◌, ◌-◌, ◌/◌, ◌%◌, ◌≤◌, ◌<◌}
 use native.Mathlib.Omega.{arith}
 use mathlib.Core.Path.{◌≡◌, refl, sym, ap, ap₂, ◌∙◌}
@@ -7,7 +8,7 @@ use mathlib.Core.List.{List, [], ◌∷◌, ◌++◌, append-nil}
 use mathlib.Core.Option.{Option, none, some}
 use lib.ListN.{length, get_or, length-append}
 use lib.Dec.{eqb}
-use Rattle.definitions.specs.Basics.{if◌then◌else◌, ascii, same_name, all, big_endian}
+use Rattle.definitions.specs.Basics.{ascii, same_name, all, big_endian}
 use Rattle.definitions.specs.Expression.{Side, left, right, no_side, Expr, column, literal, and, binary, call, other, field, Exprs, count}
 use Rattle.definitions.specs.Encode.{expr_bytes, exprs_bytes}
 use Rattle.definitions.specs.Leaves.{leaves}

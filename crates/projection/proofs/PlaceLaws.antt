@@ -1,4 +1,5 @@
 -- Laws of the place of an item: one item more, and what an item found among the first says of the whole list.
+use Rattle.std.specs.Prelude.{if◌then◌else◌}
 use Prim.Native.Nat.{ℕ, suc, ◌+◌, ◌<◌}
 use native.Mathlib.Omega.{arith}
 use native.Mathlib.Numerals.{add-one}
@@ -10,7 +11,6 @@ use lib.ListN.{length, take, drop, get_or, take-append-drop}
 use lib.Seq.{take-suc, length-take-le}
 use lib.Dec.{eqb}
 use borrow.Author.Tests.{eq-eqb, ne_eqb}
-use Rattle.definitions.specs.Basics.{if◌then◌else◌}
 use Rattle.definitions.specs.Project.{place_in}
 
 -- The first of two that there is.

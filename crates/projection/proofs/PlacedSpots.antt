@@ -1,5 +1,6 @@
 -- What the places put into the numbers of an extraction's child indexes say of them: found for both sides, they are the projection's, and
 -- none is lacking exactly if the projection has them all.
+use Rattle.std.specs.Prelude.{if◌then◌else◌}
 use Prim.Native.Nat.{ℕ, zero, suc, ◌+◌, ◌-◌, ◌*◌, ◌%◌, ◌≤◌, ◌<◌}
 use native.Mathlib.Omega.{arith}
 use mathlib.Core.Path.{◌≡◌, refl, sym, ap, ap₂, ◌∙◌, subst}
@@ -9,7 +10,7 @@ use mathlib.Core.Option.{Option, none, some}
 use lib.ListN.{length, take, drop, length-map}
 use lib.Seq.{take_at, length-take-le}
 use lib.Dec.{eqb}
-use Rattle.definitions.specs.Basics.{if◌then◌else◌, all}
+use Rattle.definitions.specs.Basics.{all}
 use Rattle.definitions.specs.Limits.{most_items}
 use Rattle.definitions.specs.Expression.{Side, left, right, no_side}
 use Rattle.definitions.specs.Encode.{side_number}

@@ -1,4 +1,5 @@
 -- What is found of an extraction's child indexes, one side after the other, and what putting them into the plan makes of it.
+use Rattle.std.specs.Prelude.{if◌then◌else◌}
 use Prim.Native.Nat.{ℕ, ◌+◌, ◌/◌, ◌%◌, ◌≤◌, ◌<◌}
 use native.Mathlib.Omega.{arith}
 use native.Mathlib.Numerals.{add-one}
@@ -7,7 +8,7 @@ use mathlib.Core.Bool.{Bool, true, false, ◌&&◌}
 use mathlib.Core.List.{List, [], ◌∷◌, map}
 use lib.ListN.{length, take, get_or, length-append}
 use lib.Seq.{take_at, take-suc}
-use Rattle.definitions.specs.Basics.{if◌then◌else◌, big_endian, all}
+use Rattle.definitions.specs.Basics.{big_endian, all}
 use Rattle.definitions.specs.Expression as tree
 use Rattle.definitions.specs.Expression.{left, right}
 use Rattle.definitions.specs.Encode.{side_number, plan_bytes}

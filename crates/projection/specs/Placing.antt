@@ -1,6 +1,6 @@
 -- Request 7 of document 02: places put into the numbers of child indexes. (Ours.)
-use Rattle.std.specs.Prelude.{ℕ, ◌+◌, ◌-◌, ◌/◌, ◌%◌, ◌≡◌, Bool, true, false, List, ◌++◌, map, take, drop, eqb}
-use Rattle.definitions.specs.Basics.{if◌then◌else◌, all}
+use Rattle.std.specs.Prelude.{ℕ, ◌+◌, ◌-◌, ◌/◌, ◌%◌, ◌≡◌, Bool, true, false, List, ◌++◌, map, take, drop, eqb, if◌then◌else◌}
+use Rattle.definitions.specs.Basics.{all}
 use Rattle.definitions.specs.Project.{place_in, is_place, or_zero}
 
 -- Whether a number's child index goes by the side of a number.

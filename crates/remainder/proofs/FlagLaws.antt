@@ -1,4 +1,5 @@
 -- Flags that were all 0 are those of the columns that were marked.
+use Rattle.std.specs.Prelude.{if◌then◌else◌}
 use Prim.Native.Nat.{ℕ, zero, suc, ◌≤◌, ◌<◌}
 use native.Mathlib.Omega.{arith}
 use mathlib.Core.Path.{◌≡◌, refl, sym, ap, ◌∙◌}
@@ -8,7 +9,7 @@ use lib.ListN.{length, get_or, set, replicate, length-set}
 use lib.Seq.{get_or-set_same, get_or-set_other}
 use lib.Dec.{ltb, eqb}
 use borrow.Author.Tests.{ltb-true, eqb-true, eqb-false, eq-eqb}
-use Rattle.definitions.specs.Basics.{if◌then◌else◌, any}
+use Rattle.definitions.specs.Basics.{any}
 use Rattle.definitions.specs.Expression.{Expr}
 use Rattle.definitions.specs.Match.{columns_of}
 use Rattle.definitions.specs.Extract.{holds}

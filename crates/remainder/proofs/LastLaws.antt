@@ -1,4 +1,5 @@
 -- What `put_rest` left, as nothing or as an expression that stands there.
+use Rattle.std.specs.Prelude.{if◌then◌else◌}
 use Prim.Native.Nat.{ℕ, ◌+◌, ◌-◌, ◌≤◌, ◌<◌}
 use native.Mathlib.Omega.{arith}
 use mathlib.Core.Path.{◌≡◌, refl, sym, ap, ◌∙◌, subst}
@@ -7,7 +8,6 @@ use mathlib.Core.List.{List, [], ◌∷◌, ◌++◌}
 use mathlib.Core.Option.{Option, none, some, map}
 use lib.ListN.{length, take, drop, set, replicate, length-append, length-map, length-replicate}
 use lib.Seq.{drop_at, length-take-le}
-use Rattle.definitions.specs.Basics.{if◌then◌else◌}
 use Rattle.definitions.specs.Expression.{Expr, column, literal, and, binary, call, other, field, Record}
 use Rattle.definitions.specs.Encode.{expr_bytes, frame_bytes, remainder_bytes}
 use Rattle.definitions.specs.Leaves.{leaves}

@@ -1,4 +1,5 @@
 -- Which records stay: two records compared, one among the marked ones, all that stay in order.
+use Rattle.std.specs.Prelude.{if◌then◌else◌}
 use Prim.Native.Nat.{ℕ, ◌+◌, ◌*◌, ◌≤◌, ◌<◌}
 use native.Mathlib.Omega.{arith}
 use native.Mathlib.Numerals.{add-one}
@@ -9,7 +10,7 @@ use lib.ListN.{length, get_or, take, drop, set, length-append, length-set, take-
 use lib.Seq.{take-suc, take_all}
 use lib.Dec.{eqb}
 use borrow.Author.Tests.{eqb-true, eq-eqb, ne_eqb}
-use Rattle.definitions.specs.Basics.{if◌then◌else◌, any, keep}
+use Rattle.definitions.specs.Basics.{any, keep}
 use Rattle.definitions.specs.Expression.{Side, left, right, no_side, Record}
 use Rattle.definitions.specs.Encode.{side_number, record_bytes, records_bytes}
 use Rattle.definitions.specs.Match.{record_at, same_side}

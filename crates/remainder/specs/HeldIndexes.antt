@@ -1,7 +1,6 @@
 -- Request 3: the indexes that what is left holds, as flags.
-use Rattle.std.specs.Prelude.{ℕ, ◌<◌, ◌≡◌, List, length, get_or}
+use Rattle.std.specs.Prelude.{ℕ, ◌<◌, ◌≡◌, List, length, get_or, if◌then◌else◌}
 use Rattle.std.proofs.Math.Option.{some}
-use Rattle.definitions.specs.Basics.{if◌then◌else◌}
 use Rattle.definitions.specs.Expression.{Expr}
 use Rattle.definitions.specs.Decode.{index_below}
 use Rattle.definitions.specs.Extract.{without, holds}

@@ -1,4 +1,5 @@
 -- The side of a comparison that is read, and the arguments of `st_distance`.
+use Rattle.std.specs.Prelude.{if◌then◌else◌}
 use Prim.Native.Nat.{ℕ, suc, ◌+◌, ◌≤◌, ◌<◌}
 use native.Mathlib.Omega.{arith}
 use mathlib.Core.Path.{◌≡◌, refl, sym, ap, ◌∙◌, subst, subst⁻¹}
@@ -8,7 +9,7 @@ use mathlib.Core.Option.{none, some}
 use lib.ListN.{length, get_or}
 use lib.Dec.{eqb}
 use borrow.Author.Tests.{eqb-false, eq-eqb, ne_eqb}
-use Rattle.definitions.specs.Basics.{if◌then◌else◌, ascii, same_name}
+use Rattle.definitions.specs.Basics.{ascii, same_name}
 use Rattle.definitions.specs.Expression.{Expr, nil, cons}
 use Rattle.definitions.specs.Encode.{expr_bytes}
 use Rattle.definitions.specs.Leaves.{compares, no_comparison, comparison, distance_arguments}

@@ -1,4 +1,5 @@
 -- What is asked for, by what was found of a comparison and of a function.
+use Rattle.std.specs.Prelude.{if◌then◌else◌}
 use Prim.Native.Nat.{ℕ, ◌+◌, ◌≤◌, ◌<◌}
 use native.Mathlib.Omega.{arith}
 use mathlib.Core.Path.{◌≡◌, refl, sym, ap, ◌∙◌, subst}
@@ -6,7 +7,7 @@ use mathlib.Core.Bool.{Bool, true, false}
 use mathlib.Core.List.{List}
 use mathlib.Core.Option.{Option, none, some, none-ne-some}
 use lib.ListN.{length}
-use Rattle.definitions.specs.Basics.{if◌then◌else◌, ascii, same_name}
+use Rattle.definitions.specs.Basics.{ascii, same_name}
 use Rattle.definitions.specs.Expression.{Relation, Expr, column, literal, and, binary, call, other, field, Exprs, nil, cons, count}
 use Rattle.definitions.specs.Leaves.{Comparison, no_comparison, comparison, distance_arguments, relation_named}
 use Rattle.definitions.specs.Match.{relation_request, dwithin_request, knn_literals, knn_request, knn_request_by, call_request, call_request_by, distance_request, comparison_request, request, request_by}

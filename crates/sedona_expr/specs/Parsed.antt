@@ -1,7 +1,6 @@
 -- What the answers about distances say of the definitions' requests.
-use Rattle.std.specs.Prelude.{ℕ, ◌≡◌, Bool, true, false, ◌||◌, List, eqb}
+use Rattle.std.specs.Prelude.{ℕ, ◌≡◌, Bool, true, false, ◌||◌, List, eqb, if◌then◌else◌}
 use Rattle.std.proofs.Math.Option.{Option, none, some}
-use Rattle.definitions.specs.Basics.{if◌then◌else◌}
 use Rattle.definitions.specs.Expression.{Expr, Exprs}
 use Rattle.definitions.specs.Leaves as definitions
 use Rattle.definitions.specs.Match.{Request, ask_relation, ask_distance, ask_knn, ask_nothing}

@@ -1,4 +1,5 @@
 -- The 13 relation names, one after the other: the type of a name is that at its position.
+use Rattle.std.specs.Prelude.{if◌then◌else◌}
 use Prim.Native.Nat.{ℕ, suc, ◌+◌, ◌≤◌, ◌<◌}
 use Prim.Native.String.{String}
 use native.Mathlib.Omega.{arith}
@@ -9,7 +10,7 @@ use mathlib.Core.Option.{Option, none, some}
 use lib.ListN.{length, get_or}
 use lib.Dec.{eqb, leb}
 use borrow.Author.Tests.{lt-leb, eqb-true, eqb-false}
-use Rattle.definitions.specs.Basics.{if◌then◌else◌, ascii, same_name, any, all}
+use Rattle.definitions.specs.Basics.{ascii, same_name, any, all}
 use Rattle.definitions.specs.Expression.{Relation, Named, relations}
 use Rattle.definitions.specs.Leaves.{type_named, relation_named}
 use Rattle.theorems.proofs.Taken.{and-both}

@@ -1,6 +1,5 @@
 -- Which predicate of the definitions the code's stands for: its arguments at places of bytes, and what becomes of them.
-use Rattle.std.specs.Prelude.{ℕ, ◌≡◌, Bool, true, false, List, length, eqb}
-use Rattle.definitions.specs.Basics.{if◌then◌else◌}
+use Rattle.std.specs.Prelude.{ℕ, ◌≡◌, Bool, true, false, List, length, eqb, if◌then◌else◌}
 use Rattle.definitions.specs.Limits.{two_bytes}
 use Rattle.definitions.specs.Expression as tree
 use Rattle.definitions.specs.Expression.{Expr, Record, Predicate, relation, distance, knn}

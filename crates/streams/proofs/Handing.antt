@@ -1,4 +1,5 @@
 -- What was handed over makes up the piece that the state stands after, and there is room for what another line gives.
+use Rattle.std.specs.Prelude.{if◌then◌else◌}
 use Prim.Native.Nat.{ℕ, ◌≤◌, ◌<◌, ◌+◌, ◌-◌, min}
 use native.Mathlib.Omega.{arith}
 use mathlib.Core.Path.{◌≡◌, refl}
@@ -10,7 +11,6 @@ use lib.IntN.{ℤ, pos, negsuc, nat_abs}
 use lib.Signed.{lt_z}
 use lib.Dec.{leb}
 use borrow.Author.Tests.{leb-true, ltb-true}
-use Rattle.definitions.specs.Basics.{if◌then◌else◌}
 use Rattle.lines.specs.Pieces.{Session, piece}
 use Rattle.lines.specs.Sessions.{Lent, Stands, Makes, most_filled}
 use Rattle.lines.specs.declared.states.State.{State}

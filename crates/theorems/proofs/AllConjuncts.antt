@@ -1,4 +1,5 @@
 -- All that is claimed of all indexable conjuncts, with any lawful matcher.
+use Rattle.std.specs.Prelude.{if◌then◌else◌}
 use Prim.Native.Nat.{ℕ, zero, suc, ◌+◌, ◌≤◌, ◌<◌}
 use native.Mathlib.Omega.{arith}
 use mathlib.Core.Path.{◌≡◌, refl, sym, ap, ap₂, ◌∙◌, subst}
@@ -10,7 +11,7 @@ use lib.ListN.{length, take, get_or, length-map}
 use lib.Dec.{leb}
 use borrow.Author.Tests.{le-leb, leb-true}
 use Rattle.definitions.specs.Limits.{most_bytes, most_nodes}
-use Rattle.definitions.specs.Basics.{if◌then◌else◌, Result, ok, refused, any, all, keep}
+use Rattle.definitions.specs.Basics.{Result, ok, refused, any, all, keep}
 use Rattle.definitions.specs.Expression.{Expr, column, literal, and, binary, call, other, field, Record, Frame, Extraction, held}
 use Rattle.definitions.specs.Encode.{frame_bytes, remainder_bytes, plan_bytes}
 use Rattle.definitions.specs.Leaves.{leaves}

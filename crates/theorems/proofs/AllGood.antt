@@ -1,4 +1,5 @@
 -- The last remainder is a good frame, and each round's too.
+use Rattle.std.specs.Prelude.{if◌then◌else◌}
 use Prim.Native.Nat.{ℕ, zero, suc, ◌≤◌, ◌<◌}
 use native.Mathlib.Omega.{arith}
 use mathlib.Core.Path.{◌≡◌, refl, sym, ap₂, ◌∙◌}
@@ -6,7 +7,7 @@ use mathlib.Core.Bool.{Bool, true, false, ◌&&◌}
 use mathlib.Core.List.{List, [], ◌∷◌}
 use mathlib.Core.Option.{Option, none, some, map}
 use lib.ListN.{length, get_or, length-append}
-use Rattle.definitions.specs.Basics.{if◌then◌else◌, any}
+use Rattle.definitions.specs.Basics.{any}
 use Rattle.definitions.specs.Expression.{Expr, column, literal, and, binary, call, other, field, Frame, Predicate, Extraction, held, extracted}
 use Rattle.definitions.specs.Encode.{expr_bytes, remainder_bytes, extraction_bytes, plan_bytes}
 use Rattle.definitions.specs.Leaves.{arity}

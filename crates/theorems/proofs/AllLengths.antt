@@ -1,4 +1,5 @@
 -- What the call writes is never longer than the frame.
+use Rattle.std.specs.Prelude.{if◌then◌else◌}
 use Prim.Native.Nat.{ℕ, ◌+◌, ◌≤◌}
 use native.Mathlib.Omega.{arith}
 use mathlib.Core.Path.{◌≡◌, refl, sym, ◌∙◌}
@@ -7,7 +8,7 @@ use mathlib.Core.List.{List, [], ◌∷◌, ◌++◌, map, map-append}
 use mathlib.Core.Option
 use mathlib.Core.Option.{Option, none, some}
 use lib.ListN.{length, length-append, length-map}
-use Rattle.definitions.specs.Basics.{if◌then◌else◌, big_endian, any}
+use Rattle.definitions.specs.Basics.{big_endian, any}
 use Rattle.definitions.specs.Expression.{Expr, column, literal, and, binary, call, other, field, Record, Frame, Predicate}
 use Rattle.definitions.specs.Encode.{expr_bytes, frame_bytes, predicate_fields, remainder_bytes}
 use Rattle.definitions.specs.Leaves.{leaves}

@@ -1,4 +1,5 @@
 -- the matches in the order of the rounds are each leaf's, rise in each part, and stand there once.
+use Rattle.std.specs.Prelude.{if◌then◌else◌}
 use Prim.Native.Nat.{ℕ, zero, suc, ◌+◌, ◌≤◌, ◌<◌}
 use native.Mathlib.Omega.{arith}
 use mathlib.Core.Path.{◌≡◌, refl, sym, ap, ap₂, ◌∙◌}
@@ -8,7 +9,6 @@ use mathlib.Core.Option.{Option, none, some}
 use lib.ListN.{length, get_or}
 use lib.Dec.{eqb}
 use borrow.Author.Tests.{eq-eqb, ne_eqb}
-use Rattle.definitions.specs.Basics.{if◌then◌else◌}
 use Rattle.definitions.specs.Expression.{Predicate}
 use Rattle.definitions.specs.Extract.{Pick, is_knn}
 use Rattle.definitions.specs.Claims.{is_match}

@@ -1,4 +1,5 @@
 -- A call is accepted exactly where the machine's step is, so the machine's bits can be read off the answers.
+use Rattle.std.specs.Prelude.{if◌then◌else◌}
 use Prim.Native.Nat.{ℕ}
 use mathlib.Core.Path.{◌≡◌, refl, sym, ap, ap₂, ◌∙◌}
 use mathlib.Core.Bool.{Bool, true, false, ◌&&◌, ◌||◌, not, and-false}
@@ -6,7 +7,7 @@ use mathlib.Core.List.{List, [], ◌∷◌, ◌++◌, map}
 use mathlib.Core.Option.{Option, none, some}
 use lib.ListN.{length}
 use lib.Dec.{leb}
-use Rattle.definitions.specs.Basics.{if◌then◌else◌, Result}
+use Rattle.definitions.specs.Basics.{Result}
 use Rattle.definitions.specs.Expression.{Frame, Extraction}
 use Rattle.definitions.specs.Extract.{Matcher, extraction_by}
 use Rattle.definitions.specs.Encode.{plan_bytes}

@@ -1,4 +1,5 @@
 -- What changing column indexes keeps.
+use Rattle.std.specs.Prelude.{if◌then◌else◌}
 use Prim.Native.Nat.{ℕ, suc, ◌+◌, max}
 use mathlib.Core.Path.{◌≡◌, refl, sym, ap, ap₂, ◌∙◌}
 use mathlib.Core.Bool.{Bool, true, false, ◌&&◌, ◌||◌}
@@ -7,7 +8,7 @@ use mathlib.Core.Option.{none, some}
 use lib.ListN.{length, length-append}
 use lib.Dec.{leb, ltb, eqb}
 use borrow.Author.Tests.{lt-ltb}
-use Rattle.definitions.specs.Basics.{if◌then◌else◌, big_endian, all, ascii, same_name}
+use Rattle.definitions.specs.Basics.{big_endian, all, ascii, same_name}
 use Rattle.definitions.specs.Expression.{Expr, column, literal, and, binary, call, other, field, Exprs, nil, cons, count}
 use Rattle.definitions.specs.Encode.{expr_bytes, exprs_bytes}
 use Rattle.definitions.specs.Leaves.{leaves, call_arity, leaf_arity, arity, comparison, Comparison, compares, no_comparison, comparison_arity, distance_arguments, distance_arity}

@@ -1,4 +1,5 @@
 -- The pick and the remainder of an exchanged frame are those of the frame, exchanged: so extraction commutes with exchange.
+use Rattle.std.specs.Prelude.{if◌then◌else◌}
 use Prim.Native.Nat.{ℕ, zero, suc}
 use mathlib.Core.Path.{◌≡◌, refl, ap, ap₂, ◌∙◌, fun_ext}
 use mathlib.Core.Bool.{Bool, true, false, ◌||◌}
@@ -6,7 +7,7 @@ use mathlib.Core.List.{List, [], ◌∷◌, map}
 use mathlib.Core.Option
 use mathlib.Core.Option.{Option, none, some}
 use lib.ListN.{length, take}
-use Rattle.definitions.specs.Basics.{if◌then◌else◌, any, keep}
+use Rattle.definitions.specs.Basics.{any, keep}
 use Rattle.definitions.specs.Expression.{Expr, Record, Frame, Predicate, relation, distance, knn}
 use Rattle.definitions.specs.Leaves.{leaves}
 use Rattle.definitions.specs.References.{record_at, map_columns, columns_of}

@@ -1,4 +1,5 @@
 -- The extraction of a good frame is good, and no longer than the frame.
+use Rattle.std.specs.Prelude.{if◌then◌else◌}
 use Prim.Native.Nat.{ℕ, zero, suc, ◌+◌, ◌*◌, ◌≤◌, ◌<◌}
 use native.Mathlib.Nat.{not-suc-le-zero, le_of_suc-le-suc, zero-lt-suc}
 use native.Mathlib.Omega.{arith}
@@ -9,7 +10,7 @@ use mathlib.Core.Option.{Option, none, some, map}
 use lib.ListN.{length, take}
 use lib.Dec.{ltb, eqb}
 use borrow.Author.Tests.{ltb-true, lt-ltb, eq-eqb}
-use Rattle.definitions.specs.Basics.{if◌then◌else◌, any, keep}
+use Rattle.definitions.specs.Basics.{any, keep}
 use Rattle.definitions.specs.Expression.{Side, left, right, no_side, Expr, Record, Frame, Extraction, held, extracted}
 use Rattle.definitions.specs.Encode.{expr_bytes, frame_bytes, remainder_bytes, extraction_bytes, plan_bytes}
 use Rattle.definitions.specs.Leaves.{arity}

@@ -1,4 +1,5 @@
 -- A five-argument `st_knn` that matches has ties 0 or 1, any other has ties absent (2): so its ties tell how many arguments a KNN leaf has.
+use Rattle.std.specs.Prelude.{if◌then◌else◌}
 use Prim.Native.Nat.{ℕ, ◌≤◌}
 use native.Mathlib.Omega.{arith}
 use mathlib.Core.Path.{◌≡◌, refl, sym, ap, subst}
@@ -8,7 +9,7 @@ use mathlib.Core.Option.{Option, none, some}
 use lib.ListN.{length}
 use lib.Dec.{leb, eqb}
 use borrow.Author.Tests.{leb-true, ne_eqb}
-use Rattle.definitions.specs.Basics.{if◌then◌else◌, ascii, same_name}
+use Rattle.definitions.specs.Basics.{ascii, same_name}
 use Rattle.definitions.specs.Expression.{Side, Relation, Expr, column, literal, and, binary, call, other, field, Exprs, nil, cons, Record, knn}
 use Rattle.definitions.specs.Literals.{literal_in_range, number_bool}
 use Rattle.definitions.specs.Leaves.{relation_named}

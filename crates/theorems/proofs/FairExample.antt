@@ -1,4 +1,5 @@
 -- Points on a line are a fair meaning, by computation but for symmetry and for a KNN leaf's k, a literal whose value is its number.
+use Rattle.std.specs.Prelude.{if◌then◌else◌}
 use Prim.Native.Nat.{ℕ, ◌+◌, ◌-◌}
 use native.Mathlib.Omega.{arith}
 use mathlib.Core.Path.{◌≡◌, refl, sym, ap, ◌∙◌, subst}
@@ -8,7 +9,7 @@ use mathlib.Core.Option.{Option, none, some}
 use lib.Dec.{leb, ltb, eqb}
 use lib.IntN.{ℤ, pos}
 use borrow.Author.Tests.{eqb-true, eqb-false, eq-eqb, ne_eqb}
-use Rattle.definitions.specs.Basics.{if◌then◌else◌, given◌then◌else◌, ascii, same_name}
+use Rattle.definitions.specs.Basics.{given◌then◌else◌, ascii, same_name}
 use Rattle.definitions.specs.Expression.{Side, Relation, intersects, contains, within, covers, covered_by, touches, crosses, overlaps, equals, Expr, column, literal, and, binary, call, other, field, Exprs, nil, cons, Record, Predicate, knn, invert}
 use Rattle.definitions.specs.Literals.{signed, u32, number_u32, is_k, only_k}
 use Rattle.definitions.specs.Leaves.{relation_named}

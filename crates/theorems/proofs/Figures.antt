@@ -1,4 +1,5 @@
 -- Digits tell their number, and a decimal number tells where it ends.
+use Rattle.std.specs.Prelude.{if◌then◌else◌}
 use Prim.Native.Nat.{ℕ, zero, suc, ◌+◌, ◌*◌, ◌/◌, ◌%◌, ◌^◌, ◌≤◌, ◌<◌}
 use native.Mathlib.Nat.{pow-succ', one-le-pow, mod-eq_of_lt, mod-lt}
 use native.Mathlib.Omega.{arith}
@@ -9,7 +10,7 @@ use lib.ListN.{length}
 use lib.Dec.{ltb, lit<, lit≤}
 use lib.Arith.{mod-mul}
 use borrow.Author.Tests.{ltb-true, ltb-false, lt-ltb, le-leb}
-use Rattle.definitions.specs.Basics.{if◌then◌else◌, big_endian}
+use Rattle.definitions.specs.Basics.{big_endian}
 use Rattle.definitions.specs.Readers.{read, number}
 use Rattle.definitions.specs.Program.{digit, digits}
 use Rattle.definitions.specs.Printed.{figures, decimal_width, decimal, digits16}

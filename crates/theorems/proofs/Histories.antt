@@ -1,4 +1,5 @@
 -- Every list of load, extract, exchange, merge and project gives the machine's answers and leaves the machine's plan.
+use Rattle.std.specs.Prelude.{if◌then◌else◌}
 use Prim.Native.Nat.{ℕ, ◌≤◌}
 use native.Mathlib.Omega.{arith}
 use mathlib.Core.Path.{◌≡◌, refl, sym, ap, ap₂, ◌∙◌, subst}
@@ -8,7 +9,7 @@ use mathlib.Core.Option.{Option, none, some}
 use lib.ListN.{length, take}
 use lib.Dec.{leb}
 use borrow.Author.Tests.{leb-true, le-leb}
-use Rattle.definitions.specs.Basics.{if◌then◌else◌, Result, ok, refused, map_result}
+use Rattle.definitions.specs.Basics.{Result, ok, refused, map_result}
 use Rattle.definitions.specs.Expression.{Frame, Extraction, Plan, empty, held, extracted}
 use Rattle.definitions.specs.Encode.{plan_bytes, frame_bytes}
 use Rattle.definitions.specs.Plans.{frame_of, plan_of}

@@ -1,4 +1,5 @@
 -- What was read has the bytes that it was read from, and is in range.
+use Rattle.std.specs.Prelude.{if◌then◌else◌}
 use Prim.Native.Nat.{ℕ, zero, suc, ◌+◌, ◌*◌, ◌/◌, ◌%◌, ◌^◌, ◌≤◌, ◌<◌}
 use native.Mathlib.Nat.{pow-succ'}
 use native.Mathlib.Omega.{arith}
@@ -9,7 +10,7 @@ use lib.ListN.{length}
 use lib.Dec.{leb, ltb, eqb, lit<}
 use lib.Arith.{digits_lt, digits_div, digits_mod}
 use borrow.Author.Tests.{leb-true, ltb-true, eqb-true, eqb-false}
-use Rattle.definitions.specs.Basics.{if◌then◌else◌, big_endian}
+use Rattle.definitions.specs.Basics.{big_endian}
 use Rattle.definitions.specs.Expression.{Expr, column, literal, call, other, field, Exprs, nil, cons, count}
 use Rattle.definitions.specs.Literals.{literal_in_range}
 use Rattle.definitions.specs.Encode.{expr_bytes, exprs_bytes}

@@ -1,4 +1,5 @@
 -- A list of bytes that is a good extraction, or a good plan, is the bytes of that extraction or plan.
+use Rattle.std.specs.Prelude.{if◌then◌else◌}
 use Prim.Native.Nat.{ℕ, zero, suc, ◌+◌, ◌^◌, ◌≤◌, ◌<◌}
 use native.Mathlib.Omega.{arith}
 use mathlib.Core.Path.{◌≡◌, refl, sym, ap, ap₂, ◌∙◌, subst}
@@ -7,7 +8,7 @@ use mathlib.Core.List.{List, [], ◌∷◌, ◌++◌, append-nil}
 use mathlib.Core.Option.{Option, none, some}
 use lib.Dec.{eqb, lit≤}
 use borrow.Author.Tests.{eqb-true}
-use Rattle.definitions.specs.Basics.{if◌then◌else◌, big_endian, Result, ok, refused, map_result}
+use Rattle.definitions.specs.Basics.{big_endian, Result, ok, refused, map_result}
 use Rattle.definitions.specs.Expression.{Side, left, right, no_side, relations, Expr, Frame, Predicate, relation, distance, knn, Extraction, Plan, empty, held, extracted}
 use Rattle.definitions.specs.Literals.{is_k}
 use Rattle.definitions.specs.Encode.{expr_bytes, side_number, position_in, relation_number, frame_bytes, predicate_kind, predicate_fields, remainder_bytes, extraction_bytes, plan_bytes}

@@ -1,4 +1,5 @@
 -- A line of the program keeps a good plan in a buffer of 16,384 bytes, and so is never refused with 9 or 10.
+use Rattle.std.specs.Prelude.{if◌then◌else◌}
 use Prim.Native.Nat.{ℕ, ◌-◌, ◌≤◌, ◌<◌}
 use native.Mathlib.Omega.{arith}
 use mathlib.Core.Path.{◌≡◌, refl, sym, ap, ◌∙◌, subst}
@@ -9,7 +10,7 @@ use lib.ListN.{length, take, replicate, length-replicate}
 use lib.Dec.{leb, eqb}
 use borrow.Author.Tests.{leb-true, le-leb}
 use Rattle.definitions.specs.Limits.{most_bytes, most_nodes, most_digits}
-use Rattle.definitions.specs.Basics.{if◌then◌else◌, Result, ok, refused, map_result, any}
+use Rattle.definitions.specs.Basics.{Result, ok, refused, map_result, any}
 use Rattle.definitions.specs.Expression.{Frame, Extraction, Plan, empty, held, extracted}
 use Rattle.definitions.specs.Encode.{plan_bytes}
 use Rattle.definitions.specs.Plans.{physical_frame, logical_frame, frame_of, logical_of, plan_of}

@@ -1,4 +1,5 @@
 -- A held frame is the machine's first plan, so every list of calls from it agrees with the machine; and an accepted load leaves one.
+use Rattle.std.specs.Prelude.{if◌then◌else◌}
 use Prim.Native.Nat.{ℕ, ◌≤◌}
 use native.Mathlib.Omega.{arith}
 use mathlib.Core.Path.{◌≡◌, refl, sym, ap, ap₂, ◌∙◌, subst}
@@ -8,7 +9,7 @@ use lib.ListN.{length, drop, length-append}
 use lib.Seq.{take-append_seam, length-take-le}
 use lib.Dec.{leb}
 use borrow.Author.Tests.{leb-true}
-use Rattle.definitions.specs.Basics.{if◌then◌else◌, Result, ok, refused}
+use Rattle.definitions.specs.Basics.{Result, ok, refused}
 use Rattle.definitions.specs.Expression.{Frame, held}
 use Rattle.definitions.specs.Encode.{plan_bytes, frame_bytes}
 use Rattle.definitions.specs.Plans.{frame_of}

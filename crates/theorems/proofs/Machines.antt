@@ -1,4 +1,5 @@
 -- A plan after an accepted extract is the frame's one extraction, exchanged or not, if it has one: so two machines agree.
+use Rattle.std.specs.Prelude.{if◌then◌else◌}
 use Prim.Native.Nat.{ℕ, ◌≤◌, ◌<◌}
 use native.Mathlib.Omega.{arith}
 use mathlib.Core.Path.{◌≡◌, refl, sym, ap, ◌∙◌, subst}
@@ -10,7 +11,7 @@ use lib.Dec.{leb, lit≤}
 use lib.Seq.{take-take}
 use borrow.Author.Tests.{le-leb}
 use Rattle.definitions.specs.Limits.{two_bytes}
-use Rattle.definitions.specs.Basics.{if◌then◌else◌, Result, ok, refused, big_endian}
+use Rattle.definitions.specs.Basics.{Result, ok, refused, big_endian}
 use Rattle.definitions.specs.Expression.{Frame, Predicate, relation, distance, knn, Extraction}
 use Rattle.definitions.specs.Encode.{predicate_kind, extraction_bytes, plan_bytes}
 use Rattle.definitions.specs.Leaves.{leaves}

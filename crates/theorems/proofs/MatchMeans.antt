@@ -1,4 +1,5 @@
 -- The sides that let a leaf match say which columns its arguments read: so its match has the value of what it asks for.
+use Rattle.std.specs.Prelude.{if◌then◌else◌}
 use Prim.Native.Nat.{ℕ}
 use native.Mathlib.Omega.{arith}
 use mathlib.Core.Path.{◌≡◌, refl, sym, ap, ap₂, ◌∙◌, subst}
@@ -6,7 +7,7 @@ use mathlib.Core.Bool.{Bool, true, false, false≢true}
 use mathlib.Core.List.{List, [], ◌∷◌, map}
 use mathlib.Core.Option.{Option, none, some}
 use lib.ListN.{length}
-use Rattle.definitions.specs.Basics.{if◌then◌else◌, all}
+use Rattle.definitions.specs.Basics.{all}
 use Rattle.definitions.specs.Expression.{Side, left, right, no_side, Relation, Expr, Record, Predicate, knn}
 use Rattle.definitions.specs.Decode.{index_below}
 use Rattle.definitions.specs.References.{columns_of, record_at, same_side}

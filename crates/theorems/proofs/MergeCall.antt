@@ -1,4 +1,5 @@
 -- When merge is accepted, what it writes, and that it leaves a session of the merged frame.
+use Rattle.std.specs.Prelude.{if◌then◌else◌}
 use Prim.Native.Nat.{ℕ, ◌≤◌}
 use native.Mathlib.Omega.{arith}
 use mathlib.Core.Path.{◌≡◌, refl, sym, ap₂, ◌∙◌, subst}
@@ -7,7 +8,7 @@ use mathlib.Core.List.{List}
 use lib.ListN.{length}
 use lib.Dec.{leb}
 use borrow.Author.Tests.{leb-true}
-use Rattle.definitions.specs.Basics.{if◌then◌else◌, Result, ok, refused, map_result}
+use Rattle.definitions.specs.Basics.{Result, ok, refused, map_result}
 use Rattle.definitions.specs.Expression.{Frame, Extraction, Plan, empty, held, extracted}
 use Rattle.definitions.specs.Encode.{frame_bytes}
 use Rattle.definitions.specs.Plans.{frame_of}

@@ -1,4 +1,5 @@
 -- Leaves whose columns are renumbered, over records that are the same there, match as they did.
+use Rattle.std.specs.Prelude.{if◌then◌else◌}
 use Prim.Native.Nat.{ℕ, ◌<◌}
 use mathlib.Core.Path.{◌≡◌, refl, sym, ap, ap₂, ◌∙◌}
 use mathlib.Core.Bool.{Bool, true, false}
@@ -7,7 +8,7 @@ use mathlib.Core.Option
 use mathlib.Core.Option.{Option, none, some}
 use lib.Dec.{ltb}
 use borrow.Author.Tests.{ltb-true}
-use Rattle.definitions.specs.Basics.{if◌then◌else◌, ascii, same_name}
+use Rattle.definitions.specs.Basics.{ascii, same_name}
 use Rattle.definitions.specs.Expression.{Side, left, right, no_side, Relation, Expr, column, literal, and, binary, call, other, field, Exprs, nil, cons, Record}
 use Rattle.definitions.specs.Leaves.{relation_named, Comparison, compares, no_comparison, comparison, distance_arguments}
 use Rattle.definitions.specs.Decode.{index_below}

@@ -1,4 +1,5 @@
 -- What the call print gives, and what its texts are made of.
+use Rattle.std.specs.Prelude.{if◌then◌else◌}
 use Prim.Native.Nat.{ℕ, zero, suc, ◌+◌, ◌/◌, ◌%◌, ◌^◌, ◌≤◌, ◌<◌}
 use native.Mathlib.Nat.{mod-lt}
 use native.Mathlib.Omega.{arith}
@@ -9,7 +10,7 @@ use lib.ListN.{length, get_or, length-append, length-drop}
 use lib.Seq.{take-append_seam, drop-append_seam}
 use lib.Dec.{leb, ltb, lit<}
 use borrow.Author.Tests.{leb-true}
-use Rattle.definitions.specs.Basics.{if◌then◌else◌, Result, ok, refused, ascii, big_endian}
+use Rattle.definitions.specs.Basics.{Result, ok, refused, ascii, big_endian}
 use Rattle.definitions.specs.Expression.{Expr, column, literal, and, binary, call, other, field, Exprs, nil, cons, Frame}
 use Rattle.definitions.specs.Plans.{frame_of}
 use Rattle.definitions.specs.Decode.{index_below}

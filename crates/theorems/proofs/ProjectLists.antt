@@ -1,12 +1,13 @@
 -- A projection leaves an extraction as long as before, so any list after it is the machine's with the odd bit alone; each exchange
 -- exchanges the values of the new columns, and before the projection the plan had the frame's value.
+use Rattle.std.specs.Prelude.{if◌then◌else◌}
 use Prim.Native.Nat.{ℕ}
 use native.Mathlib.Omega.{arith}
 use mathlib.Core.Path.{◌≡◌, refl, sym, ap, ◌∙◌, subst, fun_ext}
 use mathlib.Core.Bool.{Bool, true, false}
 use mathlib.Core.List.{List, map}
 use mathlib.Core.Option.{none, some}
-use Rattle.definitions.specs.Basics.{if◌then◌else◌, Result, ok}
+use Rattle.definitions.specs.Basics.{Result, ok}
 use Rattle.definitions.specs.Expression.{Side, Frame, Extraction, held, extracted}
 use Rattle.definitions.specs.Encode.{plan_bytes}
 use Rattle.definitions.specs.Plans.{plan_of}

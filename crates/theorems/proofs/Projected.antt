@@ -1,4 +1,5 @@
 -- A projected extraction has over the new columns the value that the extraction has over the old, and projection commutes with exchange.
+use Rattle.std.specs.Prelude.{if◌then◌else◌}
 use Prim.Native.Nat.{ℕ, zero, suc}
 use native.Mathlib.Omega.{arith}
 use mathlib.Core.Path.{◌≡◌, refl, sym, ap, ap₂, ◌∙◌, fun_ext}
@@ -7,7 +8,7 @@ use mathlib.Core.List.{List, [], ◌∷◌, map}
 use mathlib.Core.Option
 use mathlib.Core.Option.{Option, none, some}
 use lib.ListN.{get_or, get_or-map}
-use Rattle.definitions.specs.Basics.{if◌then◌else◌, all}
+use Rattle.definitions.specs.Basics.{all}
 use Rattle.definitions.specs.Expression.{Side, left, right, no_side, Expr, Record, Frame, Predicate, relation, distance, knn, Extraction}
 use Rattle.definitions.specs.References.{columns_of, map_columns, record_at}
 use Rattle.definitions.specs.Exchange.{negate, exchange_record, exchange_frame, exchange_predicate, exchange_extraction}

@@ -1,4 +1,5 @@
 -- What one call found, gave and left, on any buffer; a refusal has one of the call's own numbers and gives back what it was given.
+use Rattle.std.specs.Prelude.{if◌then◌else◌}
 use Prim.Native.Nat.{ℕ, zero, suc}
 use native.Mathlib.Omega.{arith}
 use mathlib.Core.Path.{◌≡◌, refl, sym, ap, ◌∙◌, subst}
@@ -9,7 +10,7 @@ use mathlib.Core.Option.{Option, none, some}
 use lib.ListN.{length, drop, get_or}
 use lib.Dec.{leb, ltb, eqb}
 use borrow.Author.Tests.{leb-true}
-use Rattle.definitions.specs.Basics.{if◌then◌else◌, Result, ok, refused, ◌>>=◌, ◌>>◌, require, any}
+use Rattle.definitions.specs.Basics.{Result, ok, refused, ◌>>=◌, ◌>>◌, require, any}
 use Rattle.definitions.specs.Calls.{written_over}
 use Rattle.definitions.specs.Queues.{Queue, chassis, fixed_unit, queue_number, other_queue, State, waiting, with_frames, marked, put_in, Due, first_tried, due}
 use Rattle.definitions.specs.QueueBytes.{part_of, lengths_of, places_of, short, is_length, mark_of, frames_of, queue_of, state_of, state_over, queue_numbered, PutOutcome, put_done, put, Served, frame_from, both_empty, ServeOutcome, serve_due, serve_held, serve}

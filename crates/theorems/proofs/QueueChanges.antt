@@ -1,4 +1,5 @@
 -- What one call, and a list of calls, does to the state that is held.
+use Rattle.std.specs.Prelude.{if◌then◌else◌}
 use Prim.Native.Nat.{ℕ, zero, suc, ◌≤◌, ◌<◌}
 use native.Mathlib.Omega.{arith}
 use mathlib.Core.Path.{◌≡◌, refl, sym, ap, ◌∙◌, subst}
@@ -9,7 +10,7 @@ use mathlib.Core.Option.{Option, none, some}
 use lib.ListN.{length, take, length-append}
 use lib.Dec.{leb, ltb}
 use borrow.Author.Tests.{leb-true, ltb-true}
-use Rattle.definitions.specs.Basics.{if◌then◌else◌, Result, ok, refused}
+use Rattle.definitions.specs.Basics.{Result, ok, refused}
 use Rattle.definitions.specs.Calls.{written_over}
 use Rattle.definitions.specs.Queues.{Queue, chassis, fixed_unit, queue_number, other_queue, Frames, State, waiting, with_frames, marked, put_in, Due, first_tried, oldest, due}
 use Rattle.definitions.specs.QueueBytes.{state_over, queue_numbered, put_done, put, frame_from, both_empty, ServeOutcome, serve_due, serve_held, serve}

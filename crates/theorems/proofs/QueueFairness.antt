@@ -1,4 +1,5 @@
 -- Whatever is called, each queue gives its frames in the order they came, and the queue that was not served last goes first.
+use Rattle.std.specs.Prelude.{if◌then◌else◌}
 use Prim.Native.Nat.{ℕ, suc, ◌+◌, ◌-◌, ◌*◌, ◌≤◌}
 use native.Mathlib.Omega.{arith}
 use mathlib.Core.Path.{◌≡◌, refl, sym, ap, ◌∙◌}
@@ -8,7 +9,6 @@ use mathlib.Core.List.{List, [], ◌∷◌, ◌++◌, append_assoc, append-nil}
 use mathlib.Core.Option.{Option, some}
 use lib.ListN.{length, take}
 use lib.Dec.{eqb}
-use Rattle.definitions.specs.Basics.{if◌then◌else◌}
 use Rattle.definitions.specs.Queues.{Queue, chassis, fixed_unit, queue_number, other_queue, Mark, last, Frames, State, waiting, with_frames, marked, first_tried}
 use Rattle.definitions.specs.QueueLists.{QueueMade, same_queue, added, Given, served, given_of}
 use Rattle.definitions.specs.QueueClaims.{ComesOut}

@@ -1,4 +1,5 @@
 -- Calls go by the state that is held, and by no other byte of the buffer: a list of calls on bytes is the same list on states.
+use Rattle.std.specs.Prelude.{if◌then◌else◌}
 use Prim.Native.Nat.{ℕ, zero, suc}
 use mathlib.Core.Path.{◌≡◌, refl, sym, ap₂, ◌∙◌}
 use mathlib.Core.Bool.{Bool, true, false}
@@ -6,7 +7,7 @@ use mathlib.Core.List.{List, [], ◌∷◌}
 use mathlib.Core.Option.{Option, none, some}
 use lib.ListN.{length}
 use lib.Dec.{leb}
-use Rattle.definitions.specs.Basics.{if◌then◌else◌, Result, ok, refused, map_result, ◌>>=◌}
+use Rattle.definitions.specs.Basics.{Result, ok, refused, map_result, ◌>>=◌}
 use Rattle.definitions.specs.Calls.{written_over}
 use Rattle.definitions.specs.Queues.{Queue, chassis, fixed_unit, State, put_in, Due, due}
 use Rattle.definitions.specs.QueueBytes.{state_over, queue_numbered, put_done, put, Served, frame_from, both_empty, ServeOutcome, serve_due, serve_held, serve}

@@ -1,4 +1,5 @@
 -- Lists of calls from fresh: a state is always held, so order and the bound on waiting hold of the bytes.
+use Rattle.std.specs.Prelude.{if◌then◌else◌}
 use Prim.Native.Nat.{ℕ, ◌+◌, ◌*◌, ◌≤◌}
 use native.Mathlib.Omega.{arith}
 use mathlib.Core.Path.{◌≡◌, refl, sym, ap, ap₂, ◌∙◌, subst}
@@ -8,7 +9,7 @@ use mathlib.Core.List.{List, [], ◌∷◌, ◌++◌}
 use mathlib.Core.Option.{Option, none, some}
 use lib.ListN.{length, length-replicate}
 use lib.Dec.{leb}
-use Rattle.definitions.specs.Basics.{if◌then◌else◌, ok, refused}
+use Rattle.definitions.specs.Basics.{ok, refused}
 use Rattle.definitions.specs.Queues.{Queue, chassis, fixed_unit, queue_number, Frames, State, fresh_state, waiting, with_frames, Due, due}
 use Rattle.definitions.specs.QueueBytes.{mark_of, frames_of, queue_of, PutOutcome, put, frame_from, ServeOutcome, serve_due, serve_held, serve}
 use Rattle.definitions.specs.QueueLists.{QueueCall, put_call, serve_call, made_put, made_serve, QueuesRun, queues_run, fresh_queues, waiting_of, waiting_in, added, Given, served, given_of}

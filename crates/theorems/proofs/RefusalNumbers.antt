@@ -1,4 +1,5 @@
 -- Each reader refuses with its own numbers only, and a sequence with those of its steps; so each call does.
+use Rattle.std.specs.Prelude.{if◌then◌else◌}
 use Prim.Native.Nat.{ℕ, zero, suc, ◌≤◌}
 use mathlib.Core.Path.{◌≡◌, refl}
 use mathlib.Core.Bool.{Bool, true, false, ◌&&◌}
@@ -7,7 +8,7 @@ use mathlib.Core.Option.{Option, none, some}
 use lib.ListN.{length}
 use lib.Dec.{leb, ltb, eqb}
 use borrow.Author.Tests.{le-leb}
-use Rattle.definitions.specs.Basics.{if◌then◌else◌, Result, ok, refused, map_result, any}
+use Rattle.definitions.specs.Basics.{Result, ok, refused, map_result, any}
 use Rattle.definitions.specs.Expression.{Frame, Extraction, Plan, empty, held, extracted}
 use Rattle.definitions.specs.Encode.{frame_bytes}
 use Rattle.definitions.specs.Literals.{literal_in_range}

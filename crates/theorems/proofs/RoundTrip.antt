@@ -1,4 +1,5 @@
 -- Decoding after encoding is the identity, with any bytes after it.
+use Rattle.std.specs.Prelude.{if◌then◌else◌}
 use Prim.Native.Nat.{ℕ, zero, suc, ◌+◌, ◌*◌, ◌/◌, ◌%◌, ◌^◌, ◌≤◌, ◌<◌, max}
 use native.Mathlib.Nat.{pow-succ', one-le-pow, mod-eq_of_lt, not-suc-le-zero, le_of_suc-le-suc}
 use native.Mathlib.Omega.{arith}
@@ -9,7 +10,7 @@ use lib.ListN.{length}
 use lib.Dec.{leb, ltb, lit<, lit≤}
 use lib.Arith.{mod-mul}
 use borrow.Author.Tests.{lt-ltb, le-leb}
-use Rattle.definitions.specs.Basics.{if◌then◌else◌, big_endian}
+use Rattle.definitions.specs.Basics.{big_endian}
 use Rattle.definitions.specs.Expression.{Expr, column, literal, and, binary, call, other, field, Exprs, nil, cons, count}
 use Rattle.definitions.specs.Literals.{literal_in_range}
 use Rattle.definitions.specs.Encode.{expr_bytes, exprs_bytes}

@@ -1,4 +1,5 @@
 -- The bytes of a good plan are read back as that plan.
+use Rattle.std.specs.Prelude.{if◌then◌else◌}
 use Prim.Native.Nat.{ℕ, suc, ◌+◌, ◌≤◌}
 use native.Mathlib.Omega.{arith}
 use mathlib.Core.Path.{◌≡◌, refl, sym, ap, ap₂, ◌∙◌}
@@ -8,7 +9,7 @@ use mathlib.Core.Option.{Option, none, some}
 use lib.ListN.{length}
 use lib.Dec.{eqb, lit≤}
 use borrow.Author.Tests.{le-leb}
-use Rattle.definitions.specs.Basics.{if◌then◌else◌, big_endian, ok, map_result}
+use Rattle.definitions.specs.Basics.{big_endian, ok, map_result}
 use Rattle.definitions.specs.Expression.{Side, left, right, no_side, Relation, intersects, contains, within, covers, covered_by, touches, crosses, overlaps, equals, relations, Expr, Record, Frame, Predicate, relation, distance, knn, Extraction, Plan, empty, held, extracted}
 use Rattle.definitions.specs.Literals.{is_k}
 use Rattle.definitions.specs.Encode.{expr_bytes, side_number, position_in, relation_number, record_bytes, records_bytes, frame_bytes, predicate_kind, predicate_fields, remainder_bytes, extraction_bytes, plan_bytes}

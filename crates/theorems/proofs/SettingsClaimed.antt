@@ -1,4 +1,5 @@
 -- Each claim of session settings, proved.
+use Rattle.std.specs.Prelude.{if◌then◌else◌}
 use Prim.Native.Nat.{ℕ}
 use native.Mathlib.Omega.{arith}
 use mathlib.Core.Path.{◌≡◌, refl, sym, ap, ap₂, ◌∙◌}
@@ -7,7 +8,7 @@ use mathlib.Core.List.{List, [], ◌∷◌}
 use mathlib.Core.Option.{Option, none, some}
 use lib.Dec.{leb}
 use borrow.Author.Tests.{leb-true, le-leb}
-use Rattle.definitions.specs.Basics.{if◌then◌else◌, Result, refused}
+use Rattle.definitions.specs.Basics.{Result, refused}
 use Rattle.definitions.specs.Expression.{Expr, Record, Predicate, relation, distance, knn}
 use Rattle.definitions.specs.Match.{match_leaf_by}
 use Rattle.definitions.specs.Extract.{Matcher}

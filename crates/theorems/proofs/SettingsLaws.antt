@@ -1,4 +1,5 @@
 -- Matching under settings obeys the laws of a matcher, and with the default settings it is 01's.
+use Rattle.std.specs.Prelude.{if◌then◌else◌}
 use Prim.Native.Nat.{ℕ, ◌≤◌, ◌<◌}
 use native.Mathlib.Omega.{arith}
 use mathlib.Core.Path.{◌≡◌, refl, sym, ap, ap₂, ◌∙◌, fun_ext, subst}
@@ -7,7 +8,7 @@ use mathlib.Core.List.{List}
 use mathlib.Core.Option.{Option, none, some}
 use lib.Dec.{leb, ltb, eqb}
 use borrow.Author.Tests.{leb-true, le-leb, ltb-true, lt-ltb}
-use Rattle.definitions.specs.Basics.{if◌then◌else◌, given◌then◌else◌, ascii, same_name}
+use Rattle.definitions.specs.Basics.{given◌then◌else◌, ascii, same_name}
 use Rattle.definitions.specs.Expression.{Side, Relation, Expr, column, literal, and, binary, call, other, field, Exprs, nil, cons, Record, Predicate, relation, distance, knn}
 use Rattle.definitions.specs.Literals.{is_k, only_k}
 use Rattle.definitions.specs.Leaves.{relation_named, Comparison, compares, no_comparison, comparison, distance_arguments}

@@ -1,4 +1,5 @@
 -- The short claims, each from the definitions or from a claim that is proved.
+use Rattle.std.specs.Prelude.{if◌then◌else◌}
 use Prim.Native.Nat.{ℕ, zero, suc}
 use native.Mathlib.Omega.{arith}
 use mathlib.Core.Path.{◌≡◌, refl, sym, ap, ◌∙◌, subst}
@@ -10,7 +11,7 @@ use lib.ListN.{length, take, drop, get_or, length-append}
 use lib.Seq.{take-append_seam}
 use lib.Dec.{leb}
 use borrow.Author.Tests.{le-leb}
-use Rattle.definitions.specs.Basics.{if◌then◌else◌, Result, ok, refused, big_endian, all}
+use Rattle.definitions.specs.Basics.{Result, ok, refused, big_endian, all}
 use Rattle.definitions.specs.Expression.{Side, left, right, no_side, Relation, Expr, Record, Frame, Predicate, relation, distance, knn, Extraction, Plan, held, extracted}
 use Rattle.definitions.specs.Encode.{predicate_kind, extraction_bytes, plan_bytes}
 use Rattle.definitions.specs.References.{columns_of, same_side, record_at}

@@ -1,10 +1,11 @@
 -- A table that fits the held plan changes nothing of extract, and one that fits a plan fits it exchanged.
+use Rattle.std.specs.Prelude.{if◌then◌else◌}
 use mathlib.Core.Path.{◌≡◌, refl, sym, ap, ◌∙◌}
 use mathlib.Core.Bool.{Bool, true, false, false≢true}
 use mathlib.Core.List.{List}
 use mathlib.Core.Option.{Option, none, some}
 use lib.ListN.{length}
-use Rattle.definitions.specs.Basics.{if◌then◌else◌, Result, ok, refused}
+use Rattle.definitions.specs.Basics.{Result, ok, refused}
 use Rattle.definitions.specs.Expression.{Frame, Extraction, Plan, empty, held, extracted}
 use Rattle.definitions.specs.Exchange.{exchange_plan}
 use Rattle.definitions.specs.Calls.{Outcome, table_fits, finish, held_plan, new_after_extract_by, extract_filled_by, extract_by}

@@ -1,4 +1,5 @@
 -- A test by its two outcomes, names that are the same, a list by its elements, bytes: laws that any subject may need.
+use Rattle.std.specs.Prelude.{if◌then◌else◌}
 use Prim.Native.Nat.{ℕ, zero, suc, ◌<◌}
 use native.Mathlib.Nat.{not-suc-le-zero, le_of_suc-le-suc}
 use mathlib.Core.Path.{◌≡◌, refl, ap₂}
@@ -9,11 +10,11 @@ use lib.Dec.{eqb}
 use borrow.Author.Tests.{eqb-true}
 use mir.Syntax.{w8}
 use mir.Val.{Fits}
-use Rattle.definitions.specs.Basics.{if◌then◌else◌, same_name}
+use Rattle.definitions.specs.Basics.{same_name}
 use Rattle.definitions.specs.Good.{AllBytes}
 
 -- By the two outcomes of a test.
-pub by-test {ℓ κ} : {X : Type ℓ} (P : X → Type κ) (b : Bool) (x y : X) → (b ≡ true → P x) → (b ≡ false → P y) → P (if b then x else y)
+pub by-test {κ} : {X : Type 0} (P : X → Type κ) (b : Bool) (x y : X) → (b ≡ true → P x) → (b ≡ false → P y) → P (if b then x else y)
 by-test P true x y f g = f refl
 by-test P false x y f g = g refl
 

@@ -1,4 +1,5 @@
 -- The truth value of an extraction is that of its frame, and exchange reads the values of left and right exchanged.
+use Rattle.std.specs.Prelude.{if◌then◌else◌}
 use Prim.Native.Nat.{ℕ, zero, suc, ◌<◌}
 use native.Mathlib.Nat.{not-suc-le-zero, le_of_suc-le-suc}
 use mathlib.Core.Path.{◌≡◌, refl, sym, ap, ap₂, ◌∙◌, subst, fun_ext}
@@ -9,7 +10,7 @@ use mathlib.Core.Option.{Option, none, some}
 use lib.ListN.{length, take, get_or}
 use lib.Dec.{ltb}
 use borrow.Author.Tests.{ltb-true}
-use Rattle.definitions.specs.Basics.{if◌then◌else◌, keep}
+use Rattle.definitions.specs.Basics.{keep}
 use Rattle.definitions.specs.Expression.{left, right, no_side, Expr, Record, Frame, relation, distance, knn, Extraction, Plan, empty, held, extracted}
 use Rattle.definitions.specs.Decode.{index_below}
 use Rattle.definitions.specs.References.{columns_of, record_at}

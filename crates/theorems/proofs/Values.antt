@@ -1,11 +1,11 @@
 -- And may be regrouped and exchanged, so a leaf may be taken out; and renumbered columns that mean the same have the same value.
+use Rattle.std.specs.Prelude.{if◌then◌else◌}
 use Prim.Native.Nat.{ℕ, zero, suc}
 use mathlib.Core.Path.{◌≡◌, refl, sym, ap, ap₂, ◌∙◌}
 use mathlib.Core.Bool.{Bool, true, false}
 use mathlib.Core.List.{List, ◌∷◌}
 use mathlib.Core.Option.{Option, none, some}
 use lib.Dec.{eqb}
-use Rattle.definitions.specs.Basics.{if◌then◌else◌}
 use Rattle.definitions.specs.Expression.{Expr, column, literal, and, binary, call, other, field, Exprs, nil, cons}
 use Rattle.definitions.specs.References.{columns_of, columns_of_all, map_columns, map_columns_all}
 use Rattle.definitions.specs.Extract.{and_left, and_right, Matcher}

@@ -1,4 +1,5 @@
 -- One walk remembers the first other match and stops at a KNN match, so its pick is the two passes' pick; how long it is, exchanged or not.
+use Rattle.std.specs.Prelude.{if◌then◌else◌}
 use Prim.Native.Nat.{ℕ, suc, ◌+◌, ◌*◌, ◌-◌, ◌≤◌}
 use native.Mathlib.Omega.{arith}
 use mathlib.Core.Path.{◌≡◌, refl, sym, ap, ap₂, ◌∙◌}
@@ -7,7 +8,7 @@ use mathlib.Core.List.{List, [], ◌∷◌, ◌++◌, map, map-append}
 use mathlib.Core.Option.{Option, none, some}
 use lib.ListN.{length, take, get_or, length-append}
 use lib.Dec.{leb, eqb}
-use Rattle.definitions.specs.Basics.{if◌then◌else◌, Result, ok, refused, any}
+use Rattle.definitions.specs.Basics.{Result, ok, refused, any}
 use Rattle.definitions.specs.Expression.{Expr, column, literal, and, binary, call, other, field, Record, Frame, Predicate, Extraction, Plan, empty, held, extracted}
 use Rattle.definitions.specs.Leaves.{leaves}
 use Rattle.definitions.specs.Extract.{Pick, is_knn, is_knn_match, later, first_match, first_of, pick, Matcher, matches_by, extraction_by}

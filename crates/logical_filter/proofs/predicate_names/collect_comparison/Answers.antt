@@ -1,9 +1,10 @@
 -- `collect_comparison`: a comparison counts as `st_dwithin` if the side that is read measures a distance.
+use Rattle.std.specs.Prelude.{if◌then◌else◌}
 use Prim.Native.Nat.{◌+◌}
 use mathlib.Core.Path.{◌≡◌, ◌∙◌}
 use mathlib.Core.List.{[]}
 use lib.ListN.{length}
-use Rattle.definitions.specs.Basics.{if◌then◌else◌, ascii}
+use Rattle.definitions.specs.Basics.{ascii}
 use Rattle.definitions.specs.Expression.{Expr, binary, nil, cons}
 use Rattle.definitions.specs.Encode.{exprs_bytes}
 use Rattle.definitions.specs.Decode.{Columns}

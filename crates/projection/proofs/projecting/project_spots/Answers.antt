@@ -1,7 +1,7 @@
 -- `project_spots`: the left ones are found and then the right ones.
+use Rattle.std.specs.Prelude.{if◌then◌else◌}
 use mathlib.Core.Path.{◌≡◌}
 use mathlib.Core.Bool.{Bool, true, false}
-use Rattle.definitions.specs.Basics.{if◌then◌else◌}
 use Rattle.definitions.specs.Expression as tree
 use Rattle.projection.specs.Extractions.{ExtractionThere}
 use Rattle.projection.specs.Projected.{PlacesAre}
