@@ -1,10 +1,10 @@
 -- A run: what the reads gave makes up the input so far.
-use Prim.Native.Nat.{ℕ, ◌≤◌}
+use Prim.Native.Nat.{ℕ}
 use native.Mathlib.Omega.{arith}
 use mathlib.Core.Path.{◌≡◌, refl}
 use mathlib.Core.List.{List, [], ◌++◌}
 use lib.IntN.{ℤ}
-use lib.ListN.{length, take}
+use lib.ListN.{take}
 use Rattle.lines.specs.Pieces.{piece, fresh_session}
 use Rattle.lines.specs.Sessions.{Lent, Stands}
 use Rattle.lines.specs.declared.states.State.{State}

@@ -1,6 +1,6 @@
 -- What waits was written, where there was no room.
 use Prim.Native.Nat.{◌≤◌, ◌<◌}
-use mathlib.Core.Path.{◌≡◌, refl}
+use mathlib.Core.Path.{refl}
 use borrow.Author.Tests.{le-leb, lt-leb}
 use Rattle.lines.specs.Sessions.{most_filled}
 use Rattle.lines.specs.declared.states.State.{State}

@@ -15,7 +15,7 @@ use Rattle.lines.specs.Pieces.{Session, piece}
 use Rattle.lines.specs.Sessions.{Lent, Stands, Makes, most_filled}
 use Rattle.lines.specs.declared.states.State.{State}
 use Rattle.lines.proofs.Whole.{piece-append}
-use Rattle.streams.specs.Turns.{settled, roomed, Roomy}
+use Rattle.streams.specs.Turns.{settled, roomed}
 use Rattle.streams.specs.declared.output.Turn.{Turn}
 use Rattle.streams.specs.declared.output.Turn.TheVariants.{More, Ended, NotRead, NotWritten}
 use Rattle.streams.specs.Handing.{Handing, none, more, After, Handed, Below, given, TakenIn}

@@ -21,34 +21,30 @@ room : (c : After-feed-fed) → c.feed-fed.result.state.filled ≤ length c.feed
 room c = fed-room c.feed-fed.ensures c.loop-at.invariant.2
 
 pub loop-at-init : goal.loop-at-init
-loop-at-init c =
-    (omega arith, omega arith, omega arith, none)
+loop-at-init c = (omega arith, omega arith, omega arith, none)
 
 pub make_room-requires : goal.make_room-requires
-make_room-requires c =
-    omega (arith, room (goal.at.make_room-requires c).After-feed-fed)
+make_room-requires c = omega (arith, room (goal.at.make_room-requires c).After-feed-fed)
 
 pub returns-in_default : goal.returns-in_default
-returns-in_default c =
-    simp length-take (omega arith)
+returns-in_default c = simp length-take (omega arith)
 
 pub overflow_add-at : goal.overflow_add-at
-overflow_add-at c =
-    omega (arith, within (goal.at.overflow_add-at c).After-feed-fed)
+overflow_add-at c = omega (arith, within (goal.at.overflow_add-at c).After-feed-fed)
 
 pub loop-at-smaller : goal.loop-at-smaller
-loop-at-smaller c =
-    omega (arith, some (goal.at.loop-at-smaller c).After-feed-fed)
+loop-at-smaller c = omega (arith, some (goal.at.loop-at-smaller c).After-feed-fed)
 
 pub loop-at-preserved : goal.loop-at-preserved
 loop-at-preserved c =
+    let f = (goal.at.loop-at-preserved c).After-feed-fed in
     let e = rw c.in-More.is at c.make_room.ensures in
     let a = c.args in
     let on = rw (← e) at (has_room c.feed-fed.result.state) in (
-      omega (arith, within (goal.at.loop-at-preserved c).After-feed-fed),
+      omega (arith, within f),
       on.0,
-      omega (arith, on.1, room (goal.at.loop-at-preserved c).After-feed-fed),
-      taken a.chunk.now c.loop-at.at a.size _ (within (goal.at.loop-at-preserved c).After-feed-fed) c.loop-at.invariant.3 c.feed-fed.ensures.makes e,
+      omega (arith, on.1, room f),
+      taken a.chunk.now c.loop-at.at a.size _ (within f) c.loop-at.invariant.3 c.feed-fed.ensures.makes e,
     )
 
 pub returns : goal.returns

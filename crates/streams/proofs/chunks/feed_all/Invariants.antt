@@ -8,8 +8,8 @@ use Rattle.streams.proofs.chunks.feed_all.Given as goal
 abbrev pub invariant-loop-at : goal.invariant-loop-at
 invariant-loop-at l =
     (l.at ≤ l.size) × (l.current.filled ≤ most_filled) × (l.current.filled ≤ length l.out)
-    × Handing (lent l.initial.out l.initial.plan l.initial.scratch l.initial.line) l.initial.current (take l.at l.chunk) (lent l.out l.plan l.scratch l.line) l.current
+    × Handing (lent l.initial.out l.initial.plan l.initial.scratch l.initial.line) l.initial.current (take l.at l.chunk)
+    (lent l.out l.plan l.scratch l.line) l.current
 
 abbrev pub decreases-loop-at : goal.decreases-loop-at
-decreases-loop-at l =
-    l.size - l.at
+decreases-loop-at l = l.size - l.at
