@@ -1,6 +1,5 @@
 -- What a turn is once what waits was written.
-use Rattle.std.specs.Prelude.{◌<◌, ◌≡◌, leb}
-use Rattle.definitions.specs.Basics.{if◌then◌else◌}
+use Rattle.std.specs.Prelude.{◌<◌, ◌≡◌, leb, if◌then◌else◌}
 use Rattle.lines.specs.Sessions.{most_filled}
 use Rattle.lines.specs.declared.states.State.{State}
 use Rattle.streams.specs.declared.output.Turn.{Turn}
