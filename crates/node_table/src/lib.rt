@@ -56,6 +56,15 @@ pub fn node_at(row: &[u32], i: usize) -> NodeRecord
     numbered_node(row[i])
 }
 
+// The record at a place of a table becomes this one. It is written field by field, so that its byte of no field stays as the host left it.
+fn put_record(place: &mut NodeRecord, node: NodeRecord)
+    ensures { place.new ≡ node }
+{
+    place.kind = node.kind;
+    place.start = node.start;
+    place.end = node.end;
+}
+
 // The one function that fills a lent table: its first records become those of the row's numbers, the others stay.
 pub fn put_nodes(table: &mut [NodeRecord], row: &[u32], count: usize)
     requires { (count ≤ length table.old) × (count ≤ length row.now) }
@@ -64,7 +73,7 @@ pub fn put_nodes(table: &mut [NodeRecord], row: &[u32], count: usize)
 {
     let mut i = 0;
     while i < count {
-        table[i] = node_at(row, i);
+        put_record(&mut table[i], node_at(row, i));
         i += 1;
     }
 }

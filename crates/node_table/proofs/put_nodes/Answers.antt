@@ -11,7 +11,8 @@ pub loop-i-preserved : goal.loop-i-preserved
 loop-i-preserved c =
     let args = c.args in
     let loop = c.loop-i in
-    let put : c.node_at.result ≡ lent (get_or args.row.now loop.i 0) = lent_again c.node_at.result _ c.node_at.ensures in (
+    let put : c.put_record.new.place ≡ lent (get_or args.row.now loop.i 0) =
+    c.put_record.ensures ∙ lent_again c.node_at.result _ c.node_at.ensures in (
       omega arith,
       ap₂ (λ l r. set l loop.i r) loop.invariant.1 put
           ∙ filled_next lent args.row.now args.table.now 0 loop.i (omega arith) (omega arith),
