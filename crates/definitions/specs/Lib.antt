@@ -8,8 +8,9 @@
 --   ℕ, zero, suc n          the numbers from 0 on; 0, and n + 1
 --   [], a ∷ s, s ++ t       the empty list; a, then the list s; s, then t
 --   length, take n, drop n  how many; the first n; all but the first n; `get_or s n d`: the element at n from 0, d past the end
---   none, some a            no value, or a; `Option·map f` changes the value where there is one
+--   none, some a            no value, or a; `Option.map f` (`map f` where no list is meant) changes the value where there is one
 --   leb, ltb, eqb           whether ≤, <, = holds of two numbers, as true or false; &&, || and `not` of such
+--   if b then a else c      a where b is true, else c
 --   do, x ← r               read one thing after another, x being what r read; the first refusal ends it
 --   pub, abbrev, unfoldable how other files may use a definition: no part of what it says
 --   use M.{a, b}            a and b are defined in the file M: here, in the prover's library, or (`Prim`) in the prover

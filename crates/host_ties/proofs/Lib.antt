@@ -1,2 +1,2 @@
--- Each exported call's contract is a host's call.
+-- Each call's contract is a host's call.
 pub mod Ties

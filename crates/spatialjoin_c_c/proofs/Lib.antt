@@ -1,0 +1,2 @@
+-- The exports promise what the library's calls promise.
+pub mod Exported
