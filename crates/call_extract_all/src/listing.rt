@@ -45,7 +45,7 @@ fn list_leaf(
     requires list_fits { ListFits (match_under (settings_of settings)) src.now rec count at position to.now knns.old others.old gone.old }
     requires of_tree { OfTree src.now at (Tabled numbers.now next.now at i) }
     requires of_tree_in { OfTreeIn src.now at (λ c t. NodeIs c src.now at node t) }
-    requires of_tree_2 { OfTree src.now at (λ t. leaves t ≡ t ∷ []) }
+    requires leaf_alone { OfTree src.now at (λ t. leaves t ≡ t ∷ []) }
     ensures { ListPut (match_under (settings_of settings)) src.now rec count at position to.now knns.old knns.new
         others.old others.new gone.old gone.new result }
 {

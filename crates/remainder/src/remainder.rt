@@ -32,7 +32,7 @@ fn replace_join_filter_expr(
     cut: Cut,
 ) -> usize
     requires remainder_fits { RemainderFits src.now rec count at cut out.old }
-    requires fact { at ≡ cut.leaf → ⊥ }
+    requires leaf_elsewhere { at ≡ cut.leaf → ⊥ }
     requires rows_fit { RowsFit count used.old to.old keys.old × Unmarked used.old }
     ensures { RemainderPut src.now rec count at cut out.old out.new result }
 {
@@ -52,7 +52,7 @@ fn replace_over_few(
     cut: Cut,
 ) -> usize
     requires remainder_fits { RemainderFits src.now rec count at cut out.old }
-    requires fact { (at ≡ cut.leaf → ⊥) × (count ≤ 16) }
+    requires leaf_elsewhere { (at ≡ cut.leaf → ⊥) × (count ≤ 16) }
     ensures { RemainderPut src.now rec count at cut out.old out.new result }
 {
     let mut used = [0u8; 16];
@@ -71,7 +71,7 @@ fn replace_over_many(
     cut: Cut,
 ) -> usize
     requires remainder_fits { RemainderFits src.now rec count at cut out.old }
-    requires fact { at ≡ cut.leaf → ⊥ }
+    requires leaf_elsewhere { at ≡ cut.leaf → ⊥ }
     ensures { RemainderPut src.now rec count at cut out.old out.new result }
 {
     let mut used = [0u8; 256];

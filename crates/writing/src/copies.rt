@@ -5,8 +5,8 @@ ghost use Rattle.writing.specs.Writing.{Room, PutsAt, same};
 
 // Copies n bytes to the start of `out`.
 pub fn copy_bytes(out: &mut [u8], src: &[u8], from: usize, n: usize)
-    requires n_in_bounds { from + n ≤ length src.now }
-    requires n_in_bounds_2 { n ≤ length out.old }
+    requires src_has_bytes { from + n ≤ length src.now }
+    requires out_has_room { n ≤ length out.old }
     ensures { out.new ≡ take n (drop from src.now) ++ drop n out.old }
 {
     let mut i = 0;

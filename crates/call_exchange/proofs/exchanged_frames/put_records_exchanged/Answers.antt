@@ -13,7 +13,7 @@ overflow_mul-n c =
 pub copy_bytes-requires : goal.copy_bytes-requires
 copy_bytes-requires c =
     let both = records-fit c.requires in
-    record { n_in_bounds = both.0; n_in_bounds_2 = both.1 }
+    record { src_has_bytes = both.0; out_has_room = both.1 }
 
 pub loop-i-init : goal.loop-i-init
 loop-i-init c =

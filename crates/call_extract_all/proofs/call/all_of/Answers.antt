@@ -32,8 +32,8 @@ pub copy_bytes-requires : goal.copy_bytes-requires
 copy_bytes-requires c =
     let call = c.put_all-taken-2 in
     record {
-      n_in_bounds = own-holds c.requires.good_settings.0 c.args.frame.now c.args.out.now c.requires.good_frame c.requires.good_settings.1 call.new.out call.result call.auto.out (call.ensures c.requires.good_frame.frame c.requires.good_frame.at);
-      n_in_bounds_2 = c.if-out-n.false;
+      src_has_bytes = own-holds c.requires.good_settings.0 c.args.frame.now c.args.out.now c.requires.good_frame c.requires.good_settings.1 call.new.out call.result call.auto.out (call.ensures c.requires.good_frame.frame c.requires.good_frame.at);
+      out_has_room = c.if-out-n.false;
     }
 
 pub returns : goal.returns

@@ -57,8 +57,8 @@ copy_bytes-requires c =
     let is = call.ensures p.frame.records p.frame.expr (listable p.at) in
     let fits = copy-fits p.at (all-taken (goal.at.copy_bytes-requires c).Start) is call.auto.knns call.auto.others call.auto.gone p.room (row-long p.at p.memory) in
     record {
-      n_in_bounds = omega (arith, fits.1);
-      n_in_bounds_2 = fits.2;
+      src_has_bytes = omega (arith, fits.1);
+      out_has_room = fits.2;
     }
 
 pub overflow_add-w : goal.overflow_add-w

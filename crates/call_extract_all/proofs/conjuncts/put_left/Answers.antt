@@ -9,8 +9,8 @@ pub copy_bytes-requires : goal.copy_bytes-requires
 copy_bytes-requires c =
     let p = c.requires.left_fits in
     record {
-      n_in_bounds = omega arith;
-      n_in_bounds_2 = omega (arith, p.room, ap length (whole-left p.at p.told c.if-rounds-eq0.true));
+      src_has_bytes = omega arith;
+      out_has_room = omega (arith, p.room, ap length (whole-left p.at p.told c.if-rounds-eq0.true));
     }
 
 pub returns-then-rounds-eq0 : goal.returns-then-rounds-eq0

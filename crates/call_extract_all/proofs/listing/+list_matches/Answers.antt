@@ -103,7 +103,7 @@ list_leaf-requires t c =
       list_fits = c.requires.list_fits;
       of_tree = c.requires.of_tree;
       of_tree_in = node.ensures;
-      of_tree_2 = λ d u stands. single-leaf node.result node.ensures stands (opened c.in_default.in_default-own.keys2);
+      leaf_alone = λ d u stands. single-leaf node.result node.ensures stands (opened c.in_default.in_default-own.keys2);
     }
 
 pub shape_of-knns-in_default : goal.shape_of-knns-in_default

@@ -17,14 +17,14 @@ pub put_predicate-w-requires : goal.put_predicate-w-requires
 put_predicate-w-requires c =
     let p = c.requires in
     let f = p.list_fits in
-    knn-room f (p.of_tree_2 _ f.tree f.frame.tree) c.in-Matched.predicate
+    knn-room f (p.leaf_alone _ f.tree f.frame.tree) c.in-Matched.predicate
     (rw c.in-Matched.is at
     (c.match_knn.ensures f.records f.tree (over f f.frame)))
 
 pub bounds-gone-position : goal.bounds-gone-position
 bounds-gone-position c =
     let p =
-    c.requires in flag-room p.list_fits (p.of_tree_2 _ p.list_fits.tree p.list_fits.frame.tree)
+    c.requires in flag-room p.list_fits (p.leaf_alone _ p.list_fits.tree p.list_fits.frame.tree)
 
 pub returns-in-Matched : goal.returns-in-Matched
 returns-in-Matched c =
@@ -35,9 +35,9 @@ returns-in-Matched c =
     let m = rw c.in-Matched.is at
     (c.match_knn.ensures records t (over f l)) in
     let stands = by-table f l c.in-Matched.predicate m.q m.stands in
-    leaf-is (match_under (settings_of c.args.settings)) records (p.of_tree_2 _ t l.tree) _ m.is
+    leaf-is (match_under (settings_of c.args.settings)) records (p.leaf_alone _ t l.tree) _ m.is
     (knn-listed ((let p =
-    c.requires in flag-room p.list_fits (p.of_tree_2 _ p.list_fits.tree p.list_fits.frame.tree))) m.q put.result m.passes (put.ensures.size m.q stands)
+    c.requires in flag-room p.list_fits (p.leaf_alone _ p.list_fits.tree p.list_fits.frame.tree))) m.q put.result m.passes (put.ensures.size m.q stands)
     (put.ensures.wrote m.q stands))
 
 pub match_other-requires : goal.match_other-requires
@@ -49,14 +49,14 @@ pub put_predicate-w-requires-in-Matched-match_other : goal.put_predicate-w-requi
 put_predicate-w-requires-in-Matched-match_other c =
     let p = c.requires in
     let f = p.list_fits in
-    other-room f (p.of_tree_2 _ f.tree f.frame.tree) c.in-Matched-match_other.predicate
+    other-room f (p.leaf_alone _ f.tree f.frame.tree) c.in-Matched-match_other.predicate
     (rw c.in-Matched-match_other.is at
     (c.match_other.ensures f.records f.tree (over f f.frame)))
 
 pub bounds-gone-position-in-Matched-match_other : goal.bounds-gone-position-in-Matched-match_other
 bounds-gone-position-in-Matched-match_other c =
     let p =
-    c.requires in flag-room p.list_fits (p.of_tree_2 _ p.list_fits.tree p.list_fits.frame.tree)
+    c.requires in flag-room p.list_fits (p.leaf_alone _ p.list_fits.tree p.list_fits.frame.tree)
 
 pub overflow_add-result-in-Matched-match_other : goal.overflow_add-result-in-Matched-match_other
 overflow_add-result-in-Matched-match_other c =
@@ -64,7 +64,7 @@ overflow_add-result-in-Matched-match_other c =
       arith,
       c.well_formed,
       (let p =
-          c.requires in flag-room p.list_fits (p.of_tree_2 _ p.list_fits.tree p.list_fits.frame.tree)),
+          c.requires in flag-room p.list_fits (p.leaf_alone _ p.list_fits.tree p.list_fits.frame.tree)),
     )
 
 pub returns-in-Matched-match_other : goal.returns-in-Matched-match_other
@@ -76,16 +76,16 @@ returns-in-Matched-match_other c =
     let m = rw c.in-Matched-match_other.is at
     (c.match_other.ensures records t (over f l)) in
     let stands = by-table f l c.in-Matched-match_other.predicate m.q m.stands in
-    leaf-is (match_under (settings_of c.args.settings)) records (p.of_tree_2 _ t l.tree) _ m.is
+    leaf-is (match_under (settings_of c.args.settings)) records (p.leaf_alone _ t l.tree) _ m.is
     (other-listed ((let p =
-    c.requires in flag-room p.list_fits (p.of_tree_2 _ p.list_fits.tree p.list_fits.frame.tree))) m.q put.result m.passes (put.ensures.size m.q stands)
+    c.requires in flag-room p.list_fits (p.leaf_alone _ p.list_fits.tree p.list_fits.frame.tree))) m.q put.result m.passes (put.ensures.size m.q stands)
     (put.ensures.wrote m.q stands))
 
 pub bounds-gone-position-2 : goal.bounds-gone-position-2
 bounds-gone-position-2 c =
     let p =
     c.requires in flag-room p.list_fits
-    (p.of_tree_2 _ p.list_fits.tree p.list_fits.frame.tree)
+    (p.leaf_alone _ p.list_fits.tree p.list_fits.frame.tree)
 
 pub returns : goal.returns
 returns c =
@@ -94,10 +94,10 @@ returns c =
     let f = p.list_fits in
     let one = c.match_knn in
     let two = c.match_other in
-    leaf-is (match_under (settings_of c.args.settings)) records (p.of_tree_2 _ t l.tree) _
+    leaf-is (match_under (settings_of c.args.settings)) records (p.leaf_alone _ t l.tree) _
     (both-lack _
     (miss-lacks is_knn _ _ records _ one.result (opened c.in_default.in_default-own.keys2) (one.ensures records t (over f l)))
     (miss-lacks picks.is_other _ _ records _ two.result (opened c.in_default-match_other.in_default-match_other-own.keys2) (two.ensures records t (over f l))))
     (none-is-listed ((let p =
     c.requires in flag-room p.list_fits
-    (p.of_tree_2 _ p.list_fits.tree p.list_fits.frame.tree))))
+    (p.leaf_alone _ p.list_fits.tree p.list_fits.frame.tree))))

@@ -107,8 +107,8 @@ overflow_sub-root c =
 pub copy_bytes-requires : goal.copy_bytes-requires
 copy_bytes-requires c =
     record {
-      n_in_bounds = omega (arith, c.requires.holds_frame.fits);
-      n_in_bounds_2 = omega (arith, c.requires.holds_frame.fits);
+      src_has_bytes = omega (arith, c.requires.holds_frame.fits);
+      out_has_room = omega (arith, c.requires.holds_frame.fits);
     }
 
 pub slice_bounds-put_merged-end-2 : goal.slice_bounds-put_merged-end-2

@@ -107,12 +107,12 @@ pub reproject_column_references-copy_bytes-requires : goal.reproject_column_refe
 reproject_column_references-copy_bytes-requires t c =
     let call = c.head_at-head in
     record {
-      n_in_bounds = omega (
+      src_has_bytes = omega (
         arith,
         head-room c.requires c.if-src-at-eq0.false
             call.result call.ensures,
       );
-      n_in_bounds_2 = omega (
+      out_has_room = omega (
         arith,
         head-room c.requires c.if-src-at-eq0.false
             call.result call.ensures,

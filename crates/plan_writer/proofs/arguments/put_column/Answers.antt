@@ -7,8 +7,8 @@ use Rattle.plan_writer.proofs.arguments.put_column.Goals as goal
 pub copy_bytes-requires : goal.copy_bytes-requires
 copy_bytes-requires c =
     record {
-      n_in_bounds = column-within c.requires.column_there;
-      n_in_bounds_2 = c.requires.in_bounds;
+      src_has_bytes = column-within c.requires.column_there;
+      out_has_room = c.requires.in_bounds;
     }
 
 pub put_number-requires : goal.put_number-requires

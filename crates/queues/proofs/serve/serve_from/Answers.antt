@@ -36,9 +36,9 @@ pub copy_bytes-requires : goal.copy_bytes-requires
 copy_bytes-requires c =
     let at = c.queue_start-at in
     let n = c.short_at-n in record {
-      n_in_bounds = frame-within c.args.queues.now (queue_is c.args.queue) at.result (at.result + 16417 - at.result) at.ensures
+      src_has_bytes = frame-within c.args.queues.now (queue_is c.args.queue) at.result (at.result + 16417 - at.result) at.ensures
           (omega arith) c.requires n.result n.ensures;
-      n_in_bounds_2 = c.if-out-n.false;
+      out_has_room = c.if-out-n.false;
     }
 
 pub slice_bounds-take_first-end : goal.slice_bounds-take_first-end

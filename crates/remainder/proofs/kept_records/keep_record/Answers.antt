@@ -43,8 +43,8 @@ pub copy_bytes-requires : goal.copy_bytes-requires
 copy_bytes-requires c =
     let args = c.args in
     record {
-      n_in_bounds = within (goal.at.copy_bytes-requires c).Then-is_referenced;
-      n_in_bounds_2 = omega (arith, room (goal.at.copy_bytes-requires c).Then-is_referenced, behind-length (5 * args.kept) args.out.now);
+      src_has_bytes = within (goal.at.copy_bytes-requires c).Then-is_referenced;
+      out_has_room = omega (arith, room (goal.at.copy_bytes-requires c).Then-is_referenced, behind-length (5 * args.kept) args.out.now);
     }
 
 pub overflow_add-result : goal.overflow_add-result

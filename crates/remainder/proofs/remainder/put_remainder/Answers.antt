@@ -17,7 +17,7 @@ pub replace_over_few-requires : goal.replace_over_few-requires
 replace_over_few-requires c =
     record {
       remainder_fits = c.requires;
-      fact = (c.if-at-cut.false, c.if-count-le16.true);
+      leaf_elsewhere = (c.if-at-cut.false, c.if-count-le16.true);
     }
 
 pub returns-then-count-le16 : goal.returns-then-count-le16
@@ -28,7 +28,7 @@ pub replace_over_many-requires : goal.replace_over_many-requires
 replace_over_many-requires c =
     record {
       remainder_fits = c.requires;
-      fact = c.if-at-cut.false;
+      leaf_elsewhere = c.if-at-cut.false;
     }
 
 pub returns : goal.returns

@@ -9,14 +9,14 @@ use Rattle.remainder.proofs.remainder.replace_join_filter_expr.Goals as goal
 pub collect_held-requires : goal.collect_held-requires
 collect_held-requires c =
     let p = c.requires.remainder_fits in
-    let left = (something-left p.cutting c.requires.fact).1 in
+    let left = (something-left p.cutting c.requires.leaf_elsewhere).1 in
     still-unheld p.frame left c.args.used.now p.cutting c.requires.rows_fit.0.flagged c.requires.rows_fit.1
 
 pub put_records-w-requires : goal.put_records-w-requires
 put_records-w-requires c =
     let flags = c.collect_held in
     let p = c.requires.remainder_fits in
-    let left = (something-left p.cutting c.requires.fact).1 in
+    let left = (something-left p.cutting c.requires.leaf_elsewhere).1 in
     let used = c.args.used.now in
     let rows = c.requires.rows_fit.0 in record {
       all_fit = records-fit p.frame left used flags.new.used p.cutting rows.flagged flags.auto.used flags.ensures
@@ -28,7 +28,7 @@ pub slice_bounds-reproject_remainder-count : goal.slice_bounds-reproject_remaind
 slice_bounds-reproject_remainder-count c =
     let flags = c.collect_held in
     let p = c.requires.remainder_fits in
-    let left = (something-left p.cutting c.requires.fact).1 in
+    let left = (something-left p.cutting c.requires.leaf_elsewhere).1 in
     omega (
       arith,
       c.put_records-w.auto.out,
@@ -40,7 +40,7 @@ pub slice_bounds-reproject_remainder-start : goal.slice_bounds-reproject_remaind
 slice_bounds-reproject_remainder-start c =
     let flags = c.collect_held in
     let p = c.requires.remainder_fits in
-    let left = (something-left p.cutting c.requires.fact).1 in
+    let left = (something-left p.cutting c.requires.leaf_elsewhere).1 in
     omega (
       arith,
       c.put_records-w.auto.out,
@@ -52,7 +52,7 @@ pub reproject_remainder-copied-requires : goal.reproject_remainder-copied-requir
 reproject_remainder-copied-requires c =
     let flags = c.collect_held in
     let p = c.requires.remainder_fits in
-    let left = (something-left p.cutting c.requires.fact).1 in
+    let left = (something-left p.cutting c.requires.leaf_elsewhere).1 in
     let put = c.put_records-w in
     let rows = c.requires.rows_fit.0 in
     expr-fits p.frame left c.args.used.now flags.new.used p.cutting rows.flagged flags.auto.used flags.ensures
@@ -66,7 +66,7 @@ overflow_add-result c =
       c.well_formed,
       p.room,
       ((let flags = c.collect_held in
-          let left = (something-left p.cutting c.requires.fact).1 in
+          let left = (something-left p.cutting c.requires.leaf_elsewhere).1 in
           let put = c.put_records-w in
           let expr = c.reproject_remainder-copied in
           let rows = c.requires.rows_fit.0 in
@@ -90,7 +90,7 @@ pub returns : goal.returns
 returns c =
     λ records t up position frame cutting.
     let flags = c.collect_held in
-    let left = (something-left cutting c.requires.fact).1 in
+    let left = (something-left cutting c.requires.leaf_elsewhere).1 in
     let put = c.put_records-w in
     let expr = c.reproject_remainder-copied in
     let rows = c.requires.rows_fit.0 in

@@ -6,8 +6,8 @@ pub replace_join_filter_expr-requires : goal.replace_join_filter_expr-requires
 replace_join_filter_expr-requires c =
     record {
       remainder_fits = c.requires.remainder_fits;
-      fact = c.requires.fact.0;
-      rows_fit = clear-rows 16 c.args.count c.requires.fact.1;
+      leaf_elsewhere = c.requires.leaf_elsewhere.0;
+      rows_fit = clear-rows 16 c.args.count c.requires.leaf_elsewhere.1;
     }
 
 pub shape_of-out : goal.shape_of-out

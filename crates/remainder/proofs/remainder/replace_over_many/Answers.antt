@@ -6,7 +6,7 @@ pub replace_join_filter_expr-requires : goal.replace_join_filter_expr-requires
 replace_join_filter_expr-requires c =
     record {
       remainder_fits = c.requires.remainder_fits;
-      fact = c.requires.fact;
+      leaf_elsewhere = c.requires.leaf_elsewhere;
       rows_fit = clear-rows 256 c.args.count c.requires.remainder_fits.frame.few;
     }
 

@@ -5,7 +5,7 @@ use Rattle.writing.proofs.copies.copy_at.Goals as goal
 pub copy_bytes-requires : goal.copy_bytes-requires
 copy_bytes-requires c =
     let both = span_fits c.requires in
-    record { n_in_bounds = both.0; n_in_bounds_2 = both.1 }
+    record { src_has_bytes = both.0; out_has_room = both.1 }
 
 pub returns : goal.returns
 returns c =
