@@ -53,7 +53,8 @@ module _ (match : Matcher) (n : ℕ) (before scratch : List ℕ) {f : places.Fra
   walk-by-test b t = walk_of-frame match n before scratch F b (held-is n before h.fits h.is) t
 
   pub scratch-short : length scratch < n
-      → ExtractIs (extract_filled_by match n before scratch) (walk_filled_by match n before scratch) n before scratch (unwalked BufferTooShort)
+      → ExtractIs (extract_filled_by match n before scratch) (walk_filled_by match n before scratch) n before scratch
+      (unwalked BufferTooShort)
   unfolding finish
   scratch-short short = record {
     outcome = by-test false (lt-leb n (length scratch) short) (extraction_by match F) refl;

@@ -30,6 +30,7 @@ module _ (S : Settings) (n : ℕ) (before scratch : List ℕ) where
   pub filled-default : S ≡ default_settings → filled_under S n before scratch ≡ extract_filled n before scratch
   filled-default e =
       ap (λ (T : Settings). filled_under T n before scratch) e
-      ∙ ap (λ (b : Bool). if b then extract_filled_by (match_under default_settings) n before scratch else finish n before scratch (refused 24))
+      ∙ ap (λ (b : Bool). if b then extract_filled_by
+      (match_under default_settings) n before scratch else finish n before scratch (refused 24))
       default-settings.0.good
       ∙ ap (λ (m : Matcher). extract_filled_by m n before scratch) default-settings.1

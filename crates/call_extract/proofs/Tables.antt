@@ -83,12 +83,14 @@ With match n plan scratch table after kept r =
     ExtractIs (extract_by match n plan scratch table) (extract_walk_by match n plan scratch table) n after kept r
 
 abbrev pub Without : Matcher → (n : ℕ) (plan scratch after kept : List ℕ) → Extracted → Type 0
-Without match n plan scratch after kept r = ExtractIs (extract_filled_by match n plan scratch) (walk_filled_by match n plan scratch) n after kept r
+Without match n plan scratch after kept r =
+    ExtractIs (extract_filled_by match n plan scratch) (walk_filled_by match n plan scratch) n after kept r
 
 -- By whether the table fits.
 by-fit : (match : Matcher) (n : ℕ) (plan scratch : List ℕ) (table : List NodeRecord) {after kept : List ℕ} {r : Extracted} (b : Bool)
     → table_fits table (held_plan n plan) ≡ b
-    → ExtractIs (if b then extract_filled_by match n plan scratch else finish n plan scratch (refused 10)) (if b then walk_filled_by match n plan scratch else 0)
+    → ExtractIs (if b then extract_filled_by match n plan scratch else finish n plan scratch (refused 10))
+    (if b then walk_filled_by match n plan scratch else 0)
     n after kept r
     → With match n plan scratch table after kept r
 unfolding extract_by extract_walk_by
@@ -148,7 +150,8 @@ module _ (n : ℕ) (plan : List ℕ) {f : Frame} (h : HoldsFrame n plan f) (byte
       (λ e. never (sym ((begins-exactly-by (node_table h.frame) table).0 e) ∙ ap (λ (k : ℕ). take k table) counted))))
       (record { outcome = refl; carried = refl })
 
-  pub short-refused : (match : Matcher) (scratch row : List ℕ) (places : ℕ) (table : List NodeRecord) → places < f.nodes → RowOf n row places table
+  pub short-refused : (match : Matcher) (scratch row : List ℕ) (places : ℕ) (table : List NodeRecord) → places < f.nodes
+      → RowOf n row places table
       → With match n plan scratch table plan scratch (unwalked NoGoodPlan)
   short-refused match scratch row places table less of =
       refuted match scratch table (λ e. omega (arith, ap length e, counted, length-take f.nodes table, of.long))

@@ -186,7 +186,8 @@ module _ {s : List ℕ} {f : Frame} {F : tree.Frame} (g : GoodAt s f F) where
         ++ (picks_bytes (matching is_other (positions_from 0 n) (matched match F)) ++ left_bytes match F)) (sym as-many)
 
     sizes : length (all_bytes match F) ≡ length knns + (length others + length (left_bytes match F))
-    sizes = ap length parts ∙ length-append knns (others ++ left_bytes match F) ∙ ap (λ (n : ℕ). length knns + n) (length-append others (left_bytes match F))
+    sizes = ap length parts ∙ length-append knns (others ++ left_bytes match F)
+        ∙ ap (λ (n : ℕ). length knns + n) (length-append others (left_bytes match F))
 
     -- All conjuncts take no more bytes than the frame.
     pub never-longer : length (all_bytes match F) ≤ length s
@@ -208,7 +209,8 @@ module _ {s : List ℕ} {f : Frame} {F : tree.Frame} (g : GoodAt s f F) where
     }
 
     -- What it wrote, and the others copied behind the KNN matches.
-    module _ {out middle row turned flags flagged : List ℕ} {r : Listed} (is : ListIs 0 (matched match F) out middle row turned flags flagged r)
+    module _ {out middle row turned flags flagged : List ℕ} {r : Listed}
+        (is : ListIs 0 (matched match F) out middle row turned flags flagged r)
         (same : length middle ≡ length out) (alike : length turned ≡ length row) (kept : length flagged ≡ length flags) where
       others-there : Holds turned 0 others
       others-there = wrote-there others row turned (omega arith) alike (from_start others row is.other_wrote r.other is.other)
@@ -244,7 +246,8 @@ module _ {s : List ℕ} {f : Frame} {F : tree.Frame} (g : GoodAt s f F) where
         both-size = omega (arith, is.knn, is.other, length-append knns others)
 
         -- The last remainder behind both.
-        module _ (room : length (all_bytes match F) ≤ length out) (big : length s ≤ length row) (long : length part ≡ length (behind r.knn middle))
+        module _ (room : length (all_bytes match F) ≤ length out) (big : length s ≤ length row)
+            (long : length part ≡ length (behind r.knn middle))
           where
             listing-length : length listing ≡ length out
             listing-length = together-length r.knn middle part (copy-fits room big).0 long ∙ same

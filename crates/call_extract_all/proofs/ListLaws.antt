@@ -16,7 +16,8 @@ use Rattle.leaf_pick.specs.Picks.{matches}
 use Rattle.call_extract_all.specs.Listings.{listed, match_flag, ListIs}
 use Rattle.call_extract_all.specs.declared.listing.Listed.{Listed}
 
-pub and-matches : (match : Matcher) (records : List Record) (l r : Expr) → matches match records (and l r) ≡ matches match records l ++ matches match records r
+pub and-matches : (match : Matcher) (records : List Record) (l r : Expr)
+    → matches match records (and l r) ≡ matches match records l ++ matches match records r
 unfolding leaves
 and-matches match records l r = map-append (match records) (leaves l) (leaves r)
 

@@ -42,7 +42,8 @@ fn list_leaf(
     to: &[u16],
     settings: Settings,
 ) -> Listed
-    requires list_fits { ListFits (match_under (settings_of settings)) src.now rec count at position to.now knns.old others.old gone.old }
+    requires list_fits { ListFits (match_under (settings_of settings)) src.now rec count at position to.now knns.old
+        others.old gone.old }
     requires of_tree { OfTree src.now at (Tabled numbers.now next.now at i) }
     requires of_tree_in { OfTreeIn src.now at (λ c t. NodeIs c src.now at node t) }
     requires leaf_alone { OfTree src.now at (λ t. leaves t ≡ t ∷ []) }
@@ -107,7 +108,8 @@ pub fn list_matches(
     to: &[u16],
     settings: Settings,
 ) -> Listed
-    requires list_fits { ListFits (match_under (settings_of settings)) src.now rec count at position to.now knns.old others.old gone.old }
+    requires list_fits { ListFits (match_under (settings_of settings)) src.now rec count at position to.now knns.old
+        others.old gone.old }
     requires of_tree { OfTree src.now at (Tabled numbers.now next.now at i) }
     ensures { ListPut (match_under (settings_of settings)) src.now rec count at position to.now knns.old knns.new
         others.old others.new gone.old gone.new result }
@@ -118,25 +120,14 @@ pub fn list_matches(
             knns, others, gone, src, rec, count, at, numbers, next, i, node, position, to, settings,
         );
     };
+    let below = i + 1;
     let one = list_matches(
-        knns,
-        others,
-        gone,
-        src,
-        rec,
-        count,
-        left,
-        numbers,
-        next,
-        i + 1,
-        position,
-        to,
-        settings,
+        knns, others, gone, src, rec, count, left, numbers, next, below, position, to, settings,
     );
     let k = one.knn;
     let o = one.other;
-    let place = end_of(numbers, i + 1);
-    let index = next[i + 1] as usize;
+    let place = end_of(numbers, below);
+    let index = next[below] as usize;
     let two = list_matches(
         &mut knns[k..],
         &mut others[o..],

@@ -16,7 +16,8 @@ use Rattle.expression.proofs.OfKind.{a-column, a-literal, a-binary, a_call, an-o
 use Rattle.expression.proofs.Standing.{head-stands, head-fits, kind-is}
 
 -- A call's name has as many bytes as the second byte says, and its arguments are counted after it.
-call-name : {s : List ℕ} {at : ℕ} (name : List ℕ) (args : Exprs) → Holds s at (head_bytes (call name args)) → get_or s (at + 1) 0 ≡ length name
+call-name : {s : List ℕ} {at : ℕ} (name : List ℕ) (args : Exprs) → Holds s at (head_bytes (call name args))
+    → get_or s (at + 1) 0 ≡ length name
 unfolding head_bytes
 call-name name args k = byte_at k 1 (omega arith)
 

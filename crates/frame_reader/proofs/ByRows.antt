@@ -86,7 +86,8 @@ module _ {c : Columns} {s numbers indexes : List ℕ} {place i : ℕ} where
       let numbered : map number (row_from place (cons (and l r) ts))
       ≡ number (record_of place (and l r)) ∷ map number (row_from p (cons l (cons r ts))) =
       ap (λ (k : ℕ). map number (nodes_from place (and l r) ++ row_from k ts)) end
-      ∙ ap (λ (x : _). number (record_of place (and l r)) ∷ map number x) (append_assoc (nodes_from p l) (nodes_from q r) (row_from e ts)) in
+      ∙ ap (λ (x : _). number (record_of place (and l r)) ∷ map number x)
+      (append_assoc (nodes_from p l) (nodes_from q r) (row_from e ts)) in
       let last : i + nodes (and l r) ≡ i + 1 + nodes l + nodes r = omega arith in
       let followed : row_nexts i (cons (and l r) ts) ≡ (i + nodes (and l r)) ∷ row_nexts (i + 1) (cons l (cons r ts)) =
       ap (λ (k : ℕ). nexts_from i (and l r) ++ row_nexts k ts) last

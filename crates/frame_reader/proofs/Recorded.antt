@@ -38,6 +38,7 @@ recorded (suc k) n m s t rs h e =
     step (one_record n s) _ e (λ r n₁ s₁ e₁ f₁.
     let first : s ≡ record_bytes r ++ s₁ = one-recorded n n₁ s s₁ r h e₁ in
     step (repeat k one_record n₁ s₁) _ f₁ (λ xs n₂ s₂ e₂ f₂.
-    let others : (s₁ ≡ records_bytes xs ++ s₂) × (length xs ≡ k) = recorded k n₁ n₂ s₁ s₂ xs (after-bytes (record_bytes r) s₁ s first h) e₂ in
+    let others : (s₁ ≡ records_bytes xs ++ s₂) × (length xs ≡ k) =
+    recorded k n₁ n₂ s₁ s₂ xs (after-bytes (record_bytes r) s₁ s first h) e₂ in
     given (λ x m t. (s ≡ records_bytes x ++ t) × (length x ≡ suc k)) (r ∷ xs) rs n₂ m s₂ t f₂
     (join (record_bytes r) (records_bytes xs) s s₁ s₂ first others.0, ap suc others.1)))

@@ -11,7 +11,8 @@ use Rattle.join_filter.specs.declared.answers.Answer.{Answer}
 use Rattle.join_filter.specs.declared.answers.Extracted.{Extracted}
 use Rattle.host_calls.specs.Hosted.{CallHosted, ExtractHosted}
 
-pub call-hosted : (before : List ℕ) → AllBytes before → (o : Outcome) (n : ℕ) (after kept : List ℕ) (r : Answer) → OutcomeIs o n after kept r
+pub call-hosted : (before : List ℕ) → AllBytes before → (o : Outcome) (n : ℕ) (after kept : List ℕ) (r : Answer)
+    → OutcomeIs o n after kept r
     → (z : ℤ) → z ≡ hosted (answer_of r) → CallHosted before o after kept z
 call-hosted before bytes o n after kept r is z e = rw (e, is) (bytes, refl, refl, refl)
 

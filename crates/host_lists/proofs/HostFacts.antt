@@ -35,7 +35,8 @@ use Rattle.host_lists.proofs.Ran.{load_same, MadeIs, made-is, project-is, merge-
 -- ---- the number
 
 -- The number by what is read off it, with its bounds.
-told : (S : Settings) → Fits S → (b : Host) (c : Call) (a : Host) (z : ℤ) → HostCall S b c a z → (x : Result ℕ) → IsAnswer x → answered_by c z ≡ x
+told : (S : Settings) → Fits S → (b : Host) (c : Call) (a : Host) (z : ℤ) → HostCall S b c a z → (x : Result ℕ)
+    → IsAnswer x → answered_by c z ≡ x
     → carried_by c z ≤ 2 * most_nodes - 1
     → (z ≡ number_by c (carried_by c z) (answered_by c z)) × IsAnswer (answered_by c z) × (carried_by c z ≤ 2 * most_nodes - 1)
 told S fits b c a z is x h same few =

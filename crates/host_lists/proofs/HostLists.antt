@@ -98,9 +98,11 @@ module _ (S : Settings) (g : GoodSettings S) where
     code = demand-three S g F
 
     numbers-are : (calls : List Made) (r : HostRun S F calls)
-        → r.numbers ≡ numbers_by (map making calls) (machine_after_by (match_under S) F calls).walks (machine_after_by (match_under S) F calls).answers
+        → r.numbers ≡ numbers_by (map making calls) (machine_after_by (match_under S) F calls).walks
+        (machine_after_by (match_under S) F calls).answers
     numbers-are calls r =
-        let agrees : AgreeBy (match_under S) F (code-outcome (code-run r)) (machine_after_by (match_under S) F calls) = code.machine calls (code-run r) in
+        let agrees : AgreeBy (match_under S) F (code-outcome (code-run r)) (machine_after_by (match_under S) F calls) =
+        code.machine calls (code-run r) in
         (host-ran g.width r.ran).numbered ∙ ap₂ (numbers_by (map making calls)) agrees.walks agrees.answers
 
     plans-alike : (calls calls' : List Made) (r : HostRun S F calls) (r' : HostRun S F calls')
@@ -125,7 +127,8 @@ module _ (S : Settings) (g : GoodSettings S) where
     extract-accepted calls r scratch after kept z h =
         let m : MadeIs S extract_call r.last scratch after kept z = made-is S g.width extract_call r.last scratch after kept z h in
         ap accepted m.read ∙ code.extract_accepted calls (code-run r) scratch after kept m.answer m.is
-        ∙ ap (λ (x : ListOutcome). leb r.last.n (length scratch) && (not (extract_accepted calls x.answers) && some_leaf_matches_by (match_under S) F))
+        ∙ ap (λ (x : ListOutcome). leb r.last.n (length scratch)
+        && (not (extract_accepted calls x.answers) && some_leaf_matches_by (match_under S) F))
         (same_outcome r)
 
     value-projected : (M : Meaning) → FairUnder S M → (v w : Valuation) (calls : List Made) (r : HostRun S F calls)
@@ -148,7 +151,8 @@ module _ (S : Settings) (g : GoodSettings S) where
     host-demand-three = record {
       size = λ calls r. code.size calls (code-run r);
       numbers = numbers-are;
-      machine = λ calls. told (λ (x : ListOutcome). AgreeBy (match_under S) F x (machine_after_by (match_under S) F calls)) (code.machine calls);
+      machine = λ calls. told (λ (x : ListOutcome). AgreeBy (match_under S) F x
+          (machine_after_by (match_under S) F calls)) (code.machine calls);
       same_plan = plans-alike;
       truth = λ M fair v calls.
           told (λ (x : ListOutcome). HasValue M v (plan_left x) (frame_value M (values_when (exchanges_odd calls x.answers) v) F))
@@ -157,10 +161,12 @@ module _ (S : Settings) (g : GoodSettings S) where
       extract_accepted = extract-accepted;
       pick = λ calls. told
           (λ (x : ListOutcome). extract_accepted calls x.answers ≡ true
-          → (X : Extraction) × TookAmong (matches_by (match_under S) F) F X × (plan_left x ≡ plan_bytes (extracted_plan X (exchanges_odd calls x.answers))))
+          → (X : Extraction) × TookAmong (matches_by (match_under S) F) F X
+          × (plan_left x ≡ plan_bytes (extracted_plan X (exchanges_odd calls x.answers))))
           (code.pick calls);
       position = λ calls. told
-          (λ (x : ListOutcome). extract_accepted calls x.answers ≡ true → NamesLeaf (matches_by (match_under S) F) F (plan_left x)) (code.position calls);
+          (λ (x : ListOutcome). extract_accepted calls x.answers ≡ true
+          → NamesLeaf (matches_by (match_under S) F) F (plan_left x)) (code.position calls);
       line = λ calls. told
           (λ (x : ListOutcome). extract_accepted calls x.answers ≡ true
           → (line : ℕ) × (price_line_by (match_under S) F ≡ some line) × (take 1 (plan_left x) ≡ line ∷ []))

@@ -89,7 +89,8 @@ module _ (S : Settings) (g : GoodSettings S) where
 
   same-leaf : (F : Frame) (calls calls' : List Made) (r : HostRun S F calls) (r' : HostRun S F calls')
       → extracted r ≡ true → extracted r' ≡ true
-      → (X : Extraction) × TookAmong (matches_by (match_under S) F) F X × (plan r ≡ plan_bytes (extracted_plan X (odd r))) × (plan r' ≡ plan_bytes (extracted_plan X (odd r')))
+      → (X : Extraction) × TookAmong (matches_by (match_under S) F) F X
+      × (plan r ≡ plan_bytes (extracted_plan X (odd r))) × (plan r' ≡ plan_bytes (extracted_plan X (odd r')))
       × (take 3 (plan r) ≡ take 3 (plan r'))
   same-leaf F calls calls' r r' e e' =
       let (X, took, one, two, three) =

@@ -185,7 +185,8 @@ either : (b : Bool) (m m' : MachineLine) (o o' : LineOutcome) → LineAgrees m o
 either true m m' o o' h h' = h
 either false m m' o o' h h' = h'
 
-line-of-agrees : (bytes : List ℕ) (s : State) (k : Kept) → AllBytes bytes → Stands s k → LineAgrees (machine_line_of bytes s) (line_of bytes k)
+line-of-agrees : (bytes : List ℕ) (s : State) (k : Kept) → AllBytes bytes → Stands s k
+    → LineAgrees (machine_line_of bytes s) (line_of bytes k)
 unfolding machine_line_of line_of
 line-of-agrees [] s k b h = refusal-agrees 1 s k h
 line-of-agrees (first ∷ more) s k b h =

@@ -75,7 +75,8 @@ list-runs b (serve_call out ∷ calls) =
     let (made, left, ran) = list-runs (serve b out).queues calls in
     (_, left, hosted_one (serve_hosted (hosted_serve (serve b out).answer) (refl, refl, refl)) ran)
 
-left_is : {calls : List QueueCall} {made : List QueueMade} {left : List ℕ} → QueuesHosted fresh_queues calls made left → left_by calls ≡ left
+left_is : {calls : List QueueCall} {made : List QueueMade} {left : List ℕ} → QueuesHosted fresh_queues calls made left
+    → left_by calls ≡ left
 left_is ran = ap (λ (r : QueuesRun). r.queues) (same-run ran)
 
 -- ---- fairness
@@ -102,7 +103,8 @@ host-fair earlier later made since before after left q f n ran is more enough =
     put_last earlier q f ∙ ap (λ (b : List ℕ). (put b (queue_number q) f).queues) here ∙ sym is.1 in
     let serves : served_after (earlier ++ (put_call (queue_number q) f ∷ [])) later ≡ served since =
     ap (λ (b : List ℕ). served (queues_run b later).made) put-here ∙ ap (λ (r : QueuesRun). served r.made) (same-run more) in
-    let behind : length (waiting_in q (left_by earlier)) ≡ length (waiting_in q before) = ap (λ (b : List ℕ). length (waiting_in q b)) here in
+    let behind : length (waiting_in q (left_by earlier)) ≡ length (waiting_in q before) =
+    ap (λ (b : List ℕ). length (waiting_in q b)) here in
     let answer : (put (left_by earlier) (queue_number q) f).answer ≡ ok (length f) =
     ap (λ (b : List ℕ). (put b (queue_number q) f).answer) here ∙ put-length before q f after n is in
     let out = fair earlier later q f answer (omega (arith, enough, behind, ap length serves)) in

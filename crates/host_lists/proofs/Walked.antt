@@ -132,7 +132,8 @@ module _ (S : Settings) (g : GoodSettings S) where
 
     -- Numbers and walks of a list.
     pub record Told (s : State) (calls : List Call) (numbers : List ℤ) : Type 0 where
-      pub numbered : numbers ≡ numbers_by calls (machine_walks S room places s calls) (machine_history (match_under S) room places s calls).answers
+      pub numbered : numbers ≡ numbers_by calls (machine_walks S room places s calls)
+          (machine_history (match_under S) room places s calls).answers
       pub carries : walks_by calls numbers ≡ machine_walks S room places s calls
 
     pub history-told : {b last : Host} {calls : List Call} {numbers : List ℤ} → HostRan S b calls numbers last → FramesAreBytes calls

@@ -125,7 +125,8 @@ module _ (S : Settings) (plan after : List ℕ) (n : ℕ) (table filled : List T
   load-calls frame is = (is, refl)
 
   pub extract-calls : (scratch kept : List ℕ)
-      → ExtractHosted plan (extract_under S n plan scratch (nodes_of table)) (extract_walk_under S n plan scratch (nodes_of table)) after kept z
+      → ExtractHosted plan (extract_under S n plan scratch (nodes_of table))
+      (extract_walk_under S n plan scratch (nodes_of table)) after kept z
       → HostCall S (owns plan n table) (making (record { kind = extract_call; scratch = scratch }))
       (owns after (next_n n (walk_answered z)) table) z
   extract-calls scratch kept is = (kept, is, refl, refl)

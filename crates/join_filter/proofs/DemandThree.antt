@@ -140,21 +140,25 @@ module _ (S : Settings) (g : GoodSettings S) where
         sym n ∙ sym (length-take-le s.n s.buffer s.fits) ∙ ap length s.holds
 
     -- So what a run answers and leaves is what a session's list does, with the session's table.
-    session-of : {calls : List Made} (r : CodeRun S F calls) → (s : SessionBy (match_under S) F) × (after s calls ≡ outcome r) × (s.table ≡ r.last.table)
+    session-of : {calls : List Made} (r : CodeRun S F calls)
+        → (s : SessionBy (match_under S) F) × (after s calls ≡ outcome r) × (s.table ≡ r.last.table)
     session-of {calls} r =
         let (s, n, buffer, table) = started r.start r.starts in
-        let same : after s calls ≡ calls_run_by (match_under S) r.start.n r.start.buffer r.start.table calls = rw (n, buffer, table) refl in (
+        let same : after s calls ≡ calls_run_by (match_under S) r.start.n r.start.buffer r.start.table calls =
+        rw (n, buffer, table) refl in (
           s,
           same ∙ made-ran calls r.ran,
           table ∙ sym (made_table calls r.ran),
         )
 
     -- What is told of a session's list by its outcome is told of the run.
-    told : {calls : List Made} (P : ListOutcome → Type 0) → ((s : SessionBy (match_under S) F) → P (after s calls)) → (r : CodeRun S F calls) → P (outcome r)
+    told : {calls : List Made} (P : ListOutcome → Type 0) → ((s : SessionBy (match_under S) F) → P (after s calls))
+        → (r : CodeRun S F calls) → P (outcome r)
     told P h r = let (s, is, table) = session-of r in subst P is (h s)
 
     -- And with its table.
-    told_with : {calls : List Made} (P : ListOutcome → List NodeRecord → Type 0) → ((s : SessionBy (match_under S) F) → P (after s calls) s.table)
+    told_with : {calls : List Made} (P : ListOutcome → List NodeRecord → Type 0)
+        → ((s : SessionBy (match_under S) F) → P (after s calls) s.table)
         → (r : CodeRun S F calls) → P (outcome r) r.last.table
     told_with P h r = let (s, is, table) = session-of r in subst (P (outcome r)) table (subst (λ (x : ListOutcome). P x s.table) is (h s))
 
@@ -196,7 +200,8 @@ module _ (S : Settings) (g : GoodSettings S) where
     pub demand-three : DemandThree S F
     demand-three = record {
       size = λ calls r. size_is r.start r.starts;
-      machine = λ calls. told (λ (x : ListOutcome). AgreeBy (match_under S) F x (machine_after_by (match_under S) F calls)) (λ s. under.lists.machine F s calls);
+      machine = λ calls. told (λ (x : ListOutcome). AgreeBy (match_under S) F x
+          (machine_after_by (match_under S) F calls)) (λ s. under.lists.machine F s calls);
       same_plan = plans-alike;
       truth = λ M fair v calls.
           told (λ (x : ListOutcome). HasValue M v (plan_left x) (frame_value M (values_when (exchanges_odd calls x.answers) v) F))
@@ -215,7 +220,8 @@ module _ (S : Settings) (g : GoodSettings S) where
           (λ s. under.lists.extract_accepted F s calls scratch) r;
       pick = λ calls. told
           (λ (x : ListOutcome). extract_accepted calls x.answers ≡ true
-          → (X : Extraction) × TookAmong (matches_by (match_under S) F) F X × (plan_left x ≡ plan_bytes (extracted_plan X (exchanges_odd calls x.answers))))
+          → (X : Extraction) × TookAmong (matches_by (match_under S) F) F X
+          × (plan_left x ≡ plan_bytes (extracted_plan X (exchanges_odd calls x.answers))))
           (λ s. under.lists.takes F s calls);
       position = λ calls. told
           (λ (x : ListOutcome). extract_accepted calls x.answers ≡ true → NamesLeaf (matches_by (match_under S) F) F (plan_left x))
@@ -243,7 +249,8 @@ module _ (S : Settings) (g : GoodSettings S) where
         same_ok _ _ (sym (ap (λ (o : Outcome). o.answer) is) ∙ size),
         record {
           machine = λ calls answers last ran.
-              subst (λ (x : ListOutcome). OddAgree Y x (odd_run Y false (map fed calls))) (from-projected lists b scratch kept a is calls ran)
+              subst (λ (x : ListOutcome). OddAgree Y x (odd_run Y false (map fed calls)))
+              (from-projected lists b scratch kept a is calls ran)
               (agree calls);
           truth = λ M fair v w calls answers last ran new.
               subst (λ (x : ListOutcome). NewColumns lists v (values_when (exchanges_odd calls x.answers) w)

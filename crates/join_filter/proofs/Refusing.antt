@@ -42,7 +42,8 @@ pub exchange-call : Call exchange finish refuses (λ n scratch room. new_after_e
 unfolding exchange new_after_exchange
 exchange-call = finishing (λ n before scratch. refl) (λ n scratch room number. refl) (λ n scratch room. refl)
 
-pub extract-call : (match : Matcher) → Call (extract_filled_by match) finish refuses (λ n scratch room. new_after_extract_by match n scratch)
+pub extract-call : (match : Matcher)
+    → Call (extract_filled_by match) finish refuses (λ n scratch room. new_after_extract_by match n scratch)
 unfolding extract_filled_by new_after_extract_by
 extract-call match = finishing (λ n before scratch. refl) (λ n scratch room number. refl) (λ n scratch room. refl)
 

@@ -27,7 +27,8 @@ module _ (S : Settings) (n : ℕ) (before scratch : List ℕ) (table : List Node
   lent-24 bad = record { outcome = (refused-24 bad).0; carried = sym (refused-24 bad).1 }
 
   pub lent-settled : GoodSettings S → {after kept : List ℕ} {r : Extracted}
-      → ExtractIs (extract_by (match_under S) n before scratch table) (extract_walk_by (match_under S) n before scratch table) n after kept r
+      → ExtractIs (extract_by (match_under S) n before scratch table)
+      (extract_walk_by (match_under S) n before scratch table) n after kept r
       → ExtractIs (extract_under S n before scratch table) (extract_walk_under S n before scratch table) n after kept r
   lent-settled g is = record {
     outcome = (all-settings S g).call n before scratch table ∙ is.outcome;

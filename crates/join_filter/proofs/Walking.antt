@@ -34,7 +34,8 @@ module _ (match : Matcher) (n : ℕ) (before scratch : List ℕ) where
 
   -- What an extract is that is refused so, keeping both buffers.
   abbrev pub RefusedIs : Refusal → Type 0
-  RefusedIs why = ExtractIs (extract_filled_by match n before scratch) (walk_filled_by match n before scratch) n before scratch (unwalked why)
+  RefusedIs why = ExtractIs (extract_filled_by match n before scratch)
+      (walk_filled_by match n before scratch) n before scratch (unwalked why)
 
   pub long-refused : length before < n → RefusedIs NoGoodPlan
   unfolding walked_by held_plan

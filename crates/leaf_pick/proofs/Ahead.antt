@@ -42,7 +42,8 @@ use Rattle.leaf_pick.proofs.Forests.{row_open, tabled-open, nodes-open, SpotAll,
 -- ---- of a frame
 
 -- The expressions ts are ahead: they stand in a row and are in the rows of numbers; the walk goes on among them.
-pub record Ahead (match : Matcher) (s numbers next : List ℕ) (rec at last place index position : ℕ) (w : Walk) (records : List Record) (t : Expr)
+pub record Ahead (match : Matcher) (s numbers next : List ℕ) (rec at last place index position : ℕ) (w : Walk)
+    (records : List Record) (t : Expr)
     (ts : Exprs) : Type 0 where
   pub row : OverAll s rec place (count ts) records ts
   pub tabled : TabledAll numbers next place index ts
@@ -51,7 +52,8 @@ pub record Ahead (match : Matcher) (s numbers next : List ℕ) (rec at last plac
   pub remembers : Remembers s records w.memory first
   pub spot : SpotOf t at w.memory
   pub picks : one_walk (matches match records t) ≡ walk_on (reading position first) (map (match records) (leaves_all ts))
-  pub walked : walk_length_by match (record { records = records; expr = t }) ≡ w.read + count_to is_knn_match (reached_all (match records) ts)
+  pub walked : walk_length_by match (record { records = records; expr = t })
+      ≡ w.read + count_to is_knn_match (reached_all (match records) ts)
   pub spots : (leaf end p : ℕ) → SpotAll leaf end ts place p → Spot leaf end t at (position + p)
 
 -- ---- it begins
@@ -85,10 +87,12 @@ module _ {match : Matcher} {s numbers next : List ℕ} {rec at i last : ℕ} {re
 
 -- ---- one step
 
-module _ {match : Matcher} {s numbers next : List ℕ} {rec at last place index position : ℕ} {w : Walk} {records : List Record} {t : Expr} where
+module _ {match : Matcher} {s numbers next : List ℕ} {rec at last place index position : ℕ} {w : Walk} {records : List
+    Record} {t : Expr} where
   -- An And opens.
   ahead-and : {l r : Expr} {us : Exprs} → Ahead match s numbers next rec at last place index position w records t (cons (and l r) us)
-      → Ahead match s numbers next rec at last (left_of place) (index + 1) position (record { memory = w.memory; read = w.read + 1 }) records t
+      → Ahead match s numbers next rec at last (left_of place) (index + 1) position
+      (record { memory = w.memory; read = w.read + 1 }) records t
       (cons l (cons r us))
   unfolding count_to is_knn_match
   ahead-and {l} {r} {us} a = record {
@@ -189,7 +193,8 @@ module _ {match : Matcher} {s numbers next : List ℕ} {rec at last place index 
 -- ---- of every frame that stands there
 
 -- Some expressions are ahead.
-abbrev pub SomeAhead : Matcher → (s numbers next : List ℕ) (rec at last place index position : ℕ) (w : Walk) (records : List Record) → Expr → Type 0
+abbrev pub SomeAhead : Matcher → (s numbers next : List ℕ) (rec at last place index position : ℕ) (w : Walk)
+    (records : List Record) → Expr → Type 0
 SomeAhead match s numbers next rec at last place index position w records t =
     (ts : Exprs) × Ahead match s numbers next rec at last place index position w records t ts
 
@@ -200,7 +205,8 @@ pub record Along (match : Matcher) (s numbers next : List ℕ) (rec at last plac
   pub few : w.read ≤ index
   pub fewer : position ≤ w.read
 
-pub along-begins : {match : Matcher} {s numbers next : List ℕ} {rec at i last : ℕ} → Framed s rec at → OfTree s at (Tabled numbers next at i)
+pub along-begins : {match : Matcher} {s numbers next : List ℕ} {rec at i last : ℕ} → Framed s rec at
+    → OfTree s at (Tabled numbers next at i)
     → last ≡ get_or next i 0 → Along match s numbers next rec at last at i 0 (record { memory = Nothing; read = 0 })
 along-begins there tabled e = record {
   there = there;

@@ -73,6 +73,7 @@ module _ (d d' : ℕ) where
         (knn-other (on_child records a) (on_child records b) (order_of (side_of records a) (side_of records b)) r
         (subst (λ (q : Request). MatchingIs is_other s rec records (match_request records q) r) e m))
 
-    pub other-default : (t : Expr) (r : Matching) → LeafMatchingBy d is_other s rec r records t → LeafMatchingBy d' is_other s rec r records t
+    pub other-default : (t : Expr) (r : Matching) → LeafMatchingBy d is_other s rec r records t
+        → LeafMatchingBy d' is_other s rec r records t
     unfolding match_leaf_by
     other-default t r m = request-other (request_by d t) (request_by d' t) (asks-alike t) r m

@@ -49,7 +49,8 @@ module _ (match : Matcher) (test : Predicate → Bool) (records : List Record) (
       ∙ ap (λ (n : ℕ). first_of (first_match test (matches match records l)) (moved n (first_match test (matches match records r))))
       (length-map (leaves l) (match records))
 
-  and-left : {p : definition.Pick} → first_match test (matches match records l) ≡ some p → first_match test (matches match records (and l r)) ≡ some p
+  and-left : {p : definition.Pick} → first_match test (matches match records l) ≡ some p
+      → first_match test (matches match records (and l r)) ≡ some p
   unfolding first_of
   and-left e = and_first ∙ rw e
 
@@ -173,7 +174,8 @@ module _ {s : List ℕ} {rec at left : ℕ} {found : Node} (is : OfTreeIn s at (
           })
 
 -- What the loop along the right children keeps: what is found from the node that it came to is found from the first.
-pub record Along (match : Matcher) (wanted : Wanted) (s numbers next : List ℕ) (rec at before up place index count parent : ℕ) : Type 0 where
+pub record Along (match : Matcher) (wanted : Wanted) (s numbers next : List ℕ)
+    (rec at before up place index count parent : ℕ) : Type 0 where
   pub there : Framed s rec place
   pub tabled : OfTree s place (Tabled numbers next place index)
   pub low : at ≤ place
@@ -215,7 +217,8 @@ module _ {match : Matcher} {wanted : Wanted} {s numbers next : List ℕ} {rec at
           → OfFrame s rec at (FirstIs match wanted s rec at before up p)
       along-left {p} inner = inv.rest (Leaf p) (match-left is told inner)
 
-      module _ {right counted : ℕ} (inner : OfFrame s rec left (NothingIs match wanted count counted)) (ends : right ≡ end_at numbers (index + 1))
+      module _ {right counted : ℕ} (inner : OfFrame s rec left (NothingIs match wanted count counted))
+          (ends : right ≡ end_at numbers (index + 1))
         where
           left-ends : OfTree s left (λ l. right ≡ left + length (expr_bytes l))
           left-ends d l stands = ends ∙ tabled-end (along-tabled d l stands)
@@ -226,7 +229,8 @@ module _ {match : Matcher} {wanted : Wanted} {s numbers next : List ℕ} {rec at
           pub along-less : length s - right < length s - place
           along-less = omega (arith, after-left.1, node-some inv.there.2.tree)
 
-          pub along-right : (k : ℕ) → k ≡ get_or next (index + 1) 0 → Along match wanted s numbers next rec at before up right k counted place
+          pub along-right : (k : ℕ) → k ≡ get_or next (index + 1) 0
+              → Along match wanted s numbers next rec at before up right k counted place
           along-right k after =
               let b = its-both in
               let h = inv.tabled _ _ inv.there.2.tree in

@@ -83,7 +83,8 @@ module _ (at : ℕ) (l r : Expr) (ts : Exprs) where
   unfolding row_from
   numbers-open =
       ap (λ (rs : List NodeRecord). map number (record_of at (and l r) ∷ rs))
-      (append_assoc (nodes_from (at + 2) l) (nodes_from (at + 2 + length (expr_bytes l)) r) (row_from (at + length (expr_bytes (and l r))) ts)
+      (append_assoc (nodes_from (at + 2) l) (nodes_from (at + 2 + length (expr_bytes l)) r)
+      (row_from (at + length (expr_bytes (and l r))) ts)
       ∙ ap (λ (p : ℕ). nodes_from (at + 2) l ++ (nodes_from (at + 2 + length (expr_bytes l)) r ++ row_from p ts)) (sym (and-size at l r)))
 
   nexts-open : (i : ℕ) → row_nexts i (cons (and l r) ts) ≡ (i + nodes (and l r)) ∷ row_nexts (i + 1) (cons l (cons r ts))

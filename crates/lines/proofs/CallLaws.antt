@@ -97,7 +97,8 @@ unfolding finish
 finish-fits (ok bytes) n before s e = plan-written bytes before (ap (λ (o : Outcome). o.answer) e) (ap (λ (o : Outcome). o.buffer) e)
 finish-fits (refused number) n before s e = absurd (refused_not_ok _ _ (ap (λ (o : Outcome). o.answer) e))
 
-call_fits : (kind : Kind) (n : ℕ) (before s : List ℕ) {after t : List ℕ} (a : CallAnswer) → OutcomeIs (line_call kind n before s) n after t a
+call_fits : (kind : Kind) (n : ℕ) (before s : List ℕ) {after t : List ℕ} (a : CallAnswer)
+    → OutcomeIs (line_call kind n before s) n after t a
     → plan_length (line_answer a) ≤ length after
 unfolding line_call extract_filled_by exchange
 call_fits extract_call n before s (Length m) is = finish-fits (new_after_extract n (length s) (held_plan n before)) n before s is

@@ -45,7 +45,8 @@ unfolding first_line has_feed piece character end_line
 upto-feed p = record {
   within = omega arith;
   some = λ h. omega arith;
-  steps = λ s. ap (λ (l : List ℕ). record { out = l; after = (end_line s).after }) (append-nil (end_line s).out) ∙ ap end_line (joined-none s);
+  steps = λ s. ap (λ (l : List ℕ). record { out = l; after = (end_line s).after }) (append-nil (end_line s).out)
+      ∙ ap end_line (joined-none s);
 }
 
 -- One character that is no line feed.

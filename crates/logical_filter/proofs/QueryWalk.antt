@@ -95,7 +95,10 @@ module _ {c : Columns} {s : List ℕ} {at : ℕ} {t : Expr} where
       pub knn-right : (r : KnnCall) → OfTreeIn s p (λ c t. KnnIs c s (p + length (expr_bytes t)) r (first_knn (leaves t)))
           → KnnIs c s (at + length (expr_bytes t)) r (first_knn (leaves t))
       knn-right (knn_call.Arguments f n) k = rw only-right (k c b.r beyond)
-      knn-right (knn_call.Nothing q) k = (only-right ∙ (k c b.r beyond).0, both_ends b p q (λ d l st. (h d l st).1) (λ d r st. (k d r st).1))
+      knn-right (knn_call.Nothing q) k = (
+        only-right ∙ (k c b.r beyond).0,
+        both_ends b p q (λ d l st. (h d l st).1) (λ d r st. (k d r st).1),
+      )
 
 -- The query side is that of the first KNN call.
 side-from : (a b : Option Exprs) → query_side_from a (query_side_from b no_side) ≡ query_side_from (or_else a b) no_side

@@ -37,7 +37,8 @@ all-one-more (a ∷ l) b = ap (λ (t : Bool). may a && t) (all-one-more l b) ∙
 
 -- One byte more.
 pub like-more : (s : List ℕ) (at i : ℕ) → at + i < length s
-    → (name_like (take i (drop at s)) && leb 33 (get_or s (at + i) 0)) && leb (get_or s (at + i) 0) 126 ≡ name_like (take (i + 1) (drop at s))
+    → (name_like (take i (drop at s)) && leb 33 (get_or s (at + i) 0)) && leb (get_or s (at + i) 0) 126
+    ≡ name_like (take (i + 1) (drop at s))
 like-more s at i h =
     rw (add-one i, take-suc (drop at s) i 0 (simp length-drop (omega arith)), get_or-drop)
     (sym (all-one-more (take i (drop at s)) (get_or s (at + i) 0)))

@@ -76,7 +76,8 @@ below-limits c s at fields kind levels n e z few (head.Refused why) h =
     inside c n (drop at s) kind (drop fields s) e levels z few ∙ h (node c (levels - 1)) (n + 1)
 
 -- A row that was read has as many as were asked for.
-as-many : (child : Reader Expr) (many n m : ℕ) (s t : List ℕ) (es : Exprs) → repeat_exprs many child n s ≡ read es m t → tree.count es ≡ many
+as-many : (child : Reader Expr) (many n m : ℕ) (s t : List ℕ) (es : Exprs) → repeat_exprs many child n s ≡ read es m t
+    → tree.count es ≡ many
 unfolding repeat_exprs tree.count
 as-many child zero n m s t es e = given (λ xs m t. tree.count xs ≡ 0) nil es n m s t e refl
 as-many child (suc many) n m s t es e =
@@ -178,13 +179,15 @@ pub record InRow (s : List ℕ) (at count many : ℕ) (child : Reader Expr) (num
   pub rest : (numbers₁ indexes₁ : List ℕ) (r : Walked)
       → WalkedIs s next total r (repeat_exprs left child) (depth_over deepest) (length numbers)
       (CollectedAll next total numbered indexed numbers₁ indexes₁)
-      → WalkedIs s at count r (repeat_exprs many child) depth_above (length numbers) (CollectedAll at count numbers indexes numbers₁ indexes₁)
+      → WalkedIs s at count r (repeat_exprs many child) depth_above (length numbers)
+      (CollectedAll at count numbers indexes numbers₁ indexes₁)
 
 module _ (s : List ℕ) (at count many : ℕ) (child : Reader Expr) (numbers indexes : List ℕ) where
   from-none : (numbers₁ indexes₁ : List ℕ) (r : Walked)
       → WalkedIs s at count r (repeat_exprs many child) (depth_over 0) (length numbers)
       (CollectedAll at count numbers indexes numbers₁ indexes₁)
-      → WalkedIs s at count r (repeat_exprs many child) depth_above (length numbers) (CollectedAll at count numbers indexes numbers₁ indexes₁)
+      → WalkedIs s at count r (repeat_exprs many child) depth_above (length numbers)
+      (CollectedAll at count numbers indexes numbers₁ indexes₁)
   from-none numbers₁ indexes₁ (To next total levels) h = (h.0, h.1, h.2, omega (arith, h.3), h.4)
   from-none numbers₁ indexes₁ (Refused why) h = h
 

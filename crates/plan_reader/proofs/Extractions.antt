@@ -57,7 +57,8 @@ module _ (s : List ℕ) where
       pub ends : end ≡ length s → map_result extracted (extraction_of s) ≡ ok (extracted X)
       unfolding extraction_of at_end result_of
       ends z =
-          ap (λ (r : Read Extraction). map_result extracted (result_of r)) (last ∙ passes 7 (give X) count (drop end s) (none_after s end z))
+          ap (λ (r : Read Extraction). map_result extracted (result_of r)) (last
+          ∙ passes 7 (give X) count (drop end s) (none_after s end z))
 
       pub goes_on : end ≤ length s → (end ≡ length s → ⊥) → map_result extracted (extraction_of s) ≡ refused 7
       unfolding at_end

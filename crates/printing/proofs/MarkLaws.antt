@@ -41,7 +41,8 @@ module _ {s : List ℕ} {at : ℕ} where
   unfolding before_of
   nothing-before position e t h = rw e refl
 
-  pub operator-before : (position : ℕ) → (position ≡ 0 → ⊥) → get_or s at 0 ≡ 2 → (number : ℕ) → OfPhysical s at (λ t. number ≡ leading_of t)
+  pub operator-before : (position : ℕ) → (position ≡ 0 → ⊥) → get_or s at 0 ≡ 2 → (number : ℕ)
+      → OfPhysical s at (λ t. number ≡ leading_of t)
       → (t : Expr) → PhysicalAt s at t → before_of position t ≡ 32 ∷ marked 111 number 32
   unfolding separator_of leading_of ascii
   operator-before position later e number is t h =

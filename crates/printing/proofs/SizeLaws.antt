@@ -69,7 +69,8 @@ module _ {s : List ℕ} {at : ℕ} (number : ℕ) (is : OfPhysical s at (λ t. n
     pub own-call : get_or s at 0 ≡ 3 → own_size t ≡ 4 + decimal_width number + number + (children - 1)
     unfolding own_size leading_of children_of
     own-call e = call_at
-        (λ t. number ≡ leading_of t → children ≡ count (children_of t) → own_size t ≡ 4 + decimal_width number + number + (children - 1)) h e
+        (λ t. number ≡ leading_of t → children ≡ count (children_of t)
+        → own_size t ≡ 4 + decimal_width number + number + (children - 1)) h e
         (λ name args p n m. rw (n, m) refl) (is t h) k
 
     pub own-other : 3 < get_or s at 0 → own_size t ≡ 3 + decimal_width number + (children - 1)

@@ -60,7 +60,8 @@ module _ {s : List ℕ} {at bound : ℕ} where
       let h : List ℕ = head_bytes t in
       let rest : List ℕ = exprs_bytes (children_of t) ++ exprs_bytes ts in
       let whole : drop at s ≡ h ++ rest =
-      row.bytes ∙ ap (λ (l : List ℕ). l ++ exprs_bytes ts) (head-children t) ∙ append_assoc h (exprs_bytes (children_of t)) (exprs_bytes ts) in
+      row.bytes ∙ ap (λ (l : List ℕ). l ++ exprs_bytes ts) (head-children t)
+      ∙ append_assoc h (exprs_bytes (children_of t)) (exprs_bytes ts) in
       let long : length s ≡ at + length h + length rest =
       omega (arith, row.within, length-drop at s, ap length whole, length-append h rest) in
       record {

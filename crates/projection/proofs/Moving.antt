@@ -74,7 +74,8 @@ module _ (lists : Lists) where
   mutual
     unfolding column_spots child_spots expr_bytes exprs_bytes project_expr map_columns map_columns_all big_endian
 
-    tree-moves : (side : Side) (at : ℕ) (t : Expr) → Moves (column_spots side at t) at (expr_bytes t) (expr_bytes (project_expr lists side t))
+    tree-moves : (side : Side) (at : ℕ) (t : Expr)
+        → Moves (column_spots side at t) at (expr_bytes t) (expr_bytes (project_expr lists side t))
     tree-moves side at (column i g) = one-moves side at i 0 (big_endian 2 g)
     tree-moves side at (literal y v) = none_moves at (expr_bytes (literal y v))
     tree-moves side at (and l r) =
@@ -101,7 +102,8 @@ module _ (lists : Lists) where
 
   -- ---- records
 
-  records-move : (at : ℕ) (rs : List Record) → Moves (record_spots at rs) at (records_bytes rs) (records_bytes (map (project_record lists) rs))
+  records-move : (at : ℕ) (rs : List Record)
+      → Moves (record_spots at rs) at (records_bytes rs) (records_bytes (map (project_record lists) rs))
   unfolding record_spots records_bytes record_bytes project_record big_endian
   records-move at [] = none_moves at []
   records-move at (r ∷ rs) =

@@ -26,7 +26,8 @@ module _ (before : List ℕ) (to from n : ℕ) (down : to ≤ from) (room : from
       ap (drop (to + i)) h.bytes ∙ drop-paste before to (drop from before) i (omega arith) (omega arith) in
       let place : to + i + (from - to) ≡ from + i = omega arith in
       let same : get_or s (from + i) 0 ≡ get_or (drop from before) i 0 =
-      ap (λ (k : ℕ). get_or s k 0) (sym place) ∙ sym (get_or-drop (to + i) s (from - to) 0) ∙ ap (λ (l : List ℕ). get_or l (from - to) 0) behind
+      ap (λ (k : ℕ). get_or s k 0) (sym place) ∙ sym (get_or-drop (to + i) s (from - to) 0)
+      ∙ ap (λ (l : List ℕ). get_or l (from - to) 0) behind
       ∙ get_or-drop (to + i) before (from - to) 0 ∙ ap (λ (k : ℕ). get_or before k 0) place ∙ sym (get_or-drop from before i 0) in
       record {
         below = omega arith;

@@ -70,7 +70,8 @@ module _ (part : List ℕ) (long : length part ≡ 16417) (fs : Frames) (f : Lis
       let one : put.between ≡ (count ∷ C) ++ (B ++ []) =
       wrote-in (count ∷ []) A B (length_bytes f) 1 (2 * k) refl (omega (arith, fewer, length-bytes f, lengths-size)) is put.number
       ∙ ap (λ (l : List ℕ). count ∷ (l ++ B))
-      (ap (λ (n : ℕ). take (2 * n) A ++ (length_bytes f ++ drop (2 * n + length (length_bytes f)) A)) (at ∙ sym (length-map fs length_bytes))
+      (ap (λ (n : ℕ). take (2 * n) A ++ (length_bytes f ++ drop (2 * n + length (length_bytes f)) A)) (at
+      ∙ sym (length-map fs length_bytes))
       ∙ sym (slots-more 2 (map length_bytes fs) (length_bytes f) (lengths_of part) more-lengths)
       ∙ ap (λ (xs : List (List ℕ)). in_slots 2 xs (lengths_of part)) (sym (map_snoc fs f)))
       ∙ ap (λ (l : List ℕ). (count ∷ C) ++ l) (sym (append-nil B)) in

@@ -22,7 +22,8 @@ use Rattle.queues.proofs.Shifting.{length-there}
 -- What is left to read after i lengths decides.
 pub record Read (part : List ℕ) (i : ℕ) : Type 0 where
   pub below : i ≤ get_or part 0 0
-  pub decides : (good : Bool) → GoodIs good (frames_of (get_or part 0 0 - i) (drop (2 * i) (lengths_of part)) (drop (1024 * i) (places_of part)))
+  pub decides : (good : Bool) → GoodIs good
+      (frames_of (get_or part 0 0 - i) (drop (2 * i) (lengths_of part)) (drop (1024 * i) (places_of part)))
       → GoodIs good (queue_of part)
 
 pub count-bad : (part : List ℕ) → 16 < get_or part 0 0 → GoodIs false (queue_of part)

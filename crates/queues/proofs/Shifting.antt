@@ -166,4 +166,5 @@ module _ (part : List ℕ) (h : HasFirst part) where
       let all : take k later ≡ later = take_all k later (omega (arith, one.count, count-is)) in
       let count : last ≡ length later = omega (arith, one.count, count-is) in
       ap (λ (l : List ℕ). set l 0 last) (inv.bytes first later e)
-      ∙ ap₂ (λ (n : ℕ) (fs : Frames). n ∷ (in_slots 2 (map length_bytes fs) (lengths_of part) ++ in_slots 1024 fs (places_of part))) count all
+      ∙ ap₂ (λ (n : ℕ) (fs : Frames). n ∷
+      (in_slots 2 (map length_bytes fs) (lengths_of part) ++ in_slots 1024 fs (places_of part))) count all

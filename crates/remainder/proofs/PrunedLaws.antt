@@ -31,7 +31,8 @@ module _ {s : List ℕ} {rec count : ℕ} {from : List ℕ} {at : ℕ} {records 
   parts : pruned_bytes records e ≡ columns_part (kept_all records (columns_of e)) ++ expr_bytes (map_columns new e)
   parts = frame-parts records e
 
-  size : length (pruned_bytes records e) ≡ 3 + length (records_bytes (kept_all records (columns_of e))) + length (expr_bytes (map_columns new e))
+  size : length (pruned_bytes records e)
+      ≡ 3 + length (records_bytes (kept_all records (columns_of e))) + length (expr_bytes (map_columns new e))
   unfolding big_endian
   size = ap length parts ∙ simp length-append (omega arith)
 

@@ -193,7 +193,8 @@ pub record Keeping (s : List ℕ) (rec count : ℕ) (flags before : List ℕ) (r
   pub long : length out ≡ length before
   pub wide : length to ≡ room
   pub done : OfMarked s rec count flags
-      (λ records columns. AllKept (records_bytes (keep (stays records columns) (take j records))) before out to j records columns (5 * kept))
+      (λ records columns. AllKept (records_bytes (keep (stays records columns) (take j records))) before out to j
+      records columns (5 * kept))
 
 module _ {s : List ℕ} {rec count : ℕ} {flags before : List ℕ} where
   pub keeping_none : (to : List ℕ) → Keeping s rec count flags before (length to) before to 0 0

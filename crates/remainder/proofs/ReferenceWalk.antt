@@ -48,9 +48,14 @@ module _ {s : List ℕ} {at : ℕ} where
       → Collected at (length (expr_bytes t)) (columns_of t) before (set before index 1) (at + 5)
   unfolding columns_of marked
   collect-column before t h e index is =
-      rw ((column-is h e).tree, ← is) (record { ends = ap (λ (n : ℕ). at + n) (sym (column-size index (short_at s (at + 3)))); flags = refl })
+      rw ((column-is h e).tree, ← is) (record {
+        ends = ap (λ (n : ℕ). at + n)
+            (sym (column-size index (short_at s (at + 3))));
+        flags = refl;
+      })
 
-  pub collect-other : (before after : List ℕ) (t : Expr) → Stands (index_below (length before)) s at t → (get_or s at 0 ≡ 0 → ⊥) → (h : Head)
+  pub collect-other : (before after : List ℕ) (t : Expr) → Stands (index_below (length before)) s at t
+      → (get_or s at 0 ≡ 0 → ⊥) → (h : Head)
       → OfTree s at (HeadIs at h)
       → (r : ℕ) → RowCollected s h.next h.children before after r → Collected at (length (expr_bytes t)) (columns_of t) before after r
   collect-other before after t stands n h its r is =

@@ -122,7 +122,8 @@ module _ {s : List ℕ} {rec count at : ℕ} {cut : Cut} {records : List Record}
       copied = left.walked (copies-join to cut)
           ∙ table-copies (put records (columns_of e) rest-marked).table e (left.in_range (index_below count) f.tree.in_range)
 
-      pub records-end : length (remainder_of records t position) ≤ length before → w + length (expr_bytes (map_columns new e)) ≤ length before
+      pub records-end : length (remainder_of records t position) ≤ length before
+          → w + length (expr_bytes (map_columns new e)) ≤ length before
       records-end fits =
           let both = length-append (columns_part (kept_all records (columns_of e))) (expr_bytes (map_columns new e)) in
           omega (arith, written.ends, ap length parts, both)

@@ -112,7 +112,8 @@ measured-there pair right ends operator e is =
 
 pub no_arguments : (t : Expr) → (kind_of t ≡ 3 → ⊥) → distance_arguments t ≡ none
 unfolding kind_of distance_arguments
-no_arguments = each (λ t. (kind_of t ≡ 3 → ⊥) → distance_arguments t ≡ none) (λ i g k. refl) (λ y v k. refl) (λ l r k. refl) (λ o l r k. refl)
+no_arguments = each (λ t. (kind_of t ≡ 3 → ⊥) → distance_arguments t ≡ none) (λ i g k. refl) (λ y v k. refl)
+    (λ l r k. refl) (λ o l r k. refl)
     (λ n ts k. absurd (k refl)) (λ g ts k. refl) (λ b g k. refl)
 
 module _ {c : Columns} {s : List ℕ} {at : ℕ} {k : Called} {t : Expr} (b : CallIs c s at k t) (same : Bool)

@@ -159,7 +159,8 @@ few-dwithin (cons a (cons b nil)) h = refl
 few-dwithin (cons a (cons b (cons d more))) h = absurd (omega arith)
 
 -- A name other than `st_dwithin` asks for no distance.
-other_name : (name : List ℕ) (args : Exprs) (knn : Bool) → same_name name (ascii "st_knn") ≡ knn → same_name name (ascii "st_dwithin") ≡ false
+other_name : (name : List ℕ) (args : Exprs) (knn : Bool) → same_name name (ascii "st_knn") ≡ knn
+    → same_name name (ascii "st_dwithin") ≡ false
     → is_distance (call_request name args) ≡ false
 unfolding call_request_by
 other_name name args true e f = rw e (knn-no-distance args)
@@ -201,7 +202,10 @@ module _ {c : Columns} {s : List ℕ} {k : Called} {name : List ℕ} {args : Exp
           is = is;
           arg0 = first-spans row two;
           arg1 = second-spans row two (omega arith);
-          arg_distance = record { stands = first-stands (after-second row two (omega arith)); ends = end ∙ tabled-end (third-tabled t two) };
+          arg_distance = record {
+            stands = first-stands (after-second row two (omega arith));
+            ends = end ∙ tabled-end (third-tabled t two);
+          };
         })
         args (omega (arith, st.row.counted)) st.row tabled (dwithin-asked name args (named ∙ f))
 

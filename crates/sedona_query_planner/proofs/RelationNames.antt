@@ -84,7 +84,8 @@ all-usual = refl
 
 unusual : (name : List ℕ) → usual (length name) ≡ false → none ≡ relation_named name
 unfolding relation_names names_in relation_types types_in relations
-unusual name out = sym (relation-at name ∙ ap (λ (k : ℕ). get_or relation_types k none) (position_past usual name out relation_names all-usual))
+unusual name out = sym (relation-at name
+    ∙ ap (λ (k : ℕ). get_or relation_types k none) (position_past usual name out relation_names all-usual))
 
 pub short-name : (name : List ℕ) → length name < 9 → none ≡ relation_named name
 short-name name h = unusual name (ap (λ (t : Bool). t && leb (length name) 13) (lt-leb 9 (length name) h))

@@ -263,7 +263,8 @@ module _ (match : Matcher) (buffer : List ℕ) where
   all-accepts frame F e =
       ap (λ (r : Result Frame). accepted (finish_all buffer (done r)).answer) e ∙ by-room F (leb (length (bytes_of F)) (length buffer))
 
-  all-refuses : (frame : List ℕ) (number : ℕ) → frame_of frame ≡ refused number → (extract_all_by match frame buffer).answer ≡ refused number
+  all-refuses : (frame : List ℕ) (number : ℕ) → frame_of frame ≡ refused number
+      → (extract_all_by match frame buffer).answer ≡ refused number
   unfolding extract_all_by new_conjuncts finish_all
   all-refuses frame number e = ap (λ (r : Result Frame). (finish_all buffer (done r)).answer) e
 

@@ -28,7 +28,8 @@ module _ {match : Matcher} {Asks : Meaning → Type 0} (laws : Lawful match Asks
   rounds-turned zero is R = refl
   rounds-turned (suc n) is none = refl
   rounds-turned (suc n) is (some F) =
-      ap (round (rounds match n) is (exchange_frame F)) (exchanged-by laws F) ∙ round-turned n (rounds-turned n) is F (extraction_by match F)
+      ap (round (rounds match n) is (exchange_frame F)) (exchanged-by laws F)
+      ∙ round-turned n (rounds-turned n) is F (extraction_by match F)
 
   pub conjuncts-turned : (F : Frame) → conjuncts_by match (exchange_frame F) ≡ exchange_conjuncts (conjuncts_by match F)
   unfolding conjuncts_by exchange_frame

@@ -50,7 +50,8 @@ module _ (P : Expr → Expr → Type 0) (goes : Expr → Bool) (same : (e : Expr
   stays_within (column i t) = unless-is (P (column i t)) goes (column i t) (same (column i t))
   stays_within (literal type v) = unless-is (P (literal type v)) goes (literal type v) (same (literal type v))
   stays_within (and l r) =
-      both_is (P l) (P r) (P (and l r)) (in_left l r) (in_right l r) (in_both l r) (without_all goes l) (without_all goes r) (stays_within l)
+      both_is (P l) (P r) (P (and l r)) (in_left l r) (in_right l r) (in_both l r) (without_all goes l)
+      (without_all goes r) (stays_within l)
       (stays_within r)
   stays_within (binary o l r) = unless-is (P (binary o l r)) goes (binary o l r) (same (binary o l r))
   stays_within (call name es) = unless-is (P (call name es)) goes (call name es) (same (call name es))

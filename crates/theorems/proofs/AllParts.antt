@@ -33,7 +33,8 @@ matching-append test p q (some m ∷ ms) ns e =
 
 pub bytes-append : (test : Predicate → Bool) (p q : ℕ) (ms ns : Matches) → q ≡ p + length ms
     → picks_bytes (matching_from test p (ms ++ ns)) ≡ picks_bytes (matching_from test p ms) ++ picks_bytes (matching_from test q ns)
-bytes-append test p q ms ns e = ap picks_bytes (matching-append test p q ms ns e) ∙ picks-append (matching_from test p ms) (matching_from test q ns)
+bytes-append test p q ms ns e = ap picks_bytes (matching-append test p q ms ns e)
+    ∙ picks-append (matching_from test p ms) (matching_from test q ns)
 
 pub count-append : (ms ns : Matches) → match_count (ms ++ ns) ≡ match_count ms + match_count ns
 unfolding match_count

@@ -163,7 +163,8 @@ unfolding comparison map_comparison
 comparison-mapped f o l r = cases (eqb o 1 || eqb o 2) (eqb o 3 || eqb o 4)
   where
     cases : (p q : Bool)
-        → (if p then compares (map_columns f l) (map_columns f r) else if q then compares (map_columns f r) (map_columns f l) else no_comparison)
+        → (if p then compares (map_columns f l) (map_columns f r) else if q then compares (map_columns f r)
+        (map_columns f l) else no_comparison)
         ≡ map_comparison f (if p then compares l r else if q then compares r l else no_comparison)
     cases true q = refl
     cases false true = refl

@@ -52,7 +52,8 @@ first-exchanged test h (some p ∷ ms) =
     (h p) (ap later (first-exchanged test h ms) ∙ later-exchanged (first_match test ms))
     ∙ if-pick (test p) (record { position = 0; predicate = p }) (later (first_match test ms))
 
-first-of : (p q : Option Pick) → first_of (Option.map exchange_pick p) (Option.map exchange_pick q) ≡ Option.map exchange_pick (first_of p q)
+first-of : (p q : Option Pick) → first_of (Option.map exchange_pick p) (Option.map exchange_pick q)
+    ≡ Option.map exchange_pick (first_of p q)
 unfolding first_of
 first-of none q = refl
 first-of (some p) q = refl
@@ -74,7 +75,8 @@ any-swapped : (rs : List Record) (r : Record) (is : List ℕ)
 unfolding any
 any-swapped rs r [] = refl
 any-swapped rs r (i ∷ is) =
-    ap₂ ◌||◌ (ap (λ (a : Record). same_column a (exchange_record r)) (record-at rs i) ∙ same-column (record_at rs i) r) (any-swapped rs r is)
+    ap₂ ◌||◌ (ap (λ (a : Record). same_column a (exchange_record r)) (record-at rs i) ∙ same-column (record_at rs i) r)
+    (any-swapped rs r is)
 
 referenced-swapped : (rs : List Record) (e : Expr) (r : Record) → referenced (swapped rs) e (exchange_record r) ≡ referenced rs e r
 unfolding referenced
@@ -116,7 +118,8 @@ prune-swapped rs e =
     ap₂ (λ (r : List Record) (f : ℕ → ℕ). record { records = r; expr = map_columns f e })
     (keep-swapped (referenced (swapped rs) e) (referenced rs e) (referenced-swapped rs e) rs) (fun_ext (index-swapped rs e))
 
-rest-swapped : (rs : List Record) (e : Option Expr) → Option.map (prune (swapped rs)) e ≡ Option.map exchange_frame (Option.map (prune rs) e)
+rest-swapped : (rs : List Record) (e : Option Expr)
+    → Option.map (prune (swapped rs)) e ≡ Option.map exchange_frame (Option.map (prune rs) e)
 rest-swapped rs none = refl
 rest-swapped rs (some e) = ap {B = Option Frame} some (prune-swapped rs e)
 

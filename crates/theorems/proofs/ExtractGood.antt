@@ -83,7 +83,8 @@ found g same (x ∷ xs) ys up = (
 pub references : (rs : List Record) (e : Expr) → All (λ i. referenced rs e (record_at rs i) ≡ true) (columns_of e)
 unfolding referenced
 references rs e =
-    found (λ j i. same_column (record_at rs j) (record_at rs i)) (λ i. same-column-refl (record_at rs i)) (columns_of e) (columns_of e) (λ i h. h)
+    found (λ j i. same_column (record_at rs j) (record_at rs i)) (λ i. same-column-refl (record_at rs i)) (columns_of e)
+    (columns_of e) (λ i h. h)
 
 -- The columns of a pruned expression are below the number of its records.
 pub prune-in-range : (rs : List Record) (e : Expr) → length rs ≤ 256 → InRange (index_below (length rs)) e

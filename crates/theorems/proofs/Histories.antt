@@ -209,7 +209,8 @@ module _ {match : Matcher} {Asks : Meaning → Type 0} (laws : Lawful match Asks
     make-nothing extract_call buffer scratch table e =
         rw (extract-filled-by match 0 buffer scratch table (fits-nothing buffer table))
         (unfold extract_filled_by finish in rw (empty-held buffer) (refuses nothing 0 buffer table 11 (refl, e)))
-    make-nothing exchange_call buffer scratch table e = unfold finish in rw (empty-held buffer) (refuses nothing 0 buffer table 11 (refl, e))
+    make-nothing exchange_call buffer scratch table e = unfold finish in
+        rw (empty-held buffer) (refuses nothing 0 buffer table 11 (refl, e))
 
     -- ---- extract and exchange
 
@@ -319,7 +320,8 @@ module _ {match : Matcher} {Asks : Meaning → Type 0} (laws : Lawful match Asks
 
     -- ---- lists
 
-    pub call-agrees : (s : State) (n : ℕ) (buffer : List ℕ) (table : List NodeRecord) (c : Call) → FrameIsBytes c → HoldsState s n buffer table
+    pub call-agrees : (s : State) (n : ℕ) (buffer : List ℕ) (table : List NodeRecord) (c : Call) → FrameIsBytes c
+        → HoldsState s n buffer table
         → CallAgrees (machine_call match room places s c) (one_call_by match n buffer table c)
     unfolding machine_call one_call_by load merge project make_call
     call-agrees s n buffer table (loading frame) bytes h = load-agrees s n buffer table frame bytes h (frame_of frame) refl

@@ -62,7 +62,8 @@ number-after-back (suc w) high n m v (b ∷ s) t h e =
       p.4,
     )
 
-pub number-back : (w n m v : ℕ) (s t : List ℕ) → AllBytes s → number w n s ≡ read v m t → (s ≡ big_endian w v ++ t) × (v < 256 ^ w) × (m ≡ n)
+pub number-back : (w n m v : ℕ) (s t : List ℕ) → AllBytes s → number w n s ≡ read v m t
+    → (s ≡ big_endian w v ++ t) × (v < 256 ^ w) × (m ≡ n)
 unfolding number
 number-back w n m v s t h e =
     let p : (u : ℕ) × (v ≡ 0 * 256 ^ w + u) × (u < 256 ^ w) × (s ≡ big_endian w v ++ t) × (m ≡ n) = number-after-back w 0 n m v s t h e in

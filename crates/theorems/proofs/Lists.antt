@@ -223,9 +223,11 @@ module _ {match : Matcher} {Asks : Meaning → Type 0} (laws : Lawful match Asks
       (omega (arith, k.1, plan-size F (bits false false) n buffer h, held-length F false, h.fits))
 
   extract-room : (F : Frame) (o : Bool) (n : ℕ) (buffer scratch : List ℕ) (t : Bool) → Holds F (bits false o) n buffer
-      → Agrees F (take_step match F (bits false o) (extraction_by match F)) (finish n buffer scratch (matched_bytes (swapped-extraction F o)))
+      → Agrees F (take_step match F (bits false o) (extraction_by match F))
+      (finish n buffer scratch (matched_bytes (swapped-extraction F o)))
       → Agrees F
-      (if t then with_walk (walk_length_by match F) (take_step match F (bits false o) (extraction_by match F)) else refuse_step (bits false o) 9)
+      (if t then with_walk (walk_length_by match F)
+      (take_step match F (bits false o) (extraction_by match F)) else refuse_step (bits false o) 9)
       (finish n buffer scratch (if t then matched_bytes (swapped-extraction F o) else refused 9))
   extract-room F o n buffer scratch true h a = record { answer = a.answer; holds = a.holds }
   extract-room F o n buffer scratch false h a = refuses F (bits false o) n buffer scratch 9 h
@@ -304,7 +306,8 @@ module _ {match : Matcher} {Asks : Meaning → Type 0} (laws : Lawful match Asks
       rw (held-plan F true o n buffer g h, plan-extracted F h.reached.0 o h.reached.1) (no-walk n (length scratch) h.reached.0 o)
   extract-walk F false o n buffer scratch g h =
       rw (held-plan F false o n buffer g h, plan-held F o, held-walk n (length scratch) F o, ← h.size)
-      (room-walk F (bits false o) (take_step match F (bits false o) (extraction_by match F)) (walk_length_by match F) (leb n (length scratch)))
+      (room-walk F (bits false o) (take_step match F (bits false o) (extraction_by match F)) (walk_length_by match F)
+      (leb n (length scratch)))
 
   exchange-walk : (F : Frame) (b : Bits) (room : ℕ) → 0 ≡ (machine_step match F b exchange_call room).walk
   unfolding machine_step accept_step refuse_step

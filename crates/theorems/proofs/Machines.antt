@@ -117,7 +117,8 @@ module _ {match : Matcher} {Asks : Meaning → Type 0} (laws : Lawful match Asks
   refused-again F true o room x r h = let z : ◌≡◌ {A = ℕ} 0 1 = cc r.1 in absurd (omega arith)
   refused-again F false o room x r h =
       ap (λ (t : Bool).
-      (if t then with_walk (walk_length_by match F) (take_step match F (bits false o) (extraction_by match F)) else refuse_step (bits false o) 9).answer)
+      (if t then with_walk (walk_length_by match F)
+      (take_step match F (bits false o) (extraction_by match F)) else refuse_step (bits false o) 9).answer)
       (le-leb _ room h)
       ∙ ap (λ (y : Option Extraction). (take_step match F (bits false o) y).answer) x
 
@@ -201,7 +202,8 @@ module _ {match : Matcher} {Asks : Meaning → Type 0} (laws : Lawful match Asks
           )
 
       pub line-of-calls : extracted_in s before ≡ false → length_after s before ≤ length scratch
-          → OnLine (price_line_by match F) (answer_after s before (extract_with scratch)) (plan_after s (before ++ (extract_with scratch ∷ [])))
+          → OnLine (price_line_by match F) (answer_after s before (extract_with scratch))
+          (plan_after s (before ++ (extract_with scratch ∷ [])))
       unfolding price_line_by
       line-of-calls e h = line-with (extraction_by match F) refl (matched match F) e h
 

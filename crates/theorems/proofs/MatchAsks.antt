@@ -61,7 +61,8 @@ one-of-by P o p q false e x y h = subst P (sym (eqb-true o q h)) y
 one_of : (P : ℕ → Type 0) (o p q : ℕ) → P p → P q → (eqb o p || eqb o q) ≡ true → P o
 one_of P o p q x y h = one-of-by P o p q (eqb o p) refl x y h
 
-form-left : (M : Meaning) (o a b d : ℕ) → (eqb o 1 || eqb o 2) ≡ true → M.binary_value o (M.distance_value a b) d ≡ distance_by_form M o a b d
+form-left : (M : Meaning) (o a b d : ℕ) → (eqb o 1 || eqb o 2) ≡ true
+    → M.binary_value o (M.distance_value a b) d ≡ distance_by_form M o a b d
 unfolding distance_by_form
 form-left M o a b d = one_of (λ o. M.binary_value o (M.distance_value a b) d ≡ distance_by_form M o a b d) o 1 2 refl refl
 

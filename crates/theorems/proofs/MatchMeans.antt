@@ -145,7 +145,8 @@ module _ {match : Matcher} (test : Predicate → Bool) (M : Meaning) (fair : Fai
   distance-match form a b d h (all_on no_side) e o s = tt
   distance-match form a b d h mixed e o s = tt
 
-  knn-match : (k sp t : ℕ) (a b : Expr) → MeansSame test M v rs x (ask_knn k sp t a b) → (o : Order) → order_of (side_of rs a) (side_of rs b)
+  knn-match : (k sp t : ℕ) (a b : Expr) → MeansSame test M v rs x (ask_knn k sp t a b) → (o : Order)
+      → order_of (side_of rs a) (side_of rs b)
       ≡ o
       → OrderIs (side_of rs a) (side_of rs b) o → Valued M v x (passing test (match_knn k sp t (on_child rs a) (on_child rs b) o))
   unfolding match_request match_knn predicate_value negate passing

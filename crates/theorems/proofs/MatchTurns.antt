@@ -120,6 +120,7 @@ request-swapped rs (ask_knn k spheroid ties a b) =
 request-swapped rs ask_nothing = refl
 
 -- Over exchanged records the match of a leaf is the exchanged match.
-pub match-turns : (default : ℕ) (rs : List Record) (e : Expr) → match_leaf_by default (swapped rs) e ≡ exchanged (match_leaf_by default rs e)
+pub match-turns : (default : ℕ) (rs : List Record) (e : Expr)
+    → match_leaf_by default (swapped rs) e ≡ exchanged (match_leaf_by default rs e)
 unfolding match_leaf_by
 match-turns default rs e = request-swapped rs (request_by default e)

@@ -51,7 +51,8 @@ pub merge-accepts : MergeAccepted
 unfolding merge with_table new_after_merge merged_frame tabled
 merge-accepts frame n buffer scratch table old new given found =
     ap₂ (λ (r : Result Frame) (p : Result Plan).
-    accepted (finish n buffer scratch (map_result frame_bytes (new_after_merge n (length scratch) (length buffer) (length table) r p))).answer)
+    accepted (finish n buffer scratch (map_result frame_bytes
+    (new_after_merge n (length scratch) (length buffer) (length table) r p))).answer)
     given found
     ∙ limits-decide n buffer scratch (merge_frames old new) (over_limits (merge_frames old new))
     (leb n (length scratch) && leb (length (frame_bytes (merge_frames old new))) (length buffer))

@@ -39,7 +39,8 @@ new-record rs rs' i = get_or-append-add rs rs' i (record { side = no_side; child
 
 -- ---- length, nodes, depth
 
-pub merged-length : (old new : Frame) → length (frame_bytes (merge_frames old new)) + 1 ≡ length (frame_bytes old) + length (frame_bytes new)
+pub merged-length : (old new : Frame)
+    → length (frame_bytes (merge_frames old new)) + 1 ≡ length (frame_bytes old) + length (frame_bytes new)
 unfolding merge_frames raised expr_bytes
 merged-length old new =
     let f : ℕ → ℕ = λ index. length old.records + index in

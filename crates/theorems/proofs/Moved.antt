@@ -152,7 +152,8 @@ module _ (default : ℕ) (f : ℕ → ℕ) where
           → (if p then knn_request_by default (map_columns_all f es) else
           if q then dwithin_request (map_columns_all f es) else
           relation_request (relation_named name) (map_columns_all f es))
-          ≡ map_request f (if p then knn_request_by default es else if q then dwithin_request es else relation_request (relation_named name) es)
+          ≡ map_request f (if p then knn_request_by default es else if q then dwithin_request es else relation_request
+          (relation_named name) es)
       cases true q = knn-mapped es
       cases false true = dwithin-mapped es
       cases false false = relation-mapped (relation_named name) es

@@ -56,7 +56,8 @@ module _ (lists : Lists) (v w : Valuation) (new : NewColumns lists v w) where
     argument-value side e h =
         let found : All (λ i. has_place lists side i ≡ true) (columns_of e) = all_true (has_place lists side) (columns_of e) h in
         map-value M (v side) (w side) (new_place lists side) e
-        (all_both (λ i. has_place lists side i ≡ true) (λ i. has_place lists side i ≡ true) (λ i. v side i ≡ w side (new_place lists side i))
+        (all_both (λ i. has_place lists side i ≡ true) (λ i. has_place lists side i ≡ true)
+        (λ i. v side i ≡ w side (new_place lists side i))
         (λ i k _. place-value side i k) (columns_of e) found found)
 
     predicate-value : (p : Predicate) → placed_predicate lists p ≡ true
@@ -195,7 +196,8 @@ module _ (lists : Lists) where
   remainder-has none = refl
   remainder-has (some F) = records-have F.records
 
-  extraction-swapped : (X : Extraction) → project_extraction swapped (exchange_extraction X) ≡ exchange_extraction (project_extraction lists X)
+  extraction-swapped : (X : Extraction)
+      → project_extraction swapped (exchange_extraction X) ≡ exchange_extraction (project_extraction lists X)
   unfolding project_extraction exchange_extraction
   extraction-swapped X =
       ap₂ (λ (p : Predicate) (R : Option Frame). record { position = X.position; predicate = p; remainder = R })

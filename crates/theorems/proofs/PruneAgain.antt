@@ -42,7 +42,8 @@ right-mapped f l (some r) = refl
 
 by-half : (f : ℕ → ℕ) (l r : Expr) (x x' y y' : Option Expr) (b : Bool) → x' ≡ Option.map (map_columns f) x → y'
     ≡ Option.map (map_columns f) y
-    → (if b then and_left x' (map_columns f r) else and_right (map_columns f l) y') ≡ map_columns f (if b then and_left x r else and_right l y)
+    → (if b then and_left x' (map_columns f r) else and_right (map_columns f l) y')
+    ≡ map_columns f (if b then and_left x r else and_right l y)
 by-half f l r x x' y y' true h k = ap (λ (z : Option Expr). and_left z (map_columns f r)) h ∙ left-mapped f x r
 by-half f l r x x' y y' false h k = ap (λ (z : Option Expr). and_right (map_columns f l) z) k ∙ right-mapped f l y
 
@@ -127,7 +128,8 @@ pub prune-again : (rs : List Record) (t : Record → Bool) (e : Expr) → All (K
 unfolding prune
 prune-again rs t e a h =
     let u : Record → Bool = referenced rs e in
-    let same : referenced (keep t rs) (map_columns (new_index t rs) e) ≡ u = fun_ext (referenced-mapped rs (keep t rs) (new_index t rs) e a) in
+    let same : referenced (keep t rs) (map_columns (new_index t rs) e) ≡ u =
+    fun_ext (referenced-mapped rs (keep t rs) (new_index t rs) e a) in
     ap {B = Frame} (λ (x : Record
     → Bool). record { records = keep x (keep t rs); expr = map_columns (new_index x (keep t rs)) (map_columns (new_index t rs) e) }) same
     ∙ ap₂ (λ (r : List Record) (x : Expr). record { records = r; expr = x }) (keep-again t u h rs)

@@ -167,7 +167,8 @@ module _ (b out : List ℕ) (S : State) (is : state_of b ≡ ok S) where
     by-room false room = (refl, refl, refl)
 
 module _ (b out : List ℕ) where
-  held_by : (r : Result State) → state_of b ≡ r → RefusedBy serve_refusals r → ServeBy b out (serve_held b out r) (serve_held b out r).answer
+  held_by : (r : Result State) → state_of b ≡ r → RefusedBy serve_refusals r
+      → ServeBy b out (serve_held b out r) (serve_held b out r).answer
   unfolding serve_held
   held_by (ok S) is own = took_by b out S is (due S) (is-due S)
   held_by (refused why) is own = (refl, refl, own)

@@ -21,7 +21,8 @@ use Rattle.definitions.specs.Good.{nodes, depth, nodes_all, depth_all, InRange, 
 
 -- ---- numbers of any width
 
-number-after : (w high v n : ℕ) (rest : List ℕ) → number_after high w n (big_endian w v ++ rest) ≡ read (high * 256 ^ w + v % 256 ^ w) n rest
+number-after : (w high v n : ℕ) (rest : List ℕ)
+    → number_after high w n (big_endian w v ++ rest) ≡ read (high * 256 ^ w + v % 256 ^ w) n rest
 unfolding number_after big_endian
 number-after zero high v n rest = ap (λ (x : ℕ). read x n rest) (omega arith)
 number-after (suc w) high v n rest =
@@ -45,7 +46,8 @@ column-reads : (bound i t n : ℕ) (rest : List ℕ) → ltb i bound ≡ true �
     → column_node bound n ((big_endian 2 i ++ big_endian 2 t) ++ rest) ≡ read (column i t) n rest
 unfolding column_node
 column-reads bound i t n rest b hi ht = rw append_assoc
-    (after _ (number-reads 2 i n (big_endian 2 t ++ rest) hi) ∙ after _ (number-reads 2 t n rest ht) ∙ passes 6 (give (column i t)) n rest b)
+    (after _ (number-reads 2 i n (big_endian 2 t ++ rest) hi) ∙ after _ (number-reads 2 t n rest ht)
+    ∙ passes 6 (give (column i t)) n rest b)
 
 field-reads : (bits t n : ℕ) (rest : List ℕ) → bits ≤ 3 → t < 65536
     → field_node n (bits ∷ big_endian 2 t ++ rest) ≡ read (field bits t) n rest
@@ -102,7 +104,8 @@ node-step : (c : Columns) (levels kind n : ℕ) (s : List ℕ) → allowed_kind 
 unfolding node node_kind
 node-step c levels kind n s a h =
     after _ (passes 4 (give kind) n s a)
-    ∙ ap (λ (t : Bool). continue (if t then read true (suc n) s else stopped 5) (λ b. node_of_kind c (node c levels) kind)) (lt-ltb n 1024 h)
+    ∙ ap (λ (t : Bool). continue (if t then read true (suc n) s else stopped 5)
+    (λ b. node_of_kind c (node c levels) kind)) (lt-ltb n 1024 h)
 
 -- Kinds 1 to 4 are allowed everywhere.
 common-kind : (c : Columns) (kind : ℕ) → 1 ≤ kind → kind ≤ 4 → allowed_kind c kind ≡ true

@@ -51,7 +51,8 @@ module _ (bytes : List ℕ) where
       sym (length-drop at bytes) ∙ ap length is ∙ length-append (expr_bytes e) rest in
       let same : at ≡ at + 0 = omega arith in
       let own : at + length (expr_bytes e) - at ≡ length (expr_bytes e) = omega arith in record {
-        kind = ap (λ (k : ℕ). get_or bytes k 0) same ∙ sym (get_or-drop at bytes 0 0) ∙ ap (λ (s : List ℕ). get_or s 0 0) is ∙ kind-first e rest;
+        kind = ap (λ (k : ℕ). get_or bytes k 0) same ∙ sym (get_or-drop at bytes 0 0)
+            ∙ ap (λ (s : List ℕ). get_or s 0 0) is ∙ kind-first e rest;
         own = ap (λ (k : ℕ). take k (drop at bytes)) own ∙ ap (take (length (expr_bytes e))) is ∙ take-append_seam (expr_bytes e) rest;
         inside = omega (arith, size, some_byte e);
       }

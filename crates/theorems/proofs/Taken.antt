@@ -141,7 +141,8 @@ unfolding and_right rest_bytes expr_bytes
 right-bytes l none = omega arith
 right-bytes l (some r) = simp length-append (omega arith)
 
-pub taken-bytes : {e leaf : Expr} {rest : Option Expr} → Taken e leaf rest → length (expr_bytes e) ≡ length (expr_bytes leaf) + rest_bytes rest
+pub taken-bytes : {e leaf : Expr} {rest : Option Expr} → Taken e leaf rest
+    → length (expr_bytes e) ≡ length (expr_bytes leaf) + rest_bytes rest
 unfolding expr_bytes rest_bytes
 taken-bytes here = omega arith
 taken-bytes (in_left {l = l} {rest = rest} r t) = simp length-append (omega (arith, taken-bytes t, left-bytes rest r))

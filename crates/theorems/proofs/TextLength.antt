@@ -30,11 +30,13 @@ mutual
   text-by-bytes b k (other tag es) = λ h. simp length-append (omega (arith, decimal-short tag, all-by-bytes b k es h.2))
   text-by-bytes b k (field x t) = λ h. absurd h
 
-  all-by-bytes : (b : ℕ) → b ≤ 256 → (es : Exprs) → InRangeAll (index_below b) es → 2 * length (printed_all es) ≤ 5 * length (exprs_bytes es)
+  all-by-bytes : (b : ℕ) → b ≤ 256 → (es : Exprs) → InRangeAll (index_below b) es
+      → 2 * length (printed_all es) ≤ 5 * length (exprs_bytes es)
   all-by-bytes b k nil = λ h. omega arith
   all-by-bytes b k (cons e es) = λ h. simp length-append (omega (arith, text-by-bytes b k e h.0, more-by-bytes b k es h.1))
 
-  more-by-bytes : (b : ℕ) → b ≤ 256 → (es : Exprs) → InRangeAll (index_below b) es → 2 * length (printed_more es) ≤ 5 * length (exprs_bytes es)
+  more-by-bytes : (b : ℕ) → b ≤ 256 → (es : Exprs) → InRangeAll (index_below b) es
+      → 2 * length (printed_more es) ≤ 5 * length (exprs_bytes es)
   more-by-bytes b k nil = λ h. omega arith
   more-by-bytes b k (cons e es) = λ h. simp length-append (omega (arith, text-by-bytes b k e h.0, more-by-bytes b k es h.1))
 

@@ -138,7 +138,8 @@ base-value M v F (some X) h = h
 module _ {match : Matcher} {Asks : Meaning → Type 0} (laws : Lawful match Asks) (M : Meaning) (turns : Symmetric M)
     (v : Valuation) (F : Frame) (asked : Asks M) (range : InRange (index_below (length F.records)) F.expr) where
   pub machine-value : (e o : Bool)
-      → plan_value M v (machine_plan match F (record { is_extracted = e; is_odd = o })) ≡ frame_value M (if o then exchanged_values v else v) F
+      → plan_value M v (machine_plan match F (record { is_extracted = e; is_odd = o }))
+      ≡ frame_value M (if o then exchanged_values v else v) F
   unfolding machine_plan plan_value
   machine-value true true =
       plan-exchange-value M turns v (extraction_or (held F) (extraction_by match F))

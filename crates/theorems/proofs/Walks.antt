@@ -260,7 +260,8 @@ module _ {match : Matcher} {Asks : Meaning → Type 0} (laws : Lawful match Asks
   unfolding reached
   reached-exchanged rs (and l r) =
       ap {B = List (Option Predicate)} (λ ms. none ∷ ms)
-      (ap₂ ◌++◌ (reached-exchanged rs l) (reached-exchanged rs r) ∙ sym (map-append exchanged (reached (match rs) l) (reached (match rs) r)))
+      (ap₂ ◌++◌ (reached-exchanged rs l) (reached-exchanged rs r)
+      ∙ sym (map-append exchanged (reached (match rs) l) (reached (match rs) r)))
   reached-exchanged rs (column i g) = one rs (column i g)
   reached-exchanged rs (literal y v) = one rs (literal y v)
   reached-exchanged rs (binary o l r) = one rs (binary o l r)
@@ -299,7 +300,8 @@ module _ (match : Matcher) (n : ℕ) (buffer scratch : List ℕ) where
   by-room F false = no_walk refl
 
   carried-by : (r : Result Plan)
-      → Carried match r (finish n buffer scratch (new_after_extract_by match n (length scratch) r)).answer (walked_by match n (length scratch) r)
+      → Carried match r (finish n buffer scratch (new_after_extract_by match n (length scratch) r)).answer
+      (walked_by match n (length scratch) r)
   unfolding new_after_extract_by walked_by finish
   carried-by (refused number) = no_walk refl
   carried-by (ok empty) = no_walk refl

@@ -7,7 +7,8 @@ use Rattle.call_exchange.proofs.exchanged_frames.put_records_exchanged.Given as 
 
 abbrev pub invariant-loop-i : goal.invariant-loop-i
 invariant-loop-i l =
-    (l.i ≤ l.count) × (5 * l.count ≤ length l.out) × (length l.out ≡ length l.initial.out) × Negated l.src l.rec l.count l.initial.out l.out l.i
+    (l.i ≤ l.count) × (5 * l.count ≤ length l.out) × (length l.out ≡ length l.initial.out)
+    × Negated l.src l.rec l.count l.initial.out l.out l.i
 
 abbrev pub decreases-loop-i : goal.decreases-loop-i
 decreases-loop-i l =

@@ -14,30 +14,39 @@ view c =
 
 pub put_predicate-w-requires : goal.put_predicate-w-requires
 put_predicate-w-requires c =
-    first-room remainder_exchanged (stored-room (view (goal.at.put_predicate-w-requires c).After-swap_for_swapped_children-swapped) c.requires)
+    first-room remainder_exchanged (stored-room
+    (view (goal.at.put_predicate-w-requires c).After-swap_for_swapped_children-swapped) c.requires)
 
 pub slice_bounds-put_remainder_exchanged-count : goal.slice_bounds-put_remainder_exchanged-count
 slice_bounds-put_remainder_exchanged-count c =
     let one = c.put_predicate-w in
-    part-starts (first-room remainder_exchanged (stored-room (view (goal.at.slice_bounds-put_remainder_exchanged-count c).After-swap_for_swapped_children-swapped) c.requires)) (from_zero one.ensures)
+    part-starts (first-room remainder_exchanged
+    (stored-room (view (goal.at.slice_bounds-put_remainder_exchanged-count
+    c).After-swap_for_swapped_children-swapped) c.requires)) (from_zero one.ensures)
     one.auto.out
 
 pub slice_bounds-put_remainder_exchanged-start : goal.slice_bounds-put_remainder_exchanged-start
 slice_bounds-put_remainder_exchanged-start c =
     let one = c.put_predicate-w in
-    part-starts (first-room remainder_exchanged (stored-room (view (goal.at.slice_bounds-put_remainder_exchanged-start c).After-swap_for_swapped_children-swapped) c.requires)) (from_zero one.ensures)
+    part-starts (first-room remainder_exchanged
+    (stored-room (view (goal.at.slice_bounds-put_remainder_exchanged-start
+    c).After-swap_for_swapped_children-swapped) c.requires)) (from_zero one.ensures)
     one.auto.out
 
 pub put_remainder_exchanged-requires : goal.put_remainder_exchanged-requires
 put_remainder_exchanged-requires c =
     let one = c.put_predicate-w in
-    part_room (second-room (stored-room (view (goal.at.put_remainder_exchanged-requires c).After-swap_for_swapped_children-swapped) c.requires) (from_zero one.ensures) one.auto.out)
+    part_room (second-room (stored-room
+    (view (goal.at.put_remainder_exchanged-requires c).After-swap_for_swapped_children-swapped) c.requires)
+    (from_zero one.ensures) one.auto.out)
 
 pub overflow_add-result : goal.overflow_add-result
 overflow_add-result c =
     let rest = c.put_remainder_exchanged in
     let one = c.put_predicate-w in
-    let room = second-room (stored-room (view (goal.at.overflow_add-result c).After-swap_for_swapped_children-swapped) c.requires) (from_zero one.ensures) one.auto.out in
+    let room = second-room (stored-room
+    (view (goal.at.overflow_add-result c).After-swap_for_swapped_children-swapped) c.requires)
+    (from_zero one.ensures) one.auto.out in
     omega (arith, c.well_formed, one.auto.out, ends-within room (part-put one.new.out rest.new.out one.result rest.ensures))
 
 pub returns : goal.returns

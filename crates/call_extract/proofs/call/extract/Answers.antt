@@ -21,7 +21,8 @@ returns-then-not-good_settings c =
 pub returns-then-plan-n : goal.returns-then-plan-n
 returns-then-plan-n c =
     let a = c.args in
-    filled-settled _ _ _ _ (good (goal.at.returns-then-plan-n c).Else-not-good_settings) (long-refused _ a.n a.plan.now a.scratch.now c.if-plan-n.true)
+    filled-settled _ _ _ _ (good (goal.at.returns-then-plan-n c).Else-not-good_settings)
+    (long-refused _ a.n a.plan.now a.scratch.now c.if-plan-n.true)
 
 pub extract_held-requires : goal.extract_held-requires
 extract_held-requires c =

@@ -81,7 +81,8 @@ pub extract_frame-requires : goal.extract_frame-requires
 extract_frame-requires c =
     let a = c.args in record {
       holds_frame = c.requires.holds_frame;
-      indexed = row-indexed a.n a.plan.now c.requires.holds_frame (bytes (goal.at.extract_frame-requires c).After-struct_known-1) c.requires.indexed a.row.now
+      indexed = row-indexed a.n a.plan.now c.requires.holds_frame
+          (bytes (goal.at.extract_frame-requires c).After-struct_known-1) c.requires.indexed a.row.now
           (told (goal.at.extract_frame-requires c).After-same_numbers c.if-same_numbers.true);
       good_settings = c.requires.good_settings;
     }
@@ -90,7 +91,9 @@ pub returns-then-same_numbers : goal.returns-then-same_numbers
 returns-then-same_numbers c =
     λ table of.
     let a = c.args in
-    same-fits a.n a.plan.now c.requires.holds_frame (bytes (goal.at.returns-then-same_numbers c).After-struct_known-1) c.requires.indexed (match_under (settings_of a.settings))
+    same-fits a.n a.plan.now c.requires.holds_frame
+    (bytes (goal.at.returns-then-same_numbers c).After-struct_known-1) c.requires.indexed
+    (match_under (settings_of a.settings))
     a.scratch.now
     a.row.now table (begins (goal.at.returns-then-same_numbers c).Else-row-f table of)
     (told (goal.at.returns-then-same_numbers c).After-same_numbers c.if-same_numbers.true)
@@ -101,4 +104,6 @@ returns c =
     λ table of.
     let a = c.args in
     other-refused a.n a.plan.now c.requires.holds_frame (bytes (goal.at.returns c).After-struct_known-1) c.requires.indexed
-    (match_under (settings_of a.settings)) a.scratch.now a.row.now table (begins (goal.at.returns c).Else-row-f table of) (told (goal.at.returns c).After-same_numbers c.if-same_numbers.false)
+    (match_under (settings_of a.settings)) a.scratch.now a.row.now table
+    (begins (goal.at.returns c).Else-row-f table of)
+    (told (goal.at.returns c).After-same_numbers c.if-same_numbers.false)

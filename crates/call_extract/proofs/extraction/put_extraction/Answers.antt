@@ -54,7 +54,8 @@ overflow_add-result c =
       c.well_formed,
       extraction-ends ((let rest = c.put_remainder in
           let put = c.put_predicate-w in
-          extraction-is c.child_indexes.new.to (wide (goal.at.overflow_add-result c).After-child_indexes) c.child_indexes.ensures.child_table
+          extraction-is c.child_indexes.new.to
+          (wide (goal.at.overflow_add-result c).After-child_indexes) c.child_indexes.ensures.child_table
           c.args.out.now put.new.out rest.new.out put.result rest.result put.ensures rest.ensures)) c.requires,
     )
 

@@ -57,7 +57,8 @@ put_extraction-length-requires c =
 pub returns-in-Nothing : goal.returns-in-Nothing
 returns-in-Nothing c =
     let a = c.args in
-    let walked = c.extract_in_one_walk-walked.ensures _ _ (over (match_under (settings_of c.args.settings)) a.n a.plan.now a.scratch.now c.requires.holds_frame) in
+    let walked = c.extract_in_one_walk-walked.ensures _ _
+    (over (match_under (settings_of c.args.settings)) a.n a.plan.now a.scratch.now c.requires.holds_frame) in
     no-leaf (match_under (settings_of c.args.settings)) a.n a.plan.now a.scratch.now c.requires.holds_frame c.if-scratch-n.false
     (rw c.in-Nothing.is at walked.picked) _ walked.walk
 

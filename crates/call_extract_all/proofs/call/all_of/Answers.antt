@@ -5,7 +5,8 @@ use Rattle.call_extract_all.proofs.call.all_of.Goals as goal
 pub put_all-taken-requires : goal.put_all-taken-requires
 put_all-taken-requires c =
     record {
-      all_fits = straight-fits c.requires.good_settings.0 c.args.frame.now c.args.out.now c.requires.good_frame c.requires.good_settings.1.memory c.if-frame-out.true;
+      all_fits = straight-fits c.requires.good_settings.0 c.args.frame.now c.args.out.now c.requires.good_frame
+          c.requires.good_settings.1.memory c.if-frame-out.true;
       of_tree = c.requires.of_tree;
     }
 
@@ -25,14 +26,18 @@ put_all-taken-requires-2 c =
 pub returns-then-out-n : goal.returns-then-out-n
 returns-then-out-n c =
     let call = c.put_all-taken-2 in
-    too_short c.requires.good_settings.0 c.args.frame.now c.args.out.now c.requires.good_frame c.requires.good_settings.1 call.new.out call.result call.auto.out (call.ensures c.requires.good_frame.frame c.requires.good_frame.at)
+    too_short c.requires.good_settings.0 c.args.frame.now c.args.out.now c.requires.good_frame
+    c.requires.good_settings.1 call.new.out call.result call.auto.out
+    (call.ensures c.requires.good_frame.frame c.requires.good_frame.at)
     c.if-out-n.true
 
 pub copy_bytes-requires : goal.copy_bytes-requires
 copy_bytes-requires c =
     let call = c.put_all-taken-2 in
     record {
-      src_has_bytes = own-holds c.requires.good_settings.0 c.args.frame.now c.args.out.now c.requires.good_frame c.requires.good_settings.1 call.new.out call.result call.auto.out (call.ensures c.requires.good_frame.frame c.requires.good_frame.at);
+      src_has_bytes = own-holds c.requires.good_settings.0 c.args.frame.now c.args.out.now c.requires.good_frame
+          c.requires.good_settings.1 call.new.out call.result call.auto.out
+          (call.ensures c.requires.good_frame.frame c.requires.good_frame.at);
       out_has_room = c.if-out-n.false;
     }
 
@@ -40,5 +45,6 @@ pub returns : goal.returns
 returns c =
     let call = c.put_all-taken-2 in
     let copy = c.copy_bytes in
-    copied c.requires.good_settings.0 c.args.frame.now c.args.out.now c.requires.good_frame c.requires.good_settings.1 call.new.out call.result call.auto.out (call.ensures c.requires.good_frame.frame c.requires.good_frame.at)
+    copied c.requires.good_settings.0 c.args.frame.now c.args.out.now c.requires.good_frame c.requires.good_settings.1
+    call.new.out call.result call.auto.out (call.ensures c.requires.good_frame.frame c.requires.good_frame.at)
     c.if-out-n.false copy.new.out copy.ensures

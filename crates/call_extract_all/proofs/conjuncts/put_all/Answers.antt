@@ -29,7 +29,9 @@ pub list_matches-listed-requires : goal.list_matches-listed-requires
 list_matches-listed-requires c =
     let p = c.requires.all_fits in
     record {
-      list_fits = list-fits p.at (all-taken (goal.at.list_matches-listed-requires c).Start) (wide (goal.at.list_matches-listed-requires c).After-child_indexes) c.child_indexes.ensures.child_table p.room p.memory;
+      list_fits = list-fits p.at (all-taken (goal.at.list_matches-listed-requires c).Start)
+          (wide (goal.at.list_matches-listed-requires c).After-child_indexes) c.child_indexes.ensures.child_table p.room
+          p.memory;
       of_tree = c.requires.of_tree;
     }
 
@@ -38,7 +40,8 @@ slice_bounds-copy_bytes-count c =
     let p = c.requires.all_fits in
     let call = c.list_matches-listed in
     let is = call.ensures p.frame.records p.frame.expr (listable p.at) in
-    (copy-fits p.at (all-taken (goal.at.slice_bounds-copy_bytes-count c).Start) is call.auto.knns call.auto.others call.auto.gone p.room (row-long p.at p.memory)).0
+    (copy-fits p.at (all-taken (goal.at.slice_bounds-copy_bytes-count c).Start) is call.auto.knns call.auto.others
+    call.auto.gone p.room (row-long p.at p.memory)).0
 
 pub slice_bounds-copy_bytes-start : goal.slice_bounds-copy_bytes-start
 slice_bounds-copy_bytes-start c =
@@ -47,7 +50,8 @@ slice_bounds-copy_bytes-start c =
       (let p = c.requires.all_fits in
           let call = c.list_matches-listed in
           let is = call.ensures p.frame.records p.frame.expr (listable p.at) in
-          (copy-fits p.at (all-taken (goal.at.slice_bounds-copy_bytes-start c).Start) is call.auto.knns call.auto.others call.auto.gone p.room (row-long p.at p.memory)).0),
+          (copy-fits p.at (all-taken (goal.at.slice_bounds-copy_bytes-start c).Start) is call.auto.knns call.auto.others
+          call.auto.gone p.room (row-long p.at p.memory)).0),
     )
 
 pub copy_bytes-requires : goal.copy_bytes-requires
@@ -55,7 +59,8 @@ copy_bytes-requires c =
     let p = c.requires.all_fits in
     let call = c.list_matches-listed in
     let is = call.ensures p.frame.records p.frame.expr (listable p.at) in
-    let fits = copy-fits p.at (all-taken (goal.at.copy_bytes-requires c).Start) is call.auto.knns call.auto.others call.auto.gone p.room (row-long p.at p.memory) in
+    let fits = copy-fits p.at (all-taken (goal.at.copy_bytes-requires c).Start) is call.auto.knns call.auto.others
+    call.auto.gone p.room (row-long p.at p.memory) in
     record {
       src_has_bytes = omega (arith, fits.1);
       out_has_room = fits.2;
@@ -69,7 +74,8 @@ overflow_add-w c =
           let call = c.list_matches-listed in
           let is = call.ensures p.frame.records p.frame.expr (listable p.at) in
           let copy = c.copy_bytes in
-          rest-starts p.at (all-taken (goal.at.overflow_add-w c).Start) is call.auto.knns call.auto.others call.auto.gone copy.new.out copy.ensures p.room (row-long p.at p.memory) copy.auto.out),
+          rest-starts p.at (all-taken (goal.at.overflow_add-w c).Start) is call.auto.knns call.auto.others
+          call.auto.gone copy.new.out copy.ensures p.room (row-long p.at p.memory) copy.auto.out),
       c.well_formed,
     )
 
@@ -79,7 +85,8 @@ slice_bounds-put_left-count c =
     let call = c.list_matches-listed in
     let is = call.ensures p.frame.records p.frame.expr (listable p.at) in
     let copy = c.copy_bytes in
-    rest-starts p.at (all-taken (goal.at.slice_bounds-put_left-count c).Start) is call.auto.knns call.auto.others call.auto.gone copy.new.out copy.ensures p.room (row-long p.at p.memory) copy.auto.out
+    rest-starts p.at (all-taken (goal.at.slice_bounds-put_left-count c).Start) is call.auto.knns call.auto.others
+    call.auto.gone copy.new.out copy.ensures p.room (row-long p.at p.memory) copy.auto.out
 
 pub slice_bounds-put_left-start : goal.slice_bounds-put_left-start
 slice_bounds-put_left-start c =
@@ -89,7 +96,8 @@ slice_bounds-put_left-start c =
           let call = c.list_matches-listed in
           let is = call.ensures p.frame.records p.frame.expr (listable p.at) in
           let copy = c.copy_bytes in
-          rest-starts p.at (all-taken (goal.at.slice_bounds-put_left-start c).Start) is call.auto.knns call.auto.others call.auto.gone copy.new.out copy.ensures p.room (row-long p.at p.memory) copy.auto.out),
+          rest-starts p.at (all-taken (goal.at.slice_bounds-put_left-start c).Start) is call.auto.knns call.auto.others
+          call.auto.gone copy.new.out copy.ensures p.room (row-long p.at p.memory) copy.auto.out),
     )
 
 pub put_left-rest-requires : goal.put_left-rest-requires
@@ -99,7 +107,8 @@ put_left-rest-requires c =
     let is = call.ensures p.frame.records p.frame.expr (listable p.at) in
     let copy = c.copy_bytes in
     record {
-      left_fits = left-fits p.at (all-taken (goal.at.put_left-rest-requires c).Start) is call.auto.knns call.auto.others call.auto.gone copy.new.out copy.ensures p.room (row-long p.at p.memory) copy.auto.out;
+      left_fits = left-fits p.at (all-taken (goal.at.put_left-rest-requires c).Start) is call.auto.knns call.auto.others
+          call.auto.gone copy.new.out copy.ensures p.room (row-long p.at p.memory) copy.auto.out;
       of_tree = c.requires.of_tree;
     }
 
@@ -114,7 +123,8 @@ overflow_add-result c =
       arith,
       p.room,
       c.well_formed,
-      ends p.at (all-taken (goal.at.overflow_add-result c).Start) is call.auto.knns call.auto.others call.auto.gone copy.new.out copy.ensures rest.new.out rest.result rest.ensures,
+      ends p.at (all-taken (goal.at.overflow_add-result c).Start) is call.auto.knns call.auto.others call.auto.gone
+          copy.new.out copy.ensures rest.new.out rest.result rest.ensures,
     )
 
 pub returns : goal.returns
@@ -123,5 +133,6 @@ returns c =
     let call = c.list_matches-listed in
     let copy = c.copy_bytes in
     let rest = c.put_left-rest in
-    all-is at (all-taken (goal.at.returns c).Start) (call.ensures F.records F.expr (listable at)) call.auto.knns call.auto.others call.auto.gone
+    all-is at (all-taken (goal.at.returns c).Start)
+    (call.ensures F.records F.expr (listable at)) call.auto.knns call.auto.others call.auto.gone
     copy.new.out copy.ensures rest.new.out rest.result rest.ensures

@@ -70,7 +70,8 @@ done : (t : ℕ) (c : After-list_matches-two t) (records : List Record)
     → Listable c.args.src.now c.args.rec c.args.count c.args.at records u
     → let one = c.list_matches-one in
     let two = c.list_matches-two in
-    ListIs c.args.position (matches (match_under (settings_of c.args.settings)) records u) c.args.knns.now (together one.result.knn one.new.knns two.new.knns)
+    ListIs c.args.position (matches (match_under (settings_of c.args.settings)) records u) c.args.knns.now
+    (together one.result.knn one.new.knns two.new.knns)
     c.args.others.now (together one.result.other one.new.others two.new.others) c.args.gone.now two.new.gone
     (record {
       position = two.result.position;
@@ -88,7 +89,9 @@ done t c records u frame =
     (right-list frame both _ (c.end_of-place.ensures ∙ tabled-end
     (left-tabled (c.requires.of_tree d u frame.tree) both))) in
     let room : c.args.position ≤ length c.args.gone.now = omega (arith, c.requires.list_fits.flags) in
-    and-listed c.args.position (matches (match_under (settings_of c.args.settings)) records u) (matches (match_under (settings_of c.args.settings)) records both.l) (matches (match_under (settings_of c.args.settings)) records both.r) _ _ _ _ _ _ _ _ _ one.result
+    and-listed c.args.position (matches (match_under (settings_of c.args.settings)) records u)
+    (matches (match_under (settings_of c.args.settings)) records both.l)
+    (matches (match_under (settings_of c.args.settings)) records both.r) _ _ _ _ _ _ _ _ _ one.result
     two.result (both-matches frame both (match_under (settings_of c.args.settings))) room first second
 
 pub node_at-node-requires : goal.node_at-node-requires
@@ -122,37 +125,33 @@ pub returns-in_default : goal.returns-in_default
 returns-in_default t c =
     c.list_leaf.ensures
 
-pub overflow_add-i : goal.overflow_add-i
-overflow_add-i t c =
-    omega (arith, c.well_formed, (within t (goal.at.overflow_add-i t c).In-And).0)
+pub overflow_add-below : goal.overflow_add-below
+overflow_add-below t c =
+    omega (arith, c.well_formed, (within t (goal.at.overflow_add-below t c).In-And).0)
 
 pub list_matches-one-requires : goal.list_matches-one-requires
 list_matches-one-requires t c =
     let f = c.requires.list_fits in
     let both = found t (goal.at.list_matches-one-requires t c).In-And _ f.tree f.frame.tree in (
       omega (arith, c.decreases, left_after f.frame both, node-some (left-list f.frame both).tree),
-      (left-fits f both, of_tree _ (left-list f.frame both).tree (left-rows t (goal.at.list_matches-one-requires t c).In-And _ f.tree f.frame.tree)),
+      (
+        left-fits f both,
+        of_tree _ (left-list f.frame both).tree
+            (left-rows t (goal.at.list_matches-one-requires t c).In-And _ f.tree f.frame.tree),
+      ),
     )
-
-pub overflow_add-i-2 : goal.overflow_add-i-2
-overflow_add-i-2 t c =
-    omega (arith, c.well_formed, (within t (goal.at.overflow_add-i-2 t c).In-And).0)
 
 pub end_of-place-requires : goal.end_of-place-requires
 end_of-place-requires t c =
     (within t (goal.at.end_of-place-requires t c).In-And).0
 
-pub overflow_add-index : goal.overflow_add-index
-overflow_add-index t c =
-    omega (arith, c.well_formed, (within t (goal.at.overflow_add-index t c).In-And).0)
+pub offset_bounds-next-below : goal.offset_bounds-next-below
+offset_bounds-next-below t c =
+    omega (arith, c.well_formed, (within t (goal.at.offset_bounds-next-below t c).In-And).1)
 
-pub offset_bounds-next-i : goal.offset_bounds-next-i
-offset_bounds-next-i t c =
-    omega (arith, c.well_formed, (within t (goal.at.offset_bounds-next-i t c).In-And).1)
-
-pub bounds-next-i : goal.bounds-next-i
-bounds-next-i t c =
-    (within t (goal.at.bounds-next-i t c).In-And).1
+pub bounds-next-below : goal.bounds-next-below
+bounds-next-below t c =
+    (within t (goal.at.bounds-next-below t c).In-And).1
 
 pub overflow_cast-index : goal.overflow_cast-index
 overflow_cast-index t c =

@@ -37,7 +37,8 @@ returns-in-Matched c =
     let stands = by-table f l c.in-Matched.predicate m.q m.stands in
     leaf-is (match_under (settings_of c.args.settings)) records (p.leaf_alone _ t l.tree) _ m.is
     (knn-listed ((let p =
-    c.requires in flag-room p.list_fits (p.leaf_alone _ p.list_fits.tree p.list_fits.frame.tree))) m.q put.result m.passes (put.ensures.size m.q stands)
+    c.requires in flag-room p.list_fits (p.leaf_alone _ p.list_fits.tree p.list_fits.frame.tree))) m.q put.result
+    m.passes (put.ensures.size m.q stands)
     (put.ensures.wrote m.q stands))
 
 pub match_other-requires : goal.match_other-requires
@@ -78,7 +79,8 @@ returns-in-Matched-match_other c =
     let stands = by-table f l c.in-Matched-match_other.predicate m.q m.stands in
     leaf-is (match_under (settings_of c.args.settings)) records (p.leaf_alone _ t l.tree) _ m.is
     (other-listed ((let p =
-    c.requires in flag-room p.list_fits (p.leaf_alone _ p.list_fits.tree p.list_fits.frame.tree))) m.q put.result m.passes (put.ensures.size m.q stands)
+    c.requires in flag-room p.list_fits (p.leaf_alone _ p.list_fits.tree p.list_fits.frame.tree))) m.q put.result
+    m.passes (put.ensures.size m.q stands)
     (put.ensures.wrote m.q stands))
 
 pub bounds-gone-position-2 : goal.bounds-gone-position-2
@@ -97,7 +99,8 @@ returns c =
     leaf-is (match_under (settings_of c.args.settings)) records (p.leaf_alone _ t l.tree) _
     (both-lack _
     (miss-lacks is_knn _ _ records _ one.result (opened c.in_default.in_default-own.keys2) (one.ensures records t (over f l)))
-    (miss-lacks picks.is_other _ _ records _ two.result (opened c.in_default-match_other.in_default-match_other-own.keys2) (two.ensures records t (over f l))))
+    (miss-lacks picks.is_other _ _ records _ two.result
+    (opened c.in_default-match_other.in_default-match_other-own.keys2) (two.ensures records t (over f l))))
     (none-is-listed ((let p =
     c.requires in flag-room p.list_fits
     (p.leaf_alone _ p.list_fits.tree p.list_fits.frame.tree))))

@@ -61,12 +61,14 @@ over_limits-over-requires c =
 
 pub returns-then-over : goal.returns-then-over
 returns-then-over c =
-    rw c.unfilled.ensures (too_large (both (goal.at.returns-then-over c).After-shared_slice_known-1) _ _ (sym c.if-over.true ∙ c.over_limits-over.ensures))
+    rw c.unfilled.ensures (too_large (both (goal.at.returns-then-over c).After-shared_slice_known-1) _ _
+    (sym c.if-over.true ∙ c.over_limits-over.ensures))
 
 pub returns-then-scratch-n : goal.returns-then-scratch-n
 returns-then-scratch-n c =
     rw c.unfilled-then-scratch-n.ensures
-    (scratch-short (both (goal.at.returns-then-scratch-n c).After-shared_slice_known-1) _ _ (under (goal.at.returns-then-scratch-n c).After-over_limits-over c.if-over.false) c.if-scratch-n.true)
+    (scratch-short (both (goal.at.returns-then-scratch-n c).After-shared_slice_known-1) _ _
+    (under (goal.at.returns-then-scratch-n c).After-over_limits-over c.if-over.false) c.if-scratch-n.true)
 
 pub overflow_add-n : goal.overflow_add-n
 overflow_add-n c =
@@ -79,7 +81,9 @@ overflow_sub-n c =
 pub returns-then-plan-n : goal.returns-then-plan-n
 returns-then-plan-n c =
     rw c.unfilled-then-plan-n.ensures
-    (plan-short (both (goal.at.returns-then-plan-n c).After-shared_slice_known-1) _ _ (under (goal.at.returns-then-plan-n c).After-over_limits-over c.if-over.false) (omega (arith, c.if-scratch-n.false))
+    (plan-short (both (goal.at.returns-then-plan-n c).After-shared_slice_known-1) _ _
+    (under (goal.at.returns-then-plan-n c).After-over_limits-over c.if-over.false)
+    (omega (arith, c.if-scratch-n.false))
     c.if-plan-n.true)
 
 pub overflow_add-count : goal.overflow_add-count
@@ -93,7 +97,9 @@ overflow_add-count-2 c =
 pub returns-then-held-count : goal.returns-then-held-count
 returns-then-held-count c =
     rw c.unfilled-then-held-count.ensures
-    (table-short (both (goal.at.returns-then-held-count c).After-shared_slice_known-1) _ _ (under (goal.at.returns-then-held-count c).After-over_limits-over c.if-over.false) (omega (arith, c.if-scratch-n.false))
+    (table-short (both (goal.at.returns-then-held-count c).After-shared_slice_known-1) _ _
+    (under (goal.at.returns-then-held-count c).After-over_limits-over c.if-over.false)
+    (omega (arith, c.if-scratch-n.false))
     (omega (arith, c.if-plan-n.false)) c.if-held-count.true)
 
 pub overflow_add-root : goal.overflow_add-root

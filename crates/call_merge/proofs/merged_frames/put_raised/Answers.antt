@@ -13,7 +13,8 @@ wide c = omega (arith, c.raised_indexes.auto.to, c.requires.columns_bound)
 
 pub reproject_column_references-copied-requires : goal.reproject_column_references-copied-requires
 reproject_column_references-copied-requires c =
-    raised-fits c.args.by (wide (goal.at.reproject_column_references-copied-requires c).After-raised_indexes) c.raised_indexes.ensures.raised_table (part_room c.requires.room)
+    raised-fits c.args.by (wide (goal.at.reproject_column_references-copied-requires c).After-raised_indexes)
+    c.raised_indexes.ensures.raised_table (part_room c.requires.room)
 
 pub overflow_add-result : goal.overflow_add-result
 overflow_add-result c =
@@ -23,7 +24,8 @@ overflow_add-result c =
       ends-within c.requires.room ((let copy = c.reproject_column_references-copied in
           let a = c.args in
           part-put a.out.now copy.new.out a.w
-          (raised-put a.by (wide (goal.at.overflow_add-result c).After-raised_indexes) c.raised_indexes.ensures.raised_table copy.ensures))),
+          (raised-put a.by (wide (goal.at.overflow_add-result c).After-raised_indexes)
+          c.raised_indexes.ensures.raised_table copy.ensures))),
     )
 
 pub returns : goal.returns

@@ -38,6 +38,7 @@ returns-in-3 c =
 pub returns-in_default : goal.returns-in_default
 returns-in_default c =
     λ d t h. (
-      plain-node t (λ e. c.in_default.in_default-own.rest.0.1 (sym (kind-is h) ∙ e)) (λ e. c.in_default.in_default-own.rest.1 (sym (kind-is h) ∙ e)),
+      plain-node t (λ e. c.in_default.in_default-own.rest.0.1 (sym (kind-is h) ∙ e))
+          (λ e. c.in_default.in_default-own.rest.1 (sym (kind-is h) ∙ e)),
       c.head_at-head.ensures d t h,
     )

@@ -38,4 +38,8 @@ returns-in-4 c =
 pub returns-in_default : goal.returns-in_default
 unfolding literal_in_range
 returns-in_default c =
-    rw (ne_eqb _ _ c.in_default.in_default-own.rest.0.0.1, ne_eqb _ _ c.in_default.in_default-own.rest.0.1, ne_eqb _ _ c.in_default.in_default-own.rest.1)
+    rw (
+      ne_eqb _ _ c.in_default.in_default-own.rest.0.0.1,
+      ne_eqb _ _ c.in_default.in_default-own.rest.0.1,
+      ne_eqb _ _ c.in_default.in_default-own.rest.1,
+    )

@@ -106,7 +106,8 @@ shape_of-indexes-in-Refused-expression_in c =
 pub returns-in-Refused-expression_in : goal.returns-in-Refused-expression_in
 unfolding frame_body
 returns-in-Refused-expression_in c =
-    after _ ((many (goal.at.returns-in-Refused-expression_in c).In-Value).1 _) ∙ after _ ((all (goal.at.returns-in-Refused-expression_in c).In-To).2 _)
+    after _ ((many (goal.at.returns-in-Refused-expression_in c).In-Value).1 _)
+    ∙ after _ ((all (goal.at.returns-in-Refused-expression_in c).In-To).2 _)
     ∙ halts _ (rw c.in-Refused-expression_in.is at c.expression_in.ensures)
 
 pub shape_of-numbers-in-To-expression_in : goal.shape_of-numbers-in-To-expression_in
@@ -128,7 +129,8 @@ returns-in-To-expression_in c =
       expr.2.bytes.within,
       _,
       after _ ((many (goal.at.returns-in-To-expression_in c).In-Value).1 _) ∙ after _ (records.2 _) ∙ after _ expr.1,
-      frame-stands s _ _ _ _ _ _ records.1 expr.0 (all-bytes s c.shared_slice_known-1.given) (many (goal.at.returns-in-To-expression_in c).In-Value).0 records.0
+      frame-stands s _ _ _ _ _ _ records.1 expr.0 (all-bytes s c.shared_slice_known-1.given)
+          (many (goal.at.returns-in-To-expression_in c).In-Value).0 records.0
           records.2 expr.2 (omega (arith, expr.3)) expr.4,
       omega (arith, expr.3),
       expr.5,

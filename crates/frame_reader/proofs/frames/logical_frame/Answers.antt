@@ -61,7 +61,8 @@ pub returns-then-next-s : goal.returns-then-next-s
 unfolding logical_of logical_frame result_of
 returns-then-next-s c =
     let expr = rw c.in-To-expression.is at c.expression.ensures in
-    let all = ends 2 (expression fields) give _ c.in-To.root _ ((begin (goal.at.returns-then-next-s c).In-To).2 0) _ _ _ expr.1 c.if-next-s.true in
+    let all = ends 2 (expression fields) give _ c.in-To.root _
+    ((begin (goal.at.returns-then-next-s c).In-To).2 0) _ _ _ expr.1 c.if-next-s.true in
     (expr.0, rw c.if-next-s.true at expr.2, ap result_of all)
 
 pub returns-else-next-s : goal.returns-else-next-s

@@ -53,8 +53,10 @@ enum_known-at c =
 
 pub frame_body_in-requires : goal.frame_body_in-requires
 unfolding frame_of physical_frame result_of
-frame_body_in-requires c =
-    ((begin (goal.at.frame_body_in-requires c).In-To).0, roomy-lent c.requires (opened-short 1 _ _ _ ((begin (goal.at.frame_body_in-requires c).In-To).2 0)))
+frame_body_in-requires c = (
+  (begin (goal.at.frame_body_in-requires c).In-To).0,
+  roomy-lent c.requires (opened-short 1 _ _ _ ((begin (goal.at.frame_body_in-requires c).In-To).2 0)),
+)
 
 pub enum_known-why-in-Refused-frame_body_in : goal.enum_known-why-in-Refused-frame_body_in
 unfolding frame_of physical_frame result_of
@@ -80,7 +82,8 @@ pub returns-then-next-s : goal.returns-then-next-s
 unfolding frame_of physical_frame result_of
 returns-then-next-s c =
     let read = body (goal.at.returns-then-next-s c).In-Read in
-    ap result_of (goes_on 1 frame_body last _ c.in-To.at _ ((begin (goal.at.returns-then-next-s c).In-To).2 0) _ _ _ read.2 read.0 c.if-next-s.true)
+    ap result_of (goes_on 1 frame_body last _ c.in-To.at _
+    ((begin (goal.at.returns-then-next-s c).In-To).2 0) _ _ _ read.2 read.0 c.if-next-s.true)
 
 pub arity_by_rows-requires : goal.arity_by_rows-requires
 unfolding frame_of physical_frame result_of
@@ -125,10 +128,12 @@ unfolding frame_of physical_frame result_of
 returns-then-arity_by_rows c =
     let read = body (goal.at.returns-then-arity_by_rows c).In-Read in
     let left = c.if-next-s.false in
-    let enough = sym (frame-arity read.3 (tabled (goal.at.returns-then-arity_by_rows c).In-Read) c.arity_by_rows.ensures) ∙ c.if-arity_by_rows.true in (
+    let enough = sym (frame-arity read.3
+    (tabled (goal.at.returns-then-arity_by_rows c).In-Read) c.arity_by_rows.ensures) ∙ c.if-arity_by_rows.true in (
       read.1,
       frame-up-to left read.3,
-      ap result_of (ends 1 frame_body last _ c.in-To.at _ ((begin (goal.at.returns-then-arity_by_rows c).In-To).2 0) _ _ _ read.2 left ∙ passes 8 _ _ _ enough),
+      ap result_of (ends 1 frame_body last _ c.in-To.at _
+          ((begin (goal.at.returns-then-arity_by_rows c).In-To).2 0) _ _ _ read.2 left ∙ passes 8 _ _ _ enough),
       tabled (goal.at.returns-then-arity_by_rows c).In-Read,
     )
 
@@ -146,6 +151,7 @@ pub returns-else-arity_by_rows : goal.returns-else-arity_by_rows
 unfolding frame_of physical_frame result_of
 returns-else-arity_by_rows c =
     let read = body (goal.at.returns-else-arity_by_rows c).In-Read in
-    let short = sym (frame-arity read.3 (tabled (goal.at.returns-else-arity_by_rows c).In-Read) c.arity_by_rows.ensures) ∙ c.if-arity_by_rows.false in
+    let short = sym (frame-arity read.3 (tabled (goal.at.returns-else-arity_by_rows c).In-Read) c.arity_by_rows.ensures)
+    ∙ c.if-arity_by_rows.false in
     ap result_of (ends 1 frame_body last _ c.in-To.at _ ((begin (goal.at.returns-else-arity_by_rows c).In-To).2 0) _ _ _ read.2
     c.if-next-s.false ∙ fails 8 _ _ _ short)

@@ -22,7 +22,11 @@ overflow_mul-result c =
 
 pub overflow_add-result : goal.overflow_add-result
 overflow_add-result c =
-    omega (arith, value-below _ (high (goal.at.overflow_add-result c).In-Value), value-below _ (low (goal.at.overflow_add-result c).In-Value-digit_value))
+    omega (
+      arith,
+      value-below _ (high (goal.at.overflow_add-result c).In-Value),
+      value-below _ (low (goal.at.overflow_add-result c).In-Value-digit_value),
+    )
 
 pub returns-in-Other : goal.returns-in-Other
 returns-in-Other c =
@@ -30,8 +34,10 @@ returns-in-Other c =
 
 pub returns-in-Other-digit_value : goal.returns-in-Other-digit_value
 returns-in-Other-digit_value c =
-    low-other _ _ (high (goal.at.returns-in-Other-digit_value c).In-Value) (sym (ap value_of c.in-Other-digit_value.is) ∙ c.digit_value-in-Value.ensures)
+    low-other _ _ (high (goal.at.returns-in-Other-digit_value c).In-Value) (sym (ap value_of c.in-Other-digit_value.is)
+    ∙ c.digit_value-in-Value.ensures)
 
 pub returns-in-Value-digit_value : goal.returns-in-Value-digit_value
 returns-in-Value-digit_value c =
-    both-digits _ _ (high (goal.at.returns-in-Value-digit_value c).In-Value) (low (goal.at.returns-in-Value-digit_value c).In-Value-digit_value)
+    both-digits _ _ (high (goal.at.returns-in-Value-digit_value c).In-Value)
+    (low (goal.at.returns-in-Value-digit_value c).In-Value-digit_value)

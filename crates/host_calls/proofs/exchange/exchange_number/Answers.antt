@@ -13,4 +13,5 @@ answer_number-requires c =
 pub returns : goal.returns
 returns c =
     let call = c.exchange in
-    call-hosted c.args.plan.now (all-bytes c.args.plan.now c.slice_known-1.given) _ _ _ _ call.result call.ensures _ (given_back _ _ c.answer_number.type_inv c.answer_number.ensures)
+    call-hosted c.args.plan.now (all-bytes c.args.plan.now c.slice_known-1.given) _ _ _ _ call.result call.ensures _
+    (given_back _ _ c.answer_number.type_inv c.answer_number.ensures)

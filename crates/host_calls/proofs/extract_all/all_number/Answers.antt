@@ -17,7 +17,8 @@ small : (c : In-Length) → (c.in-Length.n ≤ 16384) × (c.extract_all-all.resu
 small c =
     let call = c.extract_all-all in
     let a = c.args in
-    all_small (settings_of a.settings) (omega (arith, c.well_formed)) a.frame.now a.out.now call.new.out call.result.rounds (answer_of call.result.answer) call.ensures
+    all_small (settings_of a.settings) (omega (arith, c.well_formed)) a.frame.now a.out.now call.new.out
+    call.result.rounds (answer_of call.result.answer) call.ensures
     (all-bytes a.frame.now c.shared_slice_known-1.given) _ (ap (λ (r : Answer). answer_of r) c.in-Length.is)
 
 pub overflow_mul-result : goal.overflow_mul-result
@@ -37,7 +38,9 @@ unfolding hosted_all
 returns-in-Refused c =
     let call = c.extract_all-all in
     let a = c.args in
-    all-hosted (settings_of a.settings) (omega (arith, c.well_formed)) a.frame.now a.out.now call.new.out call.result.rounds (answer_of call.result.answer) call.ensures
+    all-hosted (settings_of a.settings)
+    (omega (arith, c.well_formed)) a.frame.now a.out.now call.new.out call.result.rounds
+    (answer_of call.result.answer) call.ensures
     (all-bytes a.frame.now c.shared_slice_known-1.given) _
     (rw c.in-Refused.is (given_back _ _ c.minus_refusal.type_inv c.minus_refusal.ensures))
 
@@ -46,6 +49,12 @@ unfolding hosted_all
 returns-in-Length c =
     let call = c.extract_all-all in
     let a = c.args in
-    all-hosted (settings_of a.settings) (omega (arith, c.well_formed)) a.frame.now a.out.now call.new.out call.result.rounds (answer_of call.result.answer) call.ensures
+    all-hosted (settings_of a.settings)
+    (omega (arith, c.well_formed)) a.frame.now a.out.now call.new.out call.result.rounds
+    (answer_of call.result.answer) call.ensures
     (all-bytes a.frame.now c.shared_slice_known-1.given) _
-    (rw c.in-Length.is (number-is _ (omega (arith, (small (goal.at.returns-in-Length c).In-Length).0, (small (goal.at.returns-in-Length c).In-Length).1))))
+    (rw c.in-Length.is (number-is _ (omega (
+      arith,
+      (small (goal.at.returns-in-Length c).In-Length).0,
+      (small (goal.at.returns-in-Length c).In-Length).1,
+    ))))

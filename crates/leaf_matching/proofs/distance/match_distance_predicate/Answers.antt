@@ -54,7 +54,9 @@ side_of_column_references-arg1-requires c =
 
 pub returns-in_default-side_of_distance : goal.returns-in_default-side_of_distance
 returns-in_default-side_of_distance c =
-    λ records t over. distance-undefined (walked (goal.at.returns-in_default-side_of_distance c).After-side_of_column_references-arg1) over _ c.side_of_distance.ensures
+    λ records t over. distance-undefined
+    (walked (goal.at.returns-in_default-side_of_distance c).After-side_of_column_references-arg1) over _
+    c.side_of_distance.ensures
     c.in_default-side_of_distance.is
 
 pub returns-in-Neither : goal.returns-in-Neither

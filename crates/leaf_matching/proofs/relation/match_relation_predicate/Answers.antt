@@ -40,13 +40,16 @@ resolve_geometries-geometries-requires c =
 
 pub returns-in-Neither : goal.returns-in-Neither
 returns-in-Neither c =
-    λ records name ts over. relation-neither (walked (goal.at.returns-in-Neither c).After-resolve_geometries-geometries) over c.in-Neither.is
+    λ records name ts over. relation-neither
+    (walked (goal.at.returns-in-Neither c).After-resolve_geometries-geometries) over c.in-Neither.is
 
 pub returns-in-LeftRight : goal.returns-in-LeftRight
 returns-in-LeftRight c =
-    λ records name ts over. relation-left (walked (goal.at.returns-in-LeftRight c).After-resolve_geometries-geometries) over c.in-LeftRight.is
+    λ records name ts over. relation-left
+    (walked (goal.at.returns-in-LeftRight c).After-resolve_geometries-geometries) over c.in-LeftRight.is
 
 pub returns-in-RightLeft : goal.returns-in-RightLeft
 returns-in-RightLeft c =
-    λ records name ts over. relation-right (walked (goal.at.returns-in-RightLeft c).After-resolve_geometries-geometries) over _ c.invert.ensures
+    λ records name ts over. relation-right
+    (walked (goal.at.returns-in-RightLeft c).After-resolve_geometries-geometries) over _ c.invert.ensures
     c.in-RightLeft.is

@@ -19,7 +19,8 @@ slice_bounds-put_line-end c =
 
 pub put_line-requires : goal.put_line-requires
 put_line-requires c =
-    rw (length-take-le _ _ (plan-fits (goal.at.put_line-requires c).In-Plan)) (omega (arith, plan-fits (goal.at.put_line-requires c).In-Plan))
+    rw (length-take-le _ _ (plan-fits (goal.at.put_line-requires c).In-Plan))
+    (omega (arith, plan-fits (goal.at.put_line-requires c).In-Plan))
 
 pub returns-in-Plan : goal.returns-in-Plan
 unfolding written_line

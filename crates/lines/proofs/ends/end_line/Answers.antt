@@ -29,6 +29,7 @@ returns c =
     let put = c.put_answer-filled in
     let call = c.answer_begun-answer in
     record {
-      makes = rw c.length_after.ensures (line-ended _ _ call.result call.ensures.by_index put.ensures (room (goal.at.returns c).After-length_after));
+      makes = rw c.length_after.ensures (line-ended _ _ call.result call.ensures.by_index put.ensures
+          (room (goal.at.returns c).After-length_after));
       scratch = call.ensures.scratch_after;
     }

@@ -116,7 +116,8 @@ returns-else-same_name_ignore_case t c =
     λ d t h.
     let call = rw c.in-Call.is at (c.node_at.ensures d t h) in (
       no-knn call c.same_name_ignore_case.result c.same_name_ignore_case.ensures c.if-same_name_ignore_case.false,
-      call-end call c.end_children-else-same_name_ignore_case.result (c.end_children-else-same_name_ignore_case.ensures d call.arguments call.stands.row),
+      call-end call c.end_children-else-same_name_ignore_case.result
+          (c.end_children-else-same_name_ignore_case.ensures d call.arguments call.stands.row),
     )
 
 pub returns-in-Plain : goal.returns-in-Plain

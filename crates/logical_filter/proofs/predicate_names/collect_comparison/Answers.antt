@@ -61,8 +61,20 @@ is_distance_expr-requires c =
 
 pub returns-then-is_distance_expr : goal.returns-then-is_distance_expr
 returns-then-is_distance_expr c =
-    λ d l r row. record { names = named-dwithin (name-is (goal.at.returns-then-is_distance_expr c).After-is_distance_expr d l r row ∙ rw c.if-is_distance_expr.true); next = ends_at (goal.at.returns-then-is_distance_expr c).After-is_distance_expr d l r row }
+    λ d l r row. record {
+      names = named-dwithin
+          (name-is (goal.at.returns-then-is_distance_expr c).After-is_distance_expr d l r row
+          ∙ rw c.if-is_distance_expr.true);
+      next = ends_at
+          (goal.at.returns-then-is_distance_expr c).After-is_distance_expr d l r row;
+    }
 
 pub returns-else-is_distance_expr : goal.returns-else-is_distance_expr
 returns-else-is_distance_expr c =
-    λ d l r row. record { names = unnamed (name-is (goal.at.returns-else-is_distance_expr c).After-is_distance_expr d l r row ∙ rw c.if-is_distance_expr.false); next = ends_at (goal.at.returns-else-is_distance_expr c).After-is_distance_expr d l r row }
+    λ d l r row. record {
+      names = unnamed
+          (name-is (goal.at.returns-else-is_distance_expr c).After-is_distance_expr d l r row
+          ∙ rw c.if-is_distance_expr.false);
+      next = ends_at
+          (goal.at.returns-else-is_distance_expr c).After-is_distance_expr d l r row;
+    }

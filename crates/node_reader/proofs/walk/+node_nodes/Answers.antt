@@ -91,7 +91,8 @@ node-overflow_add-count t c =
 
 pub node-put_node-requires : goal.node-put_node-requires
 node-put_node-requires t c =
-    storable (leaf t (goal.at.node-put_node-requires t c).Then-many-eq0) (omega (arith, (the-head t (goal.at.node-put_node-requires t c).In-Children).5))
+    storable (leaf t (goal.at.node-put_node-requires t c).Then-many-eq0)
+    (omega (arith, (the-head t (goal.at.node-put_node-requires t c).In-Children).5))
 
 pub node-overflow_add-result : goal.node-overflow_add-result
 node-overflow_add-result t c =

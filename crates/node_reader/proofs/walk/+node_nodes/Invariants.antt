@@ -8,7 +8,8 @@ use Rattle.node_reader.proofs.walk.+node_nodes.Given as goal
 
 abbrev pub invariant-nodes-loop-left : goal.invariant-nodes-loop-left
 invariant-nodes-loop-left l =
-    InRow l.s l.at l.count l.many (decode.node (columns_of l.columns) l.levels) l.initial.numbers l.initial.indexes l.next l.total l.deepest l.left l.numbers l.indexes
+    InRow l.s l.at l.count l.many (decode.node (columns_of l.columns) l.levels) l.initial.numbers l.initial.indexes
+    l.next l.total l.deepest l.left l.numbers l.indexes
 
 abbrev pub decreases-nodes-loop-left : goal.decreases-nodes-loop-left
 decreases-nodes-loop-left l =

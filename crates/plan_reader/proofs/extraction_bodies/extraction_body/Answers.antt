@@ -84,7 +84,8 @@ returns-in-Refused-predicate_of_kind c =
 pub returns-in-Refused-remainder_at : goal.returns-in-Refused-remainder_at
 unfolding extraction_body
 returns-in-Refused-remainder_at c =
-    after _ ((placed (goal.at.returns-in-Refused-remainder_at c).In-Value).1 0) ∙ after _ (found (goal.at.returns-in-Refused-remainder_at c).In-Read).3
+    after _ ((placed (goal.at.returns-in-Refused-remainder_at c).In-Value).1 0)
+    ∙ after _ (found (goal.at.returns-in-Refused-remainder_at c).In-Read).3
     ∙ halts _ (rw c.in-Refused-remainder_at.is at c.remainder_at.ensures)
 
 pub returns-in-Read-remainder_at : goal.returns-in-Read-remainder_at

@@ -26,8 +26,12 @@ returns-in-Refused-extraction_body c =
 
 pub returns-then-end-s : goal.returns-then-end-s
 returns-then-end-s c =
-    let x = rw c.in-Read.is at c.extraction_body.ensures in
-    (x.1, rw c.if-end-s.true at x.2, ends _ _ c.in-Value.at ((first (goal.at.returns-then-end-s c).In-Value).1 0) x.1 _ _ x.4 c.if-end-s.true)
+    let x = rw c.in-Read.is at c.extraction_body.ensures in (
+      x.1,
+      rw c.if-end-s.true at x.2,
+      ends _ _ c.in-Value.at
+          ((first (goal.at.returns-then-end-s c).In-Value).1 0) x.1 _ _ x.4 c.if-end-s.true,
+    )
 
 pub returns-else-end-s : goal.returns-else-end-s
 returns-else-end-s c =

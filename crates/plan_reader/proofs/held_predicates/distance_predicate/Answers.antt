@@ -75,5 +75,6 @@ unfolding distance_predicate
 returns-in-Value-side_up_to c =
     let side = rw c.in-Value-side_up_to.is at c.side_up_to.ensures in
     let a = c.args in
-    precedes a.s.now a.at _ _ _ c.distance_arguments.result (after _ ((formed (goal.at.returns-in-Value-side_up_to c).In-Value).1 0) ∙ after _ (side.1 0))
+    precedes a.s.now a.at _ _ _ c.distance_arguments.result
+    (after _ ((formed (goal.at.returns-in-Value-side_up_to c).In-Value).1 0) ∙ after _ (side.1 0))
     c.distance_arguments.ensures

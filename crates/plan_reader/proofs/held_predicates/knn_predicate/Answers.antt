@@ -74,7 +74,8 @@ overflow_cast-result c =
     let a = c.args in
     omega (
       arith,
-      k-below a.s.now a.at c.in-Value.next c.in-Value.k (all-bytes a.s.now c.shared_slice_known-1.given) (many (goal.at.overflow_cast-result c).In-Value).1,
+      k-below a.s.now a.at c.in-Value.next c.in-Value.k (all-bytes a.s.now c.shared_slice_known-1.given)
+          (many (goal.at.overflow_cast-result c).In-Value).1,
     )
 
 pub returns-in-Refused : goal.returns-in-Refused

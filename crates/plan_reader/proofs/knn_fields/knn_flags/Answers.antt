@@ -40,5 +40,6 @@ returns-in-Value-byte_up_to c =
     let a = c.args in
     let flag = flag-stored c.in-Value.spheroid (up_to a.s.now a.at c.in-Value.second c.in-Value.spheroid 1 spheroid.1) in
     let numbered = c.ties_numbered.ensures
-    ∙ ties-stored c.in-Value-byte_up_to.number (up_to a.s.now c.in-Value-side_up_to.third c.in-Value-byte_up_to.end c.in-Value-byte_up_to.number 2 ties.1) in
+    ∙ ties-stored c.in-Value-byte_up_to.number
+    (up_to a.s.now c.in-Value-side_up_to.third c.in-Value-byte_up_to.end c.in-Value-byte_up_to.number 2 ties.1) in
     (ties.0, λ next n. rw (flag, numbered) (after _ (spheroid.1 n) ∙ after _ (probe.1 n) ∙ after _ (ties.1 n)))

@@ -13,11 +13,13 @@ pub reproject_children-loop-left-init : goal.reproject_children-loop-left-init
 reproject_children-loop-left-init t c =
     copying-begins c.requires
 
-pub reproject_children-slice_bounds-reproject_column_references-count : goal.reproject_children-slice_bounds-reproject_column_references-count
+pub reproject_children-slice_bounds-reproject_column_references-count :
+    goal.reproject_children-slice_bounds-reproject_column_references-count
 reproject_children-slice_bounds-reproject_column_references-count t c =
     copying-room c.loop-left.invariant
 
-pub reproject_children-slice_bounds-reproject_column_references-start : goal.reproject_children-slice_bounds-reproject_column_references-start
+pub reproject_children-slice_bounds-reproject_column_references-start :
+    goal.reproject_children-slice_bounds-reproject_column_references-start
 reproject_children-slice_bounds-reproject_column_references-start t c =
     copying-room c.loop-left.invariant
 
@@ -132,7 +134,8 @@ reproject_column_references-returns-then-n-eq0 t c =
     head.ensures c.if-n-eq0.true c.args.out.now copy.new.out
     (head.result.next - c.args.at) refl copy.ensures
 
-pub reproject_column_references-slice_bounds-reproject_children-count : goal.reproject_column_references-slice_bounds-reproject_children-count
+pub reproject_column_references-slice_bounds-reproject_children-count :
+    goal.reproject_column_references-slice_bounds-reproject_children-count
 reproject_column_references-slice_bounds-reproject_children-count t c =
     let call = c.head_at-head in
     omega (
@@ -142,7 +145,8 @@ reproject_column_references-slice_bounds-reproject_children-count t c =
           c.if-src-at-eq0.false call.result call.ensures,
     )
 
-pub reproject_column_references-slice_bounds-reproject_children-start : goal.reproject_column_references-slice_bounds-reproject_children-start
+pub reproject_column_references-slice_bounds-reproject_children-start :
+    goal.reproject_column_references-slice_bounds-reproject_children-start
 reproject_column_references-slice_bounds-reproject_children-start t c =
     let call = c.head_at-head in
     omega (

@@ -26,7 +26,8 @@ pub put_both-requires : goal.put_both-requires
 put_both-requires c =
     let head = c.put_knn_head-w in
     let a = c.args in
-    rest-room (knn-view a.indexes a.to.now a.src.now a.p _ _ _ _ (numbers (goal.at.put_both-requires c).After-negate-other)) c.requires head.ensures head.auto.out
+    rest-room (knn-view a.indexes a.to.now a.src.now a.p _ _ _ _
+    (numbers (goal.at.put_both-requires c).After-negate-other)) c.requires head.ensures head.auto.out
 
 pub returns : goal.returns
 returns c =

@@ -25,7 +25,8 @@ fields-room : (c : After-put_head-w)
     c.put_head-w.new.out
 fields-room c =
     rest-room ((let a = c.args in
-    predicate-view (change_of a.indexes a.to.now) a.src.now a.p _ a.position c.predicate_kind-kind.ensures)) c.requires c.put_head-w.ensures c.put_head-w.auto.out
+    predicate-view (change_of a.indexes a.to.now) a.src.now a.p _ a.position c.predicate_kind-kind.ensures)) c.requires
+    c.put_head-w.ensures c.put_head-w.auto.out
 
 pub put_head-w-requires : goal.put_head-w-requires
 unfolding head_of big_endian
@@ -51,7 +52,8 @@ overflow_add-result c =
       arith,
       c.well_formed,
       c.put_head-w.auto.out,
-      ends-within (fields-room (goal.at.overflow_add-result c).After-put_head-w) (part-put c.put_head-w.new.out fields.new.out c.put_head-w.result fields.ensures),
+      ends-within (fields-room (goal.at.overflow_add-result c).After-put_head-w)
+          (part-put c.put_head-w.new.out fields.new.out c.put_head-w.result fields.ensures),
     )
 
 pub returns : goal.returns

@@ -17,7 +17,8 @@ within : (c : After-queue_start-at)
     → c.queue_start-at.result + 16417 ≤ length c.args.queues.now
 within c =
     let a = c.args in
-    part-within a.queues.now ((is_held _ c.good_queues.result c.good_queues.ensures c.if-not-good_queues.false-raw)) (queue_is a.queue) c.queue_start-at.result c.queue_start-at.ensures
+    part-within a.queues.now ((is_held _ c.good_queues.result c.good_queues.ensures c.if-not-good_queues.false-raw))
+    (queue_is a.queue) c.queue_start-at.result c.queue_start-at.ensures
 
 pub returns-then-not-good_queues : goal.returns-then-not-good_queues
 returns-then-not-good_queues c =
@@ -33,7 +34,8 @@ returns-then-n-lt1 c =
 pub returns-then-n-gt-LONGEST : goal.returns-then-n-gt-LONGEST
 returns-then-n-gt-LONGEST c =
     let a = c.args in
-    put-long a.queues.now (queue_is a.queue) a.frame.now (held (goal.at.returns-then-n-gt-LONGEST c).Else-not-good_queues) c.if-n-lt1.false c.if-n-gt-LONGEST.true
+    put-long a.queues.now (queue_is a.queue) a.frame.now
+    (held (goal.at.returns-then-n-gt-LONGEST c).Else-not-good_queues) c.if-n-lt1.false c.if-n-gt-LONGEST.true
 
 pub bounds-queues-at : goal.bounds-queues-at
 bounds-queues-at c =

@@ -26,7 +26,8 @@ serve_from-requires c =
 pub returns-in-Nothing : goal.returns-in-Nothing
 returns-in-Nothing c =
     let a = c.args in
-    serve-nothing a.queues.now a.out.now (held (goal.at.returns-in-Nothing c).Else-not-good_queues) (rw c.in-Nothing.is at c.find_due.ensures)
+    serve-nothing a.queues.now a.out.now (held (goal.at.returns-in-Nothing c).Else-not-good_queues)
+    (rw c.in-Nothing.is at c.find_due.ensures)
 
 pub returns-in-From : goal.returns-in-From
 returns-in-From c =

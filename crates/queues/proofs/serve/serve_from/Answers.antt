@@ -56,7 +56,8 @@ pub bounds-queues-0 : goal.bounds-queues-0
 bounds-queues-0 c =
     some_byte c.args.queues.now c.take_first.new.part (queue_is c.args.queue)
     c.queue_start-at.result
-    (c.queue_start-at.result + 16417 - c.queue_start-at.result) c.queue_start-at.ensures (within (goal.at.bounds-queues-0 c).After-queue_start-at)
+    (c.queue_start-at.result + 16417 - c.queue_start-at.result) c.queue_start-at.ensures
+    (within (goal.at.bounds-queues-0 c).After-queue_start-at)
 
 pub returns : goal.returns
 returns c =

@@ -38,7 +38,11 @@ keep_records-kept-requires c =
 
 pub put_frame_head-requires : goal.put_frame_head-requires
 put_frame_head-requires c =
-    omega (arith, long (goal.at.put_frame_head-requires c).After-keep_records-kept, few (goal.at.put_frame_head-requires c).After-keep_records-kept)
+    omega (
+      arith,
+      long (goal.at.put_frame_head-requires c).After-keep_records-kept,
+      few (goal.at.put_frame_head-requires c).After-keep_records-kept,
+    )
 
 pub overflow_mul-result : goal.overflow_mul-result
 overflow_mul-result c =

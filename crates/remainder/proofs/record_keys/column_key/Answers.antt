@@ -20,4 +20,10 @@ overflow_cast-result-2 c =
 pub overflow_add-result : goal.overflow_add-result
 overflow_add-result c =
     let at = c.args.at in
-    omega (arith, c.short_at.ensures, c.shared_slice_known-2-1.given at, c.shared_slice_known-2-1.given (at + 1), c.shared_slice_known-2-1.given (at + 1 + 1))
+    omega (
+      arith,
+      c.short_at.ensures,
+      c.shared_slice_known-2-1.given at,
+      c.shared_slice_known-2-1.given (at + 1),
+      c.shared_slice_known-2-1.given (at + 1 + 1),
+    )

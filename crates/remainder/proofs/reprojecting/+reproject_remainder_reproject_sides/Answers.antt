@@ -127,7 +127,9 @@ pub reproject_remainder-shape_of-out : goal.reproject_remainder-shape_of-out
 reproject_remainder-shape_of-out t c =
     let out = c.args.out.now in
     let call = c.reproject_sides-sides in
-    together-length 2 (set (set out 0 2) 1 0) call.new.out (simp length-set (room t (goal.at.reproject_remainder-shape_of-out t c).Else-at-cut-2)) call.auto.out ∙ simp length-set
+    together-length 2 (set (set out 0 2) 1 0) call.new.out
+    (simp length-set (room t (goal.at.reproject_remainder-shape_of-out t c).Else-at-cut-2)) call.auto.out
+    ∙ simp length-set
 
 pub reproject_remainder-returns : goal.reproject_remainder-returns
 reproject_remainder-returns t c =

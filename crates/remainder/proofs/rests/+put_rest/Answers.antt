@@ -54,7 +54,8 @@ right-at : (t : ℕ) (c : After-end_of-place t) (d : Columns) (u : Expr)
     (stands : Stands d c.args.src.now
     c.args.at u)
     → c.end_of-place.result ≡ c.in-And.left + length (expr_bytes (rw c.in-And.is at (c.node_at.ensures d u stands)).l)
-right-at t c d u stands = c.end_of-place.ensures ∙ tabled-end (left-tabled (c.requires.of_tree d u stands) (rw c.in-And.is at (c.node_at.ensures d u stands)))
+right-at t c d u stands = c.end_of-place.ensures
+    ∙ tabled-end (left-tabled (c.requires.of_tree d u stands) (rw c.in-And.is at (c.node_at.ensures d u stands)))
 
 -- What the call for the right side left.
 right-put : (t : ℕ) (c : After-put_rest-right t) (d : Columns) (u : Expr)
@@ -67,7 +68,8 @@ right-put : (t : ℕ) (c : After-put_rest-right t) (d : Columns) (u : Expr)
     c.put_rest-right.result (rw c.in-And.is at (c.node_at.ensures d u stands)).r
 right-put t c d u stands =
     c.put_rest-right.ensures d _
-    (right-stands (rw c.in-And.is at (c.node_at.ensures d u stands)) _ (c.end_of-place.ensures ∙ tabled-end (left-tabled (c.requires.of_tree d u stands) (rw c.in-And.is at (c.node_at.ensures d u stands)))))
+    (right-stands (rw c.in-And.is at (c.node_at.ensures d u stands)) _ (c.end_of-place.ensures
+    ∙ tabled-end (left-tabled (c.requires.of_tree d u stands) (rw c.in-And.is at (c.node_at.ensures d u stands)))))
 
 pub node_at-requires : goal.node_at-requires
 node_at-requires t c =
@@ -151,7 +153,8 @@ put_rest-first-requires t c =
     let both = found t (goal.at.put_rest-first-requires t c).In-And f.columns f.tree f.stands in (
       omega (arith, c.decreases, left_after both, node-some (first-stands both.row)),
       (
-        left-fits f both (right-put t (goal.at.put_rest-first-requires t c).After-put_rest-right f.columns f.tree f.stands) c.put_rest-right.auto.out,
+        left-fits f both (right-put t (goal.at.put_rest-first-requires t c).After-put_rest-right f.columns f.tree
+            f.stands) c.put_rest-right.auto.out,
         of_tree _ (first-stands both.row) (left-rows t (goal.at.put_rest-first-requires t c).In-And f.columns f.tree f.stands),
       ),
     )
@@ -175,5 +178,6 @@ returns t c =
     let one = c.put_rest-first in
     let both = found t (goal.at.returns t c).In-And d u stands in
     subst⁻¹ (RestPut _ _ _ _ _ _) both.is
-    (and-put c.requires.rest_fits.within (right-put t (goal.at.returns t c).After-put_rest-right d u stands) refl (one.ensures d both.l (first-stands both.row))
+    (and-put c.requires.rest_fits.within (right-put t (goal.at.returns t c).After-put_rest-right d u stands) refl
+    (one.ensures d both.l (first-stands both.row))
     c.put_and.ensures)

@@ -21,7 +21,11 @@ pub returns-then-gone-leaf-eq1 : goal.returns-then-gone-leaf-eq1
 returns-then-gone-leaf-eq1 c =
     λ d t stands.
     let p = c.requires in
-    leaf-goes (p.of_tree d t stands).0 (omega (arith, p.rest_fits.counted, ap length (p.of_tree _ p.rest_fits.tree p.rest_fits.stands).0)) _ refl c.if-gone-leaf-eq1.true
+    leaf-goes (p.of_tree d t stands).0 (omega (
+      arith,
+      p.rest_fits.counted,
+      ap length (p.of_tree _ p.rest_fits.tree p.rest_fits.stands).0,
+    )) _ refl c.if-gone-leaf-eq1.true
 
 pub overflow_sub-start : goal.overflow_sub-start
 overflow_sub-start c =
@@ -47,7 +51,8 @@ returns c =
     λ d t stands.
     let p = c.requires in
     let ends = (p.of_tree d t stands).1 in
-    leaf-stays (p.of_tree d t stands).0 (omega (arith, p.rest_fits.counted, ap length (p.of_tree _ p.rest_fits.tree p.rest_fits.stands).0)) _ _ refl
+    leaf-stays (p.of_tree d t stands).0
+    (omega (arith, p.rest_fits.counted, ap length (p.of_tree _ p.rest_fits.tree p.rest_fits.stands).0)) _ _ refl
     c.if-gone-leaf-eq1.false
     (omega (arith, ends, p.rest_fits.room, (p.of_tree _ p.rest_fits.tree p.rest_fits.stands).1))
     (c.copy_at.ensures.wrote (expr_bytes t) (spans-between (record { stands = stands; ends = ends })))
