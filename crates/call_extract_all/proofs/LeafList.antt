@@ -176,8 +176,8 @@ module _ {match : Matcher} {s : List ℕ} {rec count at position : ℕ} {to knns
     }
 
 -- The list of a leaf is that of its match.
-pub leaf-is : (match : Matcher) (records : List Record) {t : Expr} {position : ℕ} {knns knns' others others' gone
-    gone' : List ℕ} {r : Listed}
+pub leaf-is : (match : Matcher) (records : List Record) {t : Expr} {position : ℕ}
+    {knns knns' others others' gone gone' : List ℕ} {r : Listed}
     → leaves t ≡ t ∷ [] → (m : Option Predicate) → match records t ≡ m → ListIs position (m ∷ []) knns knns' others others' gone gone' r
     → ListIs position (matches match records t) knns knns' others others' gone gone' r
 leaf-is match records {t} {position} {knns} {knns'} {others} {others'} {gone} {gone'} {r} single m e h =

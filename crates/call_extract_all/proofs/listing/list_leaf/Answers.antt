@@ -23,8 +23,8 @@ put_predicate-w-requires c =
 
 pub bounds-gone-position : goal.bounds-gone-position
 bounds-gone-position c =
-    let p =
-    c.requires in flag-room p.list_fits (p.leaf_alone _ p.list_fits.tree p.list_fits.frame.tree)
+    let p = c.requires in
+    flag-room p.list_fits (p.leaf_alone _ p.list_fits.tree p.list_fits.frame.tree)
 
 pub returns-in-Matched : goal.returns-in-Matched
 returns-in-Matched c =
@@ -36,8 +36,7 @@ returns-in-Matched c =
     (c.match_knn.ensures records t (over f l)) in
     let stands = by-table f l c.in-Matched.predicate m.q m.stands in
     leaf-is (match_under (settings_of c.args.settings)) records (p.leaf_alone _ t l.tree) _ m.is
-    (knn-listed ((let p =
-    c.requires in flag-room p.list_fits (p.leaf_alone _ p.list_fits.tree p.list_fits.frame.tree))) m.q put.result
+    (knn-listed (flag-room f (p.leaf_alone _ f.tree f.frame.tree)) m.q put.result
     m.passes (put.ensures.size m.q stands)
     (put.ensures.wrote m.q stands))
 
@@ -56,16 +55,16 @@ put_predicate-w-requires-in-Matched-match_other c =
 
 pub bounds-gone-position-in-Matched-match_other : goal.bounds-gone-position-in-Matched-match_other
 bounds-gone-position-in-Matched-match_other c =
-    let p =
-    c.requires in flag-room p.list_fits (p.leaf_alone _ p.list_fits.tree p.list_fits.frame.tree)
+    let p = c.requires in
+    flag-room p.list_fits (p.leaf_alone _ p.list_fits.tree p.list_fits.frame.tree)
 
 pub overflow_add-result-in-Matched-match_other : goal.overflow_add-result-in-Matched-match_other
 overflow_add-result-in-Matched-match_other c =
+    let p = c.requires in
     omega (
       arith,
       c.well_formed,
-      (let p =
-          c.requires in flag-room p.list_fits (p.leaf_alone _ p.list_fits.tree p.list_fits.frame.tree)),
+      flag-room p.list_fits (p.leaf_alone _ p.list_fits.tree p.list_fits.frame.tree),
     )
 
 pub returns-in-Matched-match_other : goal.returns-in-Matched-match_other
@@ -78,16 +77,14 @@ returns-in-Matched-match_other c =
     (c.match_other.ensures records t (over f l)) in
     let stands = by-table f l c.in-Matched-match_other.predicate m.q m.stands in
     leaf-is (match_under (settings_of c.args.settings)) records (p.leaf_alone _ t l.tree) _ m.is
-    (other-listed ((let p =
-    c.requires in flag-room p.list_fits (p.leaf_alone _ p.list_fits.tree p.list_fits.frame.tree))) m.q put.result
+    (other-listed (flag-room f (p.leaf_alone _ f.tree f.frame.tree)) m.q put.result
     m.passes (put.ensures.size m.q stands)
     (put.ensures.wrote m.q stands))
 
 pub bounds-gone-position-2 : goal.bounds-gone-position-2
 bounds-gone-position-2 c =
-    let p =
-    c.requires in flag-room p.list_fits
-    (p.leaf_alone _ p.list_fits.tree p.list_fits.frame.tree)
+    let p = c.requires in
+    flag-room p.list_fits (p.leaf_alone _ p.list_fits.tree p.list_fits.frame.tree)
 
 pub returns : goal.returns
 returns c =
@@ -101,6 +98,4 @@ returns c =
     (miss-lacks is_knn _ _ records _ one.result (opened c.in_default.in_default-own.keys2) (one.ensures records t (over f l)))
     (miss-lacks picks.is_other _ _ records _ two.result
     (opened c.in_default-match_other.in_default-match_other-own.keys2) (two.ensures records t (over f l))))
-    (none-is-listed ((let p =
-    c.requires in flag-room p.list_fits
-    (p.leaf_alone _ p.list_fits.tree p.list_fits.frame.tree))))
+    (none-is-listed (flag-room f (p.leaf_alone _ f.tree f.frame.tree)))
