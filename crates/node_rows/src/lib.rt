@@ -4,3 +4,4 @@
 pub mod collecting;
 pub mod numbers;
 pub mod pairs;
+pub mod rows;

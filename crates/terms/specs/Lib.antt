@@ -1,4 +1,6 @@
 -- What the contracts cite.
+pub mod Forms
 pub mod Refusals
+pub mod Checked
 pub mod Settings
 pub mod Sides

@@ -2,63 +2,47 @@
 ghost use Rattle.std.specs.Prelude.{◌≡◌};
 ghost use Rattle.terms.specs.Refusals.{number_of};
 
-// Why a call is refused, in the order of the numbers: 1 to 14 of document 01, then those of 02's requests.
-#[derive(Clone, Copy)]
+// Why a call is refused, by its number: 1 to 14 of document 01, then those of 02's requests.
+#[derive(Clone, Copy, Debug, PartialEq, Eq)]
 pub enum Refusal {
-    EmptyOrTooLong,
-    WrongFirstByte,
-    EndsInsideField,
-    OutOfRange,
-    TooManyOrTooDeep,
-    NoSuchColumn,
-    BytesAfterEnd,
-    TooFewArguments,
-    BufferTooShort,
-    NoGoodPlan,
-    PlanEmpty,
-    AlreadyExtracted,
-    NoLeafMatches,
-    NotHexadecimal,
-    TextBufferTooShort,
-    MergedTooLarge,
-    TableTooShort,
-    NotExtracted,
-    ListTooLong,
-    NoSuchChild,
-    NoSuchQueue,
-    QueuedFrameTooLong,
-    QueueFull,
-    BadSettings,
+    EmptyOrTooLong = 1,
+    WrongFirstByte = 2,
+    EndsInsideField = 3,
+    OutOfRange = 4,
+    TooManyOrTooDeep = 5,
+    NoSuchColumn = 6,
+    BytesAfterEnd = 7,
+    TooFewArguments = 8,
+    BufferTooShort = 9,
+    NoGoodPlan = 10,
+    PlanEmpty = 11,
+    AlreadyExtracted = 12,
+    NoLeafMatches = 13,
+    NotHexadecimal = 14,
+    TextBufferTooShort = 15,
+    MergedTooLarge = 16,
+    TableTooShort = 17,
+    NotExtracted = 18,
+    ListTooLong = 19,
+    NoSuchChild = 20,
+    NoSuchQueue = 21,
+    QueuedFrameTooLong = 22,
+    QueueFull = 23,
+    BadSettings = 24,
 }
 
 // The number of a refusal.
+impl From<Refusal> for u8 {
+    ghost from_gives = { λ why number. number ≡ number_of why };
+
+    fn from(why: Refusal) -> u8 {
+        why as u8
+    }
+}
+
+// The same, under the name that it had. TEMP
 pub fn refusal_number(why: Refusal) -> u8
     ensures { result ≡ number_of why }
 {
-    match why {
-        Refusal::EmptyOrTooLong => 1,
-        Refusal::WrongFirstByte => 2,
-        Refusal::EndsInsideField => 3,
-        Refusal::OutOfRange => 4,
-        Refusal::TooManyOrTooDeep => 5,
-        Refusal::NoSuchColumn => 6,
-        Refusal::BytesAfterEnd => 7,
-        Refusal::TooFewArguments => 8,
-        Refusal::BufferTooShort => 9,
-        Refusal::NoGoodPlan => 10,
-        Refusal::PlanEmpty => 11,
-        Refusal::AlreadyExtracted => 12,
-        Refusal::NoLeafMatches => 13,
-        Refusal::NotHexadecimal => 14,
-        Refusal::TextBufferTooShort => 15,
-        Refusal::MergedTooLarge => 16,
-        Refusal::TableTooShort => 17,
-        Refusal::NotExtracted => 18,
-        Refusal::ListTooLong => 19,
-        Refusal::NoSuchChild => 20,
-        Refusal::NoSuchQueue => 21,
-        Refusal::QueuedFrameTooLong => 22,
-        Refusal::QueueFull => 23,
-        Refusal::BadSettings => 24,
-    }
+    u8::from(why)
 }

@@ -6,15 +6,16 @@ ghost use Rattle.definitions.specs.Exchange as definitions;
 ghost use Rattle.terms.specs.Sides.{join_side};
 
 // A side of the join; none is a mark column's, and that of an argument without columns.
-#[derive(Clone, Copy)]
+#[derive(Clone, Copy, Debug, PartialEq, Eq)]
 pub enum JoinSide {
-    Left,
-    Right,
-    None,
+    Left = 0,
+    Right = 1,
+    None = 2,
 }
 
 impl JoinSide {
     // The other side; none stays none.
+    #[tactic(auto, unfolding(definitions::specs::Exchange::negate))]
     pub fn negate(self) -> Self
         ensures { join_side result ≡ definitions.negate (join_side self) }
     {
@@ -27,24 +28,26 @@ impl JoinSide {
 }
 
 // The side with this number.
-pub fn side_numbered(number: u64) -> JoinSide
-    ensures { join_side result ≡ side_numbered number }
-{
-    match number {
-        0 => JoinSide::Left,
-        1 => JoinSide::Right,
-        _ => JoinSide::None,
+impl From<u64> for JoinSide {
+    ghost from_gives = { λ number side. join_side side ≡ side_numbered number };
+
+    #[tactic(auto, unfolding(definitions::specs::Decode::side_numbered))]
+    fn from(number: u64) -> JoinSide {
+        match number {
+            0 => JoinSide::Left,
+            1 => JoinSide::Right,
+            _ => JoinSide::None,
+        }
     }
 }
 
 // Document 01's number of a side.
-pub fn side_number(side: JoinSide) -> u8
-    ensures { result ≡ side_number (join_side side) }
-{
-    match side {
-        JoinSide::Left => 0,
-        JoinSide::Right => 1,
-        JoinSide::None => 2,
+impl From<JoinSide> for u8 {
+    ghost from_gives = { λ side number. number ≡ side_number (join_side side) };
+
+    #[tactic(auto, unfolding(definitions::specs::Encode::side_number))]
+    fn from(side: JoinSide) -> u8 {
+        side as u8
     }
 }
 
@@ -52,9 +55,19 @@ pub fn side_number(side: JoinSide) -> u8
 pub fn negated_number(number: u8) -> u8
     ensures { result ≡ side_number (definitions.negate (side_numbered number)) }
 {
-    match number {
-        0 => 1,
-        1 => 0,
-        _ => 2,
-    }
+    u8::from(JoinSide::from(u64::from(number)).negate())
+}
+
+// TEMP
+pub fn side_numbered(number: u64) -> JoinSide
+    ensures { join_side result ≡ side_numbered number }
+{
+    JoinSide::from(number)
+}
+
+// TEMP
+pub fn side_number(side: JoinSide) -> u8
+    ensures { result ≡ side_number (join_side side) }
+{
+    u8::from(side)
 }

@@ -1,0 +1,54 @@
+// The nodes of an expression in rows, to be read.
+ghost use Rattle.std.specs.Prelude.{◌<◌, ◌≡◌, length, get_or};
+ghost use Rattle.node_rows.specs.Numbers.{start_at, end_at};
+ghost use Rattle.node_rows.specs.Rows.{TwoTabled, OfTwo, TwoAre};
+
+use super::numbers::{end_of, start_of};
+use super::pairs::Two;
+
+// For each node its number, and the index of the node that comes after it and all below it.
+#[derive(Clone, Copy)]
+pub struct Rows<'a> {
+    pub numbers: &'a [u32],
+    pub next: &'a [u16],
+}
+
+impl Rows<'_> {
+    // Where the node of an index starts.
+    pub fn start(self, i: usize) -> usize
+        requires { i < length self.numbers.now }
+        ensures { result ≡ start_at self.entry.numbers.now i }
+    {
+        start_of(self.numbers, i)
+    }
+
+    // Where it ends.
+    pub fn end(self, i: usize) -> usize
+        requires { i < length self.numbers.now }
+        ensures { result ≡ end_at self.entry.numbers.now i }
+    {
+        end_of(self.numbers, i)
+    }
+
+    // The index of the node that comes after it and all below it.
+    pub fn after(self, i: usize) -> usize
+        requires { i < length self.next.now }
+        ensures { result ≡ get_or self.entry.next.now i 0 }
+    {
+        usize::from(self.next[i])
+    }
+
+    // The node of an index and the one after it.
+    pub fn two(self, i: usize) -> Two
+        requires { TwoTabled self.numbers.now self.next.now i }
+        ensures { OfTwo self.entry.numbers.now self.entry.next.now i (TwoAre i result) }
+    {
+        let second = self.after(i);
+        Two {
+            start: self.start(i),
+            middle: self.end(i),
+            end: self.end(second),
+            after: self.after(second),
+        }
+    }
+}
