@@ -1,10 +1,10 @@
--- Right because it gives the greatest number where one of the three bounds is passed, and else joins the three.
+-- `from`: it gives the greatest number where one of the three bounds is passed, and else joins the three.
 use native.Mathlib.Omega.{arith}
 use mathlib.Core.Path.{sym}
 use Rattle.node_table.specs.Records.{node_of}
 use Rattle.node_rows.proofs.NumberLaws.{number-told}
 use Rattle.node_table.proofs.NumberLaws.{kind-over, start-over, end-over}
-use Rattle.node_table.proofs.node_number.Goals as goal
+use Rattle.node_table.proofs.U32FromNodeRecord.from.Goals as goal
 
 pub returns-then-kind-gt6 : goal.returns-then-kind-gt6
 returns-then-kind-gt6 c =
