@@ -75,16 +75,9 @@ pub record DecodedSoFar (line before out : List ℕ) (i : ℕ) : Type 0 where
   pub rest : drop i out ≡ drop i before
   pub kept : length out ≡ length before
 
-ahead-nothing : (o : Option (List ℕ)) → o ≡ ahead [] o
-ahead-nothing none = refl
-ahead-nothing (some bytes) = refl
-
 ahead-ahead : (x y : List ℕ) (o : Option (List ℕ)) → ahead x (ahead y o) ≡ ahead (x ++ y) o
 ahead-ahead x y none = refl
 ahead-ahead x y (some bytes) = ap some (sym (append_assoc x y bytes))
-
-pub decoded-none : (line out : List ℕ) → DecodedSoFar line out out 0
-decoded-none line out = record { within = omega arith; bytes = ahead-nothing (digit_bytes line); leading = refl; rest = refl; kept = refl }
 
 -- The two characters at a place.
 abbrev pub pair_at : List ℕ → ℕ → Option (List ℕ)
