@@ -1,19 +1,18 @@
 -- Which predicate of the definitions the code's stands for: its arguments at places of bytes, and what becomes of them.
-use Rattle.std.specs.Prelude.{ℕ, ◌≡◌, Bool, true, false, List, length, eqb, if◌then◌else◌}
+use Rattle.std.specs.Prelude.{ℕ, ◌≡◌, Bool, true, false, List, length, eqb, if◌then◌else◌, Option, Some, None}
 use Rattle.definitions.specs.Limits.{two_bytes}
 use Rattle.definitions.specs.Expression as tree
 use Rattle.definitions.specs.Expression.{Expr, Record, Predicate, relation, distance, knn}
 use Rattle.definitions.specs.Decode.{index_below}
 use Rattle.definitions.specs.Match.{on_child}
 use Rattle.definitions.specs.Exchange.{negate, exchange_predicate}
+use Rattle.terms.specs.Forms.{form_number}
 use Rattle.terms.specs.Sides.{join_side}
 use Rattle.expression.specs.Nodes.{Spans}
 use Rattle.sedona_query_planner.specs.Relations.{relation_of}
 use Rattle.sedona_query_planner.specs.declared.spatial_predicate.RelationPredicate.{RelationPredicate}
 use Rattle.sedona_query_planner.specs.declared.spatial_predicate.DistancePredicate.{DistancePredicate}
 use Rattle.sedona_query_planner.specs.declared.spatial_predicate.KNNPredicate.{KNNPredicate}
-use Rattle.sedona_query_planner.specs.declared.spatial_predicate.TieBreakers.{TieBreakers}
-use Rattle.sedona_query_planner.specs.declared.spatial_predicate.TieBreakers.TheVariants.{Given, Absent}
 use Rattle.sedona_query_planner.specs.declared.spatial_predicate.SpatialPredicate.{SpatialPredicate}
 use Rattle.sedona_query_planner.specs.declared.spatial_predicate.SpatialPredicate.TheVariants.{Distance, Relation, KNearestNeighbors}
 
@@ -25,9 +24,9 @@ flag false = 0
 flag true = 1
 
 -- Ties: 0 or 1, or 2 for absent.
-abbrev pub ties_number : TieBreakers → ℕ
-ties_number (Given value) = flag value
-ties_number Absent = 2
+abbrev pub ties_number : Option Bool → ℕ
+ties_number (Some value) = flag value
+ties_number None = 2
 
 -- The number that any number is read as: 0, 1, else 2.
 abbrev pub ties_numbered : ℕ → ℕ
@@ -75,7 +74,7 @@ pub record DistanceAt (change : Change) (s : List ℕ) (p : DistancePredicate) (
   pub left : ArgumentAt change s p.left p.left_end l
   pub right : ArgumentAt change s p.right p.right_end r
   pub limit : ArgumentAt change s p.distance p.distance_end bound
-  pub is : P ≡ distance p.form (join_side p.distance_side) (change.to tree.left l) (change.to tree.right r)
+  pub is : P ≡ distance (form_number p.form) (join_side p.distance_side) (change.to tree.left l) (change.to tree.right r)
       (change.to (join_side p.distance_side) bound)
 
 -- The first geometry of KNN is of the probe side, the second of the other.

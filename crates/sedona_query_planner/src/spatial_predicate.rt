@@ -6,9 +6,10 @@ ghost use Rattle.definitions.specs.Leaves.{relation_named};
 ghost use Rattle.definitions.specs.Match as definitions;
 ghost use Rattle.expression.specs.Places.{part};
 ghost use Rattle.sedona_query_planner.specs.Relations.{relation_of, named_relation};
-ghost use Rattle.sedona_query_planner.specs.Predicates.{flag, ties_number, ties_numbered, unchanged, RelationAt, DistanceAt, KnnAt, PredicateAt, Exchanges};
+ghost use Rattle.sedona_query_planner.specs.Predicates.{ties_number, ties_numbered, unchanged, RelationAt, DistanceAt, KnnAt, PredicateAt, Exchanges};
 
-use expression::names::{Case, name_index};
+use expression::names::same_name;
+use terms::forms::DistanceForm;
 use terms::sides::JoinSide;
 
 // A predicate of two geometries and what relates them; each argument stands from its start up to its end.
@@ -28,7 +29,7 @@ pub struct DistancePredicate {
     pub distance: usize,
     pub distance_end: usize,
     pub distance_side: JoinSide,
-    pub form: u8,
+    pub form: DistanceForm,
 }
 
 #[derive(Clone, Copy)]
@@ -40,13 +41,7 @@ pub struct RelationPredicate {
     pub relation_type: SpatialRelationType,
 }
 
-// Whether objects as near as the k-th are found too; where it is absent, the session decides.
-#[derive(Clone, Copy)]
-pub enum TieBreakers {
-    Given(bool),
-    Absent,
-}
-
+// Whether objects as near as the k-th are found too is `include_tie_breakers`; where it is absent, the session decides.
 #[derive(Clone, Copy)]
 pub struct KNNPredicate {
     pub left: usize,
@@ -56,61 +51,63 @@ pub struct KNNPredicate {
     pub k: u32,
     pub use_spheroid: bool,
     pub probe_side: JoinSide,
-    pub include_tie_breakers: TieBreakers,
+    pub include_tie_breakers: Option<bool>,
 }
 
-#[derive(Clone, Copy)]
+// By document 01's numbers.
+#[derive(Clone, Copy, Debug, PartialEq, Eq)]
 pub enum SpatialRelationType {
-    Intersects,
-    Contains,
-    Within,
-    Covers,
-    CoveredBy,
-    Touches,
-    Crosses,
-    Overlaps,
-    Equals,
-}
-
-// The type of a name that has one.
-#[derive(Clone, Copy)]
-pub enum NamedRelation {
-    Relation(SpatialRelationType),
-    Nothing,
+    Intersects = 0,
+    Contains = 1,
+    Within = 2,
+    Covers = 3,
+    CoveredBy = 4,
+    Touches = 5,
+    Crosses = 6,
+    Overlaps = 7,
+    Equals = 8,
 }
 
 impl SpatialRelationType {
     // The name stands from `at` up to `end`; it is compared byte by byte.
-    pub fn from_name(s: &[u8], at: usize, end: usize) -> NamedRelation
+    pub fn from_name(s: &[u8], at: usize, end: usize) -> Option<SpatialRelationType>
         requires { (at ≤ end) × (end ≤ length s.now) }
         ensures { named_relation result ≡ relation_named (part s.now at end) }
     {
-        // By their length alone most other functions are told apart.
-        let size = end - at;
-        if size < 9 {
-            return NamedRelation::Nothing;
-        }
-        if 13 < size {
-            return NamedRelation::Nothing;
-        }
-        let names =
-            b"st_intersects rs_intersects st_contains rs_contains st_within rs_within st_covers st_coveredby st_covered_by st_touches st_crosses st_overlaps st_equals";
-        let ends = [13, 27, 39, 51, 61, 71, 81, 94, 108, 119, 130, 142, 152];
-        match name_index(s, at, end, names, &ends, Case::Exact) {
-            0 | 1 => NamedRelation::Relation(SpatialRelationType::Intersects),
-            2 | 3 => NamedRelation::Relation(SpatialRelationType::Contains),
-            4 | 5 => NamedRelation::Relation(SpatialRelationType::Within),
-            6 => NamedRelation::Relation(SpatialRelationType::Covers),
-            7 | 8 => NamedRelation::Relation(SpatialRelationType::CoveredBy),
-            9 => NamedRelation::Relation(SpatialRelationType::Touches),
-            10 => NamedRelation::Relation(SpatialRelationType::Crosses),
-            11 => NamedRelation::Relation(SpatialRelationType::Overlaps),
-            12 => NamedRelation::Relation(SpatialRelationType::Equals),
-            _ => NamedRelation::Nothing,
+        // A `match` on the bytes was tried: it leaves 132 goals, one for each byte at which it may end, and no names for their facts.
+        if same_name(s, at, end, b"st_intersects") {
+            Some(SpatialRelationType::Intersects)
+        } else if same_name(s, at, end, b"rs_intersects") {
+            Some(SpatialRelationType::Intersects)
+        } else if same_name(s, at, end, b"st_contains") {
+            Some(SpatialRelationType::Contains)
+        } else if same_name(s, at, end, b"rs_contains") {
+            Some(SpatialRelationType::Contains)
+        } else if same_name(s, at, end, b"st_within") {
+            Some(SpatialRelationType::Within)
+        } else if same_name(s, at, end, b"rs_within") {
+            Some(SpatialRelationType::Within)
+        } else if same_name(s, at, end, b"st_covers") {
+            Some(SpatialRelationType::Covers)
+        } else if same_name(s, at, end, b"st_coveredby") {
+            Some(SpatialRelationType::CoveredBy)
+        } else if same_name(s, at, end, b"st_covered_by") {
+            Some(SpatialRelationType::CoveredBy)
+        } else if same_name(s, at, end, b"st_touches") {
+            Some(SpatialRelationType::Touches)
+        } else if same_name(s, at, end, b"st_crosses") {
+            Some(SpatialRelationType::Crosses)
+        } else if same_name(s, at, end, b"st_overlaps") {
+            Some(SpatialRelationType::Overlaps)
+        } else if same_name(s, at, end, b"st_equals") {
+            Some(SpatialRelationType::Equals)
+        } else {
+            None
         }
     }
 
     // The relation that holds of the exchanged arguments.
+    #[tactic(auto, unfolding(definitions::specs::Expression::invert))]
     pub fn invert(self) -> Self
         ensures { relation_of result ≡ definitions.invert (relation_of self) }
     {
@@ -128,65 +125,53 @@ impl SpatialRelationType {
     }
 }
 
-// Document 01's number of a relation type.
-pub fn relation_number(relation: SpatialRelationType) -> u8
-    ensures { result ≡ relation_number (relation_of relation) }
-{
-    match relation {
-        SpatialRelationType::Intersects => 0,
-        SpatialRelationType::Contains => 1,
-        SpatialRelationType::Within => 2,
-        SpatialRelationType::Covers => 3,
-        SpatialRelationType::CoveredBy => 4,
-        SpatialRelationType::Touches => 5,
-        SpatialRelationType::Crosses => 6,
-        SpatialRelationType::Overlaps => 7,
-        SpatialRelationType::Equals => 8,
-    }
-}
-
 // The relation type of a number, 0 to 8.
-pub fn relation_numbered(number: u64) -> SpatialRelationType
-    ensures { relation_of result ≡ relation_numbered number }
-{
-    match number {
-        0 => SpatialRelationType::Intersects,
-        1 => SpatialRelationType::Contains,
-        2 => SpatialRelationType::Within,
-        3 => SpatialRelationType::Covers,
-        4 => SpatialRelationType::CoveredBy,
-        5 => SpatialRelationType::Touches,
-        6 => SpatialRelationType::Crosses,
-        7 => SpatialRelationType::Overlaps,
-        _ => SpatialRelationType::Equals,
+impl From<u64> for SpatialRelationType {
+    ghost from_gives = { λ number type. relation_of type ≡ relation_numbered number };
+
+    #[tactic(auto, unfolding(definitions::specs::Decode::relation_numbered, definitions::specs::Expression::relations))]
+    fn from(number: u64) -> SpatialRelationType {
+        match number {
+            0 => SpatialRelationType::Intersects,
+            1 => SpatialRelationType::Contains,
+            2 => SpatialRelationType::Within,
+            3 => SpatialRelationType::Covers,
+            4 => SpatialRelationType::CoveredBy,
+            5 => SpatialRelationType::Touches,
+            6 => SpatialRelationType::Crosses,
+            7 => SpatialRelationType::Overlaps,
+            _ => SpatialRelationType::Equals,
+        }
     }
 }
 
-// Document 01's number of a flag.
-pub fn flag_number(value: bool) -> u8
-    ensures { result ≡ flag value }
-{
-    if value { 1 } else { 0 }
+// Document 01's number of a relation type.
+impl From<SpatialRelationType> for u8 {
+    ghost from_gives = { λ type number. number ≡ relation_number (relation_of type) };
+
+    fn from(relation: SpatialRelationType) -> u8 {
+        relation as u8
+    }
 }
 
 // Document 01's number of ties.
-pub fn ties_number(ties: TieBreakers) -> u8
+pub fn ties_number(ties: Option<bool>) -> u8
     ensures { result ≡ ties_number ties }
 {
     match ties {
-        TieBreakers::Given(value) => flag_number(value),
-        TieBreakers::Absent => 2,
+        Some(value) => u8::from(value),
+        None => 2,
     }
 }
 
 // The ties of a number; 2 is absent.
-pub fn ties_numbered(number: u64) -> TieBreakers
+pub fn ties_numbered(number: u64) -> Option<bool>
     ensures { ties_number result ≡ ties_numbered number }
 {
     match number {
-        0 => TieBreakers::Given(false),
-        1 => TieBreakers::Given(true),
-        _ => TieBreakers::Absent,
+        0 => Some(false),
+        1 => Some(true),
+        _ => None,
     }
 }
 
@@ -194,14 +179,12 @@ impl RelationPredicate {
     pub fn swap_for_swapped_children(self) -> Self
         ensures { Exchanges (λ s. RelationAt unchanged s self) (λ s. RelationAt unchanged s result) }
     {
-        let relation = self.relation_type;
-        let inverse = relation.invert();
         RelationPredicate {
             left: self.right,
             left_end: self.right_end,
             right: self.left,
             right_end: self.left_end,
-            relation_type: inverse,
+            relation_type: self.relation_type.invert(),
         }
     }
 }
@@ -210,17 +193,13 @@ impl DistancePredicate {
     pub fn swap_for_swapped_children(self) -> Self
         ensures { Exchanges (λ s. DistanceAt unchanged s self) (λ s. DistanceAt unchanged s result) }
     {
-        let side = self.distance_side;
-        let other = side.negate();
         DistancePredicate {
             left: self.right,
             left_end: self.right_end,
             right: self.left,
             right_end: self.left_end,
-            distance: self.distance,
-            distance_end: self.distance_end,
-            distance_side: other,
-            form: self.form,
+            distance_side: self.distance_side.negate(),
+            ..self
         }
     }
 }
@@ -230,18 +209,9 @@ impl KNNPredicate {
     pub fn swap_for_swapped_children(self) -> Self
         ensures { Exchanges (λ s. KnnAt unchanged s self) (λ s. KnnAt unchanged s result) }
     {
-        let probe = self.probe_side;
-        let other = probe.negate();
-        let ties = self.include_tie_breakers;
         KNNPredicate {
-            left: self.left,
-            left_end: self.left_end,
-            right: self.right,
-            right_end: self.right_end,
-            k: self.k,
-            use_spheroid: self.use_spheroid,
-            probe_side: other,
-            include_tie_breakers: ties,
+            probe_side: self.probe_side.negate(),
+            ..self
         }
     }
 }

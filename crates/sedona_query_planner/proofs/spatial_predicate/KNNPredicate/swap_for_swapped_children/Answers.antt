@@ -17,5 +17,5 @@ returns c =
       right = h.right;
       is = ap exchange_predicate h.is
           ∙ ap (λ (side : Side). knn p.k (flag p.use_spheroid) side (ties_number p.include_tie_breakers) h.l h.r)
-          (sym c.negate-other.ensures);
+          (sym c.negate.ensures);
     }

@@ -1,18 +1,12 @@
 -- `swap_for_swapped_children`: the arguments change places, and the type is its inverse.
-use borrow.Author.Rules.{rules}
 use mathlib.Core.Path.{sym, ap, ◌∙◌}
 use Rattle.definitions.specs.Expression.{Relation, relation}
 use Rattle.definitions.specs.Exchange.{exchange_predicate}
 use Rattle.sedona_query_planner.proofs.spatial_predicate.RelationPredicate.swap_for_swapped_children.Goals as goal
 
-pub invert-inverse-requires : goal.invert-inverse-requires
-unfolding exchange_predicate
-invert-inverse-requires c =
-    search rules
-
 pub returns : goal.returns
 unfolding exchange_predicate
 returns c =
     λ s P h.
-    let is = ap exchange_predicate h.is ∙ ap (λ (type : Relation). relation type h.r h.l) (sym c.invert-inverse.ensures) in
+    let is = ap exchange_predicate h.is ∙ ap (λ (type : Relation). relation type h.r h.l) (sym c.invert.ensures) in
     record { l = h.r; r = h.l; left = h.right; right = h.left; is = is }
