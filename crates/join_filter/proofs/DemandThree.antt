@@ -1,4 +1,5 @@
 -- Calls that meet their contracts are the definitions' calls, so a list of them is a session's list, of which all of demand 3 holds.
+use Rattle.std.specs.Prelude.{Ok}
 use Prim.Native.Nat.{ℕ}
 use mathlib.Core.Path.{◌≡◌, refl, sym, ap, ap₂, ◌∙◌, subst}
 use mathlib.Core.Bool.{true, false, ◌&&◌, not}
@@ -15,9 +16,9 @@ use Rattle.definitions.specs.Extract.{matches_by}
 use Rattle.definitions.specs.Calls.{LoadOutcome, load, Outcome, held_plan}
 use Rattle.definitions.specs.Machine.{Kind, extract_call, exchange_call}
 use Rattle.definitions.specs.Good.{AllBytes}
-use Rattle.definitions.specs.Sessions.{Made, fed, extract_with, make_by, ListOutcome, calls_run_by, machine_after_by, accepted, extract_accepted, exchanges_odd, SessionBy, after, plan_left}
+use Rattle.definitions.specs.Sessions.{Made, fed, make_by, ListOutcome, calls_run_by, machine_after_by, accepted, extract_accepted, exchanges_odd, SessionBy, after, plan_left}
 use Rattle.definitions.specs.Meaning.{Valuation, Meaning, frame_value, extraction_value}
-use Rattle.definitions.specs.Settings.{Settings, match_under, FairUnder, make_under, walk_under, calls_run_under}
+use Rattle.definitions.specs.Settings.{Settings, match_under, FairUnder, make_under, calls_run_under}
 use Rattle.definitions.specs.SettingsClaims.{GoodSettings, UnderSettings}
 use Rattle.definitions.specs.Claims.{LeavesSession, AgreeBy, some_leaf_matches_by, TookAmong, extracted_plan, NamesLeaf, price_line_by}
 use Rattle.definitions.specs.ValueClaims.{values_when, HasValue}
@@ -32,11 +33,9 @@ use Rattle.theorems.proofs.InverseFrame.{same_ok}
 use Rattle.theorems.proofs.MergeCall.{same-held}
 use Rattle.theorems.proofs.SettingsClaimed.{same-make}
 use Rattle.theorems.proofs.Proved.{all-settings, merge-holds, list-after-projection}
-use Rattle.join_filter.specs.Outcomes.{answer_of, LoadIs, OutcomeIs, MergeIs}
-use Rattle.join_filter.specs.Lists.{Lent, CallIs, Ran, no_call, called, given, carried, ran_to, ProjectIs, Starts, by_load, by_merge, CodeRun, outcome, plan, extracted, odd, DemandThree, AfterProjection, CodeMeetsUnder, CodeMeetsDemandThree}
-use Rattle.join_filter.specs.declared.answers.Answer.{Answer}
+use Rattle.join_filter.specs.Outcomes.{Answered, answer_of, LoadIs, OutcomeIs, MergeIs}
+use Rattle.join_filter.specs.Lists.{Lent, CallIs, Ran, no_call, called, given, ran_to, ProjectIs, Starts, by_load, by_merge, CodeRun, outcome, plan, extracted, odd, DemandThree, AfterProjection, CodeMeetsUnder, CodeMeetsDemandThree}
 use Rattle.join_filter.specs.declared.answers.Extracted.{Extracted}
-use Rattle.join_filter.specs.declared.answers.Answer.TheVariants.{Length}
 
 module _ (S : Settings) (g : GoodSettings S) where
   abbrev under : UnderSettings S
@@ -106,7 +105,7 @@ module _ (S : Settings) (g : GoodSettings S) where
   Holds a F = LeavesSession (match_under S) F a.n a.buffer a.table
 
   load_is : (frame before : List ℕ) (table : List NodeRecord) (a : Lent) → AllBytes frame
-      → LoadIs frame before a.buffer table a.table (Length a.n) → (F : Frame) × (frame_of frame ≡ ok F) × Holds a F
+      → LoadIs frame before a.buffer table a.table (Ok a.n) → (F : Frame) × (frame_of frame ≡ ok F) × Holds a F
   unfolding accepted
   load_is frame before table a bytes is =
       let taken : accepted (load frame 0 before table).answer ≡ true = ap (λ (o : LoadOutcome). accepted o.answer) (is 0) in
@@ -114,7 +113,7 @@ module _ (S : Settings) (g : GoodSettings S) where
       (F, good, subst (λ (o : LoadOutcome). LeavesSession (match_under S) F o.n o.buffer o.table) (is 0) s)
 
   merge-is : (frame : List ℕ) (n : ℕ) (before scratch kept : List ℕ) (table : List NodeRecord) (a : Lent) → AllBytes frame → AllBytes before
-      → MergeIs (merge frame n before scratch table) n a.buffer kept a.table (Length a.n)
+      → MergeIs (merge frame n before scratch table) n a.buffer kept a.table (Ok a.n)
       → (old : Frame) × (new : Frame) × (held_plan n before ≡ ok (held old)) × (frame_of frame ≡ ok new) × Holds a (merge_frames old new)
   unfolding accepted
   merge-is frame n before scratch kept table a bytes plan-bytes is =
@@ -191,7 +190,7 @@ module _ (S : Settings) (g : GoodSettings S) where
         (projects lists r.last scratch kept a is))
 
     -- One more call that met its contract is made with the matcher of the settings.
-    as-made : (kind : Kind) (l : Lent) (scratch buffer' scratch' : List ℕ) (a : Answer)
+    as-made : (kind : Kind) (l : Lent) (scratch buffer' scratch' : List ℕ) (a : Answered)
         → OutcomeIs (make_under S kind l.n l.buffer scratch l.table) l.n buffer' scratch' a
         → accepted (answer_of a) ≡ accepted (make_by (match_under S) kind l.n l.buffer scratch l.table).answer
     as-made kind l scratch buffer' scratch' a is =

@@ -4,7 +4,6 @@ use mathlib.Core.Path.{◌≡◌, refl, sym, ◌∙◌}
 use mathlib.Core.Bool.{Bool, true, false}
 use mathlib.Core.List.{List}
 use Rattle.definitions.specs.Limits.{four_bytes}
-use Rattle.definitions.specs.Basics.{refused}
 use Rattle.definitions.specs.Calls.{Outcome, finish, extract_by, extract_walk_by}
 use Rattle.definitions.specs.NodeTable.{NodeRecord}
 use Rattle.definitions.specs.Settings.{Settings, good_settings, match_under, extract_under, extract_walk_under}

@@ -1,6 +1,6 @@
 -- Lists of calls of the code, by the contracts of load, extract, exchange, merge and project alone: demand 3, clause by clause. Within a
 -- list the settings are fixed, two lists that are compared have the same ones, and the machine is given them too (request 13).
-use Rattle.std.specs.Prelude.{ℕ, ◌≡◌, Bool, true, false, ◌&&◌, not, List, [], ◌∷◌, map, length, take, leb}
+use Rattle.std.specs.Prelude.{ℕ, ◌≡◌, Bool, true, false, ◌&&◌, not, List, [], ◌∷◌, map, length, take, leb, Ok}
 use Rattle.std.proofs.Math.Option.{some}
 use Rattle.definitions.specs.Basics.{Result, ok}
 use Rattle.definitions.specs.Expression.{Frame, Extraction, held, extracted as holding}
@@ -22,9 +22,7 @@ use Rattle.definitions.specs.Project.{projection, project, Lists as ChildLists}
 use Rattle.definitions.specs.OddMachine.{odd_run}
 use Rattle.definitions.specs.ProjectClaims.{NewColumns, project_by, OddAgree}
 use Rattle.definitions.specs.History.{Call, loading, making, merging, projecting, nothing, state_plan, History, machine_history, FramesAreBytes}
-use Rattle.join_filter.specs.Outcomes.{answer_of, n_after, LoadIs, OutcomeIs, MergeIs}
-use Rattle.join_filter.specs.declared.answers.Answer.{Answer}
-use Rattle.join_filter.specs.declared.answers.Answer.TheVariants.{Length}
+use Rattle.join_filter.specs.Outcomes.{Answered, answer_of, n_after, LoadIs, OutcomeIs, MergeIs}
 use Rattle.join_filter.specs.declared.answers.Extracted.{Extracted}
 
 -- ---- lists of calls
@@ -72,15 +70,15 @@ ran_to answers last = record { answers = given answers; walks = carried answers;
 
 -- A projection by these lists that met its contract, given what was left as the first, gave a length and left the last.
 abbrev pub ProjectIs : ChildLists → Lent → (scratch kept : List ℕ) → Lent → Type 0
-ProjectIs lists b scratch kept a = OutcomeIs (project_by lists b.n b.buffer scratch) b.n a.buffer kept (Length a.n)
+ProjectIs lists b scratch kept a = OutcomeIs (project_by lists b.n b.buffer scratch) b.n a.buffer kept (Ok a.n)
 
 -- A call that met its contract and gave a length left the frame F: a load of it, or a merge that joined two frames to it.
 pub data Starts (F : Frame) (a : Lent) : Type 0 where
   by_load : (frame before : List ℕ) (table : List NodeRecord) → AllBytes frame → frame_of frame ≡ ok F
-      → LoadIs frame before a.buffer table a.table (Length a.n) → Starts F a
+      → LoadIs frame before a.buffer table a.table (Ok a.n) → Starts F a
   by_merge : (frame : List ℕ) (n : ℕ) (before scratch kept : List ℕ) (table : List NodeRecord) (old new : Frame) → AllBytes frame
       → AllBytes before → frame_of frame ≡ ok new → held_plan n before ≡ ok (held old) → merge_frames old new ≡ F
-      → MergeIs (merge frame n before scratch table) n a.buffer kept a.table (Length a.n) → Starts F a
+      → MergeIs (merge frame n before scratch table) n a.buffer kept a.table (Ok a.n) → Starts F a
 
 -- Such a call, and after it a list of extracts and exchanges that met their contracts.
 pub record CodeRun (S : Settings) (F : Frame) (calls : List Made) : Type 0 where
@@ -119,11 +117,11 @@ pub record DemandThree (S : Settings) (F : Frame) : Type 0 where
   pub truth : (M : Meaning) → FairUnder S M → (v : Valuation) (calls : List Made) (r : CodeRun S F calls)
       → HasValue M v (plan r) (frame_value M (values_when (odd r) v) F)
   -- An exchange is accepted exactly when its scratch is at least as long as the plan;
-  pub exchange_accepted : (calls : List Made) (r : CodeRun S F calls) (scratch buffer' scratch' : List ℕ) (a : Answer)
+  pub exchange_accepted : (calls : List Made) (r : CodeRun S F calls) (scratch buffer' scratch' : List ℕ) (a : Answered)
       → OutcomeIs (make_under S exchange_call r.last.n r.last.buffer scratch r.last.table) r.last.n buffer' scratch' a
       → accepted (answer_of a) ≡ leb r.last.n (length scratch)
   -- an extract exactly when its scratch is too, none was accepted before it and an AND-leaf of the frame matches under the settings.
-  pub extract_accepted : (calls : List Made) (r : CodeRun S F calls) (scratch buffer' scratch' : List ℕ) (a : Answer)
+  pub extract_accepted : (calls : List Made) (r : CodeRun S F calls) (scratch buffer' scratch' : List ℕ) (a : Answered)
       → OutcomeIs (make_under S extract_call r.last.n r.last.buffer scratch r.last.table) r.last.n buffer' scratch' a
       → accepted (answer_of a) ≡ (leb r.last.n (length scratch) && (not (extracted r) && some_leaf_matches_by (match_under S) F))
   -- An accepted extract takes the first KNN match, failing that the first match.
@@ -159,11 +157,11 @@ pub record AfterProjection (S : Settings) (lists : ChildLists) (X Y : Extraction
 pub record CodeMeetsUnder (S : Settings) : Type 0 where
   -- A load that met its contract and gave a length is of a good frame, for which all of this holds.
   pub after_load : (frame before : List ℕ) (table : List NodeRecord) (a : Lent) → AllBytes frame
-      → LoadIs frame before a.buffer table a.table (Length a.n)
+      → LoadIs frame before a.buffer table a.table (Ok a.n)
       → (F : Frame) × (frame_of frame ≡ ok F) × Starts F a × DemandThree S F
   -- A merge that did is of a good frame into a held one; it all holds afresh for the merged frame.
   pub after_merge : (frame : List ℕ) (n : ℕ) (before scratch kept : List ℕ) (table : List NodeRecord) (a : Lent) → AllBytes frame
-      → AllBytes before → MergeIs (merge frame n before scratch table) n a.buffer kept a.table (Length a.n)
+      → AllBytes before → MergeIs (merge frame n before scratch table) n a.buffer kept a.table (Ok a.n)
       → (old : Frame) × (new : Frame) × (held_plan n before ≡ ok (held old)) × (frame_of frame ≡ ok new)
       × Starts (merge_frames old new) a × DemandThree S (merge_frames old new)
   -- A projection that met its contract and gave a length is of an extraction that is held, as long, and all of this holds after it.

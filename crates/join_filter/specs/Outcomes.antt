@@ -1,5 +1,5 @@
 -- Which definition each answer is.
-use Rattle.std.specs.Prelude.{ℕ, ◌≡◌, List}
+use Rattle.std.specs.Prelude.{ℕ, ◌≡◌, List, Result as Given, Ok, Err}
 use Rattle.definitions.specs.Basics.{Result, ok, refused}
 use Rattle.definitions.specs.Calls.{Outcome, load}
 use Rattle.definitions.specs.NodeTable.{NodeRecord}
@@ -7,28 +7,29 @@ use Rattle.definitions.specs.Merge.{MergeOutcome}
 use Rattle.definitions.specs.Printed.{print}
 use Rattle.terms.specs.Refusals.{number_of}
 use Rattle.terms.specs.declared.refusals.Refusal.{Refusal}
-use Rattle.join_filter.specs.declared.answers.Answer.{Answer}
-use Rattle.join_filter.specs.declared.answers.Answer.TheVariants.{Length, Refused}
 use Rattle.join_filter.specs.declared.answers.Extracted.{Extracted}
-use Rattle.join_filter.specs.declared.answers.Loaded.{Loaded}
+
+-- A length, or why the call is refused.
+abbrev pub Answered : Type 0
+Answered = Given ℕ Refusal
 
 -- The answer of 01 and 02 for each case: a length, or the number of the refusal.
-abbrev pub answer_of : Answer → Result ℕ
-answer_of (Length n) = ok n
-answer_of (Refused why) = refused (number_of why)
+abbrev pub answer_of : Answered → Result ℕ
+answer_of (Ok n) = ok n
+answer_of (Err why) = refused (number_of why)
 
 -- The host's n after a call: the new plan's length, or as it was.
-abbrev pub n_after : (n : ℕ) → Answer → ℕ
-n_after n (Length k) = k
-n_after n (Refused why) = n
+abbrev pub n_after : (n : ℕ) → Answered → ℕ
+n_after n (Ok k) = k
+n_after n (Err why) = n
 
 -- The load is the definition's, whatever n the host had: answer, n, plan buffer and table.
-abbrev pub LoadIs : (frame before after : List ℕ) → (table filled : List NodeRecord) → Answer → Type 0
+abbrev pub LoadIs : (frame before after : List ℕ) → (table filled : List NodeRecord) → Answered → Type 0
 LoadIs frame before after table filled r =
     (n : ℕ) → load frame n before table ≡ record { answer = answer_of r; n = n_after n r; buffer = after; table = filled }
 
 -- The call is the definition's: answer, n and both buffers.
-abbrev pub OutcomeIs : Outcome → (n : ℕ) → (after scratch : List ℕ) → Answer → Type 0
+abbrev pub OutcomeIs : Outcome → (n : ℕ) → (after scratch : List ℕ) → Answered → Type 0
 OutcomeIs o n after scratch r = o ≡ record { answer = answer_of r; n = n_after n r; buffer = after; scratch = scratch }
 
 -- The extract is the definition's: answer, n and both buffers, and the walk that it carries (request 10).
@@ -38,17 +39,13 @@ pub record ExtractIs (o : Outcome) (walk n : ℕ) (after scratch : List ℕ) (r 
 
 -- An extract that is refused before it reads the leaves.
 abbrev pub unwalked : Refusal → Extracted
-unwalked why = record { answer = Refused why; walk = 0 }
+unwalked why = record { answer = Err why; walk = 0 }
 
 -- The merge is the definition's: answer, n, both buffers and the table.
-abbrev pub MergeIs : MergeOutcome → (n : ℕ) → (after scratch : List ℕ) → (filled : List NodeRecord) → Answer → Type 0
+abbrev pub MergeIs : MergeOutcome → (n : ℕ) → (after scratch : List ℕ) → (filled : List NodeRecord) → Answered → Type 0
 MergeIs o n after scratch filled r =
     o ≡ record { answer = answer_of r; n = n_after n r; buffer = after; scratch = scratch; table = filled }
 
--- A refused load or merge, which fills no table.
-abbrev pub unfilled_by : Refusal → Loaded
-unfilled_by why = record { answer = Refused why; root = 0; count = 0 }
-
 -- The print is the definition's: answer and text buffer.
-abbrev pub PrintIs : (frame before after : List ℕ) → Answer → Type 0
+abbrev pub PrintIs : (frame before after : List ℕ) → Answered → Type 0
 PrintIs frame before after r = print frame before ≡ record { answer = answer_of r; buffer = after }

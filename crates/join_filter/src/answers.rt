@@ -1,15 +1,11 @@
 // What load, extract, exchange, print and merge answer.
 ghost use Rattle.std.specs.Prelude.{◌≡◌};
-ghost use Rattle.join_filter.specs.Outcomes.{unfilled_by};
+ghost use Rattle.join_filter.specs.Outcomes.{unwalked};
 
 use terms::refusals::Refusal;
 
 // The length of the new plan or of the text, or why the call is refused.
-#[derive(Clone, Copy)]
-pub enum Answer {
-    Length(usize),
-    Refused(Refusal),
-}
+pub type Answer = Result<usize, Refusal>;
 
 // What extract answers, and how many And nodes and AND-leaves it read: 0 but with a length and with 13 (request 10 of document 02).
 #[derive(Clone, Copy)]
@@ -18,22 +14,23 @@ pub struct Extracted {
     pub walk: usize,
 }
 
-// What load and merge answer, and what the table is to be filled with: the nodes of the expression that begins at `root`, `count` of
-// them, or none.
-#[derive(Clone, Copy)]
-pub struct Loaded {
-    pub answer: Answer,
-    pub root: usize,
-    pub count: usize,
+impl Extracted {
+    // Refused before the leaves are read.
+    pub fn refused(why: Refusal) -> Self
+        ensures { result ≡ unwalked why }
+    {
+        Extracted {
+            answer: Err(why),
+            walk: 0,
+        }
+    }
 }
 
-// A refusal leaves the table as it is.
-pub fn unfilled(why: Refusal) -> Loaded
-    ensures { result ≡ unfilled_by why }
-{
-    Loaded {
-        answer: Answer::Refused(why),
-        root: 0,
-        count: 0,
-    }
+// What load and merge give: the new plan's length, and what the table is to be filled with, the nodes of the expression that begins at
+// `root`, `count` of them. After an Err the table stays as it is.
+#[derive(Clone, Copy)]
+pub struct Loaded {
+    pub length: usize,
+    pub root: usize,
+    pub count: usize,
 }

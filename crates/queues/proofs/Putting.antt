@@ -3,23 +3,19 @@ use Prim.Native.Nat.{ℕ, zero, suc, ◌+◌, ◌≤◌, ◌<◌}
 use native.Mathlib.Omega.{arith}
 use native.Mathlib.Nat.{add-zero}
 use mathlib.Core.Path.{◌≡◌, refl, sym, ap, ap₂, ◌∙◌}
-use mathlib.Core.Bool.{Bool, true, false, not}
 use mathlib.Core.List.{List, [], ◌∷◌, ◌++◌}
 use lib.ListN.{length, take, drop, get_or}
 use lib.Seq.{get_or-take, get_or-drop}
-use borrow.Author.Tests.{lt-ltb, le-ltb, le-leb, lt-leb, not-true, not-false}
+use borrow.Author.Tests.{lt-ltb, le-ltb, le-leb, lt-leb}
 use Rattle.definitions.specs.Basics.{Result, ok, refused, ◌>>=◌}
 use Rattle.definitions.specs.Good.{AllBytes}
 use Rattle.definitions.specs.Queues.{Queue, chassis, fixed_unit, queue_number, Frames, State, waiting, with_frames, put_in}
 use Rattle.definitions.specs.QueueBytes.{start, part_of, queue_of, state_of, queue_over, state_over, queue_numbered, put_done, put}
 use Rattle.theorems.proofs.QueueStates.{HeldIn, held_in, part-long, part-holds, with_part, frames-over}
-use Rattle.queues.specs.Held.{GoodIs, Held}
+use Rattle.queues.specs.Held.{Held}
 use Rattle.queues.specs.Parts.{HasRoom, FrameAdded}
 
 -- ---- a state that is held
-
-pub is_held : (b : List ℕ) (good : Bool) → GoodIs good (state_of b) → not good ≡ false → Held b
-is_held b good h e = rw (not-false good e) at h
 
 pub start-low : (q : Queue) → start q ≤ 16418
 start-low chassis = omega arith
@@ -64,10 +60,9 @@ module _ (b : List ℕ) (q : Queue) (f : List ℕ) where
     by-queue chassis = refl
     by-queue fixed_unit = refl
 
-  pub put-unheld : (good : Bool) → GoodIs good (state_of b) → not good ≡ true
-      → put b (queue_number q) f ≡ record { answer = refused 10; queues = b }
+  pub put-unheld : state_of b ≡ refused 10 → put b (queue_number q) f ≡ record { answer = refused 10; queues = b }
   unfolding put_done
-  put-unheld good h e = put_is (refused 10) (rw (not-true good e) at h)
+  put-unheld e = put_is (refused 10) e
 
   module _ (h : Held b) where
     pub put-empty : length f < 1 → put b (queue_number q) f ≡ record { answer = refused 1; queues = b }
@@ -106,9 +101,8 @@ module _ (b : List ℕ) (q : Queue) (f : List ℕ) where
               (given_back b q at n is size S held bytes (waiting q S ++ (f ∷ [])) part
               (added (waiting q S) (part-frames b q at n is size S held) (sym count))))
 
-pub put-nowhere : (b : List ℕ) (number : ℕ) (f : List ℕ) → (number ≡ 0 → ⊥) → (number ≡ 1 → ⊥)
-    → put b number f ≡ record { answer = refused 21; queues = b }
+pub put-nowhere : (b : List ℕ) (number : ℕ) (f : List ℕ) → 1 < number → put b number f ≡ record { answer = refused 21; queues = b }
 unfolding put queue_numbered put_done
-put-nowhere b zero f not-0 not-1 = absurd (not-0 refl)
-put-nowhere b (suc zero) f not-0 not-1 = absurd (not-1 refl)
-put-nowhere b (suc (suc n)) f not-0 not-1 = refl
+put-nowhere b zero f h = absurd (omega arith)
+put-nowhere b (suc zero) f h = absurd (omega arith)
+put-nowhere b (suc (suc n)) f h = refl

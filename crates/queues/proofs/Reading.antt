@@ -3,13 +3,14 @@ use Prim.Native.Nat.{ℕ, zero, suc, ◌+◌, ◌-◌, ◌*◌, ◌≤◌, ◌<�
 use native.Mathlib.Omega.{arith}
 use native.Mathlib.Nat.{sub-zero, mul-add, mul-one}
 use mathlib.Core.Path.{◌≡◌, refl, ap, ◌∙◌}
+use mathlib.Core.Logic.{◌⊎◌, inl, inr}
 use mathlib.Core.Bool.{Bool, true, false, and-false}
 use mathlib.Core.List.{List, [], ◌∷◌}
 use lib.ListN.{length, take, drop, get_or}
 use lib.Seq.{drop-drop}
 use lib.Dec.{leb}
 use borrow.Author.Tests.{le-leb, lt-leb, ne_eqb, eq-eqb}
-use Rattle.definitions.specs.Basics.{ok, refused, ◌>>=◌, ◌>>◌}
+use Rattle.definitions.specs.Basics.{ok, refused}
 use Rattle.definitions.specs.Queues.{chassis, fixed_unit, Mark}
 use Rattle.definitions.specs.QueueBytes.{part_of, lengths_of, places_of, short, is_length, mark_of, frames_of, queue_of, state_of}
 use Rattle.theorems.proofs.QueueFrames.{range-in}
@@ -36,11 +37,9 @@ unfolding frames_of
 frames-next n L P true range h = (take (short L) P ∷ h.0, rw (range, h.1))
 frames-next n L P false range h = rw (range, h)
 
-pub too_short : (n : ℕ) → n < 1 → is_length n ≡ false
-too_short n h = rw (lt-leb 1 n h)
-
-pub too_long : (n : ℕ) → 1024 < n → is_length n ≡ false
-too_long n h = rw (lt-leb n 1024 h) (and-false (leb 1 n))
+out_of-range : (n : ℕ) → (n < 1) ⊎ ((1 ≤ n) × (1024 < n)) → is_length n ≡ false
+out_of-range n (inl short) = rw (lt-leb 1 n short)
+out_of-range n (inr long) = rw (lt-leb n 1024 long.1) (and-false (leb 1 n))
 
 module _ (part : List ℕ) (few : get_or part 0 0 ≤ 16) where
   pub none_read : Read part 0
@@ -55,9 +54,9 @@ module _ (part : List ℕ) (few : get_or part 0 0 ≤ 16) where
     left = omega arith
 
     -- A length out of range.
-    pub length-bad : (n : ℕ) → n ≡ short_at part (1 + 2 * i) → is_length n ≡ false → GoodIs false (queue_of part)
+    pub length-bad : (n : ℕ) → n ≡ short_at part (1 + 2 * i) → (n < 1) ⊎ ((1 ≤ n) × (1024 < n)) → GoodIs false (queue_of part)
     unfolding frames_of
-    length-bad n e bad = r.decides false (rw (left, length-there part i (omega arith), ← e, bad) refl)
+    length-bad n e bad = r.decides false (rw (left, length-there part i (omega arith), ← e, out_of-range n bad) refl)
 
     -- A length in range leaves the decision to those behind it.
     pub one-read : (n : ℕ) → n ≡ short_at part (1 + 2 * i) → 1 ≤ n → n ≤ 1024 → Read part (i + 1)

@@ -1,13 +1,13 @@
 -- What is due, and what a serve is once that is known.
+use Rattle.std.specs.Prelude.{Option as CodeOption, Some, None}
 use Prim.Native.Nat.{ℕ, ◌+◌, ◌≤◌, ◌<◌}
 use native.Mathlib.Omega.{arith}
 use mathlib.Core.Path.{◌≡◌, refl, sym, ap, ◌∙◌}
-use mathlib.Core.Bool.{Bool, true, not}
 use mathlib.Core.List.{List, [], ◌∷◌, ◌++◌}
 use mathlib.Core.Option.{Option, none, some}
 use lib.ListN.{length, take, drop, get_or, set, length-append}
 use lib.Seq.{length-take-le}
-use borrow.Author.Tests.{le-leb, lt-leb, not-true}
+use borrow.Author.Tests.{le-leb, lt-leb}
 use Rattle.definitions.specs.Basics.{ok, refused}
 use Rattle.definitions.specs.Calls.{written_over}
 use Rattle.definitions.specs.Good.{AllBytes}
@@ -16,13 +16,10 @@ use Rattle.definitions.specs.QueueBytes.{start, lengths_of, places_of, queue_of,
 use Rattle.theorems.proofs.QueueFrames.{At, row_at}
 use Rattle.theorems.proofs.QueueStates.{held_in, Holds, queue-holds, places-long, mark-same}
 use Rattle.expression.specs.Places.{short_at}
-use Rattle.queues.specs.Outcomes.{queue_is, ServeIs}
-use Rattle.queues.specs.Held.{GoodIs, Held, taken, DueOf, FirstOf, DueIs, HoldsFrame, ServedFrom}
+use Rattle.queues.specs.Outcomes.{queue_is, ServeAnswered, ServeIs}
+use Rattle.queues.specs.Held.{Held, taken, DueOf, FirstOf, DueIs, HoldsFrame, ServedFrom}
 use Rattle.queues.specs.Parts.{HasFirst, FirstTaken}
 use Rattle.queues.specs.declared.answers.Queue as code
-use Rattle.queues.specs.declared.answers.ServeAnswer.{ServeAnswer}
-use Rattle.queues.specs.declared.serve.Due as code-due
-use Rattle.queues.specs.declared.serve.Due.TheVariants.{From, Nothing}
 use Rattle.queues.proofs.Shifting.{length-there}
 use Rattle.queues.proofs.Putting.{count-there, part-size, part-frames, given_back}
 
@@ -47,20 +44,20 @@ module _ (b : List ℕ) (S : State) (is : state_of b ≡ ok S) (q : Queue) (at :
   is-empty h = no-frame (waiting q S) (omega (arith, count))
 
 module _ (b : List ℕ) (p q : code.Queue) (at : ℕ) (place : at ≡ start (queue_is p)) where
-  pub first-due : 0 < get_or b at 0 → FirstOf b (queue_is p) (queue_is q) (From p)
+  pub first-due : 0 < get_or b at 0 → FirstOf b (queue_is p) (queue_is q) (Some p)
   unfolding oldest
   first-due h S is =
       let one = has-frame b S is (queue_is p) at place h in
       (one.0, one.1, one.2, rw one.2)
 
   module _ (none-there : get_or b at 0 ≤ 0) (at' : ℕ) (place' : at' ≡ start (queue_is q)) where
-    pub second-due : 0 < get_or b at' 0 → FirstOf b (queue_is p) (queue_is q) (From q)
+    pub second-due : 0 < get_or b at' 0 → FirstOf b (queue_is p) (queue_is q) (Some q)
     unfolding oldest
     second-due h S is =
         let one = has-frame b S is (queue_is q) at' place' h in
         (one.0, one.1, one.2, rw (is-empty b S is (queue_is p) at place none-there, one.2))
 
-    pub none-due : get_or b at' 0 ≤ 0 → FirstOf b (queue_is p) (queue_is q) Nothing
+    pub none-due : get_or b at' 0 ≤ 0 → FirstOf b (queue_is p) (queue_is q) None
     unfolding oldest
     none-due h S is = rw (is-empty b S is (queue_is p) at place none-there, is-empty b S is (queue_is q) at' place' h)
 
@@ -78,7 +75,7 @@ tried-chassis nobody e = refl
 tried-chassis (last chassis) e = absurd (e refl)
 tried-chassis (last fixed_unit) e = refl
 
-module _ (b : List ℕ) (r : code-due.Due) where
+module _ (b : List ℕ) (r : CodeOption code.Queue) where
   by_turn : (S : State) (q : Queue) → first_tried S.mark ≡ q
       → DueOf S r (oldest q S (waiting q S) (oldest (other_queue q) S (waiting (other_queue q) S) none)) → DueOf S r (due S)
   unfolding due
@@ -167,25 +164,24 @@ module _ (b : List ℕ) (q : Queue) (at n : ℕ) (place : at ≡ start q) (size 
 -- ---- serve
 
 module _ (b out : List ℕ) where
-  pub serve-unheld : (good : Bool) → GoodIs good (state_of b) → not good ≡ true
-      → serve b out ≡ record { answer = refused 10; queues = b; out = out }
+  pub serve-unheld : state_of b ≡ refused 10 → serve b out ≡ record { answer = refused 10; queues = b; out = out }
   unfolding serve serve_held
-  serve-unheld good h e = let ten : state_of b ≡ refused 10 = rw (not-true good e) at h in rw ten refl
+  serve-unheld e = rw e refl
 
   module _ (h : Held b) (d : Option Due) (is : due h.0 ≡ d) where
     pub serve_is : serve b out ≡ serve_due b out d
     unfolding serve serve_held
     serve_is = rw h.1 (ap (serve_due b out) is)
 
-  pub serve-nothing : (h : Held b) → DueIs b Nothing → serve b out ≡ record { answer = ok both_empty; queues = b; out = out }
+  pub serve-nothing : (h : Held b) → DueIs b None → serve b out ≡ record { answer = ok both_empty; queues = b; out = out }
   unfolding serve_due
   serve-nothing h nothing = serve_is h none (nothing h.0 h.1)
 
-  module _ (h : Held b) (q : code.Queue) (from : DueIs b (From q)) where
+  module _ (h : Held b) (q : code.Queue) (from : DueIs b (Some q)) where
     pub holds_frame : HoldsFrame b (queue_is q)
     holds_frame = let one = from h.0 h.1 in record { state = h.0; frame = one.0; later = one.1; held = h.1; first = one.2 }
 
-    pub serve-one : (after out_after : List ℕ) (r : ServeAnswer) → ServedFrom b (queue_is q) out after out_after r
+    pub serve-one : (after out_after : List ℕ) (r : ServeAnswered) → ServedFrom b (queue_is q) out after out_after r
         → ServeIs (serve b out) after out_after r
     serve-one after out_after r served =
         let one = from h.0 h.1 in

@@ -1,13 +1,11 @@
 // The bytes of one queue: count, lengths, places.
-ghost use Rattle.std.specs.Prelude.{◌≡◌, ◌+◌, ◌≤◌, length, take, drop};
+ghost use Rattle.std.specs.Prelude.{◌≡◌};
 ghost use Rattle.definitions.specs.QueueBytes.{start};
-ghost use Rattle.writing.specs.Written.{WroteAt};
 ghost use Rattle.queues.specs.Outcomes.{queue_is};
 ghost use Rattle.queues.specs.Parts.{HasRoom, FrameAdded, HasNext, FrameMoved, HasFirst, FirstTaken};
 
 use crate::answers::Queue;
 use expression::fields::short_at;
-use writing::copies::copy_bytes;
 use writing::numbers::put_number;
 
 // How many frames a queue holds at most, and how many bytes a frame has at most.
@@ -43,19 +41,6 @@ pub(crate) fn queue_start(queue: Queue) -> usize
     }
 }
 
-// Moves n bytes down to `to`.
-fn move_bytes(s: &mut [u8], to: usize, from: usize, n: usize)
-    requires to_le_from { to ≤ from }
-    requires n_in_bounds { from + n ≤ length s.old }
-    ensures { WroteAt to (take n (drop from s.old)) s.old s.new (to + n) }
-{
-    let mut i = 0;
-    while i < n {
-        s[to + i] = s[from + i];
-        i += 1;
-    }
-}
-
 // Adds a frame behind `count` others.
 pub(crate) fn add_frame(part: &mut [u8], count: usize, frame: &[u8])
     requires { HasRoom part.old count frame.now }
@@ -64,7 +49,7 @@ pub(crate) fn add_frame(part: &mut [u8], count: usize, frame: &[u8])
     let n = frame.len();
     put_number(part, LENGTHS + 2 * count, 2, n);
     let place = PLACES + LONGEST * count;
-    copy_bytes(&mut part[place..], frame, 0, n);
+    part[place..place + n].copy_from_slice(frame);
     part[0] = (count + 1) as u8;
 }
 
@@ -75,7 +60,8 @@ fn move_frame(part: &mut [u8], k: usize)
 {
     let n = short_at(part, SECOND_LENGTH + 2 * k);
     put_number(part, LENGTHS + 2 * k, 2, n);
-    move_bytes(part, PLACES + LONGEST * k, SECOND_PLACE + LONGEST * k, n);
+    let from = SECOND_PLACE + LONGEST * k;
+    part.copy_within(from..from + n, PLACES + LONGEST * k);
 }
 
 // Takes the oldest frame out: moves the later ones down by one place.
@@ -83,11 +69,9 @@ pub(crate) fn take_first(part: &mut [u8])
     requires { HasFirst part.old }
     ensures { FirstTaken part.old part.new }
 {
-    let last = part[0] as usize - 1;
-    let mut k = 0;
-    while k < last {
+    let last = usize::from(part[0]) - 1;
+    for k in 0..last {
         move_frame(part, k);
-        k += 1;
     }
     part[0] = last as u8;
 }

@@ -1,7 +1,5 @@
 // The call serve.
-ghost use Rattle.std.specs.Prelude.{◌≡◌};
 ghost use Rattle.definitions.specs.QueueBytes as definitions;
-ghost use Rattle.definitions.specs.Queues.{last};
 ghost use Rattle.queues.specs.Outcomes.{queue_is, ServeIs};
 ghost use Rattle.queues.specs.Held.{Held, FirstOf, DueIs, HoldsFrame, ServedFrom};
 
@@ -10,47 +8,27 @@ use crate::held::good_queues;
 use crate::parts::{LENGTHS, PART, PLACES, queue_start, take_first};
 use expression::fields::short_at;
 use terms::refusals::Refusal;
-use writing::copies::copy_bytes;
-
-// The queue of the frame that is due.
-#[derive(Clone, Copy)]
-enum Due {
-    From(Queue),
-    Nothing,
-}
-
-// The byte that marks a queue as the last served.
-fn mark_byte(queue: Queue) -> u8
-    ensures { result ≡ definitions.mark_byte (last (queue_is queue)) }
-{
-    match queue {
-        Queue::Chassis => 1,
-        Queue::FixedUnit => 2,
-    }
-}
 
 // The first of two queues that holds a frame.
-fn first_of(queues: &[u8], first: Queue, second: Queue) -> Due
+fn first_of(queues: &[u8], first: Queue, second: Queue) -> Option<Queue>
     requires { Held queues.now }
     ensures { FirstOf queues.now (queue_is first) (queue_is second) result }
 {
-    let at = queue_start(first);
-    if 0 < queues[at] {
-        return Due::From(first);
+    if 0 < queues[queue_start(first)] {
+        return Some(first);
     }
-    let at = queue_start(second);
-    if 0 < queues[at] {
-        return Due::From(second);
+    if 0 < queues[queue_start(second)] {
+        return Some(second);
     }
-    Due::Nothing
+    None
 }
 
 // The queue that is due: the one that was not served last, if it holds a frame.
-fn find_due(queues: &[u8]) -> Due
+fn find_due(queues: &[u8]) -> Option<Queue>
     requires { Held queues.now }
     ensures { DueIs queues.now result }
 {
-    if queues[0] == 1 {
+    if queues[0] == Queue::Chassis.mark_byte() {
         first_of(queues, Queue::FixedUnit, Queue::Chassis)
     } else {
         first_of(queues, Queue::Chassis, Queue::FixedUnit)
@@ -64,16 +42,15 @@ fn serve_from(queues: &mut [u8], queue: Queue, out: &mut [u8]) -> ServeAnswer
         out.new result }
 {
     let at = queue_start(queue);
-    let end = at + PART;
-    let part = &queues[at..end];
+    let part = &queues[at..at + PART];
     let n = short_at(part, LENGTHS);
     if out.len() < n {
-        return ServeAnswer::Refused(Refusal::BufferTooShort);
+        return Err(Refusal::BufferTooShort);
     }
-    copy_bytes(out, part, PLACES, n);
-    take_first(&mut queues[at..end]);
-    queues[0] = mark_byte(queue);
-    ServeAnswer::Frame(queue, n)
+    out[..n].copy_from_slice(&part[PLACES..PLACES + n]);
+    take_first(&mut queues[at..at + PART]);
+    queues[0] = queue.mark_byte();
+    Ok(Some((queue, n)))
 }
 
 // Gives the frame that is due at the output's start.
@@ -81,11 +58,9 @@ pub fn serve(queues: &mut [u8], out: &mut [u8]) -> ServeAnswer
     ensures { ServeIs (definitions.serve queues.old out.old) queues.new
         out.new result }
 {
-    if !good_queues(queues) {
-        return ServeAnswer::Refused(Refusal::NoGoodPlan);
-    }
+    good_queues(queues)?;
     match find_due(queues) {
-        Due::Nothing => ServeAnswer::BothEmpty,
-        Due::From(queue) => serve_from(queues, queue, out),
+        None => Ok(None),
+        Some(queue) => serve_from(queues, queue, out),
     }
 }

@@ -1,12 +1,6 @@
 -- `good_queue`: what is left to read decides, until a length is out of range or none is left.
-use Prim.Native.Nat.{◌-◌}
 use Rattle.queues.proofs.Reading.{Read}
 use Rattle.queues.proofs.held.good_queue.Given as goal
 
 abbrev pub invariant-loop-i : goal.invariant-loop-i
-invariant-loop-i l =
-    Read l.part l.i
-
-abbrev pub decreases-loop-i : goal.decreases-loop-i
-decreases-loop-i l =
-    l.count - l.i
+invariant-loop-i l = Read l.part l.i

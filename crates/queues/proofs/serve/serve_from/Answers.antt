@@ -1,74 +1,45 @@
 -- `serve_from`: the oldest frame is copied out, the later ones move down, and the queue is marked.
 use Prim.Native.Nat.{◌+◌, ◌-◌, ◌≤◌}
-use lib.ListN.{length}
+use Rattle.std.proofs.Common.{rules}
 use native.Mathlib.Omega.{arith}
+use mathlib.Core.Path.{◌≡◌, ap}
+use mathlib.Core.List.{◌++◌}
+use lib.ListN.{length, drop}
 use Rattle.queues.specs.Outcomes.{queue_is}
 use Rattle.theorems.proofs.Tools.{all-bytes}
 use Rattle.queues.proofs.Putting.{part-within}
-use Rattle.queues.proofs.Serving.{some_byte, part-first, frame-within, out-short, frame-served}
+use Rattle.queues.proofs.Serving.{part-first, frame-within, out-short, frame-served}
 use Rattle.queues.proofs.serve.serve_from.Goals as goal
 use Rattle.queues.proofs.serve.serve_from.Goals.{After-queue_start-at}
 
 -- The bytes of the queue are in the buffer.
 within : (c : After-queue_start-at) → c.queue_start-at.result + 16417 ≤ length c.args.queues.now
-within c =
-    part-within c.args.queues.now (c.requires.state, c.requires.held) (queue_is c.args.queue) c.queue_start-at.result
-    c.queue_start-at.ensures
-
-pub overflow_add-end : goal.overflow_add-end
-overflow_add-end c =
-    omega (arith, within (goal.at.overflow_add-end c).After-queue_start-at)
+within c = part-within c.args.queues.now (c.requires.state, c.requires.held) (queue_is c.args.queue) _ c.queue_start-at.ensures
 
 pub slice_bounds-part-end : goal.slice_bounds-part-end
-slice_bounds-part-end c =
-    within (goal.at.slice_bounds-part-end c).After-queue_start-at
+slice_bounds-part-end c = within (goal.at.slice_bounds-part-end c).After-queue_start-at
 
 pub returns-then-out-n : goal.returns-then-out-n
 returns-then-out-n c =
     λ S f later is first.
-    let at = c.queue_start-at in
-    let n = c.short_at-n in
-    out-short c.args.queues.now (queue_is c.args.queue) at.result (at.result + 16417 - at.result) at.ensures
-    (omega arith) c.requires
-    n.result n.ensures c.args.out.now S f later is first c.if-out-n.true
+    out-short c.args.queues.now (queue_is c.args.queue) _ _ c.queue_start-at.ensures (omega arith) c.requires
+    _ c.short_at-n.ensures c.args.out.now S f later is first c.if-out-n.true
 
-pub copy_bytes-requires : goal.copy_bytes-requires
-copy_bytes-requires c =
-    let at = c.queue_start-at in
-    let n = c.short_at-n in record {
-      src_has_bytes = frame-within c.args.queues.now (queue_is c.args.queue) at.result (at.result + 16417 - at.result) at.ensures
-          (omega arith) c.requires n.result n.ensures;
-      out_has_room = c.if-out-n.false;
-    }
-
-pub slice_bounds-take_first-end : goal.slice_bounds-take_first-end
-slice_bounds-take_first-end c =
-    within (goal.at.slice_bounds-take_first-end c).After-queue_start-at
+pub slice_bounds-copy_from_slice-end-3 : goal.slice_bounds-copy_from_slice-end-3
+slice_bounds-copy_from_slice-end-3 c =
+    frame-within c.args.queues.now (queue_is c.args.queue) _ _ c.queue_start-at.ensures (omega arith) c.requires _ c.short_at-n.ensures
 
 pub take_first-requires : goal.take_first-requires
 take_first-requires c =
-    let at = c.queue_start-at in
-    part-first c.args.queues.now (queue_is c.args.queue) at.result (at.result + 16417 - at.result) at.ensures
-    (omega arith)
+    part-first c.args.queues.now (queue_is c.args.queue) _ _ c.queue_start-at.ensures (omega arith)
     c.requires.state c.requires.frame c.requires.later c.requires.held c.requires.first
-
-pub bounds-queues-0 : goal.bounds-queues-0
-bounds-queues-0 c =
-    some_byte c.args.queues.now c.take_first.new.part (queue_is c.args.queue)
-    c.queue_start-at.result
-    (c.queue_start-at.result + 16417 - c.queue_start-at.result) c.queue_start-at.ensures
-    (within (goal.at.bounds-queues-0 c).After-queue_start-at)
 
 pub returns : goal.returns
 returns c =
     λ S f later is first.
-    let at = c.queue_start-at in
-    let n = c.short_at-n in
-    let copy = c.copy_bytes in
-    let rest = c.take_first in
-    frame-served c.args.queues.now (queue_is c.args.queue) at.result (at.result + 16417 - at.result) at.ensures
-    (omega arith) c.requires
-    n.result n.ensures c.args.out.now S f later is first
-    c.if-out-n.false
-    (all-bytes c.args.queues.now c.slice_known-1.given) copy.new.out rest.new.part
-    c.mark_byte.result c.mark_byte.ensures copy.ensures rest.ensures
+    let count : 33 + c.short_at-n.result - 33 ≡ c.short_at-n.result = omega arith in
+    frame-served c.args.queues.now (queue_is c.args.queue) _ _ c.queue_start-at.ensures (omega arith) c.requires
+    _ c.short_at-n.ensures c.args.out.now S f later is first c.if-out-n.false
+    (search (rules, all-bytes)) (c.copy_from_slice.new.self ++ drop c.short_at-n.result c.args.out.now) c.take_first.new.part
+    _ c.mark_byte.ensures (rw count at (ap (λ l. l ++ drop c.short_at-n.result c.args.out.now) c.copy_from_slice.ensures.after))
+    c.take_first.ensures
