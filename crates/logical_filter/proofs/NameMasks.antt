@@ -1,20 +1,22 @@
 -- Masks of names: a bit for each name of the table, lowest first.
-use Rattle.std.specs.Prelude.{if◌then◌else◌}
+use Rattle.std.specs.Prelude.{if◌then◌else◌, cond, Some, None}
+use Rattle.std.specs.List.{position, position_or_len}
 use Prim.Native.Nat.{ℕ, suc, ◌+◌, ◌*◌, ◌/◌, ◌%◌, ◌^◌, ◌≤◌, ◌<◌, max}
 use native.Mathlib.Nat.{pow-suc, mod-eq_of_lt}
 use native.Mathlib.Omega.{arith}
 use mathlib.Core.Path.{◌≡◌, refl, sym, ap, ap₂, ◌∙◌}
 use mathlib.Core.Bool.{Bool, true, false, ◌&&◌, ◌||◌, not}
-use mathlib.Core.List.{List, [], ◌∷◌, ◌++◌}
-use lib.ListN.{length}
-use lib.Dec.{eqb}
+use mathlib.Core.List.{List, [], ◌∷◌, ◌++◌, map}
+use lib.ListN.{length, length-map}
+use denote.Bor.{Bor}
+use lib.Dec.{eqb, ltb}
 use lib.Bits.{bit_or, or_step}
 use lib.Pow.{pow-lt}
-use borrow.Author.Tests.{eqb-true, eqb-false, eq-eqb, ne_eqb}
-use Rattle.definitions.specs.Basics.{ascii, same_name, any}
-use Rattle.definitions.specs.Logical.{mask, spatial_names}
+use borrow.Author.Tests.{ltb-true, ltb-false, eqb-true, eqb-false, eq-eqb, ne_eqb}
+use Rattle.definitions.specs.Basics.{same_name, any}
+use Rattle.definitions.specs.Logical.{mask}
+use Rattle.logical_filter.specs.Logicals.{spellings, apart}
 use Rattle.theorems.proofs.Requests.{same-name}
-use Rattle.expression.specs.Names.{position}
 
 -- ---- two lists of names
 
@@ -57,6 +59,17 @@ mask_append (name ∷ names) xs ys =
     ap₂ (λ (t : Bool) (m : ℕ). digit t + 2 * m) (any_append (same_name name) xs ys) (mask_append names xs ys)
     ∙ sym (or_digits (any (same_name name) xs) (any (same_name name) ys) (mask names xs) (mask names ys))
 
+-- ---- the place of a name
+
+first-map : {A B : Type 0} (f : A → B) (p : B → Bool) (xs : List A)
+    → position_or_len (λ x. p (f x)) xs ≡ position_or_len p (map f xs)
+first-map f p [] = refl
+first-map f p (x ∷ xs) = ap (λ (n : ℕ). cond (not (p (f x))) (1 + n) 0) (first-map f p xs)
+
+pub position-map : {A B : Type 0} (f : A → B) (p : B → Bool) (xs : List A) → position (λ x. p (f x)) xs ≡ position p (map f xs)
+position-map f p xs =
+    ap₂ (λ (k n : ℕ). cond (ltb k n) (Some k) None) (first-map f p xs) (sym (length-map xs f))
+
 -- ---- one name
 
 eqb-sym : (a b : ℕ) (t : Bool) → eqb a b ≡ t → eqb b a ≡ t
@@ -70,11 +83,6 @@ same-sym [] (y ∷ b) = refl
 same-sym (x ∷ a) [] = refl
 same-sym (x ∷ a) (y ∷ b) = ap₂ ◌&&◌ (sym (eqb-sym x y (eqb x y) refl)) (same-sym a b)
 
--- No name stands twice.
-pub apart : List (List ℕ) → Bool
-apart [] = true
-apart (x ∷ xs) = not (any (same_name x) xs) && apart xs
-
 first-apart : (t u : Bool) → not t && u ≡ true → (t ≡ false) × (u ≡ true)
 first-apart true u e = absurd (let z : ◌≡◌ {A = ℕ} 0 1 = ap (λ (t : Bool). if t then 1 else 0) e in omega arith)
 first-apart false u e = (refl, e)
@@ -84,14 +92,17 @@ neither true u e = absurd (let z : ◌≡◌ {A = ℕ} 0 1 = ap (λ (t : Bool). 
 neither false u e = (refl, e)
 
 -- What the first name adds to a position, and to a bit.
-past_first : (same : Bool) (later : Bool) (n p : ℕ) → (n ≤ p → later ≡ false) → suc n ≤ (if same then 0 else suc p) → same || later ≡ false
+past_first : (same : Bool) (later : Bool) (n p : ℕ) → (n ≤ p → later ≡ false) → suc n ≤ cond (not same) (1 + p) 0 → same || later ≡ false
 past_first true later n p ih h = absurd (omega arith)
 past_first false later n p ih h = ih (omega arith)
 
-bit-first : (same : Bool) (n p m : ℕ) → (same ≡ true → m ≡ 0) → (p < n → 2 ^ p ≡ m) → (if same then 0 else suc p) < suc n
-    → 2 ^ (if same then 0 else suc p) ≡ digit same + 2 * m
+pow-one : (p : ℕ) → 2 ^ (1 + p) ≡ 2 ^ p * 2
+pow-one p = let e : 1 + p ≡ suc p = omega arith in ap (λ (n : ℕ). 2 ^ n) e ∙ pow-suc 2 p
+
+bit-first : (same : Bool) (n p m : ℕ) → (same ≡ true → m ≡ 0) → (p < n → 2 ^ p ≡ m) → cond (not same) (1 + p) 0 < suc n
+    → 2 ^ cond (not same) (1 + p) 0 ≡ digit same + 2 * m
 bit-first true n p m none ih h = omega (arith, none refl)
-bit-first false n p m none ih h = pow-suc 2 p ∙ omega (arith, ih (omega arith))
+bit-first false n p m none ih h = pow-one p ∙ omega (arith, ih (omega arith))
 
 module _ (x : List ℕ) where
   one : (name : List ℕ) (names : List (List ℕ)) (t : Bool) → same_name x name ≡ t
@@ -110,30 +121,48 @@ module _ (x : List ℕ) where
       let f = neither (same_name x name) (any (same_name x) names) e in
       one name names false f.0 ∙ omega (arith, none names f.1)
 
-  missing : (names : List (List ℕ)) → length names ≤ position x names → any (same_name x) names ≡ false
-  unfolding any position
+  missing : (names : List (List ℕ)) → length names ≤ position_or_len (same_name x) names → any (same_name x) names ≡ false
+  unfolding any
   missing [] h = refl
-  missing (name ∷ names) h = past_first (same_name x name) (any (same_name x) names) (length names) (position x names) (missing names) h
+  missing (name ∷ names) h =
+      past_first (same_name x name) (any (same_name x) names) (length names) (position_or_len (same_name x) names) (missing names) h
 
-  -- A name that is none of them has no bit, and one that is has that of its position.
-  pub no-bit : (names : List (List ℕ)) → length names ≤ position x names → mask names (x ∷ []) ≡ 0
-  no-bit names h = none names (missing names h)
-
-  pub bit : (names : List (List ℕ)) → apart names ≡ true → position x names < length names → 2 ^ position x names ≡ mask names (x ∷ [])
-  unfolding apart position
+  bit : (names : List (List ℕ)) → apart names ≡ true → position_or_len (same_name x) names < length names
+      → 2 ^ position_or_len (same_name x) names ≡ mask names (x ∷ [])
+  unfolding apart
   bit [] e h = absurd (omega arith)
   bit (name ∷ names) e h =
       let f = first-apart (any (same_name name) names) (apart names) e in
-      bit-first (same_name x name) (length names) (position x names) (mask names (x ∷ []))
+      bit-first (same_name x name) (length names) (position_or_len (same_name x) names) (mask names (x ∷ []))
       (λ same. none names (ap (λ (n : List ℕ). any (same_name n) names) (same-name x name same) ∙ f.0)) (bit names f.1) h
       ∙ sym (one name names (same_name x name) refl)
 
--- ---- the 15 names
+  -- A name that is none of those at these references has no bit, and one that is has that of its place.
+  module _ (names : List (Bor (List ℕ))) where
+    among : position (λ name. same_name x name.now) names ≡ position (same_name x) (spellings names)
+    among = position-map (λ name. name.now) (same_name x) names
 
-pub spatial-apart : apart spatial_names ≡ true
-unfolding apart spatial_names ascii same_name any
-spatial-apart = refl
+    pub no-bit : None ≡ position (λ name. same_name x name.now) names → 0 ≡ mask (spellings names) (x ∷ [])
+    no-bit h = sym (none (spellings names) (missing (spellings names) (beyond _ _ (h ∙ among))))
+      where
+        beyond : (p n : ℕ) → None ≡ cond (ltb p n) (Some p) None → n ≤ p
+        beyond p n e = by-test (ltb p n) refl e where
+          by-test : (t : Bool) → ltb p n ≡ t → None ≡ cond t (Some p) None → n ≤ p
+          by-test true u e = cc
+          by-test false u e = ltb-false p n u
 
--- A bit below the sixteenth is kept by 16 bits.
-pub kept : (i : ℕ) → i < 15 → (1 * 2 ^ i) % 65536 ≡ 2 ^ i
+    pub bit-at : {i : ℕ} → apart (spellings names) ≡ true → Some i ≡ position (λ name. same_name x name.now) names
+        → (i < length names) × (2 ^ i ≡ mask (spellings names) (x ∷ []))
+    bit-at {i} e h = at-place _ (length (spellings names)) (length-map names (λ name. name.now)) (bit (spellings names) e) (h ∙ among) where
+      at-place : (p n : ℕ) → n ≡ length names → (p < n → 2 ^ p ≡ mask (spellings names) (x ∷ [])) → Some i ≡ cond (ltb p n) (Some p) None
+          → (i < length names) × (2 ^ i ≡ mask (spellings names) (x ∷ []))
+      at-place p n size is e = by-test (ltb p n) refl e where
+        by-test : (t : Bool) → ltb p n ≡ t → Some i ≡ cond t (Some p) None → (i < length names) × (2 ^ i ≡ mask (spellings names) (x ∷ []))
+        by-test true u e =
+            let same : i ≡ p = cc in
+            rw (same, ← size) (ltb-true p n u, is (ltb-true p n u))
+        by-test false u e = cc
+
+-- A bit below the seventeenth is kept by 16 bits.
+pub kept : (i : ℕ) → i < 16 → (1 * 2 ^ i) % 65536 ≡ 2 ^ i
 kept i h = ap (λ (n : ℕ). n % 65536) (omega arith) ∙ mod-eq_of_lt (pow-lt {i = i} {j = 16} (omega arith))

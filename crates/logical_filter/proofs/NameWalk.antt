@@ -14,9 +14,13 @@ use Rattle.definitions.specs.Decode.{Columns}
 use Rattle.definitions.specs.Logical.{lower_case, spatial_names, function_name, comparison_name, leaf_name, mask}
 use Rattle.theorems.proofs.Cases.{each}
 use Rattle.expression.specs.Places.{part}
-use Rattle.expression.specs.Nodes.{kind_of, OfTree, OfTrees}
-use Rattle.expression.specs.Leaves.{Both, CallIs, PlainNode, plain_column, plain_literal, plain_other, plain_field}
+use Rattle.expression.specs.Nodes.{kind_of, Stands, OfTree, OfTrees}
+use Rattle.expression.specs.Leaves.{NodeIs, Both, CallIs, PlainNode, plain_column, plain_literal, plain_other, plain_field}
 use Rattle.expression.specs.declared.leaves.Called.{Called}
+use Rattle.expression.specs.declared.leaves.Node.{Node}
+use Rattle.expression.specs.declared.leaves.Node.TheVariants.{And, Binary, Call, Plain}
+use Rattle.expression.proofs.LeafLaws.{no-call}
+use mathlib.Core.Logic.{inl, inr}
 use Rattle.expression.proofs.Parts.{left-stands, right-stands, both_ends, both_end, call-end}
 use Rattle.sedona_expr.specs.Parsed.{BothSides}
 use Rattle.logical_filter.specs.Logicals.{NamesAre}
@@ -34,6 +38,14 @@ no-function = each (λ t. (kind_of t ≡ 3 → ⊥) → function_name t ≡ []) 
 pub no_distance : (t : Expr) → (kind_of t ≡ 3 → ⊥) → false ≡ same_name (function_name t) (ascii "st_distance")
 unfolding ascii same_name
 no_distance t k = ap (λ (n : List ℕ). same_name n (ascii "st_distance")) (sym (no-function t k))
+
+-- Where a node is no function, none stands.
+pub no_call : {c : Columns} {s : List ℕ} {at : ℕ} {t : Expr} → Stands c s at t → (r : Node) → ((k : Called) → r ≡ Call k → ⊥)
+    → NodeIs c s at r t → kind_of t ≡ 3 → ⊥
+no_call h (And first) n = no-call h (And first) (inl refl)
+no_call h (Binary operator first) n = no-call h (Binary operator first) (inr (inl refl))
+no_call h (Call k) n = absurd (n k refl)
+no_call h (Plain head) n = no-call h (Plain head) (inr (inr refl))
 
 pub small-name : {c : Columns} {s : List ℕ} {at : ℕ} {k : Called} {t : Expr} → CallIs c s at k t
     → lower_case (part s k.name k.end) ≡ function_name t

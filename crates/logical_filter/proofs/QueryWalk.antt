@@ -1,7 +1,9 @@
 -- The first KNN call and the schemas of its first argument: what each return of the walks answers.
 use Rattle.std.specs.Prelude.{if◌then◌else◌}
+use Rattle.std.proofs.Common.{ControlFlow, Break, Continue}
 use Prim.Native.Nat.{ℕ, ◌+◌, ◌-◌, ◌/◌, ◌%◌, ◌≤◌, ◌<◌}
 use native.Mathlib.Omega.{arith}
+use native.Mathlib.Nat.{sub-zero}
 use mathlib.Core.Path.{◌≡◌, refl, sym, ap, ap₂, ◌∙◌}
 use mathlib.Core.Bool.{Bool, true, false, ◌&&◌, not}
 use mathlib.Core.List.{List, [], ◌∷◌, ◌++◌, append-nil}
@@ -9,7 +11,7 @@ use mathlib.Core.Option.{Option, none, some}
 use lib.ListN.{length, get_or, length-append}
 use lib.Dec.{eqb}
 use Rattle.definitions.specs.Basics.{ascii, same_name, all, big_endian}
-use Rattle.definitions.specs.Expression.{Side, left, right, no_side, Expr, column, literal, and, binary, call, other, field, Exprs, count}
+use Rattle.definitions.specs.Expression.{Side, left, right, no_side, Expr, column, literal, and, binary, call, other, field, Exprs}
 use Rattle.definitions.specs.Encode.{expr_bytes, exprs_bytes}
 use Rattle.definitions.specs.Leaves.{leaves}
 use Rattle.definitions.specs.Decode.{Columns}
@@ -27,8 +29,6 @@ use Rattle.expression.proofs.EndWalk.{end-node, first-there, rest-there}
 use Rattle.expression.proofs.Parts.{left-stands, right-stands, both_ends}
 use Rattle.sedona_expr.specs.Parsed.{Arguments}
 use Rattle.logical_filter.specs.QuerySides.{or_else, first_knn, KnnIs, SchemasAre}
-use Rattle.logical_filter.specs.declared.knn_query_side.KnnCall.{KnnCall}
-use Rattle.logical_filter.specs.declared.knn_query_side.KnnCall.TheVariants as knn_call
 use Rattle.logical_filter.specs.declared.knn_query_side.Schemas.{Schemas}
 use Rattle.expression.proofs.AndLeaves.{and-leaves, binary-leaf, call-leaf, plain-leaf, all_append, all_one}
 
@@ -92,10 +92,10 @@ module _ {c : Columns} {s : List ℕ} {at : ℕ} {t : Expr} where
       only-right : first_knn (leaves t) ≡ first_knn (leaves b.r)
       only-right = knn-both ∙ rw (h c b.l (left-stands b)).0
 
-      pub knn-right : (r : KnnCall) → OfTreeIn s p (λ c t. KnnIs c s (p + length (expr_bytes t)) r (first_knn (leaves t)))
+      pub knn-right : (r : ControlFlow Called ℕ) → OfTreeIn s p (λ c t. KnnIs c s (p + length (expr_bytes t)) r (first_knn (leaves t)))
           → KnnIs c s (at + length (expr_bytes t)) r (first_knn (leaves t))
-      knn-right (knn_call.Arguments f n) k = rw only-right (k c b.r beyond)
-      knn-right (knn_call.Nothing q) k = (
+      knn-right (Break found) k = rw only-right (k c b.r beyond)
+      knn-right (Continue q) k = (
         only-right ∙ (k c b.r beyond).0,
         both_ends b p q (λ d l st. (h d l st).1) (λ d r st. (k d r st).1),
       )
@@ -227,46 +227,48 @@ and-true : (b : Bool) → b && true ≡ b
 and-true true = refl
 and-true false = refl
 
--- What it keeps: what is right for the expressions left, joined to what was seen, is right for the whole row.
-pub record Joining (s : List ℕ) (at n next : ℕ) (l r : Bool) (more : ℕ) : Type 0 where
-  pub there : Trees s next more
-  pub low : at ≤ next
-  pub rest : (q : Schemas) → OfTrees s next more (λ ts. SchemasAre (bits_of_all ts) (next + length (exprs_bytes ts)) q)
+-- What it keeps after i of n: what is right for the expressions left, joined to what was seen, is right for the whole row.
+pub record Joining (s : List ℕ) (at n : ℕ) (all : Schemas) (i : ℕ) : Type 0 where
+  pub there : Trees s all.next (n - i)
+  pub low : at ≤ all.next
+  pub rest : (q : Schemas) → OfTrees s all.next (n - i) (λ ts. SchemasAre (bits_of_all ts) (all.next + length (exprs_bytes ts)) q)
       → OfTrees s at n
       (λ ts. SchemasAre (bits_of_all ts) (at + length (exprs_bytes ts))
-      (record { left = l && q.left; right = r && q.right; next = q.next }))
+      (record { left = all.left && q.left; right = all.right && q.right; next = q.next }))
 
 module _ {s : List ℕ} {at n : ℕ} where
-  pub joining-begins : Trees s at n → Joining s at n at true true n
-  joining-begins there = record { there = there; low = omega arith; rest = λ q is. is }
+  pub joining-begins : Trees s at n → Joining s at n (record { left = true; right = true; next = at }) 0
+  joining-begins there = record { there = rw sub-zero there; low = omega arith; rest = λ q is. rw sub-zero at is }
 
-  module _ {next : ℕ} {l r : Bool} {more : ℕ} (inv : Joining s at n next l r more) where
-    pub joining-first : 0 < more → Tree s next
-    joining-first left_over = first-there inv.there (λ z. omega arith)
+  module _ {all : Schemas} {i : ℕ} (inv : Joining s at n all i) where
+    pub joining-first : i < n → Tree s all.next
+    joining-first more = first-there inv.there (λ z. omega arith)
 
-    pub joining-goes-on : 0 < more → (x : Schemas) → OfTree s next (λ t. SchemasAre (bits_of t) (next + length (expr_bytes t)) x)
-        → Joining s at n x.next (l && x.left) (r && x.right) (more - 1)
-    joining-goes-on left_over x one =
-        let first = joining-first left_over in
+    pub joining-goes-on : i < n → (x : Schemas)
+        → OfTree s all.next (λ t. SchemasAre (bits_of t) (all.next + length (expr_bytes t)) x)
+        → Joining s at n (record { left = all.left && x.left; right = all.right && x.right; next = x.next }) (i + 1)
+    joining-goes-on more x one =
+        let first = joining-first more in
+        let one_less : n - i - 1 ≡ n - (i + 1) = omega arith in
         record {
-          there = rest-there inv.there (λ z. omega arith) x.next (λ d t st. (one d t st).next);
+          there = rw one_less at (rest-there inv.there (λ z. omega arith) x.next (λ d t st. (one d t st).next));
           low = omega (arith, inv.low, (one first.0 first.1 first.2).next);
           rest = λ q others c ts row.
               let whole = inv.rest (record { left = x.left && q.left; right = x.right && q.right; next = q.next })
-              (λ c ts row. more-columns row (λ z. omega arith) x q one others) c ts row in
+              (λ c ts row. more-columns row (λ z. omega arith) x q one (rw one_less others)) c ts row in
               record {
-                all_left = and_assoc l x.left q.left ∙ whole.all_left;
-                all_right = and_assoc r x.right q.right ∙ whole.all_right;
+                all_left = and_assoc all.left x.left q.left ∙ whole.all_left;
+                all_right = and_assoc all.right x.right q.right ∙ whole.all_right;
                 next = whole.next;
               };
         }
 
-    pub joining-ends : more ≤ 0 → OfTrees s at n
-        (λ ts. SchemasAre (bits_of_all ts) (at + length (exprs_bytes ts)) (record { left = l; right = r; next = next }))
+    pub joining-ends : n ≤ i → OfTrees s at n (λ ts. SchemasAre (bits_of_all ts) (at + length (exprs_bytes ts)) all)
     joining-ends no_more c ts row =
-        let whole = inv.rest (record { left = true; right = true; next = next }) (λ c ts row. no-columns row (omega arith)) c ts row in
+        let whole = inv.rest (record { left = true; right = true; next = all.next })
+        (λ c ts row. no-columns row (omega arith)) c ts row in
         record {
-          all_left = sym (and-true l) ∙ whole.all_left;
-          all_right = sym (and-true r) ∙ whole.all_right;
+          all_left = sym (and-true all.left) ∙ whole.all_left;
+          all_right = sym (and-true all.right) ∙ whole.all_right;
           next = whole.next;
         }

@@ -1,12 +1,14 @@
 -- Which definition the answer is.
-use Rattle.definitions.specs.Basics.{Result, ok, refused}
+use Rattle.std.specs.Prelude.{Result, Ok, Err}
+use Rattle.definitions.specs.Basics as basics
+use Rattle.definitions.specs.Basics.{ok, refused}
 use Rattle.definitions.specs.Logical as definitions
-use Rattle.logical_filter.specs.QuerySides.{query_side_is}
 use Rattle.terms.specs.Refusals.{number_of}
+use Rattle.terms.specs.declared.refusals.Refusal.{Refusal}
+use Rattle.logical_filter.specs.QuerySides.{query_side_is}
 use Rattle.logical_filter.specs.declared.call.Names.{Names}
-use Rattle.logical_filter.specs.declared.call.Names.TheVariants.{Found, Refused}
 
 -- Document 01's answer of the logical call for each case: mask, count and side, or the number of the refusal.
-abbrev pub names_of : Names → Result definitions.LogicalAnswer
-names_of (Found found side) = ok (record { mask = found.mask; names = found.names; side = query_side_is side })
-names_of (Refused why) = refused (number_of why)
+abbrev pub names_of : Result Names Refusal → basics.Result definitions.LogicalAnswer
+names_of (Ok names) = ok (record { mask = names.found.mask; names = names.found.names; side = query_side_is names.side })
+names_of (Err why) = refused (number_of why)

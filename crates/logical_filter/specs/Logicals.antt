@@ -1,10 +1,21 @@
 -- What the answers about the spatial names of a logical filter say.
-use Rattle.std.specs.Prelude.{ℕ, ◌≡◌, List, map}
+use Rattle.std.specs.Prelude.{ℕ, ◌≡◌, Bool, true, not, ◌&&◌, List, [], ◌∷◌, map}
+use denote.Bor.{Bor}
+use Rattle.definitions.specs.Basics.{same_name, any}
 use Rattle.definitions.specs.Expression.{Expr}
 use Rattle.definitions.specs.Leaves.{leaves}
 use Rattle.definitions.specs.Logical.{spatial_names, leaf_name, mask, distinct}
 use Rattle.logical_filter.specs.declared.predicate_names.Collected.{Collected}
 use Rattle.logical_filter.specs.declared.predicate_names.PredicateNames.{PredicateNames}
+
+-- The names at some references.
+abbrev pub spellings : List (Bor (List ℕ)) → List (List ℕ)
+spellings names = map (λ name. name.now) names
+
+-- No name stands twice.
+unfoldable pub apart : List (List ℕ) → Bool
+apart [] = true
+apart (name ∷ names) = not (any (same_name name) names) && apart names
 
 -- These names were found, and the walk ended there.
 pub record NamesAre (found : List (List ℕ)) (end : ℕ) (r : Collected) : Type 0 where

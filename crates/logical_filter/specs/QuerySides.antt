@@ -5,9 +5,10 @@ use Rattle.definitions.specs.Basics.{all}
 use Rattle.definitions.specs.Expression.{Side, left, right, no_side, Expr, Exprs}
 use Rattle.definitions.specs.Decode.{Columns}
 use Rattle.definitions.specs.Logical.{in_left, in_right, knn_arguments}
+use Rattle.expression.specs.declared.leaves.Called.{Called}
 use Rattle.sedona_expr.specs.Parsed.{Arguments}
-use Rattle.logical_filter.specs.declared.knn_query_side.KnnCall.{KnnCall}
-use Rattle.logical_filter.specs.declared.knn_query_side.KnnCall.TheVariants as call
+use Rattle.std.specs.declared.ops.ControlFlow.{ControlFlow}
+use Rattle.std.specs.declared.ops.ControlFlow.TheVariants.{Break, Continue}
 use Rattle.logical_filter.specs.declared.knn_query_side.Schemas.{Schemas}
 use Rattle.logical_filter.specs.declared.knn_query_side.KNNJoinQuerySide.{KNNJoinQuerySide}
 use Rattle.logical_filter.specs.declared.knn_query_side.KNNJoinQuerySide.TheVariants as side
@@ -23,9 +24,9 @@ first_knn [] = none
 first_knn (e ∷ es) = or_else (knn_arguments e) (first_knn es)
 
 -- Arguments that stand there, or none and where the walk ended.
-abbrev pub KnnIs : Columns → List ℕ → (end : ℕ) → KnnCall → Option Exprs → Type 0
-KnnIs c s end (call.Arguments first count) q = Arguments c s first count q
-KnnIs c s end (call.Nothing next) q = (q ≡ none) × (next ≡ end)
+abbrev pub KnnIs : Columns → List ℕ → (end : ℕ) → ControlFlow Called ℕ → Option Exprs → Type 0
+KnnIs c s end (Break call) q = Arguments c s call.first call.count q
+KnnIs c s end (Continue next) q = (q ≡ none) × (next ≡ end)
 
 -- Which schemas have all columns with these bits, and where the walk ended.
 pub record SchemasAre (bits : List ℕ) (end : ℕ) (r : Schemas) : Type 0 where

@@ -5,27 +5,22 @@ ghost use Rattle.logical_filter.specs.Found.{names_of};
 
 use super::knn_query_side::{KNNJoinQuerySide, find_knn_query_side};
 use super::predicate_names::{PredicateNames, collect_spatial_predicate_names};
-use frame_reader::frame_bodies::Logical;
 use frame_reader::frames::logical_frame;
 use terms::refusals::Refusal;
 
-// The names of a logical filter and its KNN query side, or why the call is refused.
+// The names of a logical filter and its KNN query side.
 #[derive(Clone, Copy)]
-pub enum Names {
-    Found(PredicateNames, KNNJoinQuerySide),
-    Refused(Refusal),
+pub struct Names {
+    pub found: PredicateNames,
+    pub side: KNNJoinQuerySide,
 }
 
 // Reads a logical frame; there is no plan and nothing is written.
-pub fn logical(frame: &[u8]) -> Names
+pub fn logical(frame: &[u8]) -> Result<Names, Refusal>
     ensures { names_of result ≡ definitions.logical frame.now }
 {
-    match logical_frame(frame) {
-        Logical::Refused(why) => Names::Refused(why),
-        Logical::Good(root) => {
-            let found = collect_spatial_predicate_names(frame, root);
-            let side = find_knn_query_side(frame, root);
-            Names::Found(found, side)
-        }
-    }
+    let root = logical_frame(frame)?;
+    let found = collect_spatial_predicate_names(frame, root);
+    let side = find_knn_query_side(frame, root);
+    Ok(Names { found, side })
 }

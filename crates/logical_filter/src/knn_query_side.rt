@@ -9,34 +9,30 @@ ghost use Rattle.logical_filter.specs.QuerySides.{first_knn, KnnIs, SchemasAre, 
 
 use expression::ends::end_children;
 use expression::heads::head_at;
-use expression::leaves::{Node, node_at};
+use expression::leaves::{Called, Node, node_at};
 use expression::names::same_name_ignore_case;
+use std::ops::ControlFlow;
+use std::ops::ControlFlow::{Break, Continue};
 
-// The first `st_knn` call: where its arguments begin, and how many there are; or where the walk ended without one.
-#[derive(Clone, Copy)]
-pub enum KnnCall {
-    Arguments(usize, usize),
-    Nothing(usize),
-}
-
-fn find_st_knn_call(s: &[u8], at: usize) -> KnnCall
+// Breaks at the first `st_knn` call; else it tells where the walk goes on.
+fn find_st_knn_call(s: &[u8], at: usize) -> ControlFlow<Called, usize>
     requires { Tree s.now at }
     ensures { OfTreeIn s.now at (λ c t. KnnIs c s.now (at + length (expr_bytes t)) result (first_knn (leaves t))) }
 {
     match node_at(s, at) {
-        Node::And(left) => match find_st_knn_call(s, left) {
-            KnnCall::Arguments(first, count) => KnnCall::Arguments(first, count),
-            KnnCall::Nothing(right) => find_st_knn_call(s, right),
-        },
-        Node::Binary(_, left) => KnnCall::Nothing(end_children(s, left, 2)),
+        Node::And(left) => {
+            let right = find_st_knn_call(s, left)?;
+            find_st_knn_call(s, right)
+        }
+        Node::Binary(_, left) => Continue(end_children(s, left, 2)),
         Node::Call(call) => {
             if same_name_ignore_case(s, call.name, call.end, b"st_knn") {
-                KnnCall::Arguments(call.first, call.count)
+                Break(call)
             } else {
-                KnnCall::Nothing(end_children(s, call.first, call.count))
+                Continue(end_children(s, call.first, call.count))
             }
         }
-        Node::Plain(head) => KnnCall::Nothing(end_children(s, head.next, head.children)),
+        Node::Plain(head) => Continue(end_children(s, head.next, head.children)),
     }
 }
 
@@ -70,36 +66,37 @@ fn column_refs_all(s: &[u8], at: usize, n: usize) -> Schemas
     requires { Trees s.now at n }
     ensures { OfTrees s.now at n (λ ts. SchemasAre (bits_of_all ts) (at + length (exprs_bytes ts)) result) }
 {
-    let mut next = at;
-    let mut left = true;
-    let mut right = true;
-    let mut more = n;
-    while 0 < more {
-        let one = column_refs(s, next);
-        left = left & one.left;
-        right = right & one.right;
-        next = one.next;
-        more -= 1;
+    let mut all = Schemas {
+        left: true,
+        right: true,
+        next: at,
+    };
+    for _ in 0..n {
+        let one = column_refs(s, all.next);
+        all = Schemas {
+            left: all.left & one.left,
+            right: all.right & one.right,
+            next: one.next,
+        };
     }
-    Schemas { left, right, next }
+    all
 }
 
-// The side of a KNN join whose plan has the query geometry.
-#[derive(Clone, Copy)]
+// The side of a KNN join whose plan has the query geometry, by document 01's number.
+#[derive(Clone, Copy, Debug, PartialEq, Eq)]
 pub enum KNNJoinQuerySide {
-    Left,
-    Right,
-    None,
+    Left = 0,
+    Right = 1,
+    None = 2,
 }
 
 // Document 01's number of a query side.
-pub fn query_side_number(side: KNNJoinQuerySide) -> u8
-    ensures { result ≡ side_number (query_side_is side) }
-{
-    match side {
-        KNNJoinQuerySide::Left => 0,
-        KNNJoinQuerySide::Right => 1,
-        KNNJoinQuerySide::None => 2,
+impl From<KNNJoinQuerySide> for u8 {
+    ghost from_gives = { λ side number. number ≡ side_number (query_side_is side) };
+
+    #[tactic(auto, unfolding(definitions::specs::Encode::side_number))]
+    fn from(side: KNNJoinQuerySide) -> u8 {
+        side as u8
     }
 }
 
@@ -107,22 +104,16 @@ pub fn find_knn_query_side(s: &[u8], at: usize) -> KNNJoinQuerySide
     requires { Tree s.now at }
     ensures { OfTree s.now at (λ t. query_side_is result ≡ query_side (leaves t)) }
 {
-    let KnnCall::Arguments(first, count) = find_st_knn_call(s, at) else {
+    let Break(call) = find_st_knn_call(s, at) else {
         return KNNJoinQuerySide::None;
     };
-    if count == 0 {
+    if call.count == 0 {
         return KNNJoinQuerySide::None;
     }
-    let columns = column_refs(s, first);
-    if columns.left {
-        if columns.right {
-            KNNJoinQuerySide::None
-        } else {
-            KNNJoinQuerySide::Left
-        }
-    } else if columns.right {
-        KNNJoinQuerySide::Right
-    } else {
-        KNNJoinQuerySide::None
+    let columns = column_refs(s, call.first);
+    match (columns.left, columns.right) {
+        (true, false) => KNNJoinQuerySide::Left,
+        (false, true) => KNNJoinQuerySide::Right,
+        _ => KNNJoinQuerySide::None,
     }
 }

@@ -1,6 +1,6 @@
 // The spatial names of a logical filter. A port of `collect_spatial_predicate_names` of
 // rust/sedona-query-planner/src/spatial_expr_utils.rs; the case of letters is ignored.
-ghost use Rattle.std.specs.Prelude.{◌≡◌, ◌∷◌, [], map, ◌+◌, ◌≤◌, length};
+ghost use Rattle.std.specs.Prelude.{◌≡◌, true, ◌∷◌, [], map, position, ◌+◌, ◌≤◌, length};
 ghost use Rattle.definitions.specs.Basics.{ascii, same_name};
 ghost use Rattle.definitions.specs.Expression.{binary, nil, cons};
 ghost use Rattle.definitions.specs.Encode.{expr_bytes, exprs_bytes};
@@ -9,12 +9,12 @@ ghost use Rattle.definitions.specs.Logical.{lower_case, spatial_names, function_
 ghost use Rattle.expression.specs.Places.{part};
 ghost use Rattle.expression.specs.Nodes.{Tree, OfTree};
 ghost use Rattle.expression.specs.Leaves.{Pair, OfPair};
-ghost use Rattle.logical_filter.specs.Logicals.{NamesAre, PredicateNamesAre};
+ghost use Rattle.logical_filter.specs.Logicals.{spellings, apart, NamesAre, PredicateNamesAre};
 
 use expression::ends::{end_children, end_node};
 use expression::leaves::{Node, node_at};
-use expression::names::{Case, name_index, same_name_ignore_case};
-use sedona_expr::utils::{Compared, comparison};
+use expression::names::same_name_ignore_case;
+use sedona_expr::utils::comparison;
 
 // Whether an expression measures a distance.
 fn is_distance_expr(s: &[u8], at: usize) -> bool
@@ -27,18 +27,46 @@ fn is_distance_expr(s: &[u8], at: usize) -> bool
     same_name_ignore_case(s, call.name, call.end, b"st_distance")
 }
 
-// The bit of a name, 0 for a name that is none of them.
-fn name_bit(s: &[u8], at: usize, end: usize) -> u16
+// The 15 names, bit 0 first.
+const SPATIAL_NAMES: [&[u8]; 15] = [
+    b"st_intersects",
+    b"st_contains",
+    b"st_within",
+    b"st_covers",
+    b"st_covered_by",
+    b"st_coveredby",
+    b"st_touches",
+    b"st_crosses",
+    b"st_overlaps",
+    b"st_equals",
+    b"st_dwithin",
+    b"st_knn",
+    b"rs_intersects",
+    b"rs_contains",
+    b"rs_within",
+];
+
+// Which of these names it is, from 0.
+fn name_position(s: &[u8], at: usize, end: usize, names: &[&[u8]]) -> Option<usize>
     requires { (at ≤ end) × (end ≤ length s.now) }
-    ensures { result ≡ mask spatial_names (lower_case (part s.now at end) ∷ []) }
+    ensures { result ≡ position (λ name. same_name (lower_case (part s.now at end)) name.now) names.now }
 {
-    let names =
-        b"st_intersects st_contains st_within st_covers st_covered_by st_coveredby st_touches st_crosses st_overlaps st_equals st_dwithin st_knn rs_intersects rs_contains rs_within";
-    let ends = [
-        13, 25, 35, 45, 59, 72, 83, 94, 106, 116, 127, 134, 148, 160, 170,
-    ];
-    let index = name_index(s, at, end, names, &ends, Case::Ignored);
-    if index < 15 { 1 << index } else { 0 }
+    names
+        .iter()
+        .position(|name| same_name_ignore_case(s, at, end, name))
+}
+
+// The bit of a name by its place among these names, none of which stands twice; 0 for a name that is none of them.
+fn name_bit(s: &[u8], at: usize, end: usize, names: &[&[u8]]) -> u16
+    requires name { (at ≤ end) × (end ≤ length s.now) }
+    requires few { length names.now ≤ 16 }
+    requires apart { apart (spellings names.now) ≡ true }
+    ensures { result ≡ mask (spellings names.now) (lower_case (part s.now at end) ∷ []) }
+{
+    match name_position(s, at, end, names) {
+        Some(i) => 1 << i,
+        None => 0,
+    }
 }
 
 // The bit of `st_dwithin`, which a comparison of a distance counts as.
@@ -58,17 +86,11 @@ fn collect_comparison(s: &[u8], operator: u8, left: usize) -> Collected
 {
     let right = end_node(s, left);
     let next = end_node(s, right);
-    let Compared::Sides(measured, _) = comparison(operator, left, right) else {
-        return Collected { mask: 0, next };
+    let mask = match comparison(operator, left, right) {
+        Some(sides) if is_distance_expr(s, sides.measured) => ST_DWITHIN,
+        _ => 0,
     };
-    if is_distance_expr(s, measured) {
-        Collected {
-            mask: ST_DWITHIN,
-            next,
-        }
-    } else {
-        Collected { mask: 0, next }
-    }
+    Collected { mask, next }
 }
 
 fn collect(s: &[u8], at: usize) -> Collected
@@ -86,7 +108,7 @@ fn collect(s: &[u8], at: usize) -> Collected
         }
         Node::Binary(operator, left) => collect_comparison(s, operator, left),
         Node::Call(call) => Collected {
-            mask: name_bit(s, call.name, call.end),
+            mask: name_bit(s, call.name, call.end, &SPATIAL_NAMES),
             next: end_children(s, call.first, call.count),
         },
         Node::Plain(head) => Collected {
@@ -108,9 +130,8 @@ pub fn collect_spatial_predicate_names(s: &[u8], at: usize) -> PredicateNames
     ensures { OfTree s.now at (PredicateNamesAre result) }
 {
     let all = collect(s, at);
-    let mask = all.mask;
     PredicateNames {
-        mask,
-        names: u16::count_ones(mask),
+        mask: all.mask,
+        names: all.mask.count_ones(),
     }
 }

@@ -1,10 +1,9 @@
 -- `column_refs` and `column_refs_all`: a column has its bits, any other node those below it; the measure is twice the bytes left, and one
 -- more for a row.
-use Prim.Native.Nat.{◌-◌}
 use native.Mathlib.Omega.{arith}
 use Rattle.expression.proofs.Standing.{node-some, after-head}
 use Rattle.expression.proofs.EndWalk.{children-there}
-use Rattle.logical_filter.proofs.QueryWalk.{bits-within, a-field-is, node-columns, joining-begins, joining-first, joining-goes-on, joining-ends}
+use Rattle.logical_filter.proofs.QueryWalk.{bits-within, a-field-is, node-columns, joining-first, joining-goes-on, joining-ends}
 use Rattle.logical_filter.proofs.knn_query_side.+column_refs_column_refs_all.Goals as goal
 
 pub column_refs-bounds-s-at : goal.column_refs-bounds-s-at
@@ -19,10 +18,6 @@ pub column_refs-returns-then-s-at-eq5 : goal.column_refs-returns-then-s-at-eq5
 column_refs-returns-then-s-at-eq5 t c =
     λ d t h. a-field-is h c.if-s-at-eq5.true
 
-pub column_refs-head_at-head-requires : goal.column_refs-head_at-head-requires
-column_refs-head_at-head-requires t c =
-    c.requires
-
 pub column_refs-column_refs_all-requires : goal.column_refs-column_refs_all-requires
 column_refs-column_refs_all-requires t c =
     let tree = c.requires in
@@ -33,26 +28,15 @@ column_refs-column_refs_all-requires t c =
 
 pub column_refs-returns : goal.column_refs-returns
 column_refs-returns t c =
-    λ d t h.
-    let head = c.head_at-head in
-    node-columns h c.if-s-at-eq5.false head.result (head.ensures d t h) c.column_refs_all.result
-    c.column_refs_all.ensures
-
-pub column_refs_all-loop-more-init : goal.column_refs_all-loop-more-init
-column_refs_all-loop-more-init t c =
-    joining-begins c.requires
+    λ d t h. node-columns h c.if-s-at-eq5.false _ (c.head_at-head.ensures d t h) c.column_refs_all.result c.column_refs_all.ensures
 
 pub column_refs_all-column_refs-one-requires : goal.column_refs_all-column_refs-one-requires
 column_refs_all-column_refs-one-requires t c =
-    let loop = c.loop-more in
-    (omega (arith, c.decreases, loop.invariant.low), joining-first loop.invariant c.loop-more-test.true)
+    (omega (arith, c.decreases, c.loop.invariant.low), joining-first c.loop.invariant c.loop-test.true)
 
-pub column_refs_all-loop-more-preserved : goal.column_refs_all-loop-more-preserved
-column_refs_all-loop-more-preserved t c =
-    let call = c.column_refs-one in
-    joining-goes-on c.loop-more.invariant c.loop-more-test.true call.result
-    call.ensures
+pub column_refs_all-loop-preserved : goal.column_refs_all-loop-preserved
+column_refs_all-loop-preserved t c =
+    joining-goes-on c.loop.invariant c.loop-test.true c.column_refs-one.result c.column_refs-one.ensures
 
 pub column_refs_all-returns : goal.column_refs_all-returns
-column_refs_all-returns t c =
-    joining-ends c.loop-more.invariant c.loop-more-test.false
+column_refs_all-returns t c = joining-ends c.loop.invariant c.loop-test.false

@@ -5,13 +5,8 @@ use lib.ListN.{length}
 use Rattle.logical_filter.proofs.QueryWalk.{Joining}
 use Rattle.logical_filter.proofs.knn_query_side.+column_refs_column_refs_all.Given as goal
 
-abbrev pub invariant-column_refs_all-loop-more : goal.invariant-column_refs_all-loop-more
-invariant-column_refs_all-loop-more l =
-    Joining l.s l.at l.n l.next l.left l.right l.more
-
-abbrev pub decreases-column_refs_all-loop-more : goal.decreases-column_refs_all-loop-more
-decreases-column_refs_all-loop-more l =
-    l.more
+abbrev pub invariant-column_refs_all-loop : goal.invariant-column_refs_all-loop
+invariant-column_refs_all-loop l = Joining l.s l.at l.n l.all l.counter
 
 abbrev pub decreases-column_refs : goal.decreases-column_refs
 decreases-column_refs l =

@@ -1,17 +1,16 @@
 -- `collect`: the names of both children of an And are put together; the measure is the bytes left.
-use Prim.Native.Nat.{◌-◌}
+use mathlib.Core.Path.{refl}
+use native.Mathlib.Omega.{arith}
+use Rattle.definitions.specs.Basics.{ascii, same_name, any}
+use Rattle.definitions.specs.Logical.{spatial_names}
+use Rattle.logical_filter.specs.Logicals.{apart}
 use Rattle.expression.proofs.EndWalk.{end-node}
 use Rattle.expression.proofs.There.{and-left-there, and-right-there, pair-there, plain-there, name-there, arguments-there}
 use Rattle.logical_filter.proofs.NameWalk.{both-names, binary-names, call-names, plain-names}
 use Rattle.logical_filter.proofs.predicate_names.+collect.Goals as goal
 
-pub node_at-requires : goal.node_at-requires
-node_at-requires t c =
-    c.requires
-
 pub collect-left-requires : goal.collect-left-requires
-collect-left-requires t c =
-    and-left-there c.requires c.node_at.ensures c.in-And.is c.decreases
+collect-left-requires t c = and-left-there c.requires c.node_at.ensures c.in-And.is c.decreases
 
 pub collect-right-requires : goal.collect-right-requires
 collect-right-requires t c =
@@ -19,45 +18,35 @@ collect-right-requires t c =
     c.collect-left.result.next (λ d l st. (c.collect-left.ensures d l st).next)
 
 pub collect_comparison-requires : goal.collect_comparison-requires
-collect_comparison-requires t c =
-    pair-there c.requires c.node_at.ensures
-    c.in-Binary.is
-
-pub name_bit-requires : goal.name_bit-requires
-name_bit-requires t c =
-    name-there c.requires c.node_at.ensures
-    c.in-Call.is
+collect_comparison-requires t c = pair-there c.requires c.node_at.ensures c.in-Binary.is
 
 pub end_children-requires : goal.end_children-requires
-end_children-requires t c =
-    arguments-there c.requires
-    c.node_at.ensures c.in-Call.is
+end_children-requires t c = arguments-there c.requires c.node_at.ensures c.in-Call.is
 
 pub end_children-requires-in-Plain : goal.end_children-requires-in-Plain
-end_children-requires-in-Plain t c =
-    plain-there c.requires c.node_at.ensures
-    c.in-Plain.is
+end_children-requires-in-Plain t c = plain-there c.requires c.node_at.ensures c.in-Plain.is
 
 pub returns-in-And : goal.returns-in-And
 returns-in-And t c =
     λ d t h.
-    let both = rw c.in-And.is at (c.node_at.ensures d t h) in
-    both-names both c.collect-left.result c.collect-right.result c.collect-left.ensures c.collect-right.ensures
+    both-names (c.in-And.ensures d t h) c.collect-left.result c.collect-right.result c.collect-left.ensures c.collect-right.ensures
 
 pub returns-in-Binary : goal.returns-in-Binary
 returns-in-Binary t c =
     λ d t h.
-    let pair = rw c.in-Binary.is at (c.node_at.ensures d t h) in
+    let pair = c.in-Binary.ensures d t h in
     binary-names pair (c.collect_comparison.ensures d pair.l pair.r pair.row)
-
-pub returns-in-Call : goal.returns-in-Call
-returns-in-Call t c =
-    λ d t h.
-    let call = rw c.in-Call.is at (c.node_at.ensures d t h) in
-    call-names call c.name_bit.result c.end_children.result c.name_bit.ensures c.end_children.ensures
 
 pub returns-in-Plain : goal.returns-in-Plain
 returns-in-Plain t c =
     λ d t h.
-    let plain = rw c.in-Plain.is at (c.node_at.ensures d t h) in
+    let plain = c.in-Plain.ensures d t h in
     plain-names plain.0 _ _ (end-node h _ plain.1 c.end_children-in-Plain.result c.end_children-in-Plain.ensures)
+
+pub name_bit-requires : goal.name_bit-requires
+unfolding apart ascii spatial_names same_name any
+name_bit-requires t c = record { name = name-there c.requires c.node_at.ensures c.in-Call.is; few = omega arith; apart = refl }
+
+pub returns-in-Call : goal.returns-in-Call
+unfolding spatial_names ascii
+returns-in-Call t c = λ d t h. call-names (c.in-Call.ensures d t h) _ _ c.name_bit.ensures c.end_children.ensures
