@@ -2,7 +2,7 @@
 use Rattle.std.specs.Prelude.{if◌then◌else◌}
 use Prim.Native.Nat.{ℕ, ◌+◌, ◌-◌, ◌≤◌, ◌<◌}
 use native.Mathlib.Omega.{arith}
-use mathlib.Core.Path.{◌≡◌, refl, ap, ◌∙◌}
+use mathlib.Core.Path.{◌≡◌, refl, sym, ap, ◌∙◌}
 use mathlib.Core.Bool.{Bool, true, false, ◌&&◌}
 use mathlib.Core.List.{List, [], ◌∷◌}
 use mathlib.Core.Option.{Option}
@@ -25,8 +25,9 @@ use Rattle.expression.proofs.There.{and-left-there, and-right-there}
 use Rattle.expression.proofs.Parts.{left-stands, right-stands, both_ends, both_end, call-end}
 use Rattle.sedona_expr.specs.Parsed.{SidesOf, Arguments}
 use Rattle.frame_reader.specs.Arities.{ArityIs}
-use Rattle.frame_reader.specs.declared.arity.Arity.{Arity}
-use Rattle.frame_reader.specs.declared.arity.Arity.TheVariants.{Enough, Short}
+use Rattle.std.specs.Prelude.{Some, None}
+use Rattle.std.specs.Prelude as std
+use Rattle.std.specs.Option.{is_some}
 use Rattle.expression.proofs.AndLeaves.{and-leaves, binary-leaf, call-leaf, plain-leaf, all_append, all_one}
 
 -- ---- functions and comparisons
@@ -66,21 +67,21 @@ plain-needs plain_other = refl
 plain-needs plain_field = refl
 
 -- The answer of a leaf is that of the node.
-leaf-checked : (t e : Expr) (end stop : ℕ) (a : Arity) → arity t ≡ leaf_arity e → end ≡ stop → ArityIs (leaf_arity e) end a
+leaf-checked : (t e : Expr) (end stop : ℕ) (a : std.Option ℕ) → arity t ≡ leaf_arity e → end ≡ stop → ArityIs (leaf_arity e) end a
     → ArityIs (arity t) stop a
 leaf-checked t e end stop a one same h = rw (one, ← same) h
 
 plain-checked : {t : Expr} → PlainNode t → (at end : ℕ) → end ≡ at + length (expr_bytes t)
-    → ArityIs (arity t) (at + length (expr_bytes t)) (Enough end)
+    → ArityIs (arity t) (at + length (expr_bytes t)) (Some end)
 plain-checked {t} p at end e = (arity-one t (plain-leaf p) ∙ plain-needs p, e)
 
 module _ {c : Columns} {s : List ℕ} {at : ℕ} {t : Expr} where
-  binary-checked : {operator first : ℕ} (b : Both (binary operator) c s at first t) (a : Arity)
+  binary-checked : {operator first : ℕ} (b : Both (binary operator) c s at first t) (a : std.Option ℕ)
       → ArityIs (leaf_arity (binary operator b.l b.r)) (first + length (exprs_bytes (cons b.l (cons b.r nil)))) a
       → ArityIs (arity t) (at + length (expr_bytes t)) a
   binary-checked b a h = leaf-checked t _ _ _ a (arity-one t (binary-leaf b)) (both_end b _ refl) h
 
-  call-checked : {k : Called} (b : CallIs c s at k t) (a : Arity)
+  call-checked : {k : Called} (b : CallIs c s at k t) (a : std.Option ℕ)
       → ArityIs (leaf_arity (call b.name b.arguments)) (k.first + length (exprs_bytes b.arguments)) a
       → ArityIs (arity t) (at + length (expr_bytes t)) a
   call-checked b a h = leaf-checked t _ _ _ a (arity-one t (call-leaf b)) (call-end b _ refl) h
@@ -90,19 +91,24 @@ module _ {c : Columns} {s : List ℕ} {at : ℕ} {t : Expr} where
     unfolding arity
     both-need = ap (all leaf_arity) (and-leaves b) ∙ all_append leaf_arity (leaves b.l) (leaves b.r)
 
-    pub left-short : OfTree s first (λ l. ArityIs (arity l) (first + length (expr_bytes l)) Short) → arity t ≡ false
+    pub left-short : OfTree s first (λ l. ArityIs (arity l) (first + length (expr_bytes l)) None) → arity t ≡ false
     left-short h = rw (both-need, h c b.l (left-stands b))
 
-    pub both-checked : (p : ℕ) → OfTree s first (λ l. ArityIs (arity l) (first + length (expr_bytes l)) (Enough p)) → (a : Arity)
+    pub both-checked : (p : ℕ) → OfTree s first (λ l. ArityIs (arity l) (first + length (expr_bytes l)) (Some p)) → (a : std.Option ℕ)
         → OfTree s p (λ r. ArityIs (arity r) (p + length (expr_bytes r)) a) → ArityIs (arity t) (at + length (expr_bytes t)) a
-    both-checked p h (Enough q) k =
+    both-checked p h (Some q) k =
         let right = right-stands b p (λ d l st. (h d l st).1) in (
           rw (both-need, (h c b.l (left-stands b)).0, (k c b.r right).0),
           both_ends b p q (λ d l st. (h d l st).1) (λ d r st. (k d r st).1),
         )
-    both-checked p h Short k =
+    both-checked p h None k =
         let right = right-stands b p (λ d l st. (h d l st).1) in
         rw (both-need, (h c b.l (left-stands b)).0, k c b.r right)
+
+-- Whether it ends somewhere is the verdict.
+pub found : {good : Bool} (end : ℕ) (a : std.Option ℕ) → ArityIs good end a → is_some a ≡ good
+found end (Some next) h = sym h.0
+found end None h = sym h
 
 -- ---- the walk along the right children
 
@@ -110,7 +116,7 @@ module _ {c : Columns} {s : List ℕ} {at : ℕ} {t : Expr} where
 pub record OnRight (s : List ℕ) (at next : ℕ) : Type 0 where
   pub there : Tree s next
   pub low : length s - next ≤ length s - at
-  pub rest : (a : Arity) → OfTree s next (λ t. ArityIs (arity t) (next + length (expr_bytes t)) a)
+  pub rest : (a : std.Option ℕ) → OfTree s next (λ t. ArityIs (arity t) (next + length (expr_bytes t)) a)
       → OfTree s at (λ t. ArityIs (arity t) (at + length (expr_bytes t)) a)
 
 module _ {s : List ℕ} {at : ℕ} where
@@ -119,13 +125,13 @@ module _ {s : List ℕ} {at : ℕ} where
 
   -- Where the node that it came to is a leaf, its answer is that of the whole.
   module _ {next : ℕ} (inv : OnRight s at next) {r : Node} (is : OfTreeIn s next (λ c t. NodeIs c s next r t)) where
-    pub binary-last : {operator first : ℕ} → r ≡ node.Binary operator first → (a : Arity)
+    pub binary-last : {operator first : ℕ} → r ≡ node.Binary operator first → (a : std.Option ℕ)
         → OfPair s first (λ c l k. ArityIs (leaf_arity (binary operator l k)) (first + length (exprs_bytes (cons l (cons k nil)))) a)
         → OfTree s at (λ t. ArityIs (arity t) (at + length (expr_bytes t)) a)
     binary-last e a h = inv.rest a (λ d t st.
         let pair = rw e at (is d t st) in binary-checked pair a (h d pair.l pair.r pair.row))
 
-    pub call-last : {k : Called} → r ≡ node.Call k → (a : Arity)
+    pub call-last : {k : Called} → r ≡ node.Call k → (a : std.Option ℕ)
         → OfCall s k (λ c name args. ArityIs (leaf_arity (call name args)) (k.first + length (exprs_bytes args)) a)
         → OfTree s at (λ t. ArityIs (arity t) (at + length (expr_bytes t)) a)
     call-last e a h = inv.rest a (λ d t st.
@@ -133,8 +139,8 @@ module _ {s : List ℕ} {at : ℕ} where
 
     pub plain-last : {head : Head} → r ≡ node.Plain head → (end : ℕ)
         → OfTrees s head.next head.children (λ ts. end ≡ head.next + length (exprs_bytes ts))
-        → OfTree s at (λ t. ArityIs (arity t) (at + length (expr_bytes t)) (Enough end))
-    plain-last e end h = inv.rest (Enough end) (λ d t st.
+        → OfTree s at (λ t. ArityIs (arity t) (at + length (expr_bytes t)) (Some end))
+    plain-last e end h = inv.rest (Some end) (λ d t st.
         let plain = rw e at (is d t st) in plain-checked plain.0 _ _ (end-node st _ plain.1 end h))
 
   module _ {next first : ℕ} (inv : OnRight s at next) {r : Node} (is : OfTreeIn s next (λ c t. NodeIs c s next r t))
@@ -144,10 +150,10 @@ module _ {s : List ℕ} {at : ℕ} where
         let left = and-left-there inv.there is e refl in
         (omega (arith, whole, inv.low, left.0), left.1)
 
-    pub left-lacks : OfTree s first (λ l. ArityIs (arity l) (first + length (expr_bytes l)) Short) → OfTree s at (λ t. arity t ≡ false)
-    left-lacks h = inv.rest Short (λ d t st. left-short (rw e at (is d t st)) h)
+    pub left-lacks : OfTree s first (λ l. ArityIs (arity l) (first + length (expr_bytes l)) None) → OfTree s at (λ t. arity t ≡ false)
+    left-lacks h = inv.rest None (λ d t st. left-short (rw e at (is d t st)) h)
 
-    module _ (p : ℕ) (h : OfTree s first (λ l. ArityIs (arity l) (first + length (expr_bytes l)) (Enough p))) where
+    module _ (p : ℕ) (h : OfTree s first (λ l. ArityIs (arity l) (first + length (expr_bytes l)) (Some p))) where
       right : (length s - p < length s - next) × Tree s p
       right = and-right-there inv.there is e refl p (λ d l st. (h d l st).1)
 

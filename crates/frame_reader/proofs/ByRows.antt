@@ -1,19 +1,18 @@
 -- Arity by rows: what each node passed leaves to check, and the loop over what is left.
 use Prim.Native.Nat.{ℕ, ◌+◌, ◌≤◌, ◌<◌}
 use native.Mathlib.Omega.{arith}
-use mathlib.Core.Path.{◌≡◌, refl, sym, ap, ap₂, ◌∙◌, subst}
+use mathlib.Core.Path.{◌≡◌, refl, sym, ap, ◌∙◌, subst}
 use mathlib.Core.Bool.{Bool, true, false, ◌&&◌}
 use mathlib.Core.List.{List, [], ◌∷◌, ◌++◌, map, append_assoc, append-nil}
 use lib.ListN.{length, get_or, length-append}
-use Rattle.definitions.specs.Basics.{all}
-use Rattle.definitions.specs.Expression.{Expr, and, binary, call, Exprs, nil, cons, count}
+use Rattle.definitions.specs.Expression.{Expr, and, binary, Exprs, nil, cons, count}
 use Rattle.definitions.specs.Encode.{expr_bytes, exprs_bytes}
 use Rattle.definitions.specs.Decode.{Columns}
-use Rattle.definitions.specs.Good.{nodes, nodes_all, InRangeAll}
+use Rattle.definitions.specs.Good.{nodes, nodes_all}
 use Rattle.definitions.specs.Leaves.{leaves, leaf_arity, call_arity, arity}
 use Rattle.definitions.specs.NodeTable.{record_of, nodes_from, row_from}
 use Rattle.expression.specs.Places.{Holds}
-use Rattle.expression.specs.Nodes.{Stands, Row, Tree, OfTree}
+use Rattle.expression.specs.Nodes.{Stands, Row, OfTree}
 use Rattle.expression.specs.Leaves.{Both, CallIs, PlainNode}
 use Rattle.expression.specs.declared.leaves.Called.{Called}
 use Rattle.expression.proofs.Placed.{back}
@@ -24,17 +23,23 @@ use Rattle.node_rows.specs.Rows.{Tabled, TabledAll}
 use Rattle.node_rows.proofs.RowLaws.{tabled_start, tabled-next, tabled-first, tabled-rest, nodes-below}
 use Rattle.node_rows.proofs.OneTree.{of_tree}
 use Rattle.frame_reader.specs.Arities.{Listed, Passes, into, past, PassedIs}
-use Rattle.frame_reader.specs.declared.arity.Arity.TheVariants.{Enough, Short}
+use Rattle.std.specs.Prelude.{Some, None}
+use Rattle.std.specs.Bool.{then_some}
 use Rattle.frame_reader.proofs.ArityLaws.{arity-one, plain-needs}
 
 -- ---- a node
 
 module _ {numbers indexes : List ℕ} {at i : ℕ} {t : Expr} (h : Tabled numbers indexes at i t) where
-  pub leaf-passed : arity t ≡ true → Passes i (get_or indexes i 0) t
+  leaf-passed : arity t ≡ true → Passes i (get_or indexes i 0) t
   leaf-passed e = past e (tabled-next h)
 
-  pub plain-passed : PlainNode t → Passes i (get_or indexes i 0) t
-  plain-passed p = leaf-passed (arity-one t (plain-leaf p) ∙ plain-needs p)
+  pub plain-passed : PlainNode t → {next : ℕ} → next ≡ get_or indexes i 0 → PassedIs i (Some next) t
+  plain-passed p same = rw same (leaf-passed (arity-one t (plain-leaf p) ∙ plain-needs p))
+
+  -- A leaf is passed if it has enough.
+  pub leaf-asked : (enough : Bool) → arity t ≡ enough → {next : ℕ} → next ≡ get_or indexes i 0 → PassedIs i (then_some enough next) t
+  leaf-asked true e same = rw same (leaf-passed e)
+  leaf-asked false e same = e
 
 module _ {c : Columns} {s : List ℕ} {at : ℕ} {t : Expr} where
   pub and-passed : {first : ℕ} (i : ℕ) → Both and c s at first t → Passes i (i + 1) t
@@ -216,7 +221,7 @@ module _ {s numbers indexes : List ℕ} {first end : ℕ} where
         (λ t ts h. (listed h).0) inv.left (omega (arith, inv.ends)) inv.are
 
     -- The first that is left lacks an argument.
-    pub lacks : OfTree s (start_at numbers i) (PassedIs i Short) → OfTree s (start_at numbers first) (λ t. false ≡ arity t)
+    pub lacks : OfTree s (start_at numbers i) (PassedIs i None) → OfTree s (start_at numbers first) (λ t. false ≡ arity t)
     unfolding arity_all
     lacks short = some_left
         (λ ts. Left inv.columns s numbers indexes inv.place i ts → OfTree s (start_at numbers first) (λ t. arity t ≡ arity_all ts)
@@ -224,7 +229,7 @@ module _ {s numbers indexes : List ℕ} {first end : ℕ} where
         (λ t ts h rest c u stands. sym (rest c u stands ∙ rw (short inv.columns t (listed h).1)))
         inv.left (omega (arith, inv.ends)) inv.are inv.rest
 
-    pub goes_on : (k : ℕ) → OfTree s (start_at numbers i) (PassedIs i (Enough k)) → (i < k) × Checking s numbers indexes first end k
+    pub goes_on : (k : ℕ) → OfTree s (start_at numbers i) (PassedIs i (Some k)) → (i < k) × Checking s numbers indexes first end k
     goes_on k is = some_left
         (λ ts. Left inv.columns s numbers indexes inv.place i ts → i + nodes_all ts ≡ end
         → OfTree s (start_at numbers first) (λ t. arity t ≡ arity_all ts) → (i < k) × Checking s numbers indexes first end k)

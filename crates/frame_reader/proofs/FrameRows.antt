@@ -1,16 +1,15 @@
 -- A frame whose nodes went into rows: there was room for them, and its expression is in them.
-use Prim.Native.Nat.{ℕ, ◌+◌, ◌*◌, ◌/◌, ◌≤◌, ◌<◌, min}
+use Prim.Native.Nat.{ℕ, ◌+◌, ◌/◌, ◌≤◌, min}
 use native.Mathlib.Omega.{arith}
 use mathlib.Core.Path.{◌≡◌, subst}
 use mathlib.Core.Bool.{Bool}
 use mathlib.Core.List.{List}
-use lib.ListN.{length, drop, replicate, length-replicate}
+use lib.ListN.{length, replicate, length-replicate}
 use Rattle.definitions.specs.Expression as tree
-use Rattle.definitions.specs.Encode.{expr_bytes}
 use Rattle.definitions.specs.Decode.{frame_body}
 use Rattle.definitions.specs.Good.{nodes}
 use Rattle.definitions.specs.Leaves.{arity}
-use Rattle.definitions.specs.Basics.{Result}
+use Rattle.definitions.specs.Basics as basics
 use Rattle.definitions.specs.Readers.{read, byte}
 use Rattle.expression.specs.Nodes.{OfTree}
 use Rattle.frame_reader.specs.Arities.{Listed}
@@ -24,10 +23,8 @@ use Rattle.theorems.proofs.ReaderLaws.{step}
 use Rattle.theorems.proofs.InverseFrame.{opened}
 use Rattle.frame_reader.specs.declared.frame_bodies.Frame.{Frame}
 use Rattle.frame_reader.specs.declared.frame_bodies.Body.{Body}
-use Rattle.frame_reader.specs.declared.frame_bodies.Body.TheVariants as body
-use Rattle.frame_reader.specs.declared.frame_bodies.Body.TheVariants.{Read}
-use Rattle.frame_reader.specs.declared.frame_bodies.Physical.{Physical}
-use Rattle.frame_reader.specs.declared.frame_bodies.Physical.TheVariants as physical
+use Rattle.terms.specs.declared.refusals.Refusal.{Refusal}
+use Rattle.std.specs.Prelude.{Result, Ok, Err}
 use Rattle.frame_reader.specs.Frames.{FrameAt, BodyIs, BodyIn, Roomy, PhysicalIs, PhysicalIn, first_of, opening}
 use Rattle.frame_reader.proofs.Standing.{expr-stands}
 
@@ -41,10 +38,9 @@ module _ {s numbers indexes : List ℕ} (room : Roomy s numbers indexes) where
   roomy-lent short = record { long = room.long; short = λ some. short }
 
   -- A node has three bytes at least.
-  pub body-tabled : {numbered indexed₁ : List ℕ} → length numbered ≡ length numbers → (at : ℕ) {f : Frame} {next count : ℕ}
-      → (body : BodyIn s at 0 (Read f next count) frame_body numbered indexed₁)
-      → Tabled numbered indexed₁ f.root 0 body.1.expr
-  body-tabled same at body =
+  pub body-tabled : {numbered indexed₁ : List ℕ} → length numbered ≡ length numbers → (at : ℕ) (b : Body)
+      → (body : BodyIn s at 0 (Ok b) frame_body numbered indexed₁) → Tabled numbered indexed₁ b.frame.root 0 body.1.expr
+  body-tabled same at b body =
       let stands = body.3.expr in
       body.6 (omega (
         arith,
@@ -82,12 +78,12 @@ clear-roomy m s h =
     let long : length zeros ≡ m = length-replicate m 0 in
     record { long = omega arith; room = omega arith }
 
-pub without-rows : (s : List ℕ) (result : Result tree.Frame) (numbers indexes : List ℕ) (r : Physical)
+pub without-rows : (s : List ℕ) (result : basics.Result tree.Frame) (numbers indexes : List ℕ) (r : Result Frame Refusal)
     → PhysicalIn s r result numbers indexes → PhysicalIs s r result
-without-rows s result numbers indexes (physical.Good f) h = (h.0, h.1, h.2)
-without-rows s result numbers indexes (physical.Refused why) h = h
+without-rows s result numbers indexes (Ok f) h = (h.0, h.1, h.2)
+without-rows s result numbers indexes (Err why) h = h
 
-pub body-without-rows : (s : List ℕ) (at before : ℕ) (numbers indexes : List ℕ) (r : Body)
+pub body-without-rows : (s : List ℕ) (at before : ℕ) (numbers indexes : List ℕ) (r : Result Body Refusal)
     → BodyIn s at before r frame_body numbers indexes → BodyIs s at before r frame_body
-body-without-rows s at before numbers indexes (Read f next count) h = (h.0, h.1, h.2, h.3)
-body-without-rows s at before numbers indexes (body.Refused why) h = h
+body-without-rows s at before numbers indexes (Ok b) h = (h.0, h.1, h.2, h.3)
+body-without-rows s at before numbers indexes (Err why) h = h

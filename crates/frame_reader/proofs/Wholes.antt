@@ -6,18 +6,20 @@ use mathlib.Core.Bool.{Bool, true, false}
 use mathlib.Core.List.{List, [], ◌∷◌, ◌++◌}
 use lib.ListN.{length, drop, length-drop, drop_of_length-le}
 use lib.Dec.{eqb}
+use borrow.Author.Tests.{eqb-true, eqb-false}
 use Rattle.definitions.specs.Expression.{Expr, Record}
 use Rattle.definitions.specs.Encode.{records_bytes}
 use Rattle.definitions.specs.Readers.{Read, read, stopped, Reader, continue, ◌>>=◌, ◌>>◌, require, byte, repeat, require_length, none_left, at_end}
 use Rattle.definitions.specs.Decode.{index_below, one_record}
 use Rattle.definitions.specs.Good.{AllBytes, nodes, depth}
 use Rattle.theorems.proofs.ReaderLaws.{after, halts, passes, fails}
-use Rattle.node_reader.specs.declared.field_readers.Field.{Field}
-use Rattle.node_reader.specs.declared.field_readers.Field.TheVariants.{Value, Refused}
+use Rattle.std.specs.Prelude.{Result, Ok, Err}
+use Rattle.std.proofs.Common.{◌⊎◌, inl, inr}
+use Rattle.terms.specs.declared.refusals.Refusal.{Refusal}
 use Rattle.node_reader.specs.Fields.{FieldIs, ReadsAt}
 use Rattle.node_reader.specs.Places.{ExprAt}
 use Rattle.frame_reader.specs.Frames.{FrameAt, first_of, opening}
-use Rattle.node_reader.proofs.Reading.{within, below, above}
+use Rattle.node_reader.proofs.Reading.{within, outside}
 use Rattle.frame_reader.proofs.Recorded.{recorded}
 use Rattle.node_reader.proofs.Standing.{bytes-from, between}
 
@@ -40,19 +42,19 @@ frame-stands s first root next columns many levels rs x bytes low high reads sta
 
 -- ---- the length
 
-pub empty-refused : (s : List ℕ) → length s ≡ 0 → (n : ℕ) → first_of n s ≡ stopped 1
-unfolding first_of require_length
-empty-refused s h n = fails 1 byte n s (below 1 (length s) 16384 (omega arith))
+module _ (s : List ℕ) {empty : Bool} (is : empty ≡ eqb (length s) 0) where
+  some : empty ≡ false → 1 ≤ length s
+  some e = omega (arith, eqb-false (length s) 0 (sym is ∙ e))
 
-pub long-refused : (s : List ℕ) → 0 < length s → 16384 < length s → (n : ℕ) → first_of n s ≡ stopped 1
-unfolding first_of require_length
-long-refused s l h n = fails 1 byte n s (above 1 (length s) 16384 (omega arith) h)
+  pub length-refused : (empty ≡ true) ⊎ (empty ≡ false × 16384 < length s) → (n : ℕ) → first_of n s ≡ stopped 1
+  unfolding first_of require_length
+  length-refused (inl none) n = fails 1 byte n s (outside 1 (length s) 16384 (inl (omega (arith, eqb-true (length s) 0 (sym is ∙ none)))))
+  length-refused (inr many) n = fails 1 byte n s (outside 1 (length s) 16384 (inr (some many.0, many.1)))
 
-pub length-passes : (s : List ℕ) → 0 < length s → length s ≤ 16384 → (r : Field) → FieldIs s 0 r byte → FieldIs s 0 r first_of
-unfolding first_of require_length
-length-passes s l h (Value value next) field =
-    (field.0, λ n. passes 1 byte n s (within 1 (length s) 16384 (omega arith) h) ∙ field.1 n)
-length-passes s l h (Refused why) field = λ n. passes 1 byte n s (within 1 (length s) 16384 (omega arith) h) ∙ field n
+  pub length-passes : empty ≡ false → length s ≤ 16384 → (r : Result (ℕ × ℕ) Refusal) → FieldIs s 0 r byte → FieldIs s 0 r first_of
+  unfolding first_of require_length
+  length-passes l h (Ok first) field = (field.0, λ n. passes 1 byte n s (within 1 (length s) 16384 (some l) h) ∙ field.1 n)
+  length-passes l h (Err why) field = λ n. passes 1 byte n s (within 1 (length s) 16384 (some l) h) ∙ field n
 
 -- Three steps, grouped from the left or from the right.
 pub regroup : {A B C : Type 0} (r : Read A) (f : A → Reader B) (g : B → Reader C)

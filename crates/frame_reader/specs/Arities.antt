@@ -1,18 +1,16 @@
 -- What the answer about arity says.
-use Rattle.std.specs.Prelude.{ℕ, ◌+◌, ◌≡◌, Bool, true, false, List}
+use Rattle.std.specs.Prelude.{ℕ, ◌+◌, ◌≡◌, Bool, true, false, List, Option, Some, None}
 use Rattle.definitions.specs.Expression.{Expr, and}
 use Rattle.definitions.specs.Good.{nodes}
 use Rattle.definitions.specs.Leaves.{arity}
 use Rattle.expression.specs.Nodes.{Tree, OfTree}
 use Rattle.node_rows.specs.Numbers.{start_at}
 use Rattle.node_rows.specs.Rows.{Tabled}
-use Rattle.frame_reader.specs.declared.arity.Arity.{Arity}
-use Rattle.frame_reader.specs.declared.arity.Arity.TheVariants.{Enough, Short}
 
 -- The verdict, and where the expression ends if it is good.
-abbrev pub ArityIs : (good : Bool) → (end : ℕ) → Arity → Type 0
-ArityIs good end (Enough next) = (good ≡ true) × (next ≡ end)
-ArityIs good end Short = good ≡ false
+abbrev pub ArityIs : (good : Bool) → (end : ℕ) → Option ℕ → Type 0
+ArityIs good end (Some next) = (good ≡ true) × (next ≡ end)
+ArityIs good end None = good ≡ false
 
 -- ---- by rows
 
@@ -25,6 +23,6 @@ pub data Passes (i next : ℕ) : Expr → Type 0 where
   into : {l r : Expr} → next ≡ i + 1 → Passes i next (and l r)
   past : {t : Expr} → arity t ≡ true → next ≡ i + nodes t → Passes i next t
 
-abbrev pub PassedIs : (i : ℕ) → Arity → Expr → Type 0
-PassedIs i (Enough next) t = Passes i next t
-PassedIs i Short t = arity t ≡ false
+abbrev pub PassedIs : (i : ℕ) → Option ℕ → Expr → Type 0
+PassedIs i (Some next) t = Passes i next t
+PassedIs i None t = arity t ≡ false

@@ -10,15 +10,8 @@ ghost use Rattle.frame_reader.specs.Arities.{ArityIs};
 use expression::ends::{end_children, end_node};
 use expression::leaves::{Called, Node, node_at};
 use expression::names::same_name;
-use sedona_expr::utils::{Compared, DistanceCall, comparison, distance_arguments};
-use sedona_query_planner::spatial_predicate::{NamedRelation, SpatialRelationType};
-
-// Every leaf has its arguments, and where the expression ends; or some leaf lacks one.
-#[derive(Clone, Copy)]
-pub enum Arity {
-    Enough(usize),
-    Short,
-}
+use sedona_expr::utils::{comparison, distance_arguments};
+use sedona_query_planner::spatial_predicate::SpatialRelationType;
 
 // Whether a function has the arguments that its name needs.
 pub(crate) fn enough_arguments(s: &[u8], call: Called) -> bool
@@ -30,21 +23,21 @@ pub(crate) fn enough_arguments(s: &[u8], call: Called) -> bool
         return 3 <= count;
     }
     match SpatialRelationType::from_name(s, call.name, call.end) {
-        NamedRelation::Relation(_) => 2 <= count,
-        NamedRelation::Nothing => true,
+        Some(_) => 2 <= count,
+        None => true,
     }
 }
 
-fn call_arity(s: &[u8], call: Called) -> Arity
+// Where a function ends.
+fn call_arity(s: &[u8], call: Called) -> Option<usize>
     requires { Calls s.now call }
     ensures { OfCall s.now call (λ c name arguments.
         ArityIs (leaf_arity (call_of name arguments)) (call.first + length (exprs_bytes arguments)) result) }
 {
-    if enough_arguments(s, call) {
-        Arity::Enough(end_children(s, call.first, call.count))
-    } else {
-        Arity::Short
+    if !enough_arguments(s, call) {
+        return None;
     }
+    Some(end_children(s, call.first, call.count))
 }
 
 // Whether an expression, if it is an `st_distance` call, has two arguments.
@@ -53,50 +46,41 @@ pub(crate) fn enough_to_measure(s: &[u8], at: usize) -> bool
     ensures { OfTree s.now at (λ t. result ≡ distance_arity (distance_arguments t)) }
 {
     match distance_arguments(s, at) {
-        DistanceCall::Arguments(_, count) => 2 <= count,
-        DistanceCall::Nothing => true,
+        Some(call) => 2 <= call.count,
+        None => true,
     }
 }
 
-// A comparison is asked on the side that is read.
-fn comparison_arity(s: &[u8], operator: u8, left: usize) -> Arity
+// Where a comparison ends, which is asked on the side that is read.
+fn comparison_arity(s: &[u8], operator: u8, left: usize) -> Option<usize>
     requires { Pair s.now left }
     ensures { OfPair s.now left (λ c l r.
         ArityIs (leaf_arity (binary operator l r)) (left + length (exprs_bytes (cons l (cons r nil)))) result) }
 {
     let right = end_node(s, left);
-    if let Compared::Sides(measured, _) = comparison(operator, left, right) {
-        if !enough_to_measure(s, measured) {
-            return Arity::Short;
+    if let Some(sides) = comparison(operator, left, right) {
+        if !enough_to_measure(s, sides.measured) {
+            return None;
         }
     }
-    Arity::Enough(end_node(s, right))
+    Some(end_node(s, right))
 }
 
-pub fn check_arity(s: &[u8], at: usize) -> Arity
+// Where an expression ends; nowhere, if some leaf lacks an argument.
+pub fn check_arity(s: &[u8], at: usize) -> Option<usize>
     requires { Tree s.now at }
     ensures { OfTree s.now at (λ t. ArityIs (arity t) (at + length (expr_bytes t)) result) }
 {
     let mut next = at;
     loop {
         match node_at(s, next) {
-            Node::And(left) => match check_arity(s, left) {
-                Arity::Enough(right) => {
-                    next = right;
-                }
-                Arity::Short => {
-                    return Arity::Short;
-                }
-            },
-            Node::Binary(operator, left) => {
-                return comparison_arity(s, operator, left);
+            Node::And(left) => {
+                let right = check_arity(s, left)?;
+                next = right;
             }
-            Node::Call(call) => {
-                return call_arity(s, call);
-            }
-            Node::Plain(head) => {
-                return Arity::Enough(end_children(s, head.next, head.children));
-            }
+            Node::Binary(operator, left) => return comparison_arity(s, operator, left),
+            Node::Call(call) => return call_arity(s, call),
+            Node::Plain(head) => return Some(end_children(s, head.next, head.children)),
         }
     }
 }

@@ -5,76 +5,51 @@ ghost use Rattle.definitions.specs.Decode as decode;
 ghost use Rattle.node_reader.specs.Fields.{FieldIs, SkippedIs};
 ghost use Rattle.frame_reader.specs.Records.{SideIs};
 
-use node_reader::field_readers::{Field, Skipped, Sort, Two, byte_up_to, number, two_fields};
+use node_reader::field_readers::{byte_up_to, number};
 use terms::refusals::Refusal;
-use terms::sides::{JoinSide, side_numbered};
-
-// A side and the place after it.
-#[derive(Clone, Copy)]
-pub enum Sided {
-    Value(JoinSide, usize),
-    Refused(Refusal),
-}
+use terms::sides::JoinSide;
 
 // A side with a number of at most `most`.
-pub fn side_up_to(s: &[u8], at: usize, most: u64) -> Sided
+#[tactic(auto, unfolding(definitions::specs::Decode::side_up_to))]
+pub fn side_up_to(s: &[u8], at: usize, most: u64) -> Result<(JoinSide, usize), Refusal>
     requires { at ≤ length s.now }
     ensures { SideIs s.now at result (decode.side_up_to most) }
 {
-    match byte_up_to(s, at, most) {
-        Field::Refused(why) => Sided::Refused(why),
-        Field::Value(number, next) => Sided::Value(side_numbered(number), next),
-    }
+    let (number, next) = byte_up_to(s, at, most)?;
+    Ok((JoinSide::from(number), next))
 }
 
 // A column's record: side, child index, field tag.
-fn one_record(s: &[u8], at: usize) -> Skipped
+fn one_record(s: &[u8], at: usize) -> Result<usize, Refusal>
     requires { at ≤ length s.now }
     ensures { SkippedIs s.now at result decode.one_record }
 {
-    match side_up_to(s, at, 2) {
-        Sided::Refused(why) => Skipped::Refused(why),
-        Sided::Value(_, child) => match two_fields(s, child, Sort::Bytes(2), Sort::Bytes(2)) {
-            Two::Refused(why) => Skipped::Refused(why),
-            Two::Values(_, _, end) => Skipped::To(end),
-        },
-    }
+    let (_, child) = side_up_to(s, at, 2)?;
+    let (_, tag) = number(s, child, 2)?;
+    let (_, next) = number(s, tag, 2)?;
+    Ok(next)
 }
 
 // So many records.
-pub fn records(s: &[u8], at: usize, many: u64) -> Skipped
+pub fn records(s: &[u8], at: usize, many: u64) -> Result<usize, Refusal>
     requires { at ≤ length s.now }
     ensures { SkippedIs s.now at result (readers.repeat many decode.one_record) }
 {
     let mut next = at;
-    let mut left = many;
-    while 0 < left {
-        match one_record(s, next) {
-            Skipped::Refused(why) => {
-                return Skipped::Refused(why);
-            }
-            Skipped::To(after) => {
-                next = after;
-                left -= 1;
-            }
-        }
+    for _ in 0..many {
+        next = one_record(s, next)?;
     }
-    Skipped::To(next)
+    Ok(next)
 }
 
 // How many records a frame has, at most 256.
-pub fn record_count(s: &[u8], at: usize) -> Field
+pub fn record_count(s: &[u8], at: usize) -> Result<(u64, usize), Refusal>
     requires { at ≤ length s.now }
     ensures { FieldIs s.now at result decode.record_count }
 {
-    match number(s, at, 2) {
-        Field::Refused(why) => Field::Refused(why),
-        Field::Value(value, next) => {
-            if value <= 256 {
-                Field::Value(value, next)
-            } else {
-                Field::Refused(Refusal::OutOfRange)
-            }
-        }
+    let (columns, first) = number(s, at, 2)?;
+    if 256 < columns {
+        return Err(Refusal::OutOfRange);
     }
+    Ok((columns, first))
 }

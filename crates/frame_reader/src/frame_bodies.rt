@@ -7,12 +7,11 @@ ghost use Rattle.node_reader.specs.Fields.{FieldIs, SkippedIs};
 ghost use Rattle.node_reader.specs.Nodes.{Lent};
 ghost use Rattle.frame_reader.specs.Frames.{BodyIs, BodyIn, first_of, opening};
 
-use super::arity::{Arity, check_arity};
+use super::arity::check_arity;
 use super::column_records::{record_count, records};
 use node_reader::call_heads::Columns;
-use node_reader::expressions::{expression, expression_in};
-use node_reader::field_readers::{Field, Skipped, byte};
-use node_reader::walk::Walked;
+use node_reader::expressions::expression_in;
+use node_reader::field_readers::byte;
 use terms::refusals::Refusal;
 
 // A physical frame: how many records it has, where they start, where its expression does, and how many nodes and levels that has.
@@ -27,23 +26,10 @@ pub struct Frame {
 
 // A physical frame after its first byte, the place after it, and how many nodes there were up to it.
 #[derive(Clone, Copy)]
-pub enum Body {
-    Read(Frame, usize, usize),
-    Refused(Refusal),
-}
-
-// A whole physical frame.
-#[derive(Clone, Copy)]
-pub enum Physical {
-    Good(Frame),
-    Refused(Refusal),
-}
-
-// A whole logical frame: where its expression starts.
-#[derive(Clone, Copy)]
-pub enum Logical {
-    Good(usize),
-    Refused(Refusal),
+pub struct Body {
+    pub frame: Frame,
+    pub next: usize,
+    pub count: usize,
 }
 
 // A physical frame after its first byte, with so many nodes counted before it; its nodes go into the rows, where these are so long.
@@ -53,71 +39,54 @@ pub fn frame_body_in(
     s: &[u8],
     at: usize,
     nodes: usize,
-) -> Body
+) -> Result<Body, Refusal>
     requires { (at ≤ length s.now) × Lent s.now numbers.old indexes.old }
     ensures { BodyIn s.now at nodes result decode.frame_body numbers.new indexes.new }
 {
-    match record_count(s, at) {
-        Field::Refused(why) => Body::Refused(why),
-        Field::Value(columns, first) => match records(s, first, columns) {
-            Skipped::Refused(why) => Body::Refused(why),
-            Skipped::To(root) => {
-                match expression_in(numbers, indexes, s, root, nodes, Columns::Below(columns)) {
-                    Walked::Refused(why) => Body::Refused(why),
-                    Walked::To { next, count, depth } => Body::Read(
-                        Frame {
-                            columns,
-                            records: first,
-                            root,
-                            nodes: count - nodes,
-                            depth,
-                        },
-                        next,
-                        count,
-                    ),
-                }
-            }
-        },
-    }
+    let (columns, first) = record_count(s, at)?;
+    let root = records(s, first, columns)?;
+    let walked = expression_in(numbers, indexes, s, root, nodes, Columns::Below(columns))?;
+    let frame = Frame {
+        columns,
+        records: first,
+        root,
+        nodes: walked.count - nodes,
+        depth: walked.depth,
+    };
+    Ok(Body {
+        frame,
+        next: walked.next,
+        count: walked.count,
+    })
 }
 
 // The same without rows.
-pub fn frame_body(s: &[u8], at: usize, nodes: usize) -> Body
+pub fn frame_body(s: &[u8], at: usize, nodes: usize) -> Result<Body, Refusal>
     requires { at ≤ length s.now }
     ensures { BodyIs s.now at nodes result decode.frame_body }
 {
-    let mut numbers = [0u32; 0];
-    let mut indexes = [0u16; 0];
-    frame_body_in(&mut numbers, &mut indexes, s, at, nodes)
+    frame_body_in(&mut [], &mut [], s, at, nodes)
 }
 
 // The first byte of a frame that is neither empty nor too long.
-pub fn first_byte(s: &[u8]) -> Field
+pub fn first_byte(s: &[u8]) -> Result<(u64, usize), Refusal>
     ensures { FieldIs s.now 0 result first_of }
 {
-    if s.len() == 0 {
-        return Field::Refused(Refusal::EmptyOrTooLong);
-    }
-    if 16384 < s.len() {
-        return Field::Refused(Refusal::EmptyOrTooLong);
+    if s.is_empty() || 16384 < s.len() {
+        return Err(Refusal::EmptyOrTooLong);
     }
     byte(s, 0)
 }
 
 // The length and the first byte of a frame of this sort: the place after them.
-pub fn opened(s: &[u8], sort: u64) -> Skipped
+pub fn opened(s: &[u8], sort: u64) -> Result<usize, Refusal>
     ensures { SkippedIs s.now 0 result (opening sort) }
 {
-    match first_byte(s) {
-        Field::Refused(why) => Skipped::Refused(why),
-        Field::Value(first, next) => {
-            if first == sort {
-                Skipped::To(next)
-            } else {
-                Skipped::Refused(Refusal::WrongFirstByte)
-            }
-        }
+    let (first, next) = first_byte(s)?;
+    if first != sort {
+        return Err(Refusal::WrongFirstByte);
     }
+    Ok(next)
 }
 
 // Whether the AND-leaves of the expression at a place have the arguments that they need. (Public for remainders.)
@@ -125,8 +94,5 @@ pub fn enough_arguments(s: &[u8], root: usize) -> bool
     requires { Tree s.now root }
     ensures { OfTree s.now root (λ t. result ≡ arity t) }
 {
-    match check_arity(s, root) {
-        Arity::Enough(_) => true,
-        Arity::Short => false,
-    }
+    check_arity(s, root).is_some()
 }

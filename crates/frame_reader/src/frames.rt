@@ -1,100 +1,70 @@
 // Whole frames, physical and logical, the arity of AND-leaves included.
-ghost use Rattle.std.specs.Prelude.{◌≤◌, length};
+ghost use Rattle.std.specs.Prelude.{◌≤◌, ◌/◌, min, length};
 ghost use Rattle.definitions.specs.Plans as plans;
 ghost use Rattle.frame_reader.specs.Frames.{Roomy, PhysicalIs, PhysicalIn, LogicalIs};
 
 use super::by_rows::arity_by_rows;
-use super::frame_bodies::{Body, Logical, Physical, frame_body_in, opened};
+use super::frame_bodies::{Frame, frame_body_in, opened};
 use node_reader::call_heads::Columns;
 use node_reader::expressions::expression;
-use node_reader::field_readers::Skipped;
-use node_reader::walk::Walked;
+use node_rows::rows::Rows;
 use terms::refusals::Refusal;
 
 // A whole physical frame, whose nodes go into the rows.
-pub fn physical_frame_in(numbers: &mut [u32], indexes: &mut [u16], s: &[u8]) -> Physical
+pub fn physical_frame_in(
+    numbers: &mut [u32],
+    indexes: &mut [u16],
+    s: &[u8],
+) -> Result<Frame, Refusal>
     requires { Roomy s.now numbers.old indexes.old }
     ensures { PhysicalIn s.now result (plans.frame_of s.now) numbers.new indexes.new }
 {
-    match opened(s, 1) {
-        Skipped::Refused(why) => Physical::Refused(why),
-        Skipped::To(at) => match frame_body_in(numbers, indexes, s, at, 0) {
-            Body::Refused(why) => Physical::Refused(why),
-            Body::Read(frame, next, count) => {
-                if next != s.len() {
-                    return Physical::Refused(Refusal::BytesAfterEnd);
-                }
-                if arity_by_rows(s, numbers, indexes, 0, count) {
-                    Physical::Good(frame)
-                } else {
-                    Physical::Refused(Refusal::TooFewArguments)
-                }
-            }
-        },
+    let at = opened(s, 1)?;
+    let body = frame_body_in(numbers, indexes, s, at, 0)?;
+    if body.next != s.len() {
+        return Err(Refusal::BytesAfterEnd);
     }
+    let rows = Rows {
+        numbers,
+        next: indexes,
+    };
+    if !arity_by_rows(s, rows, 0, body.count) {
+        return Err(Refusal::TooFewArguments);
+    }
+    Ok(body.frame)
 }
 
-// A whole physical frame of at most 96 bytes: short rows are enough, and the longer ones cost more to clear than such a frame to read.
-fn short_frame(s: &[u8]) -> Physical
-    requires { length s.now ≤ 96 }
+// A whole physical frame, by rows of N places on the stack, of which its nodes need no more.
+fn physical_frame_by<const N: usize>(s: &[u8]) -> Result<Frame, Refusal>
+    requires { (min 1024 (length s.now / 3) ≤ N) × (N ≤ 1024) }
     ensures { PhysicalIs s.now result (plans.frame_of s.now) }
 {
-    let mut numbers = [0u32; 32];
-    let mut indexes = [0u16; 32];
+    let mut numbers = [0u32; N];
+    let mut indexes = [0u16; N];
     physical_frame_in(&mut numbers, &mut indexes, s)
 }
 
-// Of at most 768 bytes.
-fn middle_frame(s: &[u8]) -> Physical
-    requires { length s.now ≤ 768 }
-    ensures { PhysicalIs s.now result (plans.frame_of s.now) }
-{
-    let mut numbers = [0u32; 256];
-    let mut indexes = [0u16; 256];
-    physical_frame_in(&mut numbers, &mut indexes, s)
-}
-
-// Of any length.
-fn long_frame(s: &[u8]) -> Physical
-    ensures { PhysicalIs s.now result (plans.frame_of s.now) }
-{
-    let mut numbers = [0u32; 1024];
-    let mut indexes = [0u16; 1024];
-    physical_frame_in(&mut numbers, &mut indexes, s)
-}
-
-// A whole physical frame.
-pub fn physical_frame(s: &[u8]) -> Physical
+// A whole physical frame. Short rows are enough for a short one, and the longer ones cost more to clear than such a frame to read.
+pub fn physical_frame(s: &[u8]) -> Result<Frame, Refusal>
     ensures { PhysicalIs s.now result (plans.frame_of s.now) }
 {
     if s.len() <= 96 {
-        return short_frame(s);
+        physical_frame_by::<32>(s)
+    } else if s.len() <= 768 {
+        physical_frame_by::<256>(s)
+    } else {
+        physical_frame_by::<1024>(s)
     }
-    if s.len() <= 768 {
-        return middle_frame(s);
-    }
-    long_frame(s)
 }
 
-// A whole logical frame.
-pub fn logical_frame(s: &[u8]) -> Logical
+// A whole logical frame: where its expression starts.
+pub fn logical_frame(s: &[u8]) -> Result<usize, Refusal>
     ensures { LogicalIs s.now result (plans.logical_of s.now) }
 {
-    match opened(s, 2) {
-        Skipped::Refused(why) => Logical::Refused(why),
-        Skipped::To(root) => match expression(s, root, 0, Columns::Fields) {
-            Walked::Refused(why) => Logical::Refused(why),
-            Walked::To {
-                next,
-                count: _,
-                depth: _,
-            } => {
-                if next == s.len() {
-                    Logical::Good(root)
-                } else {
-                    Logical::Refused(Refusal::BytesAfterEnd)
-                }
-            }
-        },
+    let root = opened(s, 2)?;
+    let walked = expression(s, root, 0, Columns::Fields)?;
+    if walked.next != s.len() {
+        return Err(Refusal::BytesAfterEnd);
     }
+    Ok(root)
 }

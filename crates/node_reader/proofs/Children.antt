@@ -9,15 +9,21 @@ use Rattle.definitions.specs.Expression.{Expr, column, Exprs, nil, cons, count}
 use Rattle.definitions.specs.Readers.{Read, read, stopped, Reader, continue, ◌>>=◌, give, byte_up_to}
 use Rattle.definitions.specs.Decode.{repeat_exprs, Columns, node_of_kind, any_column, binary_expr, binary_node}
 use Rattle.expression.specs.Nodes.{children_of}
-use Rattle.node_reader.specs.declared.call_heads.Head.TheVariants.{Children}
+use Rattle.std.specs.Prelude.{Ok}
+use Rattle.node_reader.specs.Fields.{ReadsAt}
 use Rattle.node_reader.specs.Heads.{HeadIs}
 use Rattle.theorems.proofs.ReaderLaws.{after}
 
 -- A node with no child has those of an empty list.
-pub alone : (e : Expr) → children_of e ≡ nil → (es : Exprs) → count es ≡ 0 → children_of e ≡ es
+alone : (e : Expr) → children_of e ≡ nil → (es : Exprs) → count es ≡ 0 → children_of e ≡ es
 unfolding count
 alone e one nil none = one
 alone e one (cons x es) none = absurd (omega arith)
+
+pub childless : (s : List ℕ) (at : ℕ) {first : ℕ} (reader : Reader Expr) (e : Expr) → children_of e ≡ nil → first ≤ length s
+    → ReadsAt s at first e reader → HeadIs s at (Ok (record { first = first; children = 0 })) (λ child. reader)
+unfolding repeat_exprs
+childless s at reader e one place reads = (place, (λ es. e), (λ child n. reads n), alone e one)
 
 -- Two children, one after the other, are a list of two.
 of_two : (Expr → Expr → Expr) → Exprs → Expr
@@ -49,7 +55,7 @@ above-two (suc operator) (cons l (cons r nil)) both = refl
 above-two operator (cons l (cons r (cons x es))) both = absurd (omega arith)
 
 pub two : (s : List ℕ) (at end operator : ℕ) → end ≤ length s
-    → ((n : ℕ) → byte_up_to 63 n (drop at s) ≡ read operator n (drop end s)) → HeadIs s at (Children end 2) binary_node
+    → ((n : ℕ) → byte_up_to 63 n (drop at s) ≡ read operator n (drop end s)) → HeadIs s at (Ok (record { first = end; children = 2 })) binary_node
 unfolding repeat_exprs binary_node
 two s at end operator w h = (
   w,

@@ -1,5 +1,5 @@
 -- The bytes of a name, read one after the other, and looked at all at once.
-use Prim.Native.Nat.{ℕ, zero, suc, ◌+◌, ◌-◌, ◌≤◌, ◌<◌}
+use Prim.Native.Nat.{ℕ, zero, suc, ◌+◌, ◌-◌, ◌≤◌, ◌<◌, min}
 use native.Mathlib.Numerals.{add-one}
 use native.Mathlib.Omega.{arith}
 use mathlib.Core.Path.{◌≡◌, refl, sym, ap, ◌∙◌}
@@ -7,13 +7,14 @@ use mathlib.Core.Bool.{Bool, true, false, ◌&&◌, false≢true}
 use mathlib.Core.List.{List, [], ◌∷◌, ◌++◌}
 use lib.ListN.{length, take, drop, get_or, length-drop}
 use lib.Dec.{leb}
-use lib.Seq.{take-suc, get_or-drop, drop-drop, take-length}
+use lib.Seq.{take-suc, drop-drop}
+use Rattle.std.proofs.lemmas.List.{take_all}
 use Rattle.definitions.specs.Basics.{all}
 use Rattle.definitions.specs.Readers.{read, stopped, byte_between, repeat}
 use Rattle.theorems.proofs.ReaderLaws.{after, halts}
 use Rattle.theorems.proofs.Taken.{and-both}
 use Rattle.terms.specs.declared.refusals.Refusal.TheVariants.{EndsInsideField, OutOfRange}
-use Rattle.node_reader.specs.declared.field_readers.Skipped.TheVariants.{To, Refused}
+use Rattle.std.specs.Prelude.{Ok, Err}
 use Rattle.node_reader.specs.Fields.{SkippedIs, name_like}
 
 abbrev may : ℕ → Bool
@@ -36,16 +37,13 @@ all-one-more (a ∷ l) b = ap (λ (t : Bool). may a && t) (all-one-more l b) ∙
     shift false x y z = refl
 
 -- One byte more.
-pub like-more : (s : List ℕ) (at i : ℕ) → at + i < length s
-    → (name_like (take i (drop at s)) && leb 33 (get_or s (at + i) 0)) && leb (get_or s (at + i) 0) 126
-    ≡ name_like (take (i + 1) (drop at s))
-like-more s at i h =
-    rw (add-one i, take-suc (drop at s) i 0 (simp length-drop (omega arith)), get_or-drop)
-    (sym (all-one-more (take i (drop at s)) (get_or s (at + i) 0)))
+pub like-more : (s : List ℕ) (i : ℕ) → i < length s
+    → (name_like (take i s) && leb 33 (get_or s i 0)) && leb (get_or s i 0) 126 ≡ name_like (take (i + 1) s)
+like-more s i h = rw (add-one i, take-suc s i 0) (sym (all-one-more (take i s) (get_or s i 0)))
 
-pub like-none : (s : List ℕ) (at : ℕ) → true ≡ name_like (take 0 (drop at s))
+pub like-none : (s : List ℕ) → true ≡ name_like (take 0 s)
 unfolding name_like all
-like-none s at = refl
+like-none s = refl
 
 -- ---- what the reader gives
 
@@ -92,24 +90,29 @@ names-stop (suc k) (suc size) n [] h e = absurd (false≢true (sym e))
 names-stop (suc k) (suc size) n (b ∷ s) h e =
     first_stops b n s size (may b) refl (λ f. names-stop k size n s (omega arith) (sym (ap (λ (t : Bool). t && all may (take k s)) f) ∙ e))
 
--- ---- the three answers
+-- ---- the three answers, of the bytes that are there, at most `size`
 
-module _ (s : List ℕ) (at size : ℕ) where
-  pub name-passed : at + size ≤ length s → name_like (take size (drop at s)) ≡ true
-      → SkippedIs s at (To (at + size)) (repeat size (byte_between 33 126))
-  name-passed h e = (
-    h,
-    take size (drop at s),
-    λ n. names-read size n (drop at s) (simp length-drop (omega arith)) e
-        ∙ ap (λ (t : List ℕ). read (take size (drop at s)) n t) (drop-drop size at s),
-  )
+module _ (s : List ℕ) (at size there : ℕ) (some : there ≡ min size (length s - at)) where
+  part : take (at + there - at) (drop at s) ≡ take there (drop at s)
+  part = let e : at + there - at ≡ there = omega arith in ap (λ (k : ℕ). take k (drop at s)) e
 
-  pub name-stops : (k : ℕ) → k ≤ size → name_like (take k (drop at s)) ≡ false
-      → SkippedIs s at (Refused OutOfRange) (repeat size (byte_between 33 126))
-  name-stops k h e n = names-stop k size n (drop at s) h e
+  pub name-passed : at ≤ length s → size ≤ there → name_like (take (at + there - at) (drop at s)) ≡ true
+      → SkippedIs s at (Ok (at + there)) (repeat size (byte_between 33 126))
+  name-passed within enough e =
+      let all : there ≡ size = omega arith in (
+        omega arith,
+        take size (drop at s),
+        λ n. names-read size n (drop at s) (simp length-drop (omega arith)) (rw (← all) (sym (ap name_like part) ∙ e))
+            ∙ ap (λ (t : List ℕ). read (take size (drop at s)) n t) (drop-drop size at s)
+            ∙ ap (λ (k : ℕ). read (take size (drop at s)) n (drop (at + k) s)) (sym all),
+      )
 
-  pub name-ends : length s - at < size → name_like (take (length s - at) (drop at s)) ≡ true
-      → SkippedIs s at (Refused EndsInsideField) (repeat size (byte_between 33 126))
+  pub name-stops : name_like (take (at + there - at) (drop at s)) ≡ false
+      → SkippedIs s at (Err OutOfRange) (repeat size (byte_between 33 126))
+  name-stops e n = names-stop there size n (drop at s) (omega arith) (sym (ap name_like part) ∙ e)
+
+  pub name-ends : there < size → name_like (take (at + there - at) (drop at s)) ≡ true
+      → SkippedIs s at (Err EndsInsideField) (repeat size (byte_between 33 126))
   name-ends h e n =
       names-end size n (drop at s) (simp length-drop (omega arith))
-      (ap name_like (sym (ap (λ (k : ℕ). take k (drop at s)) (sym (length-drop at s)) ∙ take-length (drop at s))) ∙ e)
+      (ap name_like (sym (take_all there (drop at s) (simp length-drop (omega arith))) ∙ sym part) ∙ e)

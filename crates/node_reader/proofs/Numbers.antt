@@ -5,7 +5,8 @@ use native.Mathlib.Numerals.{add-one}
 use native.Mathlib.Omega.{arith}
 use mathlib.Core.Path.{◌≡◌, refl, ap, ◌∙◌}
 use mathlib.Core.List.{List, [], ◌∷◌}
-use lib.ListN.{length, drop, get_or, length-drop}
+use lib.ListN.{length, take, drop, get_or, length-drop}
+use Rattle.std.proofs.lemmas.List.{get_or-take, get_or-drop}
 use lib.Dec.{lit<}
 use Rattle.definitions.specs.Readers.{read, stopped, number_after, number}
 use Rattle.theorems.proofs.ReaderLaws.{after}
@@ -57,3 +58,7 @@ digits-all s at width value i d h n =
     let e : i ≡ width = omega (arith, d.within) in
     let z : width - i ≡ 0 = omega arith in
     d.left n ∙ rw (z, e)
+
+-- A byte of a part is one of the whole.
+pub of-part : (s : List ℕ) (at width i : ℕ) → i < width → get_or (take (at + width - at) (drop at s)) i 0 ≡ get_or s (at + i) 0
+of-part s at width i h = get_or-take (at + width - at) (drop at s) i 0 (omega arith) ∙ get_or-drop at s i 0

@@ -12,7 +12,8 @@ use Rattle.definitions.specs.Readers.{read}
 pub use Rattle.theorems.proofs.Tools.{all-bytes, bytes-from}
 use Rattle.theorems.proofs.Inverse.{NodeBack, node-back}
 use Rattle.node_reader.specs.declared.walk.Walked.{Walked}
-use Rattle.node_reader.specs.declared.walk.Walked.TheVariants.{To, Refused}
+use Rattle.std.specs.Prelude.{Result, Ok, Err}
+use Rattle.terms.specs.declared.refusals.Refusal.{Refusal}
 use Rattle.node_reader.specs.Nodes.{WalkedIs, Counted, Lent}
 use Rattle.node_reader.specs.Places.{ExpressionIs, ExpressionIn}
 use Rattle.expression.specs.Places.{Between}
@@ -47,14 +48,14 @@ module _ (c : Columns) (s : List ℕ) (at levels count : ℕ) (bytes : AllBytes 
       }
 
 -- The walk of a root is the reading of an expression, which stands there.
-pub expression-stands : (c : Columns) (s : List ℕ) (at before : ℕ) (r : Walked) (numbers indexes numbered indexed : List ℕ) → AllBytes s
-    → at ≤ length s → Lent s numbers indexes → length numbered ≡ length numbers
+pub expression-stands : (c : Columns) (s : List ℕ) (at before : ℕ) (r : Result Walked Refusal) (numbers indexes numbered indexed : List ℕ)
+    → AllBytes s → at ≤ length s → Lent s numbers indexes → length numbered ≡ length numbers
     → WalkedIs s at before r (node c 64) depth (length numbers) (Collected at before numbers indexes numbered indexed)
     → Counted before 0 r → ExpressionIn s at before r c numbered indexed
 unfolding expression
-expression-stands c s at before (To next count levels) numbers indexes numbered indexed bytes within lent same
+expression-stands c s at before (Ok walked) numbers indexes numbered indexed bytes within lent same
     (place, e, reads, deep, filled) counted =
-    let b = back c s at 64 before bytes within (omega arith) next reads in
+    let b = back c s at 64 before bytes within (omega arith) walked.next reads in
     let there = node-there c s at 64 before bytes within (omega arith) place reads in (
       e,
       reads,
@@ -67,9 +68,9 @@ expression-stands c s at before (To next count levels) numbers indexes numbered 
           collected-tabled (omega arith) (omega (arith, lent.long)) (omega (arith, there.span.ends, place, lent.short some))
           (filled (omega arith)),
     )
-expression-stands c s at before (Refused why) numbers indexes numbered indexed bytes within lent same stops counted = stops
+expression-stands c s at before (Err why) numbers indexes numbered indexed bytes within lent same stops counted = stops
 
-pub without-rows : (c : Columns) (s : List ℕ) (at before : ℕ) (r : Walked) (numbers indexes : List ℕ)
+pub without-rows : (c : Columns) (s : List ℕ) (at before : ℕ) (r : Result Walked Refusal) (numbers indexes : List ℕ)
     → ExpressionIn s at before r c numbers indexes → ExpressionIs s at before r c
-without-rows c s at before (To next count levels) numbers indexes h = (h.0, h.1, h.2, h.3, h.4)
-without-rows c s at before (Refused why) numbers indexes h = h
+without-rows c s at before (Ok walked) numbers indexes h = (h.0, h.1, h.2, h.3, h.4)
+without-rows c s at before (Err why) numbers indexes h = h

@@ -2,6 +2,7 @@
 use Rattle.std.specs.Prelude.{if◌then◌else◌}
 use Prim.Native.Nat.{ℕ, zero, suc, ◌+◌, ◌-◌, ◌≤◌, ◌<◌, max}
 use native.Mathlib.Numerals.{add-one}
+use native.Mathlib.Nat.{sub-zero}
 use native.Mathlib.Omega.{arith}
 use mathlib.Core.Path.{◌≡◌, refl, sym, ap, ◌∙◌, subst}
 use mathlib.Core.Bool.{Bool, true}
@@ -15,12 +16,11 @@ use Rattle.definitions.specs.Decode.{repeat_exprs, Columns, count_node, node_kin
 use Rattle.definitions.specs.Good.{depth, depth_all}
 use Rattle.terms.specs.declared.refusals.Refusal.{Refusal}
 use Rattle.node_reader.specs.declared.walk.Walked.{Walked}
-use Rattle.node_reader.specs.declared.walk.Walked.TheVariants.{To, Refused}
+use Rattle.std.specs.Prelude.{Result, Ok, Err}
+use Rattle.std.proofs.Common.{◌⊎◌, inl, inr}
 use Rattle.terms.specs.Refusals.{number_of}
 use Rattle.expression.specs.Nodes.{children_of}
 use Rattle.node_reader.specs.declared.call_heads.Head.{Head}
-use Rattle.node_reader.specs.declared.call_heads.Head.TheVariants as head
-use Rattle.node_reader.specs.declared.call_heads.Head.TheVariants.{Children}
 use Rattle.node_reader.specs.Heads.{HeadIs, depth_above}
 use Rattle.node_rows.specs.Rows.{Collected, CollectedAll}
 use Rattle.node_rows.specs.declared.collecting.Passed.{Passed}
@@ -42,15 +42,11 @@ module _ (columns : Columns) (n : ℕ) (s : List ℕ) where
   kind-stops (suc levels) number e = halts _ e
 
   module _ (kind : ℕ) (fields : List ℕ) (e : node_kind columns n s ≡ read kind n fields) where
-    pub too-deep : (levels : ℕ) → levels ≡ 0 → node columns levels n s ≡ stopped 5
+    pub beyond : (levels : ℕ) → (levels ≡ 0) ⊎ ((levels ≡ 0 → ⊥) × 1024 ≤ n) → node columns levels n s ≡ stopped 5
     unfolding node
-    too-deep zero z = after _ e
-    too-deep (suc levels) z = absurd (omega arith)
-
-    pub too_many : (levels : ℕ) → 1024 ≤ n → node columns levels n s ≡ stopped 5
-    unfolding node
-    too_many zero h = after _ e
-    too_many (suc levels) h = after _ e ∙ full n fields _ h
+    beyond zero h = after _ e
+    beyond (suc levels) (inl z) = absurd (omega arith)
+    beyond (suc levels) (inr h) = after _ e ∙ full n fields _ h.1
 
     -- Below the limits a node is what its kind says, one more counted and one level less.
     inside : (levels : ℕ) → (levels ≡ 0 → ⊥) → n < 1024
@@ -63,8 +59,8 @@ module _ (columns : Columns) (n : ℕ) (s : List ℕ) where
 
 -- So its fields are the node's head.
 pub below-limits : (c : Columns) (s : List ℕ) (at fields kind levels n : ℕ) → node_kind c n (drop at s) ≡ read kind n (drop fields s)
-    → (levels ≡ 0 → ⊥) → n < 1024 → (r : Head) → HeadIs s fields r (λ child. node_of_kind c child kind) → NodeHead s at levels n c r
-below-limits c s at fields kind levels n e z few (Children first many) h = (
+    → (levels ≡ 0 → ⊥) → n < 1024 → (r : Result Head Refusal) → HeadIs s fields r (λ child. node_of_kind c child kind) → NodeHead s at levels n c r
+below-limits c s at fields kind levels n e z few (Ok head) h = (
   h.0,
   h.1,
   inside c n (drop at s) kind (drop fields s) e levels z few ∙ h.2 (node c (levels - 1)) (n + 1),
@@ -72,7 +68,7 @@ below-limits c s at fields kind levels n e z few (Children first many) h = (
   omega arith,
   few,
 )
-below-limits c s at fields kind levels n e z few (head.Refused why) h =
+below-limits c s at fields kind levels n e z few (Err why) h =
     inside c n (drop at s) kind (drop fields s) e levels z few ∙ h (node c (levels - 1)) (n + 1)
 
 -- A row that was read has as many as were asked for.
@@ -91,24 +87,25 @@ depth-above = each (λ t. depth t ≡ depth_above (children_of t))
     (λ i g. refl) (λ y v. refl) (λ l r. omega arith) (λ o l r. omega arith) (λ n ts. refl) (λ g ts. refl) (λ b g. refl)
 
 -- The walk of the children is the walk of the node, in which they were counted one later.
-module _ (s : List ℕ) (at first count many : ℕ) (reader child : Reader Expr) (build : Exprs → Expr)
-    (e : reader count (drop at s) ≡ continue (repeat_exprs many child (count + 1) (drop first s)) (λ es. give (build es)))
-    (same : (es : Exprs) → tree.count es ≡ many → children_of (build es) ≡ es) (room : ℕ) where
-  module _ (below : Passed → Exprs → Type 0) (next total levels : ℕ)
-      (h : WalkedIs s first (count + 1) (To next total levels) (repeat_exprs many child) depth_above room below) where
+module _ (s : List ℕ) (at count : ℕ) (head : Head) (reader child : Reader Expr) (build : Exprs → Expr)
+    (e : reader count (drop at s) ≡ continue (repeat_exprs head.children child (count + 1) (drop head.first s)) (λ es. give (build es)))
+    (same : (es : Exprs) → tree.count es ≡ head.children → children_of (build es) ≡ es) (room : ℕ) where
+  module _ (below : Passed → Exprs → Type 0) (walked : Walked)
+      (h : WalkedIs s head.first (count + 1) (Ok walked) (repeat_exprs head.children child) depth_above room below) where
     -- The node that was read has the children that were.
     pub its-children : children_of (build h.1) ≡ h.1
-    its-children = same h.1 (as-many child many (count + 1) total (drop first s) (drop next s) h.1 h.2)
+    its-children = same h.1 (as-many child head.children (count + 1) walked.count (drop head.first s) (drop walked.next s) h.1 h.2)
 
-    pub node-read : reader count (drop at s) ≡ read (build h.1) total (drop next s)
+    pub node-read : reader count (drop at s) ≡ read (build h.1) walked.count (drop walked.next s)
     node-read = e ∙ after _ h.2
 
-    pub node-walks : (filled : Passed → Expr → Type 0) → (total ≤ room → filled (record { end = next; index = total }) (build h.1))
-        → WalkedIs s at count (To next total levels) reader depth room filled
+    pub node-walks : (filled : Passed → Expr → Type 0)
+        → (walked.count ≤ room → filled (record { end = walked.next; index = walked.count }) (build h.1))
+        → WalkedIs s at count (Ok walked) reader depth room filled
     node-walks filled f =
         (h.0, build h.1, node-read, h.3 ∙ sym (depth-above (build h.1) ∙ ap depth_above its-children), f)
 
-  pub node-stops : (why : Refusal) → repeat_exprs many child (count + 1) (drop first s) ≡ stopped (number_of why)
+  pub node-stops : (why : Refusal) → repeat_exprs head.children child (count + 1) (drop head.first s) ≡ stopped (number_of why)
       → reader count (drop at s) ≡ stopped (number_of why)
   node-stops why h = e ∙ halts _ h
 
@@ -118,113 +115,110 @@ depth_over deepest es = suc (max deepest (depth_all es))
 
 -- A row of nodes: none, or one in front of the others.
 module _ (s : List ℕ) (at count room : ℕ) (child : Reader Expr) (numbers indexes : List ℕ) where
-  none-walked : (deepest many : ℕ) → many ≡ 0 → at ≤ length s
-      → WalkedIs s at count (To at count (deepest + 1)) (repeat_exprs many child) (depth_over deepest) room
+  none-walked : (deepest : ℕ) → at ≤ length s
+      → WalkedIs s at count (Ok (record { next = at; count = count; depth = deepest + 1 })) (repeat_exprs 0 child) (depth_over deepest) room
       (CollectedAll at count numbers indexes numbers indexes)
   unfolding repeat_exprs depth
-  none-walked deepest zero z w = (w, nil, refl, omega arith, λ fits. collects-nil at count numbers indexes)
-  none-walked deepest (suc many) z w = absurd (omega arith)
+  none-walked deepest w = (w, nil, refl, omega arith, λ fits. collects-nil at count numbers indexes)
 
-  first_stops : (many : ℕ) → (many ≡ 0 → ⊥) → (number : ℕ) → child count (drop at s) ≡ stopped number
-      → repeat_exprs many child count (drop at s) ≡ stopped number
+  first_stops : (many number : ℕ) → child count (drop at s) ≡ stopped number
+      → repeat_exprs (suc many) child count (drop at s) ≡ stopped number
   unfolding repeat_exprs
-  first_stops zero z number e = absurd (z refl)
-  first_stops (suc many) z number e = halts _ e
+  first_stops many number e = halts _ e
 
-  module _ (long : room ≤ length numbers) (wide : room ≤ length indexes) (numbers₁ indexes₁ : List ℕ) (next total levels : ℕ)
-      (one : WalkedIs s at count (To next total levels) child depth room (Collected at count numbers indexes numbers₁ indexes₁))
-      (deepest deeper : ℕ) (larger : deeper ≡ max deepest levels) (numbers₂ indexes₂ : List ℕ) where
+  module _ (long : room ≤ length numbers) (wide : room ≤ length indexes) (numbers₁ indexes₁ : List ℕ) (first : Walked)
+      (one : WalkedIs s at count (Ok first) child depth room (Collected at count numbers indexes numbers₁ indexes₁))
+      (deepest deeper : ℕ) (larger : deeper ≡ max deepest first.depth) (numbers₂ indexes₂ : List ℕ) where
     -- What was counted after the first was counted before it, too.
-    joined : (end all : ℕ) (es : Exprs)
-        → CollectedAll next total numbers₁ indexes₁ numbers₂ indexes₂ (record { end = end; index = all }) es → all ≤ room
-        → CollectedAll at count numbers indexes numbers₂ indexes₂ (record { end = end; index = all }) (cons one.1 es)
-    joined end all es rest fits =
-        let first : Collected at count numbers indexes numbers₁ indexes₁ (record { end = next; index = total }) one.1 =
+    joined : (end : Passed) (es : Exprs)
+        → CollectedAll first.next first.count numbers₁ indexes₁ numbers₂ indexes₂ end es → end.index ≤ room
+        → CollectedAll at count numbers indexes numbers₂ indexes₂ end (cons one.1 es)
+    joined end es rest fits =
+        let here : Collected at count numbers indexes numbers₁ indexes₁ (record { end = first.next; index = first.count }) one.1 =
         one.4 (omega (arith, rest.own.ends)) in
-        collects-cons (omega (arith, rest.own.ends, first.own.ends)) (omega (arith, rest.own.ends, first.own.ends)) first rest
+        collects-cons (omega (arith, rest.own.ends, here.own.ends)) (omega (arith, rest.own.ends, here.own.ends)) here rest
 
-    in-front : (many : ℕ) (r : Walked)
-        → WalkedIs s next total r (repeat_exprs many child) (depth_over deeper) room
-        (CollectedAll next total numbers₁ indexes₁ numbers₂ indexes₂)
+    in-front : (many : ℕ) (r : Result Walked Refusal)
+        → WalkedIs s first.next first.count r (repeat_exprs many child) (depth_over deeper) room
+        (CollectedAll first.next first.count numbers₁ indexes₁ numbers₂ indexes₂)
         → WalkedIs s at count r (repeat_exprs (suc many) child) (depth_over deepest) room
         (CollectedAll at count numbers indexes numbers₂ indexes₂)
     unfolding repeat_exprs depth
-    in-front many (To end all whole) h = (
+    in-front many (Ok all) h = (
       h.0,
       cons one.1 h.1,
       after _ one.2 ∙ after _ h.2,
       omega (arith, h.3, one.3),
-      λ fits. joined end all h.1 (h.4 fits) fits,
+      λ fits. joined (record { end = all.next; index = all.count }) h.1 (h.4 fits) fits,
     )
-    in-front many (Refused why) h = after _ one.2 ∙ halts _ h
+    in-front many (Err why) h = after _ one.2 ∙ halts _ h
 
-    others-walked : (many : ℕ) → (many ≡ 0 → ⊥) → (r : Walked)
-        → WalkedIs s next total r (repeat_exprs (many - 1) child) (depth_over deeper) room
-        (CollectedAll next total numbers₁ indexes₁ numbers₂ indexes₂)
-        → WalkedIs s at count r (repeat_exprs many child) (depth_over deepest) room
-        (CollectedAll at count numbers indexes numbers₂ indexes₂)
-    others-walked zero z r h = absurd (z refl)
-    others-walked (suc many) z r h =
-        let l : suc many - 1 ≡ many = omega arith in
-        in-front many r (rw l at h)
-
--- What the loop over a row keeps: what is right for the nodes left is right for the whole row.
-pub record InRow (s : List ℕ) (at count many : ℕ) (child : Reader Expr) (numbers indexes : List ℕ) (next total deepest left : ℕ)
+-- What the loop over a row keeps after `done` of the nodes: what is right for those left is right for the whole row.
+pub record InRow (s : List ℕ) (at count many : ℕ) (child : Reader Expr) (numbers indexes : List ℕ) (next total deepest done : ℕ)
     (numbered indexed : List ℕ) : Type 0 where
   pub place : next ≤ length s
   pub low : count + deepest ≤ total
   pub high : total ≤ 1024
   pub same : length numbered ≡ length numbers
   pub alike : length indexed ≡ length indexes
-  pub rest : (numbers₁ indexes₁ : List ℕ) (r : Walked)
-      → WalkedIs s next total r (repeat_exprs left child) (depth_over deepest) (length numbers)
+  pub rest : (numbers₁ indexes₁ : List ℕ) (r : Result Walked Refusal)
+      → WalkedIs s next total r (repeat_exprs (many - done) child) (depth_over deepest) (length numbers)
       (CollectedAll next total numbered indexed numbers₁ indexes₁)
       → WalkedIs s at count r (repeat_exprs many child) depth_above (length numbers)
       (CollectedAll at count numbers indexes numbers₁ indexes₁)
 
 module _ (s : List ℕ) (at count many : ℕ) (child : Reader Expr) (numbers indexes : List ℕ) where
-  from-none : (numbers₁ indexes₁ : List ℕ) (r : Walked)
+  from-none : (numbers₁ indexes₁ : List ℕ) (r : Result Walked Refusal)
       → WalkedIs s at count r (repeat_exprs many child) (depth_over 0) (length numbers)
       (CollectedAll at count numbers indexes numbers₁ indexes₁)
       → WalkedIs s at count r (repeat_exprs many child) depth_above (length numbers)
       (CollectedAll at count numbers indexes numbers₁ indexes₁)
-  from-none numbers₁ indexes₁ (To next total levels) h = (h.0, h.1, h.2, omega (arith, h.3), h.4)
-  from-none numbers₁ indexes₁ (Refused why) h = h
+  from-none numbers₁ indexes₁ (Ok walked) h = (h.0, h.1, h.2, omega (arith, h.3), h.4)
+  from-none numbers₁ indexes₁ (Err why) h = h
 
-  pub row-begins : at ≤ length s → count ≤ 1024 → InRow s at count many child numbers indexes at count 0 many numbers indexes
-  row-begins w h = record { place = w; low = omega arith; high = h; same = refl; alike = refl; rest = from-none }
+  pub row-begins : at ≤ length s → count ≤ 1024 → InRow s at count many child numbers indexes at count 0 0 numbers indexes
+  row-begins w h = record { place = w; low = omega arith; high = h; same = refl; alike = refl; rest = λ numbers₁ indexes₁ r h. from-none numbers₁ indexes₁ r (rw sub-zero at h) }
 
-  module _ (next total deepest left : ℕ) (numbered indexed : List ℕ)
-      (inv : InRow s at count many child numbers indexes next total deepest left numbered indexed) where
-    pub row-goes-on : length numbers ≤ length indexes → 0 < left → (numbers₁ indexes₁ : List ℕ) → length numbers₁ ≡ length numbered
-        → length indexes₁ ≡ length indexed → (after counted levels : ℕ)
-        → WalkedIs s next total (To after counted levels) child depth (length numbered)
-        (Collected next total numbered indexed numbers₁ indexes₁)
-        → Counted total 0 (To after counted levels) → (deeper : ℕ) → deeper ≡ max deepest levels
-        → InRow s at count many child numbers indexes after counted deeper (left - 1) numbers₁ indexes₁
-    row-goes-on long some numbers₁ indexes₁ same alike after counted levels one more deeper larger =
-        let first = subst (λ (k : ℕ). WalkedIs s next total (To after counted levels) child depth k
+module _ {s : List ℕ} {at count many : ℕ} {child : Reader Expr} {numbers indexes : List ℕ} where
+  module _ {next total deepest done : ℕ} {numbered indexed : List ℕ}
+      (inv : InRow s at count many child numbers indexes next total deepest done numbered indexed) where
+    -- What is right for one more than `fewer` is right for the whole.
+    more : (fewer : ℕ) → many - done ≡ suc fewer → (numbers₁ indexes₁ : List ℕ) (r : Result Walked Refusal)
+        → WalkedIs s next total r (repeat_exprs (suc fewer) child) (depth_over deepest) (length numbers)
+        (CollectedAll next total numbered indexed numbers₁ indexes₁)
+        → WalkedIs s at count r (repeat_exprs many child) depth_above (length numbers)
+        (CollectedAll at count numbers indexes numbers₁ indexes₁)
+    more fewer e numbers₁ indexes₁ r h = inv.rest numbers₁ indexes₁ r (rw e h)
+
+    pub row-goes-on : length numbers ≤ length indexes → done < many → {numbers₁ indexes₁ : List ℕ}
+        → length numbers₁ ≡ length numbered → length indexes₁ ≡ length indexed → (first : Walked)
+        → WalkedIs s next total (Ok first) child depth (length numbered) (Collected next total numbered indexed numbers₁ indexes₁)
+        → Counted total 0 (Ok first) → (deeper : ℕ) → deeper ≡ max deepest first.depth
+        → InRow s at count many child numbers indexes first.next first.count deeper (done + 1) numbers₁ indexes₁
+    row-goes-on long some {numbers₁} {indexes₁} same alike first one counted deeper larger =
+        let here = subst (λ (k : ℕ). WalkedIs s next total (Ok first) child depth k
         (Collected next total numbered indexed numbers₁ indexes₁)) inv.same one in
         record {
           place = one.0;
-          low = omega (arith, inv.low, more.0);
-          high = more.1;
+          low = omega (arith, inv.low, counted.0);
+          high = counted.1;
           same = same ∙ inv.same;
           alike = alike ∙ inv.alike;
-          rest = λ numbers₂ indexes₂ r walked. inv.rest numbers₂ indexes₂ r
-              (others-walked s next total (length numbers) child numbered indexed (omega (arith, inv.same)) (omega (arith, inv.alike))
-              numbers₁ indexes₁ after counted levels first deepest deeper larger numbers₂ indexes₂ left (λ z. omega arith) r walked);
+          rest = λ numbers₂ indexes₂ r walked. more (many - (done + 1)) (omega arith) numbers₂ indexes₂ r
+              (in-front s next total (length numbers) child numbered indexed (omega (arith, inv.same)) (omega (arith, inv.alike))
+              numbers₁ indexes₁ first here deepest deeper larger numbers₂ indexes₂ (many - (done + 1)) r walked);
         }
 
-    pub row-stops : 0 < left → (why : Refusal) → child total (drop next s) ≡ stopped (number_of why)
+    pub row-stops : done < many → (why : Refusal) → child total (drop next s) ≡ stopped (number_of why)
         → repeat_exprs many child count (drop at s) ≡ stopped (number_of why)
     row-stops some why e =
-        inv.rest numbered indexed (Refused why)
-        (first_stops s next total (length numbers) child numbered indexed left (λ z. omega arith) (number_of why) e)
+        more (many - (done + 1)) (omega arith) numbered indexed (Err why)
+        (first_stops s next total (length numbers) child numbered indexed (many - (done + 1)) (number_of why) e)
 
-    pub row_ends : left ≤ 0
-        → WalkedIs s at count (To next total (deepest + 1)) (repeat_exprs many child) depth_above (length numbers)
-        (CollectedAll at count numbers indexes numbered indexed)
+    pub row_ends : many ≤ done
+        → WalkedIs s at count (Ok (record { next = next; count = total; depth = deepest + 1 })) (repeat_exprs many child) depth_above
+        (length numbers) (CollectedAll at count numbers indexes numbered indexed)
     row_ends none =
-        inv.rest numbered indexed (To next total (deepest + 1))
-        (none-walked s next total (length numbers) child numbered indexed deepest left (omega arith) inv.place)
+        let e : many - done ≡ 0 = omega arith in
+        inv.rest numbered indexed (Ok (record { next = next; count = total; depth = deepest + 1 }))
+        (rw e (none-walked s next total (length numbers) child numbered indexed deepest inv.place))

@@ -1,15 +1,15 @@
 -- What the answers about a node's head say of the definitions' readers.
-use Rattle.std.specs.Prelude.{ℕ, suc, ◌≤◌, ◌≡◌, List, length, drop}
+use Rattle.std.specs.Prelude.{ℕ, suc, ◌≤◌, ◌≡◌, List, length, drop, Result, Ok, Err}
 use Rattle.definitions.specs.Expression.{Expr, Exprs, count}
 use Rattle.definitions.specs.Readers.{stopped, Reader, continue, give}
 use Rattle.definitions.specs.Decode as decode
 use Rattle.definitions.specs.Good.{depth_all}
 use Rattle.expression.specs.Nodes.{children_of}
 use Rattle.terms.specs.Refusals.{number_of}
+use Rattle.terms.specs.declared.refusals.Refusal.{Refusal}
 use Rattle.node_reader.specs.declared.call_heads.Columns.{Columns}
 use Rattle.node_reader.specs.declared.call_heads.Columns.TheVariants.{Below, Fields}
 use Rattle.node_reader.specs.declared.call_heads.Head.{Head}
-use Rattle.node_reader.specs.declared.call_heads.Head.TheVariants as head
 
 abbrev pub columns_of : Columns → decode.Columns
 columns_of (Below bound) = decode.index_below bound
@@ -19,12 +19,12 @@ columns_of Fields = decode.fields
 abbrev pub depth_above : Exprs → ℕ
 depth_above es = suc (depth_all es)
 
--- A node's fields were read: the rest of the node is `many` children from `first` on, and `build` makes the node that has
--- them.
-abbrev pub HeadIs : List ℕ → (at : ℕ) → Head → ((child : Reader Expr) → Reader Expr) → Type 0
-HeadIs s at (head.Children first many) reader =
-    (first ≤ length s) × (build : Exprs → Expr)
+-- A node's fields were read: the rest of the node is its children, and `build` makes the node that has them.
+abbrev pub HeadIs : List ℕ → (at : ℕ) → Result Head Refusal → ((child : Reader Expr) → Reader Expr) → Type 0
+HeadIs s at (Ok head) reader =
+    (head.first ≤ length s) × (build : Exprs → Expr)
     × ((child : Reader Expr) (n : ℕ)
-    → reader child n (drop at s) ≡ continue (decode.repeat_exprs many child n (drop first s)) (λ es. give (build es)))
-    × ((es : Exprs) → count es ≡ many → children_of (build es) ≡ es)
-HeadIs s at (head.Refused why) reader = (child : Reader Expr) (n : ℕ) → reader child n (drop at s) ≡ stopped (number_of why)
+    → reader child n (drop at s)
+    ≡ continue (decode.repeat_exprs head.children child n (drop head.first s)) (λ es. give (build es)))
+    × ((es : Exprs) → count es ≡ head.children → children_of (build es) ≡ es)
+HeadIs s at (Err why) reader = (child : Reader Expr) (n : ℕ) → reader child n (drop at s) ≡ stopped (number_of why)

@@ -1,5 +1,5 @@
 -- Where an expression stands that was read.
-use Rattle.std.specs.Prelude.{ℕ, ◌+◌, ◌≤◌, ◌≡◌, List, length, drop}
+use Rattle.std.specs.Prelude.{ℕ, ◌+◌, ◌≤◌, ◌≡◌, List, length, drop, Result, Ok, Err}
 use Rattle.definitions.specs.Expression.{Expr}
 use Rattle.definitions.specs.Encode.{expr_bytes}
 use Rattle.definitions.specs.Readers.{read, stopped}
@@ -7,10 +7,10 @@ use Rattle.definitions.specs.Decode.{Columns, expression}
 use Rattle.definitions.specs.Good as good
 use Rattle.definitions.specs.Good.{Readable}
 use Rattle.terms.specs.Refusals.{number_of}
+use Rattle.terms.specs.declared.refusals.Refusal.{Refusal}
 use Rattle.expression.specs.Places.{Between}
 use Rattle.node_rows.specs.Rows.{Tabled}
 use Rattle.node_reader.specs.declared.walk.Walked.{Walked}
-use Rattle.node_reader.specs.declared.walk.Walked.TheVariants.{To, Refused}
 
 -- The expression e stands from `at` up to `end`, its fields in their ranges and its depth at most 64.
 pub record ExprAt (c : Columns) (s : List ℕ) (at end : ℕ) (e : Expr) : Type 0 where
@@ -18,15 +18,16 @@ pub record ExprAt (c : Columns) (s : List ℕ) (at end : ℕ) (e : Expr) : Type 
   pub readable : Readable c e
 
 -- An expression was read, `before` nodes counted up to its place and its own after them.
-abbrev pub ExpressionIs : List ℕ → (at before : ℕ) → Walked → Columns → Type 0
-ExpressionIs s at before (To next count depth) c =
-    (e : Expr) × (expression c before (drop at s) ≡ read e count (drop next s)) × ExprAt c s at next e × (count ≡ before + good.nodes e)
-    × (depth ≡ good.depth e)
-ExpressionIs s at before (Refused why) c = expression c before (drop at s) ≡ stopped (number_of why)
+abbrev pub ExpressionIs : List ℕ → (at before : ℕ) → Result Walked Refusal → Columns → Type 0
+ExpressionIs s at before (Ok walked) c =
+    (e : Expr) × (expression c before (drop at s) ≡ read e walked.count (drop walked.next s)) × ExprAt c s at walked.next e
+    × (walked.count ≡ before + good.nodes e) × (walked.depth ≡ good.depth e)
+ExpressionIs s at before (Err why) c = expression c before (drop at s) ≡ stopped (number_of why)
 
 -- The same, and if rows have room for its nodes, they hold them from index `before` on.
-abbrev pub ExpressionIn : List ℕ → (at before : ℕ) → Walked → Columns → (numbers indexes : List ℕ) → Type 0
-ExpressionIn s at before (To next count depth) c numbers indexes =
-    (e : Expr) × (expression c before (drop at s) ≡ read e count (drop next s)) × ExprAt c s at next e × (count ≡ before + good.nodes e)
-    × (depth ≡ good.depth e) × (count ≤ 1024) × (count ≤ length numbers → Tabled numbers indexes at before e)
-ExpressionIn s at before (Refused why) c numbers indexes = expression c before (drop at s) ≡ stopped (number_of why)
+abbrev pub ExpressionIn : List ℕ → (at before : ℕ) → Result Walked Refusal → Columns → (numbers indexes : List ℕ) → Type 0
+ExpressionIn s at before (Ok walked) c numbers indexes =
+    (e : Expr) × (expression c before (drop at s) ≡ read e walked.count (drop walked.next s)) × ExprAt c s at walked.next e
+    × (walked.count ≡ before + good.nodes e) × (walked.depth ≡ good.depth e) × (walked.count ≤ 1024)
+    × (walked.count ≤ length numbers → Tabled numbers indexes at before e)
+ExpressionIn s at before (Err why) c numbers indexes = expression c before (drop at s) ≡ stopped (number_of why)

@@ -5,7 +5,8 @@ ghost use Rattle.node_reader.specs.Nodes.{Lent};
 ghost use Rattle.node_reader.specs.Places.{ExpressionIs, ExpressionIn};
 
 use super::call_heads::Columns;
-use super::walk::{Walked, node};
+use super::walk::{Source, Walked, node};
+use terms::refusals::Refusal;
 
 // An expression of depth at most 64, whose nodes go into the rows from `count` on, where these are so long.
 pub fn expression_in(
@@ -15,19 +16,24 @@ pub fn expression_in(
     at: usize,
     count: usize,
     columns: Columns,
-) -> Walked
+) -> Result<Walked, Refusal>
     requires { (at ≤ length s.now) × Lent s.now numbers.old indexes.old }
     ensures { ExpressionIn s.now at count result (columns_of columns) numbers.new indexes.new }
 {
-    node(numbers, indexes, s, at, 64, count, columns)
+    node(
+        numbers,
+        indexes,
+        Source { bytes: s, columns },
+        at,
+        64,
+        count,
+    )
 }
 
 // An expression of depth at most 64.
-pub fn expression(s: &[u8], at: usize, count: usize, columns: Columns) -> Walked
+pub fn expression(s: &[u8], at: usize, count: usize, columns: Columns) -> Result<Walked, Refusal>
     requires { at ≤ length s.now }
     ensures { ExpressionIs s.now at count result (columns_of columns) }
 {
-    let mut numbers = [0u32; 0];
-    let mut indexes = [0u16; 0];
-    expression_in(&mut numbers, &mut indexes, s, at, count, columns)
+    expression_in(&mut [], &mut [], s, at, count, columns)
 }

@@ -1,165 +1,82 @@
-// Fields: a byte, a number of some width, a byte in a range.
-ghost use Rattle.std.specs.Prelude.{◌≡◌, ◌+◌, ◌≤◌, ◌<◌, length, take, drop};
+// Fields: a byte, a number of some width, a byte in a range, a name. Each reader gives what it read and the place after it.
+ghost use Rattle.std.specs.Prelude.{◌≡◌, ◌≤◌, length};
 ghost use Rattle.definitions.specs.Readers as readers;
-ghost use Rattle.node_reader.specs.Fields.{FieldIs, TwoIs, SkippedIs, reader_of, Narrow, name_like};
+ghost use Rattle.node_reader.specs.Fields.{FieldIs, SkippedIs, name_like};
 
 use terms::refusals::Refusal;
 
-// A field's value and the place after it.
-#[derive(Clone, Copy)]
-pub enum Field {
-    Value(u64, usize),
-    Refused(Refusal),
-}
-
-// Two fields' values and the place after them.
-#[derive(Clone, Copy)]
-pub enum Two {
-    Values(u64, u64, usize),
-    Refused(Refusal),
-}
-
-// What a field may be: a number of so many bytes, or a byte of at most so much.
-#[derive(Clone, Copy)]
-pub enum Sort {
-    Bytes(usize),
-    UpTo(u64),
-}
-
-// The place after something that has no nodes.
-#[derive(Clone, Copy)]
-pub enum Skipped {
-    To(usize),
-    Refused(Refusal),
-}
-
-fn wide(x: u8) -> u64
-    ensures { (result ≡ x) × (result < 256) }
-{
-    x as u64
-}
-
 // A number of `width` bytes.
-pub fn number(s: &[u8], at: usize, width: usize) -> Field
+pub fn number(s: &[u8], at: usize, width: usize) -> Result<(u64, usize), Refusal>
     requires { (at ≤ length s.now) × (width ≤ 8) }
     ensures { FieldIs s.now at result (readers.number width) }
 {
     if s.len() - at < width {
-        return Field::Refused(Refusal::EndsInsideField);
+        return Err(Refusal::EndsInsideField);
     }
-    let mut value: u64 = 0;
-    let mut i: usize = 0;
-    while i < width {
-        value = value * 256 + wide(s[at + i]);
-        i += 1;
+    let end = at + width;
+    let mut value = 0;
+    for b in &s[at..end] {
+        value = value * 256 + u64::from(*b);
     }
-    Field::Value(value, at + width)
+    Ok((value, end))
 }
 
 // The byte at a place.
-pub fn byte(s: &[u8], at: usize) -> Field
+pub fn byte(s: &[u8], at: usize) -> Result<(u64, usize), Refusal>
     requires { at ≤ length s.now }
     ensures { FieldIs s.now at result readers.byte }
 {
     if s.len() <= at {
-        return Field::Refused(Refusal::EndsInsideField);
+        return Err(Refusal::EndsInsideField);
     }
-    Field::Value(wide(s[at]), at + 1)
+    Ok((u64::from(s[at]), at + 1))
 }
 
 // A byte of at most `most`.
-pub fn byte_up_to(s: &[u8], at: usize, most: u64) -> Field
+#[tactic(auto, unfolding(definitions::specs::Readers::byte_up_to, definitions::specs::Readers::byte_between))]
+pub fn byte_up_to(s: &[u8], at: usize, most: u64) -> Result<(u64, usize), Refusal>
     requires { at ≤ length s.now }
     ensures { FieldIs s.now at result (readers.byte_up_to most) }
 {
-    match byte(s, at) {
-        Field::Refused(why) => Field::Refused(why),
-        Field::Value(value, next) => {
-            if value <= most {
-                Field::Value(value, next)
-            } else {
-                Field::Refused(Refusal::OutOfRange)
-            }
-        }
-    }
-}
-
-// A field of a sort.
-fn field_of(s: &[u8], at: usize, sort: Sort) -> Field
-    requires { (at ≤ length s.now) × Narrow sort }
-    ensures { FieldIs s.now at result (reader_of sort) }
-{
-    match sort {
-        Sort::Bytes(width) => number(s, at, width),
-        Sort::UpTo(most) => byte_up_to(s, at, most),
-    }
-}
-
-// Two fields, one after the other.
-pub fn two_fields(s: &[u8], at: usize, first: Sort, second: Sort) -> Two
-    requires { (at ≤ length s.now) × Narrow first × Narrow second }
-    ensures { TwoIs s.now at result (reader_of first) (reader_of second) }
-{
-    match field_of(s, at, first) {
-        Field::Refused(why) => Two::Refused(why),
-        Field::Value(a, middle) => match field_of(s, middle, second) {
-            Field::Refused(why) => Two::Refused(why),
-            Field::Value(b, end) => Two::Values(a, b, end),
-        },
-    }
+    byte_between(s, at, 0, most)
 }
 
 // A byte from `least` to `most`.
-pub fn byte_between(s: &[u8], at: usize, least: u64, most: u64) -> Field
+pub fn byte_between(s: &[u8], at: usize, least: u64, most: u64) -> Result<(u64, usize), Refusal>
     requires { at ≤ length s.now }
     ensures { FieldIs s.now at result (readers.byte_between least most) }
 {
-    match byte(s, at) {
-        Field::Refused(why) => Field::Refused(why),
-        Field::Value(value, next) => {
-            if value < least {
-                return Field::Refused(Refusal::OutOfRange);
-            }
-            if value <= most {
-                Field::Value(value, next)
-            } else {
-                Field::Refused(Refusal::OutOfRange)
-            }
-        }
+    let (value, next) = byte(s, at)?;
+    if value < least || most < value {
+        return Err(Refusal::OutOfRange);
     }
+    Ok((value, next))
 }
 
-// Whether each of n bytes is from 33 to 126. It looks at all of them, so that several are compared at once.
-fn name_like(s: &[u8], at: usize, n: usize) -> bool
-    requires { at + n ≤ length s.now }
-    ensures { result ≡ name_like (take n (drop at s.now)) }
+// Whether each byte is from 33 to 126. It looks at all of them, so that several are compared at once.
+fn name_like(bytes: &[u8]) -> bool
+    ensures { result ≡ name_like bytes.now }
 {
     let mut like = true;
-    let mut i: usize = 0;
-    while i < n {
-        let b = s[at + i];
-        like = like & (33 <= b) & (b <= 126);
-        i += 1;
+    for b in bytes {
+        like = like & (33 <= *b) & (*b <= 126);
     }
     like
 }
 
-// A name's bytes, each 33 to 126.
-pub fn name_bytes(s: &[u8], at: usize, size: u64) -> Skipped
+// A name's bytes, each 33 to 126. One that no name has is refused before the end is.
+pub fn name_bytes(s: &[u8], at: usize, size: u64) -> Result<usize, Refusal>
     requires { at ≤ length s.now }
     ensures { SkippedIs s.now at result (readers.repeat size (readers.byte_between 33 126)) }
 {
-    let left = s.len() - at;
     let size = size as usize;
-    if left < size {
-        if name_like(s, at, left) {
-            Skipped::Refused(Refusal::EndsInsideField)
-        } else {
-            Skipped::Refused(Refusal::OutOfRange)
-        }
-    } else if name_like(s, at, size) {
-        Skipped::To(at + size)
-    } else {
-        Skipped::Refused(Refusal::OutOfRange)
+    let there = size.min(s.len() - at);
+    let end = at + there;
+    if !name_like(&s[at..end]) {
+        return Err(Refusal::OutOfRange);
     }
+    if there < size {
+        return Err(Refusal::EndsInsideField);
+    }
+    Ok(end)
 }

@@ -5,7 +5,7 @@ ghost use Rattle.node_reader.specs.Fields.{FieldIs};
 ghost use Rattle.node_reader.specs.Heads.{HeadIs, columns_of};
 
 use super::call_heads::{Columns, Head, call_head};
-use super::field_readers::{Field, Sort, Two, byte, two_fields};
+use super::field_readers::{byte, byte_up_to, number};
 use expression::literals::literal_in_range;
 use terms::refusals::Refusal;
 
@@ -14,64 +14,49 @@ fn allowed_kind(kind: u64, columns: Columns) -> bool
     ensures { result ≡ decode.allowed_kind (columns_of columns) kind }
 {
     match columns {
-        Columns::Below(_) => match kind {
-            0..=4 => true,
-            _ => false,
-        },
-        Columns::Fields => match kind {
-            1..=5 => true,
-            _ => false,
-        },
+        Columns::Below(_) => kind <= 4,
+        Columns::Fields => 1 <= kind && kind <= 5,
     }
 }
 
 // A kind byte.
-pub fn node_kind(s: &[u8], at: usize, columns: Columns) -> Field
+pub fn node_kind(s: &[u8], at: usize, columns: Columns) -> Result<(u64, usize), Refusal>
     requires { at ≤ length s.now }
     ensures { FieldIs s.now at result (decode.node_kind (columns_of columns)) }
 {
-    match byte(s, at) {
-        Field::Refused(why) => Field::Refused(why),
-        Field::Value(value, next) => {
-            if allowed_kind(value, columns) {
-                Field::Value(value, next)
-            } else {
-                Field::Refused(Refusal::OutOfRange)
-            }
-        }
+    let (kind, fields) = byte(s, at)?;
+    if !allowed_kind(kind, columns) {
+        return Err(Refusal::OutOfRange);
     }
+    Ok((kind, fields))
 }
 
 // A physical column: its index and its name's tag.
-fn column_head(s: &[u8], at: usize, bound: u64) -> Head
+fn column_head(s: &[u8], at: usize, bound: u64) -> Result<Head, Refusal>
     requires { at ≤ length s.now }
     ensures { HeadIs s.now at result (λ child. decode.column_node bound) }
 {
-    match two_fields(s, at, Sort::Bytes(2), Sort::Bytes(2)) {
-        Two::Refused(why) => Head::Refused(why),
-        Two::Values(index, _, end) => {
-            if index < bound {
-                Head::Children(end, 0)
-            } else {
-                Head::Refused(Refusal::NoSuchColumn)
-            }
-        }
+    let (index, tag) = number(s, at, 2)?;
+    let (_, first) = number(s, tag, 2)?;
+    if bound <= index {
+        return Err(Refusal::NoSuchColumn);
     }
+    Ok(Head { first, children: 0 })
 }
 
 // A logical column: which schemas have it, and its tag.
-fn field_head(s: &[u8], at: usize) -> Head
+fn field_head(s: &[u8], at: usize) -> Result<Head, Refusal>
     requires { at ≤ length s.now }
     ensures { HeadIs s.now at result (λ child. decode.field_node) }
 {
-    match two_fields(s, at, Sort::UpTo(3), Sort::Bytes(2)) {
-        Two::Refused(why) => Head::Refused(why),
-        Two::Values(_, _, end) => Head::Children(end, 0),
-    }
+    let (_, tag) = byte_up_to(s, at, 3)?;
+    let (_, first) = number(s, tag, 2)?;
+    Ok(Head { first, children: 0 })
 }
 
 // A column of the sort that the frame has.
-fn any_column_head(s: &[u8], at: usize, columns: Columns) -> Head
+#[tactic(auto, unfolding(definitions::specs::Decode::any_column))]
+fn any_column_head(s: &[u8], at: usize, columns: Columns) -> Result<Head, Refusal>
     requires { at ≤ length s.now }
     ensures { HeadIs s.now at result (λ child. decode.any_column (columns_of columns)) }
 {
@@ -82,49 +67,40 @@ fn any_column_head(s: &[u8], at: usize, columns: Columns) -> Head
 }
 
 // A literal: its type and eight bytes.
-fn literal_head(s: &[u8], at: usize) -> Head
+fn literal_head(s: &[u8], at: usize) -> Result<Head, Refusal>
     requires { at ≤ length s.now }
     ensures { HeadIs s.now at result (λ child. decode.literal_node) }
 {
-    match two_fields(s, at, Sort::UpTo(6), Sort::Bytes(8)) {
-        Two::Refused(why) => Head::Refused(why),
-        Two::Values(kind, bytes, end) => {
-            if literal_in_range(kind, bytes) {
-                Head::Children(end, 0)
-            } else {
-                Head::Refused(Refusal::OutOfRange)
-            }
-        }
+    let (kind, eight) = byte_up_to(s, at, 6)?;
+    let (bytes, first) = number(s, eight, 8)?;
+    if !literal_in_range(kind, bytes) {
+        return Err(Refusal::OutOfRange);
     }
+    Ok(Head { first, children: 0 })
 }
 
 // A binary operator: And, a comparison or any other, with its two children to come.
-fn binary_head(s: &[u8], at: usize) -> Head
+fn binary_head(s: &[u8], at: usize) -> Result<Head, Refusal>
     requires { at ≤ length s.now }
     ensures { HeadIs s.now at result decode.binary_node }
 {
-    match byte(s, at) {
-        Field::Refused(why) => Head::Refused(why),
-        Field::Value(operator, end) => match operator {
-            0 | 1..=4 | 5..=63 => Head::Children(end, 2),
-            _ => Head::Refused(Refusal::OutOfRange),
-        },
-    }
+    let (_, first) = byte_up_to(s, at, 63)?;
+    Ok(Head { first, children: 2 })
 }
 
 // Any other node: its tag, and its children to come.
-fn other_head(s: &[u8], at: usize) -> Head
+fn other_head(s: &[u8], at: usize) -> Result<Head, Refusal>
     requires { at ≤ length s.now }
     ensures { HeadIs s.now at result decode.other_node }
 {
-    match two_fields(s, at, Sort::Bytes(2), Sort::UpTo(16)) {
-        Two::Refused(why) => Head::Refused(why),
-        Two::Values(_, many, end) => Head::Children(end, many),
-    }
+    let (_, many) = number(s, at, 2)?;
+    let (children, first) = byte_up_to(s, many, 16)?;
+    Ok(Head { first, children })
 }
 
 // The fields of a node of this kind.
-pub fn head_of_kind(s: &[u8], at: usize, kind: u64, columns: Columns) -> Head
+#[tactic(auto, unfolding(definitions::specs::Decode::node_of_kind))]
+pub fn head_of_kind(s: &[u8], at: usize, kind: u64, columns: Columns) -> Result<Head, Refusal>
     requires { at ≤ length s.now }
     ensures { HeadIs s.now at result (λ child. decode.node_of_kind (columns_of columns) child kind) }
 {

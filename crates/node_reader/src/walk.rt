@@ -1,5 +1,5 @@
 // The walk over a node and the walk over its children, which call each other. Nodes left to count fall.
-ghost use Rattle.std.specs.Prelude.{◌≡◌, ◌≤◌, max, length};
+ghost use Rattle.std.specs.Prelude.{◌≡◌, ◌≤◌, length};
 ghost use Rattle.definitions.specs.Decode as decode;
 ghost use Rattle.definitions.specs.Decode.{repeat_exprs};
 ghost use Rattle.definitions.specs.Good.{depth};
@@ -8,46 +8,35 @@ ghost use Rattle.node_rows.specs.Rows.{Collected, CollectedAll};
 ghost use Rattle.node_reader.specs.Nodes.{WalkedIs, Counted, NodeHead, Lent};
 
 use super::call_heads::{Columns, Head};
-use super::field_readers::Field;
 use super::head_readers::{head_of_kind, node_kind};
 use node_rows::numbers::put_node;
 use terms::refusals::Refusal;
 
-// The place after nodes, how many nodes there were up to it, and the depth of what was read.
+// Bytes, and which columns their expressions may have.
 #[derive(Clone, Copy)]
-pub enum Walked {
-    To {
-        next: usize,
-        count: usize,
-        depth: usize,
-    },
-    Refused(Refusal),
+pub struct Source<'a> {
+    pub bytes: &'a [u8],
+    pub columns: Columns,
 }
 
-// The larger of two depths.
-pub fn deeper(a: usize, b: usize) -> usize
-    ensures { result ≡ max a b }
-{
-    if a < b { b } else { a }
+// The place after nodes, how many nodes there were up to it, and the depth of what was read.
+#[derive(Clone, Copy)]
+pub struct Walked {
+    pub next: usize,
+    pub count: usize,
+    pub depth: usize,
 }
 
 // A node's kind and fields, with this many levels left and so many nodes counted before it.
-pub fn node_head(s: &[u8], at: usize, levels: usize, count: usize, columns: Columns) -> Head
-    requires { at ≤ length s.now }
-    ensures { NodeHead s.now at levels count (columns_of columns) result }
+pub fn node_head(source: Source, at: usize, levels: usize, count: usize) -> Result<Head, Refusal>
+    requires { at ≤ length source.bytes.now }
+    ensures { NodeHead source.entry.bytes.now at levels count (columns_of source.entry.columns) result }
 {
-    match node_kind(s, at, columns) {
-        Field::Refused(why) => Head::Refused(why),
-        Field::Value(kind, fields) => {
-            if levels == 0 {
-                return Head::Refused(Refusal::TooManyOrTooDeep);
-            }
-            if 1024 <= count {
-                return Head::Refused(Refusal::TooManyOrTooDeep);
-            }
-            head_of_kind(s, fields, kind, columns)
-        }
+    let (kind, fields) = node_kind(source.bytes, at, source.columns)?;
+    if levels == 0 || 1024 <= count {
+        return Err(Refusal::TooManyOrTooDeep);
     }
+    head_of_kind(source.bytes, fields, kind, source.columns)
 }
 
 // A node and all below it, with this many levels left. Its number and the index of the node after it go into the rows at `count`, where
@@ -56,101 +45,70 @@ pub fn node_head(s: &[u8], at: usize, levels: usize, count: usize, columns: Colu
 pub fn node(
     numbers: &mut [u32],
     indexes: &mut [u16],
-    s: &[u8],
+    source: Source,
     at: usize,
     levels: usize,
     count: usize,
-    columns: Columns,
-) -> Walked
-    requires { (at ≤ length s.now) × Lent s.now numbers.old indexes.old }
-    ensures read { WalkedIs s.now at count result (decode.node (columns_of columns) levels) depth
+) -> Result<Walked, Refusal>
+    requires { (at ≤ length source.bytes.now) × Lent source.bytes.now numbers.old indexes.old }
+    ensures read { WalkedIs source.entry.bytes.now at count result (decode.node (columns_of source.entry.columns) levels) depth
         (length numbers.old)
         (Collected at count numbers.old indexes.old numbers.new indexes.new) }
     ensures counted { Counted count 0 result }
 {
-    match node_head(s, at, levels, count, columns) {
-        Head::Refused(why) => Walked::Refused(why),
-        Head::Children(first, many) => {
-            if many == 0 {
-                put_node(numbers, indexes, count, s[at], at, first, count + 1);
-                return Walked::To {
-                    next: first,
-                    count: count + 1,
-                    depth: 1,
-                };
-            }
-            match nodes(
-                numbers,
-                indexes,
-                s,
-                first,
-                levels - 1,
-                count + 1,
-                columns,
-                many,
-            ) {
-                Walked::Refused(why) => {
-                    return Walked::Refused(why);
-                }
-                Walked::To {
-                    next,
-                    count: total,
-                    depth,
-                } => {
-                    put_node(numbers, indexes, count, s[at], at, next, total);
-                    return Walked::To {
-                        next,
-                        count: total,
-                        depth,
-                    };
-                }
-            }
+    let head = node_head(source, at, levels, count)?;
+    // Most nodes are leaves, and need no walk of children.
+    let walked = if head.children == 0 {
+        Walked {
+            next: head.first,
+            count: count + 1,
+            depth: 1,
         }
-    }
+    } else {
+        nodes(numbers, indexes, source, head, levels - 1, count + 1)?
+    };
+    let s = source.bytes;
+    put_node(
+        numbers,
+        indexes,
+        count,
+        s[at],
+        at,
+        walked.next,
+        walked.count,
+    );
+    Ok(walked)
 }
 
-// So many nodes, one after the other, each with this many levels left; the depth is that of the node above them.
+// A node's children, one after the other, each with this many levels left; the depth is that of the node above them.
 #[cycle(node_nodes)]
 pub fn nodes(
     numbers: &mut [u32],
     indexes: &mut [u16],
-    s: &[u8],
-    at: usize,
+    source: Source,
+    head: Head,
     levels: usize,
     count: usize,
-    columns: Columns,
-    many: u64,
-) -> Walked
-    requires { (at ≤ length s.now) × (count ≤ 1024) × Lent s.now numbers.old indexes.old }
-    ensures read { WalkedIs s.now at count result (repeat_exprs many (decode.node (columns_of columns) levels)) depth_above
+) -> Result<Walked, Refusal>
+    requires { (head.first ≤ length source.bytes.now) × (count ≤ 1024) × Lent source.bytes.now numbers.old indexes.old }
+    ensures read { WalkedIs source.entry.bytes.now head.first count result
+        (repeat_exprs head.children (decode.node (columns_of source.entry.columns) levels)) depth_above
         (length numbers.old)
-        (CollectedAll at count numbers.old indexes.old numbers.new indexes.new) }
+        (CollectedAll head.first count numbers.old indexes.old numbers.new indexes.new) }
     ensures counted { Counted count 1 result }
 {
-    let mut next = at;
+    let mut next = head.first;
     let mut total = count;
-    let mut deepest = 0;
-    let mut left = many;
-    while 0 < left {
-        match node(numbers, indexes, s, next, levels, total, columns) {
-            Walked::Refused(why) => {
-                return Walked::Refused(why);
-            }
-            Walked::To {
-                next: after,
-                count: counted,
-                depth,
-            } => {
-                next = after;
-                total = counted;
-                deepest = deeper(deepest, depth);
-                left -= 1;
-            }
-        }
+    let mut deepest: usize = 0;
+    for _ in 0..head.children {
+        let child = node(numbers, indexes, source, next, levels, total)?;
+        next = child.next;
+        total = child.count;
+        deepest = deepest.max(child.depth);
     }
-    Walked::To {
+    Ok(Walked {
         next,
         count: total,
         depth: deepest + 1,
-    }
+    })
 }

@@ -1,5 +1,5 @@
 -- The side of a comparison that is read, and the arguments of `st_distance`.
-use Rattle.std.specs.Prelude.{if◌then◌else◌}
+use Rattle.std.specs.Prelude.{if◌then◌else◌, Option, Some, None}
 use Prim.Native.Nat.{ℕ, suc, ◌+◌, ◌≤◌, ◌<◌}
 use native.Mathlib.Omega.{arith}
 use mathlib.Core.Path.{◌≡◌, refl, sym, ap, ◌∙◌, subst, subst⁻¹}
@@ -25,9 +25,8 @@ use Rattle.node_rows.specs.Numbers.{start_at}
 use Rattle.node_rows.specs.Rows.{TabledAll}
 use Rattle.node_rows.proofs.RowLaws.{tabled-first, tabled-within}
 use Rattle.node_rows.proofs.IndexLaws.{Indexed, index-pair}
-use Rattle.sedona_expr.specs.Parsed.{compared, SidesOf, ComparedIs, BothSides, Arguments}
+use Rattle.sedona_expr.specs.Parsed.{compared, ComparedIs, Arguments}
 use Rattle.sedona_expr.specs.declared.utils.Compared.{Compared}
-use Rattle.sedona_expr.specs.declared.utils.Compared.TheVariants.{Sides, Nothing}
 
 -- An operator is one of two that follow each other, or lies outside of them.
 within : (o k : ℕ) → k ≤ o → o < k + 2 → (t : Bool) → eqb o k ≡ t → (eqb o k || eqb o (suc k)) ≡ true
@@ -37,49 +36,46 @@ within o k h i false e = rw (e, eq-eqb o (suc k) (omega (arith, eqb-false o k e)
 outside : (o k : ℕ) → (k ≤ o → k + 2 ≤ o) → (eqb o k || eqb o (suc k)) ≡ false
 outside o k h = rw (ne_eqb o k (λ e. omega (arith, h (omega arith))), ne_eqb o (suc k) (λ e. omega (arith, h (omega arith))))
 
+-- Two sides, the first of which is read.
+abbrev pub on : (measured bound : ℕ) → Option Compared
+on measured bound = Some (record { measured = measured; bound = bound })
+
 module _ (left right operator : ℕ) where
-  pub reads-left : 1 ≤ operator → operator < 3 → Sides left right ≡ compared operator left right
+  pub reads-left : 1 ≤ operator → operator < 3 → on left right ≡ compared operator left right
   unfolding compared
   reads-left h k = rw (within operator 1 h k (eqb operator 1) refl)
 
-  pub reads-right : 3 ≤ operator → operator < 5 → Sides right left ≡ compared operator left right
+  pub reads-right : 3 ≤ operator → operator < 5 → on right left ≡ compared operator left right
   unfolding compared
   reads-right h k = rw (outside operator 1 (λ i. h), within operator 3 h k (eqb operator 3) refl)
 
-  pub reads-neither : (1 ≤ operator → 5 ≤ operator) → Nothing ≡ compared operator left right
+  pub reads-neither : (1 ≤ operator → 5 ≤ operator) → None ≡ compared operator left right
   unfolding compared
   reads-neither h = rw (outside operator 1 (λ i. omega (arith, h i)), outside operator 3 (λ i. h (omega arith)))
 
 -- They are the definitions' sides, whatever is known of both.
 module _ (P : ℕ → Expr → Type 0) {left right : ℕ} {l r : Expr} (x : P left l) (y : P right r) where
-  by_tests : (a b : Bool) → ComparedIs P (if a then Sides left right else if b then Sides right left else Nothing)
+  by_tests : (a b : Bool) → ComparedIs P (if a then on left right else if b then on right left else None)
       (if a then compares l r else if b then compares r l else no_comparison)
   by_tests true b = record { m = l; b = r; is = refl; stands_measured = x; stands_bound = y }
   by_tests false true = record { m = r; b = l; is = refl; stands_measured = y; stands_bound = x }
   by_tests false false = refl
 
-  sides-are : (operator : ℕ) {answer : Compared} → answer ≡ compared operator left right → ComparedIs P answer (comparison operator l r)
+  pub told-sides : (operator : ℕ) {answer : Option Compared} → answer ≡ compared operator left right
+      → ComparedIs P answer (comparison operator l r)
   unfolding compared comparison
-  sides-are operator e = subst (λ (a : Compared). ComparedIs P a (comparison operator l r)) (sym e)
+  told-sides operator e = subst (λ (a : Option Compared). ComparedIs P a (comparison operator l r)) (sym e)
       (by_tests (eqb operator 1 || eqb operator 2) (eqb operator 3 || eqb operator 4))
 
-  pub told-sides : (operator : ℕ) {answer : Compared} {measured bound : ℕ} → answer ≡ Sides measured bound
-      → answer ≡ compared operator left right → SidesOf P measured bound (comparison operator l r)
-  told-sides operator e is = rw e at (sides-are operator is)
-
-  pub told-nothing : (operator : ℕ) {answer : Compared} → answer ≡ Nothing → answer ≡ compared operator left right
-      → comparison operator l r ≡ no_comparison
-  told-nothing operator e is = rw e at (sides-are operator is)
+-- Above 4 there is none.
+pub no-sides : (operator : ℕ) (l r : Expr) → 4 < operator → comparison operator l r ≡ no_comparison
+no-sides operator l r h = told-sides (λ i t. Unit {0}) tt tt operator (reads-neither 0 0 operator (λ k. h))
 
 -- The sides of two expressions in a row.
-module _ {c : Columns} {s : List ℕ} {left : ℕ} {l r : Expr} (row : Row c s left 2 (cons l (cons r nil))) (right : ℕ)
-    (ends : OfTree s left (λ t. right ≡ left + length (expr_bytes t))) (operator : ℕ) {answer : Compared} where
-  pub sides-found : {measured bound : ℕ} → answer ≡ Sides measured bound → answer ≡ compared operator left right
-      → BothSides c s measured bound (comparison operator l r)
-  sides-found e is = told-sides (Stands c s) (first-stands row) (pair-right row right ends) operator e is
-
-  pub sides-missing : answer ≡ Nothing → answer ≡ compared operator left right → comparison operator l r ≡ no_comparison
-  sides-missing e is = told-nothing (Stands c s) (first-stands row) (pair-right row right ends) operator e is
+pub sides-found : {c : Columns} {s : List ℕ} {left : ℕ} {l r : Expr} → Row c s left 2 (cons l (cons r nil)) → (right : ℕ)
+    → OfTree s left (λ t. right ≡ left + length (expr_bytes t)) → (operator : ℕ) {answer : Option Compared}
+    → answer ≡ compared operator left right → ComparedIs (Stands c s) answer (comparison operator l r)
+sides-found {c} {s} row right ends = told-sides (Stands c s) (first-stands row) (pair-right row right ends)
 
 -- The sides of two expressions that have indexes have them too.
 module _ {s numbers next : List ℕ} {i : ℕ}
@@ -87,15 +83,10 @@ module _ {s numbers next : List ℕ} {i : ℕ}
   pub pair-within : Pair s (start_at numbers i) → i < length next
   pair-within p = (tabled-within (tabled-first (listed _ _ _ p.3))).1
 
-  module _ (operator : ℕ) {answer : Compared} (is : answer ≡ compared operator i (get_or next i 0)) where
-    pub index-sides : {measured bound : ℕ} → answer ≡ Sides measured bound
-        → OfPair s (start_at numbers i) (λ c l r. SidesOf (Indexed c s numbers next) measured bound (comparison operator l r))
-    index-sides e c l r row =
-        let pair = index-pair row (listed c l r row) _ refl in told-sides (Indexed c s numbers next) pair.0 pair.1 operator e is
-
-    pub index-nothing : answer ≡ Nothing → OfPair s (start_at numbers i) (λ c l r. comparison operator l r ≡ no_comparison)
-    index-nothing e c l r row =
-        let pair = index-pair row (listed c l r row) _ refl in told-nothing (Indexed c s numbers next) pair.0 pair.1 operator e is
+  pub index-sides : (operator : ℕ) {right : ℕ} {answer : Option Compared} → right ≡ get_or next i 0 → answer ≡ compared operator i right
+      → OfPair s (start_at numbers i) (λ c l r. ComparedIs (Indexed c s numbers next) answer (comparison operator l r))
+  index-sides operator e is c l r row =
+      let pair = index-pair row (listed c l r row) _ e in told-sides (Indexed c s numbers next) pair.0 pair.1 operator is
 
 -- Each stands where its number says.
 pub starts : {c : Columns} {s numbers next : List ℕ} {k p : ℕ} {t : Expr} → Indexed c s numbers next k t → p ≡ start_at numbers k
@@ -104,10 +95,9 @@ starts {c} {s} {t = t} h e = subst⁻¹ (λ p. Stands c s p t) e h.stands
 
 -- So there is something to measure.
 pub measured-there : {s : List ℕ} {left : ℕ} (pair : Pair s left) (right : ℕ) → OfTree s left (λ t. right ≡ left + length (expr_bytes t))
-    → (operator : ℕ) {answer : Compared} {measured bound : ℕ} → answer ≡ Sides measured bound → answer ≡ compared operator left right
-    → Tree s measured
-measured-there pair right ends operator e is =
-    let sides = sides-found pair.3 right ends operator e is in
+    → (operator : ℕ) {sides : Compared} → Some sides ≡ compared operator left right → Tree s sides.measured
+measured-there pair right ends operator is =
+    let sides = sides-found pair.3 right ends operator is in
     (pair.0, sides.m, sides.stands_measured)
 
 pub no_arguments : (t : Expr) → (kind_of t ≡ 3 → ⊥) → distance_arguments t ≡ none

@@ -1,5 +1,6 @@
 -- What is asked for, by what was found of a comparison and of a function.
-use Rattle.std.specs.Prelude.{if◌then◌else◌}
+use Rattle.std.specs.Prelude.{if◌then◌else◌, Some, None, Result, Ok, Err}
+use Rattle.std.specs.Result.{result_ok}
 use Prim.Native.Nat.{ℕ, ◌+◌, ◌≤◌, ◌<◌}
 use native.Mathlib.Omega.{arith}
 use mathlib.Core.Path.{◌≡◌, refl, sym, ap, ◌∙◌, subst}
@@ -24,11 +25,15 @@ use Rattle.node_rows.specs.Rows.{TabledAll, TwoTabled, OfTwo, TwoAre}
 use Rattle.node_rows.specs.declared.pairs.Two.{Two}
 use Rattle.node_rows.proofs.RowLaws.{tabled-end, tabled-within}
 use Rattle.node_rows.proofs.IndexLaws.{Indexed, index-spans, index-row, first-spans, second-spans, after-second, third-tabled}
+use Rattle.terms.specs.Forms.{form_number, FormIs}
+use Rattle.terms.specs.declared.refusals.Refusal.{Refusal}
+use Rattle.terms.specs.declared.forms.DistanceForm.{DistanceForm}
+use Rattle.terms.specs.declared.forms.DistanceForm.TheVariants.{Dwithin}
 use Rattle.sedona_expr.specs.declared.utils.ParsedDistancePredicate.{ParsedDistancePredicate}
 use Rattle.sedona_expr.specs.Parsed.{SidesOf, Arguments, is_distance, Distance}
 
 -- A distance whose geometries are these two, and whose bound stands from d to e.
-abbrev pub distance_at : (form : ℕ) → Two → (d e : ℕ) → ParsedDistancePredicate
+abbrev pub distance_at : DistanceForm → Two → (d e : ℕ) → ParsedDistancePredicate
 distance_at form r d e = record {
   form = form;
   arg0 = r.start;
@@ -37,6 +42,16 @@ distance_at form r d e = record {
   arg_distance = d;
   distance_end = e;
 }
+
+-- A form is the operator that it was read from, and none is read above 4.
+pub form-read : {n : ℕ} (read : Result DistanceForm Refusal) {form : DistanceForm} → FormIs n read → Some form ≡ result_ok read
+    → n ≡ form_number form
+form-read (Ok f) is e = cc
+form-read (Err why) is e = cc
+
+pub form-unread : {n : ℕ} (read : Result DistanceForm Refusal) → FormIs n read → None ≡ result_ok read → 4 < n
+form-unread (Ok f) is e = cc
+form-unread (Err why) is e = is.0
 
 more-count : (a b : Expr) (more : Exprs) → 2 ≤ count (cons a (cons b more))
 unfolding count
@@ -104,10 +119,10 @@ module _ (form : ℕ) where
                 (index-row sides.stands_measured).1,
           ))
 
-      pub compared-distance : 2 ≤ n → {r : Two} → OfTwo numbers next (measured + 1) (TwoAre (measured + 1) r) → (d e : ℕ)
-          → d ≡ start_at numbers bound → e ≡ end_at numbers bound → Distance c s (distance_at form r d e) (comparison_request form q)
+      pub compared-distance : 2 ≤ n → {r : Two} → OfTwo numbers next (measured + 1) (TwoAre (measured + 1) r) → (kind : DistanceForm) → form ≡ form_number kind
+          → (d e : ℕ) → d ≡ start_at numbers bound → e ≡ end_at numbers bound → Distance c s (distance_at kind r d e) (comparison_request form q)
       unfolding distance_request
-      compared-distance h {r} told d e start end = measured-two (λ args. Distance c s (distance_at form r d e) (comparison_request form q))
+      compared-distance h {r} told kind named d e start end = measured-two (λ args. Distance c s (distance_at kind r d e) (comparison_request form q))
           (λ a b more is same.
           let place : ℕ = start_at numbers measured + length (head_bytes sides.m) in
           let both = index-row sides.stands_measured in
@@ -119,7 +134,7 @@ module _ (form : ℕ) where
             a = a;
             b = b;
             bound = sides.b;
-            is = asked ∙ rw is;
+            is = asked ∙ rw (is, named);
             arg0 = first-spans row two;
             arg1 = second-spans row two (omega (arith, ap count same, more-count a b more));
             arg_distance = index-spans sides.stands_bound d e start end;
@@ -188,11 +203,11 @@ module _ {c : Columns} {s : List ℕ} {k : Called} {name : List ℕ} {args : Exp
 
     pub dwithin-distance : 3 ≤ k.count → {numbers next : List ℕ} {i : ℕ} → TabledAll numbers next k.first i args → {r : Two}
         → OfTwo numbers next i (TwoAre i r) → (e : ℕ) → e ≡ end_at numbers r.after
-        → Distance c s (distance_at 0 r r.end e) (call_request name args)
+        → Distance c s (distance_at Dwithin r r.end e) (call_request name args)
     unfolding dwithin_request
     dwithin-distance h {numbers} {next} {i} tabled {r} told e end = three-of
         (λ args. Row c s k.first k.count args → TabledAll numbers next k.first i args → call_request name args ≡ dwithin_request args
-        → Distance c s (distance_at 0 r r.end e) (call_request name args))
+        → Distance c s (distance_at Dwithin r r.end e) (call_request name args))
         (λ a b d more row t is.
         let two : TwoAre i r k.first a b = told k.first a b (cons d more) t in
         record {

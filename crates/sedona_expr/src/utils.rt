@@ -12,28 +12,20 @@ ghost use Rattle.sedona_expr.specs.Parsed.{compared, DistanceIs, ParsedIs};
 
 use expression::leaves::{Called, Node, node_at};
 use expression::names::same_name;
-use node_rows::numbers::{end_of, start_of};
-use node_rows::pairs::two_at;
+use node_rows::rows::Rows;
+use terms::forms::DistanceForm;
 
 // The side of a comparison on which `st_distance` is looked for, and the other, its bound: each by the number that it was given.
 #[derive(Clone, Copy)]
-pub enum Compared {
-    Sides(usize, usize),
-    Nothing,
+pub struct Compared {
+    pub measured: usize,
+    pub bound: usize,
 }
 
-// The arguments of an `st_distance` call: where they begin, and how many there are.
-#[derive(Clone, Copy)]
-pub enum DistanceCall {
-    Arguments(usize, usize),
-    Nothing,
-}
-
-// The places of both geometries, the first of which ends where the second starts, and of the distance; forms are 0 `st_dwithin`,
-// 1 Lt, 2 LtEq, 3 Gt, 4 GtEq.
+// The places of both geometries, the first of which ends where the second starts, and of the distance.
 #[derive(Clone, Copy)]
 pub struct ParsedDistancePredicate {
-    pub form: u8,
+    pub form: DistanceForm,
     pub arg0: usize,
     pub arg1: usize,
     pub arg1_end: usize,
@@ -41,86 +33,82 @@ pub struct ParsedDistancePredicate {
     pub distance_end: usize,
 }
 
-#[derive(Clone, Copy)]
-pub enum Parsed {
-    Distance(ParsedDistancePredicate),
-    Nothing,
-}
-
-pub fn comparison(operator: u8, left: usize, right: usize) -> Compared
+pub fn comparison(operator: u8, left: usize, right: usize) -> Option<Compared>
     ensures { result ≡ compared operator left right }
 {
     match operator {
-        1 | 2 => Compared::Sides(left, right),
-        3 | 4 => Compared::Sides(right, left),
-        _ => Compared::Nothing,
+        1 | 2 => Some(Compared {
+            measured: left,
+            bound: right,
+        }),
+        3 | 4 => Some(Compared {
+            measured: right,
+            bound: left,
+        }),
+        _ => None,
     }
 }
 
-pub fn distance_arguments(s: &[u8], at: usize) -> DistanceCall
+// An `st_distance` call.
+pub fn distance_arguments(s: &[u8], at: usize) -> Option<Called>
     requires { Tree s.now at }
     ensures { OfTreeIn s.now at (λ c t. DistanceIs c s.now result (distance_arguments t)) }
 {
     let Node::Call(call) = node_at(s, at) else {
-        return DistanceCall::Nothing;
+        return None;
     };
     if same_name(s, call.name, call.end, b"st_distance") {
-        DistanceCall::Arguments(call.first, call.count)
+        Some(call)
     } else {
-        DistanceCall::Nothing
+        None
     }
 }
 
 // A comparison takes the first two arguments of `st_distance`; its left side has index i.
-fn parse_comparison(s: &[u8], operator: u8, numbers: &[u32], next: &[u16], i: usize) -> Parsed
-    requires pair { Pair s.now (start_at numbers.now i) }
-    requires of_pair { OfPair s.now (start_at numbers.now i)
-        (λ c l r. TabledAll numbers.now next.now (start_at numbers.now i) i (cons l (cons r nil))) }
-    ensures { OfPair s.now (start_at numbers.now i)
+fn parse_comparison(s: &[u8], operator: u8, rows: Rows, i: usize) -> Option<ParsedDistancePredicate>
+    requires pair { Pair s.now (start_at rows.numbers.now i) }
+    requires of_pair { OfPair s.now (start_at rows.numbers.now i)
+        (λ c l r. TabledAll rows.numbers.now rows.next.now (start_at rows.numbers.now i) i (cons l (cons r nil))) }
+    ensures { OfPair s.now (start_at rows.entry.numbers.now i)
         (λ c l r. ParsedIs c s.now result (comparison_request operator (definitions.comparison operator l r))) }
 {
-    let Compared::Sides(measured, bound) = comparison(operator, i, next[i] as usize) else {
-        return Parsed::Nothing;
-    };
-    let DistanceCall::Arguments(_, count) = distance_arguments(s, start_of(numbers, measured))
-    else {
-        return Parsed::Nothing;
-    };
-    if count < 2 {
-        return Parsed::Nothing;
+    let form = DistanceForm::try_from(u64::from(operator)).ok()?;
+    let sides = comparison(operator, i, rows.after(i))?;
+    let call = distance_arguments(s, rows.start(sides.measured))?;
+    if call.count < 2 {
+        return None;
     }
-    let geometries = two_at(numbers, next, measured + 1);
-    Parsed::Distance(ParsedDistancePredicate {
-        form: operator,
+    let geometries = rows.two(sides.measured + 1);
+    Some(ParsedDistancePredicate {
+        form,
         arg0: geometries.start,
         arg1: geometries.middle,
         arg1_end: geometries.end,
-        arg_distance: start_of(numbers, bound),
-        distance_end: end_of(numbers, bound),
+        arg_distance: rows.start(sides.bound),
+        distance_end: rows.end(sides.bound),
     })
 }
 
 // `st_dwithin` takes its first three arguments; the first has index i.
-fn parse_dwithin(s: &[u8], call: Called, numbers: &[u32], next: &[u16], i: usize) -> Parsed
+fn parse_dwithin(s: &[u8], call: Called, rows: Rows, i: usize) -> Option<ParsedDistancePredicate>
     requires calls { Calls s.now call }
-    requires of_call { OfCall s.now call (λ c name arguments. TabledAll numbers.now next.now call.first i arguments) }
+    requires of_call { OfCall s.now call (λ c name arguments. TabledAll rows.numbers.now rows.next.now call.first i arguments) }
     ensures { OfCall s.now call (λ c name arguments. ParsedIs c s.now result (call_request name arguments)) }
 {
     if !same_name(s, call.name, call.end, b"st_dwithin") {
-        return Parsed::Nothing;
+        return None;
     }
     if call.count < 3 {
-        return Parsed::Nothing;
+        return None;
     }
-    let geometries = two_at(numbers, next, i);
-    let distance = geometries.after;
-    Parsed::Distance(ParsedDistancePredicate {
-        form: 0,
+    let geometries = rows.two(i);
+    Some(ParsedDistancePredicate {
+        form: DistanceForm::Dwithin,
         arg0: geometries.start,
         arg1: geometries.middle,
         arg1_end: geometries.end,
         arg_distance: geometries.end,
-        distance_end: end_of(numbers, distance),
+        distance_end: rows.end(geometries.after),
     })
 }
 
@@ -128,18 +116,16 @@ fn parse_dwithin(s: &[u8], call: Called, numbers: &[u32], next: &[u16], i: usize
 pub fn parse_distance_predicate(
     s: &[u8],
     at: usize,
-    numbers: &[u32],
-    next: &[u16],
+    rows: Rows,
     i: usize,
-) -> Parsed
+) -> Option<ParsedDistancePredicate>
     requires tree { Tree s.now at }
-    requires of_tree { OfTree s.now at (Tabled numbers.now next.now at i) }
+    requires of_tree { OfTree s.now at (Tabled rows.numbers.now rows.next.now at i) }
     ensures { OfTreeIn s.now at (λ c t. ParsedIs c s.now result (request t)) }
 {
     match node_at(s, at) {
-        Node::Binary(operator, _) => parse_comparison(s, operator, numbers, next, i + 1),
-        Node::Call(call) => parse_dwithin(s, call, numbers, next, i + 1),
-        Node::And(_) => Parsed::Nothing,
-        Node::Plain(_) => Parsed::Nothing,
+        Node::Binary(operator, _) => parse_comparison(s, operator, rows, i + 1),
+        Node::Call(call) => parse_dwithin(s, call, rows, i + 1),
+        Node::And(_) | Node::Plain(_) => None,
     }
 }

@@ -1,6 +1,5 @@
 -- `check_arity`: of an And the left child is checked by a call, and the loop goes on with the right one, from where the left one ended;
 -- the measure is the bytes left.
-use Prim.Native.Nat.{◌-◌}
 use Rattle.expression.proofs.There.{pair-there, call-there, plain-there}
 use Rattle.frame_reader.proofs.ArityLaws.{right-begins, left_below, left-lacks, right-less, right-goes-on, binary-last, call-last, plain-last}
 use Rattle.frame_reader.proofs.arity.+check_arity.Goals as goal
@@ -19,18 +18,15 @@ check_arity-requires t c =
 
 pub loop-left-smaller : goal.loop-left-smaller
 loop-left-smaller t c =
-    right-less c.loop-left.invariant c.node_at.ensures c.in-And.is _
-    (rw c.in-Enough.is at c.check_arity.ensures)
+    right-less c.loop-left.invariant c.node_at.ensures c.in-And.is _ c.in_ok-right-in-And.ensures
 
 pub loop-left-preserved : goal.loop-left-preserved
 loop-left-preserved t c =
-    right-goes-on c.loop-left.invariant c.node_at.ensures c.in-And.is _
-    (rw c.in-Enough.is at c.check_arity.ensures)
+    right-goes-on c.loop-left.invariant c.node_at.ensures c.in-And.is _ c.in_ok-right-in-And.ensures
 
-pub returns-in-Short : goal.returns-in-Short
-returns-in-Short t c =
-    left-lacks c.loop-left.invariant c.node_at.ensures c.in-And.is
-    (rw c.in-Short.is at c.check_arity.ensures)
+pub returns-in_err-right-in-And : goal.returns-in_err-right-in-And
+returns-in_err-right-in-And t c =
+    rw c.from_residual.ensures (left-lacks c.loop-left.invariant c.node_at.ensures c.in-And.is c.in_err-right-in-And.ensures)
 
 pub comparison_arity-requires : goal.comparison_arity-requires
 comparison_arity-requires t c =

@@ -1,12 +1,11 @@
 -- `comparison_arity`: only the side that is read is asked; a comparison ends where its right side does.
 use mathlib.Core.Path.{sym, ◌∙◌}
-use borrow.Author.Tests.{not-true, not-false}
 use Rattle.expression.proofs.Parts.{pair_ends}
 use Rattle.expression.proofs.There.{first-of-pair, second-of-pair}
-use Rattle.sedona_expr.proofs.Comparing.{sides-found, sides-missing, measured-there}
+use Rattle.sedona_expr.proofs.Comparing.{sides-found, measured-there}
 use Rattle.frame_reader.proofs.ArityLaws.{not-asked, asked}
 use Rattle.frame_reader.proofs.arity.comparison_arity.Goals as goal
-use Rattle.frame_reader.proofs.arity.comparison_arity.Goals.{in-Sides+else-not-enough_to_measure, in_default}
+use Rattle.frame_reader.proofs.arity.comparison_arity.Goals.{in-Some+else-not-enough_to_measure, in_default}
 
 pub end_node-right-requires : goal.end_node-right-requires
 end_node-right-requires c =
@@ -15,16 +14,13 @@ end_node-right-requires c =
 pub enough_to_measure-requires : goal.enough_to_measure-requires
 enough_to_measure-requires c =
     let right = c.end_node-right in
-    measured-there c.requires right.result right.ensures _ c.in-Sides.is
-    c.comparison.ensures
+    measured-there c.requires right.result right.ensures _ c.in-Some.ensures
 
 pub returns-then-not-enough_to_measure : goal.returns-then-not-enough_to_measure
 returns-then-not-enough_to_measure c =
     λ d l r row.
-    let sides =
-    sides-found row c.end_node-right.result c.end_node-right.ensures _ c.in-Sides.is
-    c.comparison.ensures in
-    asked _ l r sides ∙ sym (c.enough_to_measure.ensures d sides.m sides.stands_measured) ∙ not-true _ c.if-not-enough_to_measure.true-raw
+    let sides = sides-found row c.end_node-right.result c.end_node-right.ensures _ c.in-Some.ensures in
+    asked _ l r sides ∙ sym (c.enough_to_measure.ensures d sides.m sides.stands_measured) ∙ c.if-not-enough_to_measure.true
 
 pub end_node-requires : goal.end_node-requires
 end_node-requires c =
@@ -35,11 +31,11 @@ returns c =
     λ d l r row.
     let right = c.end_node-right in (
       elim c.match-comparison.branch [
-        | in-Sides+else-not-enough_to_measure w ↦
-            let sides = sides-found row right.result right.ensures _ w.in-Sides.is c.comparison.ensures in
+        | in-Some+else-not-enough_to_measure w ↦
+            let sides = sides-found row right.result right.ensures _ w.in-Some.ensures in
             asked _ l r sides ∙ sym (w.enough_to_measure.ensures d sides.m sides.stands_measured)
-            ∙ not-false _ w.if-not-enough_to_measure.false-raw
-        | in_default w ↦ not-asked _ l r (sides-missing row right.result right.ensures _ w.in_default.is c.comparison.ensures)
+            ∙ w.if-not-enough_to_measure.false
+        | in_default w ↦ not-asked _ l r (sides-found row right.result right.ensures _ w.in_default.ensures)
       ],
       pair_ends row right.result c.end_node.result right.ensures c.end_node.ensures,
     )

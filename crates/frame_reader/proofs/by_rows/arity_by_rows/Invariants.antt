@@ -5,7 +5,7 @@ use Rattle.frame_reader.proofs.by_rows.arity_by_rows.Given as goal
 
 abbrev pub invariant-loop-i : goal.invariant-loop-i
 invariant-loop-i l =
-    Checking l.s l.numbers l.indexes l.first l.end l.i
+    Checking l.s l.rows.numbers.now l.rows.next.now l.first l.end l.i
 
 abbrev pub decreases-loop-i : goal.decreases-loop-i
 decreases-loop-i l =

@@ -1,27 +1,21 @@
 -- One record and then the others: what is right for those left is right for all.
-use native.Mathlib.Omega.{arith}
-use Rattle.definitions.specs.Decode.{one_record}
+use Rattle.node_reader.proofs.Reading.{kept}
 use Rattle.node_reader.proofs.Repeats.{all-left, one_fewer, one-stops, none-left}
 use Rattle.frame_reader.proofs.column_records.records.Goals as goal
 
-pub loop-left-init : goal.loop-left-init
-loop-left-init c =
+pub loop-init : goal.loop-init
+loop-init c =
     (c.requires, all-left _ _ _ _)
 
-pub one_record-requires : goal.one_record-requires
-one_record-requires c =
-    c.loop-left.invariant.0
+pub returns-in_err-next : goal.returns-in_err-next
+returns-in_err-next c =
+    rw (kept c.from_residual.ensures) (one-stops _ _ _ _ _ _ c.loop.invariant.1 c.loop-test.true _ c.in_err-next.ensures)
 
-pub returns-in-Refused : goal.returns-in-Refused
-returns-in-Refused c =
-    one-stops _ _ _ _ _ _ c.loop-left.invariant.1 (omega arith) c.in-Refused.why
-    (rw c.in-Refused.is at c.one_record.ensures)
-
-pub loop-left-preserved : goal.loop-left-preserved
-loop-left-preserved c =
-    let one = rw c.in-To.is at c.one_record.ensures in
-    (one.0, one_fewer _ _ _ _ _ _ c.loop-left.invariant.1 (omega arith) _ _ one.2)
+pub loop-preserved : goal.loop-preserved
+loop-preserved c =
+    let one = c.in_ok-next.ensures in
+    (one.0, one_fewer _ _ _ _ _ _ c.loop.invariant.1 c.loop-test.true _ _ one.2)
 
 pub returns : goal.returns
 returns c =
-    none-left _ _ _ _ _ _ c.loop-left.invariant.1 (omega arith) c.loop-left.invariant.0
+    none-left _ _ _ _ _ _ c.loop.invariant.1 c.loop-test.false c.loop.invariant.0

@@ -5,10 +5,6 @@ use Rattle.definitions.specs.Decode.{one_record}
 use Rattle.node_reader.proofs.Repeats.{Left}
 use Rattle.frame_reader.proofs.column_records.records.Given as goal
 
-abbrev pub invariant-loop-left : goal.invariant-loop-left
-invariant-loop-left l =
-    (l.next ≤ length l.s) × Left l.s l.at l.many one_record l.next l.left
-
-abbrev pub decreases-loop-left : goal.decreases-loop-left
-decreases-loop-left l =
-    l.left
+abbrev pub invariant-loop : goal.invariant-loop
+invariant-loop l =
+    (l.next ≤ length l.s) × Left l.s l.at l.many one_record l.next l.counter

@@ -2,13 +2,9 @@
 use Rattle.node_reader.proofs.Standing.{all-bytes, expression-stands}
 use Rattle.node_reader.proofs.expressions.expression_in.Goals as goal
 
-pub node-requires : goal.node-requires
-node-requires c =
-    c.requires
-
 pub returns : goal.returns
 returns c =
     let a = c.args in
     expression-stands _ a.s.now a.at a.count c.node.result a.numbers.now a.indexes.now _ _
-    (all-bytes a.s.now c.shared_slice_known-1.given) c.requires.0 c.requires.1
+    (all-bytes a.s.now c.type_inv.s) c.requires.0 c.requires.1
     c.node.auto.numbers c.node.ensures.read c.node.ensures.counted

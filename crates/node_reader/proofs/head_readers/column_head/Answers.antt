@@ -1,52 +1,32 @@
 -- The bound is tested last, after index and tag.
-use borrow.Author.Rules.{rules}
 use mathlib.Core.Path.{refl, ◌∙◌}
 use borrow.Author.Tests.{lt-ltb, le-ltb}
 use Rattle.definitions.specs.Expression.{column}
-use Rattle.definitions.specs.Readers.{number}
-use Rattle.definitions.specs.Decode.{repeat_exprs, column_node}
 use Rattle.expression.specs.Nodes.{children_of}
-use Rattle.theorems.proofs.ReaderLaws.{after, passes, fails}
-use Rattle.node_reader.proofs.Reading.{stops-in-two}
-use Rattle.node_reader.proofs.Children.{alone}
+use Rattle.definitions.specs.Decode.{column_node}
+use Rattle.theorems.proofs.ReaderLaws.{after, halts, passes, fails}
+use Rattle.node_reader.proofs.Reading.{kept}
+use Rattle.node_reader.proofs.Children.{childless}
 use Rattle.node_reader.proofs.head_readers.column_head.Goals as goal
 
-pub two_fields-requires : goal.two_fields-requires
+pub returns-in_err-index : goal.returns-in_err-index
 unfolding column_node
-two_fields-requires c =
-    search rules
+returns-in_err-index c = rw (kept c.from_residual.ensures) (λ child n. halts _ (c.in_err-index.ensures n))
 
-pub enum_known-why : goal.enum_known-why
+pub returns-in_err-first : goal.returns-in_err-first
 unfolding column_node
-enum_known-why c =
-    search rules
+returns-in_err-first c =
+    rw (kept c.from_residual-in_err-first.ensures) (λ child n. after _ (c.in_ok-index.ensures.1 n) ∙ halts _ (c.in_err-first.ensures n))
 
-pub enum_known-index : goal.enum_known-index
+pub returns-then-bound-index : goal.returns-then-bound-index
 unfolding column_node
-enum_known-index c =
-    search rules
-
-pub returns-in-Refused : goal.returns-in-Refused
-unfolding column_node
-returns-in-Refused c =
+returns-then-bound-index c =
     λ child n.
-    stops-in-two (number 2 n _) (number 2) _
-    ((rw c.in-Refused.is at c.two_fields.ensures) n)
+    after _ (c.in_ok-index.ensures.1 n) ∙ after _ (c.in_ok-first.ensures.1 n) ∙ fails 6 _ n _ (le-ltb _ _ c.if-bound-index.true)
 
-pub returns-then-index-bound : goal.returns-then-index-bound
-unfolding repeat_exprs column_node children_of
-returns-then-index-bound c =
-    let two = rw c.in-Values.is at c.two_fields.ensures in
-    let e = column c.in-Values.index c.in-Values.field-1 in (
-      two.0,
-      (λ es. e),
-      (λ child n. after _ (two.2 n) ∙ after _ (two.3 n) ∙ passes 6 _ n _ (lt-ltb _ _ c.if-index-bound.true)),
-      alone e refl,
-    )
-
-pub returns-else-index-bound : goal.returns-else-index-bound
-unfolding column_node
-returns-else-index-bound c =
-    λ child n.
-    let two = rw c.in-Values.is at c.two_fields.ensures in
-    after _ (two.2 n) ∙ after _ (two.3 n) ∙ fails 6 _ n _ (le-ltb _ _ c.if-index-bound.false)
+pub returns : goal.returns
+unfolding column_node children_of
+returns c =
+    let tag = c.in_ok-first.ensures in
+    childless c.args.s.now c.args.at (column_node c.args.bound) (column c.in_ok-index.index c.in_ok-first.field-0-0) refl tag.0
+    (λ n. after _ (c.in_ok-index.ensures.1 n) ∙ after _ (tag.1 n) ∙ passes 6 _ n _ (lt-ltb _ _ c.if-bound-index.false))

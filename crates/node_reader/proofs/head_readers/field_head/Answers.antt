@@ -1,40 +1,24 @@
 -- Bits and tag are all of it.
-use borrow.Author.Rules.{rules}
 use mathlib.Core.Path.{refl, ◌∙◌}
 use Rattle.definitions.specs.Expression.{field}
-use Rattle.definitions.specs.Readers.{byte_up_to, number}
-use Rattle.definitions.specs.Decode.{repeat_exprs, field_node}
 use Rattle.expression.specs.Nodes.{children_of}
-use Rattle.theorems.proofs.ReaderLaws.{after}
-use Rattle.node_reader.proofs.Reading.{stops-in-two}
-use Rattle.node_reader.proofs.Children.{alone}
+use Rattle.definitions.specs.Decode.{field_node}
+use Rattle.theorems.proofs.ReaderLaws.{after, halts}
+use Rattle.node_reader.proofs.Reading.{kept}
+use Rattle.node_reader.proofs.Children.{childless}
 use Rattle.node_reader.proofs.head_readers.field_head.Goals as goal
 
-pub two_fields-requires : goal.two_fields-requires
-unfolding repeat_exprs field_node children_of
-two_fields-requires c =
-    search rules
+pub returns-in_err-tag : goal.returns-in_err-tag
+unfolding field_node
+returns-in_err-tag c = rw (kept c.from_residual.ensures) (λ child n. halts _ (c.in_err-tag.ensures n))
 
-pub enum_known-why : goal.enum_known-why
-unfolding repeat_exprs field_node children_of
-enum_known-why c =
-    search rules
+pub returns-in_err-first : goal.returns-in_err-first
+unfolding field_node
+returns-in_err-first c =
+    rw (kept c.from_residual-in_err-first.ensures) (λ child n. after _ (c.in_ok-tag.ensures.1 n) ∙ halts _ (c.in_err-first.ensures n))
 
-pub enum_known-end : goal.enum_known-end
-unfolding repeat_exprs field_node children_of
-enum_known-end c =
-    search rules
-
-pub returns-in-Refused : goal.returns-in-Refused
-unfolding repeat_exprs field_node children_of
-returns-in-Refused c =
-    λ child n.
-    stops-in-two (byte_up_to 3 n _) (number 2) _
-    ((rw c.in-Refused.is at c.two_fields.ensures) n)
-
-pub returns-in-Values : goal.returns-in-Values
-unfolding repeat_exprs field_node children_of
-returns-in-Values c =
-    let two = rw c.in-Values.is at c.two_fields.ensures in
-    let e = field c.in-Values.field-0 c.in-Values.field-1 in
-    (two.0, (λ es. e), (λ child n. after _ (two.2 n) ∙ after _ (two.3 n)), alone e refl)
+pub returns : goal.returns
+unfolding field_node children_of
+returns c =
+    let tag = c.in_ok-first.ensures in
+    childless c.args.s.now c.args.at field_node (field c.in_ok-tag.field-0-0 c.in_ok-first.field-0-0) refl tag.0 (λ n. after _ (c.in_ok-tag.ensures.1 n) ∙ after _ (tag.1 n))

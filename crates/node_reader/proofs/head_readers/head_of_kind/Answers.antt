@@ -2,33 +2,7 @@
 use Rattle.node_reader.specs.Heads.{columns_of}
 use Rattle.definitions.specs.Decode.{node_of_kind}
 use Rattle.node_reader.proofs.Children.{column-kind}
-use borrow.Author.Rules.{rules}
 use Rattle.node_reader.proofs.head_readers.head_of_kind.Goals as goal
-
-pub literal_head-requires : goal.literal_head-requires
-unfolding node_of_kind
-literal_head-requires c =
-    search rules
-
-pub binary_head-requires : goal.binary_head-requires
-unfolding node_of_kind
-binary_head-requires c =
-    search rules
-
-pub call_head-requires : goal.call_head-requires
-unfolding node_of_kind
-call_head-requires c =
-    search rules
-
-pub other_head-requires : goal.other_head-requires
-unfolding node_of_kind
-other_head-requires c =
-    search rules
-
-pub any_column_head-requires : goal.any_column_head-requires
-unfolding node_of_kind
-any_column_head-requires c =
-    search rules
 
 pub returns-in-1 : goal.returns-in-1
 unfolding node_of_kind

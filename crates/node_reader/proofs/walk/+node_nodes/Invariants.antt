@@ -6,14 +6,11 @@ use Rattle.node_reader.specs.Heads.{columns_of}
 use Rattle.node_reader.proofs.Walks.{InRow}
 use Rattle.node_reader.proofs.walk.+node_nodes.Given as goal
 
-abbrev pub invariant-nodes-loop-left : goal.invariant-nodes-loop-left
-invariant-nodes-loop-left l =
-    InRow l.s l.at l.count l.many (decode.node (columns_of l.columns) l.levels) l.initial.numbers l.initial.indexes
-    l.next l.total l.deepest l.left l.numbers l.indexes
-
-abbrev pub decreases-nodes-loop-left : goal.decreases-nodes-loop-left
-decreases-nodes-loop-left l =
-    l.left
+abbrev pub invariant-nodes-loop : goal.invariant-nodes-loop
+invariant-nodes-loop l =
+    let head = l.fn.head in
+    InRow l.source.bytes.now head.first l.count head.children (decode.node (columns_of l.source.columns) l.levels) l.initial.numbers
+    l.initial.indexes l.next l.total l.deepest l.counter l.numbers l.indexes
 
 abbrev pub decreases-node : goal.decreases-node
 decreases-node l =

@@ -1,21 +1,10 @@
 -- `distance_arguments`: only a function has a name, and it is compared byte by byte.
-use borrow.Author.Rules.{rules}
 use Rattle.definitions.specs.Basics.{ascii}
 use Rattle.expression.proofs.LeafLaws.{no-call}
 use Rattle.expression.proofs.There.{name-there}
 use Rattle.sedona_expr.proofs.Comparing.{no_arguments, distance-found, distance-other}
 use borrow.Enum.Refused.{opened}
 use Rattle.sedona_expr.proofs.utils.distance_arguments.Goals as goal
-
-pub node_at-requires : goal.node_at-requires
-unfolding ascii
-node_at-requires c =
-    search rules
-
-pub enum_known-call : goal.enum_known-call
-unfolding ascii
-enum_known-call c =
-    search rules
 
 pub returns-in_default : goal.returns-in_default
 unfolding ascii

@@ -21,20 +21,20 @@ returns-then-call-lt3 c =
     dwithin-too-few st c.same_name.ensures (not-false _ c.if-not-same_name.false-raw)
     c.if-call-lt3.true
 
-pub two_at-geometries-requires : goal.two_at-geometries-requires
+pub two-geometries-requires : goal.two-geometries-requires
 unfolding ascii
-two_at-geometries-requires c =
+two-geometries-requires c =
     let p = c.requires in
     two-given p.calls.3 c.same_name.ensures (not-false _ c.if-not-same_name.false-raw) (p.of_call _ _ _ p.calls.3)
     c.if-call-lt3.false
 
-pub end_of-requires : goal.end_of-requires
+pub end-requires : goal.end-requires
 unfolding ascii
-end_of-requires c =
+end-requires c =
     let p = c.requires in
     third-within p.calls.3 c.same_name.ensures (not-false _ c.if-not-same_name.false-raw)
     c.if-call-lt3.false
-    (p.of_call _ _ _ p.calls.3) c.two_at-geometries.ensures
+    (p.of_call _ _ _ p.calls.3) c.two-geometries.ensures
 
 pub returns : goal.returns
 unfolding ascii
@@ -43,4 +43,4 @@ returns c =
     let p = c.requires in
     dwithin-distance st c.same_name.ensures
     (not-false _ c.if-not-same_name.false-raw) c.if-call-lt3.false
-    (p.of_call d name args st) c.two_at-geometries.ensures _ c.end_of.ensures
+    (p.of_call d name args st) c.two-geometries.ensures _ c.end.ensures
