@@ -1,10 +1,10 @@
 -- What a load is, once the frame's answer and the lengths of buffer and table are known.
-use Rattle.std.specs.Prelude.{if◌then◌else◌}
+use Rattle.std.specs.Prelude.{if◌then◌else◌, Ok, Err}
 use Prim.Native.Nat.{ℕ, ◌≤◌, ◌<◌}
 use native.Mathlib.Omega.{arith}
 use mathlib.Core.Path.{◌≡◌, refl, sym, ap, ap₂, ◌∙◌}
 use mathlib.Core.Bool.{Bool, true, false}
-use mathlib.Core.List.{List, [], ◌++◌, map}
+use mathlib.Core.List.{List, ◌++◌, map}
 use lib.ListN.{length, take, drop}
 use lib.Seq.{take-length}
 use lib.Dec.{leb}
@@ -32,22 +32,20 @@ use Rattle.node_rows.proofs.OneTree.{of_tree}
 use Rattle.frame_reader.specs.Frames.{FrameAt}
 use Rattle.frame_reader.specs.declared.frame_bodies.Frame as places
 use Rattle.frame_reader.proofs.Standing.{expr-stands}
-use Rattle.join_filter.specs.Outcomes.{unfilled_by}
-use Rattle.join_filter.specs.declared.answers.Answer.TheVariants.{Length}
 use Rattle.call_load.specs.Loads.{LoadedIs}
 
 module _ (frame before : List ℕ) (held : ℕ) where
-  -- A load that is refused, whatever the table of this length, fills none.
-  unfilled-is : (why : Refusal)
+  -- A load that is refused, whatever the table of this length, leaves it as it is.
+  refused-is : (why : Refusal)
       → ((table : List NodeRecord) → length table ≡ held
       → new_after_load frame (length before) (length table) (frame_of frame) ≡ refused (number_of why))
-      → LoadedIs frame before before held (unfilled_by why)
+      → LoadedIs frame before before held (Err why)
   unfolding load finish_load filled_by
-  unfilled-is why e = ([], nothing refl, λ table size n. ap (finish_load frame n before table) (e table size))
+  refused-is why e = λ table size n. ap (finish_load frame n before table) (e table size)
 
-  pub load-refuses : (why : Refusal) → frame_of frame ≡ refused (number_of why) → LoadedIs frame before before held (unfilled_by why)
+  pub load-refuses : (why : Refusal) → frame_of frame ≡ refused (number_of why) → LoadedIs frame before before held (Err why)
   unfolding new_after_load
-  load-refuses why e = unfilled-is why (λ table size. ap (new_after_load frame (length before) (length table)) e)
+  load-refuses why e = refused-is why (λ table size. ap (new_after_load frame (length before) (length table)) e)
 
   module _ (F : Frame) (good : frame_of frame ≡ ok F) where
     -- A good frame by the two tests.
@@ -59,13 +57,13 @@ module _ (frame before : List ℕ) (held : ℕ) where
         ap (new_after_load frame (length before) (length table)) good
         ∙ ap₂ (λ (x y : Bool). if x then (if y then ok F else refused 17) else refused 9) e f
 
-    pub load-short : length before < length frame → LoadedIs frame before before held (unfilled_by BufferTooShort)
-    load-short h = unfilled-is BufferTooShort (λ table size. by-room table false _ (lt-leb (length frame) (length before) h) refl)
+    pub load-short : length before < length frame → LoadedIs frame before before held (Err BufferTooShort)
+    load-short h = refused-is BufferTooShort (λ table size. by-room table false _ (lt-leb (length frame) (length before) h) refl)
 
     module _ (room : length frame ≤ length before) where
-      pub load-untabled : held < nodes F.expr → LoadedIs frame before before held (unfilled_by TableTooShort)
+      pub load-untabled : held < nodes F.expr → LoadedIs frame before before held (Err TableTooShort)
       load-untabled h =
-          unfilled-is TableTooShort
+          refused-is TableTooShort
           (λ table size. by-room table true false (le-leb (length frame) (length before) room)
           (lt-leb (nodes F.expr) (length table) (omega (arith, size, h))))
 
@@ -85,7 +83,7 @@ module _ (frame before : List ℕ) (held : ℕ) where
             (omega (arith, stands.expr.bytes.ends, ap length back.0, back.1.few_bytes))
 
         pub load-copies : f.nodes ≤ held → (after : List ℕ) → after ≡ take (length frame) (drop 0 frame) ++ drop (length frame) before
-            → LoadedIs frame before after held (record { answer = Length (length frame); root = f.root; count = f.nodes })
+            → LoadedIs frame before after held (Ok (record { length = length frame; root = f.root; count = f.nodes }))
         unfolding load finish_load filled_by written_over
         load-copies enough after w = (
           nodes_from f.root F.expr,
@@ -98,14 +96,6 @@ module _ (frame before : List ℕ) (held : ℕ) where
         )
 
 -- ---- the row
-
--- Of no record it has all.
-pub none_has : (s row : List ℕ) → RowHas s 0 0 row
-none_has s row = (omega arith, all)
-  where
-    all : (records : List NodeRecord) → Records s 0 0 records → take 0 row ≡ map number records
-    all records (nothing e) = refl
-    all records (filled {t = t} stands size few short) = absurd (omega (arith, nodes-below t))
 
 -- Of a frame's records it has those that reading put there.
 module _ {s row indexes : List ℕ} {f : places.Frame} {end : ℕ} {F : Frame} (stands : FrameAt s f end F)

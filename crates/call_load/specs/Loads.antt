@@ -1,12 +1,22 @@
 -- Which definition a load is.
-use Rattle.std.specs.Prelude.{ℕ, ◌≡◌, List, ◌++◌, length, drop}
+use Rattle.std.specs.Prelude.{ℕ, ◌≡◌, List, ◌++◌, length, drop, Result, Ok, Err}
 use Rattle.definitions.specs.NodeTable.{NodeRecord}
 use Rattle.expression.specs.Filling.{Records}
+use Rattle.node_rows.specs.Rows.{RowHas}
+use Rattle.terms.specs.declared.refusals.Refusal.{Refusal}
 use Rattle.join_filter.specs.Outcomes.{LoadIs}
 use Rattle.join_filter.specs.declared.answers.Loaded.{Loaded}
 
--- For every table of this length the load is the definition's, the table filled with the records of what stands in the frame at `root`.
-abbrev pub LoadedIs : (frame before after : List ℕ) → (held : ℕ) → Loaded → Type 0
-LoadedIs frame before after held r =
+-- For every table of this length the load is the definition's, the table filled with the records of what stands in the frame at `root`,
+-- or as it was.
+abbrev pub LoadedIs : (frame before after : List ℕ) → (held : ℕ) → Result Loaded Refusal → Type 0
+LoadedIs frame before after held (Ok r) =
     (records : List NodeRecord) × Records frame r.root r.count records
-    × ((table : List NodeRecord) → length table ≡ held → LoadIs frame before after table (records ++ drop r.count table) r.answer)
+    × ((table : List NodeRecord) → length table ≡ held → LoadIs frame before after table (records ++ drop r.count table) (Ok r.length))
+LoadedIs frame before after held (Err why) =
+    (table : List NodeRecord) → length table ≡ held → LoadIs frame before after table table (Err why)
+
+-- The numbers of those records are the row's first.
+abbrev pub RowIs : (frame : List ℕ) → Result Loaded Refusal → (row : List ℕ) → Type 0
+RowIs frame (Ok r) row = RowHas frame r.root r.count row
+RowIs frame (Err why) row = Unit {0}

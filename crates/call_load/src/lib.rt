@@ -3,12 +3,10 @@
 
 ghost use Rattle.std.specs.Prelude.{◌≡◌, length};
 ghost use Rattle.frame_reader.specs.Frames.{Roomy};
-ghost use Rattle.node_rows.specs.Rows.{RowHas};
-ghost use Rattle.call_load.specs.Loads.{LoadedIs};
+ghost use Rattle.call_load.specs.Loads.{LoadedIs, RowIs};
 
-use frame_reader::frame_bodies::Physical;
 use frame_reader::frames::physical_frame_in;
-use join_filter::answers::{Answer, Loaded, unfilled};
+use join_filter::answers::Loaded;
 use terms::refusals::Refusal;
 use writing::copies::copy_bytes;
 
@@ -20,46 +18,43 @@ fn load_in(
     plan: &mut [u8],
     frame: &[u8],
     held: usize,
-) -> Loaded
+) -> Result<Loaded, Refusal>
     requires { Roomy frame.now row.old indexes.old }
-    ensures { LoadedIs frame.now plan.old plan.new held result
-        × RowHas frame.now result.root result.count row.new }
+    ensures { LoadedIs frame.now plan.old plan.new held result × RowIs frame.now result row.new }
 {
-    match physical_frame_in(row, indexes, frame) {
-        Physical::Refused(why) => unfilled(why),
-        Physical::Good(f) => {
-            let n = frame.len();
-            let count = f.nodes;
-            if plan.len() < n {
-                return unfilled(Refusal::BufferTooShort);
-            }
-            if held < count {
-                return unfilled(Refusal::TableTooShort);
-            }
-            copy_bytes(plan, frame, 0, n);
-            Loaded {
-                answer: Answer::Length(n),
-                root: f.root,
-                count,
-            }
-        }
+    let f = physical_frame_in(row, indexes, frame)?;
+    let length = frame.len();
+    let count = f.nodes;
+    if plan.len() < length {
+        return Err(Refusal::BufferTooShort);
     }
+    if held < count {
+        return Err(Refusal::TableTooShort);
+    }
+    copy_bytes(plan, frame, 0, length);
+    Ok(Loaded {
+        length,
+        root: f.root,
+        count,
+    })
 }
 
 // The same with a row that is lent.
-pub fn load_row(row: &mut [u32], plan: &mut [u8], frame: &[u8], held: usize) -> Loaded
+pub fn load_row(
+    row: &mut [u32],
+    plan: &mut [u8],
+    frame: &[u8],
+    held: usize,
+) -> Result<Loaded, Refusal>
     requires { length row.old ≡ 1024 }
-    ensures { LoadedIs frame.now plan.old plan.new held result
-        × RowHas frame.now result.root result.count row.new }
+    ensures { LoadedIs frame.now plan.old plan.new held result × RowIs frame.now result row.new }
 {
-    let mut indexes = [0u16; 1024];
-    load_in(row, &mut indexes, plan, frame, held)
+    load_in(row, &mut [0; 1024], plan, frame, held)
 }
 
 // The same with none.
-pub fn load(plan: &mut [u8], frame: &[u8], held: usize) -> Loaded
+pub fn load(plan: &mut [u8], frame: &[u8], held: usize) -> Result<Loaded, Refusal>
     ensures { LoadedIs frame.now plan.old plan.new held result }
 {
-    let mut row = [0u32; 1024];
-    load_row(&mut row, plan, frame, held)
+    load_row(&mut [0; 1024], plan, frame, held)
 }

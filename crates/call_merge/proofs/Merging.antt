@@ -1,10 +1,10 @@
 -- What a merge is, once both frames, the limits and both buffers' lengths are known.
-use Rattle.std.specs.Prelude.{if◌then◌else◌}
+use Rattle.std.specs.Prelude.{if◌then◌else◌, Ok, Err}
 use Prim.Native.Nat.{ℕ, ◌+◌, ◌*◌, ◌-◌, ◌≤◌, ◌<◌}
 use native.Mathlib.Omega.{arith}
 use mathlib.Core.Path.{◌≡◌, refl, sym, ap, ap₂, ◌∙◌}
 use mathlib.Core.Bool.{Bool, true, false, ◌&&◌}
-use mathlib.Core.List.{List, [], ◌++◌}
+use mathlib.Core.List.{List, ◌++◌}
 use lib.ListN.{length, take, drop}
 use lib.Dec.{leb}
 use borrow.Author.Tests.{le-leb, lt-leb}
@@ -13,7 +13,7 @@ use Rattle.definitions.specs.Expression.{Frame, held}
 use Rattle.definitions.specs.Encode.{frame_bytes, plan_bytes}
 use Rattle.definitions.specs.NodeTable.{NodeRecord, node_table}
 use Rattle.definitions.specs.Calls.{written_over, tabled, filled_by, finish}
-use Rattle.definitions.specs.Good.{AllBytes, GoodPlan, nodes, depth, plan_nodes}
+use Rattle.definitions.specs.Good.{AllBytes, GoodPlan, nodes, plan_nodes}
 use Rattle.definitions.specs.Merge.{merge_frames, over_limits, merged_frame as merged_or_not, new_after_merge, with_table, merge}
 use Rattle.theorems.proofs.InverseFrame.{frame_back}
 use Rattle.theorems.proofs.ExchangeGood.{frame-length}
@@ -27,22 +27,10 @@ use Rattle.call_merge.specs.Merging.{FramesAt, merged_frame}
 use Rattle.call_merge.specs.Together.{Counts, over_together}
 use Rattle.call_merge.specs.Given.{GivenFrame}
 use Rattle.call_merge.specs.Merges.{MergedIs}
-use Rattle.terms.specs.Refusals.{number_of}
-use Rattle.terms.specs.declared.refusals.Refusal.{Refusal}
 use Rattle.terms.specs.declared.refusals.Refusal.TheVariants.{BufferTooShort, MergedTooLarge, TableTooShort}
-use Rattle.expression.specs.Filling.{nothing}
-use Rattle.join_filter.specs.Outcomes.{unfilled_by}
-use Rattle.join_filter.specs.declared.answers.Answer.TheVariants.{Length}
-use Rattle.join_filter.proofs.Refusing.{merge-refuses, merge-ends, merge-call, outcome}
+use Rattle.join_filter.proofs.Refusing.{merge-ends, merge-call, outcome}
 use Rattle.call_merge.proofs.Standing.{table-there}
 use Rattle.join_filter.proofs.Keeping.{held-is, plan-size, plan-length, kept, kept-length, kept-over}
-
--- A merge that is refused, whatever the table of this length, fills none.
-pub unfilled-is : (frame : List ℕ) (n : ℕ) (before scratch : List ℕ) (lent : ℕ) (why : Refusal)
-    → ((table : List NodeRecord) → length table ≡ lent
-    → merge frame n before scratch table ≡ merge-refuses table n before scratch (number_of why))
-    → MergedIs frame n before scratch before scratch lent (unfilled_by why)
-unfilled-is frame n before scratch lent why e = ([], nothing refl, e)
 
 -- A good frame within the limits, of so many bytes.
 record Within (size : ℕ) (f : places.Frame) : Type 0 where
@@ -156,18 +144,18 @@ module _ {frame : List ℕ} {n : ℕ} {before : List ℕ} {f g : places.Frame} (
         ∙ ap (λ (z : Bool). if over then refused 16 else if room then (if z then ok M else refused 17) else refused 9) u)
 
     pub too_large : true ≡ over_together n (length frame) f g
-        → MergedIs frame n before scratch before scratch lent (unfilled_by MergedTooLarge)
+        → MergedIs frame n before scratch before scratch lent (Err MergedTooLarge)
     unfolding with_table finish filled_by
     too_large t =
-        unfilled-is frame n before scratch lent MergedTooLarge (λ table size. by_tests table true _ _ (over ∙ sym t) refl refl)
+        λ table size. by_tests table true _ _ (over ∙ sym t) refl refl
 
     module _ (under : false ≡ over_together n (length frame) f g) where
-      pub scratch-short : length scratch < n → MergedIs frame n before scratch before scratch lent (unfilled_by BufferTooShort)
+      pub scratch-short : length scratch < n → MergedIs frame n before scratch before scratch lent (Err BufferTooShort)
       unfolding with_table finish filled_by
       scratch-short s =
-          unfilled-is frame n before scratch lent BufferTooShort (λ table size.
+          λ table size.
           by_tests table false false _ (over ∙ sym under)
-          (ap (λ (x : Bool). x && leb (length (frame_bytes M)) (length before)) (lt-leb n (length scratch) s)) refl)
+          (ap (λ (x : Bool). x && leb (length (frame_bytes M)) (length before)) (lt-leb n (length scratch) s)) refl
 
       module _ (enough : n ≤ length scratch) where
         by-room : (table : List NodeRecord) (x y : Bool) → leb (length (frame_bytes M)) (length before) ≡ x
@@ -177,11 +165,11 @@ module _ {frame : List ℕ} {n : ℕ} {before : List ℕ} {f g : places.Frame} (
         by-room table x y t u = by_tests table false x y (over ∙ sym under) (ap₂ ◌&&◌ (le-leb n (length scratch) enough) t) u
 
         pub plan-short : length before < n + length frame - 1
-            → MergedIs frame n before scratch before scratch lent (unfilled_by BufferTooShort)
+            → MergedIs frame n before scratch before scratch lent (Err BufferTooShort)
         unfolding with_table finish filled_by
         plan-short s =
-            unfilled-is frame n before scratch lent BufferTooShort (λ table size.
-            by-room table false _ (lt-leb (length (frame_bytes M)) (length before) (omega (arith, size_of, s))) refl)
+            λ table size.
+            by-room table false _ (lt-leb (length (frame_bytes M)) (length before) (omega (arith, size_of, s))) refl
 
         module _ (room : n + length frame - 1 ≤ length before) where
           by-table : (table : List NodeRecord) (y : Bool) → leb (nodes M.expr) (length table) ≡ y
@@ -190,11 +178,11 @@ module _ {frame : List ℕ} {n : ℕ} {before : List ℕ} {f g : places.Frame} (
               by-room table true y (le-leb (length (frame_bytes M)) (length before) (omega (arith, size_of, room))) u
 
           pub table-short : lent < f.nodes + g.nodes + 1
-              → MergedIs frame n before scratch before scratch lent (unfilled_by TableTooShort)
+              → MergedIs frame n before scratch before scratch lent (Err TableTooShort)
           unfolding with_table finish filled_by
           table-short s =
-              unfilled-is frame n before scratch lent TableTooShort (λ table size.
-              by-table table false (lt-leb (nodes M.expr) (length table) (omega (arith, node-count, size, s))))
+              λ table size.
+              by-table table false (lt-leb (nodes M.expr) (length table) (omega (arith, node-count, size, s)))
 
 -- Limits and room allow it, and the old plan is copied to the scratch.
 pub record Ready (frame : List ℕ) (n : ℕ) (before scratch : List ℕ) (f g : places.Frame) (lent : ℕ) (copy : List ℕ) : Type 0 where
@@ -244,7 +232,7 @@ module _ {frame : List ℕ} {n : ℕ} {before scratch : List ℕ} {f g : places.
 
   pub merges : (written : List ℕ) (answer root : ℕ) → root ≡ f.root + g.root - 3
       → Puts (FramesAt (take n copy) f frame g) merged_frame before written answer
-      → MergedIs frame n before scratch written copy lent (record { answer = Length answer; root = root; count = f.nodes + g.nodes + 1 })
+      → MergedIs frame n before scratch written copy lent (Ok (record { length = answer; root = root; count = f.nodes + g.nodes + 1 }))
   unfolding with_table finish filled_by written_over
   merges written answer root at put = (
     node_table (M r.both),

@@ -3,10 +3,10 @@ ghost use Rattle.plan_reader.specs.Plans.{HoldsFrame};
 ghost use Rattle.call_merge.specs.Given.{GivenFrame};
 ghost use Rattle.call_merge.specs.Merges.{MergedIs};
 
+use super::given::{Frames, Given, Two};
 use super::limits::over_limits;
 use super::merged_frames::put_merged;
-use frame_reader::frame_bodies::Frame;
-use join_filter::answers::{Answer, Loaded, unfilled};
+use join_filter::answers::Loaded;
 use terms::refusals::Refusal;
 use writing::copies::copy_bytes;
 
@@ -16,36 +16,47 @@ pub fn merge_held(
     n: usize,
     scratch: &mut [u8],
     frame: &[u8],
-    old: Frame,
-    new: Frame,
+    parts: Frames,
     held: usize,
-) -> Loaded
-    requires holds_frame { HoldsFrame n plan.old old }
-    requires given_frame { GivenFrame frame.now new }
+) -> Result<Loaded, Refusal>
+    requires holds_frame { HoldsFrame n plan.old parts.old }
+    requires given_frame { GivenFrame frame.now parts.new }
     ensures { MergedIs frame.now n plan.old scratch.old plan.new scratch.new
         held result }
 {
+    let old = parts.old;
+    let new = parts.new;
     let m = frame.len();
     let over = over_limits(n, m, old, new);
     if over {
-        return unfilled(Refusal::MergedTooLarge);
+        return Err(Refusal::MergedTooLarge);
     }
     if scratch.len() < n {
-        return unfilled(Refusal::BufferTooShort); // for the old plan
+        return Err(Refusal::BufferTooShort); // for the old plan
     }
     if plan.len() < n + m - 1 {
-        return unfilled(Refusal::BufferTooShort); // for the merged frame
+        return Err(Refusal::BufferTooShort); // for the merged frame
     }
     let count = old.nodes + new.nodes + 1;
     if held < count {
-        return unfilled(Refusal::TableTooShort);
+        return Err(Refusal::TableTooShort);
     }
     let root = old.root + new.root - 3; // after one head and both tables of records
     copy_bytes(scratch, plan, 0, n);
-    let length = put_merged(plan, &scratch[..n], old, frame, new);
-    Loaded {
-        answer: Answer::Length(length),
+    let two = Two {
+        old: Given {
+            bytes: &scratch[..n],
+            parts: old,
+        },
+        new: Given {
+            bytes: frame,
+            parts: new,
+        },
+    };
+    let length = put_merged(plan, two);
+    Ok(Loaded {
+        length,
         root,
         count,
-    }
+    })
 }

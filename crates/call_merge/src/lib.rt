@@ -2,6 +2,7 @@
 #![tactic(auto)]
 
 pub mod call;
+pub mod given;
 pub mod held_frame;
 pub mod limits;
 pub mod merged_frames;

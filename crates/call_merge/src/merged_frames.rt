@@ -4,57 +4,60 @@ ghost use Rattle.frame_reader.specs.Frames.{FrameAt};
 ghost use Rattle.writing.specs.Writing.{Room, Puts, PutsAt};
 ghost use Rattle.call_merge.specs.Merging.{FramesAt, merged_frame, merged_tables, merged_expr, raised_expr};
 
-use frame_reader::frame_bodies::Frame;
+use super::given::{Given, Two};
 use plan_writer::arguments::reproject_column_references;
 use plan_writer::column_tables::raised_indexes;
 use plan_writer::frame_heads::put_frame_head;
 use writing::copies::copy_at;
 
 // The head with the sum of both counts, then the held records and the new ones as they are; answers where they end.
-fn put_tables(out: &mut [u8], old: &[u8], f: Frame, new: &[u8], g: Frame) -> usize
-    requires room { Room (FramesAt old.now f new.now g) merged_tables 0 out.old }
-    requires columns_bound { f.columns + g.columns ≤ 256 }
-    ensures { Puts (FramesAt old.now f new.now g) merged_tables out.old out.new result }
+fn put_tables(out: &mut [u8], two: Two) -> usize
+    requires { Room (FramesAt two.old.bytes.now two.old.parts two.new.bytes.now two.new.parts) merged_tables 0 out.old }
+    ensures { Puts (FramesAt two.entry.old.bytes.now two.entry.old.parts two.entry.new.bytes.now two.entry.new.parts) merged_tables
+        out.old out.new result }
 {
-    let count = (f.columns + g.columns) as usize;
+    let old = two.old.parts;
+    let new = two.new.parts;
+    let count = (old.columns + new.columns) as usize;
     let w = put_frame_head(out, count);
-    let v = copy_at(out, w, old, f.records, f.root);
-    copy_at(out, v, new, g.records, g.root)
+    let v = copy_at(out, w, two.old.bytes, old.records, old.root);
+    copy_at(out, v, two.new.bytes, new.records, new.root)
 }
 
 // The frame's expression from w on, its columns renumbered by a count; answers where it ends.
-fn put_raised(out: &mut [u8], w: usize, src: &[u8], f: Frame, by: usize) -> usize
-    requires room { Room (FrameAt src.now f (length src.now)) (raised_expr by) w out.old }
-    requires columns_bound { by + f.columns ≤ 256 }
-    ensures { PutsAt (FrameAt src.now f (length src.now)) (raised_expr by) w out.old
+fn put_raised(out: &mut [u8], w: usize, given: Given, by: usize) -> usize
+    requires room { Room (FrameAt given.bytes.now given.parts (length given.bytes.now)) (raised_expr by) w out.old }
+    requires columns_bound { by + given.parts.columns ≤ 256 }
+    ensures { PutsAt (FrameAt given.entry.bytes.now given.entry.parts (length given.entry.bytes.now)) (raised_expr by) w out.old
         out.new result }
 {
     let mut to = [0u16; 256];
-    let count = f.columns as usize;
+    let count = given.parts.columns as usize;
     raised_indexes(&mut to, by, count);
-    let copied = reproject_column_references(&mut out[w..], src, f.root, &to);
+    let copied = reproject_column_references(&mut out[w..], given.bytes, given.parts.root, &to);
     w + copied.wrote
 }
 
 // And, the held filter as it is, the new one with its columns after the held ones; answers their length.
-fn put_and(out: &mut [u8], old: &[u8], f: Frame, new: &[u8], g: Frame) -> usize
-    requires room { Room (FramesAt old.now f new.now g) merged_expr 0 out.old }
-    requires columns_bound { f.columns + g.columns ≤ 256 }
-    ensures { Puts (FramesAt old.now f new.now g) merged_expr out.old out.new result }
+fn put_and(out: &mut [u8], two: Two) -> usize
+    requires { Room (FramesAt two.old.bytes.now two.old.parts two.new.bytes.now two.new.parts) merged_expr 0 out.old }
+    ensures { Puts (FramesAt two.entry.old.bytes.now two.entry.old.parts two.entry.new.bytes.now two.entry.new.parts) merged_expr
+        out.old out.new result }
 {
-    let by = f.columns as usize;
+    let old = two.old.bytes;
+    let by = two.old.parts.columns as usize;
     out[0] = 2;
     out[1] = 0;
-    let v = copy_at(out, 2, old, f.root, old.len());
-    put_raised(out, v, new, g, by)
+    let v = copy_at(out, 2, old, two.old.parts.root, old.len());
+    put_raised(out, v, two.new, by)
 }
 
-// The merge of the frames that `old` and `new` hold, to the start of `out`; answers its length.
-pub fn put_merged(out: &mut [u8], old: &[u8], f: Frame, new: &[u8], g: Frame) -> usize
-    requires room { Room (FramesAt old.now f new.now g) merged_frame 0 out.old }
-    requires columns_bound { f.columns + g.columns ≤ 256 }
-    ensures { Puts (FramesAt old.now f new.now g) merged_frame out.old out.new result }
+// The merge of two frames, to the start of `out`; answers its length.
+pub fn put_merged(out: &mut [u8], two: Two) -> usize
+    requires { Room (FramesAt two.old.bytes.now two.old.parts two.new.bytes.now two.new.parts) merged_frame 0 out.old }
+    ensures { Puts (FramesAt two.entry.old.bytes.now two.entry.old.parts two.entry.new.bytes.now two.entry.new.parts) merged_frame
+        out.old out.new result }
 {
-    let w = put_tables(out, old, f, new, g);
-    w + put_and(&mut out[w..], old, f, new, g)
+    let w = put_tables(out, two);
+    w + put_and(&mut out[w..], two)
 }

@@ -3,7 +3,6 @@
 
 ghost use Rattle.join_filter.specs.Outcomes.{PrintIs};
 
-use frame_reader::frame_bodies::Physical;
 use frame_reader::frames::physical_frame;
 use join_filter::answers::Answer;
 use printing::text_size::text_size;
@@ -14,16 +13,12 @@ use terms::refusals::Refusal;
 pub fn print(text: &mut [u8], frame: &[u8]) -> Answer
     ensures { PrintIs frame.now text.old text.new result }
 {
-    match physical_frame(frame) {
-        Physical::Refused(why) => Answer::Refused(why),
-        Physical::Good(f) => {
-            let root = f.root;
-            let n = text_size(frame, root);
-            if text.len() < n {
-                return Answer::Refused(Refusal::TextBufferTooShort);
-            }
-            print_node(text, 0, frame, root);
-            Answer::Length(n)
-        }
+    let f = physical_frame(frame)?;
+    let root = f.root;
+    let n = text_size(frame, root);
+    if text.len() < n {
+        return Err(Refusal::TextBufferTooShort);
     }
+    print_node(text, 0, frame, root);
+    Ok(n)
 }

@@ -1,7 +1,7 @@
 -- `end_node` and `end_children`: what each return answers, and what their calls require.
 use Prim.Native.Nat.{ℕ, ◌+◌, ◌-◌, ◌≤◌, ◌<◌}
 use native.Mathlib.Omega.{arith}
-use mathlib.Core.Path.{◌≡◌, ◌∙◌}
+use mathlib.Core.Path.{◌≡◌, ◌∙◌, subst}
 use mathlib.Core.List.{List}
 use lib.ListN.{length, length-append}
 use Rattle.definitions.specs.Expression.{Expr, Exprs}
@@ -60,21 +60,25 @@ pub record InEnds (s : List ℕ) (at n next left : ℕ) : Type 0 where
       → OfTrees s at n (λ ts. r ≡ at + length (exprs_bytes ts))
 
 module _ {s : List ℕ} {at n : ℕ} where
-  pub ends-begin : Trees s at n → InEnds s at n at n
-  ends-begin there = record { there = there; low = omega arith; rest = λ r is. is }
+  pub ends-begin : Trees s at n → (left : ℕ) → n ≡ left → InEnds s at n at left
+  ends-begin there left e =
+      let all : InEnds s at n at n = record { there = there; low = omega arith; rest = λ r is. is } in
+      subst (InEnds s at n at) e all
 
   module _ {next left : ℕ} (inv : InEnds s at n next left) where
     pub ends-first : 0 < left → Tree s next
     ends-first some = first-there inv.there (λ z. omega arith)
 
-    pub ends-go-on : 0 < left → (q : ℕ) → OfTree s next (λ t. q ≡ next + length (expr_bytes t)) → InEnds s at n q (left - 1)
-    ends-go-on some q is =
+    pub ends-go-on : 0 < left → (q : ℕ) → OfTree s next (λ t. q ≡ next + length (expr_bytes t)) → (fewer : ℕ) → left - 1 ≡ fewer
+        → InEnds s at n q fewer
+    ends-go-on some q is fewer e =
         let first = ends-first some in
-        record {
+        let others : InEnds s at n q (left - 1) = record {
           there = rest-there inv.there (λ z. omega arith) q is;
           low = omega (arith, inv.low, is first.0 first.1 first.2);
           rest = λ r others. inv.rest r (λ d ts row. end-some row (λ z. omega arith) q r is others);
-        }
+        } in
+        subst (InEnds s at n q) e others
 
     pub ends-end : left ≤ 0 → OfTrees s at n (λ ts. next ≡ at + length (exprs_bytes ts))
     ends-end none = inv.rest next (λ d ts row. end_none row (omega arith))

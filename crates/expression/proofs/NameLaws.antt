@@ -7,14 +7,23 @@ use mathlib.Core.Bool.{Bool, true, false, ◌&&◌}
 use mathlib.Core.List.{List, [], ◌∷◌}
 use lib.ListN.{length, drop, get_or, length-take, length-drop, drop_of_length-le}
 use lib.Seq.{drop-cons, get_or-take, get_or-drop}
-use lib.Dec.{eqb}
-use borrow.Author.Tests.{eq-eqb, ne_eqb, le-leb, lt-leb}
+use lib.Dec.{eqb, leb}
+use lib.Pointwise.{pointwise}
+use borrow.Author.Tests.{eq-eqb, ne_eqb, le-leb, lt-leb, le-ltb, lt-ltb, leb-true, leb-false}
+use Rattle.std.specs.Char.{to_ascii_lowercase}
 use Rattle.definitions.specs.Basics.{same_name}
 use Rattle.definitions.specs.Logical.{lower_case}
 use Rattle.expression.specs.Places.{part}
 use Rattle.expression.specs.Names.{spelled, letter}
 use Rattle.expression.specs.declared.names.Case.{Case}
 use Rattle.expression.specs.declared.names.Case.TheVariants.{Exact, Ignored}
+
+pub by_bytes : (a b : List ℕ) → pointwise eqb a b ≡ same_name a b
+unfolding same_name
+by_bytes [] [] = refl
+by_bytes [] (y ∷ b) = refl
+by_bytes (x ∷ a) [] = refl
+by_bytes (x ∷ a) (y ∷ b) = ap (λ (t : Bool). eqb x y && t) (by_bytes a b)
 
 -- ---- spelling
 
@@ -26,6 +35,18 @@ below-capitals b low = rw (lt-leb 65 b low)
 
 pub above-capitals : (b : ℕ) → 90 < b → letter Ignored b ≡ b
 above-capitals b high = rw (le-leb 65 b (omega arith), lt-leb b 90 high)
+
+-- As the library makes a letter small.
+small-high : (b : ℕ) → 65 ≤ b → (t : Bool) → leb b 90 ≡ t → to_ascii_lowercase b ≡ letter Ignored b
+small-high b low true e = rw (le-ltb b 65 low, lt-ltb b 91 (omega (arith, leb-true b 90 e)), le-leb 65 b low, e)
+small-high b low false e = rw (le-ltb b 65 low, le-ltb b 91 (omega (arith, leb-false b 90 e)), le-leb 65 b low, e)
+
+small-low : (b : ℕ) (t : Bool) → leb 65 b ≡ t → to_ascii_lowercase b ≡ letter Ignored b
+small-low b true e = small-high b (leb-true 65 b e) (leb b 90) refl
+small-low b false e = rw (lt-ltb b 65 (leb-false 65 b e), e)
+
+pub small : (b : ℕ) → to_ascii_lowercase b ≡ letter Ignored b
+small b = small-low b (leb 65 b) refl
 
 spelled-length : (case : Case) (x : List ℕ) → length (spelled case x) ≡ length x
 unfolding lower_case

@@ -27,10 +27,8 @@ pub fn end_children(s: &[u8], at: usize, n: usize) -> usize
     ensures { OfTrees s.now at n (λ ts. result ≡ at + length (exprs_bytes ts)) }
 {
     let mut next = at;
-    let mut left = n;
-    while 0 < left {
+    for _ in 0..n {
         next = end_node(s, next);
-        left -= 1;
     }
     next
 }

@@ -7,5 +7,5 @@ pub fn short_at(s: &[u8], at: usize) -> usize
     requires { at + 2 ≤ length s.now }
     ensures { result ≡ short_at s.now at }
 {
-    s[at] as usize * 256 + s[at + 1] as usize
+    usize::from(u16::from_be_bytes([s[at], s[at + 1]]))
 }

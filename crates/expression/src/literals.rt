@@ -6,32 +6,18 @@ ghost use Rattle.definitions.specs.Literals as literals;
 pub fn signed(bytes: u64) -> i64
     ensures { result ≡ literals.signed bytes }
 {
-    if bytes < 9223372036854775808 {
-        bytes as i64
-    } else {
-        -1 - (18446744073709551615 - bytes) as i64
-    }
-}
-
-// Whether a whole number is one of 32 bits.
-fn is_int32(value: i64) -> bool
-    ensures { result ≡ literals.is_int32 value }
-{
-    if value < -2147483648 {
-        false
-    } else {
-        value <= 2147483647
-    }
+    bytes.cast_signed()
 }
 
 // Whether a literal's eight bytes are in the range of its type: Boolean, Int32, UInt32, or one that takes any.
+#[tactic(auto, unfolding(definitions::specs::Literals::literal_in_range))]
 pub fn literal_in_range(kind: u64, bytes: u64) -> bool
     ensures { result ≡ literals.literal_in_range kind bytes }
 {
     match kind {
         1 => bytes <= 1,
-        2 => is_int32(signed(bytes)),
-        4 => bytes < 4294967296,
+        2 => i32::try_from(signed(bytes)).is_ok(),
+        4 => u32::try_from(bytes).is_ok(),
         _ => true,
     }
 }

@@ -47,7 +47,7 @@ pub fn same_name(s: &[u8], at: usize, end: usize, name: &[u8]) -> bool
     requires { (at ≤ end) × (end ≤ length s.now) }
     ensures { result ≡ same_name (part s.now at end) name.now }
 {
-    same_bytes(s, at, end, name, Case::Exact)
+    &s[at..end] == name
 }
 
 // The same without regard to the case of ASCII letters; `name` has small ones.
@@ -55,7 +55,15 @@ pub fn same_name_ignore_case(s: &[u8], at: usize, end: usize, name: &[u8]) -> bo
     requires { (at ≤ end) × (end ≤ length s.now) }
     ensures { result ≡ same_name (lower_case (part s.now at end)) name.now }
 {
-    same_bytes(s, at, end, name, Case::Ignored)
+    if end - at != name.len() {
+        return false;
+    }
+    for (i, c) in name.iter().enumerate() {
+        if s[at + i].to_ascii_lowercase() != *c {
+            return false;
+        }
+    }
+    true
 }
 
 // Which of the names in a row with spaces between them it is, from 0; how many there are if it is none of them. `ends` has where

@@ -1,5 +1,5 @@
 -- Decoding: what is known after i pairs of digits, and what each answer means.
-use Prim.Native.Nat.{ℕ, suc, ◌+◌, ◌*◌, ◌-◌, ◌/◌, ◌%◌, ◌≤◌, ◌<◌}
+use Prim.Native.Nat.{ℕ, suc, ◌+◌, ◌*◌, ◌/◌, ◌%◌, ◌≤◌, ◌<◌}
 use native.Mathlib.Omega.{arith}
 use native.Mathlib.Numerals.{add-one}
 use mathlib.Core.Path.{◌≡◌, refl, sym, ap, ◌∙◌}
@@ -10,7 +10,7 @@ use lib.Seq.{drop-cons, take-suc-set, drop-set-lt, drop-drop, length-take-le}
 use borrow.Author.Tests.{le-leb, lt-leb}
 use Rattle.hexadecimal.specs.Hex.{leading_pair, leading_bytes, decoded_to, DecodedIs}
 use Rattle.writing.specs.Written.{Wrote}
-use Rattle.hexadecimal.specs.declared.hex.Decoded.TheVariants.{Bytes, Bad}
+use Rattle.std.specs.Prelude.{Some, None}
 use Rattle.definitions.specs.Basics.{ok, refused}
 use Rattle.definitions.specs.Program.{digit_value, pair_bytes, digit_bytes, or_refused, line_bytes}
 
@@ -75,16 +75,9 @@ pub record DecodedSoFar (line before out : List ℕ) (i : ℕ) : Type 0 where
   pub rest : drop i out ≡ drop i before
   pub kept : length out ≡ length before
 
-ahead-nothing : (o : Option (List ℕ)) → o ≡ ahead [] o
-ahead-nothing none = refl
-ahead-nothing (some bytes) = refl
-
 ahead-ahead : (x y : List ℕ) (o : Option (List ℕ)) → ahead x (ahead y o) ≡ ahead (x ++ y) o
 ahead-ahead x y none = refl
 ahead-ahead x y (some bytes) = ap some (sym (append_assoc x y bytes))
-
-pub decoded-none : (line out : List ℕ) → DecodedSoFar line out out 0
-decoded-none line out = record { within = omega arith; bytes = ahead-nothing (digit_bytes line); leading = refl; rest = refl; kept = refl }
 
 -- The two characters at a place.
 abbrev pub pair_at : List ℕ → ℕ → Option (List ℕ)
@@ -123,9 +116,6 @@ decoded-more {line} {before} {out} {i} {v} d h room e =
 
 -- ---- the answers
 
-no_bytes : {n : ℕ} → Bad ≡ Bytes n → ⊥
-no_bytes e = let z : ◌≡◌ {A = ℕ} 0 1 = cc in omega arith
-
 refused-line : (line : List ℕ) → length line ≤ 32768 → digit_bytes line ≡ none → refused 14 ≡ line_bytes line
 unfolding line_bytes or_refused
 refused-line line h e = simp (le-leb (length line) 32768 h, e)
@@ -138,15 +128,15 @@ pub long-line : (line : List ℕ) → 32768 < length line → refused 14 ≡ lin
 unfolding line_bytes
 long-line line h = simp (lt-leb (length line) 32768 h)
 
-pub too_long : (line out : List ℕ) → 32768 < length line → DecodedIs line out out Bad
+pub too_long : (line out : List ℕ) → 32768 < length line → DecodedIs line out out None
 unfolding decoded_to
-too_long line out h = record { bytes = long-line line h; size = λ n e. absurd (no_bytes e); wrote = simp (lt-leb (length line) 32768 h) }
+too_long line out h = record { bytes = long-line line h; size = tt; wrote = simp (lt-leb (length line) 32768 h) }
 
-pub odd-count : (line out : List ℕ) → length line ≤ 32768 → length line % 2 ≡ 1 → DecodedIs line out out Bad
+pub odd-count : (line out : List ℕ) → length line ≤ 32768 → length line % 2 ≡ 1 → DecodedIs line out out None
 unfolding decoded_to
 odd-count line out h odd = record {
   bytes = refused-line line h (odd-none line odd);
-  size = λ n e. absurd (no_bytes e);
+  size = tt;
   wrote = simp (le-leb (length line) 32768 h, odd);
 }
 
@@ -161,17 +151,17 @@ module _ {line before out : List ℕ} {i : ℕ} (d : DecodedSoFar line before ou
       simp (le-leb (length line) 32768 short, zero, all, length-take-le i out room)
       (sym (take-append-drop i out) ∙ ap (λ (l : List ℕ). take i out ++ l) d.rest)
 
-  pub bad-pair : 2 * i + 1 < length line → none ≡ pair_at line i → DecodedIs line before out Bad
+  pub bad-pair : 2 * i + 1 < length line → none ≡ pair_at line i → DecodedIs line before out None
   bad-pair k e = record {
     bytes = refused-line line short (d.bytes ∙ ap (ahead (take i out)) (digits-at line i k ∙ pair-none _ _ _ e));
-    size = λ n e. absurd (no_bytes e);
+    size = tt;
     wrote = so_far (leading_at line i k ∙ lead-none _ _ _ e);
   }
 
-  pub all-decoded : i ≡ length line / 2 → DecodedIs line before out (Bytes (length line / 2))
+  pub all-decoded : i ≡ length line / 2 → DecodedIs line before out (Some (length line / 2))
   unfolding digit_bytes leading_bytes
   all-decoded e =
       let end : drop (2 * i) line ≡ [] = drop_of_length-le line {i = 2 * i} (omega arith) in
       let bytes : digit_bytes line ≡ some (take i out) =
       d.bytes ∙ ap (λ (l : List ℕ). ahead (take i out) (digit_bytes l)) end ∙ ap some (append-nil (take i out)) in
-      record { bytes = good-line line short (rw (← e) bytes); size = λ n f. cc; wrote = so_far (ap leading_bytes end) }
+      record { bytes = good-line line short (rw (← e) bytes); size = refl; wrote = so_far (ap leading_bytes end) }

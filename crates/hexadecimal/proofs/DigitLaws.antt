@@ -1,36 +1,13 @@
--- What a character, a pair of characters and a value below 16 are as digits.
+-- A digit's value.
 use Rattle.std.specs.Prelude.{if◌then◌else◌}
-use Prim.Native.Nat.{ℕ, ◌+◌, ◌*◌, ◌-◌, ◌≤◌, ◌<◌}
+use Prim.Native.Nat.{ℕ, ◌-◌, ◌<◌}
 use native.Mathlib.Omega.{arith}
 use mathlib.Core.Path.{◌≡◌, refl}
-use mathlib.Core.List.{[], ◌∷◌}
 use mathlib.Core.Option.{Option, none, some}
 use mathlib.Core.Bool.{Bool, true, false, ◌&&◌}
 use lib.Dec.{leb}
-use borrow.Author.Tests.{le-leb, lt-leb, lt-ltb, le-ltb, leb-true}
-use Rattle.definitions.specs.Program.{digit_value, pair_bytes, digit}
-
--- ---- one character
-
-pub is_number : (c : ℕ) → 48 ≤ c → c ≤ 57 → some (c - 48) ≡ digit_value c
-unfolding digit_value
-is_number c a b = simp (le-leb 48 c a, le-leb c 57 b)
-
-pub is-letter : (c : ℕ) → 97 ≤ c → c ≤ 102 → some (c - 87) ≡ digit_value c
-unfolding digit_value
-is-letter c a b = simp (le-leb 48 c (omega arith), lt-leb c 57 (omega arith), le-leb 97 c a, le-leb c 102 b)
-
-pub below-numbers : (c : ℕ) → c < 48 → none ≡ digit_value c
-unfolding digit_value
-below-numbers c a = simp (lt-leb 48 c a, lt-leb 97 c (omega arith))
-
-pub between : (c : ℕ) → 57 < c → c < 97 → none ≡ digit_value c
-unfolding digit_value
-between c a b = simp (le-leb 48 c (omega arith), lt-leb c 57 a, lt-leb 97 c b)
-
-pub above-letters : (c : ℕ) → 102 < c → none ≡ digit_value c
-unfolding digit_value
-above-letters c a = simp (le-leb 48 c (omega arith), lt-leb c 57 (omega arith), le-leb 97 c (omega arith), lt-leb c 102 a)
+use borrow.Author.Tests.{leb-true}
+use Rattle.definitions.specs.Program.{digit_value}
 
 -- A digit's value is below 16.
 abbrev Bounded : Option ℕ → Type 0
@@ -51,24 +28,5 @@ value-bounded c =
 pub value-below : (c : ℕ) {v : ℕ} → some v ≡ digit_value c → v < 16
 value-below c e = rw (← e) at (value-bounded c)
 
--- ---- two characters
-
-pub high-other : (h l : Option ℕ) → none ≡ h → none ≡ pair_bytes h l (some [])
-unfolding pair_bytes
-high-other h l e = rw (← e)
-
-pub low-other : (h l : Option ℕ) {a : ℕ} → some a ≡ h → none ≡ l → none ≡ pair_bytes h l (some [])
-unfolding pair_bytes
-low-other h l e f = rw (← e, ← f)
-
-pub both-digits : (h l : Option ℕ) {a b : ℕ} → some a ≡ h → some b ≡ l → some ((a * 16 + b) ∷ []) ≡ pair_bytes h l (some [])
-unfolding pair_bytes
-both-digits h l e f = rw (← e, ← f)
-
-pub below-ten : (d : ℕ) → d < 10 → d + 48 ≡ digit d
-unfolding digit
-below-ten d h = simp (lt-ltb d 10 h)
-
-pub from-ten : (d : ℕ) → 10 ≤ d → d + 87 ≡ digit d
-unfolding digit
-from-ten d h = simp (le-ltb d 10 h)
+-- What the code about digits needs to know of them.
+pub ruleset digit_laws = (value-below)

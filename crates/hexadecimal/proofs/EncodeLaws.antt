@@ -6,7 +6,7 @@ use native.Mathlib.Nat.{add-zero}
 use mathlib.Core.Path.{◌≡◌, refl, sym, ap}
 use mathlib.Core.List.{List, [], ◌∷◌, ◌++◌}
 use lib.ListN.{length, take, get_or, set, length-set, take-append-drop}
-use lib.Seq.{take-suc, take_all, length-take-le}
+use lib.Seq.{take-suc, length-take-le}
 use Rattle.definitions.specs.Program.{digit, digits}
 use Rattle.writing.specs.Written.{WroteAt}
 use Rattle.writing.proofs.Written.{store, chain}
@@ -61,10 +61,6 @@ encoded-more {bytes} {before} {after} {at} {i} {next} e h start room =
       kept = simp length-set e.kept;
       wrote = rw more (chain start e.wrote (two_digits next _ _ after room));
     }
-
-pub all-encoded : {bytes before after : List ℕ} {at i next : ℕ} → Encoded bytes at i before after next → length bytes ≤ i
-    → WroteAt at (digits bytes) before after next
-all-encoded {bytes} {before} {after} {at} {i} {next} e h = rw (take_all i bytes h) at e.wrote
 
 -- ---- a line: the digits of a byte, those of more, a line feed
 

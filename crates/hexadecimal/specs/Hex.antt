@@ -1,32 +1,29 @@
 -- What the answers about hexadecimal say.
-use Rattle.std.specs.Prelude.{ℕ, ◌+◌, ◌*◌, ◌/◌, ◌%◌, ◌&&◌, ◌≡◌, List, [], ◌∷◌, length, take, leb, eqb, if◌then◌else◌}
-use Rattle.std.proofs.Math.Option.{Option, none, some}
+use Rattle.std.specs.Prelude.{ℕ, ◌+◌, ◌*◌, ◌/◌, ◌%◌, ◌&&◌, ◌≡◌, List, [], ◌∷◌, length, take, leb, eqb, if◌then◌else◌, Option, Some, None, IfSome}
+use Rattle.std.proofs.Math.Option as maybe
+use Rattle.std.proofs.Math.Option.{none, some}
 use Rattle.definitions.specs.Limits.{most_digits}
 use Rattle.definitions.specs.Basics.{Result, ok, refused}
 use Rattle.definitions.specs.Program.{digit_value, line_bytes}
 use Rattle.writing.specs.Written.{Wrote}
-use Rattle.hexadecimal.specs.declared.hex.Digits.{Digits}
-use Rattle.hexadecimal.specs.declared.hex.Digits.TheVariants.{Value, Other}
-use Rattle.hexadecimal.specs.declared.hex.Decoded.{Decoded}
-use Rattle.hexadecimal.specs.declared.hex.Decoded.TheVariants.{Bytes, Bad}
 
 -- The value of a digit, if it is one.
-abbrev pub value_of : Digits → Option ℕ
-value_of (Value d) = some d
-value_of Other = none
+abbrev pub value_of : Option ℕ → maybe.Option ℕ
+value_of (Some d) = some d
+value_of None = none
 
 -- The byte of two digits, if they are.
-abbrev pub bytes_of : Digits → Option (List ℕ)
-bytes_of (Value b) = some (b ∷ [])
-bytes_of Other = none
+abbrev pub bytes_of : Option ℕ → maybe.Option (List ℕ)
+bytes_of (Some b) = some (b ∷ [])
+bytes_of None = none
 
 -- What the buffer holds after a line was decoded to its start.
-abbrev pub decoded_bytes : (after : List ℕ) → Decoded → Result (List ℕ)
-decoded_bytes after (Bytes n) = ok (take n after)
-decoded_bytes after Bad = refused 14
+abbrev pub decoded_bytes : (after : List ℕ) → Option ℕ → Result (List ℕ)
+decoded_bytes after (Some n) = ok (take n after)
+decoded_bytes after None = refused 14
 
 -- A byte of two digits before others; none once a character is no digit.
-unfoldable pub leading_pair : (high low : Option ℕ) → (others : List ℕ) → List ℕ
+unfoldable pub leading_pair : (high low : maybe.Option ℕ) → (others : List ℕ) → List ℕ
 leading_pair (some h) (some l) others = (h * 16 + l) ∷ others
 leading_pair (some h) none others = []
 leading_pair none low others = []
@@ -44,7 +41,7 @@ decoded_to line = if leb (length line) most_digits && eqb (length line % 2) 0 th
 
 -- A line was decoded to the start of a buffer: the answer, with what the buffer then holds, is the line's bytes, one for two digits or
 -- refusal 14; the bytes that decoding writes were written, and the rest kept its values.
-pub record DecodedIs (line before after : List ℕ) (r : Decoded) : Type 0 where
+pub record DecodedIs (line before after : List ℕ) (r : Option ℕ) : Type 0 where
   pub bytes : decoded_bytes after r ≡ line_bytes line
-  pub size : (n : ℕ) → r ≡ Bytes n → n ≡ length line / 2
+  pub size : IfSome r (λ n. n ≡ length line / 2)
   pub wrote : Wrote (decoded_to line) before after

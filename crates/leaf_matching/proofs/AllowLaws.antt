@@ -1,23 +1,23 @@
 -- Which matches the settings leave.
-use Rattle.std.specs.Prelude.{if◌then◌else◌}
-use Prim.Native.Nat.{ℕ, ◌/◌, ◌%◌, ◌^◌}
+use Rattle.std.specs.Prelude.{if◌then◌else◌, Ok, Err}
+use Prim.Native.Nat.{ℕ, ◌/◌, ◌%◌}
 use native.Mathlib.Omega.{arith}
-use mathlib.Core.Path.{◌≡◌, refl, sym, ap, ◌∙◌}
+use mathlib.Core.Path.{◌≡◌, sym, ap, ◌∙◌}
 use mathlib.Core.Bool.{Bool, true, false, ◌&&◌}
-use mathlib.Core.List.{List}
 use mathlib.Core.Option.{Option, none, some}
 use lib.Dec.{leb, eqb}
 use borrow.Author.Tests.{eq-eqb, ne_eqb}
-use Rattle.definitions.specs.Expression.{Record, Predicate}
+use Rattle.definitions.specs.Expression.{Predicate}
 use Rattle.definitions.specs.Settings.{Settings, has_bit, allowed, passing}
-use Rattle.sedona_query_planner.specs.Predicates.{on_children, PredicateAt}
+use Rattle.sedona_query_planner.specs.Predicates.{on_children}
 use Rattle.sedona_query_planner.specs.declared.spatial_predicate.RelationPredicate.{RelationPredicate}
 use Rattle.sedona_query_planner.specs.declared.spatial_predicate.DistancePredicate.{DistancePredicate}
 use Rattle.sedona_query_planner.specs.declared.spatial_predicate.KNNPredicate.{KNNPredicate}
 use Rattle.sedona_query_planner.specs.declared.spatial_predicate.SpatialPredicate.{SpatialPredicate}
 use Rattle.sedona_query_planner.specs.declared.spatial_predicate.SpatialPredicate.TheVariants.{Distance, Relation, KNearestNeighbors}
-use Rattle.leaf_matching.specs.Matches.{Lacks, Matches, AllowedIs, Allows}
-use Rattle.leaf_matching.specs.declared.matching.Matching.TheVariants.{Matched, Unmatched, NotAsked}
+use Rattle.leaf_matching.specs.Matches.{Lacks, AllowedIs, Allows}
+use Rattle.leaf_matching.specs.declared.matching.NoMatch.{NoMatch}
+use Rattle.leaf_matching.specs.declared.matching.NoMatch.TheVariants.{Unmatched, NotAsked}
 
 -- ---- a predicate by its kind
 
@@ -44,7 +44,7 @@ module _ (S : Settings) where
   -- ---- what is left of a match
 
   module _ (p : SpatialPredicate) (told : Bool) (is : AllowedIs S p told) where
-    pub stays : told ≡ true → Allows S (Matched p) (Matched p)
+    pub stays : told ≡ true → Allows S (Ok p) (Ok p)
     unfolding passing
     stays e kind s rec records match m =
         record {
@@ -55,13 +55,13 @@ module _ (S : Settings) where
           stands = m.stands;
         }
 
-    pub goes : told ≡ false → Allows S (Matched p) Unmatched
+    pub goes : told ≡ false → Allows S (Ok p) (Err Unmatched)
     unfolding passing
     goes e kind s rec records match m =
         ap (passing (allowed S)) m.is
         ∙ ap (λ (b : Bool). if b then some m.q else none) (sym (is (on_children records) s m.q m.stands) ∙ e)
 
-  pub none_stays : Allows S Unmatched Unmatched
+  none_stays : Allows S (Err Unmatched) (Err Unmatched)
   unfolding passing
   none_stays kind s rec records match m = ap (passing (allowed S)) m
 
@@ -75,5 +75,9 @@ module _ (S : Settings) where
       by true = h
       by false = tt
 
-  pub lacks-stays : Allows S NotAsked NotAsked
+  lacks-stays : Allows S (Err NotAsked) (Err NotAsked)
   lacks-stays kind s rec records match m = passing-lacks kind match m
+
+  pub no-match_stays : (why : NoMatch) → Allows S (Err why) (Err why)
+  no-match_stays Unmatched = none_stays
+  no-match_stays NotAsked = lacks-stays

@@ -1,10 +1,12 @@
 -- What each return of `match_distance_predicate` answers, and what its calls require.
+use Rattle.std.specs.Prelude.{Some, None, Ok, Err}
 use Prim.Native.Nat.{ℕ}
 use native.Mathlib.Omega.{arith}
 use mathlib.Core.Path.{◌≡◌, refl, sym, ap, ap₂, ◌∙◌}
 use mathlib.Core.Bool.{false}
 use mathlib.Core.List.{List}
-use mathlib.Core.Option.{Option, none, some}
+use mathlib.Core.Option as optional
+use mathlib.Core.Option.{none, some}
 use lib.ListN.{length}
 use Rattle.definitions.specs.Expression.{Expr, Record, Predicate, distance}
 use Rattle.sedona_query_planner.specs.Predicates.{bound_on, on_children, ArgumentAt}
@@ -15,25 +17,20 @@ use Rattle.expression.specs.Nodes.{Spans, OfTreeIn}
 use Rattle.sedona_expr.specs.Parsed as parsed
 use Rattle.sedona_expr.specs.Parsed.{ParsedIs}
 use Rattle.sedona_expr.specs.declared.utils.ParsedDistancePredicate.{ParsedDistancePredicate}
-use Rattle.sedona_expr.specs.declared.utils.Parsed.{Parsed}
-use Rattle.sedona_expr.specs.declared.utils.Parsed.TheVariants as parse
 use Rattle.leaf_matching.specs.Frames.{Over, Framed, OfFrame}
+use Rattle.terms.specs.Forms.{form_number}
 use Rattle.terms.specs.Sides.{join_side}
-use Rattle.leaf_matching.specs.Sides.{argument_side, order, ArgumentIs}
+use Rattle.leaf_matching.specs.Sides.{argument_side, ArgumentIs}
 use Rattle.leaf_matching.specs.Distances.{distance_side}
 use Rattle.leaf_matching.specs.Matches.{is_distance, Lacks, LeafMatching}
 use Rattle.terms.specs.declared.sides.JoinSide.{JoinSide}
-use Rattle.terms.specs.declared.sides.JoinSide.TheVariants.{Left, Right, None}
-use Rattle.leaf_matching.specs.declared.distance.DistanceSide.{DistanceSide}
-use Rattle.leaf_matching.specs.declared.distance.DistanceSide.TheVariants.{Known, Undefined}
+use Rattle.terms.specs.declared.sides.JoinSide.TheVariants as lies
 use Rattle.leaf_matching.specs.declared.sides.Sides.{Sides}
 use Rattle.leaf_matching.specs.declared.sides.Sides.TheVariants.{NoColumns, AllOn, Mixed}
 use Rattle.leaf_matching.specs.declared.sides.Argument.{Argument}
-use Rattle.leaf_matching.specs.declared.sides.Order.{Order}
-use Rattle.leaf_matching.specs.declared.sides.Order.TheVariants.{LeftRight, RightLeft, Neither}
 use Rattle.sedona_query_planner.specs.declared.spatial_predicate.SpatialPredicate.{SpatialPredicate}
 use Rattle.sedona_query_planner.specs.declared.spatial_predicate.SpatialPredicate.TheVariants.{Distance}
-use Rattle.leaf_matching.specs.declared.matching.Matching.TheVariants.{Matched, Unmatched}
+use Rattle.leaf_matching.specs.declared.matching.NoMatch.TheVariants.{Unmatched}
 use Rattle.leaf_matching.proofs.Asked.{Kind, request-lacks}
 
 -- ---- a leaf that is no distance
@@ -51,26 +48,26 @@ no_distance records t e = request-lacks is_distance records parsed.is_distance d
 
 module _ (records : List Record) (form : ℕ) (a b bound : Expr) where
   -- A side that is known is stored.
-  abbrev stores : (side : JoinSide) → definition.Order → Option Predicate
+  abbrev stores : (side : JoinSide) → definition.Order → optional.Option Predicate
   stores side o = store_distance form (join_side side) a b (bound_on records (join_side side) bound) o
 
-  side-match : (z : Sides) (o : definition.Order) (side : JoinSide) → Known side ≡ distance_side z
+  side-match : (z : Sides) (o : definition.Order) (side : JoinSide) → Some side ≡ distance_side z
       → match_distance records form a b bound (argument_side z) o ≡ stores side o
   unfolding match_distance bound_on
-  side-match NoColumns o side e = let same : None ≡ side = cc in ap (λ (x : JoinSide). stores x o) same
-  side-match (AllOn Left) o side e = let same : Left ≡ side = cc in ap (λ (x : JoinSide). stores x o) same
-  side-match (AllOn Right) o side e = let same : Right ≡ side = cc in ap (λ (x : JoinSide). stores x o) same
-  side-match (AllOn None) o side e = let z : ◌≡◌ {A = ℕ} 0 1 = cc in absurd (omega arith)
+  side-match NoColumns o side e = let same : lies.None ≡ side = cc in ap (λ (x : JoinSide). stores x o) same
+  side-match (AllOn lies.Left) o side e = let same : lies.Left ≡ side = cc in ap (λ (x : JoinSide). stores x o) same
+  side-match (AllOn lies.Right) o side e = let same : lies.Right ≡ side = cc in ap (λ (x : JoinSide). stores x o) same
+  side-match (AllOn lies.None) o side e = let z : ◌≡◌ {A = ℕ} 0 1 = cc in absurd (omega arith)
   side-match Mixed o side e = let z : ◌≡◌ {A = ℕ} 0 1 = cc in absurd (omega arith)
 
   -- Without one there is no match.
-  undefined-match : (z : Sides) (o : definition.Order) → Undefined ≡ distance_side z
+  undefined-match : (z : Sides) (o : definition.Order) → None ≡ distance_side z
       → match_distance records form a b bound (argument_side z) o ≡ none
   unfolding match_distance
   undefined-match NoColumns o e = let z : ◌≡◌ {A = ℕ} 0 1 = cc in absurd (omega arith)
-  undefined-match (AllOn Left) o e = let z : ◌≡◌ {A = ℕ} 0 1 = cc in absurd (omega arith)
-  undefined-match (AllOn Right) o e = let z : ◌≡◌ {A = ℕ} 0 1 = cc in absurd (omega arith)
-  undefined-match (AllOn None) o e = refl
+  undefined-match (AllOn lies.Left) o e = let z : ◌≡◌ {A = ℕ} 0 1 = cc in absurd (omega arith)
+  undefined-match (AllOn lies.Right) o e = let z : ◌≡◌ {A = ℕ} 0 1 = cc in absurd (omega arith)
+  undefined-match (AllOn lies.None) o e = refl
   undefined-match Mixed o e = refl
 
 -- ---- its arguments
@@ -80,9 +77,6 @@ abbrev pub Parses : List ℕ → (at : ℕ) → ParsedDistancePredicate → Type
 Parses s at p = OfTreeIn s at (λ c t. parsed.Distance c s p (request t))
 
 module _ {s : List ℕ} {at : ℕ} {p : ParsedDistancePredicate} where
-  pub parses : {answer : Parsed} → OfTreeIn s at (λ c t. ParsedIs c s answer (request t)) → answer ≡ parse.Distance p → Parses s at p
-  parses is found c t stands = rw found at (is c t stands)
-
   -- The arguments stand in the same frame.
   pub arguments-framed : {rec : ℕ} → Parses s at p → Framed s rec at
       → Framed s rec p.arg0 × Framed s rec p.arg1 × Framed s rec p.arg_distance
@@ -113,29 +107,28 @@ module _ {s : List ℕ} {rec at : ℕ} {p : ParsedDistancePredicate} {x y d : Ar
   it = w.asked _ t over.tree
 
   distance-match : match_leaf records t
-      ≡ match_distance records p.form (on_child records it.a) (on_child records it.b) it.bound (argument_side d.side)
+      ≡ match_distance records (form_number p.form) (on_child records it.a) (on_child records it.b) it.bound (argument_side d.side)
       (order_of (argument_side x.side) (argument_side y.side))
   unfolding match_leaf_by match_request
   distance-match = ap (match_request records) it.is
-      ∙ ap₂ (match_distance records p.form (on_child records it.a) (on_child records it.b) it.bound)
+      ∙ ap₂ (match_distance records (form_number p.form) (on_child records it.a) (on_child records it.b) it.bound)
       (spans _ d w.limit it.arg_distance).1 (ap₂ order_of (spans _ x w.first it.arg0).1 (spans _ y w.second it.arg1).1)
 
-  pub distance-undefined : (z : DistanceSide) → z ≡ distance_side d.side → z ≡ Undefined
-      → LeafMatching is_distance s rec Unmatched records t
-  distance-undefined z k e = distance-match ∙ undefined-match _ _ _ _ _ d.side _ (sym e ∙ k)
+  pub distance-undefined : None ≡ distance_side d.side → LeafMatching is_distance s rec (Err Unmatched) records t
+  distance-undefined k = distance-match ∙ undefined-match _ _ _ _ _ d.side _ k
 
-  module _ (z : DistanceSide) (k : z ≡ distance_side d.side) (side : JoinSide) (is : z ≡ Known side) (o : Order)
-      (lie : order o ≡ order_of (argument_side x.side) (argument_side y.side)) where
-    known-match : (lies : Order) → o ≡ lies → match_leaf records t
-        ≡ store_distance p.form (join_side side) (on_child records it.a) (on_child records it.b)
-        (bound_on records (join_side side) it.bound) (order lies)
-    known-match lies e = distance-match ∙ side-match _ _ _ _ _ d.side _ side (sym is ∙ k)
-        ∙ ap (store_distance p.form (join_side side) (on_child records it.a) (on_child records it.b)
-        (bound_on records (join_side side) it.bound)) (sym lie ∙ ap order e)
+  module _ {side : JoinSide} (known : Some side ≡ distance_side d.side) where
+    known-match : {how : definition.Order} → how ≡ order_of (argument_side x.side) (argument_side y.side) → match_leaf records t
+        ≡ store_distance (form_number p.form) (join_side side) (on_child records it.a) (on_child records it.b)
+        (bound_on records (join_side side) it.bound) how
+    known-match lie = distance-match ∙ side-match _ _ _ _ _ d.side _ side known
+        ∙ ap (store_distance (form_number p.form) (join_side side) (on_child records it.a) (on_child records it.b)
+        (bound_on records (join_side side) it.bound)) (sym lie)
 
-    pub distance-neither : o ≡ Neither → LeafMatching is_distance s rec Unmatched records t
+    pub distance-neither : definition.no_order ≡ order_of (argument_side x.side) (argument_side y.side)
+        → LeafMatching is_distance s rec (Err Unmatched) records t
     unfolding store_distance
-    distance-neither e = known-match Neither e
+    distance-neither lie = known-match lie
 
     -- Two geometries in their places, and the bound.
     abbrev distance_at : (left left_end right right_end : ℕ) → SpatialPredicate
@@ -153,24 +146,24 @@ module _ {s : List ℕ} {rec at : ℕ} {p : ParsedDistancePredicate} {x y d : Ar
     stored : {l r : Expr} {left left_end right right_end : ℕ} → ArgumentAt (on_children records) s left left_end l
         → ArgumentAt (on_children records) s right right_end r
         → match_leaf records t
-        ≡ some (distance p.form (join_side side) (on_child records l) (on_child records r) (bound_on records (join_side side) it.bound))
-        → LeafMatching is_distance s rec (Matched (distance_at left left_end right right_end)) records t
+        ≡ some (distance (form_number p.form) (join_side side) (on_child records l) (on_child records r) (bound_on records (join_side side) it.bound))
+        → LeafMatching is_distance s rec (Ok (distance_at left left_end right right_end)) records t
     unfolding is_distance bound_on
     stored {l} {r} a b m =
         record {
-          q = distance p.form (join_side side) (on_child records l) (on_child records r) (bound_on records (join_side side) it.bound);
+          q = distance (form_number p.form) (join_side side) (on_child records l) (on_child records r) (bound_on records (join_side side) it.bound);
           is = m;
           passes = refl;
           stands =
               record { l = l; r = r; bound = it.bound; left = a; right = b; limit = (spans _ d w.limit it.arg_distance).0; is = refl };
         }
 
-    pub distance-left : o ≡ LeftRight
-        → LeafMatching is_distance s rec (Matched (distance_at p.arg0 p.arg1 p.arg1 p.arg1_end)) records t
+    pub distance-left : definition.left_right ≡ order_of (argument_side x.side) (argument_side y.side)
+        → LeafMatching is_distance s rec (Ok (distance_at p.arg0 p.arg1 p.arg1 p.arg1_end)) records t
     unfolding store_distance
-    distance-left e = stored (spans _ x w.first it.arg0).0 (spans _ y w.second it.arg1).0 (known-match LeftRight e)
+    distance-left lie = stored (spans _ x w.first it.arg0).0 (spans _ y w.second it.arg1).0 (known-match lie)
 
-    pub distance-right : o ≡ RightLeft
-        → LeafMatching is_distance s rec (Matched (distance_at p.arg1 p.arg1_end p.arg0 p.arg1)) records t
+    pub distance-right : definition.right_left ≡ order_of (argument_side x.side) (argument_side y.side)
+        → LeafMatching is_distance s rec (Ok (distance_at p.arg1 p.arg1_end p.arg0 p.arg1)) records t
     unfolding store_distance
-    distance-right e = stored (spans _ y w.second it.arg1).0 (spans _ x w.first it.arg0).0 (known-match RightLeft e)
+    distance-right lie = stored (spans _ y w.second it.arg1).0 (spans _ x w.first it.arg0).0 (known-match lie)

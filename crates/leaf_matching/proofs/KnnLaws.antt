@@ -1,8 +1,9 @@
 -- What each return of `match_knn_predicate` answers.
+use Rattle.std.specs.Prelude.{Option, Some, None, Ok, Err}
 use Prim.Native.Nat.{ℕ, ◌-◌, ◌≤◌, ◌<◌}
 use native.Mathlib.Omega.{arith}
 use mathlib.Core.Path.{◌≡◌, refl, sym, ap, ◌∙◌}
-use mathlib.Core.Bool.{Bool, true}
+use mathlib.Core.Bool.{true}
 use mathlib.Core.List.{List}
 use mathlib.Core.Option.{none, some}
 use Rattle.definitions.specs.Basics.{ascii, same_name}
@@ -17,19 +18,17 @@ use Rattle.sedona_query_planner.specs.Predicates.{bound_on, flag, ties_number}
 use Rattle.leaf_matching.specs.KnnOptions.{asked, OptionsAre}
 use Rattle.leaf_matching.specs.Matches.{Lacks, CallMatchingBy}
 use Rattle.leaf_matching.specs.Frames.{OfFrameTwo, CallOver}
-use Rattle.leaf_matching.specs.declared.matching.Matching.TheVariants.{Matched, Unmatched}
+use Rattle.leaf_matching.specs.declared.matching.NoMatch.TheVariants.{Unmatched}
 use Rattle.terms.specs.declared.sides.JoinSide.TheVariants.{Left, Right}
 use Rattle.leaf_matching.specs.declared.sides.Order.{Order}
-use Rattle.leaf_matching.specs.declared.sides.Order.TheVariants.{LeftRight, RightLeft, Neither}
+use Rattle.leaf_matching.specs.declared.sides.Order.TheVariants.{LeftRight, RightLeft}
 use Rattle.expression.specs.Places.{part}
 use Rattle.expression.specs.declared.leaves.Called.{Called}
 use Rattle.terms.specs.declared.sides.JoinSide.{JoinSide}
 use Rattle.leaf_matching.specs.declared.sides.Geometries.{Geometries}
-use Rattle.sedona_query_planner.specs.declared.spatial_predicate.TieBreakers.{TieBreakers}
 use Rattle.sedona_query_planner.specs.declared.spatial_predicate.SpatialPredicate.{SpatialPredicate}
 use Rattle.sedona_query_planner.specs.declared.spatial_predicate.SpatialPredicate.TheVariants.{KNearestNeighbors}
 use Rattle.leaf_matching.specs.declared.knn.KnnOptions.{KnnOptions}
-use Rattle.leaf_matching.specs.declared.knn.KnnOptions.TheVariants as options
 use Rattle.leaf_matching.proofs.Asked.{none-lacks}
 use Rattle.leaf_matching.proofs.MatchLaws.{Pair, call-pair, named}
 
@@ -68,26 +67,26 @@ module _ (d : ℕ) (records : List Record) (name : List ℕ) (ts : Exprs) (same 
   many-lacks h = none-lacks is_knn _ (asks_nothing (too_many d ts h))
 
 -- The predicate of two geometries, the first at a place.
-abbrev knn_at : (at : ℕ) → Geometries → (k : ℕ) → Bool → JoinSide → TieBreakers → SpatialPredicate
-knn_at at g k spheroid side ties = KNearestNeighbors (record {
+abbrev knn_at : (at : ℕ) → Geometries → KnnOptions → JoinSide → SpatialPredicate
+knn_at at g options side = KNearestNeighbors (record {
   left = at;
   left_end = g.second;
   right = g.second;
   right_end = g.end;
-  k = k;
-  use_spheroid = spheroid;
+  k = options.k;
+  use_spheroid = options.flags.use_spheroid;
   probe_side = side;
-  include_tie_breakers = ties;
+  include_tie_breakers = options.flags.include_tie_breakers;
 })
 
 -- What is known once the geometries and the options are read.
-pub record Walked (d : ℕ) (s : List ℕ) (rec : ℕ) (k : Called) (g : Geometries) (read : KnnOptions) : Type 0 where
+pub record Walked (d : ℕ) (s : List ℕ) (rec : ℕ) (k : Called) (g : Geometries) (read : Option KnnOptions) : Type 0 where
   pub same : true ≡ same_name (part s k.name k.end) (ascii "st_knn")
   pub enough : 2 ≤ k.count
   pub geometries : OfFrameTwo s rec k.first (GeometriesAre k.first g)
   pub options : OfTrees s g.end (k.count - 2) (OptionsAre d read)
 
-module _ {d : ℕ} {s : List ℕ} {rec : ℕ} {k : Called} {g : Geometries} {read : KnnOptions} (w : Walked d s rec k g read)
+module _ {d : ℕ} {s : List ℕ} {rec : ℕ} {k : Called} {g : Geometries} {read : Option KnnOptions} (w : Walked d s rec k g read)
     {records : List Record} {name : List ℕ} {ts : Exprs} (over : CallOver s rec k records name ts) where
   pair : Pair s rec k.first k.count records g ts
   pair = call-pair g w.geometries w.enough ts over
@@ -96,33 +95,42 @@ module _ {d : ℕ} {s : List ℕ} {rec : ℕ} {k : Called} {g : Geometries} {rea
   knn-asks = knn-leaf d records name ts (named over true (ascii "st_knn") w.same)
       ∙ ap (match_request records) (ap (knn_request_by d) pair.is ∙ w.options _ pair.more pair.rest pair.a pair.b)
 
-  pub knn-unread : read ≡ options.Nothing → CallMatchingBy d is_knn s rec Unmatched records name ts
+  pub knn-unread : read ≡ None → CallMatchingBy d is_knn s rec (Err Unmatched) records name ts
   unfolding match_request
-  knn-unread e = knn-asks ∙ ap (λ (o : KnnOptions). match_request records (asked o pair.a pair.b)) e
+  knn-unread e = knn-asks ∙ ap (λ (o : Option KnnOptions). match_request records (asked o pair.a pair.b)) e
 
-  module _ (n : ℕ) (spheroid : Bool) (ties : TieBreakers) (e : read ≡ options.Read n spheroid ties) where
-    knn-match : (o : Order) → g.order ≡ o → match_leaf_by d records (call name ts)
-        ≡ match_knn n (flag spheroid) (ties_number ties) (on_child records pair.a) (on_child records pair.b) (order o)
+  module _ (options : KnnOptions) (e : read ≡ Some options) where
+    abbrev n : ℕ
+    n = options.k
+
+    abbrev spheroid : ℕ
+    spheroid = flag options.flags.use_spheroid
+
+    abbrev ties : ℕ
+    ties = ties_number options.flags.include_tie_breakers
+
+    knn-match : (o : Option Order) → g.order ≡ o → match_leaf_by d records (call name ts)
+        ≡ match_knn n spheroid ties (on_child records pair.a) (on_child records pair.b) (order o)
     unfolding match_request
-    knn-match o f = knn-asks ∙ ap (λ (o : KnnOptions). match_request records (asked o pair.a pair.b)) e
-        ∙ ap (match_knn n (flag spheroid) (ties_number ties) (on_child records pair.a) (on_child records pair.b))
+    knn-match o f = knn-asks ∙ ap (λ (o : Option KnnOptions). match_request records (asked o pair.a pair.b)) e
+        ∙ ap (match_knn n spheroid ties (on_child records pair.a) (on_child records pair.b))
         (sym pair.lie ∙ ap order f)
 
-    pub knn-neither : g.order ≡ Neither → CallMatchingBy d is_knn s rec Unmatched records name ts
+    pub knn-neither : g.order ≡ None → CallMatchingBy d is_knn s rec (Err Unmatched) records name ts
     unfolding match_knn
-    knn-neither f = knn-match Neither f
+    knn-neither f = knn-match None f
 
     -- The first geometry's side is the probe side.
     knn-matched : (side : JoinSide)
         → match_leaf_by d records (call name ts)
-        ≡ some (knn n (flag spheroid) (join_side side) (ties_number ties) (on_child records pair.a) (on_child records pair.b))
+        ≡ some (knn n spheroid (join_side side) ties (on_child records pair.a) (on_child records pair.b))
         → ((e : Expr) → (bound_on records (join_side side) e ≡ on_child records e)
         × (bound_on records (negate (join_side side)) e ≡ on_child records e))
-        → CallMatchingBy d is_knn s rec (Matched (knn_at k.first g n spheroid side ties)) records name ts
+        → CallMatchingBy d is_knn s rec (Ok (knn_at k.first g options side)) records name ts
     unfolding is_knn
     knn-matched side m on =
         record {
-          q = knn n (flag spheroid) (join_side side) (ties_number ties) (on_child records pair.a) (on_child records pair.b);
+          q = knn n spheroid (join_side side) ties (on_child records pair.a) (on_child records pair.b);
           is = m;
           passes = refl;
           stands = record {
@@ -138,11 +146,11 @@ module _ {d : ℕ} {s : List ℕ} {rec : ℕ} {k : Called} {g : Geometries} {rea
           };
         }
 
-    pub knn-left : g.order ≡ LeftRight → CallMatchingBy d is_knn s rec (Matched (knn_at k.first g n spheroid Left ties)) records name ts
+    pub knn-left : g.order ≡ Some LeftRight → CallMatchingBy d is_knn s rec (Ok (knn_at k.first g options Left)) records name ts
     unfolding match_knn bound_on negate
-    knn-left f = knn-matched Left (knn-match LeftRight f) (λ e. (refl, refl))
+    knn-left f = knn-matched Left (knn-match (Some LeftRight) f) (λ e. (refl, refl))
 
-    pub knn-right : g.order ≡ RightLeft
-        → CallMatchingBy d is_knn s rec (Matched (knn_at k.first g n spheroid Right ties)) records name ts
+    pub knn-right : g.order ≡ Some RightLeft
+        → CallMatchingBy d is_knn s rec (Ok (knn_at k.first g options Right)) records name ts
     unfolding match_knn bound_on negate
-    knn-right f = knn-matched Right (knn-match RightLeft f) (λ e. (refl, refl))
+    knn-right f = knn-matched Right (knn-match (Some RightLeft) f) (λ e. (refl, refl))

@@ -1,4 +1,5 @@
 -- What each return of `knn_flags` and `knn_options` answers, and what their calls require.
+use Rattle.std.specs.Prelude.{Some, None}
 use Prim.Native.Nat.{ℕ, ◌+◌, ◌-◌, ◌≤◌}
 use native.Mathlib.Omega.{arith}
 use mathlib.Core.Path.{◌≡◌, refl, sym, ap, ap₂, ◌∙◌}
@@ -14,18 +15,10 @@ use Rattle.expression.specs.Nodes.{Row, OfTree, OfTrees}
 use Rattle.expression.proofs.Standing.{first-stands, rest-stands, no-children, some-children}
 use Rattle.expression.proofs.Parts.{two-of}
 use Rattle.leaf_matching.proofs.LiteralLaws.{k-ten, flag-ten}
-use Rattle.leaf_matching.specs.Literals.{number_is, flag_is}
 use Rattle.sedona_query_planner.specs.Predicates.{flag}
 use Rattle.leaf_matching.specs.KnnOptions.{spheroid_of, ties_of, FlagsAre, OptionsAre}
-use Rattle.leaf_matching.specs.declared.literal_arguments.LiteralU32.{LiteralU32}
-use Rattle.leaf_matching.specs.declared.literal_arguments.LiteralU32.TheVariants as number
-use Rattle.leaf_matching.specs.declared.literal_arguments.LiteralBool.{LiteralBool}
-use Rattle.leaf_matching.specs.declared.literal_arguments.LiteralBool.TheVariants as boolean
-use Rattle.sedona_query_planner.specs.declared.spatial_predicate.TieBreakers.{TieBreakers}
-use Rattle.sedona_query_planner.specs.declared.spatial_predicate.TieBreakers.TheVariants.{Given, Absent}
 use Rattle.leaf_matching.specs.declared.knn.KnnFlags.{KnnFlags}
-use Rattle.leaf_matching.specs.declared.knn.KnnFlags.TheVariants as flags
-use Rattle.leaf_matching.specs.declared.knn.KnnOptions.TheVariants as options
+use Rattle.leaf_matching.specs.declared.knn.KnnOptions.{KnnOptions}
 
 -- ---- rows by their length
 
@@ -59,78 +52,87 @@ request-is d a b k (cons s (cons t (cons u ts))) h = absurd (omega arith)
 
 -- ---- the answers
 
-module _ {s : List ℕ} {at n : ℕ} where
-  pub flags-none : n ≡ 0 → OfTrees s at n (FlagsAre (flags.Read false Absent))
-  flags-none e c ts row = no-children (FlagsAre (flags.Read false Absent)) (refl, refl) ts (row.counted ∙ e)
+-- The options without k and flags.
+abbrev default_options : (d : ℕ) → KnnOptions
+default_options d = record { k = d; flags = record { use_spheroid = false; include_tie_breakers = None } }
 
-  module _ (some_left : n ≡ 0 → ⊥) (first : LiteralBool) (is : OfTree s at (λ t. flag_is first ≡ literal_bool t)) where
-    pub flags-unread : first ≡ boolean.Nothing → OfTrees s at n (FlagsAre flags.Nothing)
-    flags-unread e c ts row = some-children (λ ts. Row c s at n ts → FlagsAre flags.Nothing ts)
-        (λ t ts w k a b. ap (λ (x : Option ℕ). knn_literals k x (ties_of (cons t ts)) a b) (sym (is c t (first-stands w)) ∙ ap flag_is e)
+module _ {s : List ℕ} {at n : ℕ} where
+  pub flags-none : n ≡ 0 → OfTrees s at n (FlagsAre (Some (record { use_spheroid = false; include_tie_breakers = None })))
+  flags-none e c ts row =
+      no-children (FlagsAre (Some (record { use_spheroid = false; include_tie_breakers = None }))) (refl, refl) ts (row.counted ∙ e)
+
+  module _ (some_left : n ≡ 0 → ⊥) where
+    pub flags-unread : OfTree s at (λ t. none ≡ literal_bool t) → OfTrees s at n (FlagsAre None)
+    flags-unread is c ts row = some-children (λ ts. Row c s at n ts → FlagsAre None ts)
+        (λ t ts w k a b. ap (λ (x : Option ℕ). knn_literals k x (ties_of (cons t ts)) a b) (sym (is c t (first-stands w)))
         ∙ no-spheroid k _ a b)
         ts (omega (arith, row.counted)) row
 
-    module _ (spheroid : Bool) (e : first ≡ boolean.Value spheroid) where
+    module _ (spheroid : Bool) (is : OfTree s at (λ t. some (flag spheroid) ≡ literal_bool t)) where
       -- The next literal stands ten bytes on.
       pub flag-next : OfTree s at (λ t. at + 10 ≡ at + length (expr_bytes t))
-      flag-next c t st = ap (λ (k : ℕ). at + k) (sym (flag-ten t (flag spheroid) (sym (ap flag_is e) ∙ is c t st)))
+      flag-next c t st = ap (λ (k : ℕ). at + k) (sym (flag-ten t (flag spheroid) (is c t st)))
 
-      pub flags-one : n ≡ 1 → OfTrees s at n (FlagsAre (flags.Read spheroid Absent))
-      flags-one k c ts row = one-child (λ ts. Row c s at n ts → FlagsAre (flags.Read spheroid Absent) ts)
-          (λ t w. (sym (is c t (first-stands w)) ∙ ap flag_is e, refl)) ts (row.counted ∙ k) row
+      pub flags-one : n ≡ 1 → OfTrees s at n (FlagsAre (Some (record { use_spheroid = spheroid; include_tie_breakers = None })))
+      flags-one k c ts row = one-child
+          (λ ts. Row c s at n ts → FlagsAre (Some (record { use_spheroid = spheroid; include_tie_breakers = None })) ts)
+          (λ t w. (sym (is c t (first-stands w)), refl)) ts (row.counted ∙ k) row
 
-      module _ (more_left : n ≡ 1 → ⊥) (second : LiteralBool) (next : OfTree s (at + 10) (λ t. flag_is second ≡ literal_bool t)) where
-        second_is : (c : Columns) (t u : Expr) (ts : Exprs) → Row c s at n (cons t (cons u ts)) → flag_is second ≡ literal_bool u
-        second_is c t u ts w = next c u (first-stands (rest-stands w (at + 10) (n - 1) (flag-next c t (first-stands w)) (omega arith)))
+      module _ (more_left : n ≡ 1 → ⊥) where
+        second_is : {x : Option ℕ} → OfTree s (at + 10) (λ t. x ≡ literal_bool t) → (c : Columns) (t u : Expr) (ts : Exprs)
+            → Row c s at n (cons t (cons u ts)) → x ≡ literal_bool u
+        second_is next c t u ts w =
+            next c u (first-stands (rest-stands w (at + 10) (n - 1) (flag-next c t (first-stands w)) (omega arith)))
 
-        pub ties-unread : second ≡ boolean.Nothing → OfTrees s at n (FlagsAre flags.Nothing)
-        ties-unread f c ts row = two-of (λ ts. Row c s at n ts → FlagsAre flags.Nothing ts)
-            (λ t u ts w k a b. ap (λ (x : Option ℕ). knn_literals k (literal_bool t) x a b) (sym (second_is c t u ts w) ∙ ap flag_is f)
+        pub ties-unread : OfTree s (at + 10) (λ t. none ≡ literal_bool t) → OfTrees s at n (FlagsAre None)
+        ties-unread next c ts row = two-of (λ ts. Row c s at n ts → FlagsAre None ts)
+            (λ t u ts w k a b. ap (λ (x : Option ℕ). knn_literals k (literal_bool t) x a b) (sym (second_is next c t u ts w))
             ∙ no-ties k _ a b)
             ts (omega (arith, row.counted)) row
 
-        pub flags-two : (ties : Bool) → second ≡ boolean.Value ties → OfTrees s at n (FlagsAre (flags.Read spheroid (Given ties)))
-        flags-two ties f c ts row = two-of (λ ts. Row c s at n ts → FlagsAre (flags.Read spheroid (Given ties)) ts)
-            (λ t u ts w. (sym (is c t (first-stands w)) ∙ ap flag_is e, sym (second_is c t u ts w) ∙ ap flag_is f))
+        pub flags-two : (ties : Bool) → OfTree s (at + 10) (λ t. some (flag ties) ≡ literal_bool t)
+            → OfTrees s at n (FlagsAre (Some (record { use_spheroid = spheroid; include_tie_breakers = Some ties })))
+        flags-two ties next c ts row = two-of
+            (λ ts. Row c s at n ts → FlagsAre (Some (record { use_spheroid = spheroid; include_tie_breakers = Some ties })) ts)
+            (λ t u ts w. (sym (is c t (first-stands w)), sym (second_is next c t u ts w)))
             ts (omega (arith, row.counted)) row
 
-  pub options-none : (d : ℕ) → n ≡ 0 → OfTrees s at n (OptionsAre d (options.Read d false Absent))
+  pub options-none : (d : ℕ) → n ≡ 0 → OfTrees s at n (OptionsAre d (Some (default_options d)))
   unfolding knn_request_by
-  options-none d e c ts row = no-children (OptionsAre d (options.Read d false Absent)) (λ a b. refl) ts (row.counted ∙ e)
+  options-none d e c ts row = no-children (OptionsAre d (Some (default_options d))) (λ a b. refl) ts (row.counted ∙ e)
 
-  module _ (d : ℕ) (some_left : n ≡ 0 → ⊥) (few : n ≤ 3) (first : LiteralU32) (is : OfTree s at (λ t. number_is first ≡ literal_k t)) where
-    pub k-unread : first ≡ number.Nothing → OfTrees s at n (OptionsAre d options.Nothing)
+  module _ (d : ℕ) (some_left : n ≡ 0 → ⊥) (few : n ≤ 3) where
+    pub k-unread : OfTree s at (λ t. none ≡ literal_k t) → OfTrees s at n (OptionsAre d None)
     unfolding count knn_literals
-    k-unread e c ts row = some-children (λ ts. Row c s at n ts → OptionsAre d options.Nothing ts)
+    k-unread is c ts row = some-children (λ ts. Row c s at n ts → OptionsAre d None ts)
         (λ t ts w a b. request-is d a b t ts (omega (arith, w.counted))
-        ∙ ap (λ (x : Option ℕ). knn_literals x (spheroid_of ts) (ties_of ts) a b) (sym (is c t (first-stands w)) ∙ ap number_is e))
+        ∙ ap (λ (x : Option ℕ). knn_literals x (spheroid_of ts) (ties_of ts) a b) (sym (is c t (first-stands w))))
         ts (omega (arith, row.counted)) row
 
-    module _ (k : ℕ) (e : first ≡ number.Value k) where
+    module _ (k : ℕ) (is : OfTree s at (λ t. some k ≡ literal_k t)) where
       pub k-next : OfTree s at (λ t. at + 10 ≡ at + length (expr_bytes t))
-      k-next c t st = ap (λ (m : ℕ). at + m) (sym (k-ten t k (sym (ap number_is e) ∙ is c t st)))
+      k-next c t st = ap (λ (m : ℕ). at + m) (sym (k-ten t k (is c t st)))
 
-      module _ (after : KnnFlags) (rest : OfTrees s (at + 10) (n - 1) (FlagsAre after)) where
-        rest-is : (c : Columns) (t : Expr) (ts : Exprs) → Row c s at n (cons t ts) → FlagsAre after ts
-        rest-is c t ts w = rest c ts (rest-stands w (at + 10) (n - 1) (k-next c t (first-stands w)) (omega arith))
+      -- With k known, the request is that of the flags, which stand after it.
+      with-flags : (c : Columns) (t : Expr) (ts : Exprs) → Row c s at n (cons t ts) → (a b : Expr)
+          → knn_request_by d (cons a (cons b (cons t ts))) ≡ knn_literals (some k) (spheroid_of ts) (ties_of ts) a b
+      unfolding count
+      with-flags c t ts w a b = request-is d a b t ts (omega (arith, w.counted))
+          ∙ ap (λ (x : Option ℕ). knn_literals x (spheroid_of ts) (ties_of ts) a b) (sym (is c t (first-stands w)))
 
-        -- With k known, the request is that of the flags.
-        with-flags : (c : Columns) (t : Expr) (ts : Exprs) → Row c s at n (cons t ts) → (a b : Expr)
-            → knn_request_by d (cons a (cons b (cons t ts))) ≡ knn_literals (some k) (spheroid_of ts) (ties_of ts) a b
-        unfolding count
-        with-flags c t ts w a b = request-is d a b t ts (omega (arith, w.counted))
-            ∙ ap (λ (x : Option ℕ). knn_literals x (spheroid_of ts) (ties_of ts) a b) (sym (is c t (first-stands w)) ∙ ap number_is e)
+      after-k : (c : Columns) (t : Expr) (ts : Exprs) → Row c s at n (cons t ts) → Row c s (at + 10) (n - 1) ts
+      after-k c t ts w = rest-stands w (at + 10) (n - 1) (k-next c t (first-stands w)) (omega arith)
 
-        pub options-unread : after ≡ flags.Nothing → OfTrees s at n (OptionsAre d options.Nothing)
-        options-unread f c ts row = some-children (λ ts. Row c s at n ts → OptionsAre d options.Nothing ts)
-            (λ t ts w a b. with-flags c t ts w a b ∙ (rw f at (rest-is c t ts w)) (some k) a b)
-            ts (omega (arith, row.counted)) row
+      pub options-unread : OfTrees s (at + 10) (n - 1) (FlagsAre None) → OfTrees s at n (OptionsAre d None)
+      options-unread rest c ts row = some-children (λ ts. Row c s at n ts → OptionsAre d None ts)
+          (λ t ts w a b. with-flags c t ts w a b ∙ rest c ts (after-k c t ts w) (some k) a b)
+          ts (omega (arith, row.counted)) row
 
-        pub options-read : (spheroid : Bool) (ties : TieBreakers) → after ≡ flags.Read spheroid ties
-            → OfTrees s at n (OptionsAre d (options.Read k spheroid ties))
-        unfolding knn_literals
-        options-read spheroid ties f c ts row = some-children (λ ts. Row c s at n ts → OptionsAre d (options.Read k spheroid ties) ts)
-            (λ t ts w a b.
-            let both : FlagsAre (flags.Read spheroid ties) ts = rw f at (rest-is c t ts w) in
-            with-flags c t ts w a b ∙ ap₂ (λ (x y : Option ℕ). knn_literals (some k) x y a b) both.0 both.1)
-            ts (omega (arith, row.counted)) row
+      pub options-read : (flags : KnnFlags) → OfTrees s (at + 10) (n - 1) (FlagsAre (Some flags))
+          → OfTrees s at n (OptionsAre d (Some (record { k = k; flags = flags })))
+      unfolding knn_literals
+      options-read flags rest c ts row = some-children (λ ts. Row c s at n ts → OptionsAre d (Some (record { k = k; flags = flags })) ts)
+          (λ t ts w a b.
+          let both = rest c ts (after-k c t ts w) in
+          with-flags c t ts w a b ∙ ap₂ (λ (x y : Option ℕ). knn_literals (some k) x y a b) both.0 both.1)
+          ts (omega (arith, row.counted)) row

@@ -1,20 +1,19 @@
 -- Laws of literals: what stands in their bytes, and what number or flag they are.
-use Rattle.std.specs.Prelude.{if◌then◌else◌}
+use Rattle.std.specs.Prelude.{if◌then◌else◌, Result, Ok, Err, OkIff}
+use Rattle.std.specs.Result.{result_ok}
+use Rattle.std.specs.Int.{FitsUnsignedBits}
 use Prim.Native.Nat.{ℕ, zero, suc, ◌+◌, ◌*◌, ◌-◌, ◌/◌, ◌%◌, ◌≤◌, ◌<◌}
 use native.Mathlib.Omega.{arith}
 use native.Mathlib.Nat.{add-zero}
 use mathlib.Core.Path.{◌≡◌, refl, sym, ap, ap₂, ◌∙◌}
-use mathlib.Core.Bool.{true, false, ◌||◌, false≢true}
+use mathlib.Core.Bool.{true, ◌||◌}
 use mathlib.Core.List.{List, [], ◌∷◌}
 use mathlib.Core.Logic.{◌⊎◌, inl, inr, ⊎_elim}
 use mathlib.Core.Option.{Option, none, some, some-ne-none}
 use lib.ListN.{length, get_or}
 use lib.IntN.{ℤ, pos, negsuc, nat_abs}
-use lib.Dec.{T, eqb}
-use lib.Signed.{lt_z, le_z, non_neg}
-use mir.Syntax.{w8, w32}
-use mir.Val.{Fits}
-use borrow.Author.Tests.{ne_eqb, leb-true, ltb-true}
+use lib.Dec.{eqb}
+use borrow.Author.Tests.{le-leb, lt-leb, ne_eqb, leb-true}
 use Rattle.definitions.specs.Basics.{given◌then◌else◌, big_endian}
 use Rattle.definitions.specs.Expression.{Expr, column, literal, and, binary, call, other, field}
 use Rattle.definitions.specs.Encode.{expr_bytes}
@@ -25,12 +24,12 @@ use Rattle.definitions.specs.Match.{literal_u32, literal_k, literal_bool}
 use Rattle.theorems.proofs.ReaderLaws.{same_read}
 use Rattle.theorems.proofs.RoundTrip.{number-reads}
 use Rattle.theorems.proofs.KLaws.{is-k, zero-no-k}
-use Rattle.expression.specs.Places.{Holds, short_at}
+use Rattle.expression.specs.Places.{Holds}
 use Rattle.expression.specs.Nodes.{head_bytes, kind_of, Stands}
 use Rattle.expression.proofs.Placed.{byte_at, next}
 use Rattle.expression.proofs.OfKind.{a-literal}
 use Rattle.expression.proofs.Standing.{head-stands, head-fits, kind-is}
-use Rattle.leaf_matching.specs.Literals.{long_at}
+use Rattle.leaf_matching.specs.Literals.{long_at, number_is}
 use Rattle.sedona_query_planner.specs.Predicates.{flag}
 
 -- ---- eight bytes
@@ -56,27 +55,19 @@ long-is {s} {at} {v} h b =
     let b7 : get_or s (at + 6 + 1) 0 ≡ v / 1 % 256 = ap (λ (p : ℕ). get_or s p 0) (omega arith) ∙ byte_at h 7 (omega arith) in
     omega (arith, long_of v b)
 
--- Two bytes are a number below 65,536.
-pub short-below : (s : List ℕ) → ((i : ℕ) → Fits w8 (get_or s i 0)) → (at r : ℕ) → r ≡ short_at s at → r < 65536
-short-below s h at r e = omega (arith, e, (h at).fits, (h (at + 1)).fits)
+-- ---- numbers of 32 bits
 
--- ---- signed numbers
-
-pub negative-is : (z : ℤ) → lt_z z (pos 0) ≡ true → none ≡ u32 z
+pub u32-of : {E : Type 0} (n : ℕ) (read : Result ℕ E) → OkIff read (n < 4294967296) n → number_is (result_ok read) ≡ u32 (pos n)
 unfolding u32
-negative-is (pos n) h = absurd (omega (arith, ltb-true n 0 h))
-negative-is (negsuc n) h = refl
+u32-of n (Ok x) is = rw (le-leb n 4294967295 (omega (arith, is.0))) (ap some is.1)
+u32-of n (Err why) is = rw (lt-leb n 4294967295 (omega (arith, is)))
 
-pub small_is : (z : ℤ) → lt_z z (pos 0) ≡ false → le_z z (pos 4294967295) ≡ true
-    → (T (non_neg z) × Fits w32 (nat_abs z)) × (some (nat_abs z) ≡ u32 z)
+pub u32-of-signed : {E : Type 0} (z : ℤ) (read : Result ℕ E) → OkIff read (FitsUnsignedBits 32 z) (nat_abs z)
+    → number_is (result_ok read) ≡ u32 z
 unfolding u32
-small_is (pos n) low high = ((tt, record { fits = omega (arith, leb-true n 4294967295 high) }), rw high)
-small_is (negsuc n) low high = absurd (false≢true (sym low))
-
-pub large_is : (z : ℤ) → lt_z z (pos 0) ≡ false → le_z z (pos 4294967295) ≡ false → none ≡ u32 z
-unfolding u32
-large_is (pos n) low high = rw high
-large_is (negsuc n) low high = refl
+u32-of-signed (pos n) read is = u32-of n read is
+u32-of-signed (negsuc n) (Ok x) is = absurd is.0
+u32-of-signed (negsuc n) (Err why) is = refl
 
 -- ---- by type
 

@@ -6,7 +6,7 @@ use mathlib.Core.Bool.{Bool}
 use mathlib.Core.List.{List}
 use lib.ListN.{length}
 use Rattle.definitions.specs.Basics.{same_name}
-use Rattle.definitions.specs.Expression.{Expr, Exprs, cons, count, Record}
+use Rattle.definitions.specs.Expression.{Expr, Exprs, cons, Record}
 use Rattle.definitions.specs.Encode.{expr_bytes}
 use Rattle.definitions.specs.Decode.{index_below}
 use Rattle.definitions.specs.Match.{side_of, order_of}

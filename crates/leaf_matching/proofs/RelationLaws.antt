@@ -1,4 +1,5 @@
 -- What each return of `match_relation_predicate` answers.
+use Rattle.std.specs.Prelude.{Option, Some, None, Ok, Err}
 use Prim.Native.Nat.{ℕ, ◌≤◌, ◌<◌}
 use native.Mathlib.Omega.{arith}
 use mathlib.Core.Path.{◌≡◌, refl, sym, ap, ◌∙◌}
@@ -21,10 +22,10 @@ use Rattle.leaf_matching.specs.Sides.{order, GeometriesAre}
 use Rattle.leaf_matching.specs.Matches.{is_relation, Lacks, CallMatching}
 use Rattle.leaf_matching.specs.declared.sides.Geometries.{Geometries}
 use Rattle.leaf_matching.specs.declared.sides.Order.{Order}
-use Rattle.leaf_matching.specs.declared.sides.Order.TheVariants.{LeftRight, RightLeft, Neither}
+use Rattle.leaf_matching.specs.declared.sides.Order.TheVariants.{LeftRight, RightLeft}
 use Rattle.sedona_query_planner.specs.declared.spatial_predicate.SpatialPredicate.{SpatialPredicate}
 use Rattle.sedona_query_planner.specs.declared.spatial_predicate.SpatialPredicate.TheVariants.{Relation}
-use Rattle.leaf_matching.specs.declared.matching.Matching.TheVariants.{Matched, Unmatched}
+use Rattle.leaf_matching.specs.declared.matching.NoMatch.TheVariants.{Unmatched}
 use Rattle.leaf_matching.proofs.Asked.{none-lacks}
 use Rattle.leaf_matching.proofs.MatchLaws.{Pair, call-pair}
 
@@ -77,35 +78,35 @@ module _ {s : List ℕ} {rec : ℕ} {k : Called} {g : Geometries} {type : Spatia
   pair : Pair s rec k.first k.count records g ts
   pair = call-pair g w.geometries w.enough ts over
 
-  relation-match : (o : Order) → g.order ≡ o
+  relation-match : (o : Option Order) → g.order ≡ o
       → match_leaf records (call name ts) ≡ match_relation (relation_of type) (on_child records pair.a) (on_child records pair.b) (order o)
   unfolding match_request relation_request
   relation-match o f = relation-leaf records name ts (ap relation_named (sym over.stands.spelling) ∙ w.named)
       ∙ ap (λ (ts : Exprs). match_request records (relation_request (some (relation_of type)) ts)) pair.is
       ∙ ap (match_relation (relation_of type) (on_child records pair.a) (on_child records pair.b)) (sym pair.lie ∙ ap order f)
 
-  pub relation-neither : g.order ≡ Neither → CallMatching is_relation s rec Unmatched records name ts
+  pub relation-neither : g.order ≡ None → CallMatching is_relation s rec (Err Unmatched) records name ts
   unfolding match_relation
-  relation-neither f = relation-match Neither f
+  relation-neither f = relation-match None f
 
-  pub relation-left : g.order ≡ LeftRight
-      → CallMatching is_relation s rec (Matched (relation_at k.first g.second g.second g.end type)) records name ts
+  pub relation-left : g.order ≡ Some LeftRight
+      → CallMatching is_relation s rec (Ok (relation_at k.first g.second g.second g.end type)) records name ts
   unfolding match_relation is_relation bound_on
   relation-left f =
       record {
         q = relation (relation_of type) (on_child records pair.a) (on_child records pair.b);
-        is = relation-match LeftRight f;
+        is = relation-match (Some LeftRight) f;
         passes = refl;
         stands = record { l = pair.a; r = pair.b; left = pair.first; right = pair.second; is = refl };
       }
 
-  pub relation-right : (inverse : SpatialRelationType) → relation_of inverse ≡ invert (relation_of type) → g.order ≡ RightLeft
-      → CallMatching is_relation s rec (Matched (relation_at g.second g.end k.first g.second inverse)) records name ts
+  pub relation-right : (inverse : SpatialRelationType) → relation_of inverse ≡ invert (relation_of type) → g.order ≡ Some RightLeft
+      → CallMatching is_relation s rec (Ok (relation_at g.second g.end k.first g.second inverse)) records name ts
   unfolding match_relation is_relation bound_on
   relation-right inverse i f =
       record {
         q = relation (invert (relation_of type)) (on_child records pair.b) (on_child records pair.a);
-        is = relation-match RightLeft f;
+        is = relation-match (Some RightLeft) f;
         passes = refl;
         stands = record {
           l = pair.b;

@@ -1,4 +1,5 @@
 -- What each return of `collect_column_references` and `collect_children` answers.
+use Rattle.std.specs.Prelude.{Option}
 use Prim.Native.Nat.{ℕ, ◌+◌, ◌-◌, ◌*◌, ◌≤◌, ◌<◌}
 use native.Mathlib.Omega.{arith}
 use mathlib.Core.Path.{◌≡◌, refl, sym, ap, ap₂, ◌∙◌, subst}
@@ -92,31 +93,33 @@ module _ {s : List ℕ} {rec at : ℕ} {seen : Sides} {records : List Record} wh
 -- ---- the loop over a row
 
 -- What it keeps: what is right for the expressions left is right for the whole row.
-pub record Seeing (s : List ℕ) (rec at n : ℕ) (seen : Sides) (next left : ℕ) (sides : Sides) : Type 0 where
-  pub there : FramedAll s rec next left
-  pub low : at ≤ next
-  pub rest : (r : Argument) → OfFrameAll s rec next left (SidesAre next sides r) → OfFrameAll s rec at n (SidesAre at seen r)
+pub record Seeing (s : List ℕ) (rec at n : ℕ) (seen : Sides) (left : ℕ) (walked : Argument) : Type 0 where
+  pub there : FramedAll s rec walked.end left
+  pub low : at ≤ walked.end
+  pub rest : (r : Argument) → OfFrameAll s rec walked.end left (SidesAre walked.end walked.side r)
+      → OfFrameAll s rec at n (SidesAre at seen r)
 
 module _ {s : List ℕ} {rec at n : ℕ} {seen : Sides} where
-  pub seeing-begins : FramedAll s rec at n → Seeing s rec at n seen at n seen
-  seeing-begins there = record { there = there; low = omega arith; rest = λ r is. is }
+  pub seeing-begins : FramedAll s rec at n → (left : ℕ) → n ≡ left → Seeing s rec at n seen left (record { end = at; side = seen })
+  seeing-begins there left e = subst (λ (k : ℕ). Seeing s rec at n seen k (record { end = at; side = seen })) e
+      (record { there = there; low = omega arith; rest = λ r is. is })
 
-  module _ {next left : ℕ} {sides : Sides} (inv : Seeing s rec at n seen next left sides) where
-    pub seeing-first : 0 < left → Framed s rec next
+  module _ {left : ℕ} {walked : Argument} (inv : Seeing s rec at n seen left walked) where
+    pub seeing-first : 0 < left → Framed s rec walked.end
     seeing-first some = first-framed inv.there (λ z. omega arith)
 
-    pub seeing-goes-on : 0 < left → (r : Argument) → OfFrame s rec next (SideIs next sides r)
-        → Seeing s rec at n seen r.end (left - 1) r.side
-    seeing-goes-on some r is =
+    pub seeing-goes-on : 0 < left → (r : Argument) → OfFrame s rec walked.end (SideIs walked.end walked.side r)
+        → (fewer : ℕ) → left - 1 ≡ fewer → Seeing s rec at n seen fewer r
+    seeing-goes-on some r is fewer e =
         let first = seeing-first some in
-        record {
+        subst (λ (k : ℕ). Seeing s rec at n seen k r) e (record {
           there = rest-framed inv.there (λ z. omega arith) r.end (λ records t o. (is records t o).end);
           low = omega (arith, inv.low, (is first.0 first.1 first.2).end);
           rest = λ q others. inv.rest q (λ records ts o. sides-some ts o (λ z. omega arith) r q is others);
-        }
+        })
 
-    pub seeing-ends : left ≤ 0 → OfFrameAll s rec at n (SidesAre at seen (record { end = next; side = sides }))
-    seeing-ends none = inv.rest (record { end = next; side = sides }) (λ records ts o. sides-none ts o (omega arith))
+    pub seeing-ends : left ≤ 0 → OfFrameAll s rec at n (SidesAre at seen walked)
+    seeing-ends none = inv.rest walked (λ records ts o. sides-none ts o (omega arith))
 
 -- What has been seen in the end is the side of the argument.
 pub argument_is : {at : ℕ} {records : List Record} {t : Expr} (r : Argument) → SideIs at NoColumns r records t → ArgumentIs at r records t
@@ -144,7 +147,7 @@ module _ {s : List ℕ} {rec at i : ℕ} {numbers next : List ℕ} (tabled : OfF
     second-framed p = (p.0, p.2, second-over p.3)
 
     pub geometries-are : (a b : Argument) → OfFrame s rec at (ArgumentIs at a) → OfFrame s rec two.middle (ArgumentIs two.middle b)
-        → (o : Order) → order o ≡ order_of (argument_side a.side) (argument_side b.side)
+        → (o : Option Order) → order o ≡ order_of (argument_side a.side) (argument_side b.side)
         → OfFrameTwo s rec at (GeometriesAre at (record { second = two.middle; end = two.end; order = o }))
     geometries-are a b one other o e records x y over =
         let first : ArgumentIs at a records x = one records x over.one in

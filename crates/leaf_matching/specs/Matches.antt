@@ -1,13 +1,13 @@
 -- What matching a leaf answers.
-use Rattle.std.specs.Prelude.{ℕ, ◌≡◌, Bool, true, false, List}
+use Rattle.std.specs.Prelude.{ℕ, ◌≡◌, Bool, true, false, List, Result, Ok, Err}
 use Rattle.std.proofs.Math.Option.{Option, none, some}
 use Rattle.definitions.specs.Expression.{Expr, Exprs, call, Record, Predicate, relation, distance, knn}
 use Rattle.definitions.specs.Match.{match_leaf_by}
 use Rattle.definitions.specs.Settings.{Settings, allowed, passing}
 use Rattle.sedona_query_planner.specs.Predicates.{Change, on_children, PredicateAt}
 use Rattle.sedona_query_planner.specs.declared.spatial_predicate.SpatialPredicate.{SpatialPredicate}
-use Rattle.leaf_matching.specs.declared.matching.Matching.{Matching}
-use Rattle.leaf_matching.specs.declared.matching.Matching.TheVariants.{Matched, Unmatched, NotAsked}
+use Rattle.leaf_matching.specs.declared.matching.NoMatch.{NoMatch}
+use Rattle.leaf_matching.specs.declared.matching.NoMatch.TheVariants.{Unmatched, NotAsked}
 
 -- ---- kinds of predicates
 
@@ -34,12 +34,16 @@ pub record Matches (kind : Predicate → Bool) (s : List ℕ) (rec : ℕ) (recor
   pub passes : kind q ≡ true
   pub stands : PredicateAt (on_children records) s p q
 
+-- What is answered: a predicate, or why there is none.
+abbrev pub Matching : Type 0
+Matching = Result SpatialPredicate NoMatch
+
 -- The answer for a leaf with this match.
 abbrev pub MatchingIs : (kind : Predicate → Bool) (s : List ℕ) (rec : ℕ) (records : List Record) (match : Option Predicate)
     → Matching → Type 0
-MatchingIs kind s rec records match (Matched p) = Matches kind s rec records p match
-MatchingIs kind s rec records match Unmatched = match ≡ none
-MatchingIs kind s rec records match NotAsked = Lacks kind match
+MatchingIs kind s rec records match (Ok p) = Matches kind s rec records p match
+MatchingIs kind s rec records match (Err Unmatched) = match ≡ none
+MatchingIs kind s rec records match (Err NotAsked) = Lacks kind match
 
 -- The answer for a leaf, and for one that is a function, with this default k.
 abbrev pub LeafMatchingBy : (default_k : ℕ) (kind : Predicate → Bool) (s : List ℕ) (rec : ℕ) → Matching

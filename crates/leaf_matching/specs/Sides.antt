@@ -1,24 +1,24 @@
 -- What the answers about sides mean.
-use Rattle.std.specs.Prelude.{ℕ, ◌+◌, ◌≡◌, List, [], ◌∷◌, map, length, if◌then◌else◌}
+use Rattle.std.specs.Prelude.{ℕ, ◌+◌, ◌≡◌, List, [], ◌∷◌, map, length, if◌then◌else◌, Option, Some, None}
 use Rattle.definitions.specs.Expression.{Side, left, right, no_side, Expr, Exprs, Record}
 use Rattle.definitions.specs.Encode.{expr_bytes, exprs_bytes}
 use Rattle.definitions.specs.Match as definition
 use Rattle.definitions.specs.Match.{columns_of, columns_of_all, record_at, same_side, ArgumentSide, no_columns, all_on, mixed, side_of, order_of}
 use Rattle.terms.specs.Sides.{join_side}
 use Rattle.terms.specs.declared.sides.JoinSide.{JoinSide}
-use Rattle.terms.specs.declared.sides.JoinSide.TheVariants.{Left, Right, None}
+use Rattle.terms.specs.declared.sides.JoinSide.TheVariants as side
 use Rattle.leaf_matching.specs.declared.sides.Sides.{Sides}
 use Rattle.leaf_matching.specs.declared.sides.Sides.TheVariants.{NoColumns, AllOn, Mixed}
 use Rattle.leaf_matching.specs.declared.sides.Argument.{Argument}
 use Rattle.leaf_matching.specs.declared.sides.Geometries.{Geometries}
 use Rattle.leaf_matching.specs.declared.sides.Order.{Order}
-use Rattle.leaf_matching.specs.declared.sides.Order.TheVariants.{LeftRight, RightLeft, Neither}
+use Rattle.leaf_matching.specs.declared.sides.Order.TheVariants.{LeftRight, RightLeft}
 
 -- The case that each side is.
 abbrev pub side_for : Side → JoinSide
-side_for left = Left
-side_for right = Right
-side_for no_side = None
+side_for left = side.Left
+side_for right = side.Right
+side_for no_side = side.None
 
 -- The side of the columns seen.
 abbrev pub argument_side : Sides → ArgumentSide
@@ -27,10 +27,10 @@ argument_side (AllOn side) = all_on (join_side side)
 argument_side Mixed = mixed
 
 -- How two geometries lie.
-abbrev pub order : Order → definition.Order
-order LeftRight = definition.left_right
-order RightLeft = definition.right_left
-order Neither = definition.no_order
+abbrev pub order : Option Order → definition.Order
+order (Some LeftRight) = definition.left_right
+order (Some RightLeft) = definition.right_left
+order None = definition.no_order
 
 -- One column more, and a list of them.
 abbrev pub see : Sides → Side → Sides

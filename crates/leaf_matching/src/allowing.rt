@@ -2,7 +2,7 @@
 ghost use Rattle.terms.specs.Settings.{settings_of};
 ghost use Rattle.leaf_matching.specs.Matches.{AllowedIs, Allows};
 
-use super::matching::Matching;
+use super::matching::{Matching, NoMatch};
 use sedona_query_planner::spatial_predicate::SpatialPredicate;
 use terms::settings::Settings;
 
@@ -14,10 +14,7 @@ fn is_allowed(settings: Settings, predicate: SpatialPredicate) -> bool
         SpatialPredicate::Relation(_) => settings.kinds % 2 == 1,
         SpatialPredicate::Distance(_) => settings.kinds / 2 % 2 == 1,
         SpatialPredicate::KNearestNeighbors(p) => {
-            if settings.kinds / 4 % 2 != 1 {
-                return false;
-            }
-            p.k <= settings.greatest_k
+            settings.kinds / 4 % 2 == 1 && p.k <= settings.greatest_k
         }
     }
 }
@@ -26,14 +23,10 @@ fn is_allowed(settings: Settings, predicate: SpatialPredicate) -> bool
 pub fn only_allowed(settings: Settings, matching: Matching) -> Matching
     ensures { Allows (settings_of settings) matching result }
 {
-    match matching {
-        Matching::Matched(predicate) => {
-            if !is_allowed(settings, predicate) {
-                return Matching::Unmatched;
-            }
-            Matching::Matched(predicate)
-        }
-        Matching::Unmatched => Matching::Unmatched,
-        Matching::NotAsked => Matching::NotAsked,
+    let predicate = matching?;
+    if is_allowed(settings, predicate) {
+        Ok(predicate)
+    } else {
+        Err(NoMatch::Unmatched)
     }
 }

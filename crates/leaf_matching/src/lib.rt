@@ -4,6 +4,7 @@
 
 pub mod allowing;
 pub mod distance;
+pub mod filter;
 pub mod knn;
 pub mod literal_arguments;
 pub mod matching;

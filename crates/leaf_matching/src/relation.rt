@@ -6,56 +6,47 @@ ghost use Rattle.node_rows.specs.Rows.{TabledAll};
 ghost use Rattle.leaf_matching.specs.Frames.{CallFramed, OfCallFrame};
 ghost use Rattle.leaf_matching.specs.Matches.{is_relation, CallMatching};
 
-use super::matching::Matching;
+use super::filter::Filter;
+use super::matching::{Matching, NoMatch};
 use super::sides::{Order, resolve_geometries};
 use expression::leaves::Called;
 use sedona_query_planner::spatial_predicate::{
-    NamedRelation, RelationPredicate, SpatialPredicate, SpatialRelationType,
+    RelationPredicate, SpatialPredicate, SpatialRelationType,
 };
 
 // The left geometry is stored first, the type inverted where that exchanges the arguments.
 // The first argument has index i.
-pub fn match_relation_predicate(
-    s: &[u8],
-    rec: usize,
-    called: Called,
-    numbers: &[u32],
-    next: &[u16],
-    i: usize,
-) -> Matching
-    requires call_framed { CallFramed s.now rec called }
-    requires of_call { OfCall s.now called (λ c name. TabledAll numbers.now next.now called.first i) }
-    ensures { OfCallFrame s.now rec called (CallMatching is_relation s.now rec result) }
+pub fn match_relation_predicate(filter: Filter, called: Called, i: usize) -> Matching
+    requires call_framed { CallFramed filter.s.now filter.rec called }
+    requires of_call { OfCall filter.s.now called (λ c name. TabledAll filter.rows.numbers.now filter.rows.next.now called.first i) }
+    ensures { OfCallFrame filter.entry.s.now filter.entry.rec called
+        (CallMatching is_relation filter.entry.s.now filter.entry.rec result) }
 {
-    let named = SpatialRelationType::from_name(s, called.name, called.end);
-    let NamedRelation::Relation(relation_type) = named else {
-        return Matching::NotAsked;
+    let named = SpatialRelationType::from_name(filter.s, called.name, called.end);
+    let Some(relation_type) = named else {
+        return Err(NoMatch::NotAsked);
     };
-    let first = called.first;
-    let count = called.count;
-    if count < 2 {
-        return Matching::NotAsked;
+    if called.count < 2 {
+        return Err(NoMatch::NotAsked);
     }
-    let geometries = resolve_geometries(s, rec, first, numbers, next, i);
-    let second = geometries.second;
-    let rest = geometries.end;
-    let order = geometries.order;
-    let predicate = match order {
+    let geometries = resolve_geometries(filter, called.first, i);
+    let Some(order) = geometries.order else {
+        return Err(NoMatch::Unmatched);
+    };
+    Ok(SpatialPredicate::Relation(match order {
         Order::LeftRight => RelationPredicate {
-            left: first,
-            left_end: second,
-            right: second,
-            right_end: rest,
+            left: called.first,
+            left_end: geometries.second,
+            right: geometries.second,
+            right_end: geometries.end,
             relation_type,
         },
         Order::RightLeft => RelationPredicate {
-            left: second,
-            left_end: rest,
-            right: first,
-            right_end: second,
+            left: geometries.second,
+            left_end: geometries.end,
+            right: called.first,
+            right_end: geometries.second,
             relation_type: relation_type.invert(),
         },
-        Order::Neither => return Matching::Unmatched,
-    };
-    Matching::Matched(SpatialPredicate::Relation(predicate))
+    }))
 }

@@ -1,18 +1,17 @@
 // The side of the columns that an argument references.
 // A port of `collect_column_references`, `side_of_column_references` and `resolve_column_reference_sides` of
 // rust/sedona-query-planner/src/spatial_expr_utils.rs.
-ghost use Rattle.std.specs.Prelude.{◌≡◌, ◌<◌, length, get_or};
-ghost use Rattle.definitions.specs.Decode.{side_numbered};
-ghost use Rattle.definitions.specs.Match.{same_side, is_side, order_of};
+ghost use Rattle.std.specs.Prelude.{◌≡◌};
+ghost use Rattle.definitions.specs.Match.{order_of};
 ghost use Rattle.terms.specs.Sides.{join_side};
 ghost use Rattle.node_rows.specs.Rows.{Begin};
 ghost use Rattle.leaf_matching.specs.Frames.{Framed, OfFrame, FramedAll, OfFrameAll, FramedTwo, OfFrameTwo};
 ghost use Rattle.leaf_matching.specs.Sides.{argument_side, order, see, SideIs, SidesAre, ArgumentIs, GeometriesAre};
 
+use super::filter::Filter;
 use expression::fields::short_at;
 use expression::heads::head_at;
-use node_rows::pairs::two_at;
-use terms::sides::{JoinSide, side_number, side_numbered};
+use terms::sides::JoinSide;
 
 // The columns seen so far: none, all on one side, or not.
 #[derive(Clone, Copy)]
@@ -29,50 +28,30 @@ pub struct Argument {
     pub side: Sides,
 }
 
-// How two geometries lie: the first left and the second right, the other way round, or neither.
+// How two geometries lie: the first left and the second right, or the other way round.
 #[derive(Clone, Copy)]
 pub enum Order {
     LeftRight,
     RightLeft,
-    Neither,
 }
 
-// Two geometries in a row: where the second begins and ends, and how they lie.
+// Two geometries in a row: where the second begins and ends, and how they lie, if it is either way.
 #[derive(Clone, Copy)]
 pub struct Geometries {
     pub second: usize,
     pub end: usize,
-    pub order: Order,
-}
-
-// The side of the record at a place.
-fn side_at(s: &[u8], at: usize) -> JoinSide
-    requires { at < length s.now }
-    ensures { join_side result ≡ side_numbered (get_or s.now at 0) }
-{
-    side_numbered(s[at] as u64)
-}
-
-fn same_side(a: JoinSide, b: JoinSide) -> bool
-    ensures { result ≡ same_side (join_side a) (join_side b) }
-{
-    side_number(a) == side_number(b)
+    pub order: Option<Order>,
 }
 
 // One column more.
+#[tactic(auto, unfolding(definitions::specs::References::same_side))]
 fn see_side(seen: Sides, side: JoinSide) -> Sides
     ensures { result ≡ see seen (join_side side) }
 {
     match seen {
         Sides::NoColumns => Sides::AllOn(side),
-        Sides::AllOn(one) => {
-            if same_side(one, side) {
-                Sides::AllOn(one)
-            } else {
-                Sides::Mixed
-            }
-        }
-        Sides::Mixed => Sides::Mixed,
+        Sides::AllOn(one) if one == side => seen,
+        Sides::AllOn(_) | Sides::Mixed => Sides::Mixed,
     }
 }
 
@@ -84,23 +63,14 @@ fn collect_column_references(s: &[u8], rec: usize, at: usize, seen: Sides) -> Ar
 {
     if s[at] == 0 {
         let index = short_at(s, at + 1);
-        let side = side_at(s, rec + 5 * index);
-        let sides = see_side(seen, side);
+        let side = JoinSide::from(u64::from(s[rec + 5 * index]));
         return Argument {
             end: at + 5,
-            side: sides,
+            side: see_side(seen, side),
         };
     }
     let head = head_at(s, at);
-    let next = head.next;
-    let n = head.children;
-    if n == 0 {
-        return Argument {
-            end: next,
-            side: seen,
-        };
-    }
-    collect_children(s, rec, next, n, seen)
+    collect_children(s, rec, head.next, head.children, seen)
 }
 
 // The columns of n expressions in a row.
@@ -109,19 +79,14 @@ fn collect_children(s: &[u8], rec: usize, at: usize, n: usize, seen: Sides) -> A
     requires { FramedAll s.now rec at n }
     ensures { OfFrameAll s.now rec at n (SidesAre at seen result) }
 {
-    let mut next = at;
-    let mut left = n;
-    let mut sides = seen;
-    while 0 < left {
-        let one = collect_column_references(s, rec, next, sides);
-        next = one.end;
-        sides = one.side;
-        left -= 1;
+    let mut walked = Argument {
+        end: at,
+        side: seen,
+    };
+    for _ in 0..n {
+        walked = collect_column_references(s, rec, walked.end, walked.side);
     }
-    Argument {
-        end: next,
-        side: sides,
-    }
+    walked
 }
 
 // Where the argument at a place ends, and the side of its columns.
@@ -132,50 +97,30 @@ pub fn side_of_column_references(s: &[u8], rec: usize, at: usize) -> Argument
     collect_column_references(s, rec, at, Sides::NoColumns)
 }
 
-// Whether there are columns, all on this side.
-fn is_side(side: JoinSide, of: Sides) -> bool
-    ensures { result ≡ is_side (join_side side) (argument_side of) }
+#[tactic(auto, unfolding(definitions::specs::Match::order_of, definitions::specs::Match::is_side, definitions::specs::References::same_side))]
+pub fn resolve_column_reference_sides(first: Sides, second: Sides) -> Option<Order>
+    ensures { order result ≡ order_of (argument_side first) (argument_side second) }
 {
-    match of {
-        Sides::NoColumns => false,
-        Sides::AllOn(one) => same_side(side, one),
-        Sides::Mixed => false,
+    match (first, second) {
+        (Sides::AllOn(JoinSide::Left), Sides::AllOn(JoinSide::Right)) => Some(Order::LeftRight),
+        (Sides::AllOn(JoinSide::Right), Sides::AllOn(JoinSide::Left)) => Some(Order::RightLeft),
+        _ => None,
     }
-}
-
-pub fn resolve_column_reference_sides(first: Argument, second: Argument) -> Order
-    ensures { order result ≡ order_of (argument_side first.side) (argument_side second.side) }
-{
-    let a = first.side;
-    let b = second.side;
-    if is_side(JoinSide::Left, a) && is_side(JoinSide::Right, b) {
-        return Order::LeftRight;
-    }
-    if is_side(JoinSide::Right, a) && is_side(JoinSide::Left, b) {
-        return Order::RightLeft;
-    }
-    Order::Neither
 }
 
 // The geometries at a place and after it, the first of which has index i. Where they end is read from the rows.
-pub fn resolve_geometries(
-    s: &[u8],
-    rec: usize,
-    at: usize,
-    numbers: &[u32],
-    next: &[u16],
-    i: usize,
-) -> Geometries
-    requires framed_two { FramedTwo s.now rec at }
-    requires of_frame_two { OfFrameTwo s.now rec at (λ records. Begin numbers.now next.now at i) }
-    ensures { OfFrameTwo s.now rec at (GeometriesAre at result) }
+pub fn resolve_geometries(filter: Filter, at: usize, i: usize) -> Geometries
+    requires framed_two { FramedTwo filter.s.now filter.rec at }
+    requires of_frame_two { OfFrameTwo filter.s.now filter.rec at
+        (λ records. Begin filter.rows.numbers.now filter.rows.next.now at i) }
+    ensures { OfFrameTwo filter.entry.s.now filter.entry.rec at (GeometriesAre at result) }
 {
-    let two = two_at(numbers, next, i);
-    let first = side_of_column_references(s, rec, at);
-    let second = side_of_column_references(s, rec, two.middle);
+    let two = filter.rows.two(i);
+    let first = side_of_column_references(filter.s, filter.rec, at);
+    let second = side_of_column_references(filter.s, filter.rec, two.middle);
     Geometries {
         second: two.middle,
         end: two.end,
-        order: resolve_column_reference_sides(first, second),
+        order: resolve_column_reference_sides(first.side, second.side),
     }
 }

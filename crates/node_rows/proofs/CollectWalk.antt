@@ -227,19 +227,22 @@ pub record Collecting (s : List ℕ) (at n i : ℕ) (numbers next : List ℕ) (e
       → OfTrees s at n (CollectedAll at i numbers next numbers₁ next₁ r)
 
 module _ {s : List ℕ} {at n i : ℕ} {numbers next : List ℕ} where
-  pub collecting-begins : FitsAll s at n i numbers next → Collecting s at n i numbers next at n i numbers next
-  collecting-begins there = record { there = there; low = omega arith; same = refl; alike = refl; rest = λ numbers₁ next₁ r is. is }
+  pub collecting-begins : FitsAll s at n i numbers next → (left : ℕ) → n ≡ left → Collecting s at n i numbers next at left i numbers next
+  collecting-begins there left e =
+      let all : Collecting s at n i numbers next at n i numbers next =
+      record { there = there; low = omega arith; same = refl; alike = refl; rest = λ numbers₁ next₁ r is. is } in
+      subst (λ (k : ℕ). Collecting s at n i numbers next at k i numbers next) e all
 
   module _ {end left index : ℕ} {numbered followed : List ℕ} (inv : Collecting s at n i numbers next end left index numbered followed) where
     pub collecting-first : 0 < left → Fits s end index numbered followed
     collecting-first some = first_fits inv.there (λ z. omega arith)
 
     pub collecting-goes-on : 0 < left → {numbers₁ next₁ : List ℕ} → length numbers₁ ≡ length numbered → length next₁ ≡ length followed
-        → {one : Passed} → OfTree s end (Collected end index numbered followed numbers₁ next₁ one)
-        → Collecting s at n i numbers next one.end (left - 1) one.index numbers₁ next₁
-    collecting-goes-on some same alike {one} first =
+        → {one : Passed} → OfTree s end (Collected end index numbered followed numbers₁ next₁ one) → (fewer : ℕ) → left - 1 ≡ fewer
+        → Collecting s at n i numbers next one.end fewer one.index numbers₁ next₁
+    collecting-goes-on some {numbers₁} {next₁} same alike {one} first fewer e =
         let f = collecting-first some in
-        record {
+        let others : Collecting s at n i numbers next one.end (left - 1) one.index numbers₁ next₁ = record {
           there = rest-fits same alike (λ z. omega arith) first inv.there;
           low = omega (arith, inv.low, (first f.columns f.tree f.stands).ends);
           same = same ∙ inv.same;
@@ -247,7 +250,8 @@ module _ {s : List ℕ} {at n i : ℕ} {numbers next : List ℕ} where
           rest = λ numbers₂ next₂ r others. inv.rest numbers₂ next₂ r
               (λ c ts row. collects-some (omega (arith, inv.there.room.numbered))
               (omega (arith, inv.there.room.followed)) (λ z. omega arith) first others row);
-        }
+        } in
+        subst (λ (k : ℕ). Collecting s at n i numbers next one.end k one.index numbers₁ next₁) e others
 
     pub collecting-ends : left ≤ 0 → OfTrees s at n (CollectedAll at i numbers next numbered followed (record { end = end; index = index }))
     collecting-ends none =

@@ -51,16 +51,11 @@ fn collect_children(
     ensures { OfTrees s.now at n
         (CollectedAll at i numbers.old next.old numbers.new next.new result) }
 {
-    let mut end = at;
-    let mut index = i;
-    let mut left = n;
-    while 0 < left {
-        let one = collect_nodes(numbers, next, s, end, index);
-        end = one.end;
-        index = one.index;
-        left -= 1;
+    let mut passed = Passed { end: at, index: i };
+    for _ in 0..n {
+        passed = collect_nodes(numbers, next, s, passed.end, passed.index);
     }
-    Passed { end, index }
+    passed
 }
 
 // Puts the numbers of the `count` nodes of the expression at `root` at the row's start; those after them stay.

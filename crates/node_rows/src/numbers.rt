@@ -52,10 +52,8 @@ pub fn same_numbers(a: &[u32], b: &[u32], count: usize) -> bool
     ensures { SameIs a.now b.now count result }
 {
     let mut same = true;
-    let mut k = 0;
-    while k < count {
-        same = same & (a[k] == b[k]);
-        k += 1;
+    for k in 0..count {
+        same &= a[k] == b[k];
     }
     same
 }

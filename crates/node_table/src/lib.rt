@@ -11,7 +11,7 @@ ghost use Rattle.node_table.specs.Records.{node_of, nodes_of, FilledIs};
 use node_rows::collecting::node_row;
 
 #[repr(C)]
-#[derive(Clone, Copy)]
+#[derive(Clone, Copy, Debug, PartialEq, Eq)]
 pub struct NodeRecord {
     pub kind: u8,
     pub start: u16,
@@ -19,41 +19,38 @@ pub struct NodeRecord {
 }
 
 // A record as one number. A good frame has no record that is not told apart here.
-pub fn node_number(node: NodeRecord) -> u32
-    ensures { result ≡ number (node_of node) }
-{
-    let kind = node.kind;
-    let start = node.start;
-    let end = node.end;
-    if 6 < kind {
-        return 4294967295;
+impl From<NodeRecord> for u32 {
+    ghost from_gives = { λ node result. result ≡ number (node_of node) };
+
+    fn from(node: NodeRecord) -> u32 {
+        let kind = node.kind;
+        let start = node.start;
+        let end = node.end;
+        if 6 < kind {
+            return u32::MAX;
+        }
+        if 16383 < start {
+            return u32::MAX;
+        }
+        if 32767 < end {
+            return u32::MAX;
+        }
+        kind as u32 * 536870912 + start as u32 * 32768 + end as u32
     }
-    if 16383 < start {
-        return 4294967295;
-    }
-    if 32767 < end {
-        return 4294967295;
-    }
-    kind as u32 * 536870912 + start as u32 * 32768 + end as u32
 }
 
 // The record of a number.
-pub fn numbered_node(number: u32) -> NodeRecord
-    ensures { node_of result ≡ numbered number }
-{
-    NodeRecord {
-        kind: (number / 536870912) as u8,
-        start: (number / 32768 % 16384) as u16,
-        end: (number % 32768) as u16,
-    }
-}
+impl From<u32> for NodeRecord {
+    ghost from_gives = { λ given node. node_of node ≡ numbered given };
 
-// The record of the number at a place of a row.
-pub fn node_at(row: &[u32], i: usize) -> NodeRecord
-    requires { i < length row.now }
-    ensures { node_of result ≡ numbered (get_or row.now i 0) }
-{
-    numbered_node(row[i])
+    #[tactic(auto, unfolding(crate::specs::Numbers::numbered))]
+    fn from(given: u32) -> NodeRecord {
+        NodeRecord {
+            kind: (given / 536870912) as u8,
+            start: (given / 32768 % 16384) as u16,
+            end: (given % 32768) as u16,
+        }
+    }
 }
 
 // The record at a place of a table becomes this one. It is written field by field, so that its byte of no field stays as the host left it.
@@ -71,10 +68,8 @@ pub fn put_nodes(table: &mut [NodeRecord], row: &[u32], count: usize)
     ensures { nodes_of table.new
         ≡ take count (map numbered row.now) ++ drop count (nodes_of table.old) }
 {
-    let mut i = 0;
-    while i < count {
-        put_record(&mut table[i], node_at(row, i));
-        i += 1;
+    for i in 0..count {
+        put_record(&mut table[i], NodeRecord::from(row[i]));
     }
 }
 
@@ -94,9 +89,7 @@ pub fn take_nodes(row: &mut [u32], table: &[NodeRecord], count: usize)
     ensures { row.new
         ≡ take count (map number (nodes_of table.now)) ++ drop count row.old }
 {
-    let mut k = 0;
-    while k < count {
-        row[k] = node_number(table[k]);
-        k += 1;
+    for k in 0..count {
+        row[k] = u32::from(table[k]);
     }
 }

@@ -5,28 +5,36 @@ use mathlib.Core.Path.{◌≡◌, refl, sym, ap, ◌∙◌}
 use mathlib.Core.List.{List, [], ◌∷◌}
 use mathlib.Core.Option.{Option}
 use lib.ListN.{length, drop, get_or}
-use borrow.Author.Tests.{eq-eqb, ne_eqb}
-use Rattle.definitions.specs.Basics.{Result, ok, refused, map_result}
-use Rattle.definitions.specs.Expression.{Frame, Extraction, empty, held, extracted}
+use lib.Dec.{eqb}
+use borrow.Author.Tests.{eqb-true, eqb-false, eq-eqb, ne_eqb}
+use mathlib.Core.Bool.{Bool, true, false}
+use Rattle.std.proofs.Common.{◌⊎◌, inl, inr}
+use Rattle.definitions.specs.Basics as definitions
+use Rattle.definitions.specs.Basics.{ok, refused, map_result}
+use Rattle.definitions.specs.Expression.{Frame, Extraction, Plan, empty, held, extracted}
 use Rattle.definitions.specs.Readers.{Read, read, stopped, Reader, continue, ◌>>◌, give, byte, require_length, at_end, result_of}
 use Rattle.definitions.specs.Decode.{extraction_body}
 use Rattle.definitions.specs.Plans.{whole_extraction, frame_of, extraction_of, plan_of_kind, plan_of}
 use Rattle.theorems.proofs.ReaderLaws.{after, halts, passes, fails}
-use Rattle.frame_reader.specs.Frames.{first_of}
-use Rattle.plan_reader.specs.Plans.{RemainderIs, HeldIs, HeldIn}
+use Rattle.frame_reader.specs.Frames.{first_of, PhysicalIs, PhysicalIn}
+use Rattle.std.specs.Prelude.{Result, Ok, Err}
+use Rattle.std.specs.Prelude as std
+use Rattle.terms.specs.declared.refusals.Refusal.{Refusal}
+use Rattle.terms.specs.declared.refusals.Refusal.TheVariants.{PlanEmpty, NoGoodPlan}
+use Rattle.frame_reader.specs.declared.frame_bodies.Frame as frames
+use Rattle.plan_reader.specs.Plans.{RemainderIs, WholeIs, HeldIs, HeldIn, no_bytes, no_good}
+use Rattle.plan_reader.specs.declared.extraction_bodies.Extraction as extractions
 use Rattle.plan_reader.specs.declared.extraction_bodies.Held.{Held}
 use Rattle.plan_reader.specs.declared.extraction_bodies.Held.TheVariants as variants
-use Rattle.plan_reader.specs.declared.extraction_bodies.Remained.{Remained}
-use Rattle.plan_reader.specs.declared.extraction_bodies.Remained.TheVariants as remained
 use Rattle.frame_reader.proofs.Wholes.{regroup, none_after, some_after}
 
 -- ---- remainders
 
 -- What is right for the rest is right for the whole.
-pub follows : (s : List ℕ) (at place before : ℕ) (whole rest : Reader (Option Frame)) (r : Remained)
+pub follows : (s : List ℕ) (at place before : ℕ) (whole rest : Reader (Option Frame)) (r : Result (std.Option frames.Frame × ℕ) Refusal)
     → whole before (drop at s) ≡ rest before (drop place s) → RemainderIs s place before r rest → RemainderIs s at before r whole
-follows s at place before whole rest (remained.Read r end) e h = (h.0, h.1, h.2, h.3, e ∙ h.4)
-follows s at place before whole rest (remained.Refused why) e h = e ∙ h
+follows s at place before whole rest (Ok r) e h = (h.0, h.1, h.2, h.3, e ∙ h.4)
+follows s at place before whole rest (Err why) e h = e ∙ h
 
 -- ---- whole extractions
 
@@ -38,57 +46,86 @@ module _ (s : List ℕ) where
   unfolding whole_extraction first_of
   opens = sym (regroup (require_length 0 s) (λ b. byte) (λ first n t. continue (extraction_body first n t) ending))
 
-  stops : {number : ℕ} → whole_extraction 0 s ≡ stopped number → map_result extracted (extraction_of s) ≡ refused number
-  unfolding extraction_of result_of
-  stops e = ap (λ (r : Read Extraction). map_result extracted (result_of r)) e
+  results : {r : Read Extraction} → whole_extraction 0 s ≡ r → extraction_of s ≡ result_of r
+  unfolding extraction_of
+  results e = ap result_of e
 
-  pub unopened : {number : ℕ} → first_of 0 s ≡ stopped number → map_result extracted (extraction_of s) ≡ refused number
-  unopened e = stops (opens ∙ halts _ e)
+  pub unopened : {number : ℕ} → first_of 0 s ≡ stopped number → extraction_of s ≡ refused number
+  unfolding result_of
+  unopened e = results (opens ∙ halts _ e)
 
   module _ (first at : ℕ) (e : first_of 0 s ≡ read first 0 (drop at s)) where
-    pub body-stops : {number : ℕ} → extraction_body first 0 (drop at s) ≡ stopped number
-        → map_result extracted (extraction_of s) ≡ refused number
-    body-stops f = stops (opens ∙ after _ e ∙ halts ending f)
+    pub body-stops : {number : ℕ} → extraction_body first 0 (drop at s) ≡ stopped number → extraction_of s ≡ refused number
+    unfolding result_of
+    body-stops f = results (opens ∙ after _ e ∙ halts ending f)
 
     module _ (X : Extraction) (end count : ℕ) (f : extraction_body first 0 (drop at s) ≡ read X count (drop end s)) where
       last : whole_extraction 0 s ≡ ending X count (drop end s)
       last = opens ∙ after _ e ∙ after ending f
 
-      pub ends : end ≡ length s → map_result extracted (extraction_of s) ≡ ok (extracted X)
-      unfolding extraction_of at_end result_of
-      ends z =
-          ap (λ (r : Read Extraction). map_result extracted (result_of r)) (last
-          ∙ passes 7 (give X) count (drop end s) (none_after s end z))
+      pub ends : end ≡ length s → extraction_of s ≡ ok X
+      unfolding at_end result_of
+      ends z = results (last ∙ passes 7 (give X) count (drop end s) (none_after s end z))
 
-      pub goes_on : end ≤ length s → (end ≡ length s → ⊥) → map_result extracted (extraction_of s) ≡ refused 7
-      unfolding at_end
-      goes_on low z = stops (last ∙ fails 7 (give X) count (drop end s) (some_after s end low z))
+      pub goes_on : end ≤ length s → (end ≡ length s → ⊥) → extraction_of s ≡ refused 7
+      unfolding at_end result_of
+      goes_on low z = results (last ∙ fails 7 (give X) count (drop end s) (some_after s end low z))
 
 -- ---- held plans
 
-pub nothing-held : (s : List ℕ) → length s ≡ 0 → plan_of s ≡ ok empty
+nothing-held : (s : List ℕ) → length s ≡ 0 → plan_of s ≡ ok empty
 unfolding plan_of
 nothing-held [] h = refl
 nothing-held (b ∷ s) h = absurd (omega arith)
 
-pub frame-held : (s : List ℕ) → get_or s 0 0 ≡ 1 → plan_of s ≡ map_result held (frame_of s)
+frame-held : (s : List ℕ) → get_or s 0 0 ≡ 1 → plan_of s ≡ map_result held (frame_of s)
 unfolding plan_of plan_of_kind
 frame-held [] e = absurd (omega arith)
 frame-held (b ∷ s) e = rw (eq-eqb b 1 e)
 
-pub extraction-held : (s : List ℕ) → 0 < length s → (get_or s 0 0 ≡ 1 → ⊥) → plan_of s ≡ map_result extracted (extraction_of s)
+extraction-held : (s : List ℕ) → 0 < length s → (get_or s 0 0 ≡ 1 → ⊥) → plan_of s ≡ map_result extracted (extraction_of s)
 unfolding plan_of plan_of_kind
 extraction-held [] h e = absurd (omega arith)
 extraction-held (b ∷ s) h e = rw (ne_eqb b 1 e)
 
--- What is read as an extraction is no frame, so that nothing is to be in rows.
-no-frame : (x : Result Extraction) (F : Frame) → map_result extracted x ≡ ok (held F) → ⊥
-no-frame (ok X) F e = let z : ◌≡◌ {A = ℕ} 0 1 = cc in omega arith
-no-frame (refused k) F e = let z : ◌≡◌ {A = ℕ} 0 1 = cc in omega arith
+module _ (s : List ℕ) {empty : Bool} (is : empty ≡ eqb (length s) 0) where
+  -- Bytes that do not begin with a frame's first one.
+  pub no-frame-first : (empty ≡ true) ⊎ (empty ≡ false × (get_or s 0 0 ≡ 1 → ⊥)) → get_or s 0 0 ≡ 1 → ⊥
+  no-frame-first (inl none) first = nothing s (eqb-true (length s) 0 (sym is ∙ none)) first
+    where
+      nothing : (s : List ℕ) → length s ≡ 0 → get_or s 0 0 ≡ 1 → ⊥
+      nothing [] h e = absurd (omega arith)
+      nothing (b ∷ s) h e = absurd (omega arith)
+  no-frame-first (inr other) first = other.1 first
 
-pub extraction-in-rows : (s numbers indexes : List ℕ) (x : Result Extraction) (r : Held) → HeldIs s r (map_result extracted x)
-    → HeldIn s r (map_result extracted x) numbers indexes
-extraction-in-rows s numbers indexes x variants.Empty h = h
-extraction-in-rows s numbers indexes x (variants.Frame f) h = absurd (no-frame x h.0 h.2)
-extraction-in-rows s numbers indexes x (variants.Extraction e) h = h
-extraction-in-rows s numbers indexes x variants.Bad h = h
+  pub empty-plan : empty ≡ true → HeldIs s (Err PlanEmpty) (plan_of s)
+  empty-plan none = no_bytes (nothing-held s (eqb-true (length s) 0 (sym is ∙ none)))
+
+  module _ (some : empty ≡ false) (other : get_or s 0 0 ≡ 1 → ⊥) where
+    told : plan_of s ≡ map_result extracted (extraction_of s)
+    told = extraction-held s (omega (arith, eqb-false (length s) 0 (sym is ∙ some))) other
+
+    pub extraction-plan : {x : extractions.Extraction} → WholeIs s (Ok x) (extraction_of s)
+        → HeldIs s (Ok (variants.Extraction x)) (plan_of s)
+    extraction-plan h = (h.0, h.1, told ∙ ap (map_result extracted) h.2)
+
+    pub no-extraction : (why : Refusal) → WholeIs s (Err why) (extraction_of s) → HeldIs s (Err NoGoodPlan) (plan_of s)
+    no-extraction why h = no_good _ (told ∙ ap (map_result extracted) h)
+
+module _ (s : List ℕ) (first : get_or s 0 0 ≡ 1) where
+  pub frame-plan : {f : frames.Frame} → PhysicalIs s (Ok f) (frame_of s) → HeldIs s (Ok (variants.Frame f)) (plan_of s)
+  frame-plan h = (h.0, h.1, frame-held s first ∙ ap (map_result held) h.2)
+
+  pub no-frame : (why : Refusal) → PhysicalIs s (Err why) (frame_of s) → HeldIs s (Err NoGoodPlan) (plan_of s)
+  no-frame why h = no_good _ (frame-held s first ∙ ap (map_result held) h)
+
+  pub frame-in-rows : {f : frames.Frame} {numbers indexes : List ℕ} → PhysicalIn s (Ok f) (frame_of s) numbers indexes
+      → HeldIn s (Ok (variants.Frame f)) (plan_of s) numbers indexes
+  frame-in-rows h = (h.0, h.1, frame-held s first ∙ ap (map_result held) h.2, h.3)
+
+-- What rows hold left out.
+pub in-no-rows : (s : List ℕ) (result : definitions.Result Plan) (r : Result Held Refusal)
+    → ((numbers indexes : List ℕ) → HeldIn s r result numbers indexes) → HeldIs s r result
+in-no-rows s result (Ok (variants.Frame f)) h = let frame = h [] [] in (frame.0, frame.1, frame.2)
+in-no-rows s result (Ok (variants.Extraction x)) h = h [] []
+in-no-rows s result (Err why) h = h [] []

@@ -1,36 +1,33 @@
 -- What the answers about held plans say.
-use Rattle.std.specs.Prelude.{ℕ, ◌≤◌, ◌≡◌, List, length, take, drop}
-use Rattle.std.proofs.Math.Option.{Option, none, some}
-use Rattle.definitions.specs.Basics.{Result, ok, refused}
+use Rattle.std.specs.Prelude.{ℕ, ◌≤◌, ◌≡◌, List, length, take, drop, Option, Some, None, Result, Ok, Err}
+use Rattle.std.proofs.Math.Option as optional
+use Rattle.definitions.specs.Basics as basics
+use Rattle.definitions.specs.Basics.{ok, refused}
 use Rattle.definitions.specs.Expression as tree
 use Rattle.definitions.specs.Readers.{read, stopped, Reader}
 use Rattle.definitions.specs.Plans.{plan_of}
 use Rattle.terms.specs.Refusals.{number_of}
+use Rattle.terms.specs.declared.refusals.Refusal.{Refusal}
+use Rattle.terms.specs.declared.refusals.Refusal.TheVariants.{NoGoodPlan, PlanEmpty}
 use Rattle.frame_reader.specs.Frames.{FrameAt}
 use Rattle.node_rows.specs.Rows.{Tabled}
 use Rattle.sedona_query_planner.specs.Predicates.{unchanged, PredicateAt}
 use Rattle.frame_reader.specs.declared.frame_bodies.Frame.{Frame}
-use Rattle.plan_reader.specs.declared.extraction_bodies.Remainder.{Remainder}
-use Rattle.plan_reader.specs.declared.extraction_bodies.Remainder.TheVariants as remainder
 use Rattle.plan_reader.specs.declared.extraction_bodies.Extraction.{Extraction}
 use Rattle.plan_reader.specs.declared.extraction_bodies.Held.{Held}
 use Rattle.plan_reader.specs.declared.extraction_bodies.Held.TheVariants as held
-use Rattle.plan_reader.specs.declared.extraction_bodies.Remained.{Remained}
-use Rattle.plan_reader.specs.declared.extraction_bodies.Remained.TheVariants as remained
-use Rattle.plan_reader.specs.declared.extraction_bodies.Extracted.{Extracted}
-use Rattle.plan_reader.specs.declared.extraction_bodies.Extracted.TheVariants as extracted
 
 -- The remainder R stands in s up to `end`.
-abbrev pub RemainderAt : List ℕ → Remainder → (end : ℕ) → Option tree.Frame → Type 0
-RemainderAt s remainder.Nothing end R = R ≡ none
-RemainderAt s (remainder.Frame f) end R = (F : tree.Frame) × (R ≡ some F) × FrameAt s f end F
+abbrev pub RemainderAt : List ℕ → Option Frame → (end : ℕ) → optional.Option tree.Frame → Type 0
+RemainderAt s None end R = R ≡ optional.none
+RemainderAt s (Some f) end R = (F : tree.Frame) × (R ≡ optional.some F) × FrameAt s f end F
 
--- A remainder was read, `before` nodes counted up to its place.
-abbrev pub RemainderIs : List ℕ → (at before : ℕ) → Remained → Reader (Option tree.Frame) → Type 0
-RemainderIs s at before (remained.Read r end) reader =
-    (end ≤ length s) × (R : Option tree.Frame) × RemainderAt s r end R × (count : ℕ)
-    × (reader before (drop at s) ≡ read R count (drop end s))
-RemainderIs s at before (remained.Refused why) reader = reader before (drop at s) ≡ stopped (number_of why)
+-- A remainder was read, `before` nodes counted up to its place, and the place after it.
+abbrev pub RemainderIs : List ℕ → (at before : ℕ) → Result (Option Frame × ℕ) Refusal → Reader (optional.Option tree.Frame) → Type 0
+RemainderIs s at before (Ok r) reader =
+    (r.1 ≤ length s) × (R : optional.Option tree.Frame) × RemainderAt s r.0 r.1 R × (count : ℕ)
+    × (reader before (drop at s) ≡ read R count (drop r.1 s))
+RemainderIs s at before (Err why) reader = reader before (drop at s) ≡ stopped (number_of why)
 
 -- The extraction X stands in s up to `end`.
 pub record ExtractionAt (s : List ℕ) (x : Extraction) (end : ℕ) (X : tree.Extraction) : Type 0 where
@@ -38,26 +35,35 @@ pub record ExtractionAt (s : List ℕ) (x : Extraction) (end : ℕ) (X : tree.Ex
   pub predicate : PredicateAt unchanged s x.predicate X.predicate
   pub remainder : RemainderAt s x.remainder end X.remainder
 
--- An extraction after its first byte was read.
-abbrev pub ExtractionIs : List ℕ → (at : ℕ) → Extracted → Reader tree.Extraction → Type 0
-ExtractionIs s at (extracted.Read x end) reader =
-    (end ≤ length s) × (X : tree.Extraction) × ExtractionAt s x end X × (count : ℕ) × (reader 0 (drop at s) ≡ read X count (drop end s))
-ExtractionIs s at (extracted.Refused why) reader = reader 0 (drop at s) ≡ stopped (number_of why)
+-- An extraction after its first byte was read, and the place after it.
+abbrev pub ExtractionIs : List ℕ → (at : ℕ) → Result (Extraction × ℕ) Refusal → Reader tree.Extraction → Type 0
+ExtractionIs s at (Ok x) reader =
+    (x.1 ≤ length s) × (X : tree.Extraction) × ExtractionAt s x.0 x.1 X × (count : ℕ)
+    × (reader 0 (drop at s) ≡ read X count (drop x.1 s))
+ExtractionIs s at (Err why) reader = reader 0 (drop at s) ≡ stopped (number_of why)
+
+-- A whole extraction.
+abbrev pub WholeIs : List ℕ → Result Extraction Refusal → basics.Result tree.Extraction → Type 0
+WholeIs s (Ok x) result = (X : tree.Extraction) × ExtractionAt s x (length s) X × (result ≡ ok X)
+WholeIs s (Err why) result = result ≡ refused (number_of why)
+
+-- Why bytes hold neither a frame nor an extraction: there are none, or they are no good plan.
+pub data NotHeld (result : basics.Result tree.Plan) : Refusal → Type 0 where
+  no_bytes : result ≡ ok tree.empty → NotHeld result PlanEmpty
+  no_good : (number : ℕ) → result ≡ refused number → NotHeld result NoGoodPlan
 
 -- A held plan: what stands there is what the bytes are.
-abbrev pub HeldIs : List ℕ → Held → Result tree.Plan → Type 0
-HeldIs s held.Empty result = result ≡ ok tree.empty
-HeldIs s (held.Frame f) result = (F : tree.Frame) × FrameAt s f (length s) F × (result ≡ ok (tree.held F))
-HeldIs s (held.Extraction x) result = (X : tree.Extraction) × ExtractionAt s x (length s) X × (result ≡ ok (tree.extracted X))
-HeldIs s held.Bad result = (number : ℕ) × (result ≡ refused number)
+abbrev pub HeldIs : List ℕ → Result Held Refusal → basics.Result tree.Plan → Type 0
+HeldIs s (Ok (held.Frame f)) result = (F : tree.Frame) × FrameAt s f (length s) F × (result ≡ ok (tree.held F))
+HeldIs s (Ok (held.Extraction x)) result = (X : tree.Extraction) × ExtractionAt s x (length s) X × (result ≡ ok (tree.extracted X))
+HeldIs s (Err why) result = NotHeld result why
 
 -- The same, and the nodes of a frame are in the rows.
-abbrev pub HeldIn : List ℕ → Held → Result tree.Plan → (numbers indexes : List ℕ) → Type 0
-HeldIn s held.Empty result numbers indexes = HeldIs s held.Empty result
-HeldIn s (held.Frame f) result numbers indexes =
+abbrev pub HeldIn : List ℕ → Result Held Refusal → basics.Result tree.Plan → (numbers indexes : List ℕ) → Type 0
+HeldIn s (Ok (held.Frame f)) result numbers indexes =
     (F : tree.Frame) × FrameAt s f (length s) F × (result ≡ ok (tree.held F)) × Tabled numbers indexes f.root 0 F.expr
-HeldIn s (held.Extraction x) result numbers indexes = HeldIs s (held.Extraction x) result
-HeldIn s held.Bad result numbers indexes = HeldIs s held.Bad result
+HeldIn s (Ok (held.Extraction x)) result numbers indexes = HeldIs s (Ok (held.Extraction x)) result
+HeldIn s (Err why) result numbers indexes = HeldIs s (Err why) result
 
 -- The plan's first n bytes are a good frame, which stands there.
 pub record HoldsFrame (n : ℕ) (plan : List ℕ) (f : Frame) : Type 0 where

@@ -1,15 +1,14 @@
 -- What the answers about held predicates say: which predicate it is, and where its arguments stand.
-use Rattle.std.specs.Prelude.{ℕ, ◌≤◌, ◌≡◌, List, length, drop}
+use Rattle.std.specs.Prelude.{ℕ, ◌≤◌, ◌≡◌, List, length, drop, Result, Ok, Err}
 use Rattle.definitions.specs.Expression as tree
 use Rattle.definitions.specs.Expression.{Expr}
 use Rattle.definitions.specs.Readers.{read, stopped, Reader, ◌>>=◌, give}
 use Rattle.definitions.specs.Decode.{argument}
 use Rattle.terms.specs.Refusals.{number_of}
+use Rattle.terms.specs.declared.refusals.Refusal.{Refusal}
 use Rattle.sedona_query_planner.specs.Predicates.{unchanged, ArgumentAt, PredicateAt}
 use Rattle.plan_reader.specs.declared.held_predicates.Predicated.{Predicated}
-use Rattle.plan_reader.specs.declared.held_predicates.Predicated.TheVariants as predicated
 use Rattle.plan_reader.specs.declared.held_predicates.Pair.{Pair}
-use Rattle.plan_reader.specs.declared.held_predicates.Pair.TheVariants as pair
 
 -- ---- two arguments
 
@@ -21,11 +20,11 @@ then_both next = do
   next l r
 
 -- Two arguments were read.
-abbrev pub PairIs : List ℕ → (at : ℕ) → Pair → Type 0
-PairIs s at (pair.Read right end count) =
-    (end ≤ length s) × (l r : Expr) × ArgumentAt unchanged s at right l × ArgumentAt unchanged s right end r
-    × ((next : Expr → Expr → Reader tree.Predicate) → then_both next 0 (drop at s) ≡ next l r count (drop end s))
-PairIs s at (pair.Refused why) = (next : Expr → Expr → Reader tree.Predicate) → then_both next 0 (drop at s) ≡ stopped (number_of why)
+abbrev pub PairIs : List ℕ → (at : ℕ) → Result Pair Refusal → Type 0
+PairIs s at (Ok p) =
+    (p.end ≤ length s) × (l r : Expr) × ArgumentAt unchanged s at p.right l × ArgumentAt unchanged s p.right p.end r
+    × ((next : Expr → Expr → Reader tree.Predicate) → then_both next 0 (drop at s) ≡ next l r p.count (drop p.end s))
+PairIs s at (Err why) = (next : Expr → Expr → Reader tree.Predicate) → then_both next 0 (drop at s) ≡ stopped (number_of why)
 
 -- ---- predicates
 
@@ -34,7 +33,8 @@ abbrev pub distance_arguments : (form : ℕ) → tree.Side → Reader tree.Predi
 distance_arguments form side = then_both (λ l r. argument >>= λ bound. give (tree.distance form side l r bound))
 
 -- A predicate was read.
-abbrev pub PredicateIs : List ℕ → (at : ℕ) → Predicated → Reader tree.Predicate → Type 0
-PredicateIs s at (predicated.Read p next count) reader =
-    (next ≤ length s) × (P : tree.Predicate) × PredicateAt unchanged s p P × (reader 0 (drop at s) ≡ read P count (drop next s))
-PredicateIs s at (predicated.Refused why) reader = reader 0 (drop at s) ≡ stopped (number_of why)
+abbrev pub PredicateIs : List ℕ → (at : ℕ) → Result Predicated Refusal → Reader tree.Predicate → Type 0
+PredicateIs s at (Ok p) reader =
+    (p.next ≤ length s) × (P : tree.Predicate) × PredicateAt unchanged s p.predicate P
+    × (reader 0 (drop at s) ≡ read P p.count (drop p.next s))
+PredicateIs s at (Err why) reader = reader 0 (drop at s) ≡ stopped (number_of why)

@@ -1,10 +1,9 @@
 -- A predicate whose arguments are put on their children is what the table of child indexes makes of it.
-use Prim.Native.Nat.{ℕ, ◌≤◌, ◌<◌}
-use native.Mathlib.Omega.{arith}
-use mathlib.Core.Path.{◌≡◌, refl, sym, ap, ap₂, ◌∙◌}
+use Prim.Native.Nat.{ℕ, ◌≤◌}
+use mathlib.Core.Path.{◌≡◌, refl, sym, ap₂, ◌∙◌}
 use mathlib.Core.List.{List}
 use lib.ListN.{length, get_or}
-use Rattle.definitions.specs.Expression.{Side, left, right, no_side, Expr, Record, Predicate, relation, distance, knn}
+use Rattle.definitions.specs.Expression.{Side, left, right, no_side, Expr, Record, Predicate, relation, knn}
 use Rattle.definitions.specs.Decode.{index_below}
 use Rattle.definitions.specs.Match.{on_child}
 use Rattle.sedona_query_planner.specs.Predicates.{bound_on}
@@ -16,8 +15,7 @@ use Rattle.sedona_query_planner.specs.Predicates.{flag, ties_number, on_children
 use Rattle.sedona_query_planner.specs.declared.spatial_predicate.SpatialPredicate.{SpatialPredicate}
 use Rattle.sedona_query_planner.specs.declared.spatial_predicate.SpatialPredicate.TheVariants.{Distance, Relation, KNearestNeighbors}
 use Rattle.plan_writer.specs.Tables.{Table, child_of}
-use Rattle.plan_writer.specs.Arguments.{by_table, change_of}
-use Rattle.plan_writer.specs.declared.arguments.ColumnIndexes.TheVariants.{FromTable}
+use Rattle.plan_writer.specs.Arguments.{by_table, table_change}
 use Rattle.plan_writer.proofs.Ranges.{wider-stands, map-agrees}
 
 module _ (records : List Record) (to : List ℕ) (wide : length records ≤ length to)
@@ -29,7 +27,7 @@ module _ (records : List Record) (to : List ℕ) (wide : length records ≤ leng
   on-side no_side t range = refl
 
   argument : {s : List ℕ} {at end : ℕ} {t : Expr} → ArgumentAt (on_children records) s at end t
-      → ArgumentAt (change_of FromTable to) s at end t
+      → ArgumentAt (table_change to) s at end t
   argument h = record { stands = wider-stands wide h.stands; ends = h.ends }
 
   changed : {s : List ℕ} {at end : ℕ} {t : Expr} (side : Side) → ArgumentAt (on_children records) s at end t
@@ -37,7 +35,7 @@ module _ (records : List Record) (to : List ℕ) (wide : length records ≤ leng
   changed {t = t} side h = on-side side t h.stands.in_range
 
   pub by-children : (s : List ℕ) (p : SpatialPredicate) (q : Predicate) → PredicateAt (on_children records) s p q
-      → PredicateAt (change_of FromTable to) s p q
+      → PredicateAt (table_change to) s p q
   by-children s (Relation p) q h = record {
     l = h.l;
     r = h.r;

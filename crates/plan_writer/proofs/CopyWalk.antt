@@ -19,7 +19,7 @@ use Rattle.expression.proofs.Standing.{tree-length, head-stands, kind-is, childr
 use Rattle.writing.specs.Written.{Wrote, WroteAt}
 use Rattle.plan_writer.specs.Copies.{copy_of, copies_of, ColumnThere, ColumnPut, CopyFits, CopiesFit, CopyIs, NodeCopied, RowCopied}
 use Rattle.plan_writer.specs.declared.arguments.Copied.{Copied}
-use Rattle.writing.proofs.Written.{behind, together, behind-length, together-length, part-wrote, then-wrote, copied-wrote, chain, nothing-wrote, to_start}
+use Rattle.writing.proofs.Written.{behind, together, behind-length, together-length, part-wrote, then-wrote, copied-wrote, chain, nothing-wrote}
 use Rattle.plan_writer.proofs.Fields.{column-is, column-size}
 
 -- ---- what is written for a node
@@ -186,16 +186,6 @@ pub record Copying (s : List ℕ) (at n : ℕ) (to before : List ℕ) (next left
   pub rest : (after : List ℕ) (q : Copied) → RowCopiedAt s next left to w out after q → RowCopied s at n to before after q
 
 module _ {s : List ℕ} {at n : ℕ} {to before : List ℕ} where
-  pub copying-begins : CopiesFit s at n to before → Copying s at n to before at n 0 before
-  copying-begins p = record {
-    there = record { trees = p.trees; row = p.row; room = omega (arith, p.room) };
-    low = omega arith;
-    same = refl;
-    rest = λ after q is ts row.
-        let all = is ts row in
-        record { read = all.read; wrote = (to_start all.out).0; out = (to_start all.out).1 };
-  }
-
   module _ {next left w : ℕ} {out : List ℕ} (inv : Copying s at n to before next left w out) where
     pub copying-room : w ≤ length out
     copying-room = omega (arith, inv.there.room)
@@ -206,7 +196,8 @@ module _ {s : List ℕ} {at n : ℕ} {to before : List ℕ} where
         (λ ts. CopyAt next (length (exprs_bytes ts)) w (copies_of to ts) out out (record { read = next; wrote = w }))
         (record { read = omega arith; out = nothing-wrote out w }) ts (omega (arith, row.counted)))
 
-    module _ (some : 0 < left) where
+    -- One is copied and fewer are left.
+    module _ (fewer : ℕ) (some : left ≡ fewer + 1) where
       pub copying-first : CopyFits s next to (behind w out)
       copying-first = first_fits
           (record { trees = inv.there.trees; row = inv.there.row; room = omega (arith, inv.there.room, behind-length w out) })
@@ -220,33 +211,33 @@ module _ {s : List ℕ} {at n : ℕ} {to before : List ℕ} where
         long : length (together w out part) ≡ length out
         long = together-length w out part copying-room kept
 
-        others-fit : CopiesFitAt s r.read (left - 1) to (w + r.wrote) (together w out part)
+        others-fit : CopiesFitAt s r.read fewer to (w + r.wrote) (together w out part)
         unfolding exprs_bytes map_columns_all
         others-fit = some-children
             (λ ts. Row (index_below (length to)) s next left ts → w + length (copies_of to ts) ≤ length out
-            → CopiesFitAt s r.read (left - 1) to (w + r.wrote) (together w out part))
+            → CopiesFitAt s r.read fewer to (w + r.wrote) (together w out part))
             (λ t ts o room.
             let one = is t (first-stands o) in
             record {
               trees = ts;
-              row = rest-stands o r.read (left - 1) one.read (omega arith);
+              row = rest-stands o r.read fewer one.read (omega arith);
               room = omega (arith, one.wrote, long, simp length-append at room);
             }) inv.there.trees (omega (arith, inv.there.row.counted)) inv.there.row inv.there.room
 
-        others-copied : (after : List ℕ) (q : Copied) → RowCopiedAt s r.read (left - 1) to (w + r.wrote) (together w out part) after q
+        others-copied : (after : List ℕ) (q : Copied) → RowCopiedAt s r.read fewer to (w + r.wrote) (together w out part) after q
             → RowCopiedAt s next left to w out after q
         unfolding exprs_bytes map_columns_all
         others-copied after q others ts row = some-children
             (λ ts. Row (index_below (length to)) s next left ts → CopyAt next (length (exprs_bytes ts)) w (copies_of to ts) out after q)
             (λ t ts o.
             let one = is t (first-stands o) in
-            let more = others ts (rest-stands o r.read (left - 1) one.read (omega arith)) in
+            let more = others ts (rest-stands o r.read fewer one.read (omega arith)) in
             record {
               read = simp length-append (omega (arith, one.read, more.read));
               out = chain copying-room (part-wrote (copy_of to t) out part w one.out r.wrote one.wrote) more.out;
             }) ts (omega (arith, row.counted)) row
 
-        pub copying-goes-on : Copying s at n to before r.read (left - 1) (w + r.wrote) (together w out part)
+        pub copying-goes-on : Copying s at n to before r.read fewer (w + r.wrote) (together w out part)
         copying-goes-on = record {
           there = others-fit;
           low = omega (arith, inv.low, first-later copying-first part r is);

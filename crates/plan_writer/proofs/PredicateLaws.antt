@@ -9,6 +9,7 @@ use Rattle.definitions.specs.Basics.{big_endian}
 use Rattle.definitions.specs.Expression.{Predicate}
 use Rattle.definitions.specs.Encode.{side_number, relation_number, predicate_kind, predicate_fields}
 use Rattle.definitions.specs.Exchange.{negate}
+use Rattle.terms.specs.Forms.{form_number}
 use Rattle.terms.specs.Sides.{join_side}
 use Rattle.terms.specs.declared.sides.JoinSide.{JoinSide}
 use Rattle.terms.specs.declared.sides.JoinSide.TheVariants.{Left, Right}
@@ -32,7 +33,7 @@ use Rattle.plan_writer.specs.declared.arguments.Argument.{Argument}
 abbrev argument : (start end : ℕ) → JoinSide → Argument
 argument start end side = record { start = start; end = end; side = side }
 
-module _ (indexes : ColumnIndexes) (to s : List ℕ) where
+module _ (indexes : ColumnIndexes) (s : List ℕ) where
   module _ (p : RelationPredicate) where
     abbrev relation_left : Argument
     relation_left = argument p.left p.left_end Left
@@ -41,13 +42,13 @@ module _ (indexes : ColumnIndexes) (to s : List ℕ) where
     relation_right = argument p.right p.right_end Right
 
     pub relation-view : (number : ℕ) → number ≡ relation_number (relation_of p.relation_type) → (P : Predicate)
-        → RelationAt (change_of indexes to) s p P
-        → Headed (number ∷ []) (BothStood indexes to s relation_left relation_right) (both_written indexes to relation_left relation_right)
+        → RelationAt (change_of indexes) s p P
+        → Headed (number ∷ []) (BothStood indexes s relation_left relation_right) (both_written indexes relation_left relation_right)
         (predicate_fields P)
     unfolding predicate_fields
     relation-view number e P h = record { it = (h.l, h.r); stands = record { one = h.left; two = h.right }; is = rw (h.is, e) }
 
-    pub relation-fits : {out : List ℕ} → Room (RelationAt (change_of indexes to) s p) predicate_fields 0 out → 1 ≤ length out
+    pub relation-fits : {out : List ℕ} → Room (RelationAt (change_of indexes) s p) predicate_fields 0 out → 1 ≤ length out
     relation-fits room = head-room (relation-view _ refl) room
 
   module _ (p : DistancePredicate) where
@@ -60,25 +61,26 @@ module _ (indexes : ColumnIndexes) (to s : List ℕ) where
     abbrev pub bound : Argument
     bound = argument p.distance p.distance_end p.distance_side
 
-    pub distance-view : (number : ℕ) → number ≡ side_number (join_side p.distance_side) → (P : Predicate)
-        → DistanceAt (change_of indexes to) s p P
-        → Headed (p.form ∷ number ∷ []) (Both (BothStood indexes to s distance_left distance_right) (Stood indexes to s bound))
-        (joined (both_written indexes to distance_left distance_right) (written indexes to bound)) (predicate_fields P)
+    pub distance-view : (form number : ℕ) → form ≡ form_number p.form → number ≡ side_number (join_side p.distance_side) → (P : Predicate)
+        → DistanceAt (change_of indexes) s p P
+        → Headed (form ∷ number ∷ []) (Both (BothStood indexes s distance_left distance_right) (Stood indexes s bound))
+        (joined (both_written indexes distance_left distance_right) (written indexes bound)) (predicate_fields P)
     unfolding predicate_fields
-    distance-view number e P h = record {
+    distance-view form number f e P h = record {
       it = ((h.l, h.r), h.bound);
       stands = record { one = record { one = h.left; two = h.right }; two = h.limit };
       is =
           rw (
             h.is,
+            f,
             e,
-            append_assoc (written indexes to distance_left h.l) (written indexes to distance_right h.r)
-                (written indexes to bound h.bound),
+            append_assoc (written indexes distance_left h.l) (written indexes distance_right h.r)
+                (written indexes bound h.bound),
           );
     }
 
-    pub distance-fits : {out : List ℕ} → Room (DistanceAt (change_of indexes to) s p) predicate_fields 0 out → 2 ≤ length out
-    distance-fits room = head-room (distance-view _ refl) room
+    pub distance-fits : {out : List ℕ} → Room (DistanceAt (change_of indexes) s p) predicate_fields 0 out → 2 ≤ length out
+    distance-fits room = head-room (distance-view _ _ refl refl) room
 
   module _ (p : KNNPredicate) where
     abbrev query : Argument
@@ -95,9 +97,9 @@ module _ (indexes : ColumnIndexes) (to s : List ℕ) where
       pub negated : join_side other ≡ negate (join_side p.probe_side)
 
     pub knn-view : (spheroid probe ties : ℕ) (other : JoinSide) → Numbers spheroid probe ties other → (P : Predicate)
-        → KnnAt (change_of indexes to) s p P
-        → Headed (knn_head p.k spheroid probe ties) (BothStood indexes to s query (object other))
-        (both_written indexes to query (object other)) (predicate_fields P)
+        → KnnAt (change_of indexes) s p P
+        → Headed (knn_head p.k spheroid probe ties) (BothStood indexes s query (object other))
+        (both_written indexes query (object other)) (predicate_fields P)
     unfolding predicate_fields knn_head big_endian
     knn-view spheroid probe ties other n P h = record {
       it = (h.l, h.r);
@@ -106,7 +108,7 @@ module _ (indexes : ColumnIndexes) (to s : List ℕ) where
     }
 
     pub knn-fits : (spheroid probe ties : ℕ) (other : JoinSide) → Numbers spheroid probe ties other
-        → {out : List ℕ} → Room (KnnAt (change_of indexes to) s p) predicate_fields 0 out → 7 ≤ length out
+        → {out : List ℕ} → Room (KnnAt (change_of indexes) s p) predicate_fields 0 out → 7 ≤ length out
     unfolding knn_head big_endian
     knn-fits spheroid probe ties other n room = head-room (knn-view spheroid probe ties other n) room
 

@@ -4,14 +4,14 @@ use native.Mathlib.Omega.{arith}
 use native.Mathlib.Nat.{not-suc-le-zero}
 use mathlib.Core.Path.{◌≡◌, refl, ap, ◌∙◌, subst}
 use mathlib.Core.List.{List}
-use lib.ListN.{length, drop, get_or, set, length-set}
-use lib.Seq.{get_or-set_same, get_or-set_other, drop-set-lt}
+use lib.ListN.{length, get_or, set}
+use lib.Seq.{get_or-set_same, get_or-set_other}
 use borrow.Author.Count.{below_more}
 use Rattle.definitions.specs.Basics.{big_endian}
 use Rattle.definitions.specs.Expression.{Expr, Record}
 use Rattle.definitions.specs.Encode.{expr_bytes, record_bytes}
 use Rattle.definitions.specs.Decode.{index_below}
-use Rattle.definitions.specs.Match.{record_at, map_columns, on_child}
+use Rattle.definitions.specs.Match.{record_at, map_columns}
 use Rattle.definitions.specs.Good.{InRange}
 use Rattle.theorems.proofs.ExchangeGood.{records-length}
 use Rattle.expression.specs.Places.{short_at}
@@ -34,28 +34,6 @@ table_more new to i room h = record {
   entry = below_more (λ k. get_or (set to i (new i)) k 0 ≡ new k) i
       (λ k b. get_or-set_other to i k (new i) 0 (λ e. omega (arith, e)) ∙ h.entry k b) (get_or-set_same to i (new i) 0 room);
 }
-
--- ---- the loops that fill a table
-
--- What a turn keeps: the entries before j are filled, and the table is as it was past the last column.
-abbrev pub Filling : (new : ℕ → ℕ) (count : ℕ) (before : List ℕ) (j : ℕ) (to : List ℕ) → Type 0
-Filling new count before j to = (j ≤ count) × (length to ≡ length before) × Table new j to × (drop count to ≡ drop count before)
-
-module _ (new : ℕ → ℕ) (count : ℕ) (before : List ℕ) where
-  pub filling-begins : Filling new count before 0 before
-  filling-begins = (omega arith, refl, table_none, refl)
-
-  module _ (j : ℕ) (to : List ℕ) (so : Filling new count before j to) where
-    pub filling-goes-on : j < count → count ≤ length before → Filling new count before (j + 1) (set to j (new j))
-    filling-goes-on below room = (
-      omega arith,
-      simp length-set so.1,
-      table_more new to j (omega (arith, so.1)) so.2,
-      drop-set-lt count to j (new j) below ∙ so.3,
-    )
-
-    pub filling-ends : count ≤ j → Table new count to
-    filling-ends all = table-whole (omega (arith, so.0)) so.2
 
 -- ---- child indexes
 
@@ -88,10 +66,3 @@ child-table count h records entries = record { entry = λ j b. h.entry j b ∙ e
 pub table-copies : {new : ℕ → ℕ} {count : ℕ} {to : List ℕ} → Table new count to → (t : Expr) → InRange (index_below count) t
     → copy_of to t ≡ expr_bytes (map_columns new t)
 table-copies {new} {count} {to} h t range = ap expr_bytes (map-agrees count (λ i. get_or to i 0) new h.entry t range)
-
--- Child indexes put it on its child.
-pub children-copied : {s : List ℕ} {rec count : ℕ} (to : List ℕ) → ChildTable s rec count to → {records : List Record}
-    → Entries s rec count records
-    → (t : Expr) → InRange (index_below count) t → copy_of to t ≡ expr_bytes (on_child records t)
-unfolding on_child
-children-copied to h {records} entries t range = table-copies (h records entries) t range

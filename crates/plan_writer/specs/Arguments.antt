@@ -1,5 +1,5 @@
 -- What becomes of an argument that is written.
-use Rattle.std.specs.Prelude.{ℕ, Bool, true, false, List, length, get_or}
+use Rattle.std.specs.Prelude.{ℕ, List, length, get_or}
 use Rattle.definitions.specs.Expression.{Side, left, right, no_side, Expr}
 use Rattle.definitions.specs.Encode.{expr_bytes}
 use Rattle.definitions.specs.Match.{map_columns}
@@ -16,29 +16,26 @@ by_table to left t = map_columns (λ index. get_or to index 0) t
 by_table to right t = map_columns (λ index. get_or to index 0) t
 by_table to no_side t = t
 
--- The change that a writer is told.
-abbrev pub change_of : ColumnIndexes → (to : List ℕ) → Change
-change_of Kept to = unchanged
-change_of FromTable to = record { below = length to; to = by_table to }
+-- The change by such a table.
+abbrev pub table_change : (to : List ℕ) → Change
+table_change to = record { below = length to; to = by_table to }
 
--- Whether the columns of an argument of a side keep their indexes.
-abbrev pub keeps_indexes : ColumnIndexes → Side → Bool
-keeps_indexes Kept side = true
-keeps_indexes FromTable left = false
-keeps_indexes FromTable right = false
-keeps_indexes FromTable no_side = true
+-- The change that a writer is told.
+abbrev pub change_of : ColumnIndexes → Change
+change_of Kept = unchanged
+change_of (FromTable to) = table_change to.now
 
 -- The argument t stands at its places.
-abbrev pub Stood : ColumnIndexes → (to s : List ℕ) → Argument → Expr → Type 0
-Stood indexes to s a t = ArgumentAt (change_of indexes to) s a.start a.end t
+abbrev pub Stood : ColumnIndexes → (s : List ℕ) → Argument → Expr → Type 0
+Stood indexes s a t = ArgumentAt (change_of indexes) s a.start a.end t
 
 -- What is written of it.
-abbrev pub written : ColumnIndexes → (to : List ℕ) → Argument → Expr → List ℕ
-written indexes to a t = expr_bytes ((change_of indexes to).to (join_side a.side) t)
+abbrev pub written : ColumnIndexes → Argument → Expr → List ℕ
+written indexes a t = expr_bytes ((change_of indexes).to (join_side a.side) t)
 
 -- The same of two.
-abbrev pub BothStood : ColumnIndexes → (to s : List ℕ) → (one two : Argument) → Expr × Expr → Type 0
-BothStood indexes to s one two = Both (Stood indexes to s one) (Stood indexes to s two)
+abbrev pub BothStood : ColumnIndexes → (s : List ℕ) → (one two : Argument) → Expr × Expr → Type 0
+BothStood indexes s one two = Both (Stood indexes s one) (Stood indexes s two)
 
-abbrev pub both_written : ColumnIndexes → (to : List ℕ) → (one two : Argument) → Expr × Expr → List ℕ
-both_written indexes to one two = joined (written indexes to one) (written indexes to two)
+abbrev pub both_written : ColumnIndexes → (one two : Argument) → Expr × Expr → List ℕ
+both_written indexes one two = joined (written indexes one) (written indexes two)

@@ -1,11 +1,10 @@
 // The arguments of predicates, and copies of expressions whose columns are renumbered by a table.
 // A port of `reproject_column_references` and `reproject_column_references_for_side` of
 // rust/sedona-query-planner/src/spatial_expr_utils.rs.
-ghost use Rattle.std.specs.Prelude.{◌≤◌, ◌≡◌, length};
-ghost use Rattle.terms.specs.Sides.{join_side};
+ghost use Rattle.std.specs.Prelude.{◌≤◌, length};
 ghost use Rattle.writing.specs.Writing.{Room, PutsAt};
 ghost use Rattle.plan_writer.specs.Copies.{ColumnThere, ColumnPut, CopyFits, NodeCopied, CopiesFit, RowCopied};
-ghost use Rattle.plan_writer.specs.Arguments.{keeps_indexes, Stood, written, BothStood, both_written};
+ghost use Rattle.plan_writer.specs.Arguments.{Stood, written, BothStood, both_written};
 
 use expression::fields::short_at;
 use expression::heads::head_at;
@@ -27,7 +26,7 @@ fn put_column(out: &mut [u8], src: &[u8], at: usize, v: u16)
     ensures { ColumnPut src.now at v out.old out.new }
 {
     copy_bytes(out, src, at, 5);
-    put_number(out, 1, 2, v as usize);
+    put_number(out, 1, 2, usize::from(v));
 }
 
 // Writes the expression at a place to the start of `out`; `to` has the new index of each column.
@@ -37,9 +36,7 @@ pub fn reproject_column_references(out: &mut [u8], src: &[u8], at: usize, to: &[
     ensures { NodeCopied src.now at to.now out.old out.new result }
 {
     if src[at] == 0 {
-        let index = short_at(src, at + 1);
-        let v = to[index];
-        put_column(out, src, at, v);
+        put_column(out, src, at, to[short_at(src, at + 1)]);
         return Copied {
             read: at + 5,
             wrote: 5,
@@ -71,12 +68,10 @@ fn reproject_children(out: &mut [u8], src: &[u8], at: usize, n: usize, to: &[u16
 {
     let mut next = at;
     let mut w = 0;
-    let mut left = n;
-    while 0 < left {
+    for _ in 0..n {
         let one = reproject_column_references(&mut out[w..], src, next, to);
         next = one.read;
         w += one.wrote;
-        left -= 1;
     }
     Copied {
         read: next,
@@ -86,9 +81,9 @@ fn reproject_children(out: &mut [u8], src: &[u8], at: usize, n: usize, to: &[u16
 
 // How the indexes of an argument's columns change as it is written.
 #[derive(Clone, Copy)]
-pub enum ColumnIndexes {
+pub enum ColumnIndexes<'a> {
     Kept,
-    FromTable,
+    FromTable(&'a [u16]),
 }
 
 // An argument of a predicate: where it stands and ends, and the side of its columns.
@@ -99,40 +94,25 @@ pub struct Argument {
     pub side: JoinSide,
 }
 
-// Whether the columns of an argument of a side keep their indexes: none have side none, or the rest.
-fn keeps_indexes(indexes: ColumnIndexes, side: JoinSide) -> bool
-    ensures { result ≡ keeps_indexes indexes (join_side side) }
-{
-    match indexes {
-        ColumnIndexes::Kept => true,
-        ColumnIndexes::FromTable => match side {
-            JoinSide::Left => false,
-            JoinSide::Right => false,
-            JoinSide::None => true,
-        },
-    }
-}
-
-// Writes an argument from w on, its columns' indexes kept or changed by the table; answers where it ends.
+// Writes an argument from w on, its columns' indexes kept or changed by the table, but never those of side none; answers where it ends.
 pub fn reproject_column_references_for_side(
     out: &mut [u8],
     w: usize,
     src: &[u8],
     argument: Argument,
     indexes: ColumnIndexes,
-    to: &[u16],
 ) -> usize
-    requires { Room (Stood indexes to.now src.now argument) (written indexes to.now argument) w out.old }
-    ensures { PutsAt (Stood indexes to.now src.now argument) (written indexes to.now argument) w
+    requires { Room (Stood indexes src.now argument) (written indexes argument) w out.old }
+    ensures { PutsAt (Stood indexes.entry src.now argument) (written indexes.entry argument) w
         out.old out.new result }
 {
-    let start = argument.start;
-    let side = argument.side;
-    if keeps_indexes(indexes, side) {
-        return copy_at(out, w, src, start, argument.end);
+    match indexes {
+        ColumnIndexes::FromTable(to) if argument.side != JoinSide::None => {
+            let copied = reproject_column_references(&mut out[w..], src, argument.start, to);
+            w + copied.wrote
+        }
+        _ => copy_at(out, w, src, argument.start, argument.end),
     }
-    let copied = reproject_column_references(&mut out[w..], src, start, to);
-    w + copied.wrote
 }
 
 // Two arguments, the second where the first ended.
@@ -143,12 +123,11 @@ pub fn put_both(
     one: Argument,
     two: Argument,
     indexes: ColumnIndexes,
-    to: &[u16],
 ) -> usize
-    requires { Room (BothStood indexes to.now src.now one two) (both_written indexes to.now one two) w out.old }
-    ensures { PutsAt (BothStood indexes to.now src.now one two)
-        (both_written indexes to.now one two) w out.old out.new result }
+    requires { Room (BothStood indexes src.now one two) (both_written indexes one two) w out.old }
+    ensures { PutsAt (BothStood indexes.entry src.now one two)
+        (both_written indexes.entry one two) w out.old out.new result }
 {
-    let v = reproject_column_references_for_side(out, w, src, one, indexes, to);
-    reproject_column_references_for_side(out, v, src, two, indexes, to)
+    let v = reproject_column_references_for_side(out, w, src, one, indexes);
+    reproject_column_references_for_side(out, v, src, two, indexes)
 }

@@ -11,10 +11,8 @@ pub fn child_indexes(to: &mut [u16], src: &[u8], rec: usize, count: usize)
     ensures child_table { ChildTable src.now rec count to.new }
     ensures to_unchanged { drop count to.new ≡ drop count to.old }
 {
-    let mut j = 0;
-    while j < count {
-        to[j] = short_at(src, rec + 5 * j + 1) as u16;
-        j += 1;
+    for (j, place) in to[..count].iter_mut().enumerate() {
+        *place = short_at(src, rec + 5 * j + 1) as u16;
     }
 }
 
@@ -25,9 +23,7 @@ pub fn raised_indexes(to: &mut [u16], by: usize, count: usize)
     ensures raised_table { RaisedTable by count to.new }
     ensures to_unchanged { drop count to.new ≡ drop count to.old }
 {
-    let mut j = 0;
-    while j < count {
-        to[j] = (by + j) as u16;
-        j += 1;
+    for (j, place) in to[..count].iter_mut().enumerate() {
+        *place = (by + j) as u16;
     }
 }

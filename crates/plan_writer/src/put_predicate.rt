@@ -10,26 +10,17 @@ ghost use Rattle.plan_writer.specs.Predicates.{predicate_bytes, kind_of, knn_hea
 use super::arguments::{Argument, ColumnIndexes, put_both, reproject_column_references_for_side};
 use super::frame_heads::put_head;
 use sedona_query_planner::spatial_predicate::{
-    DistancePredicate, KNNPredicate, RelationPredicate, SpatialPredicate, flag_number,
-    relation_number, ties_number,
+    DistancePredicate, KNNPredicate, RelationPredicate, SpatialPredicate, ties_number,
 };
-use terms::sides::{JoinSide, side_number};
+use terms::sides::JoinSide;
 use writing::numbers::put_number;
 
 // Type, left, right.
-fn put_relation(
-    out: &mut [u8],
-    src: &[u8],
-    p: RelationPredicate,
-    indexes: ColumnIndexes,
-    to: &[u16],
-) -> usize
-    requires { Room (RelationAt (change_of indexes to.now) src.now p) predicate_fields 0 out.old }
-    ensures { Puts (RelationAt (change_of indexes to.now) src.now p) predicate_fields out.old
+fn put_relation(out: &mut [u8], src: &[u8], p: RelationPredicate, indexes: ColumnIndexes) -> usize
+    requires { Room (RelationAt (change_of indexes) src.now p) predicate_fields 0 out.old }
+    ensures { Puts (RelationAt (change_of indexes.entry) src.now p) predicate_fields out.old
         out.new result }
 {
-    let relation = p.relation_type;
-    let number = relation_number(relation);
     let left = Argument {
         start: p.left,
         end: p.left_end,
@@ -40,24 +31,16 @@ fn put_relation(
         end: p.right_end,
         side: JoinSide::Right,
     };
-    out[0] = number;
-    put_both(out, 1, src, left, right, indexes, to)
+    out[0] = u8::from(p.relation_type);
+    put_both(out, 1, src, left, right, indexes)
 }
 
 // Form, side, left, right, distance.
-fn put_distance(
-    out: &mut [u8],
-    src: &[u8],
-    p: DistancePredicate,
-    indexes: ColumnIndexes,
-    to: &[u16],
-) -> usize
-    requires { Room (DistanceAt (change_of indexes to.now) src.now p) predicate_fields 0 out.old }
-    ensures { Puts (DistanceAt (change_of indexes to.now) src.now p) predicate_fields out.old
+fn put_distance(out: &mut [u8], src: &[u8], p: DistancePredicate, indexes: ColumnIndexes) -> usize
+    requires { Room (DistanceAt (change_of indexes) src.now p) predicate_fields 0 out.old }
+    ensures { Puts (DistanceAt (change_of indexes.entry) src.now p) predicate_fields out.old
         out.new result }
 {
-    let side = p.distance_side;
-    let number = side_number(side);
     let left = Argument {
         start: p.left,
         end: p.left_end,
@@ -71,20 +54,20 @@ fn put_distance(
     let distance = Argument {
         start: p.distance,
         end: p.distance_end,
-        side,
+        side: p.distance_side,
     };
-    out[0] = p.form;
-    out[1] = number;
-    let w = put_both(out, 2, src, left, right, indexes, to);
-    reproject_column_references_for_side(out, w, src, distance, indexes, to)
+    out[0] = u8::from(p.form);
+    out[1] = u8::from(p.distance_side);
+    let w = put_both(out, 2, src, left, right, indexes);
+    reproject_column_references_for_side(out, w, src, distance, indexes)
 }
 
 // k, spheroid, the number of the probe side, ties; answers where they end.
-fn put_knn_head(out: &mut [u8], k: usize, spheroid: u8, probe: u8, ties: u8) -> usize
+fn put_knn_head(out: &mut [u8], k: u32, spheroid: u8, probe: u8, ties: u8) -> usize
     requires { 7 ≤ length out.old }
     ensures { WroteAt 0 (knn_head k spheroid probe ties) out.old out.new result }
 {
-    put_number(out, 0, 4, k);
+    put_number(out, 0, 4, k as usize);
     out[4] = spheroid;
     out[5] = probe;
     out[6] = ties;
@@ -92,47 +75,38 @@ fn put_knn_head(out: &mut [u8], k: usize, spheroid: u8, probe: u8, ties: u8) -> 
 }
 
 // k, spheroid, probe side, ties, left, right.
-fn put_knn(out: &mut [u8], src: &[u8], p: KNNPredicate, indexes: ColumnIndexes, to: &[u16]) -> usize
-    requires { Room (KnnAt (change_of indexes to.now) src.now p) predicate_fields 0 out.old }
-    ensures { Puts (KnnAt (change_of indexes to.now) src.now p) predicate_fields out.old
+fn put_knn(out: &mut [u8], src: &[u8], p: KNNPredicate, indexes: ColumnIndexes) -> usize
+    requires { Room (KnnAt (change_of indexes) src.now p) predicate_fields 0 out.old }
+    ensures { Puts (KnnAt (change_of indexes.entry) src.now p) predicate_fields out.old
         out.new result }
 {
-    let spheroid = flag_number(p.use_spheroid);
-    let probe = p.probe_side;
-    let number = side_number(probe);
-    let given = p.include_tie_breakers;
-    let ties = ties_number(given);
-    let other = probe.negate();
+    let spheroid = u8::from(p.use_spheroid);
+    let probe = u8::from(p.probe_side);
+    let ties = ties_number(p.include_tie_breakers);
     let left = Argument {
         start: p.left,
         end: p.left_end,
-        side: probe,
+        side: p.probe_side,
     };
     let right = Argument {
         start: p.right,
         end: p.right_end,
-        side: other,
+        side: p.probe_side.negate(),
     };
-    let w = put_knn_head(out, p.k as usize, spheroid, number, ties);
-    put_both(out, w, src, left, right, indexes, to)
+    let w = put_knn_head(out, p.k, spheroid, probe, ties);
+    put_both(out, w, src, left, right, indexes)
 }
 
 // A predicate after its first byte and its position.
-fn put_fields(
-    out: &mut [u8],
-    src: &[u8],
-    p: SpatialPredicate,
-    indexes: ColumnIndexes,
-    to: &[u16],
-) -> usize
-    requires { Room (PredicateAt (change_of indexes to.now) src.now p) predicate_fields 0 out.old }
-    ensures { Puts (PredicateAt (change_of indexes to.now) src.now p) predicate_fields out.old
+fn put_fields(out: &mut [u8], src: &[u8], p: SpatialPredicate, indexes: ColumnIndexes) -> usize
+    requires { Room (PredicateAt (change_of indexes) src.now p) predicate_fields 0 out.old }
+    ensures { Puts (PredicateAt (change_of indexes.entry) src.now p) predicate_fields out.old
         out.new result }
 {
     match p {
-        SpatialPredicate::Relation(q) => put_relation(out, src, q, indexes, to),
-        SpatialPredicate::Distance(q) => put_distance(out, src, q, indexes, to),
-        SpatialPredicate::KNearestNeighbors(q) => put_knn(out, src, q, indexes, to),
+        SpatialPredicate::Relation(q) => put_relation(out, src, q, indexes),
+        SpatialPredicate::Distance(q) => put_distance(out, src, q, indexes),
+        SpatialPredicate::KNearestNeighbors(q) => put_knn(out, src, q, indexes),
     }
 }
 
@@ -155,13 +129,12 @@ pub fn put_predicate(
     p: SpatialPredicate,
     position: usize,
     indexes: ColumnIndexes,
-    to: &[u16],
 ) -> usize
-    requires { Room (PredicateAt (change_of indexes to.now) src.now p) (predicate_bytes position) 0 out.old }
-    ensures { Puts (PredicateAt (change_of indexes to.now) src.now p) (predicate_bytes position)
+    requires { Room (PredicateAt (change_of indexes) src.now p) (predicate_bytes position) 0 out.old }
+    ensures { Puts (PredicateAt (change_of indexes.entry) src.now p) (predicate_bytes position)
         out.old out.new result }
 {
     let kind = predicate_kind(p);
     let w = put_head(out, kind, position);
-    w + put_fields(&mut out[w..], src, p, indexes, to)
+    w + put_fields(&mut out[w..], src, p, indexes)
 }

@@ -1,14 +1,14 @@
 -- A function's name: its length between marks, the name, a bracket.
-use Prim.Native.Nat.{ℕ, ◌+◌, ◌<◌}
+use Prim.Native.Nat.{ℕ, ◌+◌}
 use native.Mathlib.Omega.{arith}
 use mathlib.Core.Path.{◌≡◌, sym, ap, ◌∙◌}
 use mathlib.Core.List.{List, [], ◌∷◌, ◌++◌, append-nil}
 use lib.ListN.{length, set, drop_of_length-le}
 use Rattle.expression.specs.Places.{Between}
 use Rattle.writing.specs.Written.{WroteAt}
-use Rattle.writing.specs.Writing.{Room, PutsAt, same}
+use Rattle.writing.specs.Writing.{PutsAt, same}
 use Rattle.printing.specs.Marks.{Fits, marked, name_text}
-use Rattle.printing.proofs.Sequences.{first_fits, second_fits, both-written, mark-fits, mark-written}
+use Rattle.printing.proofs.Sequences.{second_fits, both-written, mark-written}
 
 -- A name stands between its own ends.
 whole : (name : List ℕ) → Between name 0 (length name) name
@@ -19,24 +19,15 @@ whole name = record {
 }
 
 module _ (name : List ℕ) {w : ℕ} {before : List ℕ} (fits : Fits w (name_text name) before) where
-  pub length-fits : Fits w (marked 102 (length name) 58) before
-  length-fits = first_fits (marked 102 (length name) 58) (name ++ (91 ∷ [])) fits
-
   module _ {v : ℕ} {middle : List ℕ} (put : WroteAt w (marked 102 (length name) 58) before middle v)
       (kept : length middle ≡ length before) where
     rest-fits : Fits v (name ++ (91 ∷ [])) middle
     rest-fits = second_fits (marked 102 (length name) 58) (name ++ (91 ∷ [])) fits put kept
 
-    pub name-room : Room (Between name 0 (length name)) same v middle
-    name-room = record { it = name; stands = whole name; room = (first_fits name (91 ∷ []) rest-fits).room }
-
     module _ {end : ℕ} {copied : List ℕ} (copy : PutsAt (Between name 0 (length name)) same v middle copied end)
         (long : length copied ≡ length middle) where
       bracket-fits : Fits end (91 ∷ []) copied
       bracket-fits = second_fits name (91 ∷ []) rest-fits (copy.wrote name (whole name)) long
-
-      pub bracket-within : end < length copied
-      bracket-within = mark-fits 91 bracket-fits
 
       pub name-put : WroteAt w (name_text name) before (set copied end 91) (end + 1)
       name-put =

@@ -9,7 +9,7 @@ use Rattle.definitions.specs.Expression.{Expr, Exprs, cons}
 use Rattle.definitions.specs.Encode.{exprs_bytes}
 use Rattle.definitions.specs.Decode.{index_below}
 use Rattle.definitions.specs.Printed.{printed}
-use Rattle.expression.specs.Nodes.{children_of, Row, Tree, OfTree}
+use Rattle.expression.specs.Nodes.{children_of, Row, OfTree}
 use Rattle.expression.specs.Heads.{HeadIs}
 use Rattle.expression.specs.declared.heads.Head.{Head}
 use Rattle.expression.proofs.Standing.{tree-length, children-stand, first-stands, rest-stands, no-children, some-children, after-head, after-node}
@@ -28,9 +28,6 @@ parts : (t : Expr) → length (printed t) ≡ length (opening_of t) + (length (t
 parts t = ap length (node-text t) ∙ simp length-append
 
 module _ {s : List ℕ} {at w : ℕ} {before : List ℕ} (p : Room (PhysicalAt s at) printed w before) where
-  pub tree_of : Tree s at
-  tree_of = (index_below p.stands.bound, p.it, p.stands.stands)
-
   pub opening-room : Room (PhysicalAt s at) opening_of w before
   opening-room = record { it = p.it; stands = p.stands; room = omega (arith, p.room, parts p.it) }
 

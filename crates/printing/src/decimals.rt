@@ -7,6 +7,7 @@ ghost use Rattle.printing.specs.Marks.{Fits, marked};
 use writing::numbers::put_figures;
 
 // How many digits a number below 100,000 has.
+#[tactic(auto, unfolding(definitions::specs::Printed::decimal_width))]
 pub fn decimal_width(n: usize) -> usize
     ensures { result ≡ decimal_width n }
 {

@@ -10,7 +10,7 @@ pub fn leading_number(src: &[u8], at: usize) -> usize
     ensures { OfPhysical src.now at (λ t. result ≡ leading_of t) }
 {
     match src[at] {
-        1..=3 => src[at + 1] as usize,
+        1..=3 => usize::from(src[at + 1]),
         _ => short_at(src, at + 1),
     }
 }

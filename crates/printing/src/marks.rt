@@ -47,15 +47,11 @@ pub fn put_closing(out: &mut [u8], w: usize, src: &[u8], at: usize) -> usize
     requires { Room (PhysicalAt src.now at) closing_of w out.old }
     ensures { PutsAt (PhysicalAt src.now at) closing_of w out.old out.new result }
 {
-    match src[at] {
-        0 | 1 => w,
-        2 => {
-            out[w] = b')';
-            w + 1
-        }
-        _ => {
-            out[w] = b']';
-            w + 1
-        }
-    }
+    let mark = match src[at] {
+        0 | 1 => return w,
+        2 => b')',
+        _ => b']',
+    };
+    out[w] = mark;
+    w + 1
 }

@@ -1,31 +1,25 @@
 // How many characters a node has of its own.
-ghost use Rattle.std.specs.Prelude.{◌≡◌, ◌-◌};
+ghost use Rattle.std.specs.Prelude.{◌≡◌};
 ghost use Rattle.printing.specs.Marks.{Counted, OfCounted, own_size};
 
 use super::decimals::decimal_width;
 use super::fields::leading_number;
 use expression::fields::short_at;
 
-// How many commas stand between so many children.
-fn commas(children: usize) -> usize
-    ensures { result ≡ children - 1 }
-{
-    if children == 0 { 0 } else { children - 1 }
-}
-
 // How many characters the node at a place, of so many children, has besides theirs.
+#[tactic(auto, using(crate::proofs::SizeLaws::width_small))]
 pub fn own_size(src: &[u8], at: usize, children: usize) -> usize
     requires { Counted src.now at children }
     ensures { OfCounted src.now at children (λ t. result ≡ own_size t) }
 {
     let number = leading_number(src, at);
     let width = decimal_width(number);
-    let between = commas(children);
+    let commas = children.saturating_sub(1);
     match src[at] {
         0 => 2 + width + decimal_width(short_at(src, at + 3)),
         1 => 18 + width,
         2 => 5 + width,
-        3 => 4 + width + number + between,
-        _ => 3 + width + between,
+        3 => 4 + width + number + commas,
+        _ => 3 + width + commas,
     }
 }

@@ -46,13 +46,11 @@ fn print_children(
 {
     let mut read = at;
     let mut wrote = w;
-    let mut position = 0;
-    while position < n {
+    for position in 0..n {
         let v = put_before(out, wrote, src, parent, position);
         let one = print_node(out, v, src, read);
         read = one.read;
         wrote = one.wrote;
-        position += 1;
     }
     Printed { read, wrote }
 }

@@ -1,16 +1,14 @@
 -- What `put_rest` left, as nothing or as an expression that stands there.
-use Rattle.std.specs.Prelude.{if◌then◌else◌}
-use Prim.Native.Nat.{ℕ, ◌+◌, ◌-◌, ◌≤◌, ◌<◌}
+use Prim.Native.Nat.{ℕ, ◌+◌, ◌≤◌, ◌<◌}
 use native.Mathlib.Omega.{arith}
 use mathlib.Core.Path.{◌≡◌, refl, sym, ap, ◌∙◌, subst}
-use mathlib.Core.Bool.{Bool, true, false}
+use mathlib.Core.Bool.{Bool}
 use mathlib.Core.List.{List, [], ◌∷◌, ◌++◌}
 use mathlib.Core.Option.{Option, none, some, map}
-use lib.ListN.{length, take, drop, set, replicate, length-append, length-map, length-replicate}
+use lib.ListN.{length, take, drop, set, replicate, length-replicate}
 use lib.Seq.{drop_at, length-take-le}
 use Rattle.definitions.specs.Expression.{Expr, column, literal, and, binary, call, other, field, Record}
 use Rattle.definitions.specs.Encode.{expr_bytes, frame_bytes, remainder_bytes}
-use Rattle.definitions.specs.Leaves.{leaves}
 use Rattle.definitions.specs.Decode.{Columns, index_below}
 use Rattle.definitions.specs.Extract.{prune}
 use Rattle.definitions.specs.Good.{InRange}
@@ -18,13 +16,12 @@ use Rattle.definitions.specs.ExtractAll.{and_both, unless, without_all}
 use Rattle.theorems.proofs.Tools.{by-test}
 use Rattle.theorems.proofs.Taken.{RestIs}
 use Rattle.expression.specs.Places.{Holds}
-use Rattle.expression.specs.Nodes.{Stands}
 use Rattle.writing.specs.Written.{Wrote, WroteAt}
 use Rattle.writing.proofs.Written.{to_start, store}
-use Rattle.remainder.specs.Rests.{bytes_left, left_bytes, flag_of, flags_of, RestFits, RestPut}
+use Rattle.remainder.specs.Rests.{bytes_left, left_bytes, flags_of, RestFits, RestPut}
 use Rattle.remainder.specs.declared.rests.Stays.{Stays}
 use Rattle.remainder.specs.Pruned.{Prunable, PrunedFits, PrunedPut}
-use Rattle.remainder.specs.Last.{last_bytes, Left, LastFits}
+use Rattle.remainder.specs.Last.{last_bytes, Left}
 
 -- ---- what stays is in range
 
@@ -73,15 +70,9 @@ wrote-there {w} {r} x before after room same h = record {
 
 -- ---- the frame, for `put_rest`
 
-module _ {s : List ℕ} {rec count at : ℕ} {gone : List ℕ} {number : ℕ} {goes : Expr → Bool} {records : List Record} {t : Expr}
-    (left : Left s rec count at gone number goes records t) where
-  flagged : number ≤ length gone
-  flagged =
-      let sizes : length (flags_of goes t) ≡ length (leaves t) = length-map (leaves t) (λ leaf. flag_of (goes leaf)) in
-      let whole : length gone ≡ length (flags_of goes t ++ left.flags.rest) = ap length left.flags.bytes in
-      omega (arith, sizes, whole, length-append (flags_of goes t) left.flags.rest, left.counted)
-
-  pub rest-fits : (rest : List ℕ) → length (expr_bytes t) ≤ length rest → RestFits s at (length rest) number gone rest
+module _ {s : List ℕ} {rec count at : ℕ} {gone : List ℕ} {goes : Expr → Bool} {records : List Record} {t : Expr}
+    (left : Left s rec count at gone goes records t) where
+  pub rest-fits : (rest : List ℕ) → length (expr_bytes t) ≤ length rest → RestFits s at (length rest) (length gone) gone rest
   rest-fits rest room = record {
     columns = index_below count;
     tree = t;
@@ -89,11 +80,11 @@ module _ {s : List ℕ} {rec count at : ℕ} {gone : List ℕ} {number : ℕ} {g
     room = room;
     within = omega arith;
     counted = omega (arith, left.counted);
-    flagged = flagged;
+    flagged = omega arith;
   }
 
   -- What it left.
-  module _ {before rest : List ℕ} {r : Stays} (put : RestPut (length before) number gone before rest r t)
+  module _ {before rest : List ℕ} {r : Stays} (put : RestPut (length before) (length gone) gone before rest r t)
       (same : length rest ≡ length before) where
     wrote : WroteAt r.start (left_bytes goes t) before rest (length before)
     wrote = put.wrote goes (subst (λ (p : ℕ). Holds gone p (flags_of goes t)) (omega (arith, put.counted, left.counted)) left.flags)

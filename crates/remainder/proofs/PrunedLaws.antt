@@ -16,7 +16,7 @@ use Rattle.plan_writer.specs.Copies.{copy_of, CopyFits, NodeCopied}
 use Rattle.plan_writer.specs.declared.arguments.Copied.{Copied}
 use Rattle.plan_writer.proofs.Ranges.{wider-stands}
 use Rattle.plan_writer.proofs.TableLaws.{table-copies}
-use Rattle.remainder.specs.References.{marked, Flagged, NodeCollected}
+use Rattle.remainder.specs.References.{Flagged, NodeCollected}
 use Rattle.remainder.specs.Records.{stays, MarkedBy, kept_all, AllFit, columns_part, RecordsPut}
 use Rattle.remainder.specs.HeldIndexes.{Unmarked, Marks}
 use Rattle.remainder.proofs.FlagLaws.{held-marks, held-flags}

@@ -28,7 +28,7 @@ use Rattle.plan_writer.specs.Tables.{Entry, Table}
 use Rattle.remainder.specs.Keys.{key_at, AmongIs, KeyRow}
 use Rattle.remainder.specs.Records.{stays, MarkedBy, OfMarked, Referenced, OneFits, OneKept, kept_all, RecordsKept, RecordsPut, AllFit, AllKept}
 use Rattle.theorems.proofs.ExchangeGood.{record-length}
-use Rattle.writing.proofs.Written.{behind, together, chain, copied-wrote, part-wrote, nothing-wrote, behind-length, to_start, under}
+use Rattle.writing.proofs.Written.{behind, together, chain, copied-wrote, part-wrote, nothing-wrote, to_start, under}
 use Rattle.writing.proofs.NumberLaws.{number-length}
 use Rattle.plan_writer.proofs.TableLaws.{entry_of, entry-child, table_none, table_more, table-whole}
 
@@ -269,11 +269,6 @@ module _ {s : List ℕ} {rec count : ℕ} {flags before : List ℕ} where
       }
 
 -- ---- with the first byte and the count
-
-pub part-fit : {s : List ℕ} {rec count : ℕ} {flags before : List ℕ} → AllFit s rec count flags 3 before
-    → AllFit s rec count flags 0 (behind 3 before)
-part-fit {before = before} p =
-    record { records = p.records; columns = p.columns; is = p.is; few = p.few; room = omega (arith, p.room, behind-length 3 before) }
 
 pub columns-put : {s : List ℕ} {rec count : ℕ} {flags : List ℕ} (before part : List ℕ) {to after : List ℕ} (kept : ℕ) {r : ℕ}
     → 3 ≤ length before

@@ -13,7 +13,7 @@ use Rattle.expression.specs.Leaves.{Both}
 use Rattle.expression.proofs.Standing.{first-stands, rest-stands, after-node}
 use Rattle.writing.specs.Written.{Wrote}
 use Rattle.plan_writer.specs.Copies.{copy_of, CopyFits, CopyIs}
-use Rattle.remainder.specs.Around.{inside, Ends}
+use Rattle.remainder.specs.Around.{Ends}
 use Rattle.remainder.specs.Remainders.{and_head, copy_around, RestFits, RestCopied, sides_around, SidesStand, SidesFit, SidesCopied}
 use Rattle.expression.specs.declared.cuts.Cut.{Cut}
 use Rattle.plan_writer.specs.declared.arguments.Copied.{Copied}
@@ -23,11 +23,6 @@ use Rattle.remainder.proofs.AroundLaws.{at_leaf, not-leaf, lone-around, left-end
 -- ---- the leaf, and other AND-leaves
 
 module _ (to : List ℕ) (cut : Cut) {at : ℕ} where
-  pub copy-leaf : (before : List ℕ) (t : Expr) → at ≡ cut.leaf → Ends cut at t
-      → CopyIs at (length (expr_bytes t)) (copy_around to cut at t) before before (record { read = cut.end; wrote = 0 })
-  copy-leaf before t e ends = rw (at_leaf (inside cut.leaf (and_head cut) (copy_of to) at t) e)
-      (record { read = ends.0 e; wrote = refl; out = refl })
-
   lone-copy : {t : Expr} → (at ≡ cut.leaf → ⊥) → leaves t ≡ t ∷ [] → copy_around to cut at t ≡ copy_of to t
   lone-copy n lone = lone-around (and_head cut) (copy_of to) n lone
 

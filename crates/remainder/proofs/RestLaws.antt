@@ -1,6 +1,6 @@
 -- What stays of an And by what stays of its sides; parts written from the end to the start.
 use Rattle.std.specs.Prelude.{if◌then◌else◌}
-use Prim.Native.Nat.{ℕ, zero, suc, ◌+◌, ◌-◌, ◌≤◌, ◌<◌}
+use Prim.Native.Nat.{ℕ, ◌+◌, ◌-◌, ◌≤◌, ◌<◌}
 use native.Mathlib.Omega.{arith}
 use mathlib.Core.Path.{◌≡◌, refl, sym, ap, ap₂, ◌∙◌, subst}
 use mathlib.Core.Bool.{Bool, true, false}
@@ -205,12 +205,6 @@ module _ {end after middle : ℕ} {gone before turned sides out : List ℕ} {a b
   and-put = by-sides (eqb a.start middle) (eqb middle end) refl refl
 
 -- ---- the head of an And
-
-pub and-no-left : {left : Stays} {middle end : ℕ} {before : List ℕ} → left.start ≡ middle → AndPut left middle end before before left
-and-no-left e = record { leaf = refl; no_left = λ _. (refl, refl); no_right = λ _. (refl, refl); both = λ no _. absurd (no e) }
-
-pub and-no-right : {left : Stays} {middle end : ℕ} {before : List ℕ} → middle ≡ end → AndPut left middle end before before left
-and-no-right e = record { leaf = refl; no_left = λ _. (refl, refl); no_right = λ _. (refl, refl); both = λ _ no. absurd (no e) }
 
 pub and-headed : {left : Stays} {middle end : ℕ} {before : List ℕ} → (left.start ≡ middle → ⊥) → (middle ≡ end → ⊥) → 2 ≤ left.start
     → left.start ≤ length before → (w : ℕ) → w ≡ left.start - 2

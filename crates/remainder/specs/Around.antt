@@ -1,8 +1,7 @@
 -- An expression at a place without one of its AND-leaves.
-use Rattle.std.specs.Prelude.{ℕ, ◌+◌, ◌≡◌, List, [], ◌∷◌, ◌++◌, length, eqb, if◌then◌else◌}
+use Rattle.std.specs.Prelude.{ℕ, ◌+◌, ◌≡◌, List, [], ◌++◌, length, eqb, if◌then◌else◌}
 use Rattle.definitions.specs.Expression.{Expr, column, literal, and, binary, call, other, field}
 use Rattle.definitions.specs.Encode.{expr_bytes}
-use Rattle.definitions.specs.Leaves.{leaves}
 use Rattle.expression.specs.Nodes.{left_of, right_of}
 use Rattle.expression.specs.declared.cuts.Cut.{Cut}
 

@@ -4,32 +4,35 @@ ghost use Rattle.node_rows.specs.Rows.{Tabled};
 ghost use Rattle.remainder.specs.Last.{LastFits, LastPut};
 
 use super::pruned::put_pruned;
-use super::rests::put_rest;
+use super::record_keys::Records;
+use super::rests::{Nodes, Place, put_rest};
+use node_rows::rows::Rows;
 
-// Writes what is left of the frame in `src` without the AND-leaves whose flag is 1; answers its length. The expression that stays is first
-// written to the lent `rest`.
+// Writes what is left of a frame without the AND-leaves whose flag is 1; answers its length. The expression that stays is first written to
+// the lent `rest`.
 pub fn put_last(
     out: &mut [u8],
     rest: &mut [u8],
-    src: &[u8],
-    rec: usize,
-    count: usize,
+    records: Records,
     at: usize,
-    numbers: &[u32],
-    next: &[u16],
+    rows: Rows,
     gone: &[u8],
-    leaves: usize,
 ) -> usize
-    requires last_fits { LastFits src.now rec count at gone.now leaves rest.old out.old }
-    requires of_tree { OfTree src.now at (Tabled numbers.now next.now at 0) }
-    ensures { LastPut src.now rec count at gone.now leaves out.old out.new result }
+    requires last_fits { LastFits records.src.now records.rec records.count at gone.now rest.old out.old }
+    requires of_tree { OfTree records.src.now at (Tabled rows.numbers.now rows.next.now at 0) }
+    ensures { LastPut records.entry.src.now records.entry.rec records.entry.count at gone.now
+        out.old out.new result }
 {
     let end = rest.len();
-    let stays = put_rest(rest, end, src, at, numbers, next, 0, gone, leaves);
-    let start = stays.start;
-    if start == end {
+    let nodes = Nodes {
+        src: records.src,
+        rows,
+    };
+    let root = Place { at, index: 0 };
+    let stays = put_rest(rest, end, nodes, root, gone, gone.len());
+    if stays.start == end {
         out[0] = 0;
         return 1;
     }
-    put_pruned(out, src, rec, count, rest, start)
+    put_pruned(out, records, rest, stays.start)
 }

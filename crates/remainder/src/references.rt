@@ -15,17 +15,14 @@ pub fn collect_column_references(used: &mut [u8], src: &[u8], at: usize) -> usiz
     ensures { NodeCollected src.now at used.old used.new result }
 {
     if src[at] == 0 {
-        let index = short_at(src, at + 1);
-        used[index] = 1;
+        used[short_at(src, at + 1)] = 1;
         return at + 5;
     }
     let head = head_at(src, at);
-    let next = head.next;
-    let n = head.children;
-    if n == 0 {
-        return next;
+    if head.children == 0 {
+        return head.next;
     }
-    collect_children(used, src, next, n)
+    collect_children(used, src, head.next, head.children)
 }
 
 // The same for n expressions in a row.
@@ -35,10 +32,8 @@ fn collect_children(used: &mut [u8], src: &[u8], at: usize, n: usize) -> usize
     ensures { RowCollected src.now at n used.old used.new result }
 {
     let mut next = at;
-    let mut left = n;
-    while 0 < left {
+    for _ in 0..n {
         next = collect_column_references(used, src, next);
-        left -= 1;
     }
     next
 }

@@ -1,14 +1,13 @@
 // What stays of a filter without some of its AND-leaves, written from its end to its start: the head of an And is written once it is
 // known that both of its sides stay.
-ghost use Rattle.std.specs.Prelude.{◌+◌, ◌≤◌, ◌≡◌, [], ◌∷◌, length};
-ghost use Rattle.definitions.specs.Encode.{expr_bytes};
+ghost use Rattle.std.specs.Prelude.{◌≤◌, ◌≡◌, [], ◌∷◌, length};
 ghost use Rattle.definitions.specs.Leaves.{leaves};
 ghost use Rattle.expression.specs.Nodes.{OfTree};
 ghost use Rattle.node_rows.specs.Rows.{Tabled};
 ghost use Rattle.remainder.specs.Rests.{RestFits, RestPut, AndPut};
 
 use expression::leaves::{Node, node_at};
-use node_rows::numbers::end_of;
+use node_rows::rows::Rows;
 use writing::copies::copy_at;
 
 // Where what stays of an expression starts, and how many AND-leaves are before the expression.
@@ -18,26 +17,41 @@ pub struct Stays {
     pub leaf: usize,
 }
 
+// The bytes of a filter, with its nodes in rows.
+#[derive(Clone, Copy)]
+pub struct Nodes<'a> {
+    pub src: &'a [u8],
+    pub rows: Rows<'a>,
+}
+
+// Where a node stands, and its index in the rows.
+#[derive(Clone, Copy)]
+pub struct Place {
+    pub at: usize,
+    pub index: usize,
+}
+
 // An AND-leaf, unless its flag says that it goes.
 fn put_leaf(
     out: &mut [u8],
     end: usize,
-    src: &[u8],
-    at: usize,
-    stop: usize,
+    nodes: Nodes,
+    place: Place,
     gone: &[u8],
     after: usize,
 ) -> Stays
-    requires rest_fits { RestFits src.now at end after gone.now out.old }
-    requires of_tree { OfTree src.now at (λ t. (leaves t ≡ t ∷ []) × (stop ≡ at + length (expr_bytes t))) }
-    ensures { OfTree src.now at (RestPut end after gone.now out.old out.new result) }
+    requires rest_fits { RestFits nodes.src.now place.at end after gone.now out.old }
+    requires of_tree { OfTree nodes.src.now place.at (λ t. (leaves t ≡ t ∷ [])
+        × Tabled nodes.rows.numbers.now nodes.rows.next.now place.at place.index t) }
+    ensures { OfTree nodes.entry.src.now place.at (RestPut end after gone.now out.old out.new result) }
 {
     let leaf = after - 1;
     if gone[leaf] == 1 {
         return Stays { start: end, leaf };
     }
-    let start = end - (stop - at);
-    copy_at(out, start, src, at, stop);
+    let stop = nodes.rows.end(place.index);
+    let start = end - (stop - place.at);
+    copy_at(out, start, nodes.src, place.at, stop);
     Stays { start, leaf }
 }
 
@@ -66,36 +80,25 @@ fn put_and(out: &mut [u8], left: Stays, middle: usize, end: usize) -> Stays
 pub fn put_rest(
     out: &mut [u8],
     end: usize,
-    src: &[u8],
-    at: usize,
-    numbers: &[u32],
-    next: &[u16],
-    i: usize,
+    nodes: Nodes,
+    place: Place,
     gone: &[u8],
     after: usize,
 ) -> Stays
-    requires rest_fits { RestFits src.now at end after gone.now out.old }
-    requires of_tree { OfTree src.now at (Tabled numbers.now next.now at i) }
-    ensures { OfTree src.now at (RestPut end after gone.now out.old out.new result) }
+    requires rest_fits { RestFits nodes.src.now place.at end after gone.now out.old }
+    requires of_tree { OfTree nodes.src.now place.at (Tabled nodes.rows.numbers.now nodes.rows.next.now place.at place.index) }
+    ensures { OfTree nodes.entry.src.now place.at (RestPut end after gone.now out.old out.new result) }
 {
-    let Node::And(left) = node_at(src, at) else {
-        let stop = end_of(numbers, i);
-        return put_leaf(out, end, src, at, stop, gone, after);
+    let Node::And(left) = node_at(nodes.src, place.at) else {
+        return put_leaf(out, end, nodes, place, gone, after);
     };
-    let place = end_of(numbers, i + 1);
-    let index = next[i + 1] as usize;
-    let right = put_rest(out, end, src, place, numbers, next, index, gone, after);
-    let middle = right.start;
-    let first = put_rest(
-        out,
-        middle,
-        src,
-        left,
-        numbers,
-        next,
-        i + 1,
-        gone,
-        right.leaf,
-    );
-    put_and(out, first, middle, end)
+    let index = place.index + 1;
+    let behind = Place {
+        at: nodes.rows.end(index),
+        index: nodes.rows.after(index),
+    };
+    let right = put_rest(out, end, nodes, behind, gone, after);
+    let before = Place { at: left, index };
+    let first = put_rest(out, right.start, nodes, before, gone, right.leaf);
+    put_and(out, first, right.start, end)
 }

@@ -13,6 +13,7 @@ pub struct Settings {
 }
 
 // Whether they do not get 24.
+#[tactic(auto, unfolding(definitions::specs::Settings::good_settings))]
 pub fn good_settings(settings: Settings) -> bool
     ensures value { result ≡ definitions.good_settings (settings_of settings) }
     ensures good_settings { result ≡ true → GoodSettings (settings_of settings) }
@@ -30,6 +31,7 @@ pub fn good_settings(settings: Settings) -> bool
 }
 
 // All kinds, 1 and 4,294,967,295: what the program gives.
+#[tactic(auto, unfolding(definitions::specs::Settings::default_settings))]
 pub fn default_settings() -> Settings
     ensures { settings_of result ≡ definitions.default_settings }
 {

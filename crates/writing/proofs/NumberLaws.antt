@@ -1,39 +1,35 @@
 -- A number written from its last place to its first, to any base.
 use Prim.Native.Nat.{ℕ, zero, suc, ◌+◌, ◌-◌, ◌/◌, ◌%◌, ◌^◌, ◌≤◌, ◌<◌}
 use native.Mathlib.Omega.{arith}
-use native.Mathlib.Nat.{div-div-eq-div-mul, div-one, pow-zero, pow-suc}
+use native.Mathlib.Nat.{add-zero, div-div-eq-div-mul, div-one, pow-zero, pow-suc}
 use mathlib.Core.Path.{◌≡◌, refl, sym, ap, ap₂, ◌∙◌}
-use mathlib.Core.List.{List, [], ◌∷◌, ◌++◌}
+use mathlib.Core.List.{List, ◌∷◌, ◌++◌}
 use lib.ListN.{length, take, drop, get_or, set, length-set, take-append-drop}
 use lib.Seq.{take-suc, append_snoc, set_at, length-take-le}
 use Rattle.definitions.specs.Basics.{big_endian}
-use Rattle.definitions.specs.Program.{digit}
+use Rattle.theorems.proofs.Figures.{digit-small}
 use Rattle.definitions.specs.Printed.{figures}
+use Rattle.writing.specs.Numerals.{places}
 use Rattle.writing.specs.Written.{WroteAt}
-
--- The last `width` places of a number, the most significant first, each as it is written.
-unfoldable pub places : (base : ℕ) → (ℕ → ℕ) → (width : ℕ) → ℕ → List ℕ
-places base sign zero v = []
-places base sign (suc w) v = sign (v / base ^ w % base) ∷ places base sign w v
 
 places-length : (base : ℕ) (sign : ℕ → ℕ) (width v : ℕ) → length (places base sign width v) ≡ width
 unfolding places
 places-length base sign zero v = refl
 places-length base sign (suc w) v = ap suc (places-length base sign w v)
 
--- Bytes are places to base 256, and decimal digits to base 10.
-pub bytes-are : (width v : ℕ) → places 256 (λ b. b) width v ≡ big_endian width v
+-- Bytes are places to base 256, and decimal digits to base 10, where 0 is written as 48.
+pub bytes-are : (width v : ℕ) → places 256 (λ d. d + 0) width v ≡ big_endian width v
 unfolding places big_endian
 bytes-are zero v = refl
-bytes-are (suc w) v = ap (λ (l : List ℕ). v / 256 ^ w % 256 ∷ l) (bytes-are w v)
+bytes-are (suc w) v = ap₂ ◌∷◌ (add-zero (v / 256 ^ w % 256)) (bytes-are w v)
 
-pub figures-are : (width v : ℕ) → places 10 digit width v ≡ figures width v
+pub figures-are : (width v : ℕ) → places 10 (λ d. d + 48) width v ≡ figures width v
 unfolding places figures
 figures-are zero v = refl
-figures-are (suc w) v = ap (λ (l : List ℕ). digit (v / 10 ^ w % 10) ∷ l) (figures-are w v)
+figures-are (suc w) v = ap₂ ◌∷◌ (sym (digit-small (v / 10 ^ w % 10) (omega arith))) (figures-are w v)
 
 pub number-length : (width v : ℕ) → length (big_endian width v) ≡ width
-number-length width v = ap length (sym (bytes-are width v)) ∙ places-length 256 (λ b. b) width v
+number-length width v = ap length (sym (bytes-are width v)) ∙ places-length 256 (λ d. d + 0) width v
 
 -- One place more, before the last k.
 place-more : (base : ℕ) (sign : ℕ → ℕ) (v : ℕ) (before out : List ℕ) (p k end : ℕ) → p < length before

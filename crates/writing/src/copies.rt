@@ -9,11 +9,7 @@ pub fn copy_bytes(out: &mut [u8], src: &[u8], from: usize, n: usize)
     requires out_has_room { n ≤ length out.old }
     ensures { out.new ≡ take n (drop from src.now) ++ drop n out.old }
 {
-    let mut i = 0;
-    while i < n {
-        out[i] = src[from + i];
-        i += 1;
-    }
+    out[..n].copy_from_slice(&src[from..from + n]);
 }
 
 // Copies the bytes from one place up to another to `out` from w on; answers where they end.

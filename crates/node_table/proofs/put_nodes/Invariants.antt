@@ -1,12 +1,8 @@
--- `put_nodes`: the invariant is that i records are put and the rest is as it was.
-use Prim.Native.Nat.{◌≤◌, ◌-◌}
+-- `put_nodes`: i records are put and the rest is as it was.
 use mathlib.Core.Path.{◌≡◌}
 use Rattle.node_table.proofs.Filling.{filled}
 use Rattle.node_table.proofs.RecordLaws.{lent}
 use Rattle.node_table.proofs.put_nodes.Given as goal
 
 abbrev pub invariant-loop-i : goal.invariant-loop-i
-invariant-loop-i l = (l.i ≤ l.count) × (l.table ≡ filled lent l.row l.initial.table l.i)
-
-abbrev pub decreases-loop-i : goal.decreases-loop-i
-decreases-loop-i l = l.count - l.i
+invariant-loop-i l = l.table ≡ filled lent l.row l.initial.table l.i

@@ -1,4 +1,4 @@
--- Right because a turn puts the number of the record at place k, which `node_number` gives, at place k of the row: k + 1 are taken then.
+-- Right because a turn puts the number of the record at place k, which its conversion gives, at place k of the row: k + 1 are taken then.
 use native.Mathlib.Omega.{arith}
 use mathlib.Core.Path.{◌≡◌, ap, ap₂, ◌∙◌}
 use lib.ListN.{set}
@@ -9,14 +9,12 @@ use Rattle.node_table.proofs.take_nodes.Goals as goal
 pub loop-k-preserved : goal.loop-k-preserved
 loop-k-preserved c =
     let args = c.args in
-    let loop = c.loop-k in (
-      omega arith,
-      ap₂ (λ l r. set l loop.k r) loop.invariant.1 c.node_number.ensures
-          ∙ filled_next number_of args.table.now args.row.now blank loop.k (omega arith) (omega arith),
-    )
+    let loop = c.loop-k in
+    ap₂ (λ l r. set l loop.k r) loop.invariant c.from.ensures
+    ∙ filled_next number_of args.table.now args.row.now blank loop.k (omega arith) (omega arith)
 
 pub returns : goal.returns
 returns c =
     let args = c.args in
     let end : c.loop-k.k ≡ args.count = omega arith in
-    c.loop-k.invariant.1 ∙ ap (filled number_of args.table.now args.row.now) end ∙ take_all args.count args.table.now args.row.now
+    c.loop-k.invariant ∙ ap (filled number_of args.table.now args.row.now) end ∙ take_all args.count args.table.now args.row.now

@@ -12,7 +12,7 @@ use Rattle.call_merge.proofs.held_frame.merge_held.Goals.{After-copy_bytes, Afte
 
 -- Both frames stand there.
 both : (c : After-shared_slice_known-1)
-    → let a = c.args in Both a.frame.now a.n a.plan.now a.old a.new
+    → let a = c.args in Both a.frame.now a.n a.plan.now a.parts.old a.parts.new
 both c =
     record {
       held = c.requires.holds_frame;
@@ -28,18 +28,18 @@ some-length c = (not-empty (both c), omega (arith, (counts (both c)).bytes))
 
 -- The merged expression begins past one head.
 roots : (c : After-shared_slice_known-1)
-    → let a = c.args in (6 ≤ a.old.root + a.new.root) × (a.old.root + a.new.root ≤ 32768)
+    → let a = c.args in (6 ≤ a.parts.old.root + a.parts.new.root) × (a.parts.old.root + a.parts.new.root ≤ 32768)
 roots c = root-bounds (both c)
 
 -- The limits, where they are not passed.
 under : (c : After-over_limits-over) → c.over_limits-over.result ≡ false
-    → let a = c.args in false ≡ over_together a.n (length a.frame.now) a.old a.new
+    → let a = c.args in false ≡ over_together a.n (length a.frame.now) a.parts.old a.parts.new
 under c e = sym e ∙ c.over_limits-over.ensures
 
 -- Limits and room allow it, and the old plan is kept.
 ready : (c : After-copy_bytes)
     → let a = c.args in
-    Ready a.frame.now a.n a.plan.now a.scratch.now a.old a.new a.held c.copy_bytes.new.out
+    Ready a.frame.now a.n a.plan.now a.scratch.now a.parts.old a.parts.new a.held c.copy_bytes.new.out
 ready c =
     record {
       both = (record {
@@ -61,12 +61,11 @@ over_limits-over-requires c =
 
 pub returns-then-over : goal.returns-then-over
 returns-then-over c =
-    rw c.unfilled.ensures (too_large (both (goal.at.returns-then-over c).After-shared_slice_known-1) _ _
+    (too_large (both (goal.at.returns-then-over c).After-shared_slice_known-1) _ _
     (sym c.if-over.true ∙ c.over_limits-over.ensures))
 
 pub returns-then-scratch-n : goal.returns-then-scratch-n
 returns-then-scratch-n c =
-    rw c.unfilled-then-scratch-n.ensures
     (scratch-short (both (goal.at.returns-then-scratch-n c).After-shared_slice_known-1) _ _
     (under (goal.at.returns-then-scratch-n c).After-over_limits-over c.if-over.false) c.if-scratch-n.true)
 
@@ -80,7 +79,6 @@ overflow_sub-n c =
 
 pub returns-then-plan-n : goal.returns-then-plan-n
 returns-then-plan-n c =
-    rw c.unfilled-then-plan-n.ensures
     (plan-short (both (goal.at.returns-then-plan-n c).After-shared_slice_known-1) _ _
     (under (goal.at.returns-then-plan-n c).After-over_limits-over c.if-over.false)
     (omega (arith, c.if-scratch-n.false))
@@ -96,7 +94,6 @@ overflow_add-count-2 c =
 
 pub returns-then-held-count : goal.returns-then-held-count
 returns-then-held-count c =
-    rw c.unfilled-then-held-count.ensures
     (table-short (both (goal.at.returns-then-held-count c).After-shared_slice_known-1) _ _
     (under (goal.at.returns-then-held-count c).After-over_limits-over c.if-over.false)
     (omega (arith, c.if-scratch-n.false))
@@ -117,14 +114,17 @@ copy_bytes-requires c =
       out_has_room = omega (arith, c.requires.holds_frame.fits);
     }
 
-pub slice_bounds-put_merged-end-2 : goal.slice_bounds-put_merged-end-2
-slice_bounds-put_merged-end-2 c =
-    copy-length (ready (goal.at.slice_bounds-put_merged-end-2 c).After-copy_bytes)
+pub slice_bounds-two-end-2 : goal.slice_bounds-two-end-2
+slice_bounds-two-end-2 c =
+    copy-length (ready (goal.at.slice_bounds-two-end-2 c).After-copy_bytes)
+
+pub invariant_of-two : goal.invariant_of-two
+invariant_of-two c =
+    record { few = (merged-room (ready (goal.at.invariant_of-two c).After-copy_bytes)).1 }
 
 pub put_merged-length-requires : goal.put_merged-length-requires
 put_merged-length-requires c =
-    let both = merged-room (ready (goal.at.put_merged-length-requires c).After-copy_bytes) in
-    record { room = both.0; columns_bound = both.1 }
+    (merged-room (ready (goal.at.put_merged-length-requires c).After-copy_bytes)).0
 
 pub returns : goal.returns
 returns c =

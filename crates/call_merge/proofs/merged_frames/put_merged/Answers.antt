@@ -7,40 +7,34 @@ use Rattle.call_merge.proofs.merged_frames.put_merged.Goals as goal
 
 pub put_tables-w-requires : goal.put_tables-w-requires
 put_tables-w-requires c =
-    let p = c.requires in record {
-      room = first-room merged_expr (stored-room (merged-view _ _) p.room);
-      columns_bound = p.columns_bound;
-    }
+    first-room merged_expr (stored-room (merged-view _ _) c.requires)
 
 pub slice_bounds-put_and-count : goal.slice_bounds-put_and-count
 slice_bounds-put_and-count c =
     let tables = c.put_tables-w in
-    part-starts (first-room merged_expr (stored-room (merged-view _ _) c.requires.room))
+    part-starts (first-room merged_expr (stored-room (merged-view _ _) c.requires))
     (from_zero tables.ensures) tables.auto.out
 
 pub slice_bounds-put_and-start : goal.slice_bounds-put_and-start
 slice_bounds-put_and-start c =
     let tables = c.put_tables-w in
-    part-starts (first-room merged_expr (stored-room (merged-view _ _) c.requires.room))
+    part-starts (first-room merged_expr (stored-room (merged-view _ _) c.requires))
     (from_zero tables.ensures) tables.auto.out
 
 pub put_and-requires : goal.put_and-requires
 put_and-requires c =
     let tables = c.put_tables-w in
-    let room = stored-room (merged-view c.args.f c.args.g) c.requires.room in
-    record {
-      room = part_room (second-room room (from_zero tables.ensures) tables.auto.out);
-      columns_bound = c.requires.columns_bound;
-    }
+    let room = stored-room (merged-view c.args.two.old.parts c.args.two.new.parts) c.requires in
+    part_room (second-room room (from_zero tables.ensures) tables.auto.out)
 
 pub overflow_add-result : goal.overflow_add-result
 overflow_add-result c =
     omega (
       arith,
       c.well_formed,
-      ends-within c.requires.room (from_zero ((let and = c.put_and in
+      ends-within c.requires (from_zero ((let and = c.put_and in
           let tables = c.put_tables-w in
-          stored-put (merged-view c.args.f c.args.g) c.requires.room
+          stored-put (merged-view c.args.two.old.parts c.args.two.new.parts) c.requires
           (both-put (omega arith) (from_zero tables.ensures) (part-put tables.new.out and.new.out tables.result and.ensures))))),
     )
 
@@ -48,5 +42,5 @@ pub returns : goal.returns
 returns c =
     let and = c.put_and in
     let tables = c.put_tables-w in
-    stored-put (merged-view c.args.f c.args.g) c.requires.room
+    stored-put (merged-view c.args.two.old.parts c.args.two.new.parts) c.requires
     (both-put (omega arith) (from_zero tables.ensures) (part-put tables.new.out and.new.out tables.result and.ensures))

@@ -8,7 +8,7 @@ use Rattle.call_merge.proofs.merged_frames.put_raised.Goals as goal
 use Rattle.call_merge.proofs.merged_frames.put_raised.Goals.{After-raised_indexes}
 
 -- Every column is in the table.
-wide : (c : After-raised_indexes) → c.args.f.columns ≤ length c.raised_indexes.new.to
+wide : (c : After-raised_indexes) → c.args.given.parts.columns ≤ length c.raised_indexes.new.to
 wide c = omega (arith, c.raised_indexes.auto.to, c.requires.columns_bound)
 
 pub reproject_column_references-copied-requires : goal.reproject_column_references-copied-requires

@@ -16,13 +16,13 @@ overflow_add-count c =
 pub put_frame_head-w-requires : goal.put_frame_head-w-requires
 unfolding big_endian frame_head
 put_frame_head-w-requires c =
-    head-room (tables-view _ _) c.requires.room
+    head-room (tables-view _ _) c.requires
 
 pub copy_at-v-requires : goal.copy_at-v-requires
 unfolding big_endian frame_head
 copy_at-v-requires c =
     let head = c.put_frame_head-w in
-    let fits = c.requires.room in
+    let fits = c.requires in
     first-room same (rest-room (tables-view _ _) fits head.ensures head.auto.out)
 
 pub copy_at-requires : goal.copy_at-requires
@@ -30,7 +30,7 @@ unfolding big_endian frame_head
 copy_at-requires c =
     let held = c.copy_at-v in
     let head = c.put_frame_head-w in
-    let fits = c.requires.room in
+    let fits = c.requires in
     second-room (rest-room (tables-view _ _) fits head.ensures head.auto.out) held.ensures held.auto.out
 
 pub shape_of-out : goal.shape_of-out
@@ -42,7 +42,7 @@ pub returns : goal.returns
 unfolding big_endian frame_head
 returns c =
     let head = c.put_frame_head-w in
-    let fits = c.requires.room in
+    let fits = c.requires in
     let room = (rest-room (tables-view _ _) fits head.ensures head.auto.out).room in
     headed-put (tables-view _ _) head.ensures
     (both-put (omega (arith, room)) c.copy_at-v.ensures

@@ -1,27 +1,26 @@
 -- `end_node` and `end_children`: a node walk goes further on, a row walk to a node at its own place; so the measure is twice the bytes
 -- left, one more for a row.
-use Prim.Native.Nat.{◌-◌}
 use native.Mathlib.Omega.{arith}
 use Rattle.expression.proofs.Standing.{node-some, after-head}
 use Rattle.expression.proofs.EndWalk.{end-node, end_none, children-there, ends-begin, ends-first, ends-go-on, ends-end}
 use Rattle.expression.proofs.ends.+end_children_end_node.Goals as goal
 
-pub end_children-loop-left-init : goal.end_children-loop-left-init
-end_children-loop-left-init t c =
-    ends-begin c.requires
+pub end_children-loop-init : goal.end_children-loop-init
+end_children-loop-init t c =
+    ends-begin c.requires _ (omega arith)
 
 pub end_children-end_node-next-requires : goal.end_children-end_node-next-requires
 end_children-end_node-next-requires t c =
-    let inv = c.loop-left.invariant in
-    (omega (arith, inv.low), ends-first inv c.loop-left-test.true)
+    let inv = c.loop.invariant in
+    (omega (arith, inv.low), ends-first inv (omega (arith, c.loop-test.true)))
 
-pub end_children-loop-left-preserved : goal.end_children-loop-left-preserved
-end_children-loop-left-preserved t c =
-    ends-go-on c.loop-left.invariant c.loop-left-test.true c.end_node-next.result c.end_node-next.ensures
+pub end_children-loop-preserved : goal.end_children-loop-preserved
+end_children-loop-preserved t c =
+    ends-go-on c.loop.invariant (omega (arith, c.loop-test.true)) c.end_node-next.result c.end_node-next.ensures _ (omega arith)
 
 pub end_children-returns : goal.end_children-returns
 end_children-returns t c =
-    ends-end c.loop-left.invariant c.loop-left-test.false
+    ends-end c.loop.invariant (omega (arith, c.loop-test.false))
 
 pub end_node-head_at-head-requires : goal.end_node-head_at-head-requires
 end_node-head_at-head-requires t c =

@@ -5,13 +5,9 @@ use lib.ListN.{length}
 use Rattle.expression.proofs.EndWalk.{InEnds}
 use Rattle.expression.proofs.ends.+end_children_end_node.Given as goal
 
-abbrev pub invariant-end_children-loop-left : goal.invariant-end_children-loop-left
-invariant-end_children-loop-left l =
-    InEnds l.s l.at l.n l.next l.left
-
-abbrev pub decreases-end_children-loop-left : goal.decreases-end_children-loop-left
-decreases-end_children-loop-left l =
-    l.left
+abbrev pub invariant-end_children-loop : goal.invariant-end_children-loop
+invariant-end_children-loop l =
+    InEnds l.s l.at l.n l.next (l.n - l.counter)
 
 abbrev pub decreases-end_children : goal.decreases-end_children
 decreases-end_children l =

@@ -1,16 +1,11 @@
--- The lower half are the numbers from 0 on, and the upper half count down from −1.
+-- `signed`: the conversion is that of the definition.
 use mir.Facts.{to_z-of_z}
-use Rattle.expression.proofs.Signed.{lower, upper, upper_fits}
+use mir.Syntax.{w64}
+use mathlib.Core.Path.{◌∙◌}
+use Rattle.expression.proofs.Signed.{twos_complement}
 use Rattle.expression.proofs.literals.signed.Goals as goal
 
-pub overflow_sub-result-else-bytes-lt9223372036854775808 : goal.overflow_sub-result-else-bytes-lt9223372036854775808
-overflow_sub-result-else-bytes-lt9223372036854775808 c =
-    rw (upper c.args.bytes c.if-bytes-lt9223372036854775808.false) (upper_fits _ c.if-bytes-lt9223372036854775808.false)
-
-pub returns-then-bytes-lt9223372036854775808 : goal.returns-then-bytes-lt9223372036854775808
-returns-then-bytes-lt9223372036854775808 c =
-    lower _ c.if-bytes-lt9223372036854775808.true
-
-pub returns-else-bytes-lt9223372036854775808 : goal.returns-else-bytes-lt9223372036854775808
-returns-else-bytes-lt9223372036854775808 c =
-    rw (upper c.args.bytes c.if-bytes-lt9223372036854775808.false) (to_z-of_z (upper_fits _ c.if-bytes-lt9223372036854775808.false))
+pub returns : goal.returns
+returns c =
+    to_z-of_z {w = w64} {z = c.cast_signed.result} (record { sfits = c.cast_signed.type_inv })
+    ∙ c.cast_signed.ensures ∙ twos_complement c.args.bytes

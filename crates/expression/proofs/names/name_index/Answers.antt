@@ -1,5 +1,4 @@
 -- `name_index`: none of the names before `from` is this one, and `i` counts them; so the next word is it, or is counted too.
-use Prim.Native.Nat.{◌-◌}
 use native.Mathlib.Omega.{arith}
 use mathlib.Core.Path.{sym, ◌∙◌}
 use Rattle.expression.specs.Places.{part}

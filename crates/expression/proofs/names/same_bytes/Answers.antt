@@ -1,5 +1,4 @@
 -- `same_bytes`: names of one length are the same if no byte differs; the loop keeps that the rest decides.
-use Prim.Native.Nat.{◌-◌}
 use native.Mathlib.Omega.{arith}
 use mathlib.Core.Path.{refl, sym}
 use Rattle.expression.proofs.NameLaws.{other_length, same_more, same-less, same-all}

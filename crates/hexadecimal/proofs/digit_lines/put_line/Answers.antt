@@ -1,7 +1,5 @@
 -- `put_line`: three parts are written in a row, each from where the last ended.
 use borrow.Author.Rules.{rules}
-use native.Mathlib.Omega.{arith}
-use lib.ListN.{length-set}
 use Rattle.hexadecimal.proofs.EncodeLaws.{digits-room, feed-room, line-written}
 use Rattle.hexadecimal.proofs.digit_lines.put_line.Goals as goal
 
@@ -15,19 +13,6 @@ bounds-out-end c =
     let head = c.encode-middle in
     let body = c.encode-end in
     feed-room _ _ head.ensures head.auto.out (search rules) body.ensures body.auto.out
-
-pub overflow_add-result : goal.overflow_add-result
-overflow_add-result c =
-    omega (
-      arith,
-      (let head = c.encode-middle in
-          let body = c.encode-end in
-          feed-room _ _ head.ensures head.auto.out (search rules) body.ensures body.auto.out),
-    )
-
-pub shape_of-out : goal.shape_of-out
-shape_of-out c =
-    simp length-set (omega arith)
 
 pub returns : goal.returns
 returns c =

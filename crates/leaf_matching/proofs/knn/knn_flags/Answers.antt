@@ -12,28 +12,24 @@ pub extract_literal_bool-requires : goal.extract_literal_bool-requires
 extract_literal_bool-requires c =
     first-there c.requires c.if-n-eq0.false
 
-pub returns-in_default : goal.returns-in_default
-returns-in_default c =
-    flags-unread c.if-n-eq0.false _ c.extract_literal_bool.ensures c.in_default.is
+pub returns-in_err-use_spheroid : goal.returns-in_err-use_spheroid
+returns-in_err-use_spheroid c =
+    rw c.from_residual.ensures (flags-unread c.if-n-eq0.false c.in_err-use_spheroid.ensures)
 
 pub returns-then-n-eq1 : goal.returns-then-n-eq1
 returns-then-n-eq1 c =
-    flags-one c.if-n-eq0.false _ c.extract_literal_bool.ensures _
-    c.in-Value.is c.if-n-eq1.true
+    flags-one c.if-n-eq0.false _ c.in_ok-use_spheroid.ensures c.if-n-eq1.true
 
 pub extract_literal_bool-requires-2 : goal.extract_literal_bool-requires-2
 extract_literal_bool-requires-2 c =
-    first-there (rest-there c.requires c.if-n-eq0.false _
-    (flag-next c.if-n-eq0.false _ c.extract_literal_bool.ensures _ c.in-Value.is))
+    first-there (rest-there c.requires c.if-n-eq0.false _ (flag-next c.if-n-eq0.false _ c.in_ok-use_spheroid.ensures))
     (λ e. c.if-n-eq1.false (omega arith))
 
-pub returns-in_default-extract_literal_bool : goal.returns-in_default-extract_literal_bool
-returns-in_default-extract_literal_bool c =
-    ties-unread c.if-n-eq0.false _ c.extract_literal_bool.ensures _
-    c.in-Value.is c.if-n-eq1.false _ c.extract_literal_bool-2.ensures c.in_default-extract_literal_bool.is
+pub returns-in_err-ties : goal.returns-in_err-ties
+returns-in_err-ties c =
+    rw c.from_residual-in_err-ties.ensures
+    (ties-unread c.if-n-eq0.false _ c.in_ok-use_spheroid.ensures c.if-n-eq1.false c.in_err-ties.ensures)
 
 pub returns : goal.returns
 returns c =
-    flags-two c.if-n-eq0.false _ c.extract_literal_bool.ensures _
-    c.in-Value.is
-    c.if-n-eq1.false _ c.extract_literal_bool-2.ensures _ c.in-Value-extract_literal_bool.is
+    flags-two c.if-n-eq0.false _ c.in_ok-use_spheroid.ensures c.if-n-eq1.false _ c.in_ok-ties.ensures

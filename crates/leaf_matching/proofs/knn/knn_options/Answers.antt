@@ -11,23 +11,19 @@ pub extract_literal_k-requires : goal.extract_literal_k-requires
 extract_literal_k-requires c =
     first-there c.requires.trees c.if-n-eq0.false
 
-pub returns-in_default : goal.returns-in_default
-returns-in_default c =
-    k-unread _ c.if-n-eq0.false c.requires.n_bound _ c.extract_literal_k.ensures
-    c.in_default.is
+pub returns-in_err-k : goal.returns-in_err-k
+returns-in_err-k c =
+    rw c.from_residual.ensures (k-unread _ c.if-n-eq0.false c.requires.n_bound c.in_err-k.ensures)
 
 pub knn_flags-requires : goal.knn_flags-requires
 knn_flags-requires c =
-    rest-there c.requires.trees c.if-n-eq0.false _
-    (k-next 1 c.if-n-eq0.false c.requires.n_bound _ c.extract_literal_k.ensures _ c.in-Value.is)
+    rest-there c.requires.trees c.if-n-eq0.false _ (k-next 1 c.if-n-eq0.false c.requires.n_bound _ c.in_ok-k.ensures)
 
-pub returns-in-Read : goal.returns-in-Read
-returns-in-Read c =
-    options-read _ c.if-n-eq0.false c.requires.n_bound _
-    c.extract_literal_k.ensures _ c.in-Value.is _ c.knn_flags.ensures _ _
-    c.in-Read.is
+pub returns-in_err-flags : goal.returns-in_err-flags
+returns-in_err-flags c =
+    rw c.from_residual-in_err-flags.ensures
+    (options-unread _ c.if-n-eq0.false c.requires.n_bound _ c.in_ok-k.ensures c.in_err-flags.ensures)
 
-pub returns-in-Nothing : goal.returns-in-Nothing
-returns-in-Nothing c =
-    options-unread _ c.if-n-eq0.false c.requires.n_bound _
-    c.extract_literal_k.ensures _ c.in-Value.is _ c.knn_flags.ensures c.in-Nothing.is
+pub returns : goal.returns
+returns c =
+    options-read _ c.if-n-eq0.false c.requires.n_bound _ c.in_ok-k.ensures _ c.in_ok-flags.ensures

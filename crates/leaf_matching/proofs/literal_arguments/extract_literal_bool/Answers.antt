@@ -19,12 +19,12 @@ pub returns-then-s-at-ne1 : goal.returns-then-s-at-ne1
 returns-then-s-at-ne1 c =
     λ d t h. (no-literal h c.if-s-at-ne1.true).1
 
-pub long_at-bytes-requires : goal.long_at-bytes-requires
-long_at-bytes-requires c =
-    omega (arith, (literal-is c.requires.2 c.if-s-at-ne1.false).fits)
-
 pub bounds-s-at-2 : goal.bounds-s-at-2
 bounds-s-at-2 c =
+    omega (arith, (literal-is c.requires.2 c.if-s-at-ne1.false).fits)
+
+pub long_at-requires : goal.long_at-requires
+long_at-requires c =
     omega (arith, (literal-is c.requires.2 c.if-s-at-ne1.false).fits)
 
 pub returns-in-1 : goal.returns-in-1
@@ -33,8 +33,8 @@ returns-in-1 c =
     let kind = c.if-s-at-ne1.false in
     let bytes = long_at c.args.s.now (c.args.at + 2) in
     literal-flag h kind _
-    (ap (λ (n : ℕ). some (flag (eqb n 1))) c.long_at-bytes.ensures ∙ flag-is bytes (flag_small h kind c.in-1.is) ∙ ap
-    (λ (y : ℕ). number_bool y bytes) (sym c.in-1.is))
+    (ap (λ (n : ℕ). some (flag (eqb n 1))) c.long_at.ensures ∙ flag-is bytes (flag_small h kind c.in-1.is)
+    ∙ ap (λ (y : ℕ). number_bool y bytes) (sym c.in-1.is))
 
 pub returns-in_default : goal.returns-in_default
 returns-in_default c =

@@ -6,7 +6,8 @@ use mir.Syntax.{w64}
 use mir.Facts.{to_z-of_z}
 use Rattle.definitions.specs.Literals.{signed, u32}
 use Rattle.expression.proofs.Standing.{node-some}
-use Rattle.leaf_matching.proofs.LiteralLaws.{literal-is, no-literal, literal-number, number-below, number-signed, number-unsigned, number-above}
+use Rattle.leaf_matching.specs.Literals.{number_is}
+use Rattle.leaf_matching.proofs.LiteralLaws.{u32-of, u32-of-signed, literal-is, no-literal, literal-number, number-below, number-signed, number-unsigned, number-above}
 use Rattle.leaf_matching.proofs.literal_arguments.extract_literal_u32.Goals as goal
 
 pub bounds-s-at : goal.bounds-s-at
@@ -28,13 +29,15 @@ bounds-s-at-2 c =
 pub returns-in-2 : goal.returns-in-2
 returns-in-2 c =
     λ d t h. literal-number h c.if-s-at-ne1.false _
-    (c.u32_of_i64.ensures ∙ ap u32 (to_z-of_z {w = w64} (record { sfits = c.signed.type_inv }) ∙ c.signed.ensures ∙ ap signed
-    c.long_at-bytes.ensures) ∙ number-signed _ _ c.in-2.if-s-at-lt2-own.false c.in-2.if-this-lt4-own.true)
+    (ap number_is c.ok.ensures.value ∙ u32-of-signed _ _ c.try_from.ensures
+    ∙ ap u32 (to_z-of_z {w = w64} (record { sfits = c.signed.type_inv }) ∙ c.signed.ensures ∙ ap signed c.long_at-bytes.ensures)
+    ∙ number-signed _ _ c.in-2.if-s-at-lt2-own.false c.in-2.if-this-lt4-own.true)
 
 pub returns-in-4 : goal.returns-in-4
 returns-in-4 c =
     λ d t h. literal-number h c.if-s-at-ne1.false _
-    (c.u32_of_u64.ensures ∙ ap (λ n. u32 (pos n)) c.long_at-bytes.ensures
+    (ap number_is c.ok-in-4.ensures.value ∙ u32-of _ _ c.try_from-in-4.ensures
+    ∙ ap (λ n. u32 (pos n)) c.long_at-bytes.ensures
     ∙ number-unsigned _ _ c.in-4.if-this-lt4-own.false c.in-4.if-this-lt6-own.true)
 
 pub returns-in_default : goal.returns-in_default

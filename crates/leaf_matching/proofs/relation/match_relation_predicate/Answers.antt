@@ -1,8 +1,8 @@
 -- `match_relation_predicate`: the name decides what is asked, the sides of the two geometries which is stored first.
 use mathlib.Core.Path.{sym, ap, ◌∙◌}
 use native.Mathlib.Omega.{arith}
+use Rattle.std.specs.Prelude.{Some}
 use Rattle.definitions.specs.Leaves.{relation_named}
-use Rattle.sedona_query_planner.specs.Relations.{named_relation}
 use Rattle.leaf_matching.proofs.Asked.{no-relation}
 use Rattle.leaf_matching.proofs.MatchLaws.{pair-framed, pair-begins}
 use Rattle.leaf_matching.proofs.RelationLaws.{few-lacks, Walked, relation-neither, relation-left, relation-right}
@@ -11,45 +11,44 @@ use Rattle.leaf_matching.proofs.relation.match_relation_predicate.Goals.{After-r
 
 walked : (c : After-resolve_geometries-geometries)
     → let start = c.args in
-    Walked start.s.now start.rec start.called c.resolve_geometries-geometries.result c.in-Relation.relation_type
+    Walked start.filter.s.now start.filter.rec start.called c.resolve_geometries-geometries.result c.in-Some.relation_type
 walked c =
     record {
-      named = sym c.from_name-named.ensures ∙ ap named_relation c.in-Relation.is;
-      enough = c.if-count-lt2.false;
+      named = sym c.in-Some.ensures;
+      enough = c.if-called-lt2.false;
       geometries = c.resolve_geometries-geometries.ensures;
     }
 
 pub returns-in_default : goal.returns-in_default
 returns-in_default c =
     λ records name ts over. no-relation records name ts
-    (ap relation_named (sym over.stands.spelling) ∙ sym c.from_name-named.ensures
-    ∙ ap named_relation c.in_default.is)
+    (ap relation_named (sym over.stands.spelling) ∙ sym c.in_default.ensures)
 
-pub returns-then-count-lt2 : goal.returns-then-count-lt2
-returns-then-count-lt2 c =
+pub returns-then-called-lt2 : goal.returns-then-called-lt2
+returns-then-called-lt2 c =
     λ records name ts over. few-lacks records name ts
-    (ap relation_named (sym over.stands.spelling) ∙ sym c.from_name-named.ensures
-    ∙ ap named_relation c.in-Relation.is) (omega (arith, over.stands.row.counted))
+    (ap relation_named (sym over.stands.spelling) ∙ sym c.in-Some.ensures) (omega (arith, over.stands.row.counted))
 
 pub resolve_geometries-geometries-requires : goal.resolve_geometries-geometries-requires
 resolve_geometries-geometries-requires c =
     record {
-      framed_two = pair-framed c.requires.call_framed c.if-count-lt2.false;
-      of_frame_two = pair-begins c.requires.call_framed c.if-count-lt2.false c.requires.of_call;
+      framed_two = pair-framed c.requires.call_framed c.if-called-lt2.false;
+      of_frame_two = pair-begins c.requires.call_framed c.if-called-lt2.false c.requires.of_call;
     }
 
-pub returns-in-Neither : goal.returns-in-Neither
-returns-in-Neither c =
+pub returns-in_default-order : goal.returns-in_default-order
+returns-in_default-order c =
     λ records name ts over. relation-neither
-    (walked (goal.at.returns-in-Neither c).After-resolve_geometries-geometries) over c.in-Neither.is
+    (walked (goal.at.returns-in_default-order c).After-resolve_geometries-geometries) over c.in_default-order.is
 
 pub returns-in-LeftRight : goal.returns-in-LeftRight
 returns-in-LeftRight c =
     λ records name ts over. relation-left
-    (walked (goal.at.returns-in-LeftRight c).After-resolve_geometries-geometries) over c.in-LeftRight.is
+    (walked (goal.at.returns-in-LeftRight c).After-resolve_geometries-geometries) over
+    (c.in-Some-order.is ∙ ap Some c.in-LeftRight.is)
 
 pub returns-in-RightLeft : goal.returns-in-RightLeft
 returns-in-RightLeft c =
     λ records name ts over. relation-right
     (walked (goal.at.returns-in-RightLeft c).After-resolve_geometries-geometries) over _ c.invert.ensures
-    c.in-RightLeft.is
+    (c.in-Some-order.is ∙ ap Some c.in-RightLeft.is)

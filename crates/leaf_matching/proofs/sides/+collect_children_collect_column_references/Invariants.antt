@@ -4,13 +4,9 @@ use lib.ListN.{length}
 use Rattle.leaf_matching.proofs.SideWalk.{Seeing}
 use Rattle.leaf_matching.proofs.sides.+collect_children_collect_column_references.Given as goal
 
-abbrev pub invariant-collect_children-loop-left : goal.invariant-collect_children-loop-left
-invariant-collect_children-loop-left l =
-    Seeing l.s l.rec l.at l.n l.initial.sides l.next l.left l.sides
-
-abbrev pub decreases-collect_children-loop-left : goal.decreases-collect_children-loop-left
-decreases-collect_children-loop-left l =
-    l.left
+abbrev pub invariant-collect_children-loop : goal.invariant-collect_children-loop
+invariant-collect_children-loop l =
+    Seeing l.s l.rec l.at l.n l.fn.seen (l.n - l.counter) l.walked
 
 abbrev pub decreases-collect_children : goal.decreases-collect_children
 decreases-collect_children l =

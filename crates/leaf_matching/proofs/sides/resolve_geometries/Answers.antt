@@ -2,8 +2,8 @@
 use Rattle.leaf_matching.proofs.SideWalk.{two-tabled, second-framed, geometries-are}
 use Rattle.leaf_matching.proofs.sides.resolve_geometries.Goals as goal
 
-pub two_at-two-requires : goal.two_at-two-requires
-two_at-two-requires c =
+pub two-two-requires : goal.two-two-requires
+two-two-requires c =
     two-tabled c.requires.of_frame_two c.requires.framed_two
 
 pub side_of_column_references-first-requires : goal.side_of_column_references-first-requires
@@ -12,11 +12,10 @@ side_of_column_references-first-requires c =
 
 pub side_of_column_references-second-requires : goal.side_of_column_references-second-requires
 side_of_column_references-second-requires c =
-    second-framed c.requires.of_frame_two c.two_at-two.ensures c.requires.framed_two
+    second-framed c.requires.of_frame_two c.two-two.ensures c.requires.framed_two
 
 pub returns : goal.returns
 returns c =
-    let two = c.two_at-two in
-    geometries-are c.requires.of_frame_two two.ensures _ _
+    geometries-are c.requires.of_frame_two c.two-two.ensures _ _
     c.side_of_column_references-first.ensures
     c.side_of_column_references-second.ensures _ c.resolve_column_reference_sides.ensures

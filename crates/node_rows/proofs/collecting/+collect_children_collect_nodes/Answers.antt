@@ -1,5 +1,5 @@
 -- `collect_nodes` and `collect_children`: the children fill the rows from the next index on, and then the node's own place is known.
-use Prim.Native.Nat.{ℕ, ◌+◌, ◌-◌}
+use Prim.Native.Nat.{ℕ, ◌+◌}
 use native.Mathlib.Omega.{arith}
 use mathlib.Core.Path.{refl}
 use lib.ListN.{length-set}
@@ -39,41 +39,33 @@ known t c =
     own-fits c.args.i call.ensures call.auto.numbers call.auto.next fits
     (c.head_at-head.ensures fits.columns fits.tree fits.stands)
 
-pub collect_children-loop-left-init : goal.collect_children-loop-left-init
-collect_children-loop-left-init t c =
-    collecting-begins c.requires
+pub collect_children-loop-init : goal.collect_children-loop-init
+collect_children-loop-init t c =
+    collecting-begins c.requires _ (omega arith)
 
-pub collect_children-collect_nodes-one-requires : goal.collect_children-collect_nodes-one-requires
-collect_children-collect_nodes-one-requires t c =
-    let loop = c.loop-left in (
+pub collect_children-collect_nodes-passed-requires : goal.collect_children-collect_nodes-passed-requires
+collect_children-collect_nodes-passed-requires t c =
+    let loop = c.loop in (
       omega (arith, loop.invariant.low),
-      collecting-first loop.invariant c.loop-left-test.true,
+      collecting-first loop.invariant (omega (arith, c.loop-test.true)),
     )
 
-pub collect_children-overflow_sub-left : goal.collect_children-overflow_sub-left
-collect_children-overflow_sub-left t c =
-    omega (arith, c.loop-left-test.true)
-
-pub collect_children-loop-left-smaller : goal.collect_children-loop-left-smaller
-collect_children-loop-left-smaller t c =
-    omega (arith, c.loop-left-test.true)
-
-pub collect_children-loop-left-preserved : goal.collect_children-loop-left-preserved
-collect_children-loop-left-preserved t c =
-    let call = c.collect_nodes-one in
-    collecting-goes-on c.loop-left.invariant c.loop-left-test.true call.auto.numbers call.auto.next call.ensures
+pub collect_children-loop-preserved : goal.collect_children-loop-preserved
+collect_children-loop-preserved t c =
+    let call = c.collect_nodes-passed in
+    collecting-goes-on c.loop.invariant (omega (arith, c.loop-test.true)) call.auto.numbers call.auto.next call.ensures _ (omega arith)
 
 pub collect_children-shape_of-numbers : goal.collect_children-shape_of-numbers
 collect_children-shape_of-numbers t c =
-    c.loop-left.invariant.same
+    c.loop.invariant.same
 
 pub collect_children-shape_of-next : goal.collect_children-shape_of-next
 collect_children-shape_of-next t c =
-    c.loop-left.invariant.alike
+    c.loop.invariant.alike
 
 pub collect_children-returns : goal.collect_children-returns
 collect_children-returns t c =
-    collecting-ends c.loop-left.invariant c.loop-left-test.false
+    collecting-ends c.loop.invariant (omega (arith, c.loop-test.false))
 
 pub collect_nodes-head_at-head-requires : goal.collect_nodes-head_at-head-requires
 collect_nodes-head_at-head-requires t c =

@@ -4,13 +4,9 @@ use lib.ListN.{length}
 use Rattle.node_rows.proofs.CollectWalk.{Collecting}
 use Rattle.node_rows.proofs.collecting.+collect_children_collect_nodes.Given as goal
 
-abbrev pub invariant-collect_children-loop-left : goal.invariant-collect_children-loop-left
-invariant-collect_children-loop-left l =
-    Collecting l.s l.at l.n l.i l.initial.numbers l.initial.next l.end l.left l.index l.numbers l.next
-
-abbrev pub decreases-collect_children-loop-left : goal.decreases-collect_children-loop-left
-decreases-collect_children-loop-left l =
-    l.left
+abbrev pub invariant-collect_children-loop : goal.invariant-collect_children-loop
+invariant-collect_children-loop l =
+    Collecting l.s l.at l.n l.i l.initial.numbers l.initial.next l.passed.end (l.n - l.counter) l.passed.index l.numbers l.next
 
 abbrev pub decreases-collect_children : goal.decreases-collect_children
 decreases-collect_children l =

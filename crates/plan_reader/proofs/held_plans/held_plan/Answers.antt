@@ -1,26 +1,25 @@
--- The first byte says which of the two it is to be read as; no byte is the empty plan.
-use native.Mathlib.Omega.{arith}
-use mathlib.Core.Path.{ap, ◌∙◌}
-use Rattle.definitions.specs.Basics.{map_result}
-use Rattle.definitions.specs.Expression.{held}
-use Rattle.plan_reader.proofs.Extractions.{nothing-held, frame-held, extraction-held}
+-- The first byte says which of the two it is to be read as.
+use Rattle.std.proofs.Common.{inl, inr}
+use Rattle.plan_reader.proofs.Extractions.{no-frame-first, frame-plan, no-frame, in-no-rows}
 use Rattle.plan_reader.proofs.held_plans.held_plan.Goals as goal
+use Rattle.plan_reader.proofs.held_plans.held_plan.Goals.{then-is_empty-via-then-is_empty, then-is_empty-via-else-is_empty+then-s-ne1}
 
-pub returns-then-s-eq0 : goal.returns-then-s-eq0
-returns-then-s-eq0 c =
-    nothing-held _ c.if-s-eq0.true
-
-pub returns-then-s-ne1 : goal.returns-then-s-ne1
-returns-then-s-ne1 c =
+pub held_extraction-requires : goal.held_extraction-requires
+held_extraction-requires c =
     let s = c.args.s.now in
-    rw (extraction-held s (omega arith) c.if-s-ne1.true) c.whole_extraction.ensures
+    elim c.then-is_empty.branch [
+      | then-is_empty-via-then-is_empty w ↦ no-frame-first s c.is_empty.ensures (inl w.if-is_empty.true)
+      | then-is_empty-via-else-is_empty+then-s-ne1 w ↦ no-frame-first s c.is_empty.ensures (inr (w.if-is_empty.false, w.if-s-ne1.true))
+    ]
 
-pub returns-in-Refused : goal.returns-in-Refused
-returns-in-Refused c =
-    let stop = rw c.in-Refused.is at c.physical_frame.ensures in
-    (_, frame-held _ c.if-s-ne1.false ∙ ap (map_result held) stop)
+pub returns-then-is_empty : goal.returns-then-is_empty
+returns-then-is_empty c =
+    in-no-rows _ _ c.held_extraction.result c.held_extraction.ensures
 
-pub returns-in-Good : goal.returns-in-Good
-returns-in-Good c =
-    let frame = rw c.in-Good.is at c.physical_frame.ensures in
-    (frame.0, frame.1, frame-held _ c.if-s-ne1.false ∙ ap (map_result held) frame.2)
+pub returns-in-Ok : goal.returns-in-Ok
+returns-in-Ok c =
+    frame-plan c.args.s.now c.if-s-ne1.false c.in-Ok.ensures
+
+pub returns-in-Err : goal.returns-in-Err
+returns-in-Err c =
+    no-frame c.args.s.now c.if-s-ne1.false _ c.in-Err.ensures

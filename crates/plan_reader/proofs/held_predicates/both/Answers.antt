@@ -1,60 +1,26 @@
 -- Two arguments in a row, each from where the last ended.
-use borrow.Author.Rules.{rules}
 use mathlib.Core.Path.{◌∙◌}
 use Rattle.definitions.specs.Decode.{argument}
 use Rattle.theorems.proofs.ReaderLaws.{after, halts}
+use Rattle.node_reader.proofs.Reading.{kept}
 use Rattle.frame_reader.proofs.Standing.{expr-spans}
 use Rattle.plan_reader.proofs.held_predicates.both.Goals as goal
 
-pub argument-requires : goal.argument-requires
+pub returns-in_err-left : goal.returns-in_err-left
 unfolding argument
-argument-requires c =
-    search rules
+returns-in_err-left c =
+    rw (kept c.from_residual.ensures) (λ next. halts _ c.in_err-left.ensures)
 
-pub enum_known-why : goal.enum_known-why
+pub returns-in_err-right : goal.returns-in_err-right
 unfolding argument
-enum_known-why c =
-    search rules
+returns-in_err-right c =
+    rw (kept c.from_residual-in_err-right.ensures) (λ next. after _ c.in_ok-left.ensures.1 ∙ halts _ c.in_err-right.ensures)
 
-pub enum_known-right : goal.enum_known-right
+pub returns : goal.returns
 unfolding argument
-enum_known-right c =
-    search rules
-
-pub argument-requires-in-To : goal.argument-requires-in-To
-unfolding argument
-argument-requires-in-To c =
-    (rw c.in-To.is at c.argument.ensures).2.bytes.within
-
-pub enum_known-why-in-Refused-argument-2 : goal.enum_known-why-in-Refused-argument-2
-unfolding argument
-enum_known-why-in-Refused-argument-2 c =
-    search rules
-
-pub enum_known-next : goal.enum_known-next
-unfolding argument
-enum_known-next c =
-    search rules
-
-pub returns-in-Refused : goal.returns-in-Refused
-unfolding argument
-returns-in-Refused c =
-    λ next. halts _ (rw c.in-Refused.is at c.argument.ensures)
-
-pub returns-in-Refused-argument : goal.returns-in-Refused-argument
-unfolding argument
-returns-in-Refused-argument c =
-    λ next.
-    after _ (rw c.in-To.is at
-    c.argument.ensures).1
-    ∙ halts _ (rw c.in-Refused-argument.is at c.argument-in-To.ensures)
-
-pub returns-in-To-argument : goal.returns-in-To-argument
-unfolding argument
-returns-in-To-argument c =
-    let left = rw c.in-To.is at
-    c.argument.ensures in
-    let right = rw c.in-To-argument.is at c.argument-in-To.ensures in (
+returns c =
+    let left = c.in_ok-left.ensures in
+    let right = c.in_ok-right.ensures in (
       right.2.bytes.within,
       left.0,
       right.0,

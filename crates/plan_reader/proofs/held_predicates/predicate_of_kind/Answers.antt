@@ -1,23 +1,7 @@
 -- Each kind's arm is its line of the definition.
-use borrow.Author.Rules.{rules}
 use borrow.Author.Tests.{ne_eqb}
 use Rattle.definitions.specs.Decode.{predicate_of_kind}
 use Rattle.plan_reader.proofs.held_predicates.predicate_of_kind.Goals as goal
-
-pub relation_predicate-requires : goal.relation_predicate-requires
-unfolding predicate_of_kind
-relation_predicate-requires c =
-    search rules
-
-pub distance_predicate-requires : goal.distance_predicate-requires
-unfolding predicate_of_kind
-distance_predicate-requires c =
-    search rules
-
-pub knn_predicate-requires : goal.knn_predicate-requires
-unfolding predicate_of_kind
-knn_predicate-requires c =
-    search rules
 
 pub returns-in-17 : goal.returns-in-17
 unfolding predicate_of_kind
@@ -37,8 +21,5 @@ returns-in-19 c =
 pub returns-in_default : goal.returns-in_default
 unfolding predicate_of_kind
 returns-in_default c =
-    rw (
-      ne_eqb _ _ c.in_default.in_default-own.rest.0.0.1,
-      ne_eqb _ _ c.in_default.in_default-own.rest.0.1,
-      ne_eqb _ _ c.in_default.in_default-own.rest.1,
-    )
+    let no = c.in_default.in_default-own.rest in
+    rw (ne_eqb _ _ no.0.0.1, ne_eqb _ _ no.0.1, ne_eqb _ _ no.1)

@@ -5,13 +5,9 @@ use lib.ListN.{length}
 use Rattle.plan_writer.proofs.CopyWalk.{Copying}
 use Rattle.plan_writer.proofs.arguments.+reproject_children_reproject_column_references.Given as goal
 
-abbrev pub invariant-reproject_children-loop-left : goal.invariant-reproject_children-loop-left
-invariant-reproject_children-loop-left l =
-    Copying l.src l.at l.n l.to l.initial.out l.next l.left l.w l.out
-
-abbrev pub decreases-reproject_children-loop-left : goal.decreases-reproject_children-loop-left
-decreases-reproject_children-loop-left l =
-    l.left
+abbrev pub invariant-reproject_children-loop : goal.invariant-reproject_children-loop
+invariant-reproject_children-loop l =
+    Copying l.src l.at l.n l.to l.initial.out l.next (l.n - l.counter) l.w l.out
 
 abbrev pub decreases-reproject_children : goal.decreases-reproject_children
 decreases-reproject_children l =

@@ -1,49 +1,26 @@
 -- Copied as it stands, or its columns renumbered by the table, into the part from w on.
-use native.Mathlib.Omega.{arith}
-use mathlib.Core.Path.{sym, ◌∙◌}
-use Rattle.plan_writer.proofs.ArgumentLaws.{kept-room, kept_put, moved-fits, moved-put, moved_sum}
+use borrow.Author.Rules.{rules}
+use mathlib.Core.Path.{◌≡◌}
+use Rattle.definitions.specs.Encode.{expr_bytes}
+use Rattle.definitions.specs.Expression.{Expr}
+use Rattle.terms.specs.declared.sides.JoinSide.TheVariants.{None}
+use Rattle.plan_writer.specs.Arguments.{written}
+use Rattle.plan_writer.proofs.ArgumentLaws.{kept-room, kept_put}
 use Rattle.plan_writer.proofs.arguments.reproject_column_references_for_side.Goals as goal
+use Rattle.plan_writer.proofs.arguments.reproject_column_references_for_side.Goals.{In_default, in_default-via-in-FromTable+else-ne, in_default-via-in_default}
+
+-- What the table or its absence leaves as it is.
+as_it_is : (c : In_default) → (t : Expr) → written c.args.indexes c.args.argument t ≡ expr_bytes t
+as_it_is c t =
+    elim c.in_default.branch [
+      | in_default-via-in-FromTable+else-ne w ↦ (let e : c.args.argument.side ≡ None = search rules in rw (w.in-FromTable.is, e))
+      | in_default-via-in_default w ↦ rw w.in_default.is
+    ]
 
 pub copy_at-requires : goal.copy_at-requires
 copy_at-requires c =
-    let a = c.args in
-    kept-room a.indexes a.to.now a.src.now a.argument
-    (sym c.keeps_indexes.ensures ∙ c.if-keeps_indexes.true) c.requires
+    kept-room c.args.indexes c.args.src.now c.args.argument (as_it_is (goal.at.copy_at-requires c).In_default) c.requires
 
-pub returns-then-keeps_indexes : goal.returns-then-keeps_indexes
-returns-then-keeps_indexes c =
-    let a = c.args in
-    kept_put a.indexes a.to.now a.src.now a.argument
-    (sym c.keeps_indexes.ensures ∙ c.if-keeps_indexes.true)
-    c.copy_at.ensures
-
-pub slice_bounds-reproject_column_references-count : goal.slice_bounds-reproject_column_references-count
-slice_bounds-reproject_column_references-count c =
-    omega (arith, c.requires.room)
-
-pub slice_bounds-reproject_column_references-start : goal.slice_bounds-reproject_column_references-start
-slice_bounds-reproject_column_references-start c =
-    omega (arith, c.requires.room)
-
-pub reproject_column_references-copied-requires : goal.reproject_column_references-copied-requires
-reproject_column_references-copied-requires c =
-    let a = c.args in
-    moved-fits a.indexes a.to.now a.src.now a.argument
-    (sym c.keeps_indexes.ensures ∙ c.if-keeps_indexes.false) c.requires
-
-pub overflow_add-result : goal.overflow_add-result
-overflow_add-result c =
-    let call = c.reproject_column_references-copied in
-    let a = c.args in
-    let sum = moved_sum a.indexes a.to.now a.src.now a.argument
-    (sym c.keeps_indexes.ensures ∙ c.if-keeps_indexes.false)
-    a.w a.out.now call.new.out call.result call.ensures c.requires in
-    omega (arith, c.well_formed, sum)
-
-pub returns : goal.returns
-returns c =
-    let call = c.reproject_column_references-copied in
-    let a = c.args in
-    moved-put a.indexes a.to.now a.src.now a.argument
-    (sym c.keeps_indexes.ensures ∙ c.if-keeps_indexes.false)
-    a.w a.out.now call.new.out call.result call.ensures
+pub returns-in_default : goal.returns-in_default
+returns-in_default c =
+    kept_put c.args.indexes c.args.src.now c.args.argument (as_it_is (goal.at.returns-in_default c).In_default) c.copy_at.ensures

@@ -13,33 +13,25 @@ use Rattle.plan_writer.proofs.put_predicate.put_predicate.Goals.{After-predicate
 
 view : (c : After-predicate_kind-kind)
     → let a = c.args in
-    PredicateView (change_of a.indexes a.to.now) a.src.now a.p c.predicate_kind-kind.result a.position
+    PredicateView (change_of a.indexes) a.src.now a.p c.predicate_kind-kind.result a.position
 view c =
     let a = c.args in
-    predicate-view (change_of a.indexes a.to.now) a.src.now a.p _ a.position c.predicate_kind-kind.ensures
+    predicate-view (change_of a.indexes) a.src.now a.p _ a.position c.predicate_kind-kind.ensures
 
 -- The fields have room where the head ended.
 fields-room : (c : After-put_head-w)
     → let a = c.args in
-    Room (PredicateAt (change_of a.indexes a.to.now) a.src.now a.p) predicate_fields c.put_head-w.result
+    Room (PredicateAt (change_of a.indexes) a.src.now a.p) predicate_fields c.put_head-w.result
     c.put_head-w.new.out
 fields-room c =
     rest-room ((let a = c.args in
-    predicate-view (change_of a.indexes a.to.now) a.src.now a.p _ a.position c.predicate_kind-kind.ensures)) c.requires
+    predicate-view (change_of a.indexes) a.src.now a.p _ a.position c.predicate_kind-kind.ensures)) c.requires
     c.put_head-w.ensures c.put_head-w.auto.out
 
 pub put_head-w-requires : goal.put_head-w-requires
 unfolding head_of big_endian
 put_head-w-requires c =
     head-room (view (goal.at.put_head-w-requires c).After-predicate_kind-kind) c.requires
-
-pub slice_bounds-put_fields-count : goal.slice_bounds-put_fields-count
-slice_bounds-put_fields-count c =
-    omega (arith, (fields-room (goal.at.slice_bounds-put_fields-count c).After-put_head-w).room)
-
-pub slice_bounds-put_fields-start : goal.slice_bounds-put_fields-start
-slice_bounds-put_fields-start c =
-    omega (arith, (fields-room (goal.at.slice_bounds-put_fields-start c).After-put_head-w).room)
 
 pub put_fields-requires : goal.put_fields-requires
 put_fields-requires c =

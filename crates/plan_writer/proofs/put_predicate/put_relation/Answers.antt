@@ -1,7 +1,5 @@
 -- The number of its type, then left and right.
 use native.Mathlib.Omega.{arith}
-use mathlib.Core.Path.{◌∙◌}
-use lib.ListN.{length-set}
 use Rattle.writing.proofs.Sequence.{stored-room, stored-put}
 use Rattle.plan_writer.proofs.PredicateLaws.{relation-view, relation-fits}
 use Rattle.plan_writer.proofs.put_predicate.put_relation.Goals as goal
@@ -9,21 +7,17 @@ use Rattle.plan_writer.proofs.put_predicate.put_relation.Goals as goal
 pub bounds-out-0 : goal.bounds-out-0
 bounds-out-0 c =
     let a = c.args in
-    omega (arith, relation-fits a.indexes a.to.now a.src.now a.p c.requires)
+    omega (arith, relation-fits a.indexes a.src.now a.p c.requires)
 
 pub put_both-requires : goal.put_both-requires
 put_both-requires c =
     let a = c.args in
-    stored-room (relation-view a.indexes a.to.now a.src.now a.p c.relation_number-number.result
-    c.relation_number-number.ensures) c.requires
-
-pub shape_of-out : goal.shape_of-out
-shape_of-out c =
-    c.put_both.auto.out ∙ simp length-set
+    stored-room (relation-view a.indexes a.src.now a.p c.from.result
+    c.from.ensures) c.requires
 
 pub returns : goal.returns
 returns c =
-    let number = c.relation_number-number in
+    let number = c.from in
     let a = c.args in
-    stored-put (relation-view a.indexes a.to.now a.src.now a.p number.result number.ensures)
+    stored-put (relation-view a.indexes a.src.now a.p number.result number.ensures)
     c.requires c.put_both.ensures

@@ -2,7 +2,6 @@
 use Prim.Native.Nat.{◌<◌}
 use native.Mathlib.Omega.{arith}
 use mathlib.Core.Path.{◌∙◌}
-use mir.Facts.{Fits-8_64}
 use lib.ListN.{get_or}
 use Rattle.printing.proofs.NodeFields.{short-leads, byte-leads, kind-within, byte-within, short-within}
 use Rattle.printing.proofs.fields.leading_number.Goals as goal
@@ -21,21 +20,9 @@ pub bounds-src-at : goal.bounds-src-at
 bounds-src-at c =
     kind-within c.requires.1
 
-pub overflow_add-result : goal.overflow_add-result
-overflow_add-result c =
-    omega (arith, byte-within c.requires.1)
-
 pub bounds-src-at-in-1-to-3 : goal.bounds-src-at-in-1-to-3
 bounds-src-at-in-1-to-3 c =
     omega (arith, byte-within c.requires.1)
-
-pub overflow_cast-result : goal.overflow_cast-result
-overflow_cast-result c =
-    Fits-8_64 (c.shared_slice_known-in-1-to-3-1.given _)
-
-pub overflow_add-at : goal.overflow_add-at
-overflow_add-at c =
-    omega (arith, short-within c.requires.1 (outside (goal.at.overflow_add-at c).In_default))
 
 pub short_at-requires : goal.short_at-requires
 short_at-requires c =
@@ -43,7 +30,7 @@ short_at-requires c =
 
 pub returns-in-1-to-3 : goal.returns-in-1-to-3
 returns-in-1-to-3 c =
-    λ t h. byte-leads t h (omega arith) (omega arith)
+    λ t h. rw c.from.ensures (byte-leads t h (omega arith) (omega arith))
 
 pub returns-in_default : goal.returns-in_default
 returns-in_default c =

@@ -1,8 +1,6 @@
 -- `put_before`: nothing before the first child; else a comma, or a binary's operator.
-use native.Mathlib.Omega.{arith}
-use mathlib.Core.Path.{◌≡◌, ◌∙◌}
+use mathlib.Core.Path.{◌≡◌}
 use mathlib.Core.List.{◌∷◌}
-use lib.ListN.{length-set}
 use Rattle.definitions.specs.Expression.{Expr}
 use Rattle.printing.specs.Marks.{marked, before_of, PhysicalAt}
 use Rattle.printing.proofs.NodeFields.{kind-within}
@@ -30,17 +28,9 @@ pub bounds-out-w : goal.bounds-out-w
 bounds-out-w c =
     begins-within 32 _ (known-fits (operator (goal.at.bounds-out-w c).After-leading_number-operator) c.requires)
 
-pub overflow_add-w : goal.overflow_add-w
-overflow_add-w c =
-    omega (arith, (begins-within 32 _ (known-fits (operator (goal.at.overflow_add-w c).After-leading_number-operator) c.requires)))
-
 pub put_marked-requires : goal.put_marked-requires
 put_marked-requires c =
     after-fits 32 _ (known-fits (operator (goal.at.put_marked-requires c).After-leading_number-operator) c.requires)
-
-pub shape_of-out-then-src-at-eq2 : goal.shape_of-out-then-src-at-eq2
-shape_of-out-then-src-at-eq2 c =
-    c.put_marked.auto.out ∙ simp length-set
 
 pub returns-then-src-at-eq2 : goal.returns-then-src-at-eq2
 returns-then-src-at-eq2 c =
@@ -51,14 +41,6 @@ returns-then-src-at-eq2 c =
 pub bounds-out-w-2 : goal.bounds-out-w-2
 bounds-out-w-2 c =
     mark-fits 44 (known-fits (comma-before c.args.position c.if-position-eq0.false c.if-src-at-eq2.false) c.requires)
-
-pub overflow_add-result : goal.overflow_add-result
-overflow_add-result c =
-    omega (arith, mark-fits 44 (known-fits (comma-before c.args.position c.if-position-eq0.false c.if-src-at-eq2.false) c.requires))
-
-pub shape_of-out : goal.shape_of-out
-shape_of-out c =
-    simp length-set
 
 pub returns : goal.returns
 returns c =

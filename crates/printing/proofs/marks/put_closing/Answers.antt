@@ -1,10 +1,22 @@
 -- `put_closing`: the mark of the kind, if it has one.
 use native.Mathlib.Omega.{arith}
-use lib.ListN.{length-set}
+use mathlib.Core.Path.{◌≡◌}
+use mathlib.Core.List.{[], ◌∷◌}
+use Rattle.definitions.specs.Expression.{Expr}
+use Rattle.printing.specs.Marks.{closing_of, PhysicalAt}
 use Rattle.printing.proofs.NodeFields.{kind-within}
 use Rattle.printing.proofs.Sequences.{known-fits, known-puts, mark-fits, mark-written, nothing_written}
 use Rattle.printing.proofs.MarkLaws.{leaf-closes, binary-closes, list-closes}
 use Rattle.printing.proofs.marks.put_closing.Goals as goal
+use Rattle.printing.proofs.marks.put_closing.Goals.{Joined-src-at, in-2, in_default}
+
+-- What the mark is.
+closes : (c : Joined-src-at) → (t : Expr) → PhysicalAt c.args.src.now c.args.at t → closing_of t ≡ c.match-src-at.mark ∷ []
+closes c t h =
+    elim c.match-src-at.branch [
+      | in-2 w ↦ rw w.mark-is (binary-closes w.in-2.is t h)
+      | in_default w ↦ rw w.mark-is (list-closes (omega arith) t h)
+    ]
 
 pub bounds-src-at : goal.bounds-src-at
 bounds-src-at c =
@@ -12,39 +24,13 @@ bounds-src-at c =
 
 pub bounds-out-w : goal.bounds-out-w
 bounds-out-w c =
-    mark-fits 41 (known-fits (binary-closes c.in-2.is) c.requires)
-
-pub overflow_add-result : goal.overflow_add-result
-overflow_add-result c =
-    omega (arith, (mark-fits 41 (known-fits (binary-closes c.in-2.is) c.requires)))
-
-pub bounds-out-w-in_default : goal.bounds-out-w-in_default
-bounds-out-w-in_default c =
-    mark-fits 93 (known-fits (list-closes (omega arith)) c.requires)
-
-pub overflow_add-result-in_default : goal.overflow_add-result-in_default
-overflow_add-result-in_default c =
-    omega (arith, (mark-fits 93 (known-fits (list-closes (omega arith)) c.requires)))
-
-pub shape_of-out-in-2 : goal.shape_of-out-in-2
-shape_of-out-in-2 c =
-    simp length-set
-
-pub returns-in-2 : goal.returns-in-2
-returns-in-2 c =
-    let closes = binary-closes c.in-2.is in
-    known-puts closes (mark-written 41 (known-fits closes c.requires))
+    mark-fits _ (known-fits (closes (goal.at.bounds-out-w c).Joined-src-at) c.requires)
 
 pub returns-in-0 : goal.returns-in-0
 returns-in-0 c =
-    known-puts (leaf-closes c.in-0.if-this-lt2-own.true) (nothing_written _ _)
+    known-puts (leaf-closes (omega arith)) (nothing_written _ _)
 
-pub shape_of-out-in_default : goal.shape_of-out-in_default
-shape_of-out-in_default c =
-    simp length-set
-
-pub returns-in_default : goal.returns-in_default
-returns-in_default c =
-    let a = c.args in
-    let closes = list-closes {s = a.src.now} {at = a.at} (omega arith) in
-    known-puts closes (mark-written 93 (known-fits closes c.requires))
+pub returns : goal.returns
+returns c =
+    let is = closes (goal.at.returns c).Joined-src-at in
+    known-puts is (mark-written _ (known-fits is c.requires))

@@ -36,16 +36,6 @@ pub bounds-out-w : goal.bounds-out-w
 bounds-out-w c =
     mark-fits 40 (known-fits (binary-opens c.in-2.is) c.requires)
 
-pub overflow_add-result : goal.overflow_add-result
-overflow_add-result c =
-    omega (arith, (mark-fits 40 (known-fits (binary-opens c.in-2.is) c.requires)))
-
-pub overflow_add-at-in-3-3 : goal.overflow_add-at-in-3-3
-overflow_add-at-in-3-3 c =
-    let p = c.requires in
-    let call = c.leading_number-number in
-    omega (arith, name-within p.stands c.in-3.is call.result (call.ensures p.it p.stands))
-
 pub slice_bounds-put_name-end : goal.slice_bounds-put_name-end
 slice_bounds-put_name-end c =
     let p = c.requires in
@@ -94,3 +84,9 @@ pub returns-in_default : goal.returns-in_default
 returns-in_default c =
     let call = c.leading_number-number in
     known-puts (λ t h. other-opens call.result call.ensures t h (omega arith)) c.put_marked.ensures
+
+pub overflow_add-at-in-3-3 : goal.overflow_add-at-in-3-3
+overflow_add-at-in-3-3 c =
+    let p = c.requires in
+    let call = c.leading_number-number in
+    omega (arith, name-within p.stands c.in-3.is call.result (call.ensures p.it p.stands))

@@ -10,105 +10,9 @@ pub bounds-src-at : goal.bounds-src-at
 bounds-src-at c =
     kind-within c.requires.1
 
-pub overflow_add-result : goal.overflow_add-result
-overflow_add-result c =
-    omega (
-      arith,
-      c.decimal_width-width.ensures,
-      width_small
-          c.leading_number-number.result,
-    )
-
 pub short_at-requires : goal.short_at-requires
 short_at-requires c =
     omega (arith, tag-within c.requires.1 c.in-0.is)
-
-pub overflow_add-result-in-0 : goal.overflow_add-result-in-0
-overflow_add-result-in-0 c =
-    omega (
-      arith,
-      c.decimal_width.ensures,
-      width_small c.short_at.result,
-      c.decimal_width-width.ensures,
-      width_small c.leading_number-number.result,
-    )
-
-pub overflow_add-result-in-1 : goal.overflow_add-result-in-1
-overflow_add-result-in-1 c =
-    omega (
-      arith,
-      c.decimal_width-width.ensures,
-      width_small
-          c.leading_number-number.result,
-    )
-
-pub overflow_add-result-in-2 : goal.overflow_add-result-in-2
-overflow_add-result-in-2 c =
-    omega (
-      arith,
-      c.decimal_width-width.ensures,
-      width_small
-          c.leading_number-number.result,
-    )
-
-pub overflow_add-result-in-3 : goal.overflow_add-result-in-3
-overflow_add-result-in-3 c =
-    omega (
-      arith,
-      c.decimal_width-width.ensures,
-      width_small
-          c.leading_number-number.result,
-    )
-
-pub overflow_add-result-in-3-2 : goal.overflow_add-result-in-3-2
-overflow_add-result-in-3-2 c =
-    let call = c.leading_number-number in
-    omega (
-      arith,
-      c.decimal_width-width.ensures,
-      width_small call.result,
-      call.ensures c.requires.0 c.requires.1,
-      short-name c.requires.1 c.in-3.is,
-      c.commas-between.ensures,
-      c.requires.2,
-      few-children c.requires.1,
-    )
-
-pub overflow_add-result-in-3-3 : goal.overflow_add-result-in-3-3
-overflow_add-result-in-3-3 c =
-    let call = c.leading_number-number in
-    omega (
-      arith,
-      c.decimal_width-width.ensures,
-      width_small call.result,
-      call.ensures c.requires.0 c.requires.1,
-      short-name c.requires.1 c.in-3.is,
-      c.commas-between.ensures,
-      c.requires.2,
-      few-children c.requires.1,
-    )
-
-pub overflow_add-result-in_default : goal.overflow_add-result-in_default
-overflow_add-result-in_default c =
-    omega (
-      arith,
-      c.decimal_width-width.ensures,
-      width_small c.leading_number-number.result,
-      c.commas-between.ensures,
-      c.requires.2,
-      few-children c.requires.1,
-    )
-
-pub overflow_add-result-in_default-2 : goal.overflow_add-result-in_default-2
-overflow_add-result-in_default-2 c =
-    omega (
-      arith,
-      c.decimal_width-width.ensures,
-      width_small c.leading_number-number.result,
-      c.commas-between.ensures,
-      c.requires.2,
-      few-children c.requires.1,
-    )
 
 pub returns-in-0 : goal.returns-in-0
 returns-in-0 c =
@@ -142,7 +46,7 @@ returns-in-3 c =
       arith,
       own-call call.result call.ensures t h _ k c.in-3.is,
       c.decimal_width-width.ensures,
-      c.commas-between.ensures,
+      c.saturating_sub-commas.ensures,
     )
 
 pub returns-in_default : goal.returns-in_default
@@ -153,5 +57,44 @@ returns-in_default c =
       arith,
       own-other call.result call.ensures t h _ k (omega arith),
       c.decimal_width-width.ensures,
-      c.commas-between.ensures,
+      c.saturating_sub-commas.ensures,
+    )
+
+pub overflow_add-result-in-3-2 : goal.overflow_add-result-in-3-2
+overflow_add-result-in-3-2 c =
+    let call = c.leading_number-number in
+    omega (
+      arith,
+      c.decimal_width-width.ensures,
+      width_small call.result,
+      call.ensures c.requires.0 c.requires.1,
+      short-name c.requires.1 c.in-3.is,
+      c.saturating_sub-commas.ensures,
+      c.requires.2,
+      few-children c.requires.1,
+    )
+
+pub overflow_add-result-in-3-3 : goal.overflow_add-result-in-3-3
+overflow_add-result-in-3-3 c =
+    let call = c.leading_number-number in
+    omega (
+      arith,
+      c.decimal_width-width.ensures,
+      width_small call.result,
+      call.ensures c.requires.0 c.requires.1,
+      short-name c.requires.1 c.in-3.is,
+      c.saturating_sub-commas.ensures,
+      c.requires.2,
+      few-children c.requires.1,
+    )
+
+pub overflow_add-result-in_default-2 : goal.overflow_add-result-in_default-2
+overflow_add-result-in_default-2 c =
+    omega (
+      arith,
+      c.decimal_width-width.ensures,
+      width_small c.leading_number-number.result,
+      c.saturating_sub-commas.ensures,
+      c.requires.2,
+      few-children c.requires.1,
     )

@@ -1,10 +1,8 @@
 -- `print_node` and `print_children`: what a node opens with, its children with what stands before each, and what it closes with; a node
 -- walk goes further on, a row walk to a node at its own place.
-use Prim.Native.Nat.{◌-◌}
 use native.Mathlib.Omega.{arith}
-use mathlib.Core.Path.{◌∙◌}
 use Rattle.expression.proofs.Standing.{node-some}
-use Rattle.printing.proofs.PrintWalk.{tree_of, opening-room, children-later, children-fit, closing-room, node-printed, printing-begins, printing-ends, before-room, child-room, printing-goes-on}
+use Rattle.printing.proofs.PrintWalk.{opening-room, children-later, children-fit, closing-room, node-printed, printing-begins, printing-ends, before-room, child-room, printing-goes-on}
 use Rattle.printing.proofs.texts.+print_children_print_node.Goals as goal
 
 pub print_children-loop-position-init : goal.print_children-loop-position-init
@@ -23,23 +21,11 @@ print_children-print_node-one-requires t c =
       child-room inv c.loop-position-test.true put.ensures put.auto.out,
     )
 
-pub print_children-overflow_add-position : goal.print_children-overflow_add-position
-print_children-overflow_add-position t c =
-    omega (arith, c.loop-position-test.true)
-
-pub print_children-loop-position-smaller : goal.print_children-loop-position-smaller
-print_children-loop-position-smaller t c =
-    omega (arith, c.loop-position-test.true)
-
 pub print_children-loop-position-preserved : goal.print_children-loop-position-preserved
 print_children-loop-position-preserved t c =
     let put = c.put_before-v in
     let one = c.print_node-one in
     printing-goes-on c.loop-position.invariant c.loop-position-test.true put.ensures put.auto.out one.ensures one.auto.out
-
-pub print_children-shape_of-out : goal.print_children-shape_of-out
-print_children-shape_of-out t c =
-    c.loop-position.invariant.same
 
 pub print_children-returns : goal.print_children-returns
 print_children-returns t c =
@@ -48,10 +34,6 @@ print_children-returns t c =
 pub print_node-put_opening-first-requires : goal.print_node-put_opening-first-requires
 print_node-put_opening-first-requires t c =
     opening-room c.requires
-
-pub print_node-head_at-head-requires : goal.print_node-head_at-head-requires
-print_node-head_at-head-requires t c =
-    tree_of c.requires
 
 pub print_node-print_children-row-requires : goal.print_node-print_children-row-requires
 print_node-print_children-row-requires t c =
@@ -73,11 +55,6 @@ print_node-put_closing-wrote-requires t c =
     let head = c.head_at-head in
     let filled = c.print_children-row in
     closing-room c.requires put.ensures put.auto.out head.result head.ensures filled.ensures filled.auto.out
-
-pub print_node-shape_of-out : goal.print_node-shape_of-out
-print_node-shape_of-out t c =
-    c.put_closing-wrote.auto.out ∙ c.print_children-row.auto.out
-    ∙ c.put_opening-first.auto.out
 
 pub print_node-returns : goal.print_node-returns
 print_node-returns t c =

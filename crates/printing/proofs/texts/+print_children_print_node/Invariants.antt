@@ -9,10 +9,6 @@ abbrev pub invariant-print_children-loop-position : goal.invariant-print_childre
 invariant-print_children-loop-position l =
     Printing l.src l.parent l.at l.n l.w l.initial.out l.read l.wrote l.position l.out
 
-abbrev pub decreases-print_children-loop-position : goal.decreases-print_children-loop-position
-decreases-print_children-loop-position l =
-    l.n - l.position
-
 abbrev pub decreases-print_children : goal.decreases-print_children
 decreases-print_children l =
     2 * (length l.src.now - l.at) + 1

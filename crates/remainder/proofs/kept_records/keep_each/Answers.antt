@@ -1,5 +1,4 @@
 -- `keep_each`: those that stay of the first j records are written, and the first j columns have their new indexes.
-use Prim.Native.Nat.{◌-◌}
 use native.Mathlib.Omega.{arith}
 use Rattle.remainder.proofs.RecordLaws.{keeping_none, next_fits, keeping-more, keeping_all}
 use Rattle.remainder.proofs.kept_records.keep_each.Goals as goal
@@ -7,10 +6,6 @@ use Rattle.remainder.proofs.kept_records.keep_each.Goals as goal
 pub loop-j-init : goal.loop-j-init
 loop-j-init c =
     keeping_none c.args.to.now
-
-pub overflow_cast-to : goal.overflow_cast-to
-overflow_cast-to c =
-    omega (arith, c.requires.all_fit.few)
 
 pub keep_record-kept-requires : goal.keep_record-kept-requires
 keep_record-kept-requires c =
@@ -25,14 +20,6 @@ loop-j-preserved c =
     let call = c.keep_record-kept in
     keeping-more c.loop-j.invariant c.loop-j-test.true c.requires.all_fit call.new.out call.auto.out (omega arith)
     call.result call.ensures
-
-pub shape_of-out : goal.shape_of-out
-shape_of-out c =
-    c.loop-j.invariant.long
-
-pub shape_of-to : goal.shape_of-to
-shape_of-to c =
-    c.loop-j.invariant.wide
 
 pub returns : goal.returns
 returns c =

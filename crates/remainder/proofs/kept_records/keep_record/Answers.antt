@@ -11,33 +11,16 @@ room : (c : Then-is_referenced) → let args = c.args in 5 * args.kept + 5 ≤ l
 room c = one-room c.requires.one_fits (rw c.if-is_referenced.true at c.is_referenced.ensures)
 
 within : (c : Then-is_referenced)
-    → let args = c.args in args.rec + 5 * args.j + 5 ≤ length args.src.now
+    → let args = c.args in args.records.rec + 5 * args.j + 5 ≤ length args.records.src.now
 within c = one-within c.requires.one_fits
-
-pub is_referenced-requires : goal.is_referenced-requires
-is_referenced-requires c =
-    let p = c.requires.one_fits in
-    record {
-      recorded = (p.records, p.is.entries);
-      count_in_bounds = (c.requires.count_in_bounds, p.below);
-      key_row = c.requires.key_row;
-    }
-
-pub overflow_mul-w : goal.overflow_mul-w
-overflow_mul-w c =
-    omega (arith, room (goal.at.overflow_mul-w c).Then-is_referenced)
-
-pub slice_bounds-copy_bytes-start : goal.slice_bounds-copy_bytes-start
-slice_bounds-copy_bytes-start c =
-    omega (arith, room (goal.at.slice_bounds-copy_bytes-start c).Then-is_referenced)
 
 pub overflow_mul-j : goal.overflow_mul-j
 overflow_mul-j c =
     omega (arith, within (goal.at.overflow_mul-j c).Then-is_referenced)
 
-pub overflow_add-rec : goal.overflow_add-rec
-overflow_add-rec c =
-    omega (arith, within (goal.at.overflow_add-rec c).Then-is_referenced)
+pub overflow_add-records : goal.overflow_add-records
+overflow_add-records c =
+    omega (arith, within (goal.at.overflow_add-records c).Then-is_referenced)
 
 pub copy_bytes-requires : goal.copy_bytes-requires
 copy_bytes-requires c =
@@ -46,10 +29,6 @@ copy_bytes-requires c =
       src_has_bytes = within (goal.at.copy_bytes-requires c).Then-is_referenced;
       out_has_room = omega (arith, room (goal.at.copy_bytes-requires c).Then-is_referenced, behind-length (5 * args.kept) args.out.now);
     }
-
-pub overflow_add-result : goal.overflow_add-result
-overflow_add-result c =
-    omega (arith, room (goal.at.overflow_add-result c).Then-is_referenced)
 
 pub returns-then-is_referenced : goal.returns-then-is_referenced
 returns-then-is_referenced c =

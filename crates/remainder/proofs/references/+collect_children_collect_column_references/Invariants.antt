@@ -4,13 +4,9 @@ use lib.ListN.{length}
 use Rattle.remainder.proofs.ReferenceWalk.{Collecting}
 use Rattle.remainder.proofs.references.+collect_children_collect_column_references.Given as goal
 
-abbrev pub invariant-collect_children-loop-left : goal.invariant-collect_children-loop-left
-invariant-collect_children-loop-left l =
-    Collecting l.src l.at l.n l.initial.used l.next l.left l.used
-
-abbrev pub decreases-collect_children-loop-left : goal.decreases-collect_children-loop-left
-decreases-collect_children-loop-left l =
-    l.left
+abbrev pub invariant-collect_children-loop : goal.invariant-collect_children-loop
+invariant-collect_children-loop l =
+    Collecting l.src l.at l.n l.initial.used l.next (l.n - l.counter) l.used
 
 abbrev pub decreases-collect_children : goal.decreases-collect_children
 decreases-collect_children l =

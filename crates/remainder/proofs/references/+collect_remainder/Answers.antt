@@ -1,7 +1,5 @@
 -- `collect_remainder`: nothing is marked at the leaf, an And is its two sides, any other node is a whole AND-leaf.
-use Prim.Native.Nat.{◌-◌}
 use native.Mathlib.Omega.{arith}
-use mathlib.Core.Path.{◌∙◌}
 use lib.ListN.{length}
 use Rattle.definitions.specs.Decode.{index_below}
 use Rattle.expression.proofs.Standing.{first-stands, node-some}
@@ -13,19 +11,6 @@ use Rattle.remainder.proofs.references.+collect_remainder.Goals as goal
 pub returns-then-at-cut : goal.returns-then-at-cut
 returns-then-at-cut t c =
     λ t stands ends. rest-leaf c.args.cut c.args.used.now t c.if-at-cut.true ends
-
-pub node_at-requires : goal.node_at-requires
-node_at-requires t c =
-    let p = c.requires in
-    (index_below (length c.args.used.now), p.0, p.1)
-
-pub collect_column_references-requires : goal.collect_column_references-requires
-collect_column_references-requires t c =
-    let p = c.requires in (p.0, p.1)
-
-pub shape_of-used-in_default : goal.shape_of-used-in_default
-shape_of-used-in_default t c =
-    c.collect_column_references.auto.used
 
 pub returns-in_default : goal.returns-in_default
 returns-in_default t c =
@@ -56,10 +41,6 @@ collect_remainder-requires t c =
       omega (arith, c.decreases, node-some p.1, left_at both, l.ends),
       right-flagged cut used call.new.used call.auto.used call.result call.ensures both p.2,
     )
-
-pub shape_of-used : goal.shape_of-used
-shape_of-used t c =
-    c.collect_remainder.auto.used ∙ c.collect_remainder-right.auto.used
 
 pub returns : goal.returns
 returns t c =

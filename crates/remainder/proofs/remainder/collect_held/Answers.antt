@@ -6,10 +6,6 @@ pub collect_remainder-requires : goal.collect_remainder-requires
 collect_remainder-requires c =
     unheld-flagged c.requires
 
-pub shape_of-used : goal.shape_of-used
-shape_of-used c =
-    c.collect_remainder.auto.used
-
 pub returns : goal.returns
 returns c =
     let call = c.collect_remainder in

@@ -1,17 +1,15 @@
 -- `reproject_remainder` and `reproject_sides`: nothing is written at the leaf, an And is its head and its two sides, its parent has no
 -- head, any other node is copied.
-use Prim.Native.Nat.{ℕ, ◌≤◌, ◌-◌}
+use Prim.Native.Nat.{ℕ, ◌≤◌}
 use native.Mathlib.Omega.{arith}
-use mathlib.Core.Path.{◌∙◌}
-use lib.ListN.{length, set, length-set}
+use lib.ListN.{length, length-set}
 use Rattle.definitions.specs.Expression.{Expr, and as expr-and}
 use Rattle.definitions.specs.Decode.{index_below}
 use Rattle.expression.specs.Nodes.{Stands}
 use Rattle.expression.specs.Leaves.{Both}
 use Rattle.expression.proofs.Standing.{first-stands, node-some}
-use Rattle.writing.proofs.Written.{together-length}
 use Rattle.remainder.proofs.AroundLaws.{lone-leaf, left_at}
-use Rattle.remainder.proofs.RemainderWalk.{copy-leaf, lone-fits, copy-lone, parent-fits, copy-parent, and-room, and-fits, copy-and, left-fits, left-wrote, left-later, right-fits, copy-sides}
+use Rattle.remainder.proofs.RemainderWalk.{lone-fits, copy-lone, parent-fits, copy-parent, and-room, and-fits, copy-and, left-fits, left-wrote, left-later, right-fits, copy-sides}
 use borrow.Enum.Refused.{opened}
 use Rattle.remainder.proofs.reprojecting.+reproject_remainder_reproject_sides.Goals as goal
 use Rattle.remainder.proofs.reprojecting.+reproject_remainder_reproject_sides.Goals.{reproject_remainder-Else-at-cut-2, reproject_remainder-In-And}
@@ -32,15 +30,6 @@ room t c =
     let both = rw c.in-And.is at (c.node_at.ensures (index_below (length c.args.to.now)) p.tree p.stands) in
     and-room to c.args.cut both p.ends c.if-at-cut.false c.if-at-cut-2.false c.args.out.now p.room
 
-pub reproject_remainder-returns-then-at-cut : goal.reproject_remainder-returns-then-at-cut
-reproject_remainder-returns-then-at-cut t c =
-    λ t stands ends. copy-leaf c.args.to.now c.args.cut c.args.out.now t c.if-at-cut.true ends
-
-pub reproject_remainder-node_at-requires : goal.reproject_remainder-node_at-requires
-reproject_remainder-node_at-requires t c =
-    let p = c.requires in
-    (index_below (length c.args.to.now), p.tree, p.stands)
-
 pub reproject_remainder-reproject_column_references-requires : goal.reproject_remainder-reproject_column_references-requires
 reproject_remainder-reproject_column_references-requires t c =
     let node = c.node_at in
@@ -48,10 +37,6 @@ reproject_remainder-reproject_column_references-requires t c =
     let to = c.args.to.now in
     lone-fits to c.args.cut p c.if-at-cut.false
     (lone-leaf p.stands node.result (opened c.in_default.in_default-own.keys2) (node.ensures (index_below (length to)) p.tree p.stands))
-
-pub reproject_remainder-shape_of-out-in_default : goal.reproject_remainder-shape_of-out-in_default
-reproject_remainder-shape_of-out-in_default t c =
-    c.reproject_column_references.auto.out
 
 pub reproject_remainder-returns-in_default : goal.reproject_remainder-returns-in_default
 reproject_remainder-returns-in_default t c =
@@ -70,10 +55,6 @@ reproject_remainder-reproject_sides-requires t c =
       omega (arith, c.decreases, node-some p.stands, left_at both),
       parent-fits to c.args.cut both p.ends c.if-at-cut.false c.if-at-cut-2.true p.room,
     )
-
-pub reproject_remainder-shape_of-out-then-at-cut-2 : goal.reproject_remainder-shape_of-out-then-at-cut-2
-reproject_remainder-shape_of-out-then-at-cut-2 t c =
-    c.reproject_sides.auto.out
 
 pub reproject_remainder-returns-then-at-cut-2 : goal.reproject_remainder-returns-then-at-cut-2
 reproject_remainder-returns-then-at-cut-2 t c =
@@ -122,14 +103,6 @@ reproject_remainder-overflow_add-result t c =
           copy-and to c.args.cut both p.ends c.if-at-cut.false c.if-at-cut-2.false c.args.out.now
           call.new.out (room t (goal.at.reproject_remainder-overflow_add-result t c).Else-at-cut-2) call.ensures)).wrote,
     )
-
-pub reproject_remainder-shape_of-out : goal.reproject_remainder-shape_of-out
-reproject_remainder-shape_of-out t c =
-    let out = c.args.out.now in
-    let call = c.reproject_sides-sides in
-    together-length 2 (set (set out 0 2) 1 0) call.new.out
-    (simp length-set (room t (goal.at.reproject_remainder-shape_of-out t c).Else-at-cut-2)) call.auto.out
-    ∙ simp length-set
 
 pub reproject_remainder-returns : goal.reproject_remainder-returns
 reproject_remainder-returns t c =
@@ -181,13 +154,6 @@ reproject_sides-overflow_add-result t c =
           let two = c.reproject_remainder-right in
           copy-sides one.new.out one.result one.ensures two.new.out two.result two.ensures) p.l p.r p.stand).wrote,
     )
-
-pub reproject_sides-shape_of-out : goal.reproject_sides-shape_of-out
-reproject_sides-shape_of-out t c =
-    let one = c.reproject_remainder-left in
-    let two = c.reproject_remainder-right in
-    let fits = left-wrote one.new.out one.result one.ensures c.requires in
-    together-length one.result.wrote one.new.out two.new.out (omega (arith, one.auto.out)) two.auto.out ∙ one.auto.out
 
 pub reproject_sides-returns : goal.reproject_sides-returns
 reproject_sides-returns t c =

@@ -1,10 +1,9 @@
 -- `put_rest`: an And is its right side, then its left side before it, then its head; any other node is an AND-leaf.
 -- A call goes to a place further on, so the measure is the bytes left.
-use Prim.Native.Nat.{ℕ, ◌+◌, ◌-◌, ◌<◌}
+use Prim.Native.Nat.{ℕ, ◌+◌, ◌<◌}
 use native.Mathlib.Omega.{arith}
 use mathlib.Core.Path.{◌≡◌, refl, ◌∙◌, subst⁻¹}
 use lib.ListN.{length}
-use mir.Facts.{Fits-16_64}
 use Rattle.definitions.specs.Expression.{Expr, and as expr-and}
 use Rattle.definitions.specs.Encode.{expr_bytes}
 use Rattle.definitions.specs.Decode.{Columns}
@@ -20,46 +19,46 @@ use Rattle.remainder.proofs.RestLaws.{and-put}
 use Rattle.remainder.proofs.RestWalk.{lone-leaf, left_after, right-stands, right-fits, left-fits, head-fits}
 use borrow.Enum.Refused.{opened}
 use Rattle.remainder.proofs.rests.+put_rest.Goals as goal
-use Rattle.remainder.proofs.rests.+put_rest.Goals.{After-end_of-place, After-put_rest-right, In-And}
+use Rattle.remainder.proofs.rests.+put_rest.Goals.{After-end, After-put_rest-right, In-And}
 
 -- The And that was found.
 abbrev found : (t : ℕ) (c : In-And t) (d : Columns) (u : Expr)
-    → Stands d c.args.src.now
-    c.args.at u
-    → Both expr-and d c.args.src.now
-    c.args.at c.in-And.left u
+    → Stands d c.args.nodes.src.now
+    c.args.place.at u
+    → Both expr-and d c.args.nodes.src.now
+    c.args.place.at c.in-And.left u
 found t c d u stands = rw c.in-And.is at (c.node_at.ensures d u stands)
 
 -- Its left side, in the rows.
 left-rows : (t : ℕ) (c : In-And t) (d : Columns) (u : Expr)
-    (stands : Stands d c.args.src.now
-    c.args.at u)
-    → Tabled c.args.numbers.now
-    c.args.next.now c.in-And.left
-    (c.args.i + 1)
+    (stands : Stands d c.args.nodes.src.now
+    c.args.place.at u)
+    → Tabled c.args.nodes.rows.numbers.now
+    c.args.nodes.rows.next.now c.in-And.left
+    (c.args.place.index + 1)
     (found t c d u stands).l
 left-rows t c d u stands =
     left-tabled (c.requires.of_tree d u stands) (found t c d u stands)
 
 within : (t : ℕ) (c : In-And t)
-    → (c.args.i + 1 < length
-    c.args.numbers.now)
-    × (c.args.i + 1 < length
-    c.args.next.now)
+    → (c.args.place.index + 1 < length
+    c.args.nodes.rows.numbers.now)
+    × (c.args.place.index + 1 < length
+    c.args.nodes.rows.next.now)
 within t c = let f = c.requires.rest_fits in tabled-within
     (left-rows t c f.columns f.tree f.stands)
 
 -- Where the right side stands.
-right-at : (t : ℕ) (c : After-end_of-place t) (d : Columns) (u : Expr)
-    (stands : Stands d c.args.src.now
-    c.args.at u)
-    → c.end_of-place.result ≡ c.in-And.left + length (expr_bytes (rw c.in-And.is at (c.node_at.ensures d u stands)).l)
-right-at t c d u stands = c.end_of-place.ensures
+right-at : (t : ℕ) (c : After-end t) (d : Columns) (u : Expr)
+    (stands : Stands d c.args.nodes.src.now
+    c.args.place.at u)
+    → c.end.result ≡ c.in-And.left + length (expr_bytes (rw c.in-And.is at (c.node_at.ensures d u stands)).l)
+right-at t c d u stands = c.end.ensures
     ∙ tabled-end (left-tabled (c.requires.of_tree d u stands) (rw c.in-And.is at (c.node_at.ensures d u stands)))
 
 -- What the call for the right side left.
 right-put : (t : ℕ) (c : After-put_rest-right t) (d : Columns) (u : Expr)
-    (stands : Stands d c.args.src.now c.args.at u)
+    (stands : Stands d c.args.nodes.src.now c.args.place.at u)
     → RestPut c.args.end
     c.args.after
     c.args.gone.now
@@ -68,84 +67,39 @@ right-put : (t : ℕ) (c : After-put_rest-right t) (d : Columns) (u : Expr)
     c.put_rest-right.result (rw c.in-And.is at (c.node_at.ensures d u stands)).r
 right-put t c d u stands =
     c.put_rest-right.ensures d _
-    (right-stands (rw c.in-And.is at (c.node_at.ensures d u stands)) _ (c.end_of-place.ensures
+    (right-stands (rw c.in-And.is at (c.node_at.ensures d u stands)) _ (c.end.ensures
     ∙ tabled-end (left-tabled (c.requires.of_tree d u stands) (rw c.in-And.is at (c.node_at.ensures d u stands)))))
-
-pub node_at-requires : goal.node_at-requires
-node_at-requires t c =
-    let f = c.requires.rest_fits in (f.columns, f.tree, f.stands)
-
-pub end_of-stop-requires : goal.end_of-stop-requires
-end_of-stop-requires t c =
-    let p = c.requires in
-    (tabled-within (p.of_tree _ p.rest_fits.tree p.rest_fits.stands)).0
 
 pub put_leaf-requires : goal.put_leaf-requires
 put_leaf-requires t c =
     let node = c.node_at in record {
       rest_fits = c.requires.rest_fits;
       of_tree = λ d u stands. (
-        lone-leaf d c.args.src.now c.args.at u node.result (opened c.in_default.in_default-own.keys2) (node.ensures d u stands),
-        c.end_of-stop.ensures ∙ tabled-end (c.requires.of_tree d u stands),
+        lone-leaf d c.args.nodes.src.now c.args.place.at u node.result (opened c.in_default.in_default-own.keys2) (node.ensures d u stands),
+        c.requires.of_tree d u stands,
       );
     }
 
-pub shape_of-out-in_default : goal.shape_of-out-in_default
-shape_of-out-in_default t c =
-    c.put_leaf.auto.out
+pub end-requires : goal.end-requires
+end-requires t c =
+    (within t (goal.at.end-requires t c).In-And).0
 
-pub returns-in_default : goal.returns-in_default
-returns-in_default t c =
-    c.put_leaf.ensures
-
-pub overflow_add-i : goal.overflow_add-i
-overflow_add-i t c =
-    omega (arith, c.well_formed, (within t (goal.at.overflow_add-i t c).In-And).0)
-
-pub end_of-place-requires : goal.end_of-place-requires
-end_of-place-requires t c =
-    (within t (goal.at.end_of-place-requires t c).In-And).0
-
-pub overflow_add-index : goal.overflow_add-index
-overflow_add-index t c =
-    omega (
-      arith,
-      c.well_formed,
-      (within t (goal.at.overflow_add-index t c).In-And).0,
-    )
-
-pub offset_bounds-next-i : goal.offset_bounds-next-i
-offset_bounds-next-i t c =
-    omega (
-      arith,
-      c.well_formed,
-      (within t (goal.at.offset_bounds-next-i t c).In-And).1,
-    )
-
-pub bounds-next-i : goal.bounds-next-i
-bounds-next-i t c =
-    (within t (goal.at.bounds-next-i t c).In-And).1
-
-pub overflow_cast-index : goal.overflow_cast-index
-overflow_cast-index t c =
-    Fits-16_64 (c.shared_slice_known-5-1.given _)
+pub after-requires : goal.after-requires
+after-requires t c =
+    (within t (goal.at.after-requires t c).In-And).1
 
 pub put_rest-right-requires : goal.put_rest-right-requires
 put_rest-right-requires t c =
     let f = c.requires.rest_fits in
     let both = found t (goal.at.put_rest-right-requires t c).In-And f.columns f.tree f.stands in
-    let e = right-at t (goal.at.put_rest-right-requires t c).After-end_of-place f.columns f.tree f.stands in (
+    let e = right-at t (goal.at.put_rest-right-requires t c).After-end f.columns f.tree f.stands in (
       omega (arith, c.decreases, e, left_after both, node-some (right-stands both _ e)),
       (
         right-fits f both _ e,
         of_tree _ (right-stands both _ e) (right-tabled (c.requires.of_tree _ f.tree f.stands) both _ _ e
-            (tabled-next (left-rows t (goal.at.put_rest-right-requires t c).In-And f.columns f.tree f.stands))),
+            (c.after.ensures ∙ tabled-next (left-rows t (goal.at.put_rest-right-requires t c).In-And f.columns f.tree f.stands))),
       ),
     )
-
-pub overflow_add-i-2 : goal.overflow_add-i-2
-overflow_add-i-2 t c =
-    omega (arith, c.well_formed, (within t (goal.at.overflow_add-i-2 t c).In-And).0)
 
 pub put_rest-first-requires : goal.put_rest-first-requires
 put_rest-first-requires t c =
@@ -166,11 +120,6 @@ put_and-requires t c =
     let both = found t (goal.at.put_and-requires t c).In-And f.columns f.tree f.stands in
     head-fits f both (right-put t (goal.at.put_and-requires t c).After-put_rest-right f.columns f.tree f.stands) c.put_rest-right.auto.out
     (one.ensures _ both.l (first-stands both.row)) one.auto.out
-
-pub shape_of-out : goal.shape_of-out
-shape_of-out t c =
-    c.put_and.auto.out ∙ c.put_rest-first.auto.out
-    ∙ c.put_rest-right.auto.out
 
 pub returns : goal.returns
 returns t c =

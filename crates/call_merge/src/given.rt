@@ -1,0 +1,26 @@
+// Frames that are merged.
+ghost use Rattle.std.specs.Prelude.{◌+◌, ◌≤◌};
+
+use frame_reader::frame_bodies::Frame;
+
+// Where the parts of the held frame stand in its bytes, and those of the new one.
+#[derive(Clone, Copy)]
+pub struct Frames {
+    pub old: Frame,
+    pub new: Frame,
+}
+
+// The bytes of a frame, and where its parts stand in them.
+#[derive(Clone, Copy)]
+pub struct Given<'a> {
+    pub bytes: &'a [u8],
+    pub parts: Frame,
+}
+
+// The held frame and the new one, which have no more records together than a frame may have.
+#[derive(Clone, Copy)]
+pub struct Two<'a> {
+    pub old: Given<'a>,
+    pub new: Given<'a>,
+    pub ghost few: { old.parts.columns + new.parts.columns ≤ 256 },
+}
