@@ -7,8 +7,9 @@ use lib.ListN.{length, take, drop, length-append}
 use lib.Seq.{length-take-le, take_at}
 use Rattle.writing.specs.Written.{WroteAt}
 use Rattle.lines.specs.Pieces.{piece, fresh_session}
+use Rattle.lines.specs.declared.states.Buffers.{Buffers}
 use Rattle.lines.specs.declared.states.State.{State}
-use Rattle.lines.specs.Sessions.{Lent, Stands}
+use Rattle.lines.specs.Sessions.{Stands}
 use Rattle.lines.specs.Runs.{together, Reached, start, feeding, writing, RunsWrite}
 use Rattle.lines.proofs.SessionLaws.{at-end}
 use Rattle.lines.proofs.Whole.{piece-append, whole-input}
@@ -25,18 +26,18 @@ together-append [] p = append-nil p
 together-append (q ∷ ps) p = ap (λ (l : List ℕ). q ++ l) (together-append ps p) ∙ sym (append_assoc q (together ps) p)
 
 -- The state stands for the session after all that was fed.
-record Holds (ps : List (List ℕ)) (w : List ℕ) (b : Lent) (state : State) : Type 0 where
+record Holds (ps : List (List ℕ)) (w : List ℕ) (b : Buffers) (state : State) : Type 0 where
   written : w ++ take state.filled b.out ≡ (piece fresh_session (together ps)).out
   stands : Stands b state (piece fresh_session (together ps)).after
 
 -- What is written next follows.
-next-written : {ps : List (List ℕ)} {w : List ℕ} {b : Lent} {state : State} {x out : List ℕ} {end : ℕ} → Holds ps w b state
+next-written : {ps : List (List ℕ)} {w : List ℕ} {b : Buffers} {state : State} {x out : List ℕ} {end : ℕ} → Holds ps w b state
     → WroteAt state.filled x b.out out end → w ++ take end out ≡ (piece fresh_session (together ps)).out ++ x
 next-written {ps} {w} {b} {state} {x} h wrote =
     ap (λ (l : List ℕ). w ++ l) (follows h.stands.room wrote) ∙ sym (append_assoc w (take state.filled b.out) x)
     ∙ ap (λ (l : List ℕ). l ++ x) h.written
 
-holds : {ps : List (List ℕ)} {w : List ℕ} {b : Lent} {state : State} → Reached ps w b state → Holds ps w b state
+holds : {ps : List (List ℕ)} {w : List ℕ} {b : Buffers} {state : State} → Reached ps w b state → Holds ps w b state
 unfolding together piece
 holds (start e stands) = record { written = rw e refl; stands = stands }
 holds (feeding {ps = ps} p r makes) =

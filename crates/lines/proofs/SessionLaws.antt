@@ -13,18 +13,23 @@ use Rattle.terms.specs.Refusals.{number_of}
 use Rattle.terms.specs.declared.refusals.Refusal.TheVariants.{NotHexadecimal}
 use Rattle.lines.specs.declared.answers.Answer.{Answer}
 use Rattle.lines.specs.declared.answers.Answer.TheVariants.{Plan, Logical, Refused}
+use Rattle.lines.specs.declared.states.Buffers.{Buffers}
 use Rattle.lines.specs.declared.states.State.{State}
 use Rattle.writing.specs.Written.{WroteAt}
 use Rattle.lines.specs.Answers.{answer_bytes, plan_length, kept_as, length_after, AnswerIs}
 use Rattle.lines.specs.Pieces.{Session, end_line, piece, input_end, fresh_session, first_line, has_feed}
 use Rattle.lines.specs.Collecting.{Begun, CollectedIs}
-use Rattle.lines.specs.Sessions.{Lent, lent, Stands, Makes, most_filled, EndedIs, TakenIs, FedIs, FinishedIs}
+use Rattle.lines.specs.Sessions.{Stands, Makes, most_filled, EndedIs, TakenIs, FedIs, FinishedIs}
 use Rattle.lines.specs.declared.states.Fed.{Fed}
 use Rattle.lines.specs.declared.collecting.Collected.{Collected}
 use Rattle.hexadecimal.proofs.DecodeLaws.{long-line}
 use Rattle.hexadecimal.proofs.EncodeLaws.{length_digits, wrote_nothing}
 use Rattle.lines.proofs.PieceLaws.{joined, stopped, upto}
 use Rattle.lines.proofs.LineLaws.{refused-line, bad-line}
+
+-- Buffers with this in them.
+abbrev pub lent : (out plan scratch line : List ℕ) → Buffers
+lent out plan scratch line = record { out = out; plan = plan; scratch = scratch; line = line }
 
 abbrev state_of : (n count filled : ℕ) → State
 state_of n count filled = record { n = n; count = count; filled = filled }
@@ -34,9 +39,9 @@ state_of n count filled = record { n = n; count = count; filled = filled }
 none-begun : (line : List ℕ) → Begun line 0 []
 none-begun line = record { held = λ h. refl; long = λ h. absurd (omega arith) }
 
-pub stands-fresh : (out scratch line : List ℕ) → Stands (lent out (replicate 16384 0) scratch line) (state_of 0 0 0) fresh_session
+pub stands-fresh : (b : Buffers) → b.plan ≡ replicate 16384 0 → Stands b (state_of 0 0 0) fresh_session
 unfolding fresh_session fresh_plan
-stands-fresh out scratch line = record { room = omega arith; kept = refl; begun = none-begun line }
+stands-fresh b e = record { room = omega arith; kept = rw e refl; begun = none-begun b.line }
 
 -- ---- the line that has begun
 
@@ -49,7 +54,7 @@ some-line line count false e = (
   record { held = λ h. absurd (omega (arith, leb-false count (length line) e)); long = λ h. rw length-replicate (omega arith) },
 )
 
-pub some-session : (b : Lent) (state : State) → state.filled ≤ length b.out → (s : Session) × Stands b state s
+pub some-session : (b : Buffers) (state : State) → state.filled ≤ length b.out → (s : Session) × Stands b state s
 some-session b state h =
     let some = some-line b.line state.count (leb state.count (length b.line)) refl in
     (record { kept = kept_as state.n b.plan; begun = some.0 }, record { room = h; kept = refl; begun = some.1 })
@@ -91,7 +96,7 @@ begun-some {line} {count} true e b =
 begun-some {line} {count} false e b = absurd (omega (arith, b.long (leb-false count (length line) e)))
 
 -- After a line's end none has begun.
-ended-none : {before after : Lent} {state next : State} → EndedIs before state after next → state.filled ≤ length before.out
+ended-none : {before after : Buffers} {state next : State} → EndedIs before state after next → state.filled ≤ length before.out
     → next.count ≡ 0
 unfolding end_line
 ended-none {before} {after} {state} {next} ended h =
@@ -101,7 +106,7 @@ ended-none {before} {after} {state} {next} ended h =
 -- ---- feeding
 
 -- Nothing is taken where there is no room.
-pub fed-none : (p : List ℕ) (b : Lent) (state : State) → most_filled < state.filled
+pub fed-none : (p : List ℕ) (b : Buffers) (state : State) → most_filled < state.filled
     → FedIs p b state b (record { taken = 0; state = state })
 unfolding piece
 fed-none p b state h = record {
@@ -124,18 +129,16 @@ module _ {p line after : List ℕ} {r : Collected} (state : State) (out plan scr
   taken-steps : (feed : Bool) → r.ended ≡ feed → (s : Session) → piece s (take r.taken p) ≡ stopped feed (joined s (first_line p))
   taken-steps feed e s = rw (is.taken, ← e, is.ended) ((upto p).steps s)
 
-  pub fed-ended : {out-after plan-after scratch_after : List ℕ} {next : State} → r.ended ≡ true
-      → EndedIs (lent out plan scratch after) joined_state (lent out-after plan-after scratch_after after) next → state.filled ≤ length out
-      → FedIs p (lent out plan scratch line) state (lent out-after plan-after scratch_after after)
-      (record { taken = r.taken; state = next })
+  pub fed-ended : {left : Buffers} {next : State} → r.ended ≡ true → EndedIs (lent out plan scratch after) joined_state left next
+      → state.filled ≤ length out → FedIs p (lent out plan scratch line) state left (record { taken = r.taken; state = next })
   fed-ended e ended room =
       let feed : has_feed p ≡ true = sym is.ended ∙ e in
       record {
         takes = λ h. record {
           taken = is.taken;
           counts = rw feed (ended-none ended room);
-          line = is.buffer;
-          scratch = rw (feed, ← is.counts) ended.scratch;
+          line = ended.line ∙ is.buffer;
+          scratch = rw (feed, ended.line, ← is.counts) ended.scratch;
         };
         full = λ h. absurd (omega arith);
         makes = λ s stands.
@@ -155,14 +158,14 @@ module _ {p line after : List ℕ} {r : Collected} (state : State) (out plan scr
       }
 
 -- What is taken is a part of the piece, and some of it where there is any.
-pub taken-within : {p : List ℕ} {before after : Lent} {state : State} {r : Fed} → TakenIs p before state after r → r.taken ≤ length p
+pub taken-within : {p : List ℕ} {before after : Buffers} {state : State} {r : Fed} → TakenIs p before state after r → r.taken ≤ length p
 taken-within {p} t = rw t.taken (upto p).within
 
-pub taken-some : {p : List ℕ} {before after : Lent} {state : State} {r : Fed} → TakenIs p before state after r → 0 < length p → 0 < r.taken
+pub taken-some : {p : List ℕ} {before after : Buffers} {state : State} {r : Fed} → TakenIs p before state after r → 0 < length p → 0 < r.taken
 taken-some {p} t h = rw t.taken ((upto p).some h)
 
 -- What waits fits its buffer afterwards, too.
-pub fed-room : {p : List ℕ} {before after : Lent} {state : State} {r : Fed} → FedIs p before state after r
+pub fed-room : {p : List ℕ} {before after : Buffers} {state : State} {r : Fed} → FedIs p before state after r
     → state.filled ≤ length before.out
     → r.state.filled ≤ length after.out
 fed-room {before = before} {state = state} is h = let some = some-session before state h in (is.makes some.0 some.1).stands.room
@@ -181,21 +184,21 @@ end-some {line} {count} kept [] b h = absurd (h (begun-some (leb count (length l
 end-some kept (c ∷ begun) b h = refl
 
 -- Nothing is done where no line has begun, or where there is no room.
-pub finished-none : (b : Lent) (state : State) → state.count ≡ 0 → FinishedIs b state b state
+pub finished-none : (b : Buffers) (state : State) → state.count ≡ 0 → FinishedIs b state b state
 finished-none b state e = record {
   ends = λ h k. absurd (h e);
   none = λ h. record { same = refl; buffers = refl };
   full = λ h. record { same = refl; buffers = refl };
 }
 
-pub finished-full : (b : Lent) (state : State) → most_filled < state.filled → FinishedIs b state b state
+pub finished-full : (b : Buffers) (state : State) → most_filled < state.filled → FinishedIs b state b state
 finished-full b state h = record {
   ends = λ k l. absurd (omega arith);
   none = λ k. record { same = refl; buffers = refl };
   full = λ k. record { same = refl; buffers = refl };
 }
 
-finished-fits : {before after : Lent} {state next : State} (none : Bool) → eqb state.count 0 ≡ none → FinishedIs before state after next
+finished-fits : {before after : Buffers} {state next : State} (none : Bool) → eqb state.count 0 ≡ none → FinishedIs before state after next
     → state.filled ≤ most_filled
     → state.filled ≤ length before.out → next.filled ≤ length after.out
 finished-fits {state = state} true e is room h = let idle = is.none (eqb-true state.count 0 e) in rw (idle.same, idle.buffers) h
@@ -203,13 +206,13 @@ finished-fits {before} {state = state} false e is room h =
     let some = some-session before state h in
     ((is.ends (eqb-false state.count 0 e) room).makes some.0 some.1).stands.room
 
-pub finished-room : {before after : Lent} {state next : State} → FinishedIs before state after next → state.filled ≤ most_filled
+pub finished-room : {before after : Buffers} {state next : State} → FinishedIs before state after next → state.filled ≤ most_filled
     → state.filled ≤ length before.out
     → next.filled ≤ length after.out
 finished-room {before} {after} {state} {next} is room h = finished-fits (eqb state.count 0) refl is room h
 
 -- What is written at the end is what the end of the input gives.
-ends-write : {b after : Lent} {state last : State} (none : Bool) → eqb state.count 0 ≡ none → FinishedIs b state after last
+ends-write : {b after : Buffers} {state last : State} (none : Bool) → eqb state.count 0 ≡ none → FinishedIs b state after last
     → (s : Session) → Stands b state s
     → state.filled ≤ most_filled → WroteAt state.filled (input_end s.kept s.begun) b.out after.out last.filled
 ends-write {b} {after} {state} true e is s stands room =
@@ -220,7 +223,7 @@ ends-write {state = state} false e is s stands room =
     let some : (state.count ≡ 0 → ⊥) = eqb-false state.count 0 e in
     rw (end-some s.kept s.begun stands.begun some) ((is.ends some room).makes s stands).out
 
-pub at-end : {b after : Lent} {state last : State} → FinishedIs b state after last → (s : Session) → Stands b state s
+pub at-end : {b after : Buffers} {state last : State} → FinishedIs b state after last → (s : Session) → Stands b state s
     → state.filled ≤ most_filled
     → WroteAt state.filled (input_end s.kept s.begun) b.out after.out last.filled
 at-end {state = state} is s stands room = ends-write (eqb state.count 0) refl is s stands room

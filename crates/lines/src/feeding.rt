@@ -1,60 +1,38 @@
 // What the program does with its input: lines of hexadecimal in, a line out for each. Public for the program.
-ghost use Rattle.lines.specs.Sessions.{lent, FedIs, FinishedIs};
+ghost use Rattle.lines.specs.Sessions.{FedIs, FinishedIs};
 
 use super::collecting::collect;
 use super::ends::end_line;
-use super::states::{Fed, MOST_FILLED, State};
+use super::states::{Buffers, Fed, MOST_FILLED, State};
 
 // Takes a piece of the input up to the end of a line; nothing where there is no room for what a line gives.
-pub fn feed(
-    out: &mut [u8; 65536],
-    plan: &mut [u8; 16384],
-    scratch: &mut [u8; 16384],
-    line: &mut [u8; 32768],
-    piece: &[u8],
-    state: State,
-) -> Fed
-    ensures { FedIs piece.now
-        (lent out.old plan.old scratch.old line.old) state
-        (lent out.new plan.new scratch.new line.new) result }
+pub fn feed(buffers: &mut Buffers, piece: &[u8], state: State) -> Fed
+    ensures { FedIs piece.now buffers.old state buffers.new result }
 {
     if MOST_FILLED < state.filled {
         return Fed { taken: 0, state };
     }
-    let collected = collect(line, piece, state.count);
-    let taken = collected.taken;
+    let collected = collect(&mut buffers.line, piece, state.count);
     let joined = State {
-        n: state.n,
         count: collected.count,
-        filled: state.filled,
+        ..state
     };
-    if collected.ended {
-        let next = end_line(out, plan, scratch, line, joined);
-        return Fed { taken, state: next };
-    }
     Fed {
-        taken,
-        state: joined,
+        taken: collected.taken,
+        state: if collected.ended {
+            end_line(buffers, joined)
+        } else {
+            joined
+        },
     }
 }
 
 // The end of the input ends a line that has begun; nothing is done where there is no room for what it gives.
-pub fn finish(
-    out: &mut [u8; 65536],
-    plan: &mut [u8; 16384],
-    scratch: &mut [u8; 16384],
-    line: &[u8; 32768],
-    state: State,
-) -> State
-    ensures { FinishedIs
-        (lent out.old plan.old scratch.old line.now) state
-        (lent out.new plan.new scratch.new line.now) result }
+pub fn finish(buffers: &mut Buffers, state: State) -> State
+    ensures { FinishedIs buffers.old state buffers.new result }
 {
-    if state.count == 0 {
+    if state.count == 0 || MOST_FILLED < state.filled {
         return state;
     }
-    if MOST_FILLED < state.filled {
-        return state;
-    }
-    end_line(out, plan, scratch, line, state)
+    end_line(buffers, state)
 }

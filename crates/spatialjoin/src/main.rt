@@ -5,143 +5,104 @@
 // and whenever what waits is written out. `streams` hands every character of what a read gave over once and in order and says which
 // bytes wait then, and here it is proved that nothing of the state is lost between two reads. What no contract can say, and is left to
 // be read: that `read_on` hands over what its read gave, that `streams::output::flush` writes what waits in the buffer that it is lent,
-// that `run` goes on until a read gives nothing or something fails, that `main` then ends the last line, and that `report` says what
-// failed.
+// that `run` goes on until a read gives nothing or something fails, that `run_to_end` then ends the last line, and that `report` says
+// what failed.
 #![tactic(auto)]
 
 ghost use Rattle.std.specs.Prelude.{◌≡◌, replicate};
-ghost use Rattle.lines.specs.Sessions.{lent};
 ghost use Rattle.spatialjoin.specs.Runs.{ReadOn, Ran, LastIs};
 
 use lines::feeding::finish;
-use lines::states::{State, fresh};
+use lines::states::{Buffers, State, fresh};
 use std::io::{Read, Stderr, Stdin, Stdout};
 use streams::chunks::take_in;
-use streams::output::{Turn, flush};
+use streams::output::{Failure, Turn, flush};
 
-// Reads once, handles what came, and writes what waits then. A read that fails counts as one that gave a number below 0.
+// Reads once, handles what came, and writes what waits then.
 fn read_on(
     mut stdin: Stdin,
     stdout: Stdout,
-    out: &mut [u8; 65536],
-    plan: &mut [u8; 16384],
-    scratch: &mut [u8; 16384],
-    line: &mut [u8; 32768],
+    buffers: &mut Buffers,
     chunk: &mut [u8; 65536],
     state: State,
-) -> Turn
+) -> Result<Turn, Failure>
     requires { state.filled ≡ 0 }
-    ensures { ReadOn chunk.new
-        (lent out.old plan.old scratch.old line.old) state
-        (lent out.new plan.new scratch.new line.new) result }
+    ensures { ReadOn chunk.new buffers.old state buffers.new result }
 {
-    let got = match stdin.read(chunk) {
-        Ok(size) => size as isize,
-        Err(_) => -1,
-    };
-    match take_in(stdout, out, plan, scratch, line, chunk, got, state) {
-        Turn::More(next) => flush(stdout, out, next),
-        Turn::Ended(last) => Turn::Ended(last),
-        Turn::NotRead => Turn::NotRead,
-        Turn::NotWritten => Turn::NotWritten,
+    let got = stdin.read(chunk);
+    match take_in(stdout, buffers, chunk, got, state)? {
+        Turn::More(next) => {
+            let next = flush(stdout, &buffers.out, next)?;
+            Ok(Turn::More(next))
+        }
+        Turn::Ended(last) => Ok(Turn::Ended(last)),
     }
 }
 
 // Reads up to the end of the input, or until reading or writing fails. A proved loop has to end, and nothing says that the input
-// does: so the loop counts its turns down, from a number that no run uses up.
+// does: so its turns are counted, up to a number that no run comes to.
 fn run(
     stdin: Stdin,
     stdout: Stdout,
-    out: &mut [u8; 65536],
-    plan: &mut [u8; 16384],
-    scratch: &mut [u8; 16384],
-    line: &mut [u8; 32768],
+    buffers: &mut Buffers,
     chunk: &mut [u8; 65536],
-) -> Turn
-    requires { plan.old ≡ replicate 16384 0 }
-    ensures { Ran (lent out.new plan.new scratch.new line.new) result }
+) -> Result<Turn, Failure>
+    requires { buffers.old.plan ≡ replicate 16384 0 }
+    ensures { Ran buffers.new result }
 {
     let mut state = fresh();
-    let mut turns = u64::MAX;
-    while turns > 0 {
-        turns -= 1;
-        match read_on(stdin, stdout, out, plan, scratch, line, chunk, state) {
-            Turn::More(next) => {
-                state = next;
-            }
-            Turn::Ended(last) => {
-                return Turn::Ended(last);
-            }
-            Turn::NotRead => {
-                return Turn::NotRead;
-            }
-            Turn::NotWritten => {
-                return Turn::NotWritten;
-            }
+    for _ in 0..u64::MAX {
+        match read_on(stdin, stdout, buffers, chunk, state)? {
+            Turn::More(next) => state = next,
+            Turn::Ended(last) => return Ok(Turn::Ended(last)),
         }
     }
-    Turn::More(state)
+    Ok(Turn::More(state))
 }
 
 // Ends a last line without a line feed, and writes what waits then.
-fn write_last(
-    stdout: Stdout,
-    out: &mut [u8; 65536],
-    plan: &mut [u8; 16384],
-    scratch: &mut [u8; 16384],
-    line: &[u8; 32768],
-    state: State,
-) -> Turn
+fn write_last(stdout: Stdout, buffers: &mut Buffers, state: State) -> Result<State, Failure>
     requires { state.filled ≡ 0 }
-    ensures { LastIs
-        (lent out.old plan.old scratch.old line.now) state
-        (lent out.new plan.new scratch.new line.now) result }
+    ensures { LastIs buffers.old state buffers.new result }
 {
-    let last = finish(out, plan, scratch, line, state);
-    flush(stdout, out, last)
+    let last = finish(buffers, state);
+    flush(stdout, &buffers.out, last)
 }
 
-// Says what failed, if anything did.
-fn report(stderr: Stderr, turn: Turn) {
-    match turn {
-        Turn::NotRead => {
-            let _ = stderr.write_all(b"spatialjoin: standard input could not be read\n");
-        }
-        Turn::NotWritten => {
-            let _ = stderr.write_all(b"spatialjoin: standard output could not be written\n");
-        }
-        Turn::More(_) => {}
-        Turn::Ended(_) => {}
+// The whole run, and its last line.
+fn run_to_end(
+    stdin: Stdin,
+    stdout: Stdout,
+    buffers: &mut Buffers,
+    chunk: &mut [u8; 65536],
+) -> Result<(), Failure>
+    requires { buffers.old.plan ≡ replicate 16384 0 }
+{
+    if let Turn::Ended(last) = run(stdin, stdout, buffers, chunk)? {
+        write_last(stdout, buffers, last)?;
     }
+    Ok(())
+}
+
+// Says what failed.
+fn report(stderr: Stderr, failure: Failure) {
+    let _ = match failure {
+        Failure::NotRead => { stderr.write_all(b"spatialjoin: standard input could not be read\n") }
+        Failure::NotWritten => {
+            stderr.write_all(b"spatialjoin: standard output could not be written\n")
+        }
+    };
 }
 
 fn main(rt: HostRuntime) {
-    let mut out = [0u8; 65536];
-    let mut plan = [0u8; 16384];
-    let mut scratch = [0u8; 16384];
-    let mut line = [0u8; 32768];
+    let mut buffers = Buffers {
+        out: [0; 65536],
+        plan: [0; 16384],
+        scratch: [0; 16384],
+        line: [0; 32768],
+    };
     let mut chunk = [0u8; 65536];
-    match run(
-        rt.stdin(),
-        rt.stdout(),
-        &mut out,
-        &mut plan,
-        &mut scratch,
-        &mut line,
-        &mut chunk,
-    ) {
-        Turn::Ended(last) => {
-            report(
-                rt.stderr(),
-                write_last(rt.stdout(), &mut out, &mut plan, &mut scratch, &line, last),
-            );
-        }
-        Turn::NotRead => {
-            report(rt.stderr(), Turn::NotRead);
-        }
-        Turn::NotWritten => {
-            report(rt.stderr(), Turn::NotWritten);
-        }
-        Turn::More(_) => {}
+    if let Err(failure) = run_to_end(rt.stdin(), rt.stdout(), &mut buffers, &mut chunk) {
+        report(rt.stderr(), failure);
     }
 }

@@ -1,27 +1,24 @@
 -- What was handed over makes up the piece that the state stands after, and there is room for what another line gives.
 use Rattle.std.specs.Prelude.{if◌then◌else◌}
-use Prim.Native.Nat.{ℕ, ◌≤◌, ◌<◌, ◌+◌, ◌-◌, min}
+use Prim.Native.Nat.{ℕ, ◌≤◌, ◌+◌, ◌-◌}
 use native.Mathlib.Omega.{arith}
 use mathlib.Core.Path.{◌≡◌, refl}
 use mathlib.Core.Bool.{Bool, true, false}
 use mathlib.Core.List.{List}
-use lib.ListN.{length, take, drop, length-take}
+use lib.ListN.{take, drop}
 use lib.Seq.{take-add, take-take}
-use lib.IntN.{ℤ, pos, negsuc, nat_abs}
-use lib.Signed.{lt_z}
 use lib.Dec.{leb}
-use borrow.Author.Tests.{leb-true, ltb-true}
+use borrow.Author.Tests.{leb-true}
 use Rattle.lines.specs.Pieces.{Session, piece}
-use Rattle.lines.specs.Sessions.{Lent, Stands, Makes, most_filled}
+use Rattle.lines.specs.Sessions.{Stands, Makes, most_filled}
+use Rattle.lines.specs.declared.states.Buffers.{Buffers}
 use Rattle.lines.specs.declared.states.State.{State}
 use Rattle.lines.proofs.Whole.{piece-append}
 use Rattle.streams.specs.Turns.{settled, roomed}
-use Rattle.streams.specs.declared.output.Turn.{Turn}
-use Rattle.streams.specs.declared.output.Turn.TheVariants.{More, Ended, NotRead, NotWritten}
-use Rattle.streams.specs.Handing.{Handing, none, more, After, Handed, Below, given, TakenIn}
+use Rattle.streams.specs.Handing.{Handing, none, more, After}
 
 -- What was taken from `at` on follows what was handed over before.
-pub taken : {before b after : Lent} {state current fed next : State} (chunk : List ℕ) (at size k : ℕ) → k ≤ size - at
+pub taken : {before b after : Buffers} {state current fed next : State} (chunk : List ℕ) (at size k : ℕ) → k ≤ size - at
     → Handing before state (take at chunk) b current
     → Makes (λ s. piece s (take k (take (size - at) (drop at chunk)))) b current after fed
     → next ≡ roomed fed
@@ -42,16 +39,16 @@ pub has_room : (current : State) → HasRoom current (roomed current)
 has_room current = made-room current (leb current.filled most_filled) refl
 
 -- What waits plays no part in what the state stands for.
-pub settled-stands : {b : Lent} {state : State} {s : Session} → Stands b state s → Stands b (settled state) s
+pub settled-stands : {b : Buffers} {state : State} {s : Session} → Stands b state s → Stands b (settled state) s
 settled-stands h = record { room = omega arith; kept = h.kept; begun = h.begun }
 
-roomed-stands : {b : Lent} {state : State} {s : Session} (room : Bool) → Stands b state s
+roomed-stands : {b : Buffers} {state : State} {s : Session} (room : Bool) → Stands b state s
     → Stands b (if room then state else settled state) s
 roomed-stands true h = h
 roomed-stands false h = settled-stands h
 
 -- The state stands for what came before and these characters.
-pub stands_after : {before : Lent} {state : State} {after : Lent} {next : State} {p : List ℕ} → Handing before state p after next
+pub stands_after : {before : Buffers} {state : State} {after : Buffers} {next : State} {p : List ℕ} → Handing before state p after next
     → After p before state after next
 unfolding piece
 stands_after none s h = h
@@ -59,25 +56,7 @@ stands_after (more {p} {current = current} {next = fed} q old makes) s h =
     rw (piece-append s p q).1 (roomed-stands (leb fed.filled most_filled) (makes (piece s p).after (stands_after old s h)).stands)
 
 -- What waits fits its buffer.
-pub room_after : {before after : Lent} {state next : State} {p : List ℕ} → Handing before state p after next
+pub room_after : {before after : Buffers} {state next : State} {p : List ℕ} → Handing before state p after next
     → state.filled ≤ most_filled → next.filled ≤ most_filled
 room_after none h = h
 room_after (more {next = fed} q old makes) h = (has_room fed).0
-
-pub some-given : (size : ℕ) (chunk : List ℕ) → 0 < length (take size chunk) → 0 < size
-some-given size chunk h = omega (arith, simp length-take at h)
-
-pub below-zero : (z : ℤ) → lt_z z (pos 0) ≡ true → Below z
-below-zero (pos n) e = omega (arith, ltb-true n 0 e)
-below-zero (negsuc n) e = tt
-
-pub given-some : (got : ℤ) (chunk : List ℕ) → lt_z got (pos 0) ≡ false → min (nat_abs got) (length chunk) ≡ given got chunk
-given-some (pos n) chunk e = refl
-given-some (negsuc n) chunk e = cc
-
-pub taken_in : (got : ℤ) (chunk : List ℕ) (size : ℕ) (before b : Lent) (state : State) (r : Turn) → size ≡ given got chunk
-    → Handed (take size chunk) before state b r → TakenIn got chunk before state b r
-taken_in got chunk size before b state (More next) e h = rw (← e) h
-taken_in got chunk size before b state (Ended next) e h = absurd h
-taken_in got chunk size before b state NotRead e h = absurd h
-taken_in got chunk size before b state NotWritten e h = rw (← e) (some-given size chunk h)

@@ -1,65 +1,51 @@
 // What a read gave, handed to `lines` piece by piece. Public for the program.
-ghost use Rattle.std.specs.Prelude.{◌≡◌, ◌≤◌, length, take};
-ghost use Rattle.lines.specs.Sessions.{lent};
+ghost use Rattle.std.specs.Prelude.{◌≡◌};
 ghost use Rattle.streams.specs.Handing.{Handed, TakenIn};
 
-use super::output::{Turn, make_room};
+use super::output::{Failure, Turn, make_room};
 use lines::feeding::feed;
-use lines::states::State;
+use lines::states::{Buffers, State};
+use std::io;
 use std::io::Stdout;
 
-// Hands over the first `size` characters of a chunk. What they give waits, but for what is written where there is no room.
+// Hands over characters. What they give waits, but for what is written where there is no room.
 fn feed_all(
     stdout: Stdout,
-    out: &mut [u8; 65536],
-    plan: &mut [u8; 16384],
-    scratch: &mut [u8; 16384],
-    line: &mut [u8; 32768],
-    chunk: &[u8],
-    size: usize,
+    buffers: &mut Buffers,
+    characters: &[u8],
     state: State,
-) -> Turn
-    requires { (size ≤ length chunk.now) × (state.filled ≡ 0) }
-    ensures { Handed (take size chunk.now)
-        (lent out.old plan.old scratch.old line.old) state
-        (lent out.new plan.new scratch.new line.new) result }
+) -> Result<State, Failure>
+    requires { state.filled ≡ 0 }
+    ensures { Handed characters.now buffers.old state buffers.new result }
 {
     let mut current = state;
-    let mut at: usize = 0;
-    while at < size {
-        let fed = feed(out, plan, scratch, line, &chunk[at..size], current);
-        let taken = fed.taken;
-        let Turn::More(next) = make_room(stdout, out, fed.state) else {
-            return Turn::NotWritten;
-        };
-        at += taken;
-        current = next;
+    let mut at = 0;
+    while at < characters.len() {
+        let fed = feed(buffers, &characters[at..], current);
+        current = make_room(stdout, &buffers.out, fed.state)?;
+        at += fed.taken;
     }
-    Turn::More(current)
+    Ok(current)
 }
 
 // Handles what a read gave: as many characters of the chunk as it says, the end of the input, or that it failed.
 pub fn take_in(
     stdout: Stdout,
-    out: &mut [u8; 65536],
-    plan: &mut [u8; 16384],
-    scratch: &mut [u8; 16384],
-    line: &mut [u8; 32768],
+    buffers: &mut Buffers,
     chunk: &[u8],
-    got: isize,
+    got: io::Result<usize>,
     state: State,
-) -> Turn
+) -> Result<Turn, Failure>
     requires { state.filled ≡ 0 }
-    ensures { TakenIn got chunk.now
-        (lent out.old plan.old scratch.old line.old) state
-        (lent out.new plan.new scratch.new line.new) result }
+    ensures { TakenIn got chunk.now buffers.old state buffers.new result }
 {
-    if got < 0 {
-        return Turn::NotRead;
+    let Ok(size) = got else {
+        return Err(Failure::NotRead);
+    };
+    if size == 0 {
+        return Ok(Turn::Ended(state));
     }
-    if got == 0 {
-        return Turn::Ended(state);
-    }
-    let size = (got as usize).min(chunk.len());
-    feed_all(stdout, out, plan, scratch, line, chunk, size, state)
+    let size = size.min(chunk.len());
+    let next = feed_all(stdout, buffers, &chunk[..size], state)?;
+    Ok(Turn::More(next))
 }

@@ -1,23 +1,12 @@
--- `run`: between two reads the state stands for what came before; the measure is the turns that are left.
+-- `run`: between two reads the state stands for what came before.
 use Rattle.spatialjoin.proofs.Running.{reached-none, reached-more, reached-end}
 use Rattle.spatialjoin.proofs.run.Goals as goal
 
-pub loop-turns-init : goal.loop-turns-init
-loop-turns-init c =
-    reached-none c.fresh-state.ensures.filled_value (rw c.requires (c.fresh-state.ensures.by_index _ _ _))
+pub loop-init : goal.loop-init
+loop-init c = reached-none c.fresh-state.ensures.filled_value (c.fresh-state.ensures.by_index _ c.requires)
 
-pub loop-turns-preserved : goal.loop-turns-preserved
-loop-turns-preserved c =
-    let on = c.read_on in
-    let l = c.loop-turns in
-    reached-more on.new.chunk l.invariant (rw c.in-More.is at on.ensures)
+pub loop-preserved : goal.loop-preserved
+loop-preserved c = reached-more c.read_on.new.chunk c.loop.invariant (rw c.in-More.is at c.in_ok-next.ensures)
 
 pub returns-in-Ended : goal.returns-in-Ended
-returns-in-Ended c =
-    let on = c.read_on in
-    let l = c.loop-turns in
-    reached-end on.new.chunk l.invariant (rw c.in-Ended.is at on.ensures)
-
-pub returns : goal.returns
-returns c =
-    c.loop-turns.invariant
+returns-in-Ended c = reached-end c.read_on.new.chunk c.loop.invariant (rw c.in-Ended.is at c.in_ok-next.ensures)

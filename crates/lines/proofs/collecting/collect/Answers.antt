@@ -1,5 +1,4 @@
 -- `collect`: the characters so far joined the line, and none of them is a line feed.
-use Prim.Native.Nat.{◌-◌}
 use Rattle.lines.proofs.CollectLaws.{collect-none, collect-one, collect-past, at-feed, at-end}
 use Rattle.lines.proofs.collecting.collect.Goals as goal
 

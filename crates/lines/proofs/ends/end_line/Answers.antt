@@ -1,6 +1,7 @@
 -- `end_line`: what the line gives is written, and it is what the state stands for afterwards.
 use Prim.Native.Nat.{◌≤◌}
 use lib.ListN.{length}
+use mathlib.Core.Path.{refl}
 use native.Mathlib.Omega.{arith}
 use Rattle.lines.proofs.SessionLaws.{written-fits, line-ended}
 use Rattle.lines.proofs.ends.end_line.Goals as goal
@@ -31,5 +32,6 @@ returns c =
     record {
       makes = rw c.length_after.ensures (line-ended _ _ call.result call.ensures.by_index put.ensures
           (room (goal.at.returns c).After-length_after));
+      line = refl;
       scratch = call.ensures.scratch_after;
     }

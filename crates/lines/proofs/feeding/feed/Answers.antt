@@ -4,16 +4,11 @@ use Rattle.lines.proofs.SessionLaws.{fed-none, fed-ended, fed-open}
 use Rattle.lines.proofs.feeding.feed.Goals as goal
 
 pub returns-then-state-gt-MOST_FILLED : goal.returns-then-state-gt-MOST_FILLED
-returns-then-state-gt-MOST_FILLED c =
-    fed-none _ _ _ c.if-state-gt-MOST_FILLED.true
+returns-then-state-gt-MOST_FILLED c = fed-none _ _ _ c.if-state-gt-MOST_FILLED.true
 
 pub returns-then-collected : goal.returns-then-collected
 returns-then-collected c =
-    let collected = c.collect-collected in
-    let ended = c.if-collected.true in
-    fed-ended c.args.state _ _ _ collected.ensures (omega arith) ended c.end_line-next.ensures (omega arith)
+    fed-ended c.args.state _ _ _ c.collect-collected.ensures (omega arith) c.if-collected.true c.end_line.ensures (omega arith)
 
-pub returns : goal.returns
-returns c =
-    let state = c.args.state in
-    fed-open state _ _ _ c.collect-collected.ensures (omega arith) c.if-collected.false
+pub returns-else-collected : goal.returns-else-collected
+returns-else-collected c = fed-open c.args.state _ _ _ c.collect-collected.ensures (omega arith) c.if-collected.false

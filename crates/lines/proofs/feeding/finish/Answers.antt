@@ -2,20 +2,18 @@
 use native.Mathlib.Omega.{arith}
 use Rattle.lines.proofs.SessionLaws.{finished-none, finished-full}
 use Rattle.lines.proofs.feeding.finish.Goals as goal
+use Rattle.lines.proofs.feeding.finish.Goals.{then-state-eq0-via-then-state-eq0, then-state-eq0-via-else-state-eq0+then-state-gt-MOST_FILLED}
 
 pub returns-then-state-eq0 : goal.returns-then-state-eq0
 returns-then-state-eq0 c =
-    finished-none _ _ c.if-state-eq0.true
-
-pub returns-then-state-gt-MOST_FILLED : goal.returns-then-state-gt-MOST_FILLED
-returns-then-state-gt-MOST_FILLED c =
-    finished-full _ _ c.if-state-gt-MOST_FILLED.true
+    elim c.then-state-eq0.branch [
+      | then-state-eq0-via-then-state-eq0 w ↦ finished-none _ _ w.if-state-eq0.true
+      | then-state-eq0-via-else-state-eq0+then-state-gt-MOST_FILLED w ↦ finished-full _ _ w.if-state-gt-MOST_FILLED.true
+    ]
 
 pub returns : goal.returns
-returns c =
-    let some = c.if-state-eq0.false in
-    record {
-      ends = λ h k. c.end_line.ensures;
-      none = λ h. absurd (some h);
-      full = λ h. absurd (omega arith);
-    }
+returns c = record {
+  ends = λ h k. c.end_line.ensures;
+  none = λ h. absurd (c.if-state-eq0.false h);
+  full = λ h. absurd (omega arith);
+}

@@ -1,7 +1,6 @@
 -- `feed_all`: what a turn takes follows what was handed over; it takes at least one character, since there is room for what a line gives.
-use Prim.Native.Nat.{◌≤◌, ◌-◌, ◌<◌}
+use Prim.Native.Nat.{◌≤◌, ◌<◌, ◌+◌}
 use native.Mathlib.Omega.{arith}
-use mathlib.Core.Path.{◌≡◌}
 use lib.ListN.{length, length-take, length-drop}
 use Rattle.lines.proofs.SessionLaws.{taken-within, taken-some, fed-room}
 use Rattle.streams.specs.Handing.{none}
@@ -13,21 +12,17 @@ use Rattle.streams.proofs.chunks.feed_all.Goals.{After-feed-fed}
 some : (c : After-feed-fed) → 0 < c.feed-fed.result.taken
 some c = taken-some (c.feed-fed.ensures.takes (omega arith)) (simp (length-take, length-drop) (omega arith))
 
-within : (c : After-feed-fed)
-    → (c.feed-fed.result.taken ≤ c.args.size - c.loop-at.at)
+within : (c : After-feed-fed) → c.loop-at.at + c.feed-fed.result.taken ≤ length c.args.characters.now
 within c = omega (arith, simp (length-take, length-drop) at (taken-within (c.feed-fed.ensures.takes (omega arith))))
 
-room : (c : After-feed-fed) → c.feed-fed.result.state.filled ≤ length c.feed-fed.new.out
+room : (c : After-feed-fed) → c.feed-fed.result.state.filled ≤ length c.feed-fed.new.buffers.out
 room c = fed-room c.feed-fed.ensures c.loop-at.invariant.2
 
 pub loop-at-init : goal.loop-at-init
 loop-at-init c = (omega arith, omega arith, omega arith, none)
 
 pub make_room-requires : goal.make_room-requires
-make_room-requires c = omega (arith, room (goal.at.make_room-requires c).After-feed-fed)
-
-pub returns-in_default : goal.returns-in_default
-returns-in_default c = simp length-take (omega arith)
+make_room-requires c = room (goal.at.make_room-requires c).After-feed-fed
 
 pub overflow_add-at : goal.overflow_add-at
 overflow_add-at c = omega (arith, within (goal.at.overflow_add-at c).After-feed-fed)
@@ -38,18 +33,9 @@ loop-at-smaller c = omega (arith, some (goal.at.loop-at-smaller c).After-feed-fe
 pub loop-at-preserved : goal.loop-at-preserved
 loop-at-preserved c =
     let f = (goal.at.loop-at-preserved c).After-feed-fed in
-    let e = rw c.in-More.is at c.make_room.ensures in
-    let a = c.args in
-    let on = rw (← e) at (has_room c.feed-fed.result.state) in (
-      omega (arith, within f),
+    let on = rw (← c.in_ok-current.ensures) at (has_room c.feed-fed.result.state) in (
+      within f,
       on.0,
       omega (arith, on.1, room f),
-      taken a.chunk.now c.loop-at.at a.size _ (within f) c.loop-at.invariant.3 c.feed-fed.ensures.makes e,
+      taken c.args.characters.now c.loop-at.at (length c.args.characters.now) _ (omega (arith, within f)) c.loop-at.invariant.3 c.feed-fed.ensures.makes c.in_ok-current.ensures,
     )
-
-pub returns : goal.returns
-returns c =
-    let a = c.args in
-    let l = c.loop-at in
-    let e : l.at ≡ a.size = omega arith in
-    rw e at l.invariant.3
