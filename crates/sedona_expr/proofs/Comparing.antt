@@ -1,6 +1,6 @@
 -- The side of a comparison that is read, and the arguments of `st_distance`.
 use Rattle.std.specs.Prelude.{if◌then◌else◌, Option, Some, None}
-use Prim.Native.Nat.{ℕ, suc, ◌+◌, ◌≤◌, ◌<◌}
+use Prim.Native.Nat.{ℕ, ◌+◌, ◌<◌}
 use native.Mathlib.Omega.{arith}
 use mathlib.Core.Path.{◌≡◌, refl, sym, ap, ◌∙◌, subst, subst⁻¹}
 use mathlib.Core.Bool.{Bool, true, false, ◌||◌}
@@ -8,7 +8,7 @@ use mathlib.Core.List.{List}
 use mathlib.Core.Option.{none, some}
 use lib.ListN.{length, get_or}
 use lib.Dec.{eqb}
-use borrow.Author.Tests.{eqb-false, eq-eqb, ne_eqb}
+use borrow.Author.Tests.{ne_eqb}
 use Rattle.definitions.specs.Basics.{ascii, same_name}
 use Rattle.definitions.specs.Expression.{Expr, nil, cons}
 use Rattle.definitions.specs.Encode.{expr_bytes}
@@ -28,30 +28,9 @@ use Rattle.node_rows.proofs.IndexLaws.{Indexed, index-pair}
 use Rattle.sedona_expr.specs.Parsed.{compared, ComparedIs, Arguments}
 use Rattle.sedona_expr.specs.declared.utils.Compared.{Compared}
 
--- An operator is one of two that follow each other, or lies outside of them.
-within : (o k : ℕ) → k ≤ o → o < k + 2 → (t : Bool) → eqb o k ≡ t → (eqb o k || eqb o (suc k)) ≡ true
-within o k h i true e = rw e
-within o k h i false e = rw (e, eq-eqb o (suc k) (omega (arith, eqb-false o k e)))
-
-outside : (o k : ℕ) → (k ≤ o → k + 2 ≤ o) → (eqb o k || eqb o (suc k)) ≡ false
-outside o k h = rw (ne_eqb o k (λ e. omega (arith, h (omega arith))), ne_eqb o (suc k) (λ e. omega (arith, h (omega arith))))
-
 -- Two sides, the first of which is read.
 abbrev pub on : (measured bound : ℕ) → Option Compared
 on measured bound = Some (record { measured = measured; bound = bound })
-
-module _ (left right operator : ℕ) where
-  pub reads-left : 1 ≤ operator → operator < 3 → on left right ≡ compared operator left right
-  unfolding compared
-  reads-left h k = rw (within operator 1 h k (eqb operator 1) refl)
-
-  pub reads-right : 3 ≤ operator → operator < 5 → on right left ≡ compared operator left right
-  unfolding compared
-  reads-right h k = rw (outside operator 1 (λ i. h), within operator 3 h k (eqb operator 3) refl)
-
-  pub reads-neither : (1 ≤ operator → 5 ≤ operator) → None ≡ compared operator left right
-  unfolding compared
-  reads-neither h = rw (outside operator 1 (λ i. omega (arith, h i)), outside operator 3 (λ i. h (omega arith)))
 
 -- They are the definitions' sides, whatever is known of both.
 module _ (P : ℕ → Expr → Type 0) {left right : ℕ} {l r : Expr} (x : P left l) (y : P right r) where
@@ -69,7 +48,14 @@ module _ (P : ℕ → Expr → Type 0) {left right : ℕ} {l r : Expr} (x : P le
 
 -- Above 4 there is none.
 pub no-sides : (operator : ℕ) (l r : Expr) → 4 < operator → comparison operator l r ≡ no_comparison
-no-sides operator l r h = told-sides (λ i t. Unit {0}) tt tt operator (reads-neither 0 0 operator (λ k. h))
+unfolding comparison
+no-sides operator l r h =
+    rw (
+      ne_eqb operator 1 (λ e. omega arith),
+      ne_eqb operator 2 (λ e. omega arith),
+      ne_eqb operator 3 (λ e. omega arith),
+      ne_eqb operator 4 (λ e. omega arith),
+    )
 
 -- The sides of two expressions in a row.
 pub sides-found : {c : Columns} {s : List ℕ} {left : ℕ} {l r : Expr} → Row c s left 2 (cons l (cons r nil)) → (right : ℕ)

@@ -4,11 +4,6 @@ use Rattle.definitions.specs.Basics.{ascii}
 use Rattle.sedona_expr.proofs.Distances.{not-dwithin, dwithin-too-few, two-given, third-within, dwithin-distance}
 use Rattle.sedona_expr.proofs.utils.parse_dwithin.Goals as goal
 
-pub same_name-requires : goal.same_name-requires
-unfolding ascii
-same_name-requires c =
-    let call = c.requires.calls in (call.3.low, call.3.high)
-
 pub returns-then-not-same_name : goal.returns-then-not-same_name
 unfolding ascii
 returns-then-not-same_name c =
