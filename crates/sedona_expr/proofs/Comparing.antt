@@ -14,11 +14,12 @@ use Rattle.definitions.specs.Expression.{Expr, nil, cons}
 use Rattle.definitions.specs.Encode.{expr_bytes}
 use Rattle.definitions.specs.Leaves.{compares, no_comparison, comparison, distance_arguments}
 use Rattle.definitions.specs.Decode.{Columns}
-use Rattle.theorems.proofs.Cases.{each}
 use Rattle.expression.specs.Places.{part}
-use Rattle.expression.specs.Nodes.{kind_of, Stands, Row, Tree, OfTree}
-use Rattle.expression.specs.Leaves.{Pair, OfPair, CallIs}
+use Rattle.expression.specs.Nodes.{Stands, Row, Tree, OfTree}
+use Rattle.expression.specs.Leaves.{Pair, OfPair, CallIs, NodeIs, plain_column, plain_literal, plain_other, plain_field}
 use Rattle.expression.specs.declared.leaves.Called.{Called}
+use Rattle.expression.specs.declared.leaves.Node.{Node}
+use Rattle.expression.specs.declared.leaves.Node.TheVariants.{And, Binary, Call, Plain}
 use Rattle.expression.proofs.Standing.{first-stands}
 use Rattle.expression.proofs.Parts.{pair-right}
 use Rattle.node_rows.specs.Numbers.{start_at}
@@ -86,11 +87,17 @@ measured-there pair right ends operator is =
     let sides = sides-found pair.3 right ends operator is in
     (pair.0, sides.m, sides.stands_measured)
 
-pub no_arguments : (t : Expr) → (kind_of t ≡ 3 → ⊥) → distance_arguments t ≡ none
-unfolding kind_of distance_arguments
-no_arguments = each (λ t. (kind_of t ≡ 3 → ⊥) → distance_arguments t ≡ none) (λ i g k. refl) (λ y v k. refl)
-    (λ l r k. refl) (λ o l r k. refl)
-    (λ n ts k. absurd (k refl)) (λ g ts k. refl) (λ b g k. refl)
+-- A node that is no function has none.
+pub no_arguments : (c : Columns) (s : List ℕ) (at : ℕ) (t : Expr) (node : Node) → ((k : Called) → node ≡ Call k → ⊥)
+    → NodeIs c s at node t → distance_arguments t ≡ none
+unfolding distance_arguments
+no_arguments c s at t (And first) other is = ap distance_arguments is.is
+no_arguments c s at t (Binary operator first) other is = ap distance_arguments is.is
+no_arguments c s at t (Call k) other is = absurd (other k refl)
+no_arguments c s at t (Plain head) other (plain_column, h) = refl
+no_arguments c s at t (Plain head) other (plain_literal, h) = refl
+no_arguments c s at t (Plain head) other (plain_other, h) = refl
+no_arguments c s at t (Plain head) other (plain_field, h) = refl
 
 module _ {c : Columns} {s : List ℕ} {at : ℕ} {k : Called} {t : Expr} (b : CallIs c s at k t) (same : Bool)
     (e : same ≡ same_name (part s k.name k.end) (ascii "st_distance")) where
