@@ -15,12 +15,14 @@ use Rattle.definitions.specs.Plans.{plan_of}
 use Rattle.definitions.specs.Exchange.{exchange_plan}
 use Rattle.definitions.specs.Calls.{finish, new_after_exchange, exchange}
 use Rattle.definitions.specs.Good.{AllBytes}
-use Rattle.plan_reader.specs.Plans.{HeldIs}
+use Rattle.std.specs.Prelude.{Ok}
+use Rattle.terms.specs.Refusals.{number_of}
+use Rattle.terms.specs.declared.refusals.Refusal.{Refusal}
+use Rattle.plan_reader.specs.Plans.{HeldIs, NotHeld, no_bytes, no_good}
 use Rattle.plan_reader.specs.declared.extraction_bodies.Held.{Held}
 use Rattle.plan_reader.specs.declared.extraction_bodies.Held.TheVariants as there
 use Rattle.call_exchange.specs.Exchanged.{PlanAt, HeldPlan, PlanIs}
-use Rattle.call_exchange.specs.Holding.{HoldsPlan}
-use Rattle.join_filter.proofs.Refusing.{exchange-call, refuses, outcome}
+use Rattle.join_filter.proofs.Refusing.{exchange-call, refuses, outcome, no-plan, empty-plan}
 use Rattle.join_filter.proofs.Keeping.{plan-length, held-is, plan-size, kept, kept-length, kept-over}
 
 -- A plan that an exchange takes.
@@ -58,29 +60,31 @@ module _ (n : ℕ) (before scratch : List ℕ) (fits : n ≤ length before) (p :
 
 -- ---- what the writer requires
 
--- Whether what was read can be exchanged.
-abbrev pub Taken : Held → Type 0
-Taken there.Empty = ⊥
-Taken (there.Frame f) = Unit {0}
-Taken (there.Extraction x) = Unit {0}
-Taken there.Bad = ⊥
+-- The plan's first n bytes are a good plan, a frame or an extraction, which stands there.
+pub record HoldsPlan (n : ℕ) (plan : List ℕ) (h : Held) : Type 0 where
+  pub it : Plan
+  pub fits : n ≤ length plan
+  pub stands : PlanAt (take n plan) h (length (take n plan)) it
+  pub is : plan_of (take n plan) ≡ ok it
 
 -- A frame or an extraction that was read is held.
-pub holds_of : (n : ℕ) (before : List ℕ) (h : Held) → n ≤ length before → HeldIs (take n before) h (plan_of (take n before)) → Taken h
+pub holds_of : (n : ℕ) (before : List ℕ) (h : Held) → n ≤ length before → HeldIs (take n before) (Ok h) (plan_of (take n before))
     → HoldsPlan n before h
-holds_of n before there.Empty fits good t = absurd t
-holds_of n before (there.Frame f) fits good t =
+holds_of n before (there.Frame f) fits good =
     record { it = held good.0; fits = fits; stands = (good.0, refl, good.1); is = good.2 }
-holds_of n before (there.Extraction x) fits good t =
+holds_of n before (there.Extraction x) fits good =
     record { it = extracted good.0; fits = fits; stands = (good.0, refl, good.1); is = good.2 }
-holds_of n before there.Bad fits good t = absurd t
+
+-- Where neither is.
+pub not-held : (n : ℕ) (before scratch : List ℕ) → n ≤ length before → {why : Refusal} → NotHeld (plan_of (take n before)) why
+    → exchange n before scratch ≡ refuses n before scratch (number_of why)
+not-held n before scratch fits (no_bytes e) = empty-plan exchange-call n before scratch fits e
+not-held n before scratch fits (no_good number e) = no-plan exchange-call n before scratch fits number e
 
 -- What stands there is a frame or an extraction.
 exchangeable : (s : List ℕ) (h : Held) (end : ℕ) (p : Plan) → PlanAt s h end p → Exchangeable p
-exchangeable s there.Empty end p stands = absurd stands
 exchangeable s (there.Frame f) end p stands = rw stands.1 tt
 exchangeable s (there.Extraction x) end p stands = rw stands.1 tt
-exchangeable s there.Bad end p stands = absurd stands
 
 pub is-exchangeable : {n : ℕ} {before : List ℕ} {h : Held} → (holds : HoldsPlan n before h) → Exchangeable holds.it
 is-exchangeable {n} {before} {h} holds = exchangeable (take n before) h (length (take n before)) holds.it holds.stands

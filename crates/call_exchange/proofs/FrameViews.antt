@@ -12,7 +12,7 @@ use Rattle.expression.specs.Places.{Between}
 use Rattle.frame_reader.specs.Frames.{FrameAt}
 use Rattle.plan_reader.specs.Plans.{RemainderAt, ExtractionAt}
 use Rattle.frame_reader.specs.declared.frame_bodies.Frame.{Frame}
-use Rattle.plan_reader.specs.declared.extraction_bodies.Remainder.TheVariants as remainder
+use Rattle.std.specs.Prelude.{Some}
 use Rattle.plan_reader.specs.declared.extraction_bodies.Extraction.{Extraction}
 use Rattle.writing.specs.Writing.{Both, joined, same}
 use Rattle.sedona_query_planner.specs.Predicates.{unchanged, PredicateAt, Exchanges}
@@ -44,7 +44,7 @@ module _ {s : List ℕ} (end : ℕ) where
     is = rw (length-map F.records exchange_record, h.counted);
   }
 
-  pub remainder-view : (f : Frame) (R : Option tree.Frame) → RemainderAt s (remainder.Frame f) end R
+  pub remainder-view : (f : Frame) (R : Option tree.Frame) → RemainderAt s (Some f) end R
       → Headed [] (FrameAt s f end) frame_exchanged (remainder_exchanged R)
   unfolding remainder_bytes
   remainder-view f R h = record { it = h.0; stands = h.2; is = rw h.1 }

@@ -11,10 +11,8 @@ use Rattle.plan_reader.specs.declared.extraction_bodies.Held.TheVariants as ther
 
 -- The plan p, a frame or an extraction, stands in s up to `end`.
 abbrev pub PlanAt : List ℕ → Held → (end : ℕ) → Plan → Type 0
-PlanAt s there.Empty end p = ⊥
 PlanAt s (there.Frame f) end p = (F : Frame) × (p ≡ held F) × FrameAt s f end F
 PlanAt s (there.Extraction x) end p = (X : Extraction) × (p ≡ extracted X) × ExtractionAt s x end X
-PlanAt s there.Bad end p = ⊥
 
 -- A plan stands there, and the buffer is at least as long.
 pub record HeldPlan (At : Plan → Type 0) (buffer : List ℕ) : Type 0 where

@@ -2,4 +2,3 @@
 pub mod Held
 pub mod ExchangedBytes
 pub mod Exchanged
-pub mod Holding

@@ -6,7 +6,6 @@ ghost use Rattle.call_exchange.specs.Held.{RecordsAt};
 ghost use Rattle.call_exchange.specs.ExchangedBytes.{records_exchanged, frame_exchanged, remainder_exchanged};
 
 use frame_reader::frame_bodies::Frame;
-use plan_reader::extraction_bodies::Remainder;
 use plan_writer::frame_heads::put_frame_head;
 use terms::sides::negated_number;
 use writing::copies::{copy_at, copy_bytes};
@@ -18,13 +17,11 @@ fn put_records_exchanged(out: &mut [u8], src: &[u8], rec: usize, count: usize) -
 {
     let n = 5 * count;
     copy_bytes(out, src, rec, n);
-    let mut i = 0;
-    while i < count {
+    for i in 0..count {
         let at = 5 * i;
         let side = out[at];
         let other = negated_number(side);
         out[at] = other;
-        i += 1;
     }
     n
 }
@@ -50,15 +47,15 @@ pub fn put_frame_exchanged(out: &mut [u8], src: &[u8], f: Frame, end: usize) -> 
 }
 
 // `00`, or the frame exchanged.
-pub fn put_remainder_exchanged(out: &mut [u8], src: &[u8], rest: Remainder, end: usize) -> usize
+pub fn put_remainder_exchanged(out: &mut [u8], src: &[u8], rest: Option<Frame>, end: usize) -> usize
     requires { Room (RemainderAt src.now rest end) remainder_exchanged 0 out.old }
     ensures { Puts (RemainderAt src.now rest end) remainder_exchanged out.old out.new result }
 {
     match rest {
-        Remainder::Nothing => {
+        Some(f) => put_frame_exchanged(out, src, f, end),
+        None => {
             out[0] = 0;
             1
         }
-        Remainder::Frame(f) => put_frame_exchanged(out, src, f, end),
     }
 }

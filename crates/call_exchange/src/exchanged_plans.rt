@@ -18,12 +18,11 @@ fn put_extraction_exchanged(out: &mut [u8], src: &[u8], x: Extraction, end: usiz
     let swapped = predicate.swap_for_swapped_children();
     let position = x.position as usize;
     let rest = x.remainder;
-    let to = [0u16; 1];
-    let w = put_predicate(out, src, swapped, position, ColumnIndexes::Kept, &to);
+    let w = put_predicate(out, src, swapped, position, ColumnIndexes::Kept);
     w + put_remainder_exchanged(&mut out[w..], src, rest, end)
 }
 
-// A held frame or extraction: answers its length. No other plan is exchanged.
+// A held frame or extraction: answers its length.
 pub fn exchange_plan(plan: &mut [u8], src: &[u8], held: Held, end: usize) -> usize
     requires { HeldPlan (PlanAt src.now held end) plan.old }
     ensures { ExchangedPlan (PlanAt src.now held end) plan.old plan.new result }
@@ -31,7 +30,5 @@ pub fn exchange_plan(plan: &mut [u8], src: &[u8], held: Held, end: usize) -> usi
     match held {
         Held::Frame(f) => put_frame_exchanged(plan, src, f, end),
         Held::Extraction(x) => put_extraction_exchanged(plan, src, x, end),
-        Held::Empty => 0,
-        Held::Bad => 0,
     }
 }

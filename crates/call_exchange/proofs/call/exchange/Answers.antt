@@ -1,9 +1,15 @@
--- Each refusal is the definition's; a held frame or extraction is exchanged.
+-- Each refusal is the definition's; a held frame or extraction is kept in the scratch, and its exchange written from there.
 use mathlib.Core.Path.{sym}
+use Rattle.node_reader.proofs.Reading.{kept}
+use Rattle.node_reader.proofs.Standing.{all-bytes}
 use Rattle.join_filter.proofs.Keeping.{plan-length}
-use Rattle.join_filter.proofs.Refusing.{exchange-call, no-room-for-n, no-plan, empty-plan}
-use Rattle.call_exchange.proofs.Exchanging.{holds_of}
+use Rattle.join_filter.proofs.Refusing.{exchange-call, no-room-for-n}
+use Rattle.call_exchange.proofs.Exchanging.{HoldsPlan, holds_of, not-held, scratch-short, exchanges, is-exchangeable, copy-length, still-there, held-there}
 use Rattle.call_exchange.proofs.call.exchange.Goals as goal
+use Rattle.call_exchange.proofs.call.exchange.Goals.{In_ok-held}
+
+holds : (c : In_ok-held) → HoldsPlan c.args.n c.args.plan.now c.in_ok-held.held
+holds c = holds_of _ _ c.in_ok-held.held c.if-plan-n.false c.in_ok-held.ensures
 
 pub returns-then-plan-n : goal.returns-then-plan-n
 returns-then-plan-n c =
@@ -13,30 +19,32 @@ pub slice_bounds-held_plan-end-2 : goal.slice_bounds-held_plan-end-2
 slice_bounds-held_plan-end-2 c =
     let a = c.args in sym (plan-length a.n a.plan.now c.if-plan-n.false)
 
-pub exchange_held-requires : goal.exchange_held-requires
-exchange_held-requires c =
-    holds_of _ _ _ c.if-plan-n.false c.held_plan-held.ensures (rw c.in-Frame.is tt)
-
-pub exchange_held-requires-in-Extraction : goal.exchange_held-requires-in-Extraction
-exchange_held-requires-in-Extraction c =
-    holds_of _ _ _ c.if-plan-n.false c.held_plan-held.ensures (rw c.in-Extraction.is tt)
-
-pub returns-in-Bad : goal.returns-in-Bad
-returns-in-Bad c =
-    let bad = rw c.in-Bad.is at c.held_plan-held.ensures in
+pub returns-in_err-held : goal.returns-in_err-held
+returns-in_err-held c =
     let a = c.args in
-    no-plan exchange-call a.n a.plan.now a.scratch.now c.if-plan-n.false bad.0 bad.1
+    rw (kept c.from_residual.ensures) (not-held a.n a.plan.now a.scratch.now c.if-plan-n.false c.in_err-held.ensures)
 
-pub returns-in-Empty : goal.returns-in-Empty
-returns-in-Empty c =
-    let none = rw c.in-Empty.is at c.held_plan-held.ensures in
+pub returns-then-scratch-n : goal.returns-then-scratch-n
+returns-then-scratch-n c =
     let a = c.args in
-    empty-plan exchange-call a.n a.plan.now a.scratch.now c.if-plan-n.false none
+    let h = holds (goal.at.returns-then-scratch-n c).In_ok-held in
+    scratch-short a.n a.plan.now a.scratch.now h.fits h.it (is-exchangeable h) h.is c.if-scratch-n.true
 
-pub returns-in-Frame : goal.returns-in-Frame
-returns-in-Frame c =
-    c.exchange_held.ensures
+pub slice_bounds-exchange_plan-end-2 : goal.slice_bounds-exchange_plan-end-2
+slice_bounds-exchange_plan-end-2 c =
+    copy-length (holds (goal.at.slice_bounds-exchange_plan-end-2 c).In_ok-held) c.args.scratch.now c.copy_bytes.new.out c.copy_bytes.ensures
 
-pub returns-in-Extraction : goal.returns-in-Extraction
-returns-in-Extraction c =
-    c.exchange_held-in-Extraction.ensures
+pub exchange_plan-requires : goal.exchange_plan-requires
+exchange_plan-requires c =
+    held-there (holds (goal.at.exchange_plan-requires c).In_ok-held) c.args.scratch.now c.copy_bytes.new.out c.copy_bytes.ensures
+    (all-bytes c.args.plan.now c.slice_known-1.given)
+
+pub returns : goal.returns
+returns c =
+    let wrote = c.exchange_plan in
+    let a = c.args in
+    let h = holds (goal.at.returns c).In_ok-held in
+    let at = c.copy_bytes.new.out in
+    let there = still-there h a.scratch.now at c.copy_bytes.ensures in
+    exchanges a.n a.plan.now a.scratch.now h.fits h.it (is-exchangeable h) h.is c.if-scratch-n.false
+    wrote.new.plan at wrote.result (wrote.ensures h.it there) c.copy_bytes.ensures

@@ -1,5 +1,4 @@
 -- `put_records_exchanged`: the records are copied, and a turn negates the side of the next.
-use Prim.Native.Nat.{◌-◌}
 use native.Mathlib.Omega.{arith}
 use mathlib.Core.Path.{refl}
 use lib.ListN.{length-set}
@@ -18,20 +17,19 @@ copy_bytes-requires c =
 pub loop-i-init : goal.loop-i-init
 loop-i-init c =
     let kept = c.copy_bytes.auto.out in
-    (omega arith, omega (arith, kept, records-fit c.requires), refl, λ rs rest h e. e)
+    (omega (arith, kept, records-fit c.requires), refl, λ rs rest h e. e)
 
 pub loop-i-preserved : goal.loop-i-preserved
 loop-i-preserved c =
     let other = c.negated_number-other in
     let loop = c.loop-i in (
-      omega arith,
+      simp length-set loop.invariant.0,
       simp length-set loop.invariant.1,
-      simp length-set loop.invariant.2,
-      negated-next _ loop.out loop.i other.result c.loop-i-test.true other.ensures loop.invariant.3,
+      negated-next _ loop.out loop.i other.result c.loop-i-test.true other.ensures loop.invariant.2,
     )
 
 pub returns : goal.returns
 returns c =
     let loop = c.loop-i in
     let copied = c.copy_bytes in
-    records-put _ copied.new.out loop.out copied.ensures loop.i (omega arith) loop.invariant.3
+    records-put _ copied.new.out loop.out copied.ensures loop.i (omega arith) loop.invariant.2

@@ -1,5 +1,5 @@
 -- `put_records_exchanged`: the records are copied, and a turn negates the side of the next.
-use Prim.Native.Nat.{◌*◌, ◌-◌, ◌≤◌}
+use Prim.Native.Nat.{◌*◌, ◌≤◌}
 use mathlib.Core.Path.{◌≡◌}
 use lib.ListN.{length}
 use Rattle.call_exchange.proofs.RecordLaws.{Negated}
@@ -7,9 +7,5 @@ use Rattle.call_exchange.proofs.exchanged_frames.put_records_exchanged.Given as 
 
 abbrev pub invariant-loop-i : goal.invariant-loop-i
 invariant-loop-i l =
-    (l.i ≤ l.count) × (5 * l.count ≤ length l.out) × (length l.out ≡ length l.initial.out)
+    (5 * l.count ≤ length l.out) × (length l.out ≡ length l.initial.out)
     × Negated l.src l.rec l.count l.initial.out l.out l.i
-
-abbrev pub decreases-loop-i : goal.decreases-loop-i
-decreases-loop-i l =
-    l.count - l.i

@@ -5,17 +5,17 @@ use Rattle.call_exchange.proofs.exchanged_frames.put_remainder_exchanged.Goals a
 
 pub bounds-out-0 : goal.bounds-out-0
 bounds-out-0 c =
-    known-room nothing-bytes (rw c.in-Nothing.is at c.requires)
+    known-room nothing-bytes (rw c.in-None.is at c.requires)
 
 pub put_frame_exchanged-requires : goal.put_frame_exchanged-requires
 put_frame_exchanged-requires c =
-    stored-room (remainder-view c.args.end c.in-Frame.f) (rw c.in-Frame.is at c.requires)
+    stored-room (remainder-view c.args.end c.in-Some.f) (rw c.in-Some.is at c.requires)
 
-pub returns-in-Nothing : goal.returns-in-Nothing
-returns-in-Nothing c =
-    rw c.in-Nothing.is (known-put nothing-bytes (rw c.in-Nothing.is at c.requires))
+pub returns-in-None : goal.returns-in-None
+returns-in-None c =
+    rw c.in-None.is (known-put nothing-bytes (rw c.in-None.is at c.requires))
 
-pub returns-in-Frame : goal.returns-in-Frame
-returns-in-Frame c =
-    rw c.in-Frame.is (stored-put (remainder-view c.args.end c.in-Frame.f) (rw c.in-Frame.is at c.requires)
+pub returns-in-Some : goal.returns-in-Some
+returns-in-Some c =
+    rw c.in-Some.is (stored-put (remainder-view c.args.end c.in-Some.f) (rw c.in-Some.is at c.requires)
     (from_zero c.put_frame_exchanged.ensures))

@@ -1,4 +1,4 @@
--- `exchange_plan`: an exchanged plan is as long as the old one, so it has room where that was; nothing else is held.
+-- `exchange_plan`: an exchanged plan is as long as the old one, so it has room where that was.
 use Rattle.definitions.specs.Expression.{held, extracted}
 use Rattle.call_exchange.proofs.HeldLaws.{held-room, held-put, frame-plan, extraction-plan}
 use Rattle.call_exchange.proofs.exchanged_plans.exchange_plan.Goals as goal
@@ -22,11 +22,3 @@ pub returns-in-Extraction : goal.returns-in-Extraction
 returns-in-Extraction c =
     rw c.in-Extraction.is
     (held-put extracted extraction-plan (λ p stands. stands) c.put_extraction_exchanged.ensures)
-
-pub returns-in-Empty : goal.returns-in-Empty
-returns-in-Empty c =
-    absurd (rw c.in-Empty.is at c.requires).stands
-
-pub returns-in-Bad : goal.returns-in-Bad
-returns-in-Bad c =
-    absurd (rw c.in-Bad.is at c.requires).stands
