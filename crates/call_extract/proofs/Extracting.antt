@@ -1,5 +1,5 @@
 -- What an extract is, once the held plan, the scratch's length and the pick are known.
-use Rattle.std.specs.Prelude.{if◌then◌else◌}
+use Rattle.std.specs.Prelude.{if◌then◌else◌, Ok, Err}
 use Prim.Native.Nat.{ℕ, ◌≤◌, ◌<◌}
 use native.Mathlib.Omega.{arith}
 use mathlib.Core.Path.{◌≡◌, refl, sym, ap, ◌∙◌, subst}
@@ -9,13 +9,12 @@ use mathlib.Core.Option.{Option, none, some}
 use lib.ListN.{length, take, drop}
 use lib.Dec.{leb}
 use borrow.Author.Tests.{le-leb, lt-leb}
-use Rattle.definitions.specs.Basics.{Result, ok, refused}
+use Rattle.definitions.specs.Basics.{refused}
 use Rattle.definitions.specs.Expression.{Frame, Extraction}
 use Rattle.definitions.specs.Encode.{plan_bytes, extraction_bytes}
-use Rattle.definitions.specs.Plans.{plan_of}
-use Rattle.definitions.specs.Extract.{Pick, pick, take_pick, Matcher, matches_by, extraction_by}
+use Rattle.definitions.specs.Extract.{pick, take_pick, Matcher, matches_by, extraction_by}
 use Rattle.definitions.specs.OneWalk.{walk_length_by}
-use Rattle.definitions.specs.Calls.{Outcome, written_over, finish, held_plan, matched_bytes, new_after_extract_by, extract_filled_by, walk_filled_by}
+use Rattle.definitions.specs.Calls.{written_over, finish, matched_bytes, new_after_extract_by, extract_filled_by, walk_filled_by}
 use Rattle.definitions.specs.Good.{AllBytes, ReadableFrame}
 use Rattle.definitions.specs.Meaning.{Meaning}
 use Rattle.definitions.specs.Matchers.{Lawful}
@@ -27,10 +26,9 @@ use Rattle.leaf_pick.specs.Picks.{TakenIs}
 use Rattle.leaf_pick.specs.declared.first_match.Pick as picks
 use Rattle.call_extract.specs.Extractions.{Taking, takes, ExtractionFits, ExtractionPut}
 use Rattle.frame_reader.proofs.Standing.{between-holds, expr-stands}
-use Rattle.join_filter.proofs.Refusing.{extract-call, refuses, outcome}
+use Rattle.join_filter.proofs.Refusing.{extract-call, outcome}
 use Rattle.terms.specs.declared.refusals.Refusal.TheVariants.{BufferTooShort, NoLeafMatches}
 use Rattle.join_filter.specs.Outcomes.{ExtractIs, unwalked}
-use Rattle.join_filter.specs.declared.answers.Answer.TheVariants.{Length, Refused}
 use Rattle.join_filter.proofs.Walking.{walk_of-frame}
 use Rattle.join_filter.proofs.Keeping.{held-is, plan-size, kept, kept-over}
 
@@ -63,7 +61,7 @@ module _ (match : Matcher) (n : ℕ) (before scratch : List ℕ) {f : places.Fra
 
   pub no-leaf : n ≤ length scratch → pick (matches_by match F) ≡ none → (w : ℕ) → w ≡ walk_length_by match F
       → ExtractIs (extract_filled_by match n before scratch) (walk_filled_by match n before scratch) n before scratch
-      (record { answer = Refused NoLeafMatches; walk = w })
+      (record { answer = Err NoLeafMatches; walk = w })
   unfolding finish extraction_by take_pick matched_bytes
   no-leaf room e w is = record {
     outcome = by-test true (le-leb n (length scratch) room) none (ap (take_pick F) e);
@@ -112,7 +110,7 @@ module _ (match : Matcher) (n : ℕ) (before scratch : List ℕ) {f : places.Fra
       pub extracts : n ≤ length scratch → (written : List ℕ) (answer : ℕ) → ExtractionPut (take n after) f p before written answer
           → (w : ℕ) → w ≡ walk_length_by match F
           → ExtractIs (extract_filled_by match n before scratch) (walk_filled_by match n before scratch) n written after
-          (record { answer = Length answer; walk = w })
+          (record { answer = Ok answer; walk = w })
       unfolding finish matched_bytes plan_bytes extraction_bytes written_over
       extracts enough written answer put w walked =
           let is = put F t.q taking-kept in

@@ -1,7 +1,8 @@
 -- The extract under settings, with the table of the frame's own nodes: 24 where they are not good, else the extract with their matcher;
 -- with the default settings 01's.
 use Rattle.std.specs.Prelude.{if◌then◌else◌}
-use Prim.Native.Nat.{ℕ}
+use Prim.Native.Nat.{ℕ, ◌≤◌}
+use lib.ListN.{length, take}
 use mathlib.Core.Path.{◌≡◌, refl, ap, ◌∙◌}
 use mathlib.Core.Bool.{Bool, false}
 use mathlib.Core.List.{List}
@@ -11,10 +12,20 @@ use Rattle.definitions.specs.Calls.{finish, extract_filled_by, extract_filled, w
 use Rattle.definitions.specs.Settings.{Settings, good_settings, default_settings, match_under}
 use Rattle.definitions.specs.SettingsClaims.{GoodSettings}
 use Rattle.theorems.proofs.Proved.{default-settings}
+use Rattle.definitions.specs.Plans.{plan_of}
+use Rattle.plan_reader.specs.Plans.{NotHeld, no_bytes, no_good}
+use Rattle.join_filter.proofs.Walking.{bad-refused, empty-refused}
+use Rattle.terms.specs.declared.refusals.Refusal.{Refusal}
 use Rattle.terms.specs.declared.refusals.Refusal.TheVariants.{BadSettings}
 use Rattle.join_filter.specs.Outcomes.{ExtractIs, unwalked}
 use Rattle.join_filter.specs.declared.answers.Extracted.{Extracted}
 use Rattle.call_extract.specs.Settled.{filled_under, walk_under}
+
+-- Where neither a frame nor an extraction is held.
+pub not-extracted : (match : Matcher) (n : ℕ) (plan scratch : List ℕ) → n ≤ length plan → {why : Refusal} → NotHeld (plan_of (take n plan)) why
+    → ExtractIs (extract_filled_by match n plan scratch) (walk_filled_by match n plan scratch) n plan scratch (unwalked why)
+not-extracted match n plan scratch fits (no_bytes e) = empty-refused match n plan scratch fits e
+not-extracted match n plan scratch fits (no_good number e) = bad-refused match n plan scratch fits number e
 
 module _ (S : Settings) (n : ℕ) (before scratch : List ℕ) where
   pub filled-24 : good_settings S ≡ false

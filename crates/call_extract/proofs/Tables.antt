@@ -21,7 +21,7 @@ use Rattle.theorems.proofs.NodeTables.{node-count, begins-exactly-by}
 use Rattle.frame_reader.specs.declared.frame_bodies.Frame.{Frame}
 use Rattle.expression.proofs.Placed.{fits}
 use Rattle.frame_reader.proofs.Standing.{expr-stands}
-use Rattle.plan_reader.specs.Plans.{HoldsFrame}
+use Rattle.plan_reader.specs.Plans.{HoldsFrame, NotHeld, no_bytes, no_good}
 use Rattle.join_filter.proofs.Keeping.{held-is, plan-length, plan-size}
 use Rattle.terms.specs.declared.refusals.Refusal.{Refusal}
 use Rattle.terms.specs.declared.refusals.Refusal.TheVariants.{NoGoodPlan, PlanEmpty, AlreadyExtracted}
@@ -104,11 +104,11 @@ unheld match n plan scratch table e fits is = by-fit match n plan scratch table 
 
 -- So where what is held is no frame: it is refused as it is without a table.
 module _ (match : Matcher) (n : ℕ) (plan scratch : List ℕ) (table : List NodeRecord) (within : n ≤ length plan) where
-  pub bad-lent : (number : ℕ) → plan_of (take n plan) ≡ refused number → With match n plan scratch table plan scratch (unwalked NoGoodPlan)
+  bad-lent : (number : ℕ) → plan_of (take n plan) ≡ refused number → With match n plan scratch table plan scratch (unwalked NoGoodPlan)
   unfolding table_fits
   bad-lent number e = unheld match n plan scratch table (held-is n plan within e) refl (bad-refused match n plan scratch within number e)
 
-  pub empty-lent : plan_of (take n plan) ≡ ok tree.empty → With match n plan scratch table plan scratch (unwalked PlanEmpty)
+  empty-lent : plan_of (take n plan) ≡ ok tree.empty → With match n plan scratch table plan scratch (unwalked PlanEmpty)
   unfolding table_fits
   empty-lent e = unheld match n plan scratch table (held-is n plan within e) refl (empty-refused match n plan scratch within e)
 
@@ -116,6 +116,10 @@ module _ (match : Matcher) (n : ℕ) (plan scratch : List ℕ) (table : List Nod
       → With match n plan scratch table plan scratch (unwalked AlreadyExtracted)
   unfolding table_fits
   extracted-lent X e = unheld match n plan scratch table (held-is n plan within e) refl (extracted-refused match n plan scratch within X e)
+
+  pub not-lent : {why : Refusal} → NotHeld (plan_of (take n plan)) why → With match n plan scratch table plan scratch (unwalked why)
+  not-lent (no_bytes e) = empty-lent e
+  not-lent (no_good number e) = bad-lent number e
 
 pub over-long : (n : ℕ) (plan : List ℕ) → length plan < n → held_plan n plan ≡ refused 10
 unfolding held_plan

@@ -16,9 +16,8 @@ use Rattle.writing.specs.Written.{Wrote}
 use Rattle.writing.specs.Writing.{Room, Puts}
 use Rattle.writing.proofs.Written.{behind, together, behind-length, then-wrote}
 use Rattle.plan_writer.specs.Tables.{Recorded, ChildTable}
-use Rattle.plan_writer.specs.Arguments.{change_of}
+use Rattle.plan_writer.specs.Arguments.{table_change}
 use Rattle.plan_writer.specs.Predicates.{predicate_bytes}
-use Rattle.plan_writer.specs.declared.arguments.ColumnIndexes.TheVariants.{FromTable}
 use Rattle.plan_writer.proofs.ChildLaws.{by-children}
 use Rattle.remainder.specs.Remainders as remainders
 use Rattle.call_extract.specs.Extractions.{Taking, takes, ExtractionFits, ExtractionPut}
@@ -42,7 +41,7 @@ module _ {s : List ℕ} {f : Frame} {p : Pick} {F : tree.Frame} {q : tree.Predic
 
   -- The predicate, by the table of child indexes.
   pub taken-predicate : (to : List ℕ) → 256 ≤ length to → ChildTable s f.records f.columns to
-      → PredicateAt (change_of FromTable to) s p.predicate q
+      → PredicateAt (table_change to) s p.predicate q
   taken-predicate to wide table =
       let count : length F.records ≡ f.columns = t.entries.counted in
       by-children F.records to (omega (arith, t.few, count))
@@ -63,7 +62,7 @@ module _ {s : List ℕ} {f : Frame} {p : Pick} {out : List ℕ} (h : ExtractionF
   abbrev taken : tree.Extraction
   taken = takes h.frame p h.predicate
 
-  pub predicate-fits : Room (PredicateAt (change_of FromTable to) s p.predicate) (predicate_bytes p.position) 0 out
+  pub predicate-fits : Room (PredicateAt (table_change to) s p.predicate) (predicate_bytes p.position) 0 out
   predicate-fits = record {
     it = h.predicate;
     stands = taken-predicate h.taking to wide table;
@@ -71,7 +70,7 @@ module _ {s : List ℕ} {f : Frame} {p : Pick} {out : List ℕ} (h : ExtractionF
   }
 
   module _ (middle : List ℕ) (w : ℕ) (same : length middle ≡ length out)
-      (put : Puts (PredicateAt (change_of FromTable to) s p.predicate) (predicate_bytes p.position) out middle w) where
+      (put : Puts (PredicateAt (table_change to) s p.predicate) (predicate_bytes p.position) out middle w) where
     ended : w ≡ length (predicate_bytes p.position h.predicate)
     ended = put.size h.predicate (taken-predicate h.taking to wide table)
 
@@ -92,7 +91,7 @@ module _ {s : List ℕ} {f : Frame} {p : Pick} {out : List ℕ} (h : ExtractionF
 -- Both together are the extraction.
 module _ {s : List ℕ} {f : Frame} {p : Pick} (to : List ℕ) (wide : 256 ≤ length to) (table : ChildTable s f.records f.columns to)
     (before middle part : List ℕ) (w r : ℕ)
-    (put : Puts (PredicateAt (change_of FromTable to) s p.predicate) (predicate_bytes p.position) before middle w)
+    (put : Puts (PredicateAt (table_change to) s p.predicate) (predicate_bytes p.position) before middle w)
     (rest : remainders.RemainderPut s f.records f.columns f.root p.cut (behind w middle) part r) where
   pub extraction-is : ExtractionPut s f p before (together w middle part) (w + r)
   extraction-is F q t =

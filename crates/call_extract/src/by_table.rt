@@ -1,139 +1,71 @@
 // The call extract with a lent table of nodes, of which it is given the numbers of the records. Public for the crate `host_calls`.
-ghost use Rattle.std.specs.Prelude.{◌≤◌, length};
+ghost use Rattle.std.specs.Prelude.{◌/◌, ◌≤◌, min, length};
 ghost use Rattle.definitions.specs.Settings.{match_under};
-ghost use Rattle.definitions.specs.SettingsClaims.{GoodSettings};
 ghost use Rattle.terms.specs.Settings.{settings_of};
-ghost use Rattle.call_extract.specs.FrameRows.{RoomIn};
 ghost use Rattle.call_extract.specs.ExtractByTable.{RowOf, ByTable, ByTableWith};
 
-use super::compared::extract_compared;
-use frame_reader::frame_bodies::Frame;
-use join_filter::answers::{Answer, Extracted};
+use super::compared::{Table, extract_compared};
+use super::held_frame::Listed;
+use join_filter::answers::Extracted;
+use node_rows::rows::Rows;
 use plan_reader::extraction_bodies::Held;
 use plan_reader::held_plans::held_plan_in;
+use terms::checked::Checked;
 use terms::refusals::Refusal;
-use terms::settings::{Settings, good_settings};
+use terms::settings::Settings;
 
-// The same of what is held, whose nodes go into the rows if it is a frame.
-fn extract_lent(
-    own: &mut [u32],
-    next: &mut [u16],
+// What is held, whose nodes go into rows of N places if it is a frame: it has no more.
+fn extract_by<const N: usize>(
     plan: &mut [u8],
     n: usize,
     scratch: &mut [u8],
-    row: &[u32],
-    places: usize,
-    settings: Settings,
+    table: Table,
+    settings: Checked,
 ) -> Extracted
-    requires room_in { RoomIn n plan.old own.old next.old }
-    requires good_settings { GoodSettings (settings_of settings) }
-    ensures { ByTableWith (match_under (settings_of settings)) (RowOf n row.now places) n plan.old scratch.old plan.new
-        scratch.new result }
+    requires n_in_bounds { n ≤ length plan.old }
+    requires row_length { (min 1024 (n / 3) ≤ N) × (N ≤ 1024) }
+    ensures { ByTableWith (match_under (settings_of settings.settings)) (RowOf n table.entry.row.now table.entry.places) n plan.old
+        scratch.old plan.new scratch.new result }
 {
-    match held_plan_in(own, next, &plan[..n]) {
-        Held::Bad => Extracted {
-            answer: Answer::Refused(Refusal::NoGoodPlan),
-            walk: 0,
-        },
-        Held::Empty => Extracted {
-            answer: Answer::Refused(Refusal::PlanEmpty),
-            walk: 0,
-        },
-        Held::Extraction(_) => Extracted {
-            answer: Answer::Refused(Refusal::AlreadyExtracted),
-            walk: 0,
-        },
-        Held::Frame(f) => extract_compared(plan, n, scratch, f, own, next, row, places, settings),
+    let mut numbers = [0u32; N];
+    let mut next = [0u16; N];
+    match held_plan_in(&mut numbers, &mut next, &plan[..n]) {
+        Err(why) => Extracted::refused(why),
+        Ok(Held::Extraction(_)) => Extracted::refused(Refusal::AlreadyExtracted),
+        Ok(Held::Frame(frame)) => {
+            let rows = Rows {
+                numbers: &numbers,
+                next: &next,
+            };
+            extract_compared(plan, n, scratch, Listed { frame, rows }, table, settings)
+        }
     }
 }
 
-// A plan of at most 96 bytes: short rows are enough, and the longer ones cost more to clear than such a frame to read.
-fn extract_short(
-    plan: &mut [u8],
-    n: usize,
-    scratch: &mut [u8],
-    row: &[u32],
-    places: usize,
-    settings: Settings,
-) -> Extracted
-    requires n_in_bounds { (n ≤ length plan.old) × (n ≤ 96) }
-    requires good_settings { GoodSettings (settings_of settings) }
-    ensures { ByTableWith (match_under (settings_of settings)) (RowOf n row.now places) n plan.old scratch.old plan.new
-        scratch.new result }
-{
-    let mut own = [0u32; 32];
-    let mut next = [0u16; 32];
-    extract_lent(&mut own, &mut next, plan, n, scratch, row, places, settings)
-}
-
-// Of at most 768 bytes.
-fn extract_middle(
-    plan: &mut [u8],
-    n: usize,
-    scratch: &mut [u8],
-    row: &[u32],
-    places: usize,
-    settings: Settings,
-) -> Extracted
-    requires n_in_bounds { (n ≤ length plan.old) × (n ≤ 768) }
-    requires good_settings { GoodSettings (settings_of settings) }
-    ensures { ByTableWith (match_under (settings_of settings)) (RowOf n row.now places) n plan.old scratch.old plan.new
-        scratch.new result }
-{
-    let mut own = [0u32; 256];
-    let mut next = [0u16; 256];
-    extract_lent(&mut own, &mut next, plan, n, scratch, row, places, settings)
-}
-
-// Of any length.
-fn extract_long(
-    plan: &mut [u8],
-    n: usize,
-    scratch: &mut [u8],
-    row: &[u32],
-    places: usize,
-    settings: Settings,
-) -> Extracted
-    requires n_in_bounds { n ≤ length plan.old }
-    requires good_settings { GoodSettings (settings_of settings) }
-    ensures { ByTableWith (match_under (settings_of settings)) (RowOf n row.now places) n plan.old scratch.old plan.new
-        scratch.new result }
-{
-    let mut own = [0u32; 1024];
-    let mut next = [0u16; 1024];
-    extract_lent(&mut own, &mut next, plan, n, scratch, row, places, settings)
-}
-
-// `row` has the numbers of the first of the table's `places` records, as many as a frame of n bytes can have. 24 before every other
-// check.
+// The table's row has the numbers of as many of its first records as a frame of n bytes can have. 24 before every other check. Short rows
+// are enough for a short plan, and the longer ones cost more to clear than such a frame to read.
 pub fn extract_by_table(
     plan: &mut [u8],
     n: usize,
     scratch: &mut [u8],
-    row: &[u32],
-    places: usize,
+    table: Table,
     settings: Settings,
 ) -> Extracted
-    ensures { ByTable (settings_of settings) (RowOf n row.now places) n plan.old scratch.old plan.new
+    ensures { ByTable (settings_of settings) (RowOf n table.entry.row.now table.entry.places) n plan.old scratch.old plan.new
         scratch.new result }
 {
-    if !good_settings(settings) {
-        return Extracted {
-            answer: Answer::Refused(Refusal::BadSettings),
-            walk: 0,
-        };
-    }
+    let settings = match settings.checked() {
+        Ok(checked) => checked,
+        Err(why) => return Extracted::refused(why),
+    };
     if plan.len() < n {
-        return Extracted {
-            answer: Answer::Refused(Refusal::NoGoodPlan),
-            walk: 0,
-        };
+        return Extracted::refused(Refusal::NoGoodPlan);
     }
     if n <= 96 {
-        return extract_short(plan, n, scratch, row, places, settings);
+        extract_by::<32>(plan, n, scratch, table, settings)
+    } else if n <= 768 {
+        extract_by::<256>(plan, n, scratch, table, settings)
+    } else {
+        extract_by::<1024>(plan, n, scratch, table, settings)
     }
-    if n <= 768 {
-        return extract_middle(plan, n, scratch, row, places, settings);
-    }
-    extract_long(plan, n, scratch, row, places, settings)
 }

@@ -6,6 +6,7 @@ use leaf_pick::first_match::Pick;
 use plan_writer::arguments::ColumnIndexes;
 use plan_writer::column_tables::child_indexes;
 use plan_writer::put_predicate::put_predicate;
+use remainder::record_keys::Records;
 use remainder::remainder::put_remainder;
 
 // Writes the extraction of the frame in `src`; answers its length.
@@ -14,11 +15,19 @@ pub(crate) fn put_extraction(out: &mut [u8], src: &[u8], f: Frame, pick: Pick) -
     ensures { ExtractionPut src.now f pick out.old out.new result }
 {
     let count = f.columns as usize;
-    let predicate = pick.predicate;
-    let position = pick.position;
-    let cut = pick.cut;
     let mut to = [0u16; 256];
     child_indexes(&mut to, src, f.records, count);
-    let w = put_predicate(out, src, predicate, position, ColumnIndexes::FromTable, &to);
-    w + put_remainder(&mut out[w..], src, f.records, count, f.root, cut)
+    let w = put_predicate(
+        out,
+        src,
+        pick.predicate,
+        pick.position,
+        ColumnIndexes::FromTable(&to),
+    );
+    let records = Records {
+        src,
+        rec: f.records,
+        count,
+    };
+    w + put_remainder(&mut out[w..], records, f.root, pick.cut)
 }

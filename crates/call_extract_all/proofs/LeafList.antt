@@ -20,8 +20,7 @@ use Rattle.writing.proofs.Written.{store}
 use Rattle.plan_writer.specs.Predicates.{predicate_bytes}
 use Rattle.sedona_query_planner.specs.Predicates.{on_children, PredicateAt}
 use Rattle.sedona_query_planner.specs.declared.spatial_predicate.SpatialPredicate.{SpatialPredicate}
-use Rattle.plan_writer.specs.Arguments.{change_of}
-use Rattle.plan_writer.specs.declared.arguments.ColumnIndexes.TheVariants.{FromTable}
+use Rattle.plan_writer.specs.Arguments.{table_change}
 use Rattle.plan_writer.proofs.ChildLaws.{by-children}
 use Rattle.plan_writer.specs.Tables.{ChildTable}
 use Rattle.leaf_matching.specs.Frames.{Over, Framed}
@@ -134,7 +133,7 @@ module _ {match : Matcher} {s : List ℕ} {rec count at position : ℕ} {to knns
 
   -- A match of its leaf, by the table.
   pub by-table : {records : List Record} {t : Expr} → Listable s rec count at records t → (p : SpatialPredicate) (q : Predicate)
-      → PredicateAt (on_children records) s p q → PredicateAt (change_of FromTable to) s p q
+      → PredicateAt (on_children records) s p q → PredicateAt (table_change to) s p q
   by-table {records} l p q h =
       let count-is : length records ≡ count = l.entries.counted in
       by-children records to (omega (arith, l.few, count-is, f.wide)) (rw count-is (f.table records l.entries)) s p q h
@@ -147,7 +146,7 @@ module _ {match : Matcher} {s : List ℕ} {rec count at position : ℕ} {to knns
     flag-room = omega (arith, f.flags, ap length single)
 
     pub knn-room : (p : SpatialPredicate) → Matches is_knn s rec f.records p (match f.records f.tree)
-        → Room (PredicateAt (change_of FromTable to) s p) (predicate_bytes position) 0 knns
+        → Room (PredicateAt (table_change to) s p) (predicate_bytes position) 0 knns
     knn-room p m = record {
       it = m.q;
       stands = by-table f.frame p m.q m.stands;
@@ -161,7 +160,7 @@ module _ {match : Matcher} {s : List ℕ} {rec count at position : ℕ} {to knns
     }
 
     pub other-room : (p : SpatialPredicate) → Matches picks.is_other s rec f.records p (match f.records f.tree)
-        → Room (PredicateAt (change_of FromTable to) s p) (predicate_bytes position) 0 others
+        → Room (PredicateAt (table_change to) s p) (predicate_bytes position) 0 others
     other-room p m = record {
       it = m.q;
       stands = by-table f.frame p m.q m.stands;

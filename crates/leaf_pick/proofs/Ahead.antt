@@ -1,5 +1,5 @@
 -- What the loop of the walk keeps: of the expressions that are still ahead of it, what is picked and reached among them.
-use Rattle.std.specs.Prelude.{if◌then◌else◌}
+use Rattle.std.specs.Prelude.{if◌then◌else◌, Some, None}
 use Prim.Native.Nat.{ℕ, suc, ◌+◌, ◌≤◌, ◌<◌}
 use native.Mathlib.Omega.{arith}
 use native.Mathlib.Nat.{zero-add, add-zero}
@@ -7,7 +7,7 @@ use mathlib.Core.Path.{◌≡◌, refl, sym, ap, ◌∙◌, subst}
 use mathlib.Core.Bool.{Bool}
 use mathlib.Core.List.{List, [], ◌∷◌, map, append-nil}
 use mathlib.Core.Logic.{inl, inr}
-use mathlib.Core.Option.{Option, none, some}
+use mathlib.Core.Option.{Option, none}
 use lib.ListN.{length, get_or}
 use Rattle.definitions.specs.Expression.{Expr, and, Exprs, nil, cons, count, Record, Predicate}
 use Rattle.definitions.specs.Encode.{expr_bytes, exprs_bytes}
@@ -31,10 +31,8 @@ use Rattle.node_rows.proofs.OneTree.{of_tree}
 use Rattle.leaf_matching.specs.Frames.{Over, OverAll, Framed, OfFrame}
 use Rattle.leaf_matching.proofs.Framing.{first-over, rest_over}
 use Rattle.leaf_pick.specs.Picks.{matches}
-use Rattle.leaf_pick.specs.Walks.{Remembers, Kept, same, here, StoppedIs, GoingIs, Spot, SpotOf, WalkIs}
+use Rattle.leaf_pick.specs.Walks.{Memory, Remembers, Kept, same, here, StoppedIs, GoingIs, Spot, SpotOf, WalkIs}
 use Rattle.leaf_pick.specs.declared.one_walk.Seen.{Seen}
-use Rattle.leaf_pick.specs.declared.one_walk.Memory.{Memory}
-use Rattle.leaf_pick.specs.declared.one_walk.Memory.TheVariants.{First, Nothing}
 use Rattle.leaf_pick.specs.declared.one_walk.Walk.{Walk}
 use Rattle.leaf_pick.proofs.Forests.{leaves_all, reached_all, leaves-open, reached-open, leaves-pass, reached-pass}
 use Rattle.leaf_pick.proofs.Forests.{row_open, tabled-open, nodes-open, SpotAll, spot-open, spot-here, spot-later}
@@ -64,7 +62,7 @@ begins-spot t at leaf end p (inr (q, e, nowhere)) = absurd nowhere
 
 module _ {match : Matcher} {s numbers next : List ℕ} {rec at i last : ℕ} {records : List Record} {t : Expr} where
   ahead-begins : Over s rec at records t → Tabled numbers next at i t → last ≡ get_or next i 0
-      → Ahead match s numbers next rec at last at i 0 (record { memory = Nothing; read = 0 }) records t (cons t nil)
+      → Ahead match s numbers next rec at last at i 0 (record { memory = None; read = 0 }) records t (cons t nil)
   unfolding one_walk walk_length_by leaves_all reached_all exprs_bytes row_from row_nexts nodes_all count
   ahead-begins over h e = record {
     row = record {
@@ -157,7 +155,7 @@ module _ {match : Matcher} {s numbers next : List ℕ} {rec at last place index 
     }
 
     leaf-stopped : {seen : Seen} → StoppedIs match s place position a.first seen records u
-        → WalkIs match s rec at (record { memory = First seen; read = w.read + 1 }) records t
+        → WalkIs match s rec at (record { memory = Some seen; read = w.read + 1 }) records t
     unfolding matches_by remembered walk_on
     leaf-stopped {seen} h = record {
       remembers = (
@@ -168,7 +166,7 @@ module _ {match : Matcher} {s numbers next : List ℕ} {rec at last place index 
             ∙ stays h.p (map (match records) (leaves_all us))),
         h.seen-is,
       );
-      spot = kept-spot {before = Nothing} (here h.seen_here) tt;
+      spot = kept-spot {before = None} (here h.seen_here) tt;
       walk = sym
           (leaf_walked
           ∙ ap (λ (b : Bool). w.read + suc (if b then 0 else count_to is_knn_match (reached_all (match records) us))) h.near
@@ -207,7 +205,7 @@ pub record Along (match : Matcher) (s numbers next : List ℕ) (rec at last plac
 
 pub along-begins : {match : Matcher} {s numbers next : List ℕ} {rec at i last : ℕ} → Framed s rec at
     → OfTree s at (Tabled numbers next at i)
-    → last ≡ get_or next i 0 → Along match s numbers next rec at last at i 0 (record { memory = Nothing; read = 0 })
+    → last ≡ get_or next i 0 → Along match s numbers next rec at last at i 0 (record { memory = None; read = 0 })
 along-begins there tabled e = record {
   there = there;
   ahead = λ records t over. (cons t nil, ahead-begins over (tabled _ t over.tree) e);
@@ -297,7 +295,7 @@ module _ {match : Matcher} {s numbers next : List ℕ} {rec at last place index 
       pub along-stopped : {seen : Seen}
           → OfFrame s rec place (λ records u. (first : Option definition.Pick) → Remembers s records w.memory first
           → StoppedIs match s place position first seen records u)
-          → OfFrame s rec at (WalkIs match s rec at (record { memory = First seen; read = w.read + 1 }))
+          → OfFrame s rec at (WalkIs match s rec at (record { memory = Some seen; read = w.read + 1 }))
       along-stopped inner records t over =
           let n : Now records t = now over in
           let o : Over s rec place records n.u = first-over n.ahead.row in

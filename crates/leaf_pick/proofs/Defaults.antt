@@ -1,22 +1,18 @@
 -- Relations and distances do not depend on the default k of a KNN call of two arguments.
-use Rattle.std.specs.Prelude.{if◌then◌else◌}
+use Rattle.std.specs.Prelude.{if◌then◌else◌, Ok, Err}
 use Prim.Native.Nat.{ℕ}
-use native.Mathlib.Omega.{arith}
 use mathlib.Core.Path.{◌≡◌, refl, sym, ap, ◌∙◌, subst}
 use mathlib.Core.Bool.{Bool, true, false, false≢true}
 use mathlib.Core.List.{List}
 use mathlib.Core.Logic.{◌⊎◌, inl, inr}
-use mathlib.Core.Option.{Option, none, some, some-ne-none}
+use mathlib.Core.Option.{some, some-ne-none}
 use Rattle.definitions.specs.Basics.{given◌then◌else◌, ascii, same_name}
 use Rattle.definitions.specs.Expression.{Side, Expr, column, literal, and, binary, call, other, field, Exprs, nil, cons, Record, Predicate, knn}
-use Rattle.definitions.specs.Leaves.{relation_named}
-use Rattle.definitions.specs.Match.{Request, ask_knn, relation_request, dwithin_request, knn_request_by, call_request_by, request_by, Order, left_right, right_left, no_order, order_of, side_of, on_child, match_knn, match_request, match_leaf_by}
+use Rattle.definitions.specs.Match.{Request, ask_knn, knn_request_by, call_request_by, request_by, Order, left_right, right_left, no_order, order_of, side_of, on_child, match_knn, match_request, match_leaf_by}
 use Rattle.definitions.specs.Extract.{is_knn}
-use Rattle.definitions.specs.Settings.{Settings, allowed, passing}
-use Rattle.leaf_matching.specs.Matches.{MatchingIs, LeafMatchingBy}
+use Rattle.leaf_matching.specs.Matches.{Matching, MatchingIs, LeafMatchingBy}
 use Rattle.leaf_pick.specs.Picks.{is_other}
-use Rattle.leaf_matching.specs.declared.matching.Matching.{Matching}
-use Rattle.leaf_matching.specs.declared.matching.Matching.TheVariants.{Matched, Unmatched, NotAsked}
+use Rattle.leaf_matching.specs.declared.matching.NoMatch.TheVariants.{Unmatched, NotAsked}
 
 -- Two requests are the same, or the KNN of two geometries with different k.
 abbrev Alike : (d d' : ℕ) → Request → Request → Type 0
@@ -57,12 +53,12 @@ module _ (d d' : ℕ) where
         → MatchingIs is_other s rec records (match_knn d' 0 2 a b o) r
     unfolding match_knn is_knn
     knn-other a b no_order r m = m
-    knn-other a b left_right (Matched p) m = absurd (found-knn m.q d _ a b m.is m.passes)
-    knn-other a b left_right Unmatched m = absurd (some-ne-none _ m)
-    knn-other a b left_right NotAsked m = refl
-    knn-other a b right_left (Matched p) m = absurd (found-knn m.q d _ a b m.is m.passes)
-    knn-other a b right_left Unmatched m = absurd (some-ne-none _ m)
-    knn-other a b right_left NotAsked m = refl
+    knn-other a b left_right (Ok p) m = absurd (found-knn m.q d _ a b m.is m.passes)
+    knn-other a b left_right (Err Unmatched) m = absurd (some-ne-none _ m)
+    knn-other a b left_right (Err NotAsked) m = refl
+    knn-other a b right_left (Ok p) m = absurd (found-knn m.q d _ a b m.is m.passes)
+    knn-other a b right_left (Err Unmatched) m = absurd (some-ne-none _ m)
+    knn-other a b right_left (Err NotAsked) m = refl
 
     request-other : (x y : Request) → Alike d d' x y → (r : Matching) → MatchingIs is_other s rec records (match_request records x) r
         → MatchingIs is_other s rec records (match_request records y) r

@@ -1,4 +1,5 @@
 -- Two engines that meet the same contract pick alike: the definitions' pick is one, and the place of an AND-leaf is known by its position.
+use Rattle.std.specs.Prelude.{Some, None}
 use Prim.Native.Nat.{ℕ}
 use native.Mathlib.Omega.{arith}
 use mathlib.Core.Path.{◌≡◌, sym, ap, ◌∙◌}
@@ -7,7 +8,6 @@ use Rattle.definitions.specs.Extract as definition
 use Rattle.expression.specs.Cuts.{CutAt, here, in_left, in_right}
 use Rattle.expression.specs.declared.cuts.Cut.{Cut}
 use Rattle.expression.proofs.AndLeaves.{no-and, position-below}
-use Rattle.leaf_pick.specs.declared.first_match.Picked.TheVariants.{Leaf, Nothing}
 use Rattle.leaf_pick.specs.Engines.{EnginesAgree}
 
 -- ---- one place for a position
@@ -30,7 +30,7 @@ one-cut e (in_right {position = p} more) (in_right {position = q} more') = one-c
 -- ---- the picks
 
 pub engines-agree : EnginesAgree
-engines-agree match s rec at (Leaf p) (Leaf q) records t a b =
+engines-agree match s rec at (Some p) (Some q) records t a b =
     let one : ◌≡◌ {A = definition.Pick} (record { position = p.position; predicate = a.q })
     (record { position = q.position; predicate = b.q }) = cc (a.is, b.is) in
     let same : p.position ≡ q.position = ap (λ (x : definition.Pick). x.position) one in
@@ -41,6 +41,6 @@ engines-agree match s rec at (Leaf p) (Leaf q) records t a b =
       one = a.stands;
       other = rw (ap (λ (x : definition.Pick). x.predicate) one) b.stands;
     }
-engines-agree match s rec at (Leaf p) Nothing records t a b = let z : ◌≡◌ {A = ℕ} 0 1 = cc (a.is, b) in absurd (omega arith)
-engines-agree match s rec at Nothing (Leaf q) records t a b = let z : ◌≡◌ {A = ℕ} 0 1 = cc (a, b.is) in absurd (omega arith)
-engines-agree match s rec at Nothing Nothing records t a b = tt
+engines-agree match s rec at (Some p) None records t a b = let z : ◌≡◌ {A = ℕ} 0 1 = cc (a.is, b) in absurd (omega arith)
+engines-agree match s rec at None (Some q) records t a b = let z : ◌≡◌ {A = ℕ} 0 1 = cc (a, b.is) in absurd (omega arith)
+engines-agree match s rec at None None records t a b = tt

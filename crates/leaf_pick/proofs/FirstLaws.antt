@@ -1,18 +1,21 @@
 -- What each return of `first_match` answers, and what its calls require.
+use Rattle.std.specs.Prelude.{Err}
+use Rattle.std.specs.ControlFlow.{break_value}
+use Rattle.std.specs.declared.ops.ControlFlow.TheVariants.{Continue, Break}
 use Prim.Native.Nat.{ℕ, ◌+◌, ◌-◌, ◌≤◌, ◌<◌}
 use native.Mathlib.Nat.{zero-add}
 use native.Mathlib.Omega.{arith}
 use mathlib.Core.Path.{◌≡◌, refl, sym, ap, ◌∙◌, subst, subst⁻¹}
 use mathlib.Core.Bool.{Bool}
 use mathlib.Core.List.{List, [], ◌∷◌, map, map-append}
-use mathlib.Core.Option.{none, some}
+use mathlib.Core.Option.{Option, none, some}
 use lib.ListN.{length, get_or, length-append, length-map}
 use Rattle.definitions.specs.Expression.{Expr, and, Record, Predicate}
 use Rattle.definitions.specs.Encode.{expr_bytes}
 use Rattle.definitions.specs.Leaves.{leaves}
 use Rattle.definitions.specs.Decode.{index_below}
 use Rattle.definitions.specs.Extract as definition
-use Rattle.definitions.specs.Extract.{first_match, first_of, Matcher, matches_by}
+use Rattle.definitions.specs.Extract.{is_knn, first_match, first_of, Matcher, matches_by}
 use Rattle.expression.proofs.AndLeaves.{leaves-few}
 use Rattle.expression.specs.Nodes.{left_of, right_of}
 use Rattle.expression.specs.Nodes.{head_bytes, OfTree, OfTreeIn}
@@ -27,15 +30,18 @@ use Rattle.node_rows.proofs.RowLaws.{tabled-end, tabled-next, tabled-within}
 use Rattle.node_rows.proofs.IndexLaws.{left-tabled, right-tabled}
 use Rattle.node_rows.proofs.OneTree.{of_tree}
 use Rattle.leaf_matching.specs.Frames.{Over, Framed, OfFrame}
-use Rattle.leaf_matching.specs.Matches.{Lacks, Matches}
-use Rattle.leaf_pick.specs.Picks.{wants, matches, FirstIs, NothingIs, FoundIs, TakenIs}
+use Rattle.leaf_matching.specs.Matches.{Lacks, Matches, MatchingIs}
+use Rattle.leaf_matching.specs.declared.matching.NoMatch.{NoMatch}
+use Rattle.leaf_matching.specs.declared.matching.NoMatch.TheVariants.{Unmatched, NotAsked}
+use Rattle.leaf_matching.proofs.Asked.{none-lacks}
+use Rattle.leaf_pick.specs.Picks.{wants, matches, FirstIs, NothingIs, Found, FoundIs, TakenIs, PickedIs}
 use Rattle.expression.specs.Cuts.{CutAt, here, in_left, in_right}
 use Rattle.sedona_query_planner.specs.declared.spatial_predicate.SpatialPredicate.{SpatialPredicate}
 use Rattle.leaf_pick.specs.declared.first_match.Wanted.{Wanted}
+use Rattle.leaf_pick.specs.declared.first_match.Wanted.TheVariants.{Other}
 use Rattle.leaf_pick.specs.declared.first_match.Pick.{Pick}
-use Rattle.leaf_pick.specs.declared.first_match.Found.{Found}
-use Rattle.leaf_pick.specs.declared.first_match.Found.TheVariants.{Leaf, Nothing}
-use Rattle.leaf_pick.proofs.PickLaws.{at_position, first-append, first-match, first-lacks}
+use Rattle.leaf_pick.specs.declared.first_match.Stop.{Stop}
+use Rattle.leaf_pick.proofs.PickLaws.{at_position, pick_other, first-append, first-match, first-lacks}
 
 -- ---- leaves and matches of an And
 
@@ -63,6 +69,12 @@ module _ (match : Matcher) (test : Predicate → Bool) (records : List Record) (
 
 one-match : (match : Matcher) (records : List Record) (t : Expr) → leaves t ≡ t ∷ [] → matches match records t ≡ match records t ∷ []
 one-match match records t single = ap (map (match records)) single
+
+-- Whyever a leaf has no match, it has none of the kind.
+pub no-match_lacks : (kind : Predicate → Bool) (s : List ℕ) (rec : ℕ) (records : List Record) (found : Option Predicate) (why : NoMatch)
+    → MatchingIs kind s rec records found (Err why) → Lacks kind found
+no-match_lacks kind s rec records found Unmatched m = none-lacks kind found m
+no-match_lacks kind s rec records found NotAsked m = m
 
 module _ {match : Matcher} (wanted : Wanted) {s : List ℕ} {rec at : ℕ} {records : List Record} {t : Expr} (over : Over s rec at records t)
     (single : leaves t ≡ t ∷ []) where
@@ -149,7 +161,7 @@ module _ {s : List ℕ} {rec at left : ℕ} {found : Node} (is : OfTreeIn s at (
       pub match-right : (up : ℕ) (r : Found) → OfFrame s rec right (FoundIs match wanted s rec right count at r)
           → OfFrame s rec at (FoundIs match wanted s rec at before up r)
       unfolding moved leaves
-      match-right up (Leaf p) outer records t over =
+      match-right up (Break p) outer records t over =
           let c : Children s rec at left records t = its-children over in
           let n : NothingIs match wanted before count records c.l = inner records c.l c.first in
           let e : right ≡ left + length (expr_bytes c.l) = ends _ c.l c.first.tree in
@@ -163,7 +175,7 @@ module _ {s : List ℕ} {rec at left : ℕ} {found : Node} (is : OfTreeIn s at (
             stands = f.stands;
             cut = in_right (subst (λ (a : ℕ). CutAt p.cut at c.r a f.i) place f.cut);
           })
-      match-right up (Nothing many) outer records t over =
+      match-right up (Continue many) outer records t over =
           let c : Children s rec at left records t = its-children over in
           let n : NothingIs match wanted before count records c.l = inner records c.l c.first in
           let f : NothingIs match wanted count many records c.r =
@@ -174,63 +186,62 @@ module _ {s : List ℕ} {rec at left : ℕ} {found : Node} (is : OfTreeIn s at (
           })
 
 -- What the loop along the right children keeps: what is found from the node that it came to is found from the first.
-pub record Along (match : Matcher) (wanted : Wanted) (s numbers next : List ℕ)
-    (rec at before up place index count parent : ℕ) : Type 0 where
-  pub there : Framed s rec place
-  pub tabled : OfTree s place (Tabled numbers next place index)
-  pub low : at ≤ place
-  pub few : count ≤ place
-  pub rest : (r : Found) → OfFrame s rec place (FoundIs match wanted s rec place count parent r)
-      → OfFrame s rec at (FoundIs match wanted s rec at before up r)
+pub record Along (match : Matcher) (wanted : Wanted) (s numbers next : List ℕ) (rec : ℕ) (from stop : Stop) : Type 0 where
+  pub there : Framed s rec stop.at
+  pub tabled : OfTree s stop.at (Tabled numbers next stop.at stop.index)
+  pub low : from.at ≤ stop.at
+  pub few : stop.position ≤ stop.at
+  pub rest : (r : Found) → OfFrame s rec stop.at (FoundIs match wanted s rec stop.at stop.position stop.parent r)
+      → OfFrame s rec from.at (FoundIs match wanted s rec from.at from.position from.parent r)
 
-module _ {match : Matcher} {wanted : Wanted} {s numbers next : List ℕ} {rec at before up : ℕ} where
-  pub along-begins : {i : ℕ} → Framed s rec at → OfTree s at (Tabled numbers next at i) → before ≤ at
-      → Along match wanted s numbers next rec at before up at i before up
+module _ {match : Matcher} {wanted : Wanted} {s numbers next : List ℕ} {rec : ℕ} {from : Stop} where
+  pub along-begins : Framed s rec from.at → OfTree s from.at (Tabled numbers next from.at from.index) → from.position ≤ from.at
+      → Along match wanted s numbers next rec from from
   along-begins there tabled few = record { there = there; tabled = tabled; low = omega arith; few = few; rest = λ r is. is }
 
-  module _ {place index count parent : ℕ} (inv : Along match wanted s numbers next rec at before up place index count parent) where
+  module _ {stop : Stop} (inv : Along match wanted s numbers next rec from stop) where
     -- The rows have a place for the node that it came to.
-    pub along-within : (index < length numbers) × (index < length next)
+    pub along-within : (stop.index < length numbers) × (stop.index < length next)
     along-within = tabled-within (inv.tabled _ _ inv.there.2.tree)
 
-    module _ {left : ℕ} {found : Node} (is : OfTreeIn s place (λ c t. NodeIs c s place found t)) (told : found ≡ node.And left) where
-      its-both : Both and (index_below (length inv.there.0)) s place left inv.there.1
+    module _ {left : ℕ} {found : Node} (is : OfTreeIn s stop.at (λ c t. NodeIs c s stop.at found t)) (told : found ≡ node.And left) where
+      its-both : Both and (index_below (length inv.there.0)) s stop.at left inv.there.1
       its-both = rw told at (is _ inv.there.1 inv.there.2.tree)
 
-      pub along-tabled : OfTree s left (Tabled numbers next left (index + 1))
+      pub along-tabled : OfTree s left (Tabled numbers next left (stop.index + 1))
       along-tabled =
-          of_tree (Tabled numbers next left (index + 1)) (first-stands its-both.row)
+          of_tree (Tabled numbers next left (stop.index + 1)) (first-stands its-both.row)
           (left-tabled (inv.tabled _ _ inv.there.2.tree) its-both)
 
       -- So have they for its left side.
-      pub left-within : (index + 1 < length numbers) × (index + 1 < length next)
+      pub left-within : (stop.index + 1 < length numbers) × (stop.index + 1 < length next)
       left-within = tabled-within (along-tabled _ _ (first-stands its-both.row))
 
-      pub left_there : {m : ℕ} → length s - at ≡ m → (length s - left < m) × (Framed s rec left × (count ≤ left))
+      pub left_there : {m : ℕ} → length s - from.at ≡ m → (length s - left < m) × (Framed s rec left × (stop.position ≤ left))
       left_there whole =
           let after = left_after is told inv.there in (
             omega (arith, whole, after, inv.low, node-some inv.there.2.tree),
             (left-framed is told inv.there, omega (arith, after, inv.few)),
           )
 
-      pub along-left : {p : Pick} → OfFrame s rec left (FirstIs match wanted s rec left count place p)
-          → OfFrame s rec at (FirstIs match wanted s rec at before up p)
-      along-left {p} inner = inv.rest (Leaf p) (match-left is told inner)
+      pub along-left : {p : Pick} → OfFrame s rec left (FirstIs match wanted s rec left stop.position stop.at p)
+          → OfFrame s rec from.at (FirstIs match wanted s rec from.at from.position from.parent p)
+      along-left {p} inner = inv.rest (Break p) (match-left is told inner)
 
-      module _ {right counted : ℕ} (inner : OfFrame s rec left (NothingIs match wanted count counted))
-          (ends : right ≡ end_at numbers (index + 1))
+      module _ {right counted : ℕ} (inner : OfFrame s rec left (NothingIs match wanted stop.position counted))
+          (ends : right ≡ end_at numbers (stop.index + 1))
         where
           left-ends : OfTree s left (λ l. right ≡ left + length (expr_bytes l))
           left-ends d l stands = ends ∙ tabled-end (along-tabled d l stands)
 
-          after-left : Framed s rec right × (place < right) × (counted ≤ right)
+          after-left : Framed s rec right × (stop.at < right) × (counted ≤ right)
           after-left = right-framed is told inner left-ends inv.there inv.few
 
-          pub along-less : length s - right < length s - place
+          pub along-less : length s - right < length s - stop.at
           along-less = omega (arith, after-left.1, node-some inv.there.2.tree)
 
-          pub along-right : (k : ℕ) → k ≡ get_or next (index + 1) 0
-              → Along match wanted s numbers next rec at before up right k counted place
+          pub along-right : (k : ℕ) → k ≡ get_or next (stop.index + 1) 0 → Along match wanted s numbers next rec from
+              (record { at = right; index = k; position = counted; parent = stop.at })
           along-right k after =
               let b = its-both in
               let h = inv.tabled _ _ inv.there.2.tree in
@@ -241,7 +252,7 @@ module _ {match : Matcher} {wanted : Wanted} {s numbers next : List ℕ} {rec at
                     (right-tabled h b right k e (after ∙ tabled-next (left-tabled h b)));
                 low = omega (arith, inv.low, after-left.1);
                 few = after-left.2;
-                rest = λ r outer. inv.rest r (match-right is told inner left-ends parent r outer);
+                rest = λ r outer. inv.rest r (match-right is told inner left-ends stop.parent r outer);
               }
 
 -- ---- two passes
@@ -259,3 +270,11 @@ taken_is {match} {s} {rec} {at} {wanted} {p} {records} {t} f e =
       stands = f.stands;
       cut = subst⁻¹ (CutAt p.cut at t at) same f.cut;
     }
+
+-- After a pass for KNN that found nothing, what the other finds is the pick.
+pub second-pass : (match : Matcher) (s : List ℕ) (rec at : ℕ) (records : List Record) (t : Expr) (found : Found)
+    → first_match is_knn (matches match records t) ≡ none → FoundIs match Other s rec at 0 at found records t
+    → PickedIs match s rec at (break_value found) records t
+unfolding matches_by
+second-pass match s rec at records t (Break p) lacks f = taken_is f (pick_other _ lacks)
+second-pass match s rec at records t (Continue count) lacks f = pick_other _ lacks ∙ f.first

@@ -1,4 +1,5 @@
 -- Matching of a leaf, from that of the function that it is, and of both kinds that are not KNN from that of each.
+use Rattle.std.specs.Prelude.{Ok, Err}
 use Prim.Native.Nat.{ℕ, ◌+◌, ◌<◌}
 use mathlib.Core.Path.{◌≡◌, refl, sym, subst}
 use mathlib.Core.Bool.{Bool, true, false}
@@ -16,12 +17,11 @@ use Rattle.node_rows.specs.Rows.{TabledAll}
 use Rattle.node_rows.proofs.RowLaws.{tabled-within}
 use Rattle.node_rows.proofs.IndexLaws.{call-tabled}
 use Rattle.leaf_matching.specs.Frames.{Over, CallOver, CallFramed, OfCallFrame}
-use Rattle.leaf_matching.specs.Matches.{is_relation, is_distance, Lacks, MatchingIs, LeafMatchingBy, LeafMatching, CallMatchingBy}
+use Rattle.leaf_matching.specs.Matches.{is_relation, is_distance, Lacks, Matching, MatchingIs, LeafMatchingBy, LeafMatching, CallMatchingBy}
 use Rattle.leaf_pick.specs.Picks.{is_other, LeafThere}
 use Rattle.leaf_pick.specs.declared.first_match.Leaf.{Leaf}
 use Rattle.sedona_query_planner.specs.declared.spatial_predicate.SpatialPredicate.{SpatialPredicate}
-use Rattle.leaf_matching.specs.declared.matching.Matching.{Matching}
-use Rattle.leaf_matching.specs.declared.matching.Matching.TheVariants.{Matched, Unmatched, NotAsked}
+use Rattle.leaf_matching.specs.declared.matching.NoMatch.TheVariants.{Unmatched, NotAsked}
 
 -- ---- a leaf
 
@@ -83,13 +83,13 @@ lacks-other none e f = tt
 lacks-other (some q) e f = neither-other q e f
 
 module _ {s : List ℕ} {rec at : ℕ} {records : List Record} {t : Expr} (over : Over s rec at records t) where
-  pub relation-matched : (p : SpatialPredicate) → LeafMatching is_relation s rec (Matched p) records t
-      → LeafMatching is_other s rec (Matched p) records t
+  pub relation-matched : (p : SpatialPredicate) → LeafMatching is_relation s rec (Ok p) records t
+      → LeafMatching is_other s rec (Ok p) records t
   relation-matched p m = record { q = m.q; is = m.is; passes = relation-other _ m.passes; stands = m.stands }
 
   -- A leaf that is no relation is of a kind that is not KNN if it is a distance.
   pub distance-matching : (r : Matching) → Lacks is_relation (match_leaf records t) → LeafMatching is_distance s rec r records t
       → LeafMatching is_other s rec r records t
-  distance-matching (Matched p) e m = record { q = m.q; is = m.is; passes = distance-other _ m.passes; stands = m.stands }
-  distance-matching Unmatched e m = m
-  distance-matching NotAsked e m = lacks-other (match_leaf records t) e m
+  distance-matching (Ok p) e m = record { q = m.q; is = m.is; passes = distance-other _ m.passes; stands = m.stands }
+  distance-matching (Err Unmatched) e m = m
+  distance-matching (Err NotAsked) e m = lacks-other (match_leaf records t) e m

@@ -6,8 +6,6 @@ use mathlib.Core.List.{List, [], ◌∷◌}
 use mathlib.Core.Logic.{inr}
 use mathlib.Core.Option.{none}
 use borrow.Author.Tests.{ne_eqb}
-use types.Run.{OneOf, miss}
-use denote.Enum.Declared.{tag_of}
 use Rattle.definitions.specs.Expression.{Expr, binary, Record}
 use Rattle.definitions.specs.Leaves.{leaves, comparison}
 use Rattle.definitions.specs.Decode.{Columns}
@@ -16,21 +14,21 @@ use Rattle.definitions.specs.Settings.{Settings, allowed, passing, only_if, matc
 use Rattle.definitions.specs.Extract.{is_knn}
 use Rattle.expression.specs.Nodes.{Stands, OfTreeIn}
 use Rattle.expression.specs.Leaves.{NodeIs, PlainNode, plain_column, plain_literal, plain_other, plain_field}
+use Rattle.expression.specs.declared.leaves.Called.{Called}
 use Rattle.expression.specs.declared.leaves.Node.{Node}
 use Rattle.expression.specs.declared.leaves.Node.TheVariants.{And, Binary, Call, Plain}
-use Rattle.expression.specs.contracts.leaves.Node.{the_type}
 use Rattle.expression.proofs.AndLeaves.{plain-leaf}
 use Rattle.leaf_matching.specs.Matches.{is_relation, Lacks}
 use Rattle.leaf_matching.proofs.Asked.{request_kind, Only, comparison-only, only-distance}
 
 -- Any node but And is an AND-leaf.
-leaf-node : (c : Columns) (s : List ℕ) (at : ℕ) (t : Expr) (node : Node) → OneOf (1 ∷ 2 ∷ 3 ∷ []) (tag_of the_type node)
+leaf-node : (c : Columns) (s : List ℕ) (at : ℕ) (t : Expr) (node : Node) → ((first : ℕ) → node ≡ And first → ⊥)
     → NodeIs c s at node t → leaves t ≡ t ∷ []
 unfolding leaves
-leaf-node c s at t (And first) tag is = absurd (miss (1 ∷ 2 ∷ 3 ∷ []) 0 tt tag)
-leaf-node c s at t (Binary operator first) tag is = subst⁻¹ (λ (t : Expr). leaves t ≡ t ∷ []) is.is refl
-leaf-node c s at t (Call k) tag is = subst⁻¹ (λ (t : Expr). leaves t ≡ t ∷ []) is.is refl
-leaf-node c s at t (Plain head) tag is = plain-leaf is.0
+leaf-node c s at t (And first) other is = absurd (other first refl)
+leaf-node c s at t (Binary operator first) other is = subst⁻¹ (λ (t : Expr). leaves t ≡ t ∷ []) is.is refl
+leaf-node c s at t (Call k) other is = subst⁻¹ (λ (t : Expr). leaves t ≡ t ∷ []) is.is refl
+leaf-node c s at t (Plain head) other is = plain-leaf is.0
 
 -- A node that is neither an operator nor a function asks for nothing, and so does an operator that compares no distance.
 plain-asks : (d : ℕ) {t : Expr} → PlainNode t → request_by d t ≡ ask_nothing
@@ -64,20 +62,20 @@ binary-passed S records operator {l} {r} {t} e h =
     nothing-asked S records t (ap (request_by S.default_k) e ∙ binary-asks S.default_k operator l r h)
 
 -- Any node but a function asks for a distance or for nothing.
-node-only : (d : ℕ) (c : Columns) (s : List ℕ) (at : ℕ) (t : Expr) (node : Node) → OneOf (0 ∷ 1 ∷ 3 ∷ []) (tag_of the_type node)
+node-only : (d : ℕ) (c : Columns) (s : List ℕ) (at : ℕ) (t : Expr) (node : Node) → ((called : Called) → node ≡ Call called → ⊥)
     → NodeIs c s at node t → Only 2 (request_by d t)
 unfolding request_kind request_by
-node-only d c s at t (And first) tag is = subst⁻¹ (λ (t : Expr). Only 2 (request_by d t)) is.is (inr refl)
-node-only d c s at t (Binary operator first) tag is =
+node-only d c s at t (And first) other is = subst⁻¹ (λ (t : Expr). Only 2 (request_by d t)) is.is (inr refl)
+node-only d c s at t (Binary operator first) other is =
     subst⁻¹ (λ (t : Expr). Only 2 (request_by d t)) is.is (comparison-only operator (comparison operator _ _))
-node-only d c s at t (Call k) tag is = absurd (miss (0 ∷ 1 ∷ 3 ∷ []) 2 tt tag)
-node-only d c s at t (Plain head) tag is = inr (ap request_kind (plain-asks d is.0))
+node-only d c s at t (Call k) other is = absurd (other k refl)
+node-only d c s at t (Plain head) other is = inr (ap request_kind (plain-asks d is.0))
 
 module _ {c : Columns} {s : List ℕ} {at : ℕ} {t : Expr} (node : Node) (is : OfTreeIn s at (λ c t. NodeIs c s at node t))
     (stands : Stands c s at t) where
-  pub single-leaf : OneOf (1 ∷ 2 ∷ 3 ∷ []) (tag_of the_type node) → leaves t ≡ t ∷ []
-  single-leaf tag = leaf-node c s at t node tag (is c t stands)
+  pub single-leaf : ((first : ℕ) → node ≡ And first → ⊥) → leaves t ≡ t ∷ []
+  single-leaf other = leaf-node c s at t node other (is c t stands)
 
-  pub no-function : OneOf (0 ∷ 1 ∷ 3 ∷ []) (tag_of the_type node)
+  pub no-function : ((called : Called) → node ≡ Call called → ⊥)
       → (d : ℕ) (records : List Record) → Lacks is_knn (match_leaf_by d records t) × Lacks is_relation (match_leaf_by d records t)
-  no-function tag d records = only-distance d records t (node-only d c s at t node tag (is c t stands))
+  no-function other d records = only-distance d records t (node-only d c s at t node other (is c t stands))

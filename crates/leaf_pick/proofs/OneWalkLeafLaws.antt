@@ -1,4 +1,5 @@
 -- What a leaf makes of the walk's memory, by its match.
+use Rattle.std.specs.Prelude.{Some, None}
 use Prim.Native.Nat.{ℕ, suc}
 use mathlib.Core.Path.{◌≡◌, refl, sym, ap, ◌∙◌}
 use mathlib.Core.Bool.{Bool, true, false, not, false≢true}
@@ -13,11 +14,9 @@ use Rattle.leaf_matching.specs.Frames.{Over}
 use Rattle.leaf_matching.specs.Matches.{Lacks, Matches}
 use Rattle.sedona_query_planner.specs.declared.spatial_predicate.SpatialPredicate.{SpatialPredicate}
 use Rattle.leaf_pick.specs.Picks.{is_other, LeafThere}
-use Rattle.leaf_pick.specs.Walks.{seen_here, Remembers, SeenHere, same, here, StoppedIs, GoingIs}
+use Rattle.leaf_pick.specs.Walks.{Memory, seen_here, Remembers, SeenHere, same, here, StoppedIs, GoingIs}
 use Rattle.leaf_pick.specs.declared.first_match.Leaf.{Leaf}
 use Rattle.leaf_pick.specs.declared.one_walk.Seen.{Seen}
-use Rattle.leaf_pick.specs.declared.one_walk.Memory.{Memory}
-use Rattle.leaf_pick.specs.declared.one_walk.Memory.TheVariants.{First, Nothing}
 
 -- ---- the definition's step
 
@@ -49,7 +48,7 @@ module _ {match : Matcher} {s : List ℕ} {at position : ℕ} {records : List Re
   leaf-unmatched e first r = record { now-first = first; is = rw e; far = rw e; remembers = r; kept = same }
 
   pub leaf-known : {known : Seen} → Lacks is_knn (match records t) → (first : Option definition.Pick)
-      → Remembers s records (First known) first → GoingIs match s at position first (First known) (First known) records t
+      → Remembers s records (Some known) first → GoingIs match s at position first (Some known) (Some known) records t
   leaf-known h first (p, e, is) = record {
     now-first = some p;
     is = rw e (read_known position p (match records t) h);
@@ -81,8 +80,8 @@ module _ {match : Matcher} {s numbers next : List ℕ} {rec : ℕ} {leaf : Leaf}
   }
 
   pub leaf_first : (predicate : SpatialPredicate) → Matches is_other s rec records predicate (match records t)
-      → (first : Option definition.Pick) → Remembers s records Nothing first
-      → GoingIs match s leaf.at leaf.position first Nothing (First (seen_here numbers leaf predicate)) records t
+      → (first : Option definition.Pick) → Remembers s records None first
+      → GoingIs match s leaf.at leaf.position first None (Some (seen_here numbers leaf predicate)) records t
   unfolding read_leaf is_knn_match first_of
   leaf_first predicate m first e =
       let q : definition.Pick = record { position = leaf.position; predicate = m.q } in

@@ -1,4 +1,5 @@
 -- What the walk ended with, as the engine of two passes gives it.
+use Rattle.std.specs.Prelude.{Some, None}
 use Prim.Native.Nat.{ℕ}
 use mathlib.Core.Path.{◌≡◌, sym, ap, ◌∙◌, subst}
 use mathlib.Core.List.{List}
@@ -7,22 +8,20 @@ use Rattle.definitions.specs.Expression.{Expr, Record}
 use Rattle.definitions.specs.Extract.{pick, Matcher, matches_by}
 use Rattle.expression.specs.Cuts.{CutAt}
 use Rattle.node_rows.specs.Rows.{Tabled}
-use Rattle.leaf_pick.specs.declared.first_match.Picked.TheVariants as picked
 use Rattle.leaf_pick.specs.Walks.{Remembers, SpotOf, WalkIs, Spotted, ParentIs, WalkedIs}
 use Rattle.leaf_pick.specs.declared.one_walk.Seen.{Seen}
-use Rattle.leaf_pick.specs.declared.one_walk.Memory.TheVariants.{First, Nothing}
 use Rattle.leaf_pick.specs.declared.one_walk.Walk.{Walk}
 
 module _ {match : Matcher} {s : List ℕ} {rec at : ℕ} {w : Walk} {records : List Record} {t : Expr}
     (h : WalkIs match s rec at w records t) where
-  pub walked-nothing : w.memory ≡ Nothing → WalkedIs match s rec at (record { picked = picked.Nothing; walk = w.read }) records t
+  pub walked-nothing : w.memory ≡ None → WalkedIs match s rec at (record { picked = None; walk = w.read }) records t
   walked-nothing told = record { picked = rw told at h.remembers; walk = h.walk }
 
-  module _ {seen : Seen} (told : w.memory ≡ First seen) where
-    found : Remembers s records (First seen) (pick (matches_by match (record { records = records; expr = t })))
+  module _ {seen : Seen} (told : w.memory ≡ Some seen) where
+    found : Remembers s records (Some seen) (pick (matches_by match (record { records = records; expr = t })))
     found = rw told at h.remembers
 
-    spot : SpotOf t at (First seen)
+    spot : SpotOf t at (Some seen)
     spot = rw told at h.spot
 
     pub walked-spotted : {numbers next : List ℕ} → Tabled numbers next at 0 t → Spotted numbers next at seen.leaf
@@ -31,7 +30,7 @@ module _ {match : Matcher} {s : List ℕ} {rec at : ℕ} {w : Walk} {records : L
     pub walked-leaf : {numbers next : List ℕ} {parent : ℕ} → Tabled numbers next at 0 t → ParentIs numbers next at seen.leaf parent
         → WalkedIs match s rec at
         (record {
-          picked = picked.Leaf (record {
+          picked = Some (record {
             predicate = seen.predicate;
             position = seen.position;
             cut = record { leaf = seen.leaf; end = seen.end; parent = parent };

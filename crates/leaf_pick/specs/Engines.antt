@@ -1,12 +1,10 @@
 -- Request 9 of document 02: two engines that pick by the same contract.
-use Rattle.std.specs.Prelude.{ℕ, ◌≡◌, List}
+use Rattle.std.specs.Prelude.{ℕ, ◌≡◌, List, Option, Some, None}
 use Rattle.definitions.specs.Expression.{Expr, Record, Predicate}
 use Rattle.definitions.specs.Extract.{Matcher}
 use Rattle.sedona_query_planner.specs.Predicates.{on_children, PredicateAt}
 use Rattle.leaf_pick.specs.Picks.{PickedIs}
 use Rattle.leaf_pick.specs.declared.first_match.Pick.{Pick}
-use Rattle.leaf_pick.specs.declared.first_match.Picked.{Picked}
-use Rattle.leaf_pick.specs.declared.first_match.Picked.TheVariants.{Leaf, Nothing}
 
 -- Both took the AND-leaf at one position, cut out at one place, and both predicates stand for one of the definitions.
 pub record SameLeaf (s : List ℕ) (p q : Pick) (records : List Record) : Type 0 where
@@ -17,14 +15,14 @@ pub record SameLeaf (s : List ℕ) (p q : Pick) (records : List Record) : Type 0
   pub other : PredicateAt (on_children records) s q.predicate predicate
 
 -- Both took that leaf, or both took none.
-abbrev pub Alike : (s : List ℕ) → Picked → Picked → List Record → Type 0
-Alike s (Leaf p) (Leaf q) records = SameLeaf s p q records
-Alike s (Leaf p) Nothing records = ⊥
-Alike s Nothing (Leaf q) records = ⊥
-Alike s Nothing Nothing records = Unit {0}
+abbrev pub Alike : (s : List ℕ) → Option Pick → Option Pick → List Record → Type 0
+Alike s (Some p) (Some q) records = SameLeaf s p q records
+Alike s (Some p) None records = ⊥
+Alike s None (Some q) records = ⊥
+Alike s None None records = Unit {0}
 
 -- Whatever two engines answer by `PickedIs`, which the two passes and the one walk both ensure, they answer alike.
 abbrev pub EnginesAgree : Type 0
 EnginesAgree =
-    (match : Matcher) (s : List ℕ) (rec at : ℕ) (a b : Picked) (records : List Record) (t : Expr) → PickedIs match s rec at a records t
+    (match : Matcher) (s : List ℕ) (rec at : ℕ) (a b : Option Pick) (records : List Record) (t : Expr) → PickedIs match s rec at a records t
     → PickedIs match s rec at b records t → Alike s a b records

@@ -1,6 +1,8 @@
 -- Which AND-leaf is taken, and where it stands.
-use Rattle.std.specs.Prelude.{ℕ, ◌+◌, ◌≡◌, Bool, not, List, map, length}
-use Rattle.std.proofs.Math.Option.{Option, none, some}
+use Rattle.std.specs.Prelude.{ℕ, ◌+◌, ◌≡◌, Bool, not, List, map, length, Option, Some, None}
+use Rattle.std.specs.declared.ops.ControlFlow.{ControlFlow}
+use Rattle.std.specs.declared.ops.ControlFlow.TheVariants.{Continue, Break}
+use Rattle.std.proofs.Math.Option as optional
 use Rattle.definitions.specs.Expression.{Expr, Record, Predicate}
 use Rattle.definitions.specs.Leaves.{leaves}
 use Rattle.definitions.specs.Extract as definition
@@ -10,17 +12,12 @@ use Rattle.expression.specs.Leaves.{NodeIs}
 use Rattle.expression.specs.Cuts.{CutAt}
 use Rattle.node_rows.specs.Rows.{Tabled}
 use Rattle.leaf_matching.specs.Frames.{Framed}
-use Rattle.leaf_matching.specs.Matches.{MatchingIs}
-use Rattle.leaf_matching.specs.declared.matching.Matching.{Matching}
+use Rattle.leaf_matching.specs.Matches.{Matching, MatchingIs}
 use Rattle.sedona_query_planner.specs.Predicates.{on_children, PredicateAt}
 use Rattle.leaf_pick.specs.declared.first_match.Wanted.{Wanted}
 use Rattle.leaf_pick.specs.declared.first_match.Wanted.TheVariants.{Knn, Other}
 use Rattle.leaf_pick.specs.declared.first_match.Leaf.{Leaf}
 use Rattle.leaf_pick.specs.declared.first_match.Pick.{Pick}
-use Rattle.leaf_pick.specs.declared.first_match.Found.{Found}
-use Rattle.leaf_pick.specs.declared.first_match.Found.TheVariants as found
-use Rattle.leaf_pick.specs.declared.first_match.Picked.{Picked}
-use Rattle.leaf_pick.specs.declared.first_match.Picked.TheVariants as picked
 
 -- ---- which matches a pass is for
 
@@ -32,7 +29,7 @@ wants Knn = is_knn
 wants Other = is_other
 
 -- The match of each AND-leaf.
-abbrev pub matches : Matcher → List Record → Expr → List (Option Predicate)
+abbrev pub matches : Matcher → List Record → Expr → List (optional.Option Predicate)
 matches match records t = map (match records) (leaves t)
 
 -- ---- a leaf
@@ -55,27 +52,31 @@ pub record FirstIs (match : Matcher) (wanted : Wanted) (s : List ℕ) (rec at be
     : Type 0 where
   pub i : ℕ
   pub q : Predicate
-  pub first : first_match (wants wanted) (matches match records t) ≡ some (record { position = i; predicate = q })
+  pub first : first_match (wants wanted) (matches match records t) ≡ optional.some (record { position = i; predicate = q })
   pub counted : p.position ≡ before + i
   pub stands : PredicateAt (on_children records) s p.predicate q
   pub cut : CutAt p.cut up t at i
 
 pub record NothingIs (match : Matcher) (wanted : Wanted) (before count : ℕ) (records : List Record) (t : Expr) : Type 0 where
-  pub first : first_match (wants wanted) (matches match records t) ≡ none
+  pub first : first_match (wants wanted) (matches match records t) ≡ optional.none
   pub counted : count ≡ before + length (leaves t)
 
+-- What a pass found: a pick, or how many AND-leaves there are.
+abbrev pub Found : Type 0
+Found = ControlFlow Pick ℕ
+
 abbrev pub FoundIs : Matcher → Wanted → (s : List ℕ) (rec at before up : ℕ) → Found → (records : List Record) → Expr → Type 0
-FoundIs match wanted s rec at before up (found.Leaf p) records t = FirstIs match wanted s rec at before up p records t
-FoundIs match wanted s rec at before up (found.Nothing count) records t = NothingIs match wanted before count records t
+FoundIs match wanted s rec at before up (Break p) records t = FirstIs match wanted s rec at before up p records t
+FoundIs match wanted s rec at before up (Continue count) records t = NothingIs match wanted before count records t
 
 -- The definitions' pick, with its place; the root is its own parent.
 pub record TakenIs (match : Matcher) (s : List ℕ) (rec at : ℕ) (p : Pick) (records : List Record) (t : Expr) : Type 0 where
   pub q : Predicate
   pub is : definition.pick (matches_by match (record { records = records; expr = t }))
-      ≡ some (record { position = p.position; predicate = q })
+      ≡ optional.some (record { position = p.position; predicate = q })
   pub stands : PredicateAt (on_children records) s p.predicate q
   pub cut : CutAt p.cut at t at p.position
 
-abbrev pub PickedIs : Matcher → (s : List ℕ) (rec at : ℕ) → Picked → (records : List Record) → Expr → Type 0
-PickedIs match s rec at (picked.Leaf p) records t = TakenIs match s rec at p records t
-PickedIs match s rec at picked.Nothing records t = definition.pick (matches_by match (record { records = records; expr = t })) ≡ none
+abbrev pub PickedIs : Matcher → (s : List ℕ) (rec at : ℕ) → Option Pick → (records : List Record) → Expr → Type 0
+PickedIs match s rec at (Some p) records t = TakenIs match s rec at p records t
+PickedIs match s rec at None records t = definition.pick (matches_by match (record { records = records; expr = t })) ≡ optional.none

@@ -1,6 +1,8 @@
 -- Requests 9 and 10 of document 02: what the walk remembers stands for the definition's memory, and its length is the definition's.
-use Rattle.std.specs.Prelude.{ℕ, suc, ◌+◌, ◌≡◌, Bool, true, false, List, length}
-use Rattle.std.proofs.Math.Option.{Option, none, some}
+use Rattle.std.specs.Prelude.{ℕ, suc, ◌+◌, ◌≡◌, Bool, true, false, List, length, Option, Some, None}
+use Rattle.std.specs.declared.ops.ControlFlow.{ControlFlow}
+use Rattle.std.specs.declared.ops.ControlFlow.TheVariants.{Continue, Break}
+use Rattle.std.proofs.Math.Option as optional
 use Rattle.definitions.specs.Expression.{Expr, Record}
 use Rattle.definitions.specs.Encode.{expr_bytes}
 use Rattle.definitions.specs.Decode.{Columns}
@@ -18,11 +20,6 @@ use Rattle.sedona_query_planner.specs.declared.spatial_predicate.SpatialPredicat
 use Rattle.leaf_pick.specs.Picks.{PickedIs}
 use Rattle.leaf_pick.specs.declared.first_match.Leaf.{Leaf}
 use Rattle.leaf_pick.specs.declared.one_walk.Seen.{Seen}
-use Rattle.leaf_pick.specs.declared.one_walk.Memory.{Memory}
-use Rattle.leaf_pick.specs.declared.one_walk.Memory.TheVariants.{First, Nothing}
-use Rattle.leaf_pick.specs.declared.one_walk.Coming.{Coming}
-use Rattle.leaf_pick.specs.declared.one_walk.Read.{Read}
-use Rattle.leaf_pick.specs.declared.one_walk.Read.TheVariants.{Stopped, Going}
 use Rattle.leaf_pick.specs.declared.one_walk.Walk.{Walk}
 use Rattle.leaf_pick.specs.declared.one_walk.Walked.{Walked}
 
@@ -33,10 +30,14 @@ pub record SeenIs (s : List ℕ) (records : List Record) (seen : Seen) (p : defi
   pub position : p.position ≡ seen.position
   pub stands : PredicateAt (on_children records) s seen.predicate p.predicate
 
+-- The first match, or nothing yet.
+abbrev pub Memory : Type 0
+Memory = Option Seen
+
 -- So is what the walk remembers.
-abbrev pub Remembers : (s : List ℕ) (records : List Record) → Memory → Option definition.Pick → Type 0
-Remembers s records Nothing first = first ≡ none
-Remembers s records (First seen) first = (p : definition.Pick) × (first ≡ some p) × SeenIs s records seen p
+abbrev pub Remembers : (s : List ℕ) (records : List Record) → Memory → optional.Option definition.Pick → Type 0
+Remembers s records None first = first ≡ optional.none
+Remembers s records (Some seen) first = (p : definition.Pick) × (first ≡ optional.some p) × SeenIs s records seen p
 
 -- ---- a leaf
 
@@ -45,7 +46,7 @@ abbrev pub PassedIs : Node → Bool → Type 0
 PassedIs node r =
     r ≡ true
     → (S : Settings) (records : List Record) (c : Columns) (s : List ℕ) (at : ℕ) (t : Expr) → NodeIs c s at node t
-    → match_under S records t ≡ none
+    → match_under S records t ≡ optional.none
 
 -- The leaf with its match, as it is remembered.
 abbrev pub seen_here : (numbers : List ℕ) → Leaf → SpatialPredicate → Seen
@@ -61,10 +62,10 @@ pub record SeenHere (at position : ℕ) (seen : Seen) (t : Expr) : Type 0 where
 -- What is remembered afterwards is what was remembered, or this leaf.
 pub data Kept (at position : ℕ) (t : Expr) (before : Memory) : Memory → Type 0 where
   same : Kept at position t before before
-  here : {seen : Seen} → SeenHere at position seen t → Kept at position t before (First seen)
+  here : {seen : Seen} → SeenHere at position seen t → Kept at position t before (Some seen)
 
 -- A KNN match stops the walk here;
-pub record StoppedIs (match : Matcher) (s : List ℕ) (at position : ℕ) (first : Option definition.Pick) (seen : Seen)
+pub record StoppedIs (match : Matcher) (s : List ℕ) (at position : ℕ) (first : optional.Option definition.Pick) (seen : Seen)
     (records : List Record) (t : Expr) : Type 0 where
   pub p : definition.Pick
   pub is : read_leaf position first (match records t) ≡ stopped p
@@ -73,22 +74,22 @@ pub record StoppedIs (match : Matcher) (s : List ℕ) (at position : ℕ) (first
   pub seen_here : SeenHere at position seen t
 
 -- any other leaf leaves it reading.
-pub record GoingIs (match : Matcher) (s : List ℕ) (at position : ℕ) (first : Option definition.Pick) (before after : Memory)
+pub record GoingIs (match : Matcher) (s : List ℕ) (at position : ℕ) (first : optional.Option definition.Pick) (before after : Memory)
     (records : List Record) (t : Expr) : Type 0 where
-  pub now-first : Option definition.Pick
+  pub now-first : optional.Option definition.Pick
   pub is : read_leaf position first (match records t) ≡ reading (suc position) now-first
   pub far : is_knn_match (match records t) ≡ false
   pub remembers : Remembers s records after now-first
   pub kept : Kept at position t before after
 
 -- For whatever the memory stands for.
-abbrev pub ReadIs : Matcher → (s : List ℕ) → Coming → Read → (records : List Record) → Expr → Type 0
-ReadIs match s coming (Stopped seen) records t =
-    (first : Option definition.Pick) → Remembers s records coming.memory first
-    → StoppedIs match s coming.leaf.at coming.leaf.position first seen records t
-ReadIs match s coming (Going after) records t =
-    (first : Option definition.Pick) → Remembers s records coming.memory first
-    → GoingIs match s coming.leaf.at coming.leaf.position first coming.memory after records t
+abbrev pub ReadIs : Matcher → (s : List ℕ) → Leaf → Memory → ControlFlow Seen Memory → (records : List Record) → Expr → Type 0
+ReadIs match s leaf memory (Break seen) records t =
+    (first : optional.Option definition.Pick) → Remembers s records memory first
+    → StoppedIs match s leaf.at leaf.position first seen records t
+ReadIs match s leaf memory (Continue after) records t =
+    (first : optional.Option definition.Pick) → Remembers s records memory first
+    → GoingIs match s leaf.at leaf.position first memory after records t
 
 -- ---- the whole walk
 
@@ -98,8 +99,8 @@ Spot leaf end t at position = (up : ℕ) → (parent : ℕ) × CutAt (record { l
 
 -- What is remembered does.
 abbrev pub SpotOf : (t : Expr) (at : ℕ) → Memory → Type 0
-SpotOf t at Nothing = Unit {0}
-SpotOf t at (First seen) = Spot seen.leaf seen.end t at seen.position
+SpotOf t at None = Unit {0}
+SpotOf t at (Some seen) = Spot seen.leaf seen.end t at seen.position
 
 -- The walk ended with the definitions' pick in memory, and its length is the definitions'.
 pub record WalkIs (match : Matcher) (s : List ℕ) (rec at : ℕ) (w : Walk) (records : List Record) (t : Expr) : Type 0 where

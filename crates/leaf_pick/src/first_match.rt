@@ -14,11 +14,12 @@ use expression::cuts::Cut;
 use expression::leaves::{Node, node_at};
 use leaf_matching::allowing::only_allowed;
 use leaf_matching::distance::match_distance_predicate;
+use leaf_matching::filter::Filter;
 use leaf_matching::knn::match_knn_predicate;
-use leaf_matching::matching::Matching;
+use leaf_matching::matching::{Matching, NoMatch};
 use leaf_matching::relation::match_relation_predicate;
-use node_rows::numbers::end_of;
 use sedona_query_planner::spatial_predicate::SpatialPredicate;
+use std::ops::ControlFlow;
 use terms::settings::Settings;
 
 // Which matches a pass over the AND-leaves is for: KNN, or relations and distances.
@@ -26,6 +27,13 @@ use terms::settings::Settings;
 pub enum Wanted {
     Knn,
     Other,
+}
+
+// A pass over the AND-leaves, under settings.
+#[derive(Clone, Copy)]
+pub struct Pass {
+    pub wanted: Wanted,
+    pub settings: Settings,
 }
 
 // An AND-leaf that is taken: its predicate, its position among the AND-leaves, and where it is cut out; the root counts as its
@@ -38,16 +46,16 @@ pub struct Pick {
 }
 
 // What a pass found below a node; if nothing, how many AND-leaves there are up to its end.
-#[derive(Clone, Copy)]
-pub enum Found {
-    Leaf(Pick),
-    Nothing(usize),
-}
+pub type Found = ControlFlow<Pick, usize>;
 
+// A node that a pass comes to: where it stands, its index in the rows, how many AND-leaves are before it, and where the And above
+// it stands.
 #[derive(Clone, Copy)]
-pub enum Picked {
-    Leaf(Pick),
-    Nothing,
+pub struct Stop {
+    pub at: usize,
+    pub index: usize,
+    pub position: usize,
+    pub parent: usize,
 }
 
 // An AND-leaf: where it stands, its index in the rows, its position among the AND-leaves, and what it is.
@@ -60,186 +68,111 @@ pub struct Leaf {
 }
 
 // A leaf as KNN, which only a function is.
-pub fn match_knn(
-    s: &[u8],
-    rec: usize,
-    numbers: &[u32],
-    next: &[u16],
-    leaf: Leaf,
-    settings: Settings,
-) -> Matching
-    requires { LeafThere s.now numbers.now next.now rec leaf }
-    ensures { OfFrame s.now rec leaf.at (LeafMatched (match_under (settings_of settings)) is_knn s.now rec result) }
+pub fn match_knn(filter: Filter, leaf: Leaf, settings: Settings) -> Matching
+    requires { LeafThere filter.s.now filter.rows.numbers.now filter.rows.next.now filter.rec leaf }
+    ensures { OfFrame filter.entry.s.now filter.entry.rec leaf.at
+        (LeafMatched (match_under (settings_of settings)) is_knn filter.entry.s.now filter.entry.rec result) }
 {
-    let index = leaf.index;
-    let node = leaf.node;
-    let Node::Call(called) = node else {
-        return Matching::NotAsked;
+    let Node::Call(called) = leaf.node else {
+        return Err(NoMatch::NotAsked);
     };
-    let matching = match_knn_predicate(
-        s,
-        rec,
-        called,
-        numbers,
-        next,
-        index + 1,
-        settings.default_k,
-    );
+    let matching = match_knn_predicate(filter, called, leaf.index + 1, settings.default_k);
     only_allowed(settings, matching)
 }
 
 // A leaf as a relation, else as a distance, whatever the settings.
-fn match_relation_or_distance(
-    s: &[u8],
-    rec: usize,
-    numbers: &[u32],
-    next: &[u16],
-    leaf: Leaf,
-) -> Matching
-    requires { LeafThere s.now numbers.now next.now rec leaf }
-    ensures { OfFrame s.now rec leaf.at (LeafMatching is_other s.now rec result) }
+fn match_relation_or_distance(filter: Filter, leaf: Leaf) -> Matching
+    requires { LeafThere filter.s.now filter.rows.numbers.now filter.rows.next.now filter.rec leaf }
+    ensures { OfFrame filter.entry.s.now filter.entry.rec leaf.at
+        (LeafMatching is_other filter.entry.s.now filter.entry.rec result) }
 {
-    let at = leaf.at;
-    let index = leaf.index;
-    let node = leaf.node;
-    let Node::Call(called) = node else {
-        return match_distance_predicate(s, rec, at, numbers, next, index);
+    let Node::Call(called) = leaf.node else {
+        return match_distance_predicate(filter, leaf.at, leaf.index);
     };
-    match match_relation_predicate(s, rec, called, numbers, next, index + 1) {
-        Matching::Matched(predicate) => Matching::Matched(predicate),
-        Matching::Unmatched => Matching::Unmatched,
-        Matching::NotAsked => match_distance_predicate(s, rec, at, numbers, next, index),
+    match match_relation_predicate(filter, called, leaf.index + 1) {
+        Ok(predicate) => Ok(predicate),
+        Err(NoMatch::Unmatched) => Err(NoMatch::Unmatched),
+        Err(NoMatch::NotAsked) => match_distance_predicate(filter, leaf.at, leaf.index),
     }
 }
 
 // What the settings leave of it.
-pub fn match_other(
-    s: &[u8],
-    rec: usize,
-    numbers: &[u32],
-    next: &[u16],
-    leaf: Leaf,
-    settings: Settings,
-) -> Matching
-    requires { LeafThere s.now numbers.now next.now rec leaf }
-    ensures { OfFrame s.now rec leaf.at (LeafMatched (match_under (settings_of settings)) is_other s.now rec result) }
+pub fn match_other(filter: Filter, leaf: Leaf, settings: Settings) -> Matching
+    requires { LeafThere filter.s.now filter.rows.numbers.now filter.rows.next.now filter.rec leaf }
+    ensures { OfFrame filter.entry.s.now filter.entry.rec leaf.at
+        (LeafMatched (match_under (settings_of settings)) is_other filter.entry.s.now filter.entry.rec result) }
 {
-    let matching = match_relation_or_distance(s, rec, numbers, next, leaf);
-    only_allowed(settings, matching)
+    only_allowed(settings, match_relation_or_distance(filter, leaf))
 }
 
-pub fn match_wanted(
-    s: &[u8],
-    rec: usize,
-    numbers: &[u32],
-    next: &[u16],
-    leaf: Leaf,
-    wanted: Wanted,
-    settings: Settings,
-) -> Matching
-    requires { LeafThere s.now numbers.now next.now rec leaf }
-    ensures { OfFrame s.now rec leaf.at (LeafMatched (match_under (settings_of settings)) (wants wanted) s.now rec result) }
+pub fn match_wanted(filter: Filter, leaf: Leaf, pass: Pass) -> Matching
+    requires { LeafThere filter.s.now filter.rows.numbers.now filter.rows.next.now filter.rec leaf }
+    ensures { OfFrame filter.entry.s.now filter.entry.rec leaf.at
+        (LeafMatched (match_under (settings_of pass.settings)) (wants pass.wanted) filter.entry.s.now filter.entry.rec result) }
 {
-    match wanted {
-        Wanted::Knn => match_knn(s, rec, numbers, next, leaf, settings),
-        Wanted::Other => match_other(s, rec, numbers, next, leaf, settings),
+    match pass.wanted {
+        Wanted::Knn => match_knn(filter, leaf, pass.settings),
+        Wanted::Other => match_other(filter, leaf, pass.settings),
     }
 }
 
 // What a leaf is to a pass.
-pub fn leaf_match(
-    s: &[u8],
-    rec: usize,
-    numbers: &[u32],
-    next: &[u16],
-    leaf: Leaf,
-    wanted: Wanted,
-    parent: usize,
-    settings: Settings,
-) -> Found
-    requires leaf_there { LeafThere s.now numbers.now next.now rec leaf }
-    requires of_frame { OfFrame s.now rec leaf.at (λ records t. leaves t ≡ t ∷ []) }
+pub fn leaf_match(filter: Filter, leaf: Leaf, pass: Pass, parent: usize) -> Found
+    requires leaf_there { LeafThere filter.s.now filter.rows.numbers.now filter.rows.next.now filter.rec leaf }
+    requires of_frame { OfFrame filter.s.now filter.rec leaf.at (λ records t. leaves t ≡ t ∷ []) }
     requires position_le_at { leaf.position ≤ leaf.at }
-    ensures { OfFrame s.now rec leaf.at (FoundIs (match_under (settings_of settings)) wanted s.now rec leaf.at leaf.position parent result) }
+    ensures { OfFrame filter.entry.s.now filter.entry.rec leaf.at
+        (FoundIs (match_under (settings_of pass.settings)) pass.wanted filter.entry.s.now filter.entry.rec leaf.at leaf.position parent result) }
 {
-    let index = leaf.index;
-    let position = leaf.position;
-    match match_wanted(s, rec, numbers, next, leaf, wanted, settings) {
-        Matching::Matched(predicate) => {
-            let cut = Cut {
+    match match_wanted(filter, leaf, pass) {
+        Ok(predicate) => ControlFlow::Break(Pick {
+            predicate,
+            position: leaf.position,
+            cut: Cut {
                 leaf: leaf.at,
-                end: end_of(numbers, index),
+                end: filter.rows.end(leaf.index),
                 parent,
-            };
-            return Found::Leaf(Pick {
-                predicate,
-                position,
-                cut,
-            });
-        }
-        Matching::Unmatched => {
-            return Found::Nothing(position + 1);
-        }
-        Matching::NotAsked => {
-            return Found::Nothing(position + 1);
-        }
+            },
+        }),
+        Err(_) => ControlFlow::Continue(leaf.position + 1),
     }
 }
 
-// The first match that is wanted below a node, `position` AND-leaves being before it.
-pub fn first_match(
-    s: &[u8],
-    rec: usize,
-    at: usize,
-    numbers: &[u32],
-    next: &[u16],
-    i: usize,
-    wanted: Wanted,
-    position: usize,
-    parent: usize,
-    settings: Settings,
-) -> Found
-    requires framed { Framed s.now rec at }
-    requires of_tree { OfTree s.now at (Tabled numbers.now next.now at i) }
-    requires position_le_at { position ≤ at }
-    ensures { OfFrame s.now rec at (FoundIs (match_under (settings_of settings)) wanted s.now rec at position parent result) }
+// The first match that is wanted below a node.
+pub fn first_match(filter: Filter, pass: Pass, from: Stop) -> Found
+    requires framed { Framed filter.s.now filter.rec from.at }
+    requires of_tree { OfTree filter.s.now from.at (Tabled filter.rows.numbers.now filter.rows.next.now from.at from.index) }
+    requires position_le_at { from.position ≤ from.at }
+    ensures { OfFrame filter.entry.s.now filter.entry.rec from.at
+        (FoundIs (match_under (settings_of pass.settings)) pass.wanted filter.entry.s.now filter.entry.rec from.at from.position from.parent result) }
 {
-    let mut place = at;
-    let mut index = i;
-    let mut count = position;
-    let mut up = parent;
+    let mut stop = from;
     loop {
-        let node = node_at(s, place);
+        let node = node_at(filter.s, stop.at);
         let Node::And(left) = node else {
             let leaf = Leaf {
-                at: place,
-                index,
-                position: count,
+                at: stop.at,
+                index: stop.index,
+                position: stop.position,
                 node,
             };
-            return leaf_match(s, rec, numbers, next, leaf, wanted, up, settings);
+            return leaf_match(filter, leaf, pass, stop.parent);
         };
-        match first_match(
-            s,
-            rec,
-            left,
-            numbers,
-            next,
-            index + 1,
-            wanted,
-            count,
-            place,
-            settings,
-        ) {
-            Found::Leaf(pick) => {
-                return Found::Leaf(pick);
-            }
-            Found::Nothing(counted) => {
-                up = place;
-                place = end_of(numbers, index + 1);
-                index = next[index + 1] as usize;
-                count = counted;
-            }
-        }
+        let position = first_match(
+            filter,
+            pass,
+            Stop {
+                at: left,
+                index: stop.index + 1,
+                position: stop.position,
+                parent: stop.at,
+            },
+        )?;
+        stop = Stop {
+            at: filter.rows.end(stop.index + 1),
+            index: filter.rows.after(stop.index + 1),
+            position,
+            parent: stop.at,
+        };
     }
 }

@@ -9,47 +9,58 @@ ghost use Rattle.node_rows.specs.Rows.{Tabled};
 ghost use Rattle.terms.specs.Settings.{settings_of};
 ghost use Rattle.leaf_pick.specs.Picks.{FoundIs, PickedIs};
 
-use super::first_match::{Found, Picked, Wanted, first_match};
+use super::first_match::{Found, Pass, Pick, Stop, Wanted, first_match};
+use leaf_matching::filter::Filter;
+use std::ops::ControlFlow;
 use terms::settings::Settings;
+
+// The first match that a pass is for, from the root on.
+fn from_root(filter: Filter, at: usize, i: usize, pass: Pass) -> Found
+    requires framed { Framed filter.s.now filter.rec at }
+    requires of_tree { OfTree filter.s.now at (Tabled filter.rows.numbers.now filter.rows.next.now at i) }
+    ensures { OfFrame filter.entry.s.now filter.entry.rec at
+        (FoundIs (match_under (settings_of pass.settings)) pass.wanted filter.entry.s.now filter.entry.rec at 0 at result) }
+{
+    let root = Stop {
+        at,
+        index: i,
+        position: 0,
+        parent: at,
+    };
+    first_match(filter, pass, root)
+}
 
 // The first KNN match.
 fn extract_knn_predicate_prioritized(
-    s: &[u8],
-    rec: usize,
+    filter: Filter,
     at: usize,
-    numbers: &[u32],
-    next: &[u16],
     i: usize,
     settings: Settings,
 ) -> Found
-    requires framed { Framed s.now rec at }
-    requires of_tree { OfTree s.now at (Tabled numbers.now next.now at i) }
-    ensures { OfFrame s.now rec at (FoundIs (match_under (settings_of settings)) Wanted.Knn s.now rec at 0 at result) }
+    requires framed { Framed filter.s.now filter.rec at }
+    requires of_tree { OfTree filter.s.now at (Tabled filter.rows.numbers.now filter.rows.next.now at i) }
+    ensures { OfFrame filter.entry.s.now filter.entry.rec at
+        (FoundIs (match_under (settings_of settings)) Wanted.Knn filter.entry.s.now filter.entry.rec at 0 at result) }
 {
-    first_match(s, rec, at, numbers, next, i, Wanted::Knn, 0, at, settings)
+    let wanted = Wanted::Knn;
+    from_root(filter, at, i, Pass { wanted, settings })
 }
 
 // A first pass for KNN, which cannot be a filter, and another for the rest.
 pub fn extract_spatial_predicate(
-    s: &[u8],
-    rec: usize,
+    filter: Filter,
     at: usize,
-    numbers: &[u32],
-    next: &[u16],
     i: usize,
     settings: Settings,
-) -> Picked
-    requires framed { Framed s.now rec at }
-    requires of_tree { OfTree s.now at (Tabled numbers.now next.now at i) }
-    ensures { OfFrame s.now rec at (PickedIs (match_under (settings_of settings)) s.now rec at result) }
+) -> Option<Pick>
+    requires framed { Framed filter.s.now filter.rec at }
+    requires of_tree { OfTree filter.s.now at (Tabled filter.rows.numbers.now filter.rows.next.now at i) }
+    ensures { OfFrame filter.entry.s.now filter.entry.rec at
+        (PickedIs (match_under (settings_of settings)) filter.entry.s.now filter.entry.rec at result) }
 {
-    if let Found::Leaf(pick) = extract_knn_predicate_prioritized(
-        s, rec, at, numbers, next, i, settings,
-    ) {
-        return Picked::Leaf(pick);
+    if let ControlFlow::Break(pick) = extract_knn_predicate_prioritized(filter, at, i, settings) {
+        return Some(pick);
     }
-    match first_match(s, rec, at, numbers, next, i, Wanted::Other, 0, at, settings) {
-        Found::Leaf(pick) => Picked::Leaf(pick),
-        Found::Nothing(_) => Picked::Nothing,
-    }
+    let wanted = Wanted::Other;
+    from_root(filter, at, i, Pass { wanted, settings }).break_value()
 }

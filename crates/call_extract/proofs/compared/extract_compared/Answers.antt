@@ -7,7 +7,7 @@ use mathlib.Core.Logic.{⊎_elim}
 use mathlib.Core.List.{List}
 use mathlib.Core.Path.{◌≡◌, subst}
 use lib.ListN.{length}
-use borrow.Author.Tests.{ltb-false}
+use borrow.Author.Tests.{ltb-false, not-true, not-false}
 use Rattle.definitions.specs.Good.{AllBytes}
 use Rattle.definitions.specs.Settings.{match_under}
 use Rattle.terms.specs.Settings.{settings_of}
@@ -18,92 +18,80 @@ use Rattle.call_extract.specs.ExtractByTable.{Begins, RowOf}
 use Rattle.call_extract.proofs.Collecting.{few-nodes, small-nodes}
 use Rattle.call_extract.proofs.Tables.{row-begins, row-long, short-refused, own-long, same-fits, other-refused, row-indexed}
 use Rattle.call_extract.proofs.compared.extract_compared.Goals as goal
-use Rattle.call_extract.proofs.compared.extract_compared.Goals.{After-same_numbers, After-struct_known-1, Else-row-f}
+use Rattle.call_extract.proofs.compared.extract_compared.Goals.{After-same_numbers, Start}
 
--- A table that is as long lends its row.
-begins : (c : Else-row-f) (table : List NodeRecord)
-    → let a = c.args in
-    RowOf a.n a.row.now a.places table → Begins a.f.nodes a.row.now table
-begins c table of =
-    let a = c.args in
-    let bytes = all-bytes c.args.plan.now c.slice_known-1.given in
-    row-begins a.n a.f.nodes a.places a.row.now table c.if-places-f.false
-    (few-nodes c.args.n c.args.plan.now c.requires.holds_frame bytes)
-    (small-nodes c.args.n c.args.plan.now c.requires.holds_frame bytes) of
+-- A good frame has few nodes, so a table that is as long lends its row.
+module _ (c : Start) (bytes : AllBytes c.args.plan.now) where
+  few : c.args.own.frame.nodes ≤ 1024
+  few = few-nodes c.args.n c.args.plan.now c.requires.holds_frame bytes
+
+  small : 3 * c.args.own.frame.nodes ≤ c.args.n
+  small = small-nodes c.args.n c.args.plan.now c.requires.holds_frame bytes
+
+  begins : c.args.own.frame.nodes ≤ c.args.table.places → (table : List NodeRecord)
+      → RowOf c.args.n c.args.table.row.now c.args.table.places table → Begins c.args.own.frame.nodes c.args.table.row.now table
+  begins enough table of =
+      row-begins c.args.n c.args.own.frame.nodes c.args.table.places c.args.table.row.now table enough few small of
 
 -- What the comparison told.
 told : (c : After-same_numbers) {b : Bool} → c.same_numbers.result ≡ b
     → let a = c.args in
-    SameIs a.own.now a.row.now a.f.nodes b
+    SameIs a.own.rows.numbers.now a.table.row.now a.own.frame.nodes b
 told c e =
     let a = c.args in
-    subst (SameIs a.own.now a.row.now a.f.nodes) e c.same_numbers.ensures
+    subst (SameIs a.own.rows.numbers.now a.table.row.now a.own.frame.nodes) e c.same_numbers.ensures
 
--- A good frame has few nodes.
-module _ (c : After-struct_known-1) where
-  bytes : AllBytes c.args.plan.now
-  bytes =
-      all-bytes c.args.plan.now
-      c.slice_known-1.given
-
-  few : c.args.f.nodes ≤ 1024
-  few =
-      few-nodes c.args.n c.args.plan.now c.requires.holds_frame bytes
-
-  small : 3 * c.args.f.nodes ≤ c.args.n
-  small =
-      small-nodes c.args.n
-      c.args.plan.now c.requires.holds_frame bytes
-
-pub returns-then-places-f : goal.returns-then-places-f
-returns-then-places-f c =
+pub returns-then-table-count : goal.returns-then-table-count
+returns-then-table-count c =
     λ table of.
     let a = c.args in
-    let known = (goal.at.returns-then-places-f c).After-struct_known-1 in
-    ⊎_elim
-    (λ w. short-refused a.n a.plan.now c.requires.holds_frame (bytes known) (match_under (settings_of a.settings)) a.scratch.now
-    a.row.now a.places table w of)
+    let start = (goal.at.returns-then-table-count c).Start in
+    let bytes = all-bytes a.plan.now c.slice_known-1.given in
+    rw c.refused.ensures (⊎_elim
+    (λ w. short-refused a.n a.plan.now c.requires.holds_frame bytes (match_under (settings_of a.settings.settings)) a.scratch.now
+    a.table.row.now a.table.places table w of)
     (λ w. absurd (omega (
       arith,
-      row-long a.n a.f.nodes a.places a.row.now table (omega (arith, w)) (few known) (small known) of,
+      row-long a.n a.own.frame.nodes a.table.places a.table.row.now table (omega (arith, w)) (few start bytes) (small start bytes) of,
       w,
     )))
-    c.then-places-f.either
+    c.then-table-count.either)
 
 pub same_numbers-requires : goal.same_numbers-requires
 same_numbers-requires c =
     let a = c.args in (
-      own-long a.n a.plan.now c.requires.holds_frame (bytes (goal.at.same_numbers-requires c).After-struct_known-1) c.requires.indexed,
-      ltb-false (length a.row.now) a.f.nodes c.if-row-f.false-raw,
+      own-long a.n a.plan.now c.requires.holds_frame (all-bytes a.plan.now c.slice_known-1.given) c.requires.indexed,
+      ltb-false (length a.table.row.now) a.own.frame.nodes c.if-row-count.false-raw,
     )
+
+pub returns-then-not-same_numbers : goal.returns-then-not-same_numbers
+returns-then-not-same_numbers c =
+    λ table of.
+    let a = c.args in
+    let bytes = all-bytes a.plan.now c.slice_known-1.given in
+    rw c.refused-then-not-same_numbers.ensures
+    (other-refused a.n a.plan.now c.requires.holds_frame bytes c.requires.indexed
+    (match_under (settings_of a.settings.settings)) a.scratch.now a.table.row.now table
+    (begins (goal.at.returns-then-not-same_numbers c).Start bytes c.if-table-count.false table of)
+    (told (goal.at.returns-then-not-same_numbers c).After-same_numbers (not-true _ c.if-not-same_numbers.true-raw)))
 
 pub extract_frame-requires : goal.extract_frame-requires
 extract_frame-requires c =
     let a = c.args in record {
       holds_frame = c.requires.holds_frame;
       indexed = row-indexed a.n a.plan.now c.requires.holds_frame
-          (bytes (goal.at.extract_frame-requires c).After-struct_known-1) c.requires.indexed a.row.now
-          (told (goal.at.extract_frame-requires c).After-same_numbers c.if-same_numbers.true);
-      good_settings = c.requires.good_settings;
+          (all-bytes a.plan.now c.slice_known-1.given) c.requires.indexed a.table.row.now
+          (told (goal.at.extract_frame-requires c).After-same_numbers (not-false _ c.if-not-same_numbers.false-raw));
     }
-
-pub returns-then-same_numbers : goal.returns-then-same_numbers
-returns-then-same_numbers c =
-    λ table of.
-    let a = c.args in
-    same-fits a.n a.plan.now c.requires.holds_frame
-    (bytes (goal.at.returns-then-same_numbers c).After-struct_known-1) c.requires.indexed
-    (match_under (settings_of a.settings))
-    a.scratch.now
-    a.row.now table (begins (goal.at.returns-then-same_numbers c).Else-row-f table of)
-    (told (goal.at.returns-then-same_numbers c).After-same_numbers c.if-same_numbers.true)
-    c.extract_frame.ensures
 
 pub returns : goal.returns
 returns c =
     λ table of.
     let a = c.args in
-    other-refused a.n a.plan.now c.requires.holds_frame (bytes (goal.at.returns c).After-struct_known-1) c.requires.indexed
-    (match_under (settings_of a.settings)) a.scratch.now a.row.now table
-    (begins (goal.at.returns c).Else-row-f table of)
-    (told (goal.at.returns c).After-same_numbers c.if-same_numbers.false)
+    let bytes = all-bytes a.plan.now c.slice_known-1.given in
+    same-fits a.n a.plan.now c.requires.holds_frame bytes c.requires.indexed
+    (match_under (settings_of a.settings.settings))
+    a.scratch.now
+    a.table.row.now table (begins (goal.at.returns c).Start bytes c.if-table-count.false table of)
+    (told (goal.at.returns c).After-same_numbers (not-false _ c.if-not-same_numbers.false-raw))
+    c.extract_frame.ensures

@@ -9,39 +9,39 @@ use Rattle.node_reader.proofs.Standing.{all-bytes}
 use Rattle.join_filter.proofs.Keeping.{plan-length, kept-length}
 use Rattle.call_extract.proofs.Extracting.{scratch-short, no-leaf, over, extraction-fits, extracts}
 use Rattle.call_extract.proofs.held_frame.extract_frame.Goals as goal
-use Rattle.call_extract.proofs.held_frame.extract_frame.Goals.{In-Leaf}
+use Rattle.call_extract.proofs.held_frame.extract_frame.Goals.{In-Some}
 
 -- What the pick took, of the held frame.
-taken : (c : In-Leaf)
+taken : (c : In-Some)
     → let h = c.requires.holds_frame in
-    TakenIs (match_under (settings_of c.args.settings)) (take c.args.n c.args.plan.now) c.args.f.records c.args.f.root c.in-Leaf.pick
+    TakenIs (match_under (settings_of c.args.settings.settings)) (take c.args.n c.args.plan.now) c.args.held.frame.records c.args.held.frame.root c.in-Some.pick
     h.frame.records h.frame.expr
 taken c =
-    rw c.in-Leaf.is at
+    rw c.in-Some.is at
     (c.extract_in_one_walk-walked.ensures _ _
-    (over (match_under (settings_of c.args.settings)) c.args.n c.args.plan.now c.args.scratch.now c.requires.holds_frame)).picked
+    (over (match_under (settings_of c.args.settings.settings)) c.args.n c.args.plan.now c.args.scratch.now c.requires.holds_frame)).picked
 
 pub returns-then-scratch-n : goal.returns-then-scratch-n
 returns-then-scratch-n c =
-    scratch-short _ _ _ _ c.requires.holds_frame c.if-scratch-n.true
+    rw c.refused.ensures (scratch-short _ _ _ _ c.requires.holds_frame c.if-scratch-n.true)
 
-pub slice_bounds-extract_in_one_walk-end : goal.slice_bounds-extract_in_one_walk-end
-slice_bounds-extract_in_one_walk-end c =
+pub slice_bounds-filter-end : goal.slice_bounds-filter-end
+slice_bounds-filter-end c =
     c.requires.holds_frame.fits
 
-pub slice_bounds-extract_in_one_walk-end-2 : goal.slice_bounds-extract_in_one_walk-end-2
-slice_bounds-extract_in_one_walk-end-2 c =
+pub slice_bounds-filter-end-2 : goal.slice_bounds-filter-end-2
+slice_bounds-filter-end-2 c =
     sym (plan-length _ _ c.requires.holds_frame.fits)
 
 pub extract_in_one_walk-walked-requires : goal.extract_in_one_walk-walked-requires
 extract_in_one_walk-walked-requires c =
     record {
-      framed = (_, _, over (match_under (settings_of c.args.settings)) c.args.n c.args.plan.now c.args.scratch.now c.requires.holds_frame);
+      framed = (_, _, over (match_under (settings_of c.args.settings.settings)) c.args.n c.args.plan.now c.args.scratch.now c.requires.holds_frame);
       of_tree = c.requires.indexed;
     }
 
-pub slice_bounds-put_extraction-end-in-Leaf : goal.slice_bounds-put_extraction-end-in-Leaf
-slice_bounds-put_extraction-end-in-Leaf c =
+pub slice_bounds-put_extraction-end-in-Some : goal.slice_bounds-put_extraction-end-in-Some
+slice_bounds-put_extraction-end-in-Some c =
     let fits = c.requires.holds_frame.fits
     in
     kept-length _ _ fits _ _ c.copy_bytes.ensures
@@ -49,26 +49,26 @@ slice_bounds-put_extraction-end-in-Leaf c =
 pub put_extraction-length-requires : goal.put_extraction-length-requires
 put_extraction-length-requires c =
     let a = c.args in
-    extraction-fits (match_under (settings_of c.args.settings)) a.n a.plan.now a.scratch.now c.requires.holds_frame
-    (settings-laws (settings_of c.args.settings) c.requires.good_settings)
+    extraction-fits (match_under (settings_of c.args.settings.settings)) a.n a.plan.now a.scratch.now c.requires.holds_frame
+    (settings-laws (settings_of c.args.settings.settings) c.args.settings.good)
     (all-bytes a.plan.now c.slice_known-1.given) _
-    (taken (goal.at.put_extraction-length-requires c).In-Leaf) _ c.copy_bytes.ensures
+    (taken (goal.at.put_extraction-length-requires c).In-Some) _ c.copy_bytes.ensures
 
-pub returns-in-Nothing : goal.returns-in-Nothing
-returns-in-Nothing c =
+pub returns-in-None : goal.returns-in-None
+returns-in-None c =
     let a = c.args in
     let walked = c.extract_in_one_walk-walked.ensures _ _
-    (over (match_under (settings_of c.args.settings)) a.n a.plan.now a.scratch.now c.requires.holds_frame) in
-    no-leaf (match_under (settings_of c.args.settings)) a.n a.plan.now a.scratch.now c.requires.holds_frame c.if-scratch-n.false
-    (rw c.in-Nothing.is at walked.picked) _ walked.walk
+    (over (match_under (settings_of c.args.settings.settings)) a.n a.plan.now a.scratch.now c.requires.holds_frame) in
+    no-leaf (match_under (settings_of c.args.settings.settings)) a.n a.plan.now a.scratch.now c.requires.holds_frame c.if-scratch-n.false
+    (rw c.in-None.is at walked.picked) _ walked.walk
 
-pub returns-in-Leaf : goal.returns-in-Leaf
-returns-in-Leaf c =
+pub returns-in-Some : goal.returns-in-Some
+returns-in-Some c =
     let written = c.put_extraction-length in
-    extracts (match_under (settings_of c.args.settings)) c.args.n c.args.plan.now c.args.scratch.now c.requires.holds_frame
-    (settings-laws (settings_of c.args.settings) c.requires.good_settings)
+    extracts (match_under (settings_of c.args.settings.settings)) c.args.n c.args.plan.now c.args.scratch.now c.requires.holds_frame
+    (settings-laws (settings_of c.args.settings.settings) c.args.settings.good)
     (all-bytes c.args.plan.now c.slice_known-1.given) _
-    (taken (goal.at.returns-in-Leaf c).In-Leaf) _ c.copy_bytes.ensures
+    (taken (goal.at.returns-in-Some c).In-Some) _ c.copy_bytes.ensures
     c.if-scratch-n.false written.new.out written.result written.ensures _
     (c.extract_in_one_walk-walked.ensures _ _
-    (over (match_under (settings_of c.args.settings)) c.args.n c.args.plan.now c.args.scratch.now c.requires.holds_frame)).walk
+    (over (match_under (settings_of c.args.settings.settings)) c.args.n c.args.plan.now c.args.scratch.now c.requires.holds_frame)).walk

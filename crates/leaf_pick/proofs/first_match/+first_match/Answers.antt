@@ -2,14 +2,9 @@
 -- left one ends.
 -- A call goes to a place further on, so the measure is the bytes left.
 use native.Mathlib.Omega.{arith}
-use mathlib.Core.Path.{refl}
-use mir.Facts.{Fits-16_64}
 use Rattle.leaf_matching.proofs.Framing.{framed-tree}
 use Rattle.leaf_pick.proofs.Nodes.{single-leaf}
-use Rattle.leaf_pick.proofs.FirstLaws.{along-begins, along-within, along-tabled, left-within}
-use Rattle.leaf_pick.proofs.FirstLaws.{left_there, along-left, along-less, along-right}
-use Prim.Native.Nat.{◌-◌}
-use borrow.Enum.Refused.{opened}
+use Rattle.leaf_pick.proofs.FirstLaws.{along-begins, along-within, along-tabled, left-within, left_there, along-left, along-less, along-right}
 use Rattle.leaf_pick.proofs.first_match.+first_match.Goals as goal
 
 pub loop-left-init : goal.loop-left-init
@@ -25,7 +20,7 @@ leaf_match-requires t c =
     let inv = c.loop-left.invariant in
     let node = c.node_at-node in record {
       leaf_there = record { framed = inv.there; tabled = inv.tabled; is = node.ensures };
-      of_frame = (λ records u over. single-leaf node.result node.ensures over.tree (opened c.in_default.in_default-own.keys2));
+      of_frame = (λ records u over. single-leaf node.result node.ensures over.tree c.in_default.not-And);
       position_le_at = inv.few;
     }
 
@@ -33,8 +28,8 @@ pub returns-in_default : goal.returns-in_default
 returns-in_default t c =
     c.loop-left.invariant.rest c.leaf_match.result c.leaf_match.ensures
 
-pub overflow_add-index : goal.overflow_add-index
-overflow_add-index t c =
+pub overflow_add-stop : goal.overflow_add-stop
+overflow_add-stop t c =
     omega (arith, c.well_formed, (along-within c.loop-left.invariant).0)
 
 pub first_match-requires : goal.first_match-requires
@@ -44,47 +39,31 @@ first_match-requires t c =
     let left = left_there c.loop-left.invariant is told c.decreases in
     (left.0, (left.1.0, (along-tabled c.loop-left.invariant is told, left.1.1)))
 
-pub returns-in-Leaf : goal.returns-in-Leaf
-returns-in-Leaf t c =
-    along-left c.loop-left.invariant c.node_at-node.ensures c.in-And.is
-    (λ records u over. rw c.in-Leaf.is at (c.first_match.ensures records u over))
+pub returns-in_err-position : goal.returns-in_err-position
+returns-in_err-position t c =
+    rw c.from_residual.ensures
+    (along-left c.loop-left.invariant c.node_at-node.ensures c.in-And.is c.in_err-position.ensures)
 
-pub overflow_add-index-in-Nothing : goal.overflow_add-index-in-Nothing
-overflow_add-index-in-Nothing t c =
+pub overflow_add-stop-in-loop-left : goal.overflow_add-stop-in-loop-left
+overflow_add-stop-in-loop-left t c =
     omega (arith, c.well_formed, (along-within c.loop-left.invariant).0)
 
-pub end_of-place-requires : goal.end_of-place-requires
-end_of-place-requires t c =
+pub end-requires : goal.end-requires
+end-requires t c =
     (left-within c.loop-left.invariant c.node_at-node.ensures c.in-And.is).0
 
-pub overflow_add-index-in-Nothing-2 : goal.overflow_add-index-in-Nothing-2
-overflow_add-index-in-Nothing-2 t c =
+pub overflow_add-stop-in-loop-left-2 : goal.overflow_add-stop-in-loop-left-2
+overflow_add-stop-in-loop-left-2 t c =
     omega (arith, c.well_formed, (along-within c.loop-left.invariant).0)
 
-pub offset_bounds-next-index : goal.offset_bounds-next-index
-offset_bounds-next-index t c =
-    omega (
-      arith,
-      c.well_formed,
-      (left-within c.loop-left.invariant c.node_at-node.ensures c.in-And.is).1,
-    )
-
-pub bounds-next-index : goal.bounds-next-index
-bounds-next-index t c =
+pub after-requires : goal.after-requires
+after-requires t c =
     (left-within c.loop-left.invariant c.node_at-node.ensures c.in-And.is).1
-
-pub overflow_cast-index : goal.overflow_cast-index
-overflow_cast-index t c =
-    Fits-16_64 (c.shared_slice_known-in-Nothing-1.given _)
 
 pub loop-left-smaller : goal.loop-left-smaller
 loop-left-smaller t c =
-    along-less c.loop-left.invariant c.node_at-node.ensures c.in-And.is
-    (λ records u over. rw c.in-Nothing.is at (c.first_match.ensures records u over))
-    c.end_of-place.ensures
+    along-less c.loop-left.invariant c.node_at-node.ensures c.in-And.is c.in_ok-position.ensures c.end.ensures
 
 pub loop-left-preserved : goal.loop-left-preserved
 loop-left-preserved t c =
-    along-right c.loop-left.invariant c.node_at-node.ensures c.in-And.is
-    (λ records u over. rw c.in-Nothing.is at (c.first_match.ensures records u over))
-    c.end_of-place.ensures _ refl
+    along-right c.loop-left.invariant c.node_at-node.ensures c.in-And.is c.in_ok-position.ensures c.end.ensures _ c.after.ensures

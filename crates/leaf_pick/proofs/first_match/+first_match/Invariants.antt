@@ -10,12 +10,13 @@ use Rattle.leaf_pick.proofs.first_match.+first_match.Given as goal
 
 abbrev pub invariant-loop-left : goal.invariant-loop-left
 invariant-loop-left l =
-    Along (match_under (settings_of l.settings)) l.wanted l.s l.numbers l.next l.rec l.at l.position l.parent l.place l.index l.count l.up
+    let f = l.filter in
+    Along (match_under (settings_of l.pass.settings)) l.pass.wanted f.s.now f.rows.numbers.now f.rows.next.now f.rec l.fn.from l.stop
 
 abbrev pub decreases-loop-left : goal.decreases-loop-left
 decreases-loop-left l =
-    length l.s - l.place
+    length l.filter.s.now - l.stop.at
 
 abbrev pub decreases-first_match : goal.decreases-first_match
 decreases-first_match l =
-    length l.s.now - l.at
+    length l.filter.s.now - l.from.at

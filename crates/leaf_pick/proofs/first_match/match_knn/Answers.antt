@@ -1,13 +1,11 @@
 -- `match_knn`: a leaf that is no function is no KNN; a function has its own matching, of which the settings leave what they allow.
-use native.Mathlib.Omega.{arith}
 use Rattle.definitions.specs.Match.{match_leaf_by}
 use Rattle.definitions.specs.Extract.{is_knn}
 use Rattle.definitions.specs.Settings.{only_if, match_under}
 use Rattle.terms.specs.Settings.{settings_of}
 use Rattle.leaf_matching.proofs.AllowLaws.{passing-lacks}
 use Rattle.leaf_pick.proofs.Nodes.{no-function}
-use Rattle.leaf_pick.proofs.LeafLaws.{leaf-within, call-given, call-leaf}
-use borrow.Enum.Refused.{opened}
+use Rattle.leaf_pick.proofs.LeafLaws.{call-given, call-leaf}
 use Rattle.leaf_pick.proofs.first_match.match_knn.Goals as goal
 
 pub returns-in_default : goal.returns-in_default
@@ -15,11 +13,7 @@ unfolding match_under only_if
 returns-in_default c =
     λ records t over.
     passing-lacks (settings_of c.args.settings) is_knn _
-    (no-function c.args.leaf.node c.requires.is over.tree (opened c.in_default.in_default-own.keys2) c.args.settings.default_k records).0
-
-pub overflow_add-index : goal.overflow_add-index
-overflow_add-index c =
-    omega (arith, c.well_formed, (leaf-within c.requires).0)
+    (no-function c.args.leaf.node c.requires.is over.tree c.in_default.not-Call c.args.settings.default_k records).0
 
 pub match_knn_predicate-matching-requires : goal.match_knn_predicate-matching-requires
 match_knn_predicate-matching-requires c =
@@ -32,6 +26,6 @@ returns c =
     λ records t over.
     let a = c.args in
     let k = a.settings.default_k in
-    c.only_allowed.ensures is_knn a.s.now a.rec records (match_leaf_by k records t)
+    c.only_allowed.ensures is_knn a.filter.s.now a.filter.rec records (match_leaf_by k records t)
     (call-leaf c.requires c.in-Call.is k is_knn c.match_knn_predicate-matching.result
     c.match_knn_predicate-matching.ensures over)

@@ -9,8 +9,8 @@ pub returns : goal.returns
 unfolding match_under only_if
 returns c =
     λ records t over.
-    let found = c.match_relation_or_distance-matching in
-    let a = c.args in
-    let k = a.settings.default_k in
-    c.only_allowed.ensures is_other a.s.now a.rec records (match_leaf_by k records t)
-    (other-default 1 k a.s.now a.rec records t found.result (found.ensures records t over))
+    let found = c.match_relation_or_distance in
+    let f = c.args.filter in
+    let k = c.args.settings.default_k in
+    c.only_allowed.ensures is_other f.s.now f.rec records (match_leaf_by k records t)
+    (other-default 1 k f.s.now f.rec records t found.result (found.ensures records t over))

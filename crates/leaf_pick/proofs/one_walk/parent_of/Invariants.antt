@@ -5,7 +5,7 @@ use Rattle.leaf_pick.proofs.one_walk.parent_of.Given as goal
 
 abbrev pub invariant-loop-place : goal.invariant-loop-place
 invariant-loop-place l =
-    Down l.numbers l.next l.at l.leaf l.place l.index l.up
+    Down l.rows.numbers.now l.rows.next.now l.at l.leaf l.place l.index l.up
 
 abbrev pub decreases-loop-place : goal.decreases-loop-place
 decreases-loop-place l =

@@ -7,7 +7,9 @@ use Rattle.leaf_pick.proofs.one_walk.walk_once.Given as goal
 
 abbrev pub invariant-loop-index : goal.invariant-loop-index
 invariant-loop-index l =
-    Along (match_under (settings_of l.settings)) l.s l.numbers l.next l.rec l.at l.last l.place l.index l.position l.walk
+    let f = l.filter in
+    Along (match_under (settings_of l.settings)) f.s.now f.rows.numbers.now f.rows.next.now f.rec l.at l.last l.place l.index l.position
+    l.walk
 
 abbrev pub decreases-loop-index : goal.decreases-loop-index
 decreases-loop-index l =
