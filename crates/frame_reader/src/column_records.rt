@@ -20,6 +20,7 @@ pub fn side_up_to(s: &[u8], at: usize, most: u64) -> Result<(JoinSide, usize), R
 }
 
 // A column's record: side, child index, field tag.
+#[tactic(auto, unfolding(definitions::specs::Decode::one_record))]
 fn one_record(s: &[u8], at: usize) -> Result<usize, Refusal>
     requires { at ≤ length s.now }
     ensures { SkippedIs s.now at result decode.one_record }
@@ -43,6 +44,7 @@ pub fn records(s: &[u8], at: usize, many: u64) -> Result<usize, Refusal>
 }
 
 // How many records a frame has, at most 256.
+#[tactic(auto, unfolding(definitions::specs::Decode::record_count))]
 pub fn record_count(s: &[u8], at: usize) -> Result<(u64, usize), Refusal>
     requires { at ≤ length s.now }
     ensures { FieldIs s.now at result decode.record_count }

@@ -33,6 +33,7 @@ pub struct Body {
 }
 
 // A physical frame after its first byte, with so many nodes counted before it; its nodes go into the rows, where these are so long.
+#[tactic(auto, unfolding(definitions::specs::Decode::frame_body))]
 pub fn frame_body_in(
     numbers: &mut [u32],
     indexes: &mut [u16],
@@ -79,6 +80,7 @@ pub fn first_byte(s: &[u8]) -> Result<(u64, usize), Refusal>
 }
 
 // The length and the first byte of a frame of this sort: the place after them.
+#[tactic(auto, unfolding(crate::specs::Frames::opening))]
 pub fn opened(s: &[u8], sort: u64) -> Result<usize, Refusal>
     ensures { SkippedIs s.now 0 result (opening sort) }
 {

@@ -105,10 +105,6 @@ module _ (s : List ℕ) (at count : ℕ) (head : Head) (reader child : Reader Ex
     node-walks filled f =
         (h.0, build h.1, node-read, h.3 ∙ sym (depth-above (build h.1) ∙ ap depth_above its-children), f)
 
-  pub node-stops : (why : Refusal) → repeat_exprs head.children child (count + 1) (drop head.first s) ≡ stopped (number_of why)
-      → reader count (drop at s) ≡ stopped (number_of why)
-  node-stops why h = e ∙ halts _ h
-
 -- The depth of a node above some, the deepest of them this deep, and these.
 abbrev pub depth_over : (deepest : ℕ) → Exprs → ℕ
 depth_over deepest es = suc (max deepest (depth_all es))

@@ -42,6 +42,7 @@ pub fn byte_up_to(s: &[u8], at: usize, most: u64) -> Result<(u64, usize), Refusa
 }
 
 // A byte from `least` to `most`.
+#[tactic(auto, unfolding(definitions::specs::Readers::byte_between))]
 pub fn byte_between(s: &[u8], at: usize, least: u64, most: u64) -> Result<(u64, usize), Refusal>
     requires { at ≤ length s.now }
     ensures { FieldIs s.now at result (readers.byte_between least most) }

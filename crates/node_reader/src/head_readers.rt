@@ -20,6 +20,7 @@ fn allowed_kind(kind: u64, columns: Columns) -> bool
 }
 
 // A kind byte.
+#[tactic(auto, unfolding(definitions::specs::Decode::node_kind))]
 pub fn node_kind(s: &[u8], at: usize, columns: Columns) -> Result<(u64, usize), Refusal>
     requires { at ≤ length s.now }
     ensures { FieldIs s.now at result (decode.node_kind (columns_of columns)) }
@@ -32,6 +33,7 @@ pub fn node_kind(s: &[u8], at: usize, columns: Columns) -> Result<(u64, usize), 
 }
 
 // A physical column: its index and its name's tag.
+#[tactic(auto, unfolding(definitions::specs::Decode::column_node))]
 fn column_head(s: &[u8], at: usize, bound: u64) -> Result<Head, Refusal>
     requires { at ≤ length s.now }
     ensures { HeadIs s.now at result (λ child. decode.column_node bound) }
@@ -45,6 +47,7 @@ fn column_head(s: &[u8], at: usize, bound: u64) -> Result<Head, Refusal>
 }
 
 // A logical column: which schemas have it, and its tag.
+#[tactic(auto, unfolding(definitions::specs::Decode::field_node))]
 fn field_head(s: &[u8], at: usize) -> Result<Head, Refusal>
     requires { at ≤ length s.now }
     ensures { HeadIs s.now at result (λ child. decode.field_node) }
@@ -55,7 +58,6 @@ fn field_head(s: &[u8], at: usize) -> Result<Head, Refusal>
 }
 
 // A column of the sort that the frame has.
-#[tactic(auto, unfolding(definitions::specs::Decode::any_column))]
 fn any_column_head(s: &[u8], at: usize, columns: Columns) -> Result<Head, Refusal>
     requires { at ≤ length s.now }
     ensures { HeadIs s.now at result (λ child. decode.any_column (columns_of columns)) }
@@ -67,6 +69,7 @@ fn any_column_head(s: &[u8], at: usize, columns: Columns) -> Result<Head, Refusa
 }
 
 // A literal: its type and eight bytes.
+#[tactic(auto, unfolding(definitions::specs::Decode::literal_node))]
 fn literal_head(s: &[u8], at: usize) -> Result<Head, Refusal>
     requires { at ≤ length s.now }
     ensures { HeadIs s.now at result (λ child. decode.literal_node) }
@@ -80,6 +83,7 @@ fn literal_head(s: &[u8], at: usize) -> Result<Head, Refusal>
 }
 
 // A binary operator: And, a comparison or any other, with its two children to come.
+#[tactic(auto, unfolding(definitions::specs::Decode::binary_node))]
 fn binary_head(s: &[u8], at: usize) -> Result<Head, Refusal>
     requires { at ≤ length s.now }
     ensures { HeadIs s.now at result decode.binary_node }
@@ -89,6 +93,7 @@ fn binary_head(s: &[u8], at: usize) -> Result<Head, Refusal>
 }
 
 // Any other node: its tag, and its children to come.
+#[tactic(auto, unfolding(definitions::specs::Decode::other_node))]
 fn other_head(s: &[u8], at: usize) -> Result<Head, Refusal>
     requires { at ≤ length s.now }
     ensures { HeadIs s.now at result decode.other_node }
@@ -99,7 +104,6 @@ fn other_head(s: &[u8], at: usize) -> Result<Head, Refusal>
 }
 
 // The fields of a node of this kind.
-#[tactic(auto, unfolding(definitions::specs::Decode::node_of_kind))]
 pub fn head_of_kind(s: &[u8], at: usize, kind: u64, columns: Columns) -> Result<Head, Refusal>
     requires { at ≤ length s.now }
     ensures { HeadIs s.now at result (λ child. decode.node_of_kind (columns_of columns) child kind) }

@@ -8,7 +8,6 @@ use lib.ListN.{length, drop, get_or}
 use lib.Dec.{eqb}
 use borrow.Author.Tests.{eqb-true, eqb-false, eq-eqb, ne_eqb}
 use mathlib.Core.Bool.{Bool, true, false}
-use Rattle.std.proofs.Common.{◌⊎◌, inl, inr}
 use Rattle.definitions.specs.Basics as definitions
 use Rattle.definitions.specs.Basics.{ok, refused, map_result}
 use Rattle.definitions.specs.Expression.{Frame, Extraction, Plan, empty, held, extracted}
@@ -89,15 +88,6 @@ extraction-held [] h e = absurd (omega arith)
 extraction-held (b ∷ s) h e = rw (ne_eqb b 1 e)
 
 module _ (s : List ℕ) {empty : Bool} (is : empty ≡ eqb (length s) 0) where
-  -- Bytes that do not begin with a frame's first one.
-  pub no-frame-first : (empty ≡ true) ⊎ (empty ≡ false × (get_or s 0 0 ≡ 1 → ⊥)) → get_or s 0 0 ≡ 1 → ⊥
-  no-frame-first (inl none) first = nothing s (eqb-true (length s) 0 (sym is ∙ none)) first
-    where
-      nothing : (s : List ℕ) → length s ≡ 0 → get_or s 0 0 ≡ 1 → ⊥
-      nothing [] h e = absurd (omega arith)
-      nothing (b ∷ s) h e = absurd (omega arith)
-  no-frame-first (inr other) first = other.1 first
-
   pub empty-plan : empty ≡ true → HeldIs s (Err PlanEmpty) (plan_of s)
   empty-plan none = no_bytes (nothing-held s (eqb-true (length s) 0 (sym is ∙ none)))
 

@@ -1,26 +1,18 @@
 -- Numbers that were read are in their ranges, and what is stored for them.
 use Prim.Native.Nat.{ℕ, zero, suc, ◌≤◌, ◌<◌}
 use native.Mathlib.Omega.{arith}
-use mathlib.Core.Path.{◌≡◌, refl, ap, ◌∙◌}
+use mathlib.Core.Path.{◌≡◌, refl}
 use mathlib.Core.List.{List}
 use lib.ListN.{drop}
 use lib.Dec.{eqb}
-use borrow.Author.Tests.{le-leb, lt-leb}
-use Rattle.definitions.specs.Readers.{read, byte, byte_up_to, number}
+use Rattle.definitions.specs.Readers.{byte_up_to, number}
 use Rattle.definitions.specs.Decode.{k_field}
 use Rattle.definitions.specs.Good.{AllBytes}
 use Rattle.theorems.proofs.KLaws.{k-held}
 use Rattle.theorems.proofs.Inverse.{byte-up-to-back, number-back}
 use Rattle.theorems.proofs.InversePlan.{k-back}
 use Rattle.sedona_query_planner.specs.Predicates.{flag, ties_numbered}
-use Rattle.node_reader.specs.Fields.{StopsAt, ReadsAt}
-use Rattle.terms.specs.Forms.{form_number}
-use Rattle.terms.specs.Refusals.{number_of}
-use Rattle.terms.specs.declared.forms.DistanceForm.{DistanceForm}
-use Rattle.terms.specs.declared.forms.DistanceForm.TheVariants.{Dwithin, Lt, LtEq, Gt, GtEq}
-use Rattle.terms.specs.declared.refusals.Refusal.{Refusal}
-use Rattle.terms.specs.declared.refusals.Refusal.TheVariants.{OutOfRange}
-use Rattle.theorems.proofs.ReaderLaws.{after, passes, fails}
+use Rattle.node_reader.specs.Fields.{ReadsAt}
 use Rattle.node_reader.proofs.Standing.{bytes-from}
 
 pub up_to : (s : List ℕ) (at next value most : ℕ) → ReadsAt s at next value (byte_up_to most) → value ≤ most
@@ -44,21 +36,3 @@ ties-stored zero h = refl
 ties-stored (suc zero) h = refl
 ties-stored (suc (suc zero)) h = refl
 ties-stored (suc (suc (suc n))) h = absurd (omega arith)
-
--- A byte is the number of a form up to 4.
-form-small : (form : DistanceForm) → form_number form ≤ 4
-form-small Dwithin = omega arith
-form-small Lt = omega arith
-form-small LtEq = omega arith
-form-small Gt = omega arith
-form-small GtEq = omega arith
-
-module _ (s : List ℕ) (at next number : ℕ) (reads : ReadsAt s at next number byte) where
-  pub form-read : (form : DistanceForm) → number ≡ form_number form → ReadsAt s at next (form_number form) (byte_up_to 4)
-  unfolding byte_up_to
-  form-read form e n =
-      after _ (reads n) ∙ passes 4 _ n _ (le-leb number 4 (omega (arith, form-small form))) ∙ ap (λ (k : ℕ). read k n (drop next s)) e
-
-  pub form-refused : {why : Refusal} → (4 < number) × (why ≡ OutOfRange) → StopsAt s at (number_of why) (byte_up_to 4)
-  unfolding byte_up_to
-  form-refused h n = rw h.1 (after _ (reads n) ∙ fails 4 _ n _ (lt-leb number 4 h.0))

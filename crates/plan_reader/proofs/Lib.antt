@@ -1,4 +1,3 @@
 -- Laws that the proofs use: extractions and held plans that were read.
 pub mod Fields
-pub mod Predicated
 pub mod Extractions

@@ -59,6 +59,7 @@ fn both(s: &[u8], at: usize) -> Result<Pair, Refusal>
 }
 
 // A relation: type, left, right.
+#[tactic(auto, unfolding(definitions::specs::Decode::relation_predicate))]
 fn relation_predicate(s: &[u8], at: usize) -> Result<Predicated, Refusal>
     requires { at ≤ length s.now }
     ensures { PredicateIs s.now at result decode.relation_predicate }
@@ -109,6 +110,7 @@ fn distance_arguments(
 }
 
 // A distance: form, side, left, right, distance.
+#[tactic(auto, unfolding(definitions::specs::Decode::distance_predicate, definitions::specs::Readers::byte_up_to))]
 fn distance_predicate(s: &[u8], at: usize) -> Result<Predicated, Refusal>
     requires { at ≤ length s.now }
     ensures { PredicateIs s.now at result decode.distance_predicate }
@@ -120,6 +122,7 @@ fn distance_predicate(s: &[u8], at: usize) -> Result<Predicated, Refusal>
 }
 
 // KNN: k, spheroid, probe side, ties, left, right.
+#[tactic(auto, unfolding(definitions::specs::Decode::knn_predicate))]
 fn knn_predicate(s: &[u8], at: usize) -> Result<Predicated, Refusal>
     requires { at ≤ length s.now }
     ensures { PredicateIs s.now at result decode.knn_predicate }

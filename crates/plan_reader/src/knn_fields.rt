@@ -35,6 +35,7 @@ pub fn knn_flags(s: &[u8], at: usize) -> Result<(Flags, usize), Refusal>
 }
 
 // A number of four bytes that is a k; 0 is none.
+#[tactic(auto, unfolding(definitions::specs::Decode::k_field))]
 pub fn k_field(s: &[u8], at: usize) -> Result<(u64, usize), Refusal>
     requires { at ≤ length s.now }
     ensures { FieldIs s.now at result decode.k_field }

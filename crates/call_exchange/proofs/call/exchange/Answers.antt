@@ -1,10 +1,8 @@
 -- Each refusal is the definition's; a held frame or extraction is kept in the scratch, and its exchange written from there.
-use mathlib.Core.Path.{sym}
 use Rattle.node_reader.proofs.Reading.{kept}
 use Rattle.node_reader.proofs.Standing.{all-bytes}
-use Rattle.join_filter.proofs.Keeping.{plan-length}
 use Rattle.join_filter.proofs.Refusing.{exchange-call, no-room-for-n}
-use Rattle.call_exchange.proofs.Exchanging.{HoldsPlan, holds_of, not-held, scratch-short, exchanges, is-exchangeable, copy-length, still-there, held-there}
+use Rattle.call_exchange.proofs.Exchanging.{HoldsPlan, holds_of, not-held, scratch-short, exchanges, is-exchangeable, still-there, held-there}
 use Rattle.call_exchange.proofs.call.exchange.Goals as goal
 use Rattle.call_exchange.proofs.call.exchange.Goals.{In_ok-held}
 
@@ -14,10 +12,6 @@ holds c = holds_of _ _ c.in_ok-held.held c.if-plan-n.false c.in_ok-held.ensures
 pub returns-then-plan-n : goal.returns-then-plan-n
 returns-then-plan-n c =
     let a = c.args in no-room-for-n exchange-call a.n a.plan.now a.scratch.now c.if-plan-n.true
-
-pub slice_bounds-held_plan-end-2 : goal.slice_bounds-held_plan-end-2
-slice_bounds-held_plan-end-2 c =
-    let a = c.args in sym (plan-length a.n a.plan.now c.if-plan-n.false)
 
 pub returns-in_err-held : goal.returns-in_err-held
 returns-in_err-held c =
@@ -29,10 +23,6 @@ returns-then-scratch-n c =
     let a = c.args in
     let h = holds (goal.at.returns-then-scratch-n c).In_ok-held in
     scratch-short a.n a.plan.now a.scratch.now h.fits h.it (is-exchangeable h) h.is c.if-scratch-n.true
-
-pub slice_bounds-exchange_plan-end-2 : goal.slice_bounds-exchange_plan-end-2
-slice_bounds-exchange_plan-end-2 c =
-    copy-length (holds (goal.at.slice_bounds-exchange_plan-end-2 c).In_ok-held) c.args.scratch.now c.copy_bytes.new.out c.copy_bytes.ensures
 
 pub exchange_plan-requires : goal.exchange_plan-requires
 exchange_plan-requires c =

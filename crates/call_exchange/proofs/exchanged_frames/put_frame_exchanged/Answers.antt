@@ -1,5 +1,4 @@
 -- `put_frame_exchanged`: first byte and count, the records with their sides negated, the expression.
-use borrow.Author.Rules.{rules}
 use native.Mathlib.Omega.{arith}
 use Rattle.definitions.specs.Basics.{big_endian}
 use Rattle.plan_writer.specs.Predicates.{frame_head}
@@ -28,11 +27,6 @@ copy_at-requires c =
     second-room (rest-room (frame-view _ _)
     c.requires head.ensures head.auto.out)
     records.ensures records.auto.out
-
-pub shape_of-out : goal.shape_of-out
-unfolding big_endian frame_head
-shape_of-out c =
-    search rules
 
 pub returns : goal.returns
 unfolding big_endian frame_head

@@ -1,6 +1,6 @@
 -- The exchanged predicate, written with its indexes kept, and the remainder where it ended.
 use native.Mathlib.Omega.{arith}
-use Rattle.writing.proofs.Sequence.{from_zero, part_room, part-put, ends-within, part-starts, first-room, second-room, both-put, stored-room, stored-put}
+use Rattle.writing.proofs.Sequence.{from_zero, part_room, part-put, first-room, second-room, both-put, stored-room, stored-put}
 use Rattle.call_exchange.specs.ExchangedBytes.{remainder_exchanged}
 use Rattle.call_exchange.proofs.FrameViews.{ExtractionView, extraction-view}
 use Rattle.call_exchange.proofs.exchanged_plans.put_extraction_exchanged.Goals as goal
@@ -17,37 +17,12 @@ put_predicate-w-requires c =
     first-room remainder_exchanged (stored-room
     (view (goal.at.put_predicate-w-requires c).After-swap_for_swapped_children-swapped) c.requires)
 
-pub slice_bounds-put_remainder_exchanged-count : goal.slice_bounds-put_remainder_exchanged-count
-slice_bounds-put_remainder_exchanged-count c =
-    let one = c.put_predicate-w in
-    part-starts (first-room remainder_exchanged
-    (stored-room (view (goal.at.slice_bounds-put_remainder_exchanged-count
-    c).After-swap_for_swapped_children-swapped) c.requires)) (from_zero one.ensures)
-    one.auto.out
-
-pub slice_bounds-put_remainder_exchanged-start : goal.slice_bounds-put_remainder_exchanged-start
-slice_bounds-put_remainder_exchanged-start c =
-    let one = c.put_predicate-w in
-    part-starts (first-room remainder_exchanged
-    (stored-room (view (goal.at.slice_bounds-put_remainder_exchanged-start
-    c).After-swap_for_swapped_children-swapped) c.requires)) (from_zero one.ensures)
-    one.auto.out
-
 pub put_remainder_exchanged-requires : goal.put_remainder_exchanged-requires
 put_remainder_exchanged-requires c =
     let one = c.put_predicate-w in
     part_room (second-room (stored-room
     (view (goal.at.put_remainder_exchanged-requires c).After-swap_for_swapped_children-swapped) c.requires)
     (from_zero one.ensures) one.auto.out)
-
-pub overflow_add-result : goal.overflow_add-result
-overflow_add-result c =
-    let rest = c.put_remainder_exchanged in
-    let one = c.put_predicate-w in
-    let room = second-room (stored-room
-    (view (goal.at.overflow_add-result c).After-swap_for_swapped_children-swapped) c.requires)
-    (from_zero one.ensures) one.auto.out in
-    omega (arith, c.well_formed, one.auto.out, ends-within room (part-put one.new.out rest.new.out one.result rest.ensures))
 
 pub returns : goal.returns
 returns c =

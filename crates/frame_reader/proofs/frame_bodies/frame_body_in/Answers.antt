@@ -2,26 +2,10 @@
 use native.Mathlib.Omega.{arith}
 use mathlib.Core.Path.{◌∙◌}
 use Rattle.definitions.specs.Decode.{frame_body}
-use Rattle.theorems.proofs.ReaderLaws.{after, halts}
-use Rattle.node_reader.proofs.Reading.{kept}
+use Rattle.theorems.proofs.ReaderLaws.{after}
 use Rattle.node_reader.proofs.Standing.{all-bytes}
 use Rattle.frame_reader.proofs.Wholes.{frame-stands}
 use Rattle.frame_reader.proofs.frame_bodies.frame_body_in.Goals as goal
-
-pub returns-in_err-columns : goal.returns-in_err-columns
-unfolding frame_body
-returns-in_err-columns c = rw (kept c.from_residual.ensures) (halts _ (c.in_err-columns.ensures _))
-
-pub returns-in_err-root : goal.returns-in_err-root
-unfolding frame_body
-returns-in_err-root c =
-    rw (kept c.from_residual-in_err-root.ensures) (after _ (c.in_ok-columns.ensures.1 _) ∙ halts _ (c.in_err-root.ensures _))
-
-pub returns-in_err-walked : goal.returns-in_err-walked
-unfolding frame_body
-returns-in_err-walked c =
-    rw (kept c.from_residual-in_err-walked.ensures)
-    (after _ (c.in_ok-columns.ensures.1 _) ∙ after _ (c.in_ok-root.ensures.2 _) ∙ halts _ c.in_err-walked.ensures)
 
 pub returns : goal.returns
 unfolding frame_body

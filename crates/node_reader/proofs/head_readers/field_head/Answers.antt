@@ -3,19 +3,9 @@ use mathlib.Core.Path.{refl, ◌∙◌}
 use Rattle.definitions.specs.Expression.{field}
 use Rattle.expression.specs.Nodes.{children_of}
 use Rattle.definitions.specs.Decode.{field_node}
-use Rattle.theorems.proofs.ReaderLaws.{after, halts}
-use Rattle.node_reader.proofs.Reading.{kept}
+use Rattle.theorems.proofs.ReaderLaws.{after}
 use Rattle.node_reader.proofs.Children.{childless}
 use Rattle.node_reader.proofs.head_readers.field_head.Goals as goal
-
-pub returns-in_err-tag : goal.returns-in_err-tag
-unfolding field_node
-returns-in_err-tag c = rw (kept c.from_residual.ensures) (λ child n. halts _ (c.in_err-tag.ensures n))
-
-pub returns-in_err-first : goal.returns-in_err-first
-unfolding field_node
-returns-in_err-first c =
-    rw (kept c.from_residual-in_err-first.ensures) (λ child n. after _ (c.in_ok-tag.ensures.1 n) ∙ halts _ (c.in_err-first.ensures n))
 
 pub returns : goal.returns
 unfolding field_node children_of

@@ -3,26 +3,9 @@ use mathlib.Core.Path.{refl, sym, ◌∙◌}
 use Rattle.definitions.specs.Expression.{literal}
 use Rattle.expression.specs.Nodes.{children_of}
 use Rattle.definitions.specs.Decode.{literal_node}
-use Rattle.theorems.proofs.ReaderLaws.{after, halts, passes, fails}
-use Rattle.node_reader.proofs.Reading.{kept}
+use Rattle.theorems.proofs.ReaderLaws.{after, passes}
 use Rattle.node_reader.proofs.Children.{childless}
 use Rattle.node_reader.proofs.head_readers.literal_head.Goals as goal
-
-pub returns-in_err-kind : goal.returns-in_err-kind
-unfolding literal_node
-returns-in_err-kind c = rw (kept c.from_residual.ensures) (λ child n. halts _ (c.in_err-kind.ensures n))
-
-pub returns-in_err-bytes : goal.returns-in_err-bytes
-unfolding literal_node
-returns-in_err-bytes c =
-    rw (kept c.from_residual-in_err-bytes.ensures) (λ child n. after _ (c.in_ok-kind.ensures.1 n) ∙ halts _ (c.in_err-bytes.ensures n))
-
-pub returns-then-not-literal_in_range : goal.returns-then-not-literal_in_range
-unfolding literal_node
-returns-then-not-literal_in_range c =
-    λ child n.
-    after _ (c.in_ok-kind.ensures.1 n) ∙ after _ (c.in_ok-bytes.ensures.1 n)
-    ∙ fails 4 _ n _ (sym c.literal_in_range.ensures ∙ c.if-not-literal_in_range.true)
 
 pub returns : goal.returns
 unfolding literal_node children_of

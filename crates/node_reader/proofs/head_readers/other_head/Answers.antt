@@ -3,18 +3,8 @@ use mathlib.Core.Path.{refl, ◌∙◌}
 use Rattle.definitions.specs.Expression.{other}
 use Rattle.expression.specs.Nodes.{children_of}
 use Rattle.definitions.specs.Decode.{other_node}
-use Rattle.theorems.proofs.ReaderLaws.{after, halts}
-use Rattle.node_reader.proofs.Reading.{kept}
+use Rattle.theorems.proofs.ReaderLaws.{after}
 use Rattle.node_reader.proofs.head_readers.other_head.Goals as goal
-
-pub returns-in_err-many : goal.returns-in_err-many
-unfolding other_node
-returns-in_err-many c = rw (kept c.from_residual.ensures) (λ child n. halts _ (c.in_err-many.ensures n))
-
-pub returns-in_err-children : goal.returns-in_err-children
-unfolding other_node
-returns-in_err-children c =
-    rw (kept c.from_residual-in_err-children.ensures) (λ child n. after _ (c.in_ok-many.ensures.1 n) ∙ halts _ (c.in_err-children.ensures n))
 
 pub returns : goal.returns
 unfolding other_node children_of

@@ -1,24 +1,8 @@
 -- The position in two bytes, a predicate, and then its remainder.
 use mathlib.Core.Path.{refl, ◌∙◌}
 use Rattle.definitions.specs.Decode.{extraction_body}
-use Rattle.theorems.proofs.ReaderLaws.{after, halts}
-use Rattle.node_reader.proofs.Reading.{kept}
+use Rattle.theorems.proofs.ReaderLaws.{after}
 use Rattle.plan_reader.proofs.extraction_bodies.extraction_body.Goals as goal
-
-pub returns-in_err-position : goal.returns-in_err-position
-unfolding extraction_body
-returns-in_err-position c =
-    rw (kept c.from_residual.ensures) (halts _ (c.in_err-position.ensures 0))
-
-pub returns-in_err-predicated : goal.returns-in_err-predicated
-unfolding extraction_body
-returns-in_err-predicated c =
-    rw (kept c.from_residual-in_err-predicated.ensures) (after _ (c.in_ok-position.ensures.1 0) ∙ halts _ c.in_err-predicated.ensures)
-
-pub returns-in_err-remainder : goal.returns-in_err-remainder
-unfolding extraction_body
-returns-in_err-remainder c =
-    rw (kept c.from_residual-in_err-remainder.ensures) (after _ (c.in_ok-position.ensures.1 0) ∙ after _ c.in_ok-predicated.ensures.3 ∙ halts _ c.in_err-remainder.ensures)
 
 pub returns : goal.returns
 unfolding extraction_body

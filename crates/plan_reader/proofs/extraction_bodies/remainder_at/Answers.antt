@@ -3,15 +3,9 @@ use mathlib.Core.Path.{refl, ◌∙◌}
 use mathlib.Core.Option.{none}
 use borrow.Author.Tests.{ne_eqb}
 use Rattle.definitions.specs.Decode.{remainder_of_kind, remainder}
-use Rattle.theorems.proofs.ReaderLaws.{after, halts}
-use Rattle.node_reader.proofs.Reading.{kept}
+use Rattle.theorems.proofs.ReaderLaws.{after}
 use Rattle.plan_reader.proofs.Extractions.{follows}
 use Rattle.plan_reader.proofs.extraction_bodies.remainder_at.Goals as goal
-
-pub returns-in_err-kind : goal.returns-in_err-kind
-unfolding remainder
-returns-in_err-kind c =
-    rw (kept c.from_residual.ensures) (halts _ (c.in_err-kind.ensures _))
 
 pub returns-in-0 : goal.returns-in-0
 unfolding remainder remainder_of_kind

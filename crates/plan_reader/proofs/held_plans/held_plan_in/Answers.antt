@@ -1,20 +1,6 @@
 -- As `held_plan`; only a frame has nodes that are in the rows.
-use Rattle.std.proofs.Common.{inl, inr}
-use Rattle.plan_reader.proofs.Extractions.{no-frame-first, frame-in-rows, no-frame}
+use Rattle.plan_reader.proofs.Extractions.{frame-in-rows, no-frame}
 use Rattle.plan_reader.proofs.held_plans.held_plan_in.Goals as goal
-use Rattle.plan_reader.proofs.held_plans.held_plan_in.Goals.{then-is_empty-via-then-is_empty, then-is_empty-via-else-is_empty+then-s-ne1}
-
-pub held_extraction-requires : goal.held_extraction-requires
-held_extraction-requires c =
-    let s = c.args.s.now in
-    elim c.then-is_empty.branch [
-      | then-is_empty-via-then-is_empty w ↦ no-frame-first s c.is_empty.ensures (inl w.if-is_empty.true)
-      | then-is_empty-via-else-is_empty+then-s-ne1 w ↦ no-frame-first s c.is_empty.ensures (inr (w.if-is_empty.false, w.if-s-ne1.true))
-    ]
-
-pub returns-then-is_empty : goal.returns-then-is_empty
-returns-then-is_empty c =
-    c.held_extraction.ensures _ _
 
 pub returns-in-Ok : goal.returns-in-Ok
 returns-in-Ok c =

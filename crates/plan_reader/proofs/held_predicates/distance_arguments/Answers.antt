@@ -6,10 +6,6 @@ use Rattle.node_reader.proofs.Reading.{kept}
 use Rattle.frame_reader.proofs.Standing.{expr-spans}
 use Rattle.plan_reader.proofs.held_predicates.distance_arguments.Goals as goal
 
-pub returns-in_err-pair : goal.returns-in_err-pair
-returns-in_err-pair c =
-    rw (kept c.from_residual.ensures) (c.in_err-pair.ensures _)
-
 pub returns-in_err-bound : goal.returns-in_err-bound
 unfolding argument
 returns-in_err-bound c =

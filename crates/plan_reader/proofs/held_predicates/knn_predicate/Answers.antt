@@ -2,16 +2,17 @@
 use native.Mathlib.Omega.{arith}
 use mathlib.Core.Path.{refl, ◌∙◌}
 use Rattle.definitions.specs.Decode.{knn_predicate}
-use Rattle.theorems.proofs.ReaderLaws.{after, halts}
+use Rattle.theorems.proofs.ReaderLaws.{after}
 use Rattle.node_reader.proofs.Standing.{all-bytes}
 use Rattle.node_reader.proofs.Reading.{kept}
 use Rattle.plan_reader.proofs.Fields.{k-below}
+use Rattle.node_reader.proofs.Reading.{kept}
 use Rattle.plan_reader.proofs.held_predicates.knn_predicate.Goals as goal
 
-pub returns-in_err-k : goal.returns-in_err-k
-unfolding knn_predicate
-returns-in_err-k c =
-    rw (kept c.from_residual.ensures) (halts _ (c.in_err-k.ensures 0))
+pub overflow_cast-knn : goal.overflow_cast-knn
+overflow_cast-knn c =
+    let a = c.args in
+    omega (arith, k-below a.s.now a.at c.in_ok-k.next c.in_ok-k.k (all-bytes a.s.now c.shared_slice_known-1.given) c.in_ok-k.ensures.1)
 
 pub returns-in_err-flags : goal.returns-in_err-flags
 unfolding knn_predicate
@@ -21,12 +22,8 @@ returns-in_err-flags c =
 pub returns-in_err-pair : goal.returns-in_err-pair
 unfolding knn_predicate
 returns-in_err-pair c =
-    rw (kept c.from_residual-in_err-pair.ensures) (after _ (c.in_ok-k.ensures.1 0) ∙ c.in_ok-flags.ensures.1 _ 0 ∙ c.in_err-pair.ensures _)
-
-pub overflow_cast-knn : goal.overflow_cast-knn
-overflow_cast-knn c =
-    let a = c.args in
-    omega (arith, k-below a.s.now a.at c.in_ok-k.next c.in_ok-k.k (all-bytes a.s.now c.shared_slice_known-1.given) c.in_ok-k.ensures.1)
+    rw (kept c.from_residual-in_err-pair.ensures)
+    (after _ (c.in_ok-k.ensures.1 0) ∙ c.in_ok-flags.ensures.1 _ 0 ∙ c.in_err-pair.ensures _)
 
 pub returns : goal.returns
 unfolding knn_predicate

@@ -2,14 +2,10 @@
 use mathlib.Core.Path.{sym, ap, ◌∙◌}
 use Rattle.definitions.specs.Expression as tree
 use Rattle.definitions.specs.Decode.{relation_predicate}
-use Rattle.theorems.proofs.ReaderLaws.{after, halts}
+use Rattle.theorems.proofs.ReaderLaws.{after}
+use Rattle.node_reader.proofs.Reading.{kept}
 use Rattle.node_reader.proofs.Reading.{kept}
 use Rattle.plan_reader.proofs.held_predicates.relation_predicate.Goals as goal
-
-pub returns-in_err-number : goal.returns-in_err-number
-unfolding relation_predicate
-returns-in_err-number c =
-    rw (kept c.from_residual.ensures) (halts _ (c.in_err-number.ensures 0))
 
 pub returns-in_err-pair : goal.returns-in_err-pair
 unfolding relation_predicate

@@ -2,16 +2,10 @@
 use mathlib.Core.Path.{◌∙◌}
 use Rattle.definitions.specs.Decode.{k_field}
 use Rattle.theorems.proofs.KLaws.{is-k, zero-no-k}
-use Rattle.theorems.proofs.ReaderLaws.{after, halts, passes, fails}
+use Rattle.theorems.proofs.ReaderLaws.{after, passes, fails}
 use Rattle.node_reader.proofs.Standing.{all-bytes}
-use Rattle.node_reader.proofs.Reading.{kept}
 use Rattle.plan_reader.proofs.Fields.{four-bytes}
 use Rattle.plan_reader.proofs.knn_fields.k_field.Goals as goal
-
-pub returns-in_err-k : goal.returns-in_err-k
-unfolding k_field
-returns-in_err-k c =
-    rw (kept c.from_residual.ensures) (λ n. halts _ (c.in_err-k.ensures n))
 
 pub returns-then-k-eq0 : goal.returns-then-k-eq0
 unfolding k_field

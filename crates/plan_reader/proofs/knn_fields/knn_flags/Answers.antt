@@ -1,21 +1,8 @@
 -- Three fields in a row, whatever comes after them.
 use mathlib.Core.Path.{◌∙◌}
-use Rattle.theorems.proofs.ReaderLaws.{after, halts}
-use Rattle.node_reader.proofs.Reading.{kept}
+use Rattle.theorems.proofs.ReaderLaws.{after}
 use Rattle.plan_reader.proofs.Fields.{up_to, flag-stored, ties-stored}
 use Rattle.plan_reader.proofs.knn_fields.knn_flags.Goals as goal
-
-pub returns-in_err-spheroid : goal.returns-in_err-spheroid
-returns-in_err-spheroid c =
-    rw (kept c.from_residual.ensures) (λ next n. halts _ (c.in_err-spheroid.ensures n))
-
-pub returns-in_err-probe_side : goal.returns-in_err-probe_side
-returns-in_err-probe_side c =
-    rw (kept c.from_residual-in_err-probe_side.ensures) (λ next n. after _ (c.in_ok-spheroid.ensures.1 n) ∙ halts _ (c.in_err-probe_side.ensures n))
-
-pub returns-in_err-ties : goal.returns-in_err-ties
-returns-in_err-ties c =
-    rw (kept c.from_residual-in_err-ties.ensures) (λ next n. after _ (c.in_ok-spheroid.ensures.1 n) ∙ after _ (c.in_ok-probe_side.ensures.1 n) ∙ halts _ (c.in_err-ties.ensures n))
 
 pub returns : goal.returns
 returns c =
