@@ -24,10 +24,11 @@ pub fn project_spots(
     ensures { ProjectedIs src.now x left.now right.now row.new result }
 {
     let count = collect_extraction(row, src, x);
-    if !find_places(row, count, JoinSide::Left, left) {
+    let spots = &mut row[..count];
+    if !find_places(spots, JoinSide::Left, left) {
         return None;
     }
-    if !find_places(row, count, JoinSide::Right, right) {
+    if !find_places(spots, JoinSide::Right, right) {
         return None;
     }
     Some(count)
