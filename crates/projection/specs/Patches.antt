@@ -1,5 +1,5 @@
 -- Request 7 of document 02: child indexes put at their places. (Ours.)
-use Rattle.std.specs.Prelude.{ℕ, ◌+◌, ◌/◌, ◌%◌, ◌≤◌, ◌<◌, List, [], ◌∷◌, ◌++◌, length, take, drop, get_or}
+use Rattle.std.specs.Prelude.{ℕ, ◌+◌, ◌/◌, ◌%◌, ◌≤◌, ◌<◌, ◌≡◌, List, [], ◌∷◌, ◌++◌, length, take, drop, get_or}
 use Rattle.definitions.specs.Basics.{big_endian}
 
 -- Bytes from a place on, the others as they were.
