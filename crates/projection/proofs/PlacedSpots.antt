@@ -1,14 +1,13 @@
 -- What the places put into the numbers of an extraction's child indexes say of them: found for both sides, they are the projection's, and
 -- none is lacking exactly if the projection has them all.
 use Rattle.std.specs.Prelude.{if◌then◌else◌}
-use Prim.Native.Nat.{ℕ, zero, suc, ◌+◌, ◌-◌, ◌*◌, ◌%◌, ◌≤◌, ◌<◌}
+use Prim.Native.Nat.{ℕ, ◌+◌, ◌-◌, ◌*◌, ◌%◌, ◌≤◌, ◌<◌}
 use native.Mathlib.Omega.{arith}
 use mathlib.Core.Path.{◌≡◌, refl, sym, ap, ap₂, ◌∙◌, subst}
 use mathlib.Core.Bool.{Bool, true, false, ◌&&◌}
 use mathlib.Core.List.{List, [], ◌∷◌, map}
 use mathlib.Core.Option.{Option, none, some}
-use lib.ListN.{length, take, drop, length-map}
-use lib.Seq.{take_at, length-take-le}
+use lib.ListN.{length}
 use lib.Dec.{eqb}
 use Rattle.definitions.specs.Basics.{all}
 use Rattle.definitions.specs.Limits.{most_items}
@@ -138,25 +137,17 @@ module _ (lists : Lists) where
 
 -- ---- the row
 
-take-map : (f : ℕ → ℕ) (n : ℕ) (s : List ℕ) → take n (map f s) ≡ map f (take n s)
-take-map f zero s = refl
-take-map f (suc n) [] = refl
-take-map f (suc n) (x ∷ s) = ap (λ (l : List ℕ). f x ∷ l) (take-map f n s)
+-- Places were sought in a row of the numbers of child indexes.
+module _ (side : Side) (items : List ℕ) {end : ℕ} {es : List Spot} (before after : List ℕ) (sound : AllSound end es)
+    (are : before ≡ map spot_number es) where
+  pub found_all : PlacedIs (side_number side) items before after true
+      → (all (has_by side items) es ≡ true) × (after ≡ map spot_number (map (moved_by side items) es))
+  found_all h = (
+    sym (numbers-have side items sound) ∙ ap (all (has_number (side_number side) items)) (sym are) ∙ h.0,
+    h.1 ∙ ap (map (placed_number (side_number side) items)) are ∙ numbers-moved side items sound,
+  )
 
--- Places were sought in a row whose first numbers are those of child indexes.
-module _ (side : Side) (items : List ℕ) {end count : ℕ} {es : List Spot} (before after : List ℕ) (sound : AllSound end es)
-    (room : count ≤ length before) (are : take count before ≡ map spot_number es) where
-  pub found_all : PlacedIs (side_number side) items count before after true
-      → (all (has_by side items) es ≡ true) × (take count after ≡ map spot_number (map (moved_by side items) es))
-  found_all h =
-      let f : ℕ → ℕ = placed_number (side_number side) items in
-      let size : length (take count (map f before)) ≡ count = length-take-le count (map f before) (omega (arith, length-map before f)) in (
-        sym (numbers-have side items sound) ∙ ap (all (has_number (side_number side) items)) (sym are) ∙ h.0,
-        ap (take count) h.1 ∙ take_at (take count (map f before)) (drop count before) count size ∙ take-map f count before
-            ∙ ap (map f) are ∙ numbers-moved side items sound,
-      )
-
-  pub found-not : PlacedIs (side_number side) items count before after false → all (has_by side items) es ≡ false
+  pub found-not : PlacedIs (side_number side) items before after false → all (has_by side items) es ≡ false
   found-not h = sym (numbers-have side items sound) ∙ ap (all (has_number (side_number side) items)) (sym are) ∙ h
 
 -- Once all are places, they are short still.

@@ -2,12 +2,12 @@
 use Prim.Native.Nat.{ℕ, zero, suc, ◌+◌, ◌-◌, ◌/◌, ◌%◌, ◌≤◌, ◌<◌}
 use native.Mathlib.Omega.{arith}
 use native.Mathlib.Nat.{not-suc-le-zero}
-use mathlib.Core.Path.{◌≡◌, refl, sym, ap, ◌∙◌, subst}
+use mathlib.Core.Path.{◌≡◌, refl, sym, ap, ap₂, ◌∙◌}
 use mathlib.Core.Bool.{Bool, true, false, ◌&&◌}
-use mathlib.Core.List.{List, [], ◌∷◌, ◌++◌, map}
+use mathlib.Core.List.{List, [], ◌∷◌, ◌++◌, map, append-nil}
 use mathlib.Core.Option.{none, some}
-use lib.ListN.{length, take, drop, get_or, set, length-map}
-use lib.Seq.{get_or-take, length-take-le, drop-cons, get_or_at, set-get_or}
+use lib.ListN.{length, take, drop, get_or, set, length-map, drop_of_length-le}
+use lib.Seq.{take_all, length-take-le, drop-cons, get_or_at}
 use borrow.Author.Tests.{eq-eqb, ne_eqb}
 use borrow.Author.Count.{below_more}
 use Rattle.definitions.specs.Basics.{all}
@@ -61,57 +61,45 @@ module _ (side : ℕ) (items : List ℕ) (number : ℕ) where
 
 -- ---- the loop
 
-pub record Placing (side : ℕ) (items : List ℕ) (count : ℕ) (before row : List ℕ) (k : ℕ) : Type 0 where
-  pub below : k ≤ count
-  pub room : count ≤ length before
+pub record Placing (side : ℕ) (items before row : List ℕ) (k : ℕ) : Type 0 where
+  pub below : k ≤ length before
   pub has : (j : ℕ) → j < k → has_number side items (get_or before j 0) ≡ true
   pub is : row ≡ take k (map (placed_number side items) before) ++ drop k before
 
-module _ {side : ℕ} {items : List ℕ} {count : ℕ} {before row : List ℕ} {k : ℕ} (inv : Placing side items count before row k) where
+module _ {side : ℕ} {items before row : List ℕ} {k : ℕ} (inv : Placing side items before row k) where
   abbrev f : ℕ → ℕ
   f = placed_number side items
 
-  module _ (more : k < count) where
+  module _ (more : k < length before) where
     -- The number at hand is as it was.
     pub number-is : get_or row k 0 ≡ get_or before k 0
     number-is =
         ap (λ (l : List ℕ). get_or l k 0)
-        (inv.is ∙ ap (λ (l : List ℕ). take k (map f before) ++ l) (drop-cons before k 0 (omega (arith, inv.room))))
+        (inv.is ∙ ap (λ (l : List ℕ). take k (map f before) ++ l) (drop-cons before k 0 (omega arith)))
         ∙ get_or_at (take k (map f before)) (get_or before k 0) (drop (suc k) before) 0 k
-        (length-take-le k (map f before) (omega (arith, length-map before f, inv.room)))
+        (length-take-le k (map f before) (omega (arith, length-map before f)))
 
     pub placing-goes-on : has_number side items (get_or row k 0) ≡ true → (b : ℕ) → b ≡ f (get_or row k 0)
-        → Placing side items count before (set row k b) (k + 1)
+        → Placing side items before (set row k b) (k + 1)
     placing-goes-on has b e =
         let value : b ≡ get_or (map f before) k 0 =
-        e ∙ ap f number-is ∙ sym (mapped_at f before k 0 0 (omega (arith, inv.room))) in
+        e ∙ ap f number-is ∙ sym (mapped_at f before k 0 0 (omega arith)) in
         record {
           below = omega arith;
-          room = inv.room;
           has = below_more (λ j. has_number side items (get_or before j 0) ≡ true) k inv.has
               (ap (has_number side items) (sym number-is) ∙ has);
           is = ap (set row k) value
-              ∙ write-more (map f before) before row k (omega (arith, length-map before f, inv.room)) (omega (arith, inv.room))
+              ∙ write-more (map f before) before row k (omega (arith, length-map before f)) (omega arith)
               inv.is;
         }
 
-    pub placing-passes : has_number side items (get_or row k 0) ≡ true → f (get_or row k 0) ≡ get_or row k 0
-        → Placing side items count before row (k + 1)
-    placing-passes has same =
-        subst (λ (l : List ℕ). Placing side items count before l (k + 1)) (set-get_or row k 0)
-        (placing-goes-on has (get_or row k 0) (sym same))
+    pub placing-fails : has_number side items (get_or row k 0) ≡ false → PlacedIs side items before row false
+    placing-fails lacks = all-false (has_number side items) before k more (ap (has_number side items) (sym number-is) ∙ lacks)
 
-    pub placing-fails : has_number side items (get_or row k 0) ≡ false → PlacedIs side items count before row false
-    placing-fails lacks =
-        all-false (has_number side items) (take count before) k (omega (arith, length-take-le count before inv.room))
-        (ap (has_number side items) (get_or-take count before k 0 more ∙ sym number-is) ∙ lacks)
-
-  pub placing-ends : count ≤ k → PlacedIs side items count before row true
-  placing-ends all =
-      let whole : k ≡ count = omega (arith, inv.below) in (
-        all_true (has_number side items) (take count before)
-            (λ j b.
-            let low : j < count = omega (arith, length-take-le count before inv.room) in
-            ap (has_number side items) (get_or-take count before j 0 low) ∙ inv.has j (omega arith)),
-        inv.is ∙ ap (λ (n : ℕ). take n (map f before) ++ drop n before) whole,
-      )
+  pub placing-ends : length before ≤ k → PlacedIs side items before row true
+  placing-ends whole = (
+    all_true (has_number side items) before (λ j b. inv.has j (omega arith)),
+    inv.is
+        ∙ ap₂ ◌++◌ (take_all k (map f before) (omega (arith, length-map before f))) (drop_of_length-le before {i = k} whole)
+        ∙ append-nil (map f before),
+  )

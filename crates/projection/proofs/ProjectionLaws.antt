@@ -1,11 +1,10 @@
 -- What is found of an extraction's child indexes, one side after the other, and what putting them into the plan makes of it.
-use Rattle.std.specs.Prelude.{if◌then◌else◌}
 use Prim.Native.Nat.{ℕ, ◌+◌, ◌/◌, ◌%◌, ◌≤◌, ◌<◌}
 use native.Mathlib.Omega.{arith}
 use native.Mathlib.Numerals.{add-one}
 use mathlib.Core.Path.{◌≡◌, refl, sym, ap, ap₂, ◌∙◌}
-use mathlib.Core.Bool.{Bool, true, false, ◌&&◌}
-use mathlib.Core.List.{List, [], ◌∷◌, map}
+use mathlib.Core.Bool.{true, false, ◌&&◌}
+use mathlib.Core.List.{List, [], ◌∷◌, ◌++◌, map}
 use lib.ListN.{length, take, get_or, length-append}
 use lib.Seq.{take_at, take-suc}
 use Rattle.definitions.specs.Basics.{big_endian, all}
@@ -20,8 +19,7 @@ use Rattle.projection.specs.Placing.{PlacedIs}
 use Rattle.projection.specs.PlanSpots.{extraction_spots}
 use Rattle.projection.specs.Extractions.{ExtractionThere}
 use Rattle.projection.specs.Patches.{put_at, patched}
-use Rattle.projection.specs.Projected.{ListsFit, PlacesAre}
-use Rattle.std.specs.Prelude.{Some, None}
+use Rattle.projection.specs.Projected.{ListsFit, moved}
 use Rattle.projection.proofs.SoundSpots.{AllSound, extraction-sound}
 use Rattle.projection.proofs.PlacedSpots.{moved_by, has_by, still-sound, all_moved, all_have, found_all, found-not}
 use Rattle.projection.proofs.PlacedPlans.{extraction-have}
@@ -37,8 +35,12 @@ module _ {x before row : List ℕ} {count : ℕ} (wrote : WroteAt 0 x before row
   pub row_room : count ≤ length row
   row_room = omega (arith, wrote.ends, simp length-append at (ap length wrote.out))
 
-module _ (lists : Lists) {s : List ℕ} {x : Extraction} (X : tree.Extraction) (t : ExtractionThere s x X)
-    {before : List ℕ} (row : List ℕ) {count : ℕ} (wrote : WroteAt 0 (map spot_number (extraction_spots X)) before row count) where
+-- What is lent of a row up to a place, once it came back.
+pub cut-there : (part rest : List ℕ) (count : ℕ) → length part ≡ count → (count ≤ length (part ++ rest)) × (take count (part ++ rest) ≡ part)
+cut-there part rest count e = (simp length-append (omega arith), take_at part rest count e)
+
+module _ (lists : Lists) {s : List ℕ} {x : Extraction} (X : tree.Extraction) (t : ExtractionThere s x X) (row : List ℕ)
+    (are : row ≡ map spot_number (extraction_spots X)) where
   abbrev es : List Spot
   es = extraction_spots X
 
@@ -49,33 +51,27 @@ module _ (lists : Lists) {s : List ℕ} {x : Extraction} (X : tree.Extraction) (
       ≡ (all (has_by left lists.of_left) es && all (has_by right lists.of_right) (map (moved_by left lists.of_left) es))
   by-sides = sym (extraction-have lists X) ∙ all_have lists es
 
-  pub left-lacks : (after : List ℕ) → PlacedIs (side_number left) lists.of_left count row after false → placed lists X ≡ false
-  left-lacks after h =
-      by-sides ∙ rw (found-not left lists.of_left row after sound (row_room wrote) (row-begins wrote) h) refl
+  pub left-lacks : (after : List ℕ) → PlacedIs (side_number left) lists.of_left row after false → placed lists X ≡ false
+  left-lacks after h = by-sides ∙ rw (found-not left lists.of_left row after sound are h) refl
 
   -- The left ones were found.
-  module _ (fit : ListsFit lists.of_left lists.of_right) (middle : List ℕ) (same : length middle ≡ length row)
-      (first : PlacedIs (side_number left) lists.of_left count row middle true) where
-    found : (all (has_by left lists.of_left) es ≡ true) × (take count middle ≡ map spot_number (map (moved_by left lists.of_left) es))
-    found = found_all left lists.of_left row middle sound (row_room wrote) (row-begins wrote) first
-
-    room : count ≤ length middle
-    room = omega (arith, row_room wrote)
+  module _ (fit : ListsFit lists.of_left lists.of_right) (middle : List ℕ)
+      (first : PlacedIs (side_number left) lists.of_left row middle true) where
+    found : (all (has_by left lists.of_left) es ≡ true) × (middle ≡ map spot_number (map (moved_by left lists.of_left) es))
+    found = found_all left lists.of_left row middle sound are first
 
     left-sound : AllSound (length (plan_bytes (tree.extracted X))) (map (moved_by left lists.of_left) es)
     left-sound = still-sound left lists.of_left fit.first sound
 
     -- So the right ones decide.
-    pub right-decides : (after : List ℕ) → length after ≡ length middle → (b : Bool)
-        → PlacedIs (side_number right) lists.of_right count middle after b → PlacesAre lists X after (if b then Some count else None)
-    right-decides after alike true h =
-        let second = found_all right lists.of_right middle after left-sound room found.1 h in (
-          by-sides ∙ ap₂ ◌&&◌ found.0 second.0,
-          omega (arith, room),
-          second.1 ∙ ap (map spot_number) (all_moved lists es),
-        )
-    right-decides after alike false h =
-        by-sides ∙ ap₂ ◌&&◌ found.0 (found-not right lists.of_right middle after left-sound room found.1 h)
+    pub right-lacks : (after : List ℕ) → PlacedIs (side_number right) lists.of_right middle after false → placed lists X ≡ false
+    right-lacks after h = by-sides ∙ ap₂ ◌&&◌ found.0 (found-not right lists.of_right middle after left-sound found.1 h)
+
+    pub both-found : (after : List ℕ) → PlacedIs (side_number right) lists.of_right middle after true
+        → (placed lists X ≡ true) × (after ≡ map spot_number (map (moved lists) es))
+    both-found after h =
+        let second = found_all right lists.of_right middle after left-sound found.1 h in
+        (by-sides ∙ ap₂ ◌&&◌ found.0 second.0, second.1 ∙ ap (map spot_number) (all_moved lists es))
 
 -- ---- into the plan
 

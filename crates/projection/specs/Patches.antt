@@ -1,5 +1,5 @@
 -- Request 7 of document 02: child indexes put at their places. (Ours.)
-use Rattle.std.specs.Prelude.{ℕ, ◌+◌, ◌/◌, ◌%◌, ◌≤◌, ◌<◌, List, [], ◌∷◌, ◌++◌, length, take, drop, get_or}
+use Rattle.std.specs.Prelude.{ℕ, ◌+◌, ◌/◌, ◌%◌, ◌≤◌, ◌<◌, ◌≡◌, List, [], ◌∷◌, ◌++◌, length, take, drop, get_or}
 use Rattle.definitions.specs.Basics.{big_endian}
 
 -- Bytes from a place on, the others as they were.
@@ -14,3 +14,7 @@ patched (number ∷ numbers) s = patched numbers (put_at (number / 262144) (big_
 -- The numbers' places lie within the bytes.
 abbrev pub Within : (row s : List ℕ) → Type 0
 Within row s = (k : ℕ) → k < length row → get_or row k 0 / 262144 + 2 ≤ length s
+
+-- They were put at their places.
+abbrev pub PatchedBy : (row before after : List ℕ) → Type 0
+PatchedBy row before after = after ≡ patched row before

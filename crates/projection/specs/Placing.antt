@@ -1,5 +1,5 @@
 -- Request 7 of document 02: places put into the numbers of child indexes. (Ours.)
-use Rattle.std.specs.Prelude.{ℕ, ◌+◌, ◌-◌, ◌/◌, ◌%◌, ◌≡◌, Bool, true, false, List, ◌++◌, map, take, drop, eqb, if◌then◌else◌}
+use Rattle.std.specs.Prelude.{ℕ, ◌+◌, ◌-◌, ◌/◌, ◌%◌, ◌≡◌, Bool, true, false, List, map, eqb, if◌then◌else◌}
 use Rattle.definitions.specs.Basics.{all}
 use Rattle.definitions.specs.Project.{place_in, is_place, or_zero}
 
@@ -16,9 +16,7 @@ unfoldable pub placed_number : (side : ℕ) → (items : List ℕ) → (number :
 placed_number side items number =
     if goes_by side number then number - number % 65536 + or_zero (place_in items (number % 65536)) else number
 
--- The list has every one of the first `count` numbers, and they were changed; or it lacks one.
-abbrev pub PlacedIs : (side : ℕ) (items : List ℕ) (count : ℕ) (before after : List ℕ) → Bool → Type 0
-PlacedIs side items count before after true =
-    (all (has_number side items) (take count before) ≡ true)
-    × (after ≡ take count (map (placed_number side items) before) ++ drop count before)
-PlacedIs side items count before after false = all (has_number side items) (take count before) ≡ false
+-- The list has every number, and they were changed; or it lacks one.
+abbrev pub PlacedIs : (side : ℕ) (items : List ℕ) (before after : List ℕ) → Bool → Type 0
+PlacedIs side items before after true = (all (has_number side items) before ≡ true) × (after ≡ map (placed_number side items) before)
+PlacedIs side items before after false = all (has_number side items) before ≡ false

@@ -19,7 +19,7 @@ fn first_place(items: &[u16], index: u16) -> Option<usize>
     items.iter().position(|item| *item == index)
 }
 
-// By a search of its chain.
+// By a search of its chain. Its links fall, but one by one they are no row to go over.
 fn chain_place(items: &[u16], chains: Chains, index: u16) -> Option<usize>
     requires { Chain items.now chains.heads.now chains.nexts.now index }
     ensures { (place : Option ℕ) → Walk items.now chains.entry.nexts.now index (link_of chains.entry.heads.now index) place

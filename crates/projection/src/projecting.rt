@@ -1,7 +1,6 @@
 // Child indexes replaced by their places: in a row of numbers, then in the plan.
-ghost use Rattle.std.specs.Prelude.{◌≡◌};
 ghost use Rattle.projection.specs.Extractions.{ExtractionFits};
-ghost use Rattle.projection.specs.Patches.{Within, patched};
+ghost use Rattle.projection.specs.Patches.{Within, PatchedBy};
 ghost use Rattle.projection.specs.Projected.{ListsFit, ProjectedIs};
 
 use super::plan_spots::collect_extraction;
@@ -24,10 +23,11 @@ pub fn project_spots(
     ensures { ProjectedIs src.now x left.now right.now row.new result }
 {
     let count = collect_extraction(row, src, x);
-    if !find_places(row, count, JoinSide::Left, left) {
+    let spots = &mut row[..count];
+    if !find_places(spots, JoinSide::Left, left) {
         return None;
     }
-    if !find_places(row, count, JoinSide::Right, right) {
+    if !find_places(spots, JoinSide::Right, right) {
         return None;
     }
     Some(count)
@@ -36,7 +36,7 @@ pub fn project_spots(
 // Puts the child index of each of the row's numbers at its place in the plan.
 pub fn put_indexes(plan: &mut [u8], row: &[u32])
     requires { Within row.now plan.old }
-    ensures { plan.new ≡ patched row.now plan.old }
+    ensures { PatchedBy row.now plan.old plan.new }
 {
     for number in row {
         let spot = *number as usize;

@@ -9,26 +9,20 @@ ghost use Rattle.projection.specs.Placing.{PlacedIs};
 use super::places::{Chains, fill_places, place_in};
 use terms::sides::JoinSide;
 
-// In each of the row's first numbers that is of the side; answers whether the list has them all. Where it lacks one, what the row then has
-// is of no use.
-fn put_places(
-    row: &mut [u32],
-    count: usize,
-    side: JoinSide,
-    items: &[u16],
-    chains: Option<Chains>,
-) -> bool
-    requires count_in_bounds { (count ≤ length row.old) × (length items.now ≤ most_items) }
+// In each of the row's numbers that is of the side; answers whether the list has them all. Where it lacks one, what the row then has is of
+// no use.
+fn put_places(row: &mut [u32], side: JoinSide, items: &[u16], chains: Option<Chains>) -> bool
+    requires items_bound { length items.now ≤ most_items }
     requires sought { Sought items.now chains }
-    ensures { PlacedIs (side_number (join_side side)) items.now count row.old row.new result }
+    ensures { PlacedIs (side_number (join_side side)) items.now row.old row.new result }
 {
     let wanted = u32::from(u8::from(side));
-    for k in 0..count {
-        let spot = row[k];
+    for number in row.iter_mut() {
+        let spot = *number;
         let child = spot % 65536;
         if spot / 65536 % 4 == wanted {
             match place_in(items, chains, child as u16) {
-                Some(place) => row[k] = spot - child + place as u32,
+                Some(place) => *number = spot - child + place as u32,
                 None => return false,
             }
         }
@@ -37,12 +31,12 @@ fn put_places(
 }
 
 // The same. Where few places are sought or the list is short, the list is searched for each; else its chains are filled first.
-pub fn find_places(row: &mut [u32], count: usize, side: JoinSide, items: &[u16]) -> bool
-    requires { (count ≤ length row.old) × (length items.now ≤ most_items) }
-    ensures { PlacedIs (side_number (join_side side)) items.now count row.old row.new result }
+pub fn find_places(row: &mut [u32], side: JoinSide, items: &[u16]) -> bool
+    requires { length items.now ≤ most_items }
+    ensures { PlacedIs (side_number (join_side side)) items.now row.old row.new result }
 {
-    if count <= 4 || items.len() <= 16 {
-        return put_places(row, count, side, items, None);
+    if row.len() <= 4 || items.len() <= 16 {
+        return put_places(row, side, items, None);
     }
     let mut heads = [0u16; 1024];
     let mut nexts = [0u16; 4096];
@@ -51,5 +45,5 @@ pub fn find_places(row: &mut [u32], count: usize, side: JoinSide, items: &[u16])
         heads: &heads,
         nexts: &nexts,
     };
-    put_places(row, count, side, items, Some(chains))
+    put_places(row, side, items, Some(chains))
 }

@@ -5,4 +5,4 @@ use Rattle.projection.proofs.spot_places.find_places.Goals as goal
 
 pub fill_places-requires : goal.fill_places-requires
 fill_places-requires c =
-    zeros-unfilled c.args.items.now 1024 4096 refl c.requires.1 c.requires.1
+    zeros-unfilled c.args.items.now 1024 4096 refl c.requires c.requires

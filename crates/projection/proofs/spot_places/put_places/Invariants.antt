@@ -2,6 +2,6 @@
 use Rattle.projection.proofs.PlacingLaws.{Placing}
 use Rattle.projection.proofs.spot_places.put_places.Given as goal
 
-abbrev pub invariant-loop-k : goal.invariant-loop-k
-invariant-loop-k l =
-    Placing l.wanted l.items l.count l.initial.row l.row l.k
+abbrev pub invariant-loop-number : goal.invariant-loop-number
+invariant-loop-number l =
+    Placing l.wanted l.items l.initial.row l.row l.number-index
