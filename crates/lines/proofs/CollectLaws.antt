@@ -156,8 +156,8 @@ at-feed {piece} {before} {after} {count} {at} s h c =
     stopped (at + 1) true s (ap first_line here) (ap has_feed here) refl
 
 pub at-end : {piece before after : List ℕ} {count at counted : ℕ} → Collecting piece before count at after counted → length piece ≤ at
-    → CollectedIs piece before count after (record { taken = at; count = counted; ended = false })
+    → CollectedIs piece before count after (record { taken = length piece; count = counted; ended = false })
 unfolding first_line has_feed
 at-end {piece} {before} {after} {count} {at} s h =
     let here : drop at piece ≡ [] = drop_of_length-le piece {i = at} h in
-    stopped at false s (ap first_line here) (ap has_feed here) (omega arith)
+    stopped (length piece) false s (ap first_line here) (ap has_feed here) (omega (arith, s.within))
