@@ -73,17 +73,6 @@ pub record Collecting (piece before : List ℕ) (count at : ℕ) (after : List �
   pub buffer : after ≡ sets before count (take at piece)
   pub kept : length after ≡ length before
 
-pub collect-none : (piece buffer : List ℕ) (count : ℕ) → Collecting piece buffer count 0 buffer count
-collect-none piece buffer count = record {
-  within = omega arith;
-  line = refl;
-  feed = refl;
-  joined = λ line b. rw append-nil b;
-  counts = refl;
-  buffer = refl;
-  kept = refl;
-}
-
 pub no-feed : (c : ℕ) (s : List ℕ) → (c ≡ 10 → ⊥) → (first_line (c ∷ s) ≡ c ∷ first_line s) × (has_feed (c ∷ s) ≡ has_feed s)
 unfolding first_line has_feed
 no-feed c s h = (simp (ne_eqb c 10 h), simp (ne_eqb c 10 h))
