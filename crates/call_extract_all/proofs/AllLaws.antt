@@ -4,7 +4,7 @@ use Prim.Native.Nat.{ℕ, ◌+◌, ◌*◌, ◌≤◌}
 use native.Mathlib.Omega.{arith}
 use mathlib.Core.Path.{◌≡◌, refl, sym, ap, ap₂, ◌∙◌, subst}
 use mathlib.Core.Bool.{Bool, true, false}
-use mathlib.Core.List.{List, [], ◌∷◌, ◌++◌, map, append_assoc}
+use mathlib.Core.List.{List, [], ◌∷◌, ◌++◌, map, append_assoc, append-nil}
 use mathlib.Core.Option
 use mathlib.Core.Option.{Option, none, some}
 use lib.ListN.{length, take, drop, length-append, length-map}
@@ -27,7 +27,7 @@ use Rattle.node_rows.proofs.NodeBytes.{nodes-by-bytes}
 use Rattle.expression.specs.Places.{Holds}
 use Rattle.expression.specs.Nodes.{Stands}
 use Rattle.writing.specs.Written.{Wrote}
-use Rattle.writing.proofs.Written.{behind, together, behind-length, together-length, then-wrote, from_start, copied-wrote}
+use Rattle.writing.proofs.Written.{taken, behind, together, behind-length, together-length, then-wrote, from_start, copied-wrote}
 use Rattle.frame_reader.specs.declared.frame_bodies.Frame.{Frame}
 use Rattle.frame_reader.proofs.Standing.{between-holds, expr-stands}
 use Rattle.plan_writer.specs.Tables.{Entries, Recorded, ChildTable}
@@ -128,8 +128,8 @@ module _ {s : List ℕ} {f : Frame} {F : tree.Frame} (g : GoodAt s f F) where
 
   -- ---- the last remainder
 
-  module _ {match : Matcher} {gone : List ℕ} {number rounds : ℕ} (told : Counted match gone number rounds F) where
-    left : Left s f.records f.columns f.root gone number (goes_of match F) F.records F.expr
+  module _ {match : Matcher} {gone : List ℕ} {rounds : ℕ} (told : Counted match gone rounds F) where
+    left : Left s f.records f.columns f.root gone (goes_of match F) F.records F.expr
     left = record {
       frame = prunable;
       counted = told.counted;
@@ -150,7 +150,7 @@ module _ {s : List ℕ} {f : Frame} {F : tree.Frame} (g : GoodAt s f F) where
         (refl, is ∙ ap (λ (l : List ℕ). l ++ drop (length s) before) (take_all (length s) s (omega arith)))
 
     pub last_fits : {row out : List ℕ} → (rounds ≡ 0 → ⊥) → length s ≤ length row → length (left_bytes match F) ≤ length out
-        → LastFits s f.records f.columns f.root gone number row out
+        → LastFits s f.records f.columns f.root gone row out
     last_fits n long room = record {
       goes = goes_of match F;
       records = F.records;
@@ -161,7 +161,7 @@ module _ {s : List ℕ} {f : Frame} {F : tree.Frame} (g : GoodAt s f F) where
     }
 
     pub last-put : (before after : List ℕ) (r : ℕ) → (rounds ≡ 0 → ⊥)
-        → LastPut s f.records f.columns f.root gone number before after r
+        → LastPut s f.records f.columns f.root gone before after r
         → (r ≡ length (left_bytes match F)) × Wrote (left_bytes match F) before after
     last-put before after r n put =
         subst (λ (x : List ℕ). (r ≡ length x) × Wrote x before after) (sym (some_left n)) (put (goes_of match F) F.records F.expr left)
@@ -215,12 +215,26 @@ module _ {s : List ℕ} {f : Frame} {F : tree.Frame} (g : GoodAt s f F) where
       others-there : Holds turned 0 others
       others-there = wrote-there others row turned (omega arith) alike (from_start others row is.other_wrote r.other is.other)
 
-      pub told-after : Counted match flagged r.position r.rounds F
-      told-after = record {
-        counted = omega (arith, is.counted, as-many);
-        matching = is.rounds;
-        flags = wrote-there (map match_flag (matched match F)) flags flagged (omega arith) kept is.flags;
-      }
+      abbrev leaf_flags : List ℕ
+      leaf_flags = map match_flag (matched match F)
+
+      -- The flags are those of the AND-leaves, and no others.
+      flags-are : take r.position flagged ≡ leaf_flags
+      flags-are =
+          ap (λ (k : ℕ). take k flagged) (omega (arith, is.counted, length-map (matched match F) match_flag))
+          ∙ taken (wrote-there leaf_flags flags flagged (omega arith) kept is.flags)
+
+      abbrev leaves_gone : List ℕ
+      leaves_gone = take r.position flagged
+
+      pub told-after : Counted match leaves_gone r.rounds F
+      told-after =
+          let all : Counted match leaf_flags r.rounds F = record {
+            counted = omega (arith, as-many, length-map (matched match F) match_flag);
+            matching = is.rounds;
+            flags = record { rest = []; bytes = sym (append-nil leaf_flags); within = omega arith };
+          } in
+          subst (λ (l : List ℕ). Counted match l r.rounds F) (sym flags-are) all
 
       module _ (room : length (all_bytes match F) ≤ length out) (big : length s ≤ length row) where
         pub copy-fits : (r.knn ≤ length middle) × (r.other ≤ length turned) × (r.other ≤ length (behind r.knn middle))
@@ -255,7 +269,7 @@ module _ {s : List ℕ} {f : Frame} {F : tree.Frame} (g : GoodAt s f F) where
             pub rest-starts : w ≤ length listing
             rest-starts = omega (arith, sizes, is.knn, is.other, listing-length)
 
-            pub left-fits : LeftFits s f flagged r.position r.rounds turned (behind w listing)
+            pub left-fits : LeftFits s f leaves_gone r.rounds turned (behind w listing)
             left-fits = record {
               match = match;
               frame = F;
@@ -265,7 +279,7 @@ module _ {s : List ℕ} {f : Frame} {F : tree.Frame} (g : GoodAt s f F) where
               room = omega (arith, sizes, is.knn, is.other, listing-length, behind-length w listing);
             }
 
-        module _ (end : List ℕ) (m : ℕ) (put : LeftPut s f flagged r.position r.rounds (behind w listing) end m) where
+        module _ (end : List ℕ) (m : ℕ) (put : LeftPut s f leaves_gone r.rounds (behind w listing) end m) where
           pub ends : w + m ≡ length (all_bytes match F)
           ends = omega (arith, sizes, is.knn, is.other, (put match F g told-after).0)
 

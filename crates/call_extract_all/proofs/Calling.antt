@@ -1,5 +1,5 @@
 -- What the call is, once the frame's answer, the buffer's length and what was written are known.
-use Rattle.std.specs.Prelude.{if◌then◌else◌}
+use Rattle.std.specs.Prelude.{if◌then◌else◌, Ok}
 use Prim.Native.Nat.{ℕ, ◌+◌, ◌/◌, ◌≤◌, ◌<◌, min}
 use native.Mathlib.Omega.{arith}
 use mathlib.Core.Path.{◌≡◌, sym, ap, ap₂, ◌∙◌}
@@ -24,14 +24,24 @@ use Rattle.expression.specs.Nodes.{OfTree}
 use Rattle.node_rows.specs.Rows.{Tabled}
 use Rattle.node_rows.proofs.OneTree.{of_tree}
 use Rattle.writing.proofs.Written.{copied-wrote, from_start}
-use Rattle.frame_reader.specs.Frames.{FrameAt}
+use Rattle.frame_reader.specs.Frames.{PhysicalIn}
 use Rattle.frame_reader.specs.declared.frame_bodies.Frame.{Frame}
 use Rattle.frame_reader.proofs.Standing.{expr-stands}
 use Rattle.remainder.proofs.LastLaws.{wrote-there}
-use Rattle.call_extract_all.specs.Conjuncts.{all_bytes, AllIs, AllFits, Memory}
+use Rattle.call_extract_all.specs.Conjuncts.{GoodAt, all_bytes, AllIs, AllFits, Memory}
 use Rattle.call_extract_all.specs.declared.conjuncts.Taken.{Taken}
 use Rattle.call_extract_all.proofs.AllLaws.{few-bytes, never-longer}
-use Rattle.call_extract_all.specs.AllAnswers.{GoodFrame, OwnMemory}
+
+-- s is a good frame, as frames are read.
+pub record GoodFrame (s : List ℕ) (f : Frame) : Type 0 where
+  pub frame : tree.Frame
+  pub at : GoodAt s f frame
+  pub is : frame_of s ≡ ok frame
+
+-- Memory for the conjuncts of a frame of these bytes: for writing them, and for holding them.
+pub record OwnMemory (s row gone own : List ℕ) : Type 0 where
+  pub memory : Memory s row gone
+  pub holds : min 16384 (length s) ≤ length own
 
 -- Settings that are not good get 24.
 pub all-unsettled : (S : Settings) (s before : List ℕ) → good_settings S ≡ false
@@ -131,11 +141,10 @@ clear-memory m n s long flags =
     record { memory = record { long = omega arith; flags = omega arith }; holds = omega arith }
 
 -- A frame that was read is good, and its nodes are in the rows.
-module _ (s : List ℕ) (bytes : AllBytes s) {f : Frame} {F : tree.Frame} (at : FrameAt s f (length s) F) (is : frame_of s ≡ ok F) where
-  pub good-frame : GoodFrame s f
-  good-frame = let back = frame_back s F bytes is in
-      record { frame = F; at = record { stands = at; bytes = back.0; good = back.1 }; is = is }
+module _ (s : List ℕ) (bytes : AllBytes s) {f : Frame} {numbers next : List ℕ} (h : PhysicalIn s (Ok f) (frame_of s) numbers next) where
+  pub good-read : GoodFrame s f
+  good-read = let back = frame_back s h.0 bytes h.2 in
+      record { frame = h.0; at = record { stands = h.1; bytes = back.0; good = back.1 }; is = h.2 }
 
-  pub in_rows : (numbers next : List ℕ) → Tabled numbers next f.root 0 F.expr
-      → OfTree s f.root (Tabled numbers next f.root 0)
-  in_rows numbers next tabled = of_tree (Tabled numbers next f.root 0) (expr-stands at.expr) tabled
+  pub rows-read : OfTree s f.root (Tabled numbers next f.root 0)
+  rows-read = of_tree (Tabled numbers next f.root 0) (expr-stands h.1.expr) h.3

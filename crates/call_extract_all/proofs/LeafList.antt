@@ -1,37 +1,33 @@
 -- What is listed of a single leaf.
 use Rattle.std.specs.Prelude.{if◌then◌else◌}
-use Prim.Native.Nat.{ℕ, ◌+◌, ◌≤◌, ◌<◌}
+use Prim.Native.Nat.{ℕ, ◌+◌, ◌<◌}
 use native.Mathlib.Omega.{arith}
 use mathlib.Core.Path.{◌≡◌, refl, sym, ap, ◌∙◌, subst}
 use mathlib.Core.Bool.{Bool, true, false, not, false≢true}
-use mathlib.Core.List.{List, [], ◌∷◌, ◌++◌, map, append-nil}
+use mathlib.Core.List.{List, [], ◌∷◌, map, append-nil}
 use mathlib.Core.Option.{Option, none, some}
 use lib.ListN.{length, set}
-use types.Run.{OneOf, miss}
-use denote.Enum.Declared.{tag_of}
-use Rattle.definitions.specs.Basics.{big_endian}
 use Rattle.definitions.specs.Expression.{Expr, Record, Predicate}
 use Rattle.definitions.specs.Leaves.{leaves}
-use Rattle.definitions.specs.Extract.{Pick, is_knn, Matcher}
+use Rattle.definitions.specs.Extract.{is_knn, Matcher}
 use Rattle.definitions.specs.ExtractAll.{positions_from, pick_bytes, picks_bytes, matching, is_other, match_count}
-use Rattle.writing.specs.Written.{Wrote, WroteAt}
-use Rattle.writing.specs.Writing.{Room, Puts}
+use Rattle.writing.specs.Written.{Wrote}
+use Rattle.writing.specs.Writing.{Room}
 use Rattle.writing.proofs.Written.{store}
 use Rattle.plan_writer.specs.Predicates.{predicate_bytes}
 use Rattle.sedona_query_planner.specs.Predicates.{on_children, PredicateAt}
 use Rattle.sedona_query_planner.specs.declared.spatial_predicate.SpatialPredicate.{SpatialPredicate}
 use Rattle.plan_writer.specs.Arguments.{table_change}
 use Rattle.plan_writer.proofs.ChildLaws.{by-children}
-use Rattle.plan_writer.specs.Tables.{ChildTable}
 use Rattle.leaf_matching.specs.Frames.{Over, Framed}
 use Rattle.leaf_matching.specs.Matches.{Lacks, Matches, MatchingIs}
-use Rattle.leaf_matching.specs.declared.matching.Matching.{Matching}
-use Rattle.leaf_matching.specs.declared.matching.Matching.TheVariants.{Matched, Unmatched, NotAsked}
-use Rattle.leaf_matching.specs.contracts.matching.Matching.{the_type}
+use Rattle.leaf_matching.specs.declared.matching.NoMatch.{NoMatch}
+use Rattle.leaf_matching.specs.declared.matching.NoMatch.TheVariants.{Unmatched, NotAsked}
+use Rattle.std.specs.Prelude.{Err}
 use Rattle.leaf_matching.proofs.Asked.{none-lacks}
 use Rattle.leaf_pick.specs.Picks as picks
 use Rattle.leaf_pick.specs.Picks.{matches}
-use Rattle.call_extract_all.specs.Listings.{listed, match_flag, Listable, ListFits, ListIs}
+use Rattle.call_extract_all.specs.Listings.{listed, Listable, ListFits, ListIs}
 use Rattle.call_extract_all.specs.declared.listing.Listed.{Listed}
 
 -- ---- the bytes of one match
@@ -111,11 +107,10 @@ module _ {position : ℕ} {knns others gone : List ℕ} (room : position < lengt
 
 -- ---- matching
 
-pub miss-lacks : (kind : Predicate → Bool) (s : List ℕ) (rec : ℕ) (records : List Record) (m : Option Predicate) (r : Matching)
-    → OneOf (1 ∷ 2 ∷ []) (tag_of the_type r) → MatchingIs kind s rec records m r → Lacks kind m
-miss-lacks kind s rec records m (Matched p) o h = absurd (miss (1 ∷ 2 ∷ []) 0 tt o)
-miss-lacks kind s rec records m Unmatched o h = none-lacks kind m h
-miss-lacks kind s rec records m NotAsked o h = h
+pub miss-lacks : (kind : Predicate → Bool) (s : List ℕ) (rec : ℕ) (records : List Record) (m : Option Predicate) (why : NoMatch)
+    → MatchingIs kind s rec records m (Err why) → Lacks kind m
+miss-lacks kind s rec records m Unmatched h = none-lacks kind m h
+miss-lacks kind s rec records m NotAsked h = h
 
 pub both-lack : (m : Option Predicate) → Lacks is_knn m → Lacks picks.is_other m → m ≡ none
 both-lack none h k = refl

@@ -1,14 +1,14 @@
 -- The matches of both sides of an And, one after the other.
 use Prim.Native.Nat.{ℕ, ◌+◌, ◌≤◌}
 use native.Mathlib.Omega.{arith}
-use mathlib.Core.Path.{◌≡◌, refl, sym, ap, ap₂, ◌∙◌, subst}
-use mathlib.Core.List.{List, [], ◌∷◌, ◌++◌, map, map-append}
+use mathlib.Core.Path.{◌≡◌, sym, ap, subst}
+use mathlib.Core.List.{List, ◌++◌, map-append}
 use mathlib.Core.Option.{Option}
-use lib.ListN.{length, length-append, length-map}
+use lib.ListN.{length, length-append}
 use Rattle.definitions.specs.Expression.{Expr, and, Record, Predicate}
 use Rattle.definitions.specs.Leaves.{leaves}
 use Rattle.definitions.specs.Extract.{is_knn, Matcher}
-use Rattle.definitions.specs.ExtractAll.{is_other, match_count}
+use Rattle.definitions.specs.ExtractAll.{is_other}
 use Rattle.theorems.proofs.AllParts.{bytes-append, count-append}
 use Rattle.writing.specs.Written.{Wrote, WroteAt}
 use Rattle.writing.proofs.Written.{behind, together, then-wrote, chain}

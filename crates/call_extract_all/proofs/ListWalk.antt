@@ -1,7 +1,7 @@
 -- What the calls of `list_matches` require, by the And that was found.
-use Prim.Native.Nat.{ℕ, ◌+◌, ◌-◌, ◌≤◌, ◌<◌}
+use Prim.Native.Nat.{ℕ, ◌+◌, ◌≤◌}
 use native.Mathlib.Omega.{arith}
-use mathlib.Core.Path.{◌≡◌, refl, sym, ap, ◌∙◌, subst, subst⁻¹}
+use mathlib.Core.Path.{◌≡◌, refl, ap, ◌∙◌}
 use mathlib.Core.Bool.{Bool}
 use mathlib.Core.List.{List, [], ◌∷◌, ◌++◌}
 use mathlib.Core.Option.{Option, none, some}
@@ -13,7 +13,7 @@ use Rattle.definitions.specs.Decode.{index_below}
 use Rattle.definitions.specs.Extract.{is_knn, Matcher}
 use Rattle.definitions.specs.ExtractAll.{is_other, match_count}
 use Rattle.theorems.proofs.AllParts.{bytes-append}
-use Rattle.expression.specs.Nodes.{head_bytes, Stands}
+use Rattle.expression.specs.Nodes.{head_bytes}
 use Rattle.expression.specs.Leaves.{Both}
 use Rattle.expression.proofs.Standing.{first-stands, rest-stands}
 use Rattle.writing.proofs.Written.{behind, behind-length}

@@ -26,8 +26,8 @@ pub record GoodAt (s : List ℕ) (f : Frame) (F : tree.Frame) : Type 0 where
 -- ---- the last remainder
 
 -- Its AND-leaves have these flags, of which so many are 1.
-pub record Counted (match : Matcher) (gone : List ℕ) (number rounds : ℕ) (F : tree.Frame) : Type 0 where
-  pub counted : length (leaves F.expr) ≡ number
+pub record Counted (match : Matcher) (gone : List ℕ) (rounds : ℕ) (F : tree.Frame) : Type 0 where
+  pub counted : length (leaves F.expr) ≡ length gone
   pub matching : rounds ≡ match_count (matches match F.records F.expr)
   pub flags : Holds gone 0 (map match_flag (matches match F.records F.expr))
 
@@ -35,17 +35,17 @@ abbrev pub left_bytes : Matcher → tree.Frame → List ℕ
 left_bytes match F = remainder_bytes (last_remainder match F)
 
 -- There is such a frame with a matcher, and room for what is left of it; it was written.
-pub record LeftFits (s : List ℕ) (f : Frame) (gone : List ℕ) (number rounds : ℕ) (row out : List ℕ) : Type 0 where
+pub record LeftFits (s : List ℕ) (f : Frame) (gone : List ℕ) (rounds : ℕ) (row out : List ℕ) : Type 0 where
   pub match : Matcher
   pub frame : tree.Frame
   pub at : GoodAt s f frame
-  pub told : Counted match gone number rounds frame
+  pub told : Counted match gone rounds frame
   pub long : length s ≤ length row
   pub room : length (left_bytes match frame) ≤ length out
 
-abbrev pub LeftPut : (s : List ℕ) (f : Frame) (gone : List ℕ) (number rounds : ℕ) (before after : List ℕ) → ℕ → Type 0
-LeftPut s f gone number rounds before after r =
-    (match : Matcher) (F : tree.Frame) → GoodAt s f F → Counted match gone number rounds F
+abbrev pub LeftPut : (s : List ℕ) (f : Frame) (gone : List ℕ) (rounds : ℕ) (before after : List ℕ) → ℕ → Type 0
+LeftPut s f gone rounds before after r =
+    (match : Matcher) (F : tree.Frame) → GoodAt s f F → Counted match gone rounds F
     → (r ≡ length (left_bytes match F)) × Wrote (left_bytes match F) before after
 
 -- ---- all of it

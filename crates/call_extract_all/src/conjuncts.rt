@@ -5,12 +5,23 @@ ghost use Rattle.expression.specs.Nodes.{OfTree};
 ghost use Rattle.node_rows.specs.Rows.{Tabled};
 ghost use Rattle.call_extract_all.specs.Conjuncts.{LeftFits, LeftPut, AllFits, AllPut};
 
-use super::listing::list_matches;
+use super::listing::{Below, Listing, list_matches};
 use frame_reader::frame_bodies::Frame;
+use leaf_matching::filter::Filter;
+use node_rows::rows::Rows;
 use plan_writer::column_tables::child_indexes;
 use remainder::last::put_last;
-use terms::settings::Settings;
+use remainder::record_keys::Records;
+use terms::checked::Checked;
 use writing::copies::copy_bytes;
+
+// A frame: its bytes, where its parts stand in them, and its nodes in rows.
+#[derive(Clone, Copy)]
+pub struct Given<'s, 'r> {
+    pub src: &'s [u8],
+    pub parts: Frame,
+    pub rows: Rows<'r>,
+}
 
 // How many leaves were taken, and how many bytes were written.
 #[derive(Clone, Copy)]
@@ -20,53 +31,61 @@ pub struct Taken {
 }
 
 // The last remainder: without a match the frame as it is, else what is left of it, pruned, or `00`; answers its length.
-fn put_left(
-    out: &mut [u8],
-    row: &mut [u8],
-    src: &[u8],
-    f: Frame,
-    numbers: &[u32],
-    next: &[u16],
-    gone: &[u8],
-    leaves: usize,
-    rounds: usize,
-) -> usize
-    requires left_fits { LeftFits src.now f gone.now leaves rounds row.old out.old }
-    requires of_tree { OfTree src.now f.root (Tabled numbers.now next.now f.root 0) }
-    ensures { LeftPut src.now f gone.now leaves rounds out.old out.new result }
+fn put_left(out: &mut [u8], row: &mut [u8], given: Given, gone: &[u8], rounds: usize) -> usize
+    requires left_fits { LeftFits given.src.now given.parts gone.now rounds row.old out.old }
+    requires of_tree { OfTree given.src.now given.parts.root
+        (Tabled given.rows.numbers.now given.rows.next.now given.parts.root 0) }
+    ensures { LeftPut given.entry.src.now given.entry.parts gone.now rounds out.old out.new result }
 {
-    let n = src.len();
+    let src = given.src;
     if rounds == 0 {
+        let n = src.len();
         copy_bytes(out, src, 0, n);
         return n;
     }
-    let count = f.columns as usize;
-    put_last(
-        out, row, src, f.records, count, f.root, numbers, next, gone, leaves,
-    )
+    let f = given.parts;
+    let records = Records {
+        src,
+        rec: f.records,
+        count: f.columns as usize,
+    };
+    put_last(out, row, records, f.root, given.rows, gone)
 }
 
-// Writes all indexable conjuncts of the frame in `src`. The lent row first holds the matches that are not KNN, then what stays.
+// Writes all indexable conjuncts of a frame. The lent row first holds the matches that are not KNN, then what stays.
 pub fn put_all(
     out: &mut [u8],
     row: &mut [u8],
     gone: &mut [u8],
-    src: &[u8],
-    f: Frame,
-    numbers: &[u32],
-    next: &[u16],
-    settings: Settings,
+    given: Given,
+    settings: Checked,
 ) -> Taken
-    requires all_fits { AllFits (settings_of settings) src.now f row.old gone.old out.old }
-    requires of_tree { OfTree src.now f.root (Tabled numbers.now next.now f.root 0) }
-    ensures { AllPut (match_under (settings_of settings)) src.now f out.old out.new result }
+    requires all_fits { AllFits (settings_of settings.settings) given.src.now given.parts row.old gone.old out.old }
+    requires of_tree { OfTree given.src.now given.parts.root
+        (Tabled given.rows.numbers.now given.rows.next.now given.parts.root 0) }
+    ensures { AllPut (match_under (settings_of settings.settings)) given.entry.src.now given.entry.parts out.old out.new result }
 {
+    let f = given.parts;
     let count = f.columns as usize;
     let mut to = [0u16; 256];
-    child_indexes(&mut to, src, f.records, count);
-    let listed = list_matches(
-        out, row, gone, src, f.records, count, f.root, numbers, next, 0, 0, &to, settings,
-    );
+    child_indexes(&mut to, given.src, f.records, count);
+    let filter = Filter {
+        s: given.src,
+        rec: f.records,
+        rows: given.rows,
+    };
+    let listing = Listing {
+        filter,
+        count,
+        to: &to,
+        settings: settings.settings,
+    };
+    let root = Below {
+        at: f.root,
+        index: 0,
+        position: 0,
+    };
+    let listed = list_matches(out, row, gone, listing, root);
     let k = listed.knn;
     let o = listed.other;
     copy_bytes(&mut out[k..], row, 0, o);
@@ -74,12 +93,8 @@ pub fn put_all(
     let rest = put_left(
         &mut out[w..],
         row,
-        src,
-        f,
-        numbers,
-        next,
-        gone,
-        listed.position,
+        given,
+        &gone[..listed.position],
         listed.rounds,
     );
     Taken {

@@ -9,12 +9,28 @@ ghost use Rattle.node_rows.specs.Rows.{Tabled};
 ghost use Rattle.call_extract_all.specs.Listings.{ListFits, ListPut};
 
 use expression::leaves::{Node, node_at};
-use leaf_matching::matching::Matching;
+use leaf_matching::filter::Filter;
 use leaf_pick::first_match::{Leaf, match_knn, match_other};
-use node_rows::numbers::end_of;
 use plan_writer::arguments::ColumnIndexes;
 use plan_writer::put_predicate::put_predicate;
 use terms::settings::Settings;
+
+// A frame's filter with the number of its records, their child indexes as a table, and the settings that it is listed under.
+#[derive(Clone, Copy)]
+pub struct Listing<'a> {
+    pub filter: Filter<'a>,
+    pub count: usize,
+    pub to: &'a [u16],
+    pub settings: Settings,
+}
+
+// A node that the walk comes to: where it stands, its index in the rows, and how many AND-leaves are before it.
+#[derive(Clone, Copy)]
+pub struct Below {
+    pub at: usize,
+    pub index: usize,
+    pub position: usize,
+}
 
 // How many AND-leaves there are up to the end of a node, how many bytes were written of KNN and of other matches, how many matches.
 #[derive(Clone, Copy)]
@@ -25,39 +41,28 @@ pub struct Listed {
     pub rounds: usize,
 }
 
-// A node that is no And, `position` AND-leaves being before it.
+// A node that is no And.
 fn list_leaf(
     knns: &mut [u8],
     others: &mut [u8],
     gone: &mut [u8],
-    src: &[u8],
-    rec: usize,
-    count: usize,
-    at: usize,
-    numbers: &[u32],
-    next: &[u16],
-    i: usize,
-    node: Node,
-    position: usize,
-    to: &[u16],
-    settings: Settings,
+    listing: Listing,
+    leaf: Leaf,
 ) -> Listed
-    requires list_fits { ListFits (match_under (settings_of settings)) src.now rec count at position to.now knns.old
-        others.old gone.old }
-    requires of_tree { OfTree src.now at (Tabled numbers.now next.now at i) }
-    requires of_tree_in { OfTreeIn src.now at (λ c t. NodeIs c src.now at node t) }
-    requires leaf_alone { OfTree src.now at (λ t. leaves t ≡ t ∷ []) }
-    ensures { ListPut (match_under (settings_of settings)) src.now rec count at position to.now knns.old knns.new
-        others.old others.new gone.old gone.new result }
+    requires list_fits { ListFits (match_under (settings_of listing.settings)) listing.filter.s.now listing.filter.rec listing.count
+        leaf.at leaf.position listing.to.now knns.old others.old gone.old }
+    requires of_tree { OfTree listing.filter.s.now leaf.at
+        (Tabled listing.filter.rows.numbers.now listing.filter.rows.next.now leaf.at leaf.index) }
+    requires of_tree_in { OfTreeIn listing.filter.s.now leaf.at (λ c t. NodeIs c listing.filter.s.now leaf.at leaf.node t) }
+    requires leaf_alone { OfTree listing.filter.s.now leaf.at (λ t. leaves t ≡ t ∷ []) }
+    ensures { ListPut (match_under (settings_of listing.entry.settings)) listing.entry.filter.s.now listing.entry.filter.rec
+        listing.entry.count leaf.at leaf.position listing.entry.to.now knns.old knns.new others.old others.new gone.old gone.new result }
 {
-    let leaf = Leaf {
-        at,
-        index: i,
-        position,
-        node,
-    };
-    if let Matching::Matched(predicate) = match_knn(src, rec, numbers, next, leaf, settings) {
-        let w = put_predicate(knns, src, predicate, position, ColumnIndexes::FromTable, to);
+    let src = listing.filter.s;
+    let indexes = ColumnIndexes::FromTable(listing.to);
+    let position = leaf.position;
+    if let Ok(predicate) = match_knn(listing.filter, leaf, listing.settings) {
+        let w = put_predicate(knns, src, predicate, position, indexes);
         gone[position] = 1;
         return Listed {
             position: position + 1,
@@ -66,15 +71,8 @@ fn list_leaf(
             rounds: 1,
         };
     }
-    if let Matching::Matched(predicate) = match_other(src, rec, numbers, next, leaf, settings) {
-        let w = put_predicate(
-            others,
-            src,
-            predicate,
-            position,
-            ColumnIndexes::FromTable,
-            to,
-        );
+    if let Ok(predicate) = match_other(listing.filter, leaf, listing.settings) {
+        let w = put_predicate(others, src, predicate, position, indexes);
         gone[position] = 1;
         return Listed {
             position: position + 1,
@@ -92,57 +90,47 @@ fn list_leaf(
     }
 }
 
-// All AND-leaves below a node, `position` AND-leaves being before it.
+// All AND-leaves below a node.
 pub fn list_matches(
     knns: &mut [u8],
     others: &mut [u8],
     gone: &mut [u8],
-    src: &[u8],
-    rec: usize,
-    count: usize,
-    at: usize,
-    numbers: &[u32],
-    next: &[u16],
-    i: usize,
-    position: usize,
-    to: &[u16],
-    settings: Settings,
+    listing: Listing,
+    from: Below,
 ) -> Listed
-    requires list_fits { ListFits (match_under (settings_of settings)) src.now rec count at position to.now knns.old
-        others.old gone.old }
-    requires of_tree { OfTree src.now at (Tabled numbers.now next.now at i) }
-    ensures { ListPut (match_under (settings_of settings)) src.now rec count at position to.now knns.old knns.new
-        others.old others.new gone.old gone.new result }
+    requires list_fits { ListFits (match_under (settings_of listing.settings)) listing.filter.s.now listing.filter.rec listing.count
+        from.at from.position listing.to.now knns.old others.old gone.old }
+    requires of_tree { OfTree listing.filter.s.now from.at
+        (Tabled listing.filter.rows.numbers.now listing.filter.rows.next.now from.at from.index) }
+    ensures { ListPut (match_under (settings_of listing.entry.settings)) listing.entry.filter.s.now listing.entry.filter.rec
+        listing.entry.count from.at from.position listing.entry.to.now knns.old knns.new others.old others.new gone.old gone.new result }
 {
-    let node = node_at(src, at);
+    let rows = listing.filter.rows;
+    let node = node_at(listing.filter.s, from.at);
     let Node::And(left) = node else {
-        return list_leaf(
-            knns, others, gone, src, rec, count, at, numbers, next, i, node, position, to, settings,
-        );
+        let leaf = Leaf {
+            at: from.at,
+            index: from.index,
+            position: from.position,
+            node,
+        };
+        return list_leaf(knns, others, gone, listing, leaf);
     };
-    let below = i + 1;
-    let one = list_matches(
-        knns, others, gone, src, rec, count, left, numbers, next, below, position, to, settings,
-    );
+    let below = from.index + 1;
+    let first = Below {
+        at: left,
+        index: below,
+        position: from.position,
+    };
+    let one = list_matches(knns, others, gone, listing, first);
     let k = one.knn;
     let o = one.other;
-    let place = end_of(numbers, below);
-    let index = next[below] as usize;
-    let two = list_matches(
-        &mut knns[k..],
-        &mut others[o..],
-        gone,
-        src,
-        rec,
-        count,
-        place,
-        numbers,
-        next,
-        index,
-        one.position,
-        to,
-        settings,
-    );
+    let second = Below {
+        at: rows.end(below),
+        index: rows.after(below),
+        position: one.position,
+    };
+    let two = list_matches(&mut knns[k..], &mut others[o..], gone, listing, second);
     Listed {
         position: two.position,
         knn: k + two.knn,

@@ -19,16 +19,19 @@ use Rattle.definitions.specs.Good.{AllBytes}
 use Rattle.definitions.specs.Project.{placed, project_extraction, projection, short_lists, projected_bytes, new_after_project, project}
 use Rattle.theorems.proofs.InversePlan.{plan-back}
 use Rattle.theorems.proofs.Lengths.{bytes-up-to}
-use Rattle.plan_reader.specs.Plans.{HeldIs}
+use Rattle.std.specs.Prelude.{Ok, Some}
+use Rattle.std.proofs.Common.{◌⊎◌, inl, inr}
+use Rattle.terms.specs.Refusals.{number_of}
+use Rattle.terms.specs.declared.refusals.Refusal.{Refusal}
+use Rattle.plan_reader.specs.Plans.{HeldIs, NotHeld, no_bytes, no_good}
 use Rattle.plan_reader.specs.declared.extraction_bodies.Extraction.{Extraction}
 use Rattle.plan_reader.specs.declared.extraction_bodies.Held.TheVariants as there
 use Rattle.join_filter.proofs.Keeping.{held-is, kept-over}
-use Rattle.join_filter.proofs.Refusing.{Call, refuses, finishing, outcome}
+use Rattle.join_filter.proofs.Refusing.{Call, refuses, finishing, outcome, no-plan, empty-plan}
 use Rattle.projection.proofs.FewSpots.{few-spots}
 use Rattle.projection.specs.Extractions.{ExtractionFits}
-use Rattle.projection.specs.Patches.{PatchedBy}
+use Rattle.projection.specs.Patches.{patched}
 use Rattle.projection.specs.Projected.{ListsFit, PlacesAre}
-use Rattle.projection.specs.declared.projecting.Projected.TheVariants.{Indexes}
 use Rattle.projection.proofs.ProjectedBytes.{lists_of, new_bytes, size, new-size, makes}
 use Rattle.call_project.specs.Holding.{HoldsExtraction, Ready}
 
@@ -63,14 +66,12 @@ module _ (n : ℕ) (before scratch of_left of_right : List ℕ) where
     unfolding finish
     too_long e = by_tests false (leb n (length scratch)) e refl
 
-    pub left-long : most_items < length of_left → project n before scratch of_left of_right ≡ refuses n before scratch 19
-    unfolding short_lists
-    left-long long = too_long (rw (lt-leb (length of_left) most_items long) refl)
-
-    pub right-long : length of_left ≤ most_items → most_items < length of_right
+    pub list-long : (most_items < length of_left) ⊎ (length of_left ≤ most_items × most_items < length of_right)
         → project n before scratch of_left of_right ≡ refuses n before scratch 19
     unfolding short_lists
-    right-long short long = too_long (rw (le-leb (length of_left) most_items short, lt-leb (length of_right) most_items long) refl)
+    list-long (inl long) = too_long (rw (lt-leb (length of_left) most_items long) refl)
+    list-long (inr long) =
+        too_long (rw (le-leb (length of_left) most_items long.0, lt-leb (length of_right) most_items long.1) refl)
 
     -- Neither list is too long.
     module _ (fit : ListsFit of_left of_right) where
@@ -97,8 +98,8 @@ module _ (n : ℕ) (before scratch of_left of_right : List ℕ) where
         unfolding finish projected_bytes
         none-such e = found false e
 
-        pub projected : (row : List ℕ) (count : ℕ) → PlacesAre (lists_of of_left of_right) h.X row (Indexes count)
-            → (after kept : List ℕ) → PatchedBy row count before after → kept ≡ take n (drop 0 before) ++ drop n scratch
+        pub projected : (row : List ℕ) (count : ℕ) → PlacesAre (lists_of of_left of_right) h.X row (Some count)
+            → (after kept : List ℕ) → after ≡ patched (take count row) before → kept ≡ take n (drop 0 before) ++ drop n scratch
             → project n before scratch of_left of_right ≡ record { answer = ok n; n = n; buffer = after; scratch = kept }
         unfolding finish projected_bytes written_over
         projected row count are after kept patches copied =
@@ -112,23 +113,29 @@ module _ (n : ℕ) (before scratch of_left of_right : List ℕ) where
             ∙ ap (λ (s : List ℕ). record { answer = ok n; n = n; buffer = after; scratch = s })
             (kept-over n before h.fits scratch kept copied)
 
+-- Where neither a frame nor an extraction is held.
+pub not-held : (n : ℕ) (before scratch of_left of_right : List ℕ) → n ≤ length before → {why : Refusal} → NotHeld (plan_of (take n before)) why
+    → project n before scratch of_left of_right ≡ refuses n before scratch (number_of why)
+not-held n before scratch of_left of_right fits (no_bytes e) = empty-plan (project-call of_left of_right) n before scratch fits e
+not-held n before scratch of_left of_right fits (no_good number e) = no-plan (project-call of_left of_right) n before scratch fits number e
+
 -- ---- what the calls require
 
 -- An extraction that was read is held.
 pub holds_of : (n : ℕ) (before : List ℕ) (x : Extraction) → n ≤ length before → AllBytes before
-    → HeldIs (take n before) (there.Extraction x) (plan_of (take n before)) → HoldsExtraction n before x
+    → HeldIs (take n before) (Ok (there.Extraction x)) (plan_of (take n before)) → HoldsExtraction n before x
 holds_of n before x fits bytes good =
     let back = plan-back (take n before) (extracted good.0) (bytes-up-to n before bytes) good.2 in
     record { X = good.0; fits = fits; there = record { bytes = back.0; good = back.1; read = good.1 }; is = good.2 }
 
-pub extraction-fits : {n : ℕ} {plan scratch of_left of_right row : List ℕ} {x : Extraction} → Ready n plan scratch x of_left of_right row
-    → ExtractionFits (take n plan) x row
-extraction-fits {n} {plan} r =
+pub extraction-fits : {n : ℕ} {plan scratch of_left of_right : List ℕ} {places : ℕ} {x : Extraction}
+    → Ready n plan scratch x of_left of_right places → (row : List ℕ) → length row ≡ places → ExtractionFits (take n plan) x row
+extraction-fits {n} {plan} r row long =
     let h = r.holds in
     record {
       X = h.X;
       there = h.there;
-      room = omega (arith, few-spots h.X, size n plan h.fits h.there, r.room);
+      room = omega (arith, few-spots h.X, size n plan h.fits h.there, r.room, long);
     }
 
 -- A held extraction is within the limit.

@@ -14,9 +14,10 @@ pub record HoldsExtraction (n : ℕ) (plan : List ℕ) (x : Extraction) : Type 0
   pub there : ExtractionThere (take n plan) x X
   pub is : plan_of (take n plan) ≡ ok (tree.extracted X)
 
--- Lists and scratch will do, and the row has an entry for each five bytes.
-pub record Ready (n : ℕ) (plan scratch : List ℕ) (x : Extraction) (of_left of_right row : List ℕ) : Type 0 where
+-- Lists and scratch will do, and a row of so many places has one for each five bytes; no plan needs more than 3,277.
+pub record Ready (n : ℕ) (plan scratch : List ℕ) (x : Extraction) (of_left of_right : List ℕ) (places : ℕ) : Type 0 where
   pub holds : HoldsExtraction n plan x
   pub lists : ListsFit of_left of_right
   pub scratched : n ≤ length scratch
-  pub room : n ≤ 5 * length row
+  pub room : n ≤ 5 * places
+  pub few : places ≤ 3277

@@ -5,30 +5,29 @@ ghost use Rattle.call_project.specs.Holding.{Ready};
 
 use join_filter::answers::Answer;
 use plan_reader::extraction_bodies::Extraction;
-use projection::projecting::{Projected, project_spots, put_indexes};
+use projection::projecting::{project_spots, put_indexes};
 use terms::refusals::Refusal;
 use writing::copies::copy_bytes;
 
-// With a row for the child indexes: where the lists have them all, the old plan is copied to the scratch, and only then is it changed.
-pub fn project_by(
+// With a row of N child indexes on the stack, of which the extraction has no more: where the lists have them all, the old plan is copied
+// to the scratch, and only then is it changed.
+pub fn project_by<const N: usize>(
     plan: &mut [u8],
     n: usize,
     scratch: &mut [u8],
     x: Extraction,
     left: &[u16],
     right: &[u16],
-    row: &mut [u32],
 ) -> Answer
-    requires { Ready n plan.old scratch.old x left.now right.now row.old }
+    requires { Ready n plan.old scratch.old x left.now right.now N }
     ensures { OutcomeIs (definitions.project n plan.old scratch.old left.now right.now) n
         plan.new scratch.new result }
 {
-    match project_spots(row, &plan[..n], x, left, right) {
-        Projected::Missing => Answer::Refused(Refusal::NoSuchChild),
-        Projected::Indexes(count) => {
-            copy_bytes(scratch, plan, 0, n);
-            put_indexes(plan, row, count);
-            Answer::Length(n)
-        }
-    }
+    let mut row = [0u32; N];
+    let Some(count) = project_spots(&mut row, &plan[..n], x, left, right) else {
+        return Err(Refusal::NoSuchChild);
+    };
+    copy_bytes(scratch, plan, 0, n);
+    put_indexes(plan, &row[..count]);
+    Ok(n)
 }

@@ -22,22 +22,18 @@ fn project_held(
     ensures { OutcomeIs (definitions.project n plan.old scratch.old left.now right.now) n
         plan.new scratch.new result }
 {
-    if 4096 < left.len() {
-        return Answer::Refused(Refusal::ListTooLong);
-    }
-    if 4096 < right.len() {
-        return Answer::Refused(Refusal::ListTooLong);
+    if 4096 < left.len() || 4096 < right.len() {
+        return Err(Refusal::ListTooLong);
     }
     if scratch.len() < n {
-        return Answer::Refused(Refusal::BufferTooShort);
+        return Err(Refusal::BufferTooShort);
     }
     // A child index comes with five bytes, so a short plan needs no long row cleared.
     if n <= 320 {
-        let mut few = [0u32; 64];
-        return project_by(plan, n, scratch, x, left, right, &mut few);
+        project_by::<64>(plan, n, scratch, x, left, right)
+    } else {
+        project_by::<3277>(plan, n, scratch, x, left, right)
     }
-    let mut row = [0u32; 3277];
-    project_by(plan, n, scratch, x, left, right, &mut row)
 }
 
 pub fn project(plan: &mut [u8], n: usize, scratch: &mut [u8], left: &[u16], right: &[u16]) -> Answer
@@ -45,12 +41,10 @@ pub fn project(plan: &mut [u8], n: usize, scratch: &mut [u8], left: &[u16], righ
         plan.new scratch.new result }
 {
     if plan.len() < n {
-        return Answer::Refused(Refusal::NoGoodPlan);
+        return Err(Refusal::NoGoodPlan);
     }
-    match held_plan(&plan[..n]) {
-        Held::Bad => Answer::Refused(Refusal::NoGoodPlan),
-        Held::Empty => Answer::Refused(Refusal::PlanEmpty),
-        Held::Frame(_) => Answer::Refused(Refusal::NotExtracted),
+    match held_plan(&plan[..n])? {
+        Held::Frame(_) => Err(Refusal::NotExtracted),
         Held::Extraction(x) => project_held(plan, n, scratch, x, left, right),
     }
 }

@@ -54,11 +54,8 @@ pub fn extract_literal_bool(s: &[u8], at: usize) -> Option<bool>
     requires { Tree s.now at }
     ensures { OfTree s.now at (λ t. flag_is result ≡ literal_bool t) }
 {
-    if s[at] != 1 {
+    if s[at] != 1 || s[at + 1] != 1 {
         return None;
     }
-    match s[at + 1] {
-        1 => Some(long_at(s, at + 2) == 1),
-        _ => None,
-    }
+    Some(long_at(s, at + 2) == 1)
 }

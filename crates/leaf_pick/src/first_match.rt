@@ -58,7 +58,8 @@ pub struct Stop {
     pub parent: usize,
 }
 
-// An AND-leaf: where it stands, its index in the rows, its position among the AND-leaves, and what it is.
+// An AND-leaf: where it stands, its index in the rows, its position among the AND-leaves, and what it is. That it is there is a
+// `requires` of each function: a ghost field of that was refused, since the fact holds a frame and so has more than one proof.
 #[derive(Clone, Copy)]
 pub struct Leaf {
     pub at: usize,

@@ -43,17 +43,15 @@ pub fn reproject_column_references(out: &mut [u8], src: &[u8], at: usize, to: &[
         };
     }
     let head = head_at(src, at);
-    let next = head.next;
-    let n = head.children;
-    let w = next - at;
+    let w = head.next - at;
     copy_bytes(out, src, at, w);
-    if n == 0 {
+    if head.children == 0 {
         return Copied {
-            read: next,
+            read: head.next,
             wrote: w,
         };
     }
-    let rest = reproject_children(&mut out[w..], src, next, n, to);
+    let rest = reproject_children(&mut out[w..], src, head.next, head.children, to);
     Copied {
         read: rest.read,
         wrote: w + rest.wrote,

@@ -1,4 +1,5 @@
-// The tables that give each column its new index: its index in its child, or its own raised by a count.
+// The tables that give each column its new index: its index in its child, or its own raised by a count. Each entry is one expression, so
+// that a function over both, which would take a closure, would be no shorter.
 ghost use Rattle.std.specs.Prelude.{◌+◌, ◌≤◌, ◌≡◌, length, drop};
 ghost use Rattle.plan_writer.specs.Tables.{Recorded, ChildTable, RaisedTable};
 

@@ -29,9 +29,8 @@ pub fn put_name(out: &mut [u8], w: usize, name: &[u8]) -> usize
     requires { Fits w (name_text name.now) out.old }
     ensures { WroteAt w (name_text name.now) out.old out.new result }
 {
-    let n = name.len();
-    let v = put_marked(out, w, b'f', n, b':');
-    let end = copy_at(out, v, name, 0, n);
+    let v = put_marked(out, w, b'f', name.len(), b':');
+    let end = copy_at(out, v, name, 0, name.len());
     out[end] = b'[';
     end + 1
 }

@@ -13,10 +13,10 @@ pub fn text_size(src: &[u8], at: usize) -> usize
 {
     let mut next = at;
     let mut size = 0;
+    // A step is as long as the node's head says.
     while next < src.len() {
         let head = head_at(src, next);
-        let children = head.children;
-        size += own_size(src, next, children);
+        size += own_size(src, next, head.children);
         next = head.next;
     }
     size

@@ -22,13 +22,12 @@ pub fn print_node(out: &mut [u8], w: usize, src: &[u8], at: usize) -> Printed
 {
     let first = put_opening(out, w, src, at);
     let head = head_at(src, at);
-    let next = head.next;
-    let n = head.children;
-    let row = print_children(out, first, src, at, next, n);
-    let read = row.read;
-    let last = row.wrote;
-    let wrote = put_closing(out, last, src, at);
-    Printed { read, wrote }
+    let row = print_children(out, first, src, at, head.next, head.children);
+    let wrote = put_closing(out, row.wrote, src, at);
+    Printed {
+        read: row.read,
+        wrote,
+    }
 }
 
 // The same of n expressions in a row, the children of the node at `parent`, with what stands before each of them.

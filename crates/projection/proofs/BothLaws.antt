@@ -11,7 +11,7 @@ use Rattle.definitions.specs.Decode.{index_below}
 use Rattle.expression.specs.Nodes.{Stands}
 use Rattle.projection.specs.Spots.{Spot, column_spots}
 use Rattle.projection.specs.Rows.{ColumnsFit, Collected, ColumnsCollected}
-use Rattle.projection.specs.declared.spots.Passed.{Passed}
+use Rattle.node_rows.specs.declared.collecting.Passed.{Passed}
 use Rattle.projection.proofs.SpotWalk.{index-after, collected-both}
 use Rattle.projection.specs.PlanSpots.{both_spots}
 use Rattle.projection.specs.Arguments.{BothFit, BothCollected}

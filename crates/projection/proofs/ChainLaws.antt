@@ -48,10 +48,6 @@ pub record Searching (items nexts : List ℕ) (item start link : ℕ) : Type 0 w
   pub walk : Walk items nexts item link place
   pub same : (place : Option ℕ) → Walk items nexts item start place → Walk items nexts item link place
 
-module _ {items heads nexts : List ℕ} {item : ℕ} where
-  pub search-begins : Chain items heads nexts item → Searching items nexts item (link_of heads item) (link_of heads item)
-  search-begins c = record { room = c.room; place = c.place; walk = c.walk; same = λ place walk. walk }
-
 module _ {items nexts : List ℕ} {item start link : ℕ} (inv : Searching items nexts item start link) where
   search-step : 0 < link → Step items nexts item (link - 1) inv.place
   search-step more = step inv.walk (link - 1) (omega arith)
@@ -64,9 +60,6 @@ module _ {items nexts : List ℕ} {item start link : ℕ} (inv : Searching items
   search-found more same place walk = sym ((step (inv.same place walk) (link - 1) (omega arith)).found same)
 
   module _ (more : 0 < link) (other : get_or items (link - 1) 0 ≡ item → ⊥) where
-    pub search-falls : get_or nexts (link - 1) 0 < link
-    search-falls = omega (arith, (search-step more).falls other)
-
     pub search-goes-on : Searching items nexts item start (get_or nexts (link - 1) 0)
     search-goes-on = record {
       room = inv.room;

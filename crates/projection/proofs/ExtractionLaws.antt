@@ -16,13 +16,13 @@ use Rattle.expression.proofs.Placed.{fits, front, back, next}
 use Rattle.frame_reader.specs.declared.frame_bodies.Frame.{Frame}
 use Rattle.plan_reader.specs.Plans.{RemainderAt}
 use Rattle.plan_reader.specs.declared.extraction_bodies.Extraction.{Extraction}
-use Rattle.plan_reader.specs.declared.extraction_bodies.Remainder.TheVariants as remainder
+use Rattle.std.specs.Prelude.{Some}
 use Rattle.writing.specs.Written.{WroteAt}
 use Rattle.writing.proofs.Written.{chain}
 use Rattle.plan_writer.specs.Tables.{Entries}
 use Rattle.projection.specs.Spots.{Spot, spot_number, record_spots}
 use Rattle.projection.specs.Rows.{Collected, RecordsFit, RecordsCollected}
-use Rattle.projection.specs.declared.spots.Passed.{Passed}
+use Rattle.node_rows.specs.declared.collecting.Passed.{Passed}
 use Rattle.projection.proofs.SpotWalk.{index-after}
 use Rattle.projection.proofs.SpotLaws.{record-spots}
 use Rattle.projection.specs.PlanSpots.{predicate_spots, remainder_spots, extraction_spots}
@@ -54,7 +54,7 @@ module _ {s : List ℕ} {x : Extraction} {X : tree.Extraction} (t : ExtractionTh
   short = omega (arith, ap length t.bytes, t.good.few_bytes)
 
   -- The records of a frame that was read.
-  module _ (f : Frame) (read : RemainderAt s (remainder.Frame f) (length s) X.remainder) where
+  module _ (f : Frame) (read : RemainderAt s (Some f) (length s) X.remainder) where
     pub frame-entries : (rec : ℕ) → rec ≡ 3 + length (predicate_fields X.predicate) + 3
         → Entries s rec f.columns read.0.records
     unfolding remainder_bytes frame_bytes big_endian
@@ -80,7 +80,7 @@ module _ {s : List ℕ} {x : Extraction} {row : List ℕ} (f : ExtractionFits s 
     room = omega (arith, simp length-append at f.room);
   }
 
-  pub records-fit : (g : Frame) → RemainderAt s (remainder.Frame g) (length s) f.X.remainder → (middle : List ℕ)
+  pub records-fit : (g : Frame) → RemainderAt s (Some g) (length s) f.X.remainder → (middle : List ℕ)
       → length middle ≡ length row → (p : Passed) → ArgumentsCollected s x.predicate row middle p
       → RecordsFit s (p.end + 3) g.columns p.index middle
   unfolding extraction_spots remainder_spots
@@ -115,7 +115,7 @@ module _ {s : List ℕ} {x : Extraction} (before middle : List ℕ) (p : Passed)
       ++ remainder_spots (3 + length (predicate_fields X.predicate)) R) e ∙ append-nil (predicate_spots X.predicate)))
       first.put
 
-  pub collected-records : (g : Frame) → RemainderAt s (remainder.Frame g) (length s) X.remainder → (after : List ℕ) (r : ℕ)
+  pub collected-records : (g : Frame) → RemainderAt s (Some g) (length s) X.remainder → (after : List ℕ) (r : ℕ)
       → RecordsCollected s (p.end + 3) g.columns p.index middle after r
       → WroteAt 0 (map spot_number (extraction_spots X)) before after r
   unfolding extraction_spots remainder_spots

@@ -7,21 +7,59 @@ use mathlib.Core.Path.{◌≡◌, refl, sym, ap, ◌∙◌, subst}
 use mathlib.Core.Bool.{Bool, true, false}
 use mathlib.Core.List.{List, [], ◌∷◌, ◌++◌}
 use mathlib.Core.Option.{Option, none, some, map}
-use lib.ListN.{length, take, drop, get_or, take-append-drop}
+use lib.ListN.{length, take, get_or}
 use lib.Seq.{take-suc, length-take-le}
-use lib.Dec.{eqb}
-use borrow.Author.Tests.{eq-eqb, ne_eqb}
+use lib.Dec.{eqb, ltb}
+use borrow.Author.Tests.{eq-eqb, ne_eqb, lt-ltb, le-ltb, ltb-true, ltb-false}
 use Rattle.definitions.specs.Project.{place_in}
+use Rattle.std.specs.Prelude as optional
+use Rattle.std.specs.Prelude.{cond, ◌==◌, position, is_some, Some, None}
+use Rattle.std.specs.List.{position_or_len}
+use Rattle.projection.specs.Chains.{place_of}
 
 -- The first of two that there is.
 abbrev either : (first second : Option ℕ) → Option ℕ
 either (some place) second = some place
 either none second = second
 
--- Among no items there is none.
-pub place-nothing : (items : List ℕ) (item : ℕ) → place_in (take 0 items) item ≡ none
+-- ---- a search of the list
+
+one_further : (b c : Bool) (m : ℕ) (p : Option ℕ) → b ≡ c → place_of (cond b (Some m) None) ≡ p
+    → place_of (cond c (Some (1 + m)) None) ≡ map suc p
+one_further true true m p e f = let next : 1 + m ≡ suc m = omega arith in rw next (ap (map suc) f)
+one_further false false m p e f = ap (map suc) f
+one_further true false m p e f = absurd (let z : ◌≡◌ {A = ℕ} 0 1 = cc in omega arith)
+one_further false true m p e f = absurd (let z : ◌≡◌ {A = ℕ} 0 1 = cc in omega arith)
+
+below-one-more : (m n : ℕ) → ltb m n ≡ ltb (1 + m) (suc n)
+below-one-more m n = told (ltb m n) refl
+  where
+    told : (t : Bool) → ltb m n ≡ t → ltb m n ≡ ltb (1 + m) (suc n)
+    told true e = e ∙ sym (lt-ltb (1 + m) (suc n) (omega (arith, ltb-true m n e)))
+    told false e = e ∙ sym (le-ltb (1 + m) (suc n) (omega (arith, ltb-false m n e)))
+
+pub position-is : (items : List ℕ) (index : ℕ) → place_of (position (λ item. item == index) items) ≡ place_in items index
 unfolding place_in
-place-nothing items item = refl
+position-is [] index = refl
+position-is (item ∷ items) index = by_test (position-is items index) (eqb item index) refl
+  where
+    by_test : place_of (position (λ other. other == index) items) ≡ place_in items index → (t : Bool) → eqb item index ≡ t
+        → place_of (position (λ other. other == index) (item ∷ items)) ≡ (if eqb item index then some 0 else map suc (place_in items index))
+    by_test rest true e = rw (e, lt-ltb 0 (suc (length items)) (omega arith)) refl
+    by_test rest false e =
+        let m : ℕ = position_or_len (λ other. other == index) items in
+        rw e
+        (one_further (ltb m (length items)) (ltb (1 + m) (suc (length items))) m (place_in items index)
+        (below-one-more m (length items)) rest)
+
+-- An answer that is none, and one that is not.
+pub is-missing : (answer : optional.Option ℕ) {p : Option ℕ} → place_of answer ≡ p → is_some answer ≡ false → none ≡ p
+is-missing None e f = e
+is-missing (Some place) e f = absurd (let z : ◌≡◌ {A = ℕ} 0 1 = cc in omega arith)
+
+pub is-there : (answer : optional.Option ℕ) {p : Option ℕ} → place_of answer ≡ p → is_some answer ≡ true → (place : ℕ) × (some place ≡ p)
+is-there (Some place) e f = (place, e)
+is-there None e f = absurd (let z : ◌≡◌ {A = ℕ} 0 1 = cc in omega arith)
 
 -- ---- one item more
 
@@ -84,14 +122,6 @@ kept : (x y : List ℕ) (item : ℕ) → Kept (place_in x item) (place_in (x ++ 
 unfolding place_in
 kept [] y item = tt
 kept (b ∷ x) y item = kept_by (eqb b item) (place_in x item) (place_in (x ++ y) item) (kept x y item)
-
-pub place_found : (items : List ℕ) (k item : ℕ) → k < length items → place_in (take k items) item ≡ none → get_or items k 0 ≡ item
-    → place_in items item ≡ some k
-place_found items k item inside e same =
-    let x : List ℕ = take (k + 1) items in
-    let y : List ℕ = drop (k + 1) items in
-    ap (λ (l : List ℕ). place_in l item) (sym (take-append-drop (k + 1) items))
-    ∙ subst (λ (p : Option ℕ). Kept p (place_in (x ++ y) item)) (place-new items k item inside e same) (kept x y item)
 
 -- ---- a place is one of the list
 

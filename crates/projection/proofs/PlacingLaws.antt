@@ -6,7 +6,7 @@ use mathlib.Core.Path.{◌≡◌, refl, sym, ap, ◌∙◌, subst}
 use mathlib.Core.Bool.{Bool, true, false, ◌&&◌}
 use mathlib.Core.List.{List, [], ◌∷◌, ◌++◌, map}
 use mathlib.Core.Option.{none, some}
-use lib.ListN.{length, take, drop, get_or, set, length-append, length-map, length-drop}
+use lib.ListN.{length, take, drop, get_or, set, length-map}
 use lib.Seq.{get_or-take, length-take-le, drop-cons, get_or_at, set-get_or}
 use borrow.Author.Tests.{eq-eqb, ne_eqb}
 use borrow.Author.Count.{below_more}
@@ -67,19 +67,9 @@ pub record Placing (side : ℕ) (items : List ℕ) (count : ℕ) (before row : L
   pub has : (j : ℕ) → j < k → has_number side items (get_or before j 0) ≡ true
   pub is : row ≡ take k (map (placed_number side items) before) ++ drop k before
 
-pub placing-begins : {side : ℕ} {items : List ℕ} {count : ℕ} {before : List ℕ} → count ≤ length before
-    → Placing side items count before before 0
-placing-begins room = record { below = omega arith; room = room; has = λ j b. absurd (not-suc-le-zero b); is = refl }
-
 module _ {side : ℕ} {items : List ℕ} {count : ℕ} {before row : List ℕ} {k : ℕ} (inv : Placing side items count before row k) where
   abbrev f : ℕ → ℕ
   f = placed_number side items
-
-  pub placing-length : length row ≡ length before
-  placing-length =
-      ap length inv.is
-      ∙ simp (length-append, length-drop)
-      (omega (arith, length-take-le k (map f before) (omega (arith, length-map before f, inv.below, inv.room)), inv.below, inv.room))
 
   module _ (more : k < count) where
     -- The number at hand is as it was.

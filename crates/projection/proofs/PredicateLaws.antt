@@ -22,7 +22,7 @@ use Rattle.sedona_query_planner.specs.declared.spatial_predicate.SpatialPredicat
 use Rattle.sedona_query_planner.specs.declared.spatial_predicate.SpatialPredicate.TheVariants.{Distance, Relation, KNearestNeighbors}
 use Rattle.projection.specs.Spots.{Spot, column_spots}
 use Rattle.projection.specs.Rows.{ColumnsFit, Collected, ColumnsCollected}
-use Rattle.projection.specs.declared.spots.Passed.{Passed}
+use Rattle.node_rows.specs.declared.collecting.Passed.{Passed}
 use Rattle.projection.proofs.SpotWalk.{index-after, collected-both}
 use Rattle.projection.specs.PlanSpots.{both_spots, predicate_spots}
 use Rattle.projection.specs.Arguments.{BothThere, BothFit, BothCollected, PredicateThere, ArgumentsFit}

@@ -5,7 +5,7 @@ use native.Mathlib.Nat.{not-suc-le-zero}
 use mathlib.Core.Path.{◌≡◌, refl, sym, ap, ◌∙◌, subst}
 use mathlib.Core.List.{List, [], ◌++◌, map}
 use lib.ListN.{length, take, drop, get_or, length-map, take-append-drop}
-use lib.Seq.{get_or-take, length-take-le}
+use lib.Seq.{length-take-le}
 use Rattle.definitions.specs.Expression as tree
 use Rattle.definitions.specs.Encode.{plan_bytes}
 use Rattle.definitions.specs.Project.{Lists, project_extraction}
@@ -15,7 +15,7 @@ use Rattle.projection.specs.PlanSpots.{extraction_spots}
 use Rattle.projection.specs.Extractions.{ExtractionThere}
 use Rattle.projection.specs.Patches.{patched, Within}
 use Rattle.projection.specs.Projected.{ListsFit, moved, PlacesAre}
-use Rattle.projection.specs.declared.projecting.Projected.TheVariants.{Indexes}
+use Rattle.std.specs.Prelude.{Some}
 use Rattle.projection.proofs.SoundSpots.{AllSound, nothing, also, extraction-sound, number-place}
 use Rattle.projection.proofs.PlacedSpots.{moved-sound}
 use Rattle.projection.proofs.PatchLaws.{patched_by, numbers-patch}
@@ -44,7 +44,7 @@ module _ (n : ℕ) (plan : List ℕ) {x : Extraction} {X : tree.Extraction} (fit
   size = ap length (sym t.bytes) ∙ length-take-le n plan fits
 
   module _ {of_left of_right : List ℕ} (fit : ListsFit of_left of_right) (row : List ℕ) {count : ℕ}
-      (are : PlacesAre (lists_of of_left of_right) X row (Indexes count)) where
+      (are : PlacesAre (lists_of of_left of_right) X row (Some count)) where
     sound : AllSound n (moved_spots (lists_of of_left of_right) X)
     sound =
         subst (λ (end : ℕ). AllSound end (moved_spots (lists_of of_left of_right) X)) size (moved-sound fit (extraction-sound X t.good))
@@ -53,14 +53,13 @@ module _ (n : ℕ) (plan : List ℕ) {x : Extraction} {X : tree.Extraction} (fit
     counted =
         sym (length-map (moved_spots (lists_of of_left of_right) X) spot_number) ∙ ap length (sym are.2) ∙ length-take-le count row are.1
 
-    pub within : Within row count plan
-    within = record {
-      counted = are.1;
-      inside = λ k b.
-          let same : get_or row k 0 ≡ get_or (map spot_number (moved_spots (lists_of of_left of_right) X)) k 0 =
-          sym (get_or-take count row k 0 b) ∙ ap (λ (l : List ℕ). get_or l k 0) are.2 in
-          omega (arith, ap (λ (number : ℕ). number / 262144) same, sound-inside sound k (omega (arith, counted)));
-    }
+    pub within : Within (take count row) plan
+    within k b =
+        omega (
+          arith,
+          ap (λ (l : List ℕ). get_or l k 0 / 262144) are.2,
+          sound-inside sound k (omega (arith, counted, length-take-le count row are.1)),
+        )
 
     pub new-size : length (new_bytes (lists_of of_left of_right) X) ≡ n
     new-size = sym (extraction-moves (lists_of of_left of_right) X).same ∙ size

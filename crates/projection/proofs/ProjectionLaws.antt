@@ -19,9 +19,9 @@ use Rattle.projection.specs.Spots.{Spot, spot_number}
 use Rattle.projection.specs.Placing.{PlacedIs}
 use Rattle.projection.specs.PlanSpots.{extraction_spots}
 use Rattle.projection.specs.Extractions.{ExtractionThere}
-use Rattle.projection.specs.Patches.{put_at, patched, Within}
+use Rattle.projection.specs.Patches.{put_at, patched}
 use Rattle.projection.specs.Projected.{ListsFit, PlacesAre}
-use Rattle.projection.specs.declared.projecting.Projected.TheVariants.{Indexes, Missing}
+use Rattle.std.specs.Prelude.{Some, None}
 use Rattle.projection.proofs.SoundSpots.{AllSound, extraction-sound}
 use Rattle.projection.proofs.PlacedSpots.{moved_by, has_by, still-sound, all_moved, all_have, found_all, found-not}
 use Rattle.projection.proofs.PlacedPlans.{extraction-have}
@@ -67,7 +67,7 @@ module _ (lists : Lists) {s : List ℕ} {x : Extraction} (X : tree.Extraction) (
 
     -- So the right ones decide.
     pub right-decides : (after : List ℕ) → length after ≡ length middle → (b : Bool)
-        → PlacedIs (side_number right) lists.of_right count middle after b → PlacesAre lists X after (if b then Indexes count else Missing)
+        → PlacedIs (side_number right) lists.of_right count middle after b → PlacesAre lists X after (if b then Some count else None)
     right-decides after alike true h =
         let second = found_all right lists.of_right middle after left-sound room found.1 h in (
           by-sides ∙ ap₂ ◌&&◌ found.0 second.0,
@@ -79,19 +79,19 @@ module _ (lists : Lists) {s : List ℕ} {x : Extraction} (X : tree.Extraction) (
 
 -- ---- into the plan
 
-pub record Putting (row : List ℕ) (count : ℕ) (before plan : List ℕ) (k : ℕ) : Type 0 where
-  pub below : k ≤ count
+pub record Putting (row before plan : List ℕ) (k : ℕ) : Type 0 where
+  pub below : k ≤ length row
   pub same : length plan ≡ length before
   pub is : plan ≡ patched (take k row) before
 
-module _ {row : List ℕ} {count : ℕ} {before : List ℕ} where
-  pub putting-begins : Putting row count before before 0
+module _ {row before : List ℕ} where
+  pub putting-begins : Putting row before before 0
   unfolding patched
   putting-begins = record { below = omega arith; same = refl; is = refl }
 
-  module _ {plan : List ℕ} {k : ℕ} (within : Within row count before) (inv : Putting row count before plan k) where
-    pub putting-goes-on : k < count → (after : List ℕ) → length after ≡ length plan → (r : ℕ)
-        → WroteAt (get_or row k 0 / 262144) (big_endian 2 (get_or row k 0 % 65536)) plan after r → Putting row count before after (k + 1)
+  module _ {plan : List ℕ} {k : ℕ} (inv : Putting row before plan k) where
+    pub putting-goes-on : k < length row → (after : List ℕ) → length after ≡ length plan → (r : ℕ)
+        → WroteAt (get_or row k 0 / 262144) (big_endian 2 (get_or row k 0 % 65536)) plan after r → Putting row before after (k + 1)
     unfolding patched
     putting-goes-on more after kept r wrote = record {
       below = omega arith;
@@ -101,9 +101,5 @@ module _ {row : List ℕ} {count : ℕ} {before : List ℕ} where
           ∙ ap (put_at (get_or row k 0 / 262144) (big_endian 2 (get_or row k 0 % 65536))) inv.is
           ∙ sym (patched-append (take k row) (get_or row k 0 ∷ []) before)
           ∙ ap (λ (l : List ℕ). patched l before)
-          (sym (ap (λ (n : ℕ). take n row) (add-one k) ∙ take-suc row k 0 (omega (arith, within.counted))));
+          (sym (ap (λ (n : ℕ). take n row) (add-one k) ∙ take-suc row k 0 more));
     }
-
-    pub putting-ends : count ≤ k → plan ≡ patched (take count row) before
-    putting-ends whole =
-        let e : k ≡ count = omega (arith, inv.below) in inv.is ∙ ap (λ (n : ℕ). patched (take n row) before) e

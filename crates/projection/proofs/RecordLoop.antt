@@ -2,11 +2,10 @@
 use Prim.Native.Nat.{ℕ, ◌+◌, ◌*◌, ◌≤◌, ◌<◌}
 use native.Mathlib.Omega.{arith}
 use native.Mathlib.Numerals.{add-one}
-use mathlib.Core.Path.{◌≡◌, refl, sym, ap, ap₂, ◌∙◌, subst}
+use mathlib.Core.Path.{◌≡◌, sym, ap, ap₂, ◌∙◌, subst}
 use mathlib.Core.List.{List, [], ◌∷◌, ◌++◌, map, map-append}
 use lib.ListN.{length, take, get_or, set, length-set}
 use lib.Seq.{take-suc, take_all}
-use Rattle.definitions.specs.Limits.{two_bytes}
 use Rattle.definitions.specs.Expression.{Side, Record}
 use Rattle.definitions.specs.Encode.{record_bytes}
 use Rattle.definitions.specs.Decode.{side_numbered}
@@ -14,9 +13,9 @@ use Rattle.theorems.proofs.RoundTripPlan.{side-again}
 use Rattle.expression.specs.Places.{short_at}
 use Rattle.expression.proofs.Placed.{first}
 use Rattle.writing.specs.Written.{WroteAt}
-use Rattle.writing.proofs.Written.{chain, nothing-wrote, store}
+use Rattle.writing.proofs.Written.{chain, store}
 use Rattle.plan_writer.specs.Tables.{Entry, Entries}
-use Rattle.plan_writer.proofs.TableLaws.{entry_of, entry-child, child_fits}
+use Rattle.plan_writer.proofs.TableLaws.{entry_of, entry-child}
 use Rattle.projection.specs.Spots.{Spot, spot_number, record_spots}
 use Rattle.projection.specs.Rows.{RecordsFit, RecordsCollected}
 use Rattle.projection.proofs.SpotLaws.{record-spots, spot_of, record-spot}
@@ -40,17 +39,6 @@ pub record Filling (s : List ℕ) (rec count i : ℕ) (before row : List ℕ) (k
       → WroteAt i (map spot_number (take k (record_spots rec records))) before row (i + k)
 
 module _ {s : List ℕ} {rec count i : ℕ} {before : List ℕ} where
-  pub filling-begins : Filling s rec count i before before 0
-  filling-begins = record {
-    below = omega arith;
-    same = refl;
-    put = λ records entries. subst (WroteAt i [] before before) (omega arith) (nothing-wrote before i);
-  }
-
-  -- A record's child index is short.
-  pub short-child : RecordsFit s rec count i before → (k : ℕ) → k < count → short_at s (rec + 5 * k + 1) < two_bytes
-  short-child f k below = child_fits (f.records, f.stand) k below
-
   module _ {row : List ℕ} {k : ℕ} (f : RecordsFit s rec count i before) (inv : Filling s rec count i before row k) where
     pub filling-goes-on : k < count → (side : Side) → side ≡ side_numbered (get_or s (rec + 5 * k) 0) → (child : ℕ)
         → child ≡ short_at s (rec + 5 * k + 1) → (b : ℕ) → b ≡ spot_number (record { side = side; at = rec + 5 * k + 1; child = child })

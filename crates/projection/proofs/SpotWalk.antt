@@ -9,7 +9,7 @@ use Rattle.definitions.specs.Expression.{Side, Expr, Exprs, cons}
 use Rattle.definitions.specs.Encode.{expr_bytes, exprs_bytes}
 use Rattle.definitions.specs.Decode.{index_below}
 use Rattle.expression.specs.Places.{short_at}
-use Rattle.expression.specs.Nodes.{children_of, Stands, Row, Tree, OfTree}
+use Rattle.expression.specs.Nodes.{children_of, Stands, Row, OfTree}
 use Rattle.expression.specs.Heads.{HeadIs}
 use Rattle.expression.specs.declared.heads.Head.{Head}
 use Rattle.expression.proofs.Placed.{fits}
@@ -19,7 +19,7 @@ use Rattle.writing.proofs.Written.{chain, nothing-wrote, store}
 use Rattle.plan_writer.proofs.Fields.{column-is, column-size}
 use Rattle.projection.specs.Spots.{Spot, spot_number, column_spots, child_spots}
 use Rattle.projection.specs.Rows.{ColumnsFit, ChildrenFit, Collected, ColumnsCollected, ChildrenCollected}
-use Rattle.projection.specs.declared.spots.Passed.{Passed}
+use Rattle.node_rows.specs.declared.collecting.Passed.{Passed}
 use Rattle.projection.proofs.SpotLaws.{no-own-spots}
 
 -- ---- one walk after another
@@ -98,9 +98,6 @@ pub record Within (s : List ℕ) (at i : ℕ) (row : List ℕ) : Type 0 where
   pub entry : i < length row
 
 module _ {s : List ℕ} {at i : ℕ} {side : Side} where
-  pub columns-tree : {row : List ℕ} → ColumnsFit s at side i row → Tree s at
-  columns-tree f = (index_below two_bytes, f.tree, f.stands)
-
   pub column-within : {row : List ℕ} → ColumnsFit s at side i row → get_or s at 0 ≡ 0 → Within s at i row
   unfolding column_spots
   column-within {row} f e =

@@ -10,7 +10,7 @@ use Rattle.expression.specs.Nodes.{Stands}
 use Rattle.sedona_query_planner.specs.Predicates.{unchanged, PredicateAt}
 use Rattle.sedona_query_planner.specs.declared.spatial_predicate.SpatialPredicate.{SpatialPredicate}
 use Rattle.projection.specs.Rows.{Collected}
-use Rattle.projection.specs.declared.spots.Passed.{Passed}
+use Rattle.node_rows.specs.declared.collecting.Passed.{Passed}
 use Rattle.projection.specs.PlanSpots.{both_spots, predicate_spots}
 
 -- Two expressions stand there, one after the other.

@@ -1,5 +1,5 @@
 -- Request 7 of document 02: child indexes put at their places. (Ours.)
-use Rattle.std.specs.Prelude.{ℕ, ◌+◌, ◌/◌, ◌%◌, ◌≤◌, ◌<◌, ◌≡◌, List, [], ◌∷◌, ◌++◌, length, take, drop, get_or}
+use Rattle.std.specs.Prelude.{ℕ, ◌+◌, ◌/◌, ◌%◌, ◌≤◌, ◌<◌, List, [], ◌∷◌, ◌++◌, length, take, drop, get_or}
 use Rattle.definitions.specs.Basics.{big_endian}
 
 -- Bytes from a place on, the others as they were.
@@ -11,11 +11,6 @@ unfoldable pub patched : (numbers s : List ℕ) → List ℕ
 patched [] s = s
 patched (number ∷ numbers) s = patched numbers (put_at (number / 262144) (big_endian 2 (number % 65536)) s)
 
--- The row has so many numbers, and their places lie within the bytes.
-pub record Within (row : List ℕ) (count : ℕ) (s : List ℕ) : Type 0 where
-  pub counted : count ≤ length row
-  pub inside : (k : ℕ) → k < count → get_or row k 0 / 262144 + 2 ≤ length s
-
--- The first of them were put at their places.
-abbrev pub PatchedBy : (row : List ℕ) (count : ℕ) (before after : List ℕ) → Type 0
-PatchedBy row count before after = after ≡ patched (take count row) before
+-- The numbers' places lie within the bytes.
+abbrev pub Within : (row s : List ℕ) → Type 0
+Within row s = (k : ℕ) → k < length row → get_or row k 0 / 262144 + 2 ≤ length s

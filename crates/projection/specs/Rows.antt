@@ -8,7 +8,7 @@ use Rattle.expression.specs.Nodes.{Stands, Row}
 use Rattle.writing.specs.Written.{WroteAt}
 use Rattle.plan_writer.specs.Tables.{Entries}
 use Rattle.projection.specs.Spots.{Spot, spot_number, column_spots, child_spots, record_spots}
-use Rattle.projection.specs.declared.spots.Passed.{Passed}
+use Rattle.node_rows.specs.declared.collecting.Passed.{Passed}
 
 -- ---- columns
 

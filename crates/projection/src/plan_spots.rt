@@ -4,8 +4,9 @@ ghost use Rattle.terms.specs.Sides.{join_side};
 ghost use Rattle.projection.specs.Arguments.{BothFit, BothCollected, ArgumentsFit, ArgumentsCollected};
 ghost use Rattle.projection.specs.Extractions.{ExtractionFits, ExtractionCollected};
 
-use super::spots::{Passed, collect_columns, collect_records};
-use plan_reader::extraction_bodies::{Extraction, Remainder};
+use super::spots::{collect_columns, collect_records};
+use node_rows::collecting::Passed;
+use plan_reader::extraction_bodies::Extraction;
 use sedona_query_planner::spatial_predicate::SpatialPredicate;
 use terms::sides::JoinSide;
 
@@ -29,13 +30,10 @@ fn collect_arguments(row: &mut [u32], src: &[u8], p: SpatialPredicate) -> Passed
         }
         SpatialPredicate::Distance(q) => {
             let both = collect_both(row, src, 5, JoinSide::Left, JoinSide::Right);
-            let side = q.distance_side;
-            collect_columns(row, src, both.end, side, both.index)
+            collect_columns(row, src, both.end, q.distance_side, both.index)
         }
         SpatialPredicate::KNearestNeighbors(q) => {
-            let probe = q.probe_side;
-            let other = probe.negate();
-            collect_both(row, src, 10, probe, other)
+            collect_both(row, src, 10, q.probe_side, q.probe_side.negate())
         }
     }
 }
@@ -45,12 +43,10 @@ pub fn collect_extraction(row: &mut [u32], src: &[u8], x: Extraction) -> usize
     requires { ExtractionFits src.now x row.old }
     ensures { ExtractionCollected src.now x row.old row.new result }
 {
-    let p = x.predicate;
-    let rest = x.remainder;
-    let passed = collect_arguments(row, src, p);
-    match rest {
-        Remainder::Nothing => passed.index,
-        Remainder::Frame(f) => {
+    let passed = collect_arguments(row, src, x.predicate);
+    match x.remainder {
+        None => passed.index,
+        Some(f) => {
             let count = f.columns as usize;
             collect_records(row, src, passed.end + 3, count, passed.index)
         }

@@ -6,20 +6,14 @@ ghost use Rattle.projection.specs.Rows.{ColumnsFit, ColumnsCollected, ChildrenFi
 
 use expression::fields::short_at;
 use expression::heads::head_at;
-use terms::sides::{JoinSide, side_number, side_numbered};
-
-// Where a walk ended, and the index of the row's entry that comes after it.
-#[derive(Clone, Copy)]
-pub struct Passed {
-    pub end: usize,
-    pub index: usize,
-}
+use node_rows::collecting::Passed;
+use terms::sides::JoinSide;
 
 fn spot_number(side: JoinSide, at: usize, child: usize) -> u32
     requires { (at < 16384) × (child < 65536) }
     ensures { result ≡ spot_number (record { side = join_side side; at = at; child = child }) }
 {
-    ((at * 4 + side_number(side) as usize) * 65536 + child) as u32
+    ((at * 4 + usize::from(u8::from(side))) * 65536 + child) as u32
 }
 
 // Puts the columns of the expression at a place, an argument's of a side, into the row from index i on.
@@ -36,15 +30,13 @@ pub fn collect_columns(row: &mut [u32], src: &[u8], at: usize, side: JoinSide, i
         };
     }
     let head = head_at(src, at);
-    let next = head.next;
-    let n = head.children;
-    if n == 0 {
+    if head.children == 0 {
         return Passed {
-            end: next,
+            end: head.next,
             index: i,
         };
     }
-    collect_children(row, src, next, n, side, i)
+    collect_children(row, src, head.next, head.children, side, i)
 }
 
 // The same for n expressions in a row.
@@ -62,12 +54,10 @@ fn collect_children(
 {
     let mut end = at;
     let mut index = i;
-    let mut left = n;
-    while 0 < left {
+    for _ in 0..n {
         let one = collect_columns(row, src, end, side, index);
         end = one.end;
         index = one.index;
-        left -= 1;
     }
     Passed { end, index }
 }
@@ -77,12 +67,10 @@ pub fn collect_records(row: &mut [u32], src: &[u8], rec: usize, count: usize, i:
     requires { RecordsFit src.now rec count i row.old }
     ensures { RecordsCollected src.now rec count i row.old row.new result }
 {
-    let mut k = 0;
-    while k < count {
+    for k in 0..count {
         let at = rec + 5 * k;
-        let side = side_numbered(src[at] as u64);
+        let side = JoinSide::from(u64::from(src[at]));
         row[i + k] = spot_number(side, at + 1, short_at(src, at + 1));
-        k += 1;
     }
     i + count
 }

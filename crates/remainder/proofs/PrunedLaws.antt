@@ -2,6 +2,7 @@
 use Prim.Native.Nat.{ℕ, ◌+◌, ◌≤◌}
 use native.Mathlib.Omega.{arith}
 use mathlib.Core.Path.{◌≡◌, sym, ap, ◌∙◌, subst}
+use mathlib.Core.Bool.{Bool}
 use mathlib.Core.List.{List, ◌++◌}
 use lib.ListN.{length, length-append}
 use Rattle.definitions.specs.Basics.{big_endian}
@@ -36,10 +37,10 @@ module _ {s : List ℕ} {rec count : ℕ} {from : List ℕ} {at : ℕ} {records 
   unfolding big_endian
   size = ap length parts ∙ simp length-append (omega arith)
 
-  pub plain-flagged : (flags : List ℕ) → count ≤ length flags → Flagged from at flags
+  pub plain-flagged : (flags : List Bool) → count ≤ length flags → Flagged from at flags
   plain-flagged flags room = (e, wider-stands room f.tree)
 
-  module _ (flags used : List ℕ) (room : count ≤ length flags) (clear : Unmarked flags) (same : length used ≡ length flags) {r : ℕ}
+  module _ (flags used : List Bool) (room : count ≤ length flags) (clear : Unmarked flags) (same : length used ≡ length flags) {r : ℕ}
       (is : NodeCollected from at flags used r) where
     marks : Marks e used
     marks = subst (Marks e) (sym (is e (wider-stands room f.tree)).flags) (held-marks e flags clear)

@@ -2,6 +2,7 @@
 use Prim.Native.Nat.{ℕ, ◌+◌, ◌-◌, ◌≤◌, ◌<◌}
 use native.Mathlib.Omega.{arith}
 use mathlib.Core.Path.{◌≡◌, refl, sym, ap, ◌∙◌}
+use mathlib.Core.Bool.{Bool, true}
 use mathlib.Core.List.{List, [], ◌∷◌, ◌++◌}
 use lib.ListN.{length, get_or, set, length-append}
 use Rattle.definitions.specs.Expression.{Expr, and, Exprs}
@@ -26,15 +27,15 @@ use Rattle.plan_writer.proofs.Ranges.{wider-stands, wider-row}
 
 -- ---- flags
 
-marked_append : (x y flags : List ℕ) → marked (x ++ y) flags ≡ marked y (marked x flags)
+marked_append : (x y : List ℕ) (flags : List Bool) → marked (x ++ y) flags ≡ marked y (marked x flags)
 unfolding marked
 marked_append [] y flags = refl
-marked_append (i ∷ x) y flags = marked_append x y (set flags i 1)
+marked_append (i ∷ x) y flags = marked_append x y (set flags i true)
 
 -- ---- returns
 
 -- One walk after another.
-collected-both : {at p r size more : ℕ} {x y before middle after : List ℕ} → Collected at size x before middle p
+collected-both : {at p r size more : ℕ} {x y : List ℕ} {before middle after : List Bool} → Collected at size x before middle p
     → Collected p more y middle after r
     → Collected at (size + more) (x ++ y) before after r
 collected-both {at} {p} {r} {size} {more} {x} {y} {before} {middle} {after} a b = record {
@@ -43,9 +44,9 @@ collected-both {at} {p} {r} {size} {more} {x} {y} {before} {middle} {after} a b 
 }
 
 module _ {s : List ℕ} {at : ℕ} where
-  pub collect-column : (before : List ℕ) (t : Expr) → Stands (index_below (length before)) s at t → get_or s at 0 ≡ 0 → (index : ℕ)
+  pub collect-column : (before : List Bool) (t : Expr) → Stands (index_below (length before)) s at t → get_or s at 0 ≡ 0 → (index : ℕ)
       → index ≡ short_at s (at + 1)
-      → Collected at (length (expr_bytes t)) (columns_of t) before (set before index 1) (at + 5)
+      → Collected at (length (expr_bytes t)) (columns_of t) before (set before index true) (at + 5)
   unfolding columns_of marked
   collect-column before t h e index is =
       rw ((column-is h e).tree, ← is) (record {
@@ -54,7 +55,7 @@ module _ {s : List ℕ} {at : ℕ} where
         flags = refl;
       })
 
-  pub collect-other : (before after : List ℕ) (t : Expr) → Stands (index_below (length before)) s at t
+  pub collect-other : (before after : List Bool) (t : Expr) → Stands (index_below (length before)) s at t
       → (get_or s at 0 ≡ 0 → ⊥) → (h : Head)
       → OfTree s at (HeadIs at h)
       → (r : ℕ) → RowCollected s h.next h.children before after r → Collected at (length (expr_bytes t)) (columns_of t) before after r
@@ -67,13 +68,13 @@ module _ {s : List ℕ} {at : ℕ} where
         flags = below.flags ∙ ap (λ (x : List ℕ). marked x before) (sym (no-own-columns t (λ k. n (sym (kind-is stands) ∙ k))));
       }
 
-  pub collects-none : (before : List ℕ) {n : ℕ} (ts : Exprs) → Row (index_below (length before)) s at n ts → n ≡ 0
+  pub collects-none : (before : List Bool) {n : ℕ} (ts : Exprs) → Row (index_below (length before)) s at n ts → n ≡ 0
       → Collected at (length (exprs_bytes ts)) (columns_of_all ts) before before at
   unfolding exprs_bytes columns_of_all marked
   collects-none before ts row e = no-children (λ ts. Collected at (length (exprs_bytes ts)) (columns_of_all ts) before before at)
       (record { ends = omega arith; flags = refl }) ts (row.counted ∙ e)
 
-  pub collects-some : (before middle after : List ℕ) → length middle ≡ length before → {n : ℕ} (ts : Exprs)
+  pub collects-some : (before middle after : List Bool) → length middle ≡ length before → {n : ℕ} (ts : Exprs)
       → Row (index_below (length before)) s at n ts → (n ≡ 0 → ⊥)
       → (p r : ℕ) → NodeCollected s at before middle p → RowCollected s p (n - 1) middle after r
       → Collected at (length (exprs_bytes ts)) (columns_of_all ts) before after r
@@ -87,26 +88,26 @@ module _ {s : List ℕ} {at : ℕ} where
 
   -- ---- what the calls require
 
-  pub flagged-tree : (flags : List ℕ) → Flagged s at flags → Tree s at
+  pub flagged-tree : (flags : List Bool) → Flagged s at flags → Tree s at
   flagged-tree flags p = (index_below (length flags), p.0, p.1)
 
   -- A column's bytes lie within s, and it has a flag.
-  pub column-flag : (flags : List ℕ) → Flagged s at flags → get_or s at 0 ≡ 0 → (at + 5 ≤ length s) × (short_at s (at + 1) < length flags)
+  pub column-flag : (flags : List Bool) → Flagged s at flags → get_or s at 0 ≡ 0 → (at + 5 ≤ length s) × (short_at s (at + 1) < length flags)
   column-flag flags p e =
       let own = column-is p.1 e in
       (omega (arith, fits own.bytes, column-size (short_at s (at + 1)) (short_at s (at + 3))), own.below)
 
-  pub children-flagged : (flags : List ℕ) → Flagged s at flags → (h : Head) → OfTree s at (HeadIs at h)
+  pub children-flagged : (flags : List Bool) → Flagged s at flags → (h : Head) → OfTree s at (HeadIs at h)
       → FlaggedAll s h.next h.children flags
   children-flagged flags p h is =
       let head = is (index_below (length flags)) p.0 p.1 in
       (children_of p.0, children-stand p.1 h.next h.children head.next head.children)
 
-  pub first-flagged : (flags : List ℕ) {n : ℕ} → FlaggedAll s at n flags → (n ≡ 0 → ⊥) → Flagged s at flags
+  pub first-flagged : (flags : List Bool) {n : ℕ} → FlaggedAll s at n flags → (n ≡ 0 → ⊥) → Flagged s at flags
   first-flagged flags {n} p some = some-children (λ ts. Row (index_below (length flags)) s at n ts → Flagged s at flags)
       (λ t ts o. (t, first-stands o)) p.0 (omega (arith, p.1.counted)) p.1
 
-  pub rest-flagged : (before middle : List ℕ) → length middle ≡ length before → {n : ℕ} → FlaggedAll s at n before → (n ≡ 0 → ⊥) → (q : ℕ)
+  pub rest-flagged : (before middle : List Bool) → length middle ≡ length before → {n : ℕ} → FlaggedAll s at n before → (n ≡ 0 → ⊥) → (q : ℕ)
       → NodeCollected s at before middle q → FlaggedAll s q (n - 1) middle
   rest-flagged before middle same {n} p some q is =
       some-children (λ ts. Row (index_below (length before)) s at n ts → FlaggedAll s q (n - 1) middle)
@@ -114,27 +115,27 @@ module _ {s : List ℕ} {at : ℕ} where
       (omega (arith, p.1.counted)) p.1
 
   -- Further on than the place where it began: why the walks end.
-  pub flagged-later : (before middle : List ℕ) (p : Flagged s at before) → (q : ℕ) → NodeCollected s at before middle q → at < q
+  pub flagged-later : (before middle : List Bool) (p : Flagged s at before) → (q : ℕ) → NodeCollected s at before middle q → at < q
   flagged-later before middle p q is = after-node p.1 q (is p.0 p.1).ends
 
 -- ---- the loop over a row
 
 -- What it keeps: what is right for the expressions left is right for the whole row.
-pub record Collecting (s : List ℕ) (at n : ℕ) (before : List ℕ) (next left : ℕ) (used : List ℕ) : Type 0 where
+pub record Collecting (s : List ℕ) (at n : ℕ) (before : List Bool) (next left : ℕ) (used : List Bool) : Type 0 where
   pub there : FlaggedAll s next left used
   pub low : at ≤ next
   pub same : length used ≡ length before
-  pub rest : (after : List ℕ) (r : ℕ) → RowCollected s next left used after r → RowCollected s at n before after r
+  pub rest : (after : List Bool) (r : ℕ) → RowCollected s next left used after r → RowCollected s at n before after r
 
-module _ {s : List ℕ} {at n : ℕ} (before : List ℕ) where
+module _ {s : List ℕ} {at n : ℕ} (before : List Bool) where
   pub collecting-begins : FlaggedAll s at n before → Collecting s at n before at n before
   collecting-begins there = record { there = there; low = omega arith; same = refl; rest = λ after r is. is }
 
-  module _ {next left : ℕ} {used : List ℕ} (inv : Collecting s at n before next left used) where
+  module _ {next left : ℕ} {used : List Bool} (inv : Collecting s at n before next left used) where
     pub collecting-first : 0 < left → Flagged s next used
     collecting-first some = first-flagged used inv.there (λ z. omega arith)
 
-    pub collecting-goes-on : 0 < left → (middle : List ℕ) → length middle ≡ length used → (q : ℕ) → NodeCollected s next used middle q
+    pub collecting-goes-on : 0 < left → (middle : List Bool) → length middle ≡ length used → (q : ℕ) → NodeCollected s next used middle q
         → Collecting s at n before q (left - 1) middle
     collecting-goes-on some middle kept q is = record {
       there = rest-flagged used middle kept inv.there (λ z. omega arith) q is;
@@ -148,18 +149,18 @@ module _ {s : List ℕ} {at n : ℕ} (before : List ℕ) where
 
 -- ---- without an AND-leaf
 
-module _ {at : ℕ} (cut : Cut) (before : List ℕ) where
+module _ {at : ℕ} (cut : Cut) (before : List Bool) where
   pub rest-leaf : (t : Expr) → at ≡ cut.leaf → Ends cut at t
       → Collected at (length (expr_bytes t)) (columns_around cut at t) before before cut.end
   unfolding marked
   rest-leaf t e ends = rw (at_leaf (inside cut.leaf (λ place. []) columns_of at t) e) (record { ends = ends.0 e; flags = refl })
 
-  pub rest-lone : (after : List ℕ) (t : Expr) → (at ≡ cut.leaf → ⊥) → leaves t ≡ t ∷ [] → (r : ℕ)
+  pub rest-lone : (after : List Bool) (t : Expr) → (at ≡ cut.leaf → ⊥) → leaves t ≡ t ∷ [] → (r : ℕ)
       → Collected at (length (expr_bytes t)) (columns_of t) before after r
       → Collected at (length (expr_bytes t)) (columns_around cut at t) before after r
   rest-lone after t n lone r is = rw (lone-around (λ place. []) columns_of n lone) is
 
-  module _ {s : List ℕ} {first : ℕ} (middle : List ℕ) (same : length middle ≡ length before) (p : ℕ)
+  module _ {s : List ℕ} {first : ℕ} (middle : List Bool) (same : length middle ≡ length before) (p : ℕ)
       (one : RestCollected s first cut before middle p) where
     module _ {t : Expr} (b : Both and (index_below (length before)) s at first t) (ends : Ends cut at t) where
       left-collected : Collected first (length (expr_bytes b.l)) (columns_around cut first b.l) before middle p
@@ -169,7 +170,7 @@ module _ {at : ℕ} (cut : Cut) (before : List ℕ) where
       right-flagged =
           (b.r, wider-stands (omega arith) (right_there b p left-collected.ends), right-ends b p left-collected.ends cut ends)
 
-      pub rest-and : (after : List ℕ) → (at ≡ cut.leaf → ⊥) → (r : ℕ) → RestCollected s p cut middle after r
+      pub rest-and : (after : List Bool) → (at ≡ cut.leaf → ⊥) → (r : ℕ) → RestCollected s p cut middle after r
           → Collected at (length (expr_bytes t)) (columns_around cut at t) before after r
       unfolding right-flagged
       rest-and after n r two =

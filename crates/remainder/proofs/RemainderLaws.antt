@@ -2,6 +2,7 @@
 use Prim.Native.Nat.{ℕ, ◌+◌, ◌≤◌, ◌<◌}
 use native.Mathlib.Omega.{arith}
 use mathlib.Core.Path.{◌≡◌, refl, sym, ap, ◌∙◌, subst}
+use mathlib.Core.Bool.{Bool, false}
 use mathlib.Core.List.{List, [], ◌∷◌, ◌++◌, append_assoc}
 use mathlib.Core.Option.{Option, map}
 use lib.ListN.{length, set, replicate, length-append, length-replicate}
@@ -46,10 +47,10 @@ copies-join to cut =
 
 -- ---- what is collected
 
-pub unheld-flagged : {s : List ℕ} {at : ℕ} {cut : Cut} {flags : List ℕ} → Unheld s at cut flags → FlaggedAround s at cut flags
+pub unheld-flagged : {s : List ℕ} {at : ℕ} {cut : Cut} {flags : List Bool} → Unheld s at cut flags → FlaggedAround s at cut flags
 unheld-flagged {cut = cut} p = (p.tree, p.stands, cut-ends cut p.cutting)
 
-pub held-collected : {s : List ℕ} {at : ℕ} {cut : Cut} (before after : List ℕ) {r : ℕ} → Unmarked before
+pub held-collected : {s : List ℕ} {at : ℕ} {cut : Cut} (before after : List Bool) {r : ℕ} → Unmarked before
     → RestCollected s at cut before after r
     → HeldMarked s at cut before after
 held-collected {cut = cut} before after clear is t up position stands cutting e rest =
@@ -60,13 +61,13 @@ held-collected {cut = cut} before after clear is t up position stands cutting e 
 
 -- Rows as they are made, for so many records, and once the flags were set.
 pub clear-rows : (n count : ℕ) → count ≤ n
-    → RowsFit count (replicate n 0) (replicate n 0) (replicate n 0) × Unmarked (replicate n 0)
+    → RowsFit count (replicate n false) (replicate n 0) (replicate n 0) × Unmarked (replicate n false)
 clear-rows n count room =
     let row : List ℕ = replicate n 0 in
     let fits : count ≤ length row = simp length-replicate room in
-    (record { flagged = fits; numbered = fits; keyed = fits }, no_flag n)
+    (record { flagged = simp length-replicate room; numbered = fits; keyed = fits }, no_flag n)
 
-pub rows-still : {count : ℕ} (flags used : List ℕ) {to keys : List ℕ} → RowsFit count flags to keys → length used ≡ length flags
+pub rows-still : {count : ℕ} (flags used : List Bool) {to keys : List ℕ} → RowsFit count flags to keys → length used ≡ length flags
     → RowsFit count used to keys
 rows-still flags used p same = record { flagged = omega (arith, p.flagged); numbered = p.numbered; keyed = p.keyed }
 
@@ -97,11 +98,11 @@ module _ {s : List ℕ} {rec count at : ℕ} {cut : Cut} {records : List Record}
   unfolding big_endian
   size = ap length parts ∙ simp length-append (omega arith)
 
-  pub still-unheld : {up : ℕ} (flags : List ℕ) → CutAt cut up t at position → count ≤ length flags → Unmarked flags → Unheld s at cut flags
+  pub still-unheld : {up : ℕ} (flags : List Bool) → CutAt cut up t at position → count ≤ length flags → Unmarked flags → Unheld s at cut flags
   still-unheld {up} flags cutting room clear =
       record { tree = t; up = up; position = position; stands = wider-stands room f.tree; cutting = cutting; clear = clear }
 
-  module _ (flags used : List ℕ) {up : ℕ} (cutting : CutAt cut up t at position) (room : count ≤ length flags)
+  module _ (flags used : List Bool) {up : ℕ} (cutting : CutAt cut up t at position) (room : count ≤ length flags)
       (same : length used ≡ length flags) (is : HeldMarked s at cut flags used) where
     -- The flags mark the columns of what is left.
     rest-marked : MarkedBy s rec count used records (columns_of e)

@@ -1,5 +1,5 @@
 -- Request 3: the indexes that what is left holds, as flags.
-use Rattle.std.specs.Prelude.{ℕ, ◌<◌, ◌≡◌, List, length, get_or, if◌then◌else◌}
+use Rattle.std.specs.Prelude.{ℕ, ◌<◌, ◌≡◌, Bool, false, List, length, get_or}
 use Rattle.std.proofs.Math.Option.{some}
 use Rattle.definitions.specs.Expression.{Expr}
 use Rattle.definitions.specs.Decode.{index_below}
@@ -9,15 +9,15 @@ use Rattle.expression.specs.Cuts.{CutAt}
 use Rattle.expression.specs.declared.cuts.Cut.{Cut}
 
 -- No flag is set.
-abbrev pub Unmarked : (flags : List ℕ) → Type 0
-Unmarked flags = (index : ℕ) → get_or flags index 0 ≡ 0
+abbrev pub Unmarked : (flags : List Bool) → Type 0
+Unmarked flags = (index : ℕ) → get_or flags index false ≡ false
 
--- A flag is 1 where the expression holds its index, else 0.
-abbrev pub Marks : Expr → (flags : List ℕ) → Type 0
-Marks e flags = (index : ℕ) → index < length flags → get_or flags index 0 ≡ (if holds e index then 1 else 0)
+-- A flag is set where the expression holds its index.
+abbrev pub Marks : Expr → (flags : List Bool) → Type 0
+Marks e flags = (index : ℕ) → index < length flags → get_or flags index false ≡ holds e index
 
 -- An expression stands at a place, its leaf where the cut says, with a flag for each of its columns; none is set.
-pub record Unheld (s : List ℕ) (at : ℕ) (cut : Cut) (flags : List ℕ) : Type 0 where
+pub record Unheld (s : List ℕ) (at : ℕ) (cut : Cut) (flags : List Bool) : Type 0 where
   pub tree : Expr
   pub up : ℕ
   pub position : ℕ
@@ -26,7 +26,7 @@ pub record Unheld (s : List ℕ) (at : ℕ) (cut : Cut) (flags : List ℕ) : Typ
   pub clear : Unmarked flags
 
 -- The flags are those of what is left of it.
-abbrev pub HeldMarked : (s : List ℕ) (at : ℕ) → Cut → (before after : List ℕ) → Type 0
+abbrev pub HeldMarked : (s : List ℕ) (at : ℕ) → Cut → (before after : List Bool) → Type 0
 HeldMarked s at cut before after =
     (t : Expr) (up position : ℕ) → Stands (index_below (length before)) s at t → CutAt cut up t at position
     → (e : Expr) → without position t ≡ some e → Marks e after

@@ -1,5 +1,5 @@
 -- Which columns are referenced, as flags.
-use Rattle.std.specs.Prelude.{ℕ, ◌+◌, ◌≡◌, List, [], ◌∷◌, length, set}
+use Rattle.std.specs.Prelude.{ℕ, ◌+◌, ◌≡◌, Bool, true, List, [], ◌∷◌, length, set}
 use Rattle.definitions.specs.Expression.{Expr, Exprs}
 use Rattle.definitions.specs.Encode.{expr_bytes, exprs_bytes}
 use Rattle.definitions.specs.Decode.{index_below}
@@ -9,28 +9,28 @@ use Rattle.remainder.specs.Around.{around, Ends}
 use Rattle.expression.specs.declared.cuts.Cut.{Cut}
 
 -- The flags once these columns are marked.
-unfoldable pub marked : (columns flags : List ℕ) → List ℕ
+unfoldable pub marked : (columns : List ℕ) → (flags : List Bool) → List Bool
 marked [] flags = flags
-marked (index ∷ columns) flags = marked columns (set flags index 1)
+marked (index ∷ columns) flags = marked columns (set flags index true)
 
 -- A walk of `size` bytes marked these columns and answers where it ended.
-pub record Collected (at size : ℕ) (columns before after : List ℕ) (end : ℕ) : Type 0 where
+pub record Collected (at size : ℕ) (columns : List ℕ) (before after : List Bool) (end : ℕ) : Type 0 where
   pub ends : end ≡ at + size
   pub flags : after ≡ marked columns before
 
 -- An expression stands there, with a flag for each of its columns; what was marked of it.
-abbrev pub Flagged : (s : List ℕ) (at : ℕ) (flags : List ℕ) → Type 0
+abbrev pub Flagged : (s : List ℕ) (at : ℕ) (flags : List Bool) → Type 0
 Flagged s at flags = (t : Expr) × Stands (index_below (length flags)) s at t
 
-abbrev pub NodeCollected : (s : List ℕ) (at : ℕ) (before after : List ℕ) (end : ℕ) → Type 0
+abbrev pub NodeCollected : (s : List ℕ) (at : ℕ) (before after : List Bool) (end : ℕ) → Type 0
 NodeCollected s at before after end =
     (t : Expr) → Stands (index_below (length before)) s at t → Collected at (length (expr_bytes t)) (columns_of t) before after end
 
 -- The same of n expressions in a row.
-abbrev pub FlaggedAll : (s : List ℕ) (at n : ℕ) (flags : List ℕ) → Type 0
+abbrev pub FlaggedAll : (s : List ℕ) (at n : ℕ) (flags : List Bool) → Type 0
 FlaggedAll s at n flags = (ts : Exprs) × Row (index_below (length flags)) s at n ts
 
-abbrev pub RowCollected : (s : List ℕ) (at n : ℕ) (before after : List ℕ) (end : ℕ) → Type 0
+abbrev pub RowCollected : (s : List ℕ) (at n : ℕ) (before after : List Bool) (end : ℕ) → Type 0
 RowCollected s at n before after end =
     (ts : Exprs) → Row (index_below (length before)) s at n ts → Collected at (length (exprs_bytes ts)) (columns_of_all ts) before after end
 
@@ -38,10 +38,10 @@ RowCollected s at n before after end =
 abbrev pub columns_around : Cut → (at : ℕ) → Expr → List ℕ
 columns_around cut at t = around cut.leaf (λ place. []) columns_of at t
 
-abbrev pub FlaggedAround : (s : List ℕ) (at : ℕ) → Cut → (flags : List ℕ) → Type 0
+abbrev pub FlaggedAround : (s : List ℕ) (at : ℕ) → Cut → (flags : List Bool) → Type 0
 FlaggedAround s at cut flags = (t : Expr) × Stands (index_below (length flags)) s at t × Ends cut at t
 
-abbrev pub RestCollected : (s : List ℕ) (at : ℕ) → Cut → (before after : List ℕ) (end : ℕ) → Type 0
+abbrev pub RestCollected : (s : List ℕ) (at : ℕ) → Cut → (before after : List Bool) (end : ℕ) → Type 0
 RestCollected s at cut before after end =
     (t : Expr) → Stands (index_below (length before)) s at t → Ends cut at t
     → Collected at (length (expr_bytes t)) (columns_around cut at t) before after end

@@ -10,13 +10,13 @@ use plan_writer::frame_heads::put_frame_head;
 use writing::copies::copy_bytes;
 
 // Whether the record j is equal, in side and child index, to that of a marked column.
-fn is_referenced(records: Records, used: &[u8], keys: &[u32], j: usize) -> bool
+fn is_referenced(records: Records, used: &[bool], keys: &[u32], j: usize) -> bool
     requires recorded { Recorded records.src.now records.rec records.count }
     requires count_in_bounds { (records.count ≤ length used.now) × (j < records.count) }
     requires key_row { KeyRow records.src.now records.rec records.count used.now keys.now (length keys.now) }
     ensures { Referenced records.entry.src.now records.entry.rec records.entry.count used.now j result }
 {
-    used[j] == 1 || among(keys, records.key(j))
+    used[j] || among(keys, records.key(j))
 }
 
 // Writes the record j if it stays, after those kept before it; answers how many are kept then.
@@ -24,7 +24,7 @@ fn keep_record(
     out: &mut [u8],
     kept: usize,
     records: Records,
-    used: &[u8],
+    used: &[bool],
     keys: &[u32],
     j: usize,
 ) -> usize
@@ -43,7 +43,7 @@ fn keep_record(
 }
 
 // Writes the records that stay, and each column's new index; answers how many stay.
-fn keep_each(out: &mut [u8], to: &mut [u16], records: Records, used: &[u8], keys: &[u32]) -> usize
+fn keep_each(out: &mut [u8], to: &mut [u16], records: Records, used: &[bool], keys: &[u32]) -> usize
     requires all_fit { AllFit records.src.now records.rec records.count used.now 0 out.old }
     requires count_in_bounds { (records.count ≤ length used.now) × (records.count ≤ length to.old) }
     requires key_row { KeyRow records.src.now records.rec records.count used.now keys.now (length keys.now) }
@@ -64,7 +64,7 @@ fn keep_records(
     to: &mut [u16],
     keys: &mut [u32],
     records: Records,
-    used: &[u8],
+    used: &[bool],
 ) -> usize
     requires all_fit { AllFit records.src.now records.rec records.count used.now 0 out.old }
     requires rows_fit { RowsFit records.count used.now to.old keys.old }
@@ -81,7 +81,7 @@ pub fn put_records(
     to: &mut [u16],
     keys: &mut [u32],
     records: Records,
-    used: &[u8],
+    used: &[bool],
 ) -> usize
     requires all_fit { AllFit records.src.now records.rec records.count used.now 3 out.old }
     requires rows_fit { RowsFit records.count used.now to.old keys.old }

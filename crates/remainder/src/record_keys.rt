@@ -33,14 +33,14 @@ pub fn column_key(src: &[u8], at: usize) -> u32
 }
 
 // Writes the keys of the marked columns' records in a row; answers how many there are.
-pub fn marked_keys(keys: &mut [u32], records: Records, used: &[u8]) -> usize
+pub fn marked_keys(keys: &mut [u32], records: Records, used: &[bool]) -> usize
     requires recorded { Recorded records.src.now records.rec records.count }
     requires count_in_bounds { (records.count ≤ length used.now) × (records.count ≤ length keys.old) }
     ensures { KeyRow records.entry.src.now records.entry.rec records.entry.count used.now keys.new result }
 {
     let mut n = 0;
     for i in 0..records.count {
-        if used[i] == 1 {
+        if used[i] {
             keys[n] = records.key(i);
             n += 1;
         }

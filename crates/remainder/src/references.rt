@@ -10,12 +10,12 @@ use expression::leaves::{Node, node_at};
 
 // Marks the columns of the expression at a place; answers where it ends.
 #[cycle(collect_children_collect_column_references)]
-pub fn collect_column_references(used: &mut [u8], src: &[u8], at: usize) -> usize
+pub fn collect_column_references(used: &mut [bool], src: &[u8], at: usize) -> usize
     requires { Flagged src.now at used.old }
     ensures { NodeCollected src.now at used.old used.new result }
 {
     if src[at] == 0 {
-        used[short_at(src, at + 1)] = 1;
+        used[short_at(src, at + 1)] = true;
         return at + 5;
     }
     let head = head_at(src, at);
@@ -27,7 +27,7 @@ pub fn collect_column_references(used: &mut [u8], src: &[u8], at: usize) -> usiz
 
 // The same for n expressions in a row.
 #[cycle(collect_children_collect_column_references)]
-fn collect_children(used: &mut [u8], src: &[u8], at: usize, n: usize) -> usize
+fn collect_children(used: &mut [bool], src: &[u8], at: usize, n: usize) -> usize
     requires { FlaggedAll src.now at n used.old }
     ensures { RowCollected src.now at n used.old used.new result }
 {
@@ -39,7 +39,7 @@ fn collect_children(used: &mut [u8], src: &[u8], at: usize, n: usize) -> usize
 }
 
 // The same for an expression without an AND-leaf.
-pub fn collect_remainder(used: &mut [u8], src: &[u8], at: usize, cut: Cut) -> usize
+pub fn collect_remainder(used: &mut [bool], src: &[u8], at: usize, cut: Cut) -> usize
     requires { FlaggedAround src.now at cut used.old }
     ensures { RestCollected src.now at cut used.old used.new result }
 {

@@ -12,7 +12,7 @@ use super::reprojecting::reproject_remainder;
 use expression::cuts::Cut;
 
 // Marks the indexes that are held: those of the column nodes of what is left.
-fn collect_held(used: &mut [u8], src: &[u8], at: usize, cut: Cut)
+fn collect_held(used: &mut [bool], src: &[u8], at: usize, cut: Cut)
     requires { Unheld src.now at cut used.old }
     ensures { HeldMarked src.now at cut used.old used.new }
 {
@@ -32,7 +32,7 @@ fn replace_join_filter_expr<const N: usize>(
     ensures { RemainderPut records.entry.src.now records.entry.rec records.entry.count at cut
         out.old out.new result }
 {
-    let mut used = [0u8; N];
+    let mut used = [false; N];
     let mut to = [0u16; N];
     let mut keys = [0u32; N];
     collect_held(&mut used, records.src, at, cut);

@@ -1,6 +1,6 @@
 -- The side of a comparison that is read, and the arguments of `st_distance`.
 use Rattle.std.specs.Prelude.{if◌then◌else◌, Option, Some, None}
-use Prim.Native.Nat.{ℕ, suc, ◌+◌, ◌≤◌, ◌<◌}
+use Prim.Native.Nat.{ℕ, ◌+◌, ◌<◌}
 use native.Mathlib.Omega.{arith}
 use mathlib.Core.Path.{◌≡◌, refl, sym, ap, ◌∙◌, subst, subst⁻¹}
 use mathlib.Core.Bool.{Bool, true, false, ◌||◌}
@@ -8,17 +8,18 @@ use mathlib.Core.List.{List}
 use mathlib.Core.Option.{none, some}
 use lib.ListN.{length, get_or}
 use lib.Dec.{eqb}
-use borrow.Author.Tests.{eqb-false, eq-eqb, ne_eqb}
+use borrow.Author.Tests.{ne_eqb}
 use Rattle.definitions.specs.Basics.{ascii, same_name}
 use Rattle.definitions.specs.Expression.{Expr, nil, cons}
 use Rattle.definitions.specs.Encode.{expr_bytes}
 use Rattle.definitions.specs.Leaves.{compares, no_comparison, comparison, distance_arguments}
 use Rattle.definitions.specs.Decode.{Columns}
-use Rattle.theorems.proofs.Cases.{each}
 use Rattle.expression.specs.Places.{part}
-use Rattle.expression.specs.Nodes.{kind_of, Stands, Row, Tree, OfTree}
-use Rattle.expression.specs.Leaves.{Pair, OfPair, CallIs}
+use Rattle.expression.specs.Nodes.{Stands, Row, Tree, OfTree}
+use Rattle.expression.specs.Leaves.{Pair, OfPair, CallIs, NodeIs, plain_column, plain_literal, plain_other, plain_field}
 use Rattle.expression.specs.declared.leaves.Called.{Called}
+use Rattle.expression.specs.declared.leaves.Node.{Node}
+use Rattle.expression.specs.declared.leaves.Node.TheVariants.{And, Binary, Call, Plain}
 use Rattle.expression.proofs.Standing.{first-stands}
 use Rattle.expression.proofs.Parts.{pair-right}
 use Rattle.node_rows.specs.Numbers.{start_at}
@@ -28,30 +29,9 @@ use Rattle.node_rows.proofs.IndexLaws.{Indexed, index-pair}
 use Rattle.sedona_expr.specs.Parsed.{compared, ComparedIs, Arguments}
 use Rattle.sedona_expr.specs.declared.utils.Compared.{Compared}
 
--- An operator is one of two that follow each other, or lies outside of them.
-within : (o k : ℕ) → k ≤ o → o < k + 2 → (t : Bool) → eqb o k ≡ t → (eqb o k || eqb o (suc k)) ≡ true
-within o k h i true e = rw e
-within o k h i false e = rw (e, eq-eqb o (suc k) (omega (arith, eqb-false o k e)))
-
-outside : (o k : ℕ) → (k ≤ o → k + 2 ≤ o) → (eqb o k || eqb o (suc k)) ≡ false
-outside o k h = rw (ne_eqb o k (λ e. omega (arith, h (omega arith))), ne_eqb o (suc k) (λ e. omega (arith, h (omega arith))))
-
 -- Two sides, the first of which is read.
 abbrev pub on : (measured bound : ℕ) → Option Compared
 on measured bound = Some (record { measured = measured; bound = bound })
-
-module _ (left right operator : ℕ) where
-  pub reads-left : 1 ≤ operator → operator < 3 → on left right ≡ compared operator left right
-  unfolding compared
-  reads-left h k = rw (within operator 1 h k (eqb operator 1) refl)
-
-  pub reads-right : 3 ≤ operator → operator < 5 → on right left ≡ compared operator left right
-  unfolding compared
-  reads-right h k = rw (outside operator 1 (λ i. h), within operator 3 h k (eqb operator 3) refl)
-
-  pub reads-neither : (1 ≤ operator → 5 ≤ operator) → None ≡ compared operator left right
-  unfolding compared
-  reads-neither h = rw (outside operator 1 (λ i. omega (arith, h i)), outside operator 3 (λ i. h (omega arith)))
 
 -- They are the definitions' sides, whatever is known of both.
 module _ (P : ℕ → Expr → Type 0) {left right : ℕ} {l r : Expr} (x : P left l) (y : P right r) where
@@ -69,7 +49,14 @@ module _ (P : ℕ → Expr → Type 0) {left right : ℕ} {l r : Expr} (x : P le
 
 -- Above 4 there is none.
 pub no-sides : (operator : ℕ) (l r : Expr) → 4 < operator → comparison operator l r ≡ no_comparison
-no-sides operator l r h = told-sides (λ i t. Unit {0}) tt tt operator (reads-neither 0 0 operator (λ k. h))
+unfolding comparison
+no-sides operator l r h =
+    rw (
+      ne_eqb operator 1 (λ e. omega arith),
+      ne_eqb operator 2 (λ e. omega arith),
+      ne_eqb operator 3 (λ e. omega arith),
+      ne_eqb operator 4 (λ e. omega arith),
+    )
 
 -- The sides of two expressions in a row.
 pub sides-found : {c : Columns} {s : List ℕ} {left : ℕ} {l r : Expr} → Row c s left 2 (cons l (cons r nil)) → (right : ℕ)
@@ -100,11 +87,17 @@ measured-there pair right ends operator is =
     let sides = sides-found pair.3 right ends operator is in
     (pair.0, sides.m, sides.stands_measured)
 
-pub no_arguments : (t : Expr) → (kind_of t ≡ 3 → ⊥) → distance_arguments t ≡ none
-unfolding kind_of distance_arguments
-no_arguments = each (λ t. (kind_of t ≡ 3 → ⊥) → distance_arguments t ≡ none) (λ i g k. refl) (λ y v k. refl)
-    (λ l r k. refl) (λ o l r k. refl)
-    (λ n ts k. absurd (k refl)) (λ g ts k. refl) (λ b g k. refl)
+-- A node that is no function has none.
+pub no_arguments : (c : Columns) (s : List ℕ) (at : ℕ) (t : Expr) (node : Node) → ((k : Called) → node ≡ Call k → ⊥)
+    → NodeIs c s at node t → distance_arguments t ≡ none
+unfolding distance_arguments
+no_arguments c s at t (And first) other is = ap distance_arguments is.is
+no_arguments c s at t (Binary operator first) other is = ap distance_arguments is.is
+no_arguments c s at t (Call k) other is = absurd (other k refl)
+no_arguments c s at t (Plain head) other (plain_column, h) = refl
+no_arguments c s at t (Plain head) other (plain_literal, h) = refl
+no_arguments c s at t (Plain head) other (plain_other, h) = refl
+no_arguments c s at t (Plain head) other (plain_field, h) = refl
 
 module _ {c : Columns} {s : List ℕ} {at : ℕ} {k : Called} {t : Expr} (b : CallIs c s at k t) (same : Bool)
     (e : same ≡ same_name (part s k.name k.end) (ascii "st_distance")) where

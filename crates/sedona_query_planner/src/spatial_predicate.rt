@@ -74,7 +74,7 @@ impl SpatialRelationType {
         requires { (at ≤ end) × (end ≤ length s.now) }
         ensures { named_relation result ≡ relation_named (part s.now at end) }
     {
-        // A `match` on the bytes was tried: it leaves 132 goals, one for each byte at which it may end, and no names for their facts.
+        // A `match` on the bytes was tried: 132 goals, one for each byte at which it may end, and no names for their facts.
         if same_name(s, at, end, b"st_intersects") {
             Some(SpatialRelationType::Intersects)
         } else if same_name(s, at, end, b"rs_intersects") {
@@ -154,7 +154,7 @@ impl From<SpatialRelationType> for u8 {
     }
 }
 
-// Document 01's number of ties.
+// Document 01's number of ties: no `From`, since `Option` and `u8` are types of others.
 pub fn ties_number(ties: Option<bool>) -> u8
     ensures { result ≡ ties_number ties }
 {

@@ -11,8 +11,8 @@ use Rattle.call_extract_all.proofs.AllLaws.{few, recorded, row-long, listable, l
 use Rattle.call_extract_all.proofs.conjuncts.put_all.Goals as goal
 use Rattle.call_extract_all.proofs.conjuncts.put_all.Goals.{After-child_indexes, Start}
 
-all-taken : (c : Start) → TakesAll (match_under (settings_of c.args.settings)) (FairUnder (settings_of c.args.settings))
-all-taken c = (all-settings-hold (settings_of c.args.settings) c.requires.all_fits.settings).takes_all
+all-taken : (c : Start) → TakesAll (match_under (settings_of c.args.settings.settings)) (FairUnder (settings_of c.args.settings.settings))
+all-taken c = (all-settings-hold (settings_of c.args.settings.settings) c.requires.all_fits.settings).takes_all
 
 wide : (c : After-child_indexes) → 256 ≤ length c.child_indexes.new.to
 wide c = omega (arith, c.child_indexes.auto.to)

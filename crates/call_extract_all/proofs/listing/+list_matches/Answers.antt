@@ -1,11 +1,10 @@
 -- `list_matches`: an And is its left side and then its right side, in the parts where the left one ended; any other node is an AND-leaf.
 -- A call goes to a place further on, so the measure is the bytes left.
-use Prim.Native.Nat.{ℕ, ◌+◌, ◌-◌, ◌≤◌, ◌<◌}
+use Prim.Native.Nat.{ℕ, ◌+◌, ◌≤◌, ◌<◌}
 use native.Mathlib.Omega.{arith}
 use mathlib.Core.Path.{◌≡◌, ◌∙◌}
 use mathlib.Core.List.{List}
 use lib.ListN.{length}
-use mir.Facts.{Fits-16_64}
 use Rattle.definitions.specs.Settings.{match_under}
 use Rattle.terms.specs.Settings.{settings_of}
 use Rattle.definitions.specs.Expression.{Expr, Record, and as expr-and}
@@ -24,53 +23,52 @@ use Rattle.leaf_pick.specs.Picks.{matches}
 use Rattle.call_extract_all.specs.Listings.{Listable, ListIs}
 use Rattle.call_extract_all.proofs.ListLaws.{and-listed}
 use Rattle.call_extract_all.proofs.ListWalk.{left_after, left-list, right-list, both-matches, as-many, left-fits, parts-fit, right-fits, count-short}
-use borrow.Enum.Refused.{opened}
 use Rattle.call_extract_all.proofs.listing.+list_matches.Goals as goal
-use Rattle.call_extract_all.proofs.listing.+list_matches.Goals.{After-end_of-place, After-list_matches-two, In-And}
+use Rattle.call_extract_all.proofs.listing.+list_matches.Goals.{After-end, After-list_matches-two, In-And}
 
 -- The And that was found.
 abbrev found : (t : ℕ) (c : In-And t) (d : Columns) (u : Expr)
-    → Stands d c.args.src.now
-    c.args.at u
-    → Both expr-and d c.args.src.now
-    c.args.at c.in-And.left u
-found t c d u stands = rw c.in-And.is at (c.node_at-node.ensures d u stands)
+    → Stands d c.args.listing.filter.s.now
+    c.args.from.at u
+    → Both expr-and d c.args.listing.filter.s.now
+    c.args.from.at c.in-And.left u
+found t c d u stands = c.in-And.ensures d u stands
 
 -- Its left side, in the rows.
 left-rows : (t : ℕ) (c : In-And t) (d : Columns) (u : Expr)
-    (stands : Stands d c.args.src.now
-    c.args.at u)
-    → Tabled c.args.numbers.now
-    c.args.next.now c.in-And.left
-    (c.args.i + 1) (found t c d u stands).l
+    (stands : Stands d c.args.listing.filter.s.now
+    c.args.from.at u)
+    → Tabled c.args.listing.filter.rows.numbers.now
+    c.args.listing.filter.rows.next.now c.in-And.left
+    (c.args.from.index + 1) (found t c d u stands).l
 left-rows t c d u stands =
     left-tabled (c.requires.of_tree d u stands)
     (found t c d u stands)
 
 within : (t : ℕ) (c : In-And t)
-    → (c.args.i + 1 < length
-    c.args.numbers.now)
-    × (c.args.i + 1 < length
-    c.args.next.now)
+    → (c.args.from.index + 1 < length
+    c.args.listing.filter.rows.numbers.now)
+    × (c.args.from.index + 1 < length
+    c.args.listing.filter.rows.next.now)
 within t c = let f = c.requires.list_fits in tabled-within
     (left-rows t c _ f.tree f.frame.tree)
 
 -- Where the right side stands.
-right-at : (t : ℕ) (c : After-end_of-place t) (d : Columns) (u : Expr)
-    (stands : Stands d c.args.src.now c.args.at u)
-    → c.end_of-place.result ≡ c.in-And.left + length (expr_bytes (rw c.in-And.is at (c.node_at-node.ensures d u stands)).l)
+right-at : (t : ℕ) (c : After-end t) (d : Columns) (u : Expr)
+    (stands : Stands d c.args.listing.filter.s.now c.args.from.at u)
+    → c.end.result ≡ c.in-And.left + length (expr_bytes (c.in-And.ensures d u stands).l)
 right-at t c d u stands =
-    c.end_of-place.ensures ∙ tabled-end
+    c.end.ensures ∙ tabled-end
     (left-tabled (c.requires.of_tree d u stands)
-    (rw c.in-And.is at (c.node_at-node.ensures d u stands)))
+    (c.in-And.ensures d u stands))
 
 -- Both sides were listed.
 done : (t : ℕ) (c : After-list_matches-two t) (records : List Record)
     (u : Expr)
-    → Listable c.args.src.now c.args.rec c.args.count c.args.at records u
+    → Listable c.args.listing.filter.s.now c.args.listing.filter.rec c.args.listing.count c.args.from.at records u
     → let one = c.list_matches-one in
     let two = c.list_matches-two in
-    ListIs c.args.position (matches (match_under (settings_of c.args.settings)) records u) c.args.knns.now
+    ListIs c.args.from.position (matches (match_under (settings_of c.args.listing.settings)) records u) c.args.knns.now
     (together one.result.knn one.new.knns two.new.knns)
     c.args.others.now (together one.result.other one.new.others two.new.others) c.args.gone.now two.new.gone
     (record {
@@ -83,16 +81,16 @@ done t c records u frame =
     let one = c.list_matches-one in
     let two = c.list_matches-two in
     let d = index_below (length records) in
-    let both = rw c.in-And.is at (c.node_at-node.ensures d u frame.tree) in
+    let both = c.in-And.ensures d u frame.tree in
     let first = one.ensures records both.l (left-list frame both) in
     let second = two.ensures records both.r
-    (right-list frame both _ (c.end_of-place.ensures ∙ tabled-end
+    (right-list frame both _ (c.end.ensures ∙ tabled-end
     (left-tabled (c.requires.of_tree d u frame.tree) both))) in
-    let room : c.args.position ≤ length c.args.gone.now = omega (arith, c.requires.list_fits.flags) in
-    and-listed c.args.position (matches (match_under (settings_of c.args.settings)) records u)
-    (matches (match_under (settings_of c.args.settings)) records both.l)
-    (matches (match_under (settings_of c.args.settings)) records both.r) _ _ _ _ _ _ _ _ _ one.result
-    two.result (both-matches frame both (match_under (settings_of c.args.settings))) room first second
+    let room : c.args.from.position ≤ length c.args.gone.now = omega (arith, c.requires.list_fits.flags) in
+    and-listed c.args.from.position (matches (match_under (settings_of c.args.listing.settings)) records u)
+    (matches (match_under (settings_of c.args.listing.settings)) records both.l)
+    (matches (match_under (settings_of c.args.listing.settings)) records both.r) _ _ _ _ _ _ _ _ _ one.result
+    two.result (both-matches frame both (match_under (settings_of c.args.listing.settings))) room first second
 
 pub node_at-node-requires : goal.node_at-node-requires
 node_at-node-requires t c =
@@ -106,7 +104,7 @@ list_leaf-requires t c =
       list_fits = c.requires.list_fits;
       of_tree = c.requires.of_tree;
       of_tree_in = node.ensures;
-      leaf_alone = λ d u stands. single-leaf node.result node.ensures stands (opened c.in_default.in_default-own.keys2);
+      leaf_alone = λ d u stands. single-leaf node.result node.ensures stands c.in_default.not-And;
     }
 
 pub shape_of-knns-in_default : goal.shape_of-knns-in_default
@@ -141,21 +139,13 @@ list_matches-one-requires t c =
       ),
     )
 
-pub end_of-place-requires : goal.end_of-place-requires
-end_of-place-requires t c =
-    (within t (goal.at.end_of-place-requires t c).In-And).0
+pub end-requires : goal.end-requires
+end-requires t c =
+    (within t (goal.at.end-requires t c).In-And).0
 
-pub offset_bounds-next-below : goal.offset_bounds-next-below
-offset_bounds-next-below t c =
-    omega (arith, c.well_formed, (within t (goal.at.offset_bounds-next-below t c).In-And).1)
-
-pub bounds-next-below : goal.bounds-next-below
-bounds-next-below t c =
-    (within t (goal.at.bounds-next-below t c).In-And).1
-
-pub overflow_cast-index : goal.overflow_cast-index
-overflow_cast-index t c =
-    Fits-16_64 (c.shared_slice_known-5-1.given _)
+pub after-requires : goal.after-requires
+after-requires t c =
+    (within t (goal.at.after-requires t c).In-And).1
 
 pub slice_bounds-list_matches-count : goal.slice_bounds-list_matches-count
 slice_bounds-list_matches-count t c =
@@ -196,14 +186,14 @@ list_matches-two-requires t c =
     let one = c.list_matches-one in
     let f = c.requires.list_fits in
     let both = found t (goal.at.list_matches-two-requires t c).In-And _ f.tree f.frame.tree in
-    let e = right-at t (goal.at.list_matches-two-requires t c).After-end_of-place _ f.tree f.frame.tree in
+    let e = right-at t (goal.at.list_matches-two-requires t c).After-end _ f.tree f.frame.tree in
     let right = right-list f.frame both _ e in (
       omega (arith, c.decreases, e, left_after f.frame both, node-some right.tree),
       (
         right-fits f both (one.ensures f.records both.l (left-list f.frame both)) one.auto.knns one.auto.others
             one.auto.gone _ e,
         of_tree _ right.tree (right-tabled (c.requires.of_tree _ f.tree f.frame.tree) both _ _ e
-            (tabled-next (left-rows t (goal.at.list_matches-two-requires t c).In-And _ f.tree f.frame.tree))),
+            (c.after.ensures ∙ tabled-next (left-rows t (goal.at.list_matches-two-requires t c).In-And _ f.tree f.frame.tree))),
       ),
     )
 
@@ -229,8 +219,8 @@ overflow_add-result-3 t c =
       arith,
       c.well_formed,
       all.rounds,
-      count-short (matches (match_under (settings_of c.args.settings)) f.records f.tree),
-      as-many f.frame both (match_under (settings_of c.args.settings)) f.tree,
+      count-short (matches (match_under (settings_of c.args.listing.settings)) f.records f.tree),
+      as-many f.frame both (match_under (settings_of c.args.listing.settings)) f.tree,
       f.flags,
     )
 

@@ -6,4 +6,4 @@ use Rattle.call_extract_all.proofs.listing.+list_matches.Given as goal
 
 abbrev pub decreases-list_matches : goal.decreases-list_matches
 decreases-list_matches l =
-    length l.src.now - l.at
+    length l.listing.filter.s.now - l.from.at

@@ -1,41 +1,39 @@
 -- `project_by`: where the lists have all child indexes, the old plan is kept in the scratch and its places are put into the plan.
-use mathlib.Core.Path.{sym}
-use Rattle.join_filter.proofs.Keeping.{plan-length}
+use lib.ListN.{length-replicate}
 use Rattle.projection.proofs.ProjectedBytes.{within}
 use Rattle.call_project.proofs.ProjectCall.{extraction-fits, none-such, projected}
 use Rattle.call_project.proofs.by_row.project_by.Goals as goal
 
 pub slice_bounds-project_spots-end-2 : goal.slice_bounds-project_spots-end-2
-slice_bounds-project_spots-end-2 c =
-    let a = c.args in
-    sym (plan-length a.n a.plan.now c.requires.holds.fits)
+slice_bounds-project_spots-end-2 g c =
+    c.requires.holds.fits
 
 pub project_spots-requires : goal.project_spots-requires
-project_spots-requires c =
+project_spots-requires g c =
     record {
-      extraction_fits = extraction-fits c.requires;
+      extraction_fits = extraction-fits c.requires _ (length-replicate g.row.N 0);
       lists_fit = c.requires.lists;
     }
 
 pub put_indexes-requires : goal.put_indexes-requires
-put_indexes-requires c =
+put_indexes-requires g c =
     let holds = c.requires.holds in
-    let are = rw c.in-Indexes.is at (c.project_spots.ensures holds.X holds.there) in
+    let are = c.in-Some.ensures holds.X holds.there in
     within c.args.n c.args.plan.now holds.fits holds.there c.requires.lists c.project_spots.new.row are
 
-pub returns-in-Missing : goal.returns-in-Missing
-returns-in-Missing c =
+pub returns-in_default : goal.returns-in_default
+returns-in_default g c =
     let a = c.args in
     let holds = c.requires.holds in
     none-such a.n a.plan.now a.scratch.now a.left.now a.right.now holds c.requires.lists c.requires.scratched
-    (rw c.in-Missing.is at (c.project_spots.ensures holds.X holds.there))
+    (c.in_default.ensures holds.X holds.there)
 
-pub returns-in-Indexes : goal.returns-in-Indexes
-returns-in-Indexes c =
+pub returns : goal.returns
+returns g c =
     let put = c.put_indexes in
     let copy = c.copy_bytes in
     let a = c.args in
     let holds = c.requires.holds in
-    let are = rw c.in-Indexes.is at (c.project_spots.ensures holds.X holds.there) in
+    let are = c.in-Some.ensures holds.X holds.there in
     projected a.n a.plan.now a.scratch.now a.left.now a.right.now holds c.requires.lists c.requires.scratched
     c.project_spots.new.row _ are put.new.plan copy.new.out put.ensures copy.ensures

@@ -1,17 +1,12 @@
 -- `project_held`: lists, then scratch, then the child indexes; a row of 64 entries has room for those of 320 bytes.
 use native.Mathlib.Omega.{arith}
-use Rattle.call_project.proofs.ProjectCall.{left-long, right-long, scratch-short, held-short}
+use Rattle.call_project.proofs.ProjectCall.{list-long, scratch-short, held-short}
 use Rattle.call_project.proofs.call.project_held.Goals as goal
 
 pub returns-then-left-gt4096 : goal.returns-then-left-gt4096
 returns-then-left-gt4096 c =
     let a = c.args in
-    left-long a.n a.plan.now a.scratch.now a.left.now a.right.now c.requires c.if-left-gt4096.true
-
-pub returns-then-right-gt4096 : goal.returns-then-right-gt4096
-returns-then-right-gt4096 c =
-    let a = c.args in
-    right-long a.n a.plan.now a.scratch.now a.left.now a.right.now c.requires c.if-left-gt4096.false c.if-right-gt4096.true
+    list-long a.n a.plan.now a.scratch.now a.left.now a.right.now c.requires c.then-left-gt4096.either
 
 pub returns-then-scratch-n : goal.returns-then-scratch-n
 returns-then-scratch-n c =
@@ -19,11 +14,12 @@ returns-then-scratch-n c =
     scratch-short a.n a.plan.now a.scratch.now a.left.now a.right.now c.requires
     (record { first = c.if-left-gt4096.false; second = c.if-right-gt4096.false }) c.if-scratch-n.true
 
-pub project_by-requires-2 : goal.project_by-requires-2
-project_by-requires-2 c =
+pub project_by-requires-else-n-le320 : goal.project_by-requires-else-n-le320
+project_by-requires-else-n-le320 c =
     record {
       holds = c.requires;
       lists = record { first = c.if-left-gt4096.false; second = c.if-right-gt4096.false };
       scratched = c.if-scratch-n.false;
       room = omega (arith, held-short c.requires);
+      few = omega arith;
     }

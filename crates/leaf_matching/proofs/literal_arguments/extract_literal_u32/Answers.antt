@@ -31,19 +31,19 @@ returns-in-2 c =
     λ d t h. literal-number h c.if-s-at-ne1.false _
     (ap number_is c.ok.ensures.value ∙ u32-of-signed _ _ c.try_from.ensures
     ∙ ap u32 (to_z-of_z {w = w64} (record { sfits = c.signed.type_inv }) ∙ c.signed.ensures ∙ ap signed c.long_at-bytes.ensures)
-    ∙ number-signed _ _ c.in-2.if-s-at-lt2-own.false c.in-2.if-this-lt4-own.true)
+    ∙ number-signed _ _ (omega arith) (omega arith))
 
 pub returns-in-4 : goal.returns-in-4
 returns-in-4 c =
     λ d t h. literal-number h c.if-s-at-ne1.false _
     (ap number_is c.ok-in-4.ensures.value ∙ u32-of _ _ c.try_from-in-4.ensures
     ∙ ap (λ n. u32 (pos n)) c.long_at-bytes.ensures
-    ∙ number-unsigned _ _ c.in-4.if-this-lt4-own.false c.in-4.if-this-lt6-own.true)
+    ∙ number-unsigned _ _ (omega arith) (omega arith))
 
 pub returns-in_default : goal.returns-in_default
 returns-in_default c =
-    λ d t h. literal-number h c.if-s-at-ne1.false _ (number-below _ _ c.in_default.if-s-at-lt2-own.true)
+    λ d t h. literal-number h c.if-s-at-ne1.false _ (number-below _ _ (omega arith))
 
 pub returns-in_default-2 : goal.returns-in_default-2
 returns-in_default-2 c =
-    λ d t h. literal-number h c.if-s-at-ne1.false _ (number-above _ _ c.in_default.if-this-lt6-own.false)
+    λ d t h. literal-number h c.if-s-at-ne1.false _ (number-above _ _ (omega arith))

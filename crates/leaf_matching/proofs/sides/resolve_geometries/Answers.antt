@@ -6,10 +6,6 @@ pub two-two-requires : goal.two-two-requires
 two-two-requires c =
     two-tabled c.requires.of_frame_two c.requires.framed_two
 
-pub side_of_column_references-first-requires : goal.side_of_column_references-first-requires
-side_of_column_references-first-requires c =
-    let p = c.requires.framed_two in (p.0, p.1, p.3.one)
-
 pub side_of_column_references-second-requires : goal.side_of_column_references-second-requires
 side_of_column_references-second-requires c =
     second-framed c.requires.of_frame_two c.two-two.ensures c.requires.framed_two

@@ -86,13 +86,13 @@ reproject_column_references-copy_bytes-requires t c =
       );
     }
 
-pub reproject_column_references-returns-then-n-eq0 : goal.reproject_column_references-returns-then-n-eq0
-reproject_column_references-returns-then-n-eq0 t c =
+pub reproject_column_references-returns-then-head-eq0 : goal.reproject_column_references-returns-then-head-eq0
+reproject_column_references-returns-then-head-eq0 t c =
     λ u stands.
     let head = c.head_at-head in
     let copy = c.copy_bytes in
     copy-alone c.args.to.now u stands c.if-src-at-eq0.false head.result
-    head.ensures c.if-n-eq0.true c.args.out.now copy.new.out
+    head.ensures c.if-head-eq0.true c.args.out.now copy.new.out
     (head.result.next - c.args.at) refl copy.ensures
 
 pub reproject_column_references-slice_bounds-reproject_children-count :

@@ -21,7 +21,7 @@ collect_columns-requires c =
 pub collect_both-requires-in-KNearestNeighbors : goal.collect_both-requires-in-KNearestNeighbors
 collect_both-requires-in-KNearestNeighbors c =
     let fits = rw c.in-KNearestNeighbors.is at c.requires in
-    two-fit fits (knn-two fits.there _ c.negate-other.ensures)
+    two-fit fits (knn-two fits.there _ c.negate.ensures)
 
 pub returns-in-Relation : goal.returns-in-Relation
 returns-in-Relation c =
@@ -43,4 +43,4 @@ returns-in-KNearestNeighbors c =
     λ P there.
     let call = c.collect_both-in-KNearestNeighbors in
     two-collected c.args.row.now call.new.row call.result
-    call.ensures (knn-two (rw c.in-KNearestNeighbors.is at there) _ c.negate-other.ensures)
+    call.ensures (knn-two (rw c.in-KNearestNeighbors.is at there) _ c.negate.ensures)

@@ -9,11 +9,11 @@ use Rattle.projection.proofs.plan_spots.collect_extraction.Goals.{After-struct_k
 -- The records of the remainder have room.
 fits : (c : After-struct_known-1)
     → let call = c.collect_arguments-passed in
-    RecordsFit c.args.src.now (call.result.end + 3) c.in-Frame.f.columns
+    RecordsFit c.args.src.now (call.result.end + 3) c.in-Some.f.columns
     call.result.index call.new.row
 fits c =
     let call = c.collect_arguments-passed in
-    records-fit c.requires _ (rw c.in-Frame.is at c.requires.there.read.remainder)
+    records-fit c.requires _ (rw c.in-Some.is at c.requires.there.read.remainder)
     call.new.row call.auto.row call.result call.ensures
 
 pub collect_arguments-passed-requires : goal.collect_arguments-passed-requires
@@ -28,17 +28,17 @@ pub collect_records-requires : goal.collect_records-requires
 collect_records-requires c =
     fits (goal.at.collect_records-requires c).After-struct_known-1
 
-pub returns-in-Nothing : goal.returns-in-Nothing
-returns-in-Nothing c =
+pub returns-in-None : goal.returns-in-None
+returns-in-None c =
     λ X there.
     let call = c.collect_arguments-passed in
     collected-nothing c.args.row.now call.new.row call.result call.ensures X there
-    (rw c.in-Nothing.is at there.read.remainder)
+    (rw c.in-None.is at there.read.remainder)
 
-pub returns-in-Frame : goal.returns-in-Frame
-returns-in-Frame c =
+pub returns-in-Some : goal.returns-in-Some
+returns-in-Some c =
     λ X there.
     let records = c.collect_records in
     let call = c.collect_arguments-passed in
     collected-records c.args.row.now call.new.row call.result call.ensures X there _
-    (rw c.in-Frame.is at there.read.remainder) records.new.row records.result records.ensures
+    (rw c.in-Some.is at there.read.remainder) records.new.row records.result records.ensures

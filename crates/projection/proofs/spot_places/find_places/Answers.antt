@@ -3,13 +3,6 @@ use mathlib.Core.Path.{refl}
 use Rattle.projection.proofs.ChainLaws.{zeros-unfilled}
 use Rattle.projection.proofs.spot_places.find_places.Goals as goal
 
-pub put_places-requires : goal.put_places-requires
-put_places-requires c =
-    record {
-      count_in_bounds = c.requires;
-      sought = λ some. absurd (some refl);
-    }
-
 pub fill_places-requires : goal.fill_places-requires
 fill_places-requires c =
     zeros-unfilled c.args.items.now 1024 4096 refl c.requires.1 c.requires.1

@@ -5,13 +5,9 @@ use Rattle.terms.specs.Sides.{join_side}
 use Rattle.projection.proofs.SpotWalk.{Collecting}
 use Rattle.projection.proofs.spots.+collect_children_collect_columns.Given as goal
 
-abbrev pub invariant-collect_children-loop-left : goal.invariant-collect_children-loop-left
-invariant-collect_children-loop-left l =
-    Collecting l.src l.at l.n (join_side l.side) l.i l.initial.row l.end l.left l.index l.row
-
-abbrev pub decreases-collect_children-loop-left : goal.decreases-collect_children-loop-left
-decreases-collect_children-loop-left l =
-    l.left
+abbrev pub invariant-collect_children-loop : goal.invariant-collect_children-loop
+invariant-collect_children-loop l =
+    Collecting l.src l.at l.n (join_side l.side) l.i l.initial.row l.end (l.n - l.counter) l.index l.row
 
 abbrev pub decreases-collect_children : goal.decreases-collect_children
 decreases-collect_children l =

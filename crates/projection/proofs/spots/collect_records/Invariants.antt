@@ -1,12 +1,7 @@
 -- `collect_records`: the child indexes of the records passed are in the row.
-use Prim.Native.Nat.{◌-◌}
 use Rattle.projection.proofs.RecordLoop.{Filling}
 use Rattle.projection.proofs.spots.collect_records.Given as goal
 
 abbrev pub invariant-loop-k : goal.invariant-loop-k
 invariant-loop-k l =
     Filling l.src l.rec l.count l.i l.initial.row l.row l.k
-
-abbrev pub decreases-loop-k : goal.decreases-loop-k
-decreases-loop-k l =
-    l.count - l.k

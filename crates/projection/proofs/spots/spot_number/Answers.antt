@@ -4,6 +4,6 @@ use Rattle.terms.specs.Sides.{join_side}
 use Rattle.projection.proofs.SpotLaws.{side-small}
 use Rattle.projection.proofs.spots.spot_number.Goals as goal
 
-pub overflow_cast-result-2 : goal.overflow_cast-result-2
-overflow_cast-result-2 c =
-    omega (arith, c.requires, c.side_number.ensures, side-small (join_side c.args.side))
+pub overflow_cast-result : goal.overflow_cast-result
+overflow_cast-result c =
+    omega (arith, c.requires, c.from.ensures, c.from-2.ensures, side-small (join_side c.args.side))

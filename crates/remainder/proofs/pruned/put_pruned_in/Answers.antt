@@ -1,5 +1,6 @@
 -- `put_pruned_in`: the flags are those of the expression, its records are written, and the expression over them after those.
 use native.Mathlib.Omega.{arith}
+use mathlib.Core.Bool.{false}
 use lib.ListN.{replicate}
 use Rattle.remainder.proofs.RemainderLaws.{rows-still, clear-rows}
 use Rattle.remainder.proofs.PrunedLaws.{plain-flagged, records-fit, records-end, expr-fits, frame-put}
@@ -9,13 +10,13 @@ use Rattle.remainder.proofs.pruned.put_pruned_in.Goals as goal
 
 pub collect_column_references-requires : goal.collect_column_references-requires
 collect_column_references-requires g c =
-    plain-flagged c.requires.pruned_fits.frame (replicate g.row.N 0) (clear-rows g.row.N c.args.records.count c.requires.count_bound.0).0.flagged
+    plain-flagged c.requires.pruned_fits.frame (replicate g.row.N false) (clear-rows g.row.N c.args.records.count c.requires.count_bound.0).0.flagged
 
 pub put_records-w-requires : goal.put_records-w-requires
 put_records-w-requires g c =
     let flags = c.collect_column_references in
     let p = c.requires.pruned_fits in
-    let used = (replicate g.row.N 0) in
+    let used = (replicate g.row.N false) in
     let rows = (clear-rows g.row.N c.args.records.count c.requires.count_bound.0).0 in record {
       all_fit = records-fit p.frame used flags.new.used rows.flagged (clear-rows g.row.N c.args.records.count c.requires.count_bound.0).1 flags.auto.used flags.ensures
           c.args.out.now p.room;
@@ -29,7 +30,7 @@ slice_bounds-reproject_column_references-count g c =
     omega (
       arith,
       c.put_records-w.auto.out,
-      records-end p.frame (replicate g.row.N 0) flags.new.used (clear-rows g.row.N c.args.records.count c.requires.count_bound.0).0.flagged (clear-rows g.row.N c.args.records.count c.requires.count_bound.0).1 flags.auto.used
+      records-end p.frame (replicate g.row.N false) flags.new.used (clear-rows g.row.N c.args.records.count c.requires.count_bound.0).0.flagged (clear-rows g.row.N c.args.records.count c.requires.count_bound.0).1 flags.auto.used
           flags.ensures c.put_records-w.ensures p.room,
     )
 
@@ -40,7 +41,7 @@ slice_bounds-reproject_column_references-start g c =
     omega (
       arith,
       c.put_records-w.auto.out,
-      records-end p.frame (replicate g.row.N 0) flags.new.used (clear-rows g.row.N c.args.records.count c.requires.count_bound.0).0.flagged (clear-rows g.row.N c.args.records.count c.requires.count_bound.0).1 flags.auto.used
+      records-end p.frame (replicate g.row.N false) flags.new.used (clear-rows g.row.N c.args.records.count c.requires.count_bound.0).0.flagged (clear-rows g.row.N c.args.records.count c.requires.count_bound.0).1 flags.auto.used
           flags.ensures c.put_records-w.ensures p.room,
     )
 
@@ -50,7 +51,7 @@ reproject_column_references-copied-requires g c =
     let p = c.requires.pruned_fits in
     let put = c.put_records-w in
     let rows = (clear-rows g.row.N c.args.records.count c.requires.count_bound.0).0 in
-    expr-fits p.frame (replicate g.row.N 0) flags.new.used rows.flagged (clear-rows g.row.N c.args.records.count c.requires.count_bound.0).1 flags.auto.used flags.ensures
+    expr-fits p.frame (replicate g.row.N false) flags.new.used rows.flagged (clear-rows g.row.N c.args.records.count c.requires.count_bound.0).1 flags.auto.used flags.ensures
     put.ensures (omega (arith, put.auto.to, rows.numbered)) put.auto.out p.room
 
 pub overflow_add-result : goal.overflow_add-result
@@ -64,7 +65,7 @@ overflow_add-result g c =
           let put = c.put_records-w in
           let expr = c.reproject_column_references-copied in
           let rows = (clear-rows g.row.N c.args.records.count c.requires.count_bound.0).0 in
-          frame-put p.frame (replicate g.row.N 0) flags.new.used rows.flagged (clear-rows g.row.N c.args.records.count c.requires.count_bound.0).1 flags.auto.used flags.ensures
+          frame-put p.frame (replicate g.row.N false) flags.new.used rows.flagged (clear-rows g.row.N c.args.records.count c.requires.count_bound.0).1 flags.auto.used flags.ensures
           put.ensures expr.new.out expr.result (omega (arith, put.auto.to, rows.numbered)) expr.ensures)).0,
     )
 
@@ -75,5 +76,5 @@ returns g c =
     let put = c.put_records-w in
     let expr = c.reproject_column_references-copied in
     let rows = (clear-rows g.row.N c.args.records.count c.requires.count_bound.0).0 in
-    frame-put frame (replicate g.row.N 0) flags.new.used rows.flagged (clear-rows g.row.N c.args.records.count c.requires.count_bound.0).1 flags.auto.used flags.ensures
+    frame-put frame (replicate g.row.N false) flags.new.used rows.flagged (clear-rows g.row.N c.args.records.count c.requires.count_bound.0).1 flags.auto.used flags.ensures
     put.ensures expr.new.out expr.result (omega (arith, put.auto.to, rows.numbered)) expr.ensures

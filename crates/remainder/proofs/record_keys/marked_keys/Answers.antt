@@ -2,16 +2,16 @@
 use native.Mathlib.Omega.{arith}
 use Rattle.remainder.proofs.KeyLaws.{filled-marked, filled-passed}
 use Rattle.remainder.proofs.record_keys.marked_keys.Goals as goal
-use Rattle.remainder.proofs.record_keys.marked_keys.Goals.{then-used-i-eq1, else-used-i-eq1}
+use Rattle.remainder.proofs.record_keys.marked_keys.Goals.{then-used-i, else-used-i}
 
 pub loop-i-preserved : goal.loop-i-preserved
 loop-i-preserved c =
     let loop = c.loop-i in
     let less = c.loop-i-test.true in
     let row = loop.invariant.row in
-    elim c.if-used-i-eq1.branch [
-      | then-used-i-eq1 w ↦
-          rw (w.keys-is, w.n-is) (filled-marked loop.invariant less w.if-used-i-eq1.true
+    elim c.if-used-i.branch [
+      | then-used-i w ↦
+          rw (w.keys-is, w.n-is) (filled-marked loop.invariant less w.if-used-i.true
           (omega (arith, row.few, loop.invariant.same, c.requires.count_in_bounds)) w.key.result w.key.ensures)
-      | else-used-i-eq1 w ↦ rw (w.keys-is, w.n-is) (filled-passed loop.invariant less w.if-used-i-eq1.false)
+      | else-used-i w ↦ rw (w.keys-is, w.n-is) (filled-passed loop.invariant less w.if-used-i.false)
     ]

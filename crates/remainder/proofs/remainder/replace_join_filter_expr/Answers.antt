@@ -1,5 +1,6 @@
 -- `replace_join_filter_expr`: the flags are those of what is left, its records are written, and the expression over them after those.
 use native.Mathlib.Omega.{arith}
+use mathlib.Core.Bool.{false}
 use lib.ListN.{replicate}
 use Rattle.remainder.proofs.CutLaws.{something-left}
 use Rattle.remainder.proofs.RemainderLaws.{still-unheld, rows-still, clear-rows, records-fit, records-end, expr-fits, frame-put}
@@ -11,14 +12,14 @@ pub collect_held-requires : goal.collect_held-requires
 collect_held-requires g c =
     let p = c.requires.remainder_fits in
     let left = (something-left p.cutting c.requires.leaf_elsewhere).1 in
-    still-unheld p.frame left (replicate g.row.N 0) p.cutting (clear-rows g.row.N c.args.records.count c.requires.count_bound.0).0.flagged (clear-rows g.row.N c.args.records.count c.requires.count_bound.0).1
+    still-unheld p.frame left (replicate g.row.N false) p.cutting (clear-rows g.row.N c.args.records.count c.requires.count_bound.0).0.flagged (clear-rows g.row.N c.args.records.count c.requires.count_bound.0).1
 
 pub put_records-w-requires : goal.put_records-w-requires
 put_records-w-requires g c =
     let flags = c.collect_held in
     let p = c.requires.remainder_fits in
     let left = (something-left p.cutting c.requires.leaf_elsewhere).1 in
-    let used = (replicate g.row.N 0) in
+    let used = (replicate g.row.N false) in
     let rows = (clear-rows g.row.N c.args.records.count c.requires.count_bound.0).0 in record {
       all_fit = records-fit p.frame left used flags.new.used p.cutting rows.flagged flags.auto.used flags.ensures
           c.args.out.now p.room;
@@ -33,7 +34,7 @@ slice_bounds-reproject_remainder-count g c =
     omega (
       arith,
       c.put_records-w.auto.out,
-      records-end p.frame left (replicate g.row.N 0) flags.new.used p.cutting (clear-rows g.row.N c.args.records.count c.requires.count_bound.0).0.flagged flags.auto.used
+      records-end p.frame left (replicate g.row.N false) flags.new.used p.cutting (clear-rows g.row.N c.args.records.count c.requires.count_bound.0).0.flagged flags.auto.used
           flags.ensures c.put_records-w.ensures p.room,
     )
 
@@ -45,7 +46,7 @@ slice_bounds-reproject_remainder-start g c =
     omega (
       arith,
       c.put_records-w.auto.out,
-      records-end p.frame left (replicate g.row.N 0) flags.new.used p.cutting (clear-rows g.row.N c.args.records.count c.requires.count_bound.0).0.flagged flags.auto.used
+      records-end p.frame left (replicate g.row.N false) flags.new.used p.cutting (clear-rows g.row.N c.args.records.count c.requires.count_bound.0).0.flagged flags.auto.used
           flags.ensures c.put_records-w.ensures p.room,
     )
 
@@ -56,7 +57,7 @@ reproject_remainder-copied-requires g c =
     let left = (something-left p.cutting c.requires.leaf_elsewhere).1 in
     let put = c.put_records-w in
     let rows = (clear-rows g.row.N c.args.records.count c.requires.count_bound.0).0 in
-    expr-fits p.frame left (replicate g.row.N 0) flags.new.used p.cutting rows.flagged flags.auto.used flags.ensures
+    expr-fits p.frame left (replicate g.row.N false) flags.new.used p.cutting rows.flagged flags.auto.used flags.ensures
     put.ensures (omega (arith, put.auto.to, rows.numbered)) put.auto.out p.room
 
 pub overflow_add-result : goal.overflow_add-result
@@ -71,7 +72,7 @@ overflow_add-result g c =
           let put = c.put_records-w in
           let expr = c.reproject_remainder-copied in
           let rows = (clear-rows g.row.N c.args.records.count c.requires.count_bound.0).0 in
-          frame-put p.frame left (replicate g.row.N 0) flags.new.used p.cutting rows.flagged flags.auto.used flags.ensures put.ensures
+          frame-put p.frame left (replicate g.row.N false) flags.new.used p.cutting rows.flagged flags.auto.used flags.ensures put.ensures
           expr.new.out expr.result (omega (arith, put.auto.to, rows.numbered)) expr.ensures)).0,
     )
 
@@ -83,5 +84,5 @@ returns g c =
     let put = c.put_records-w in
     let expr = c.reproject_remainder-copied in
     let rows = (clear-rows g.row.N c.args.records.count c.requires.count_bound.0).0 in
-    frame-put frame left (replicate g.row.N 0) flags.new.used cutting rows.flagged flags.auto.used flags.ensures put.ensures
+    frame-put frame left (replicate g.row.N false) flags.new.used cutting rows.flagged flags.auto.used flags.ensures put.ensures
     expr.new.out expr.result (omega (arith, put.auto.to, rows.numbered)) expr.ensures

@@ -1,6 +1,5 @@
 -- `parse_distance_predicate`: what a node asks for is what its operator or its name asks for; the other nodes ask for no distance.
 use Rattle.std.proofs.Common.{inl, inr}
-use Rattle.expression.proofs.There.{call-there}
 use Rattle.node_rows.proofs.IndexLaws.{pair_row, pair-listed, call-tabled}
 use Rattle.sedona_expr.proofs.Distances.{plain-asks, and-asks, binary-asks, call_asks}
 use Rattle.sedona_expr.proofs.utils.parse_distance_predicate.Goals as goal
@@ -10,12 +9,10 @@ parse_comparison-requires c =
     let both = pair-listed c.requires.tree c.requires.of_tree c.node_at.ensures c.in-Binary.is in
     record { pair = both.0; of_pair = both.1 }
 
-pub parse_dwithin-requires : goal.parse_dwithin-requires
-parse_dwithin-requires c =
-    let tree = c.requires.tree in record {
-      calls = call-there tree c.node_at.ensures c.in-Call.is;
-      of_call = call-tabled (c.requires.of_tree tree.0 tree.1 tree.2) (c.in-Call.ensures tree.0 tree.1 tree.2);
-    }
+pub parse_dwithin-requires-clause-of_call : goal.parse_dwithin-requires-clause-of_call
+parse_dwithin-requires-clause-of_call c =
+    let tree = c.requires.tree in
+    call-tabled (c.requires.of_tree tree.0 tree.1 tree.2) (c.in-Call.ensures tree.0 tree.1 tree.2)
 
 pub returns-in-Binary : goal.returns-in-Binary
 returns-in-Binary c =
