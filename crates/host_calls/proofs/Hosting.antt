@@ -6,12 +6,11 @@ use lib.IntN.{ℤ}
 use Rattle.definitions.specs.Calls.{Outcome}
 use Rattle.definitions.specs.Good.{AllBytes}
 use Rattle.definitions.specs.Hosts.{hosted, hosted_walk}
-use Rattle.join_filter.specs.Outcomes.{answer_of, OutcomeIs, ExtractIs}
-use Rattle.join_filter.specs.declared.answers.Answer.{Answer}
+use Rattle.join_filter.specs.Outcomes.{Answered, answer_of, OutcomeIs, ExtractIs}
 use Rattle.join_filter.specs.declared.answers.Extracted.{Extracted}
 use Rattle.host_calls.specs.Hosted.{CallHosted, ExtractHosted}
 
-pub call-hosted : (before : List ℕ) → AllBytes before → (o : Outcome) (n : ℕ) (after kept : List ℕ) (r : Answer)
+pub call-hosted : (before : List ℕ) → AllBytes before → (o : Outcome) (n : ℕ) (after kept : List ℕ) (r : Answered)
     → OutcomeIs o n after kept r
     → (z : ℤ) → z ≡ hosted (answer_of r) → CallHosted before o after kept z
 call-hosted before bytes o n after kept r is z e = rw (e, is) (bytes, refl, refl, refl)

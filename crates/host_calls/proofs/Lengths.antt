@@ -1,4 +1,5 @@
 -- The lengths that exchange, project and print answer are short, so each answer is one number.
+use Rattle.std.specs.Prelude.{Ok, Err}
 use Prim.Native.Nat.{ℕ}
 use native.Mathlib.Omega.{arith}
 use mathlib.Core.Path.{◌≡◌, refl, sym, ap, ◌∙◌}
@@ -14,35 +15,33 @@ use Rattle.definitions.specs.Project.{project}
 use Rattle.definitions.specs.Good.{AllBytes}
 use Rattle.theorems.proofs.InverseFrame.{same_ok, frame_back}
 use Rattle.theorems.proofs.Proved.{lengths_short, text-is-short, print-given}
-use Rattle.join_filter.specs.Outcomes.{answer_of, OutcomeIs, PrintIs}
-use Rattle.join_filter.specs.declared.answers.Answer.{Answer}
-use Rattle.join_filter.specs.declared.answers.Answer.TheVariants.{Length, Refused}
+use Rattle.join_filter.specs.Outcomes.{Answered, answer_of, OutcomeIs, PrintIs}
 use Rattle.host_calls.specs.Hosted.{PrintHosted}
 use Rattle.host_calls.specs.Short.{Short}
 
-pub exchange-short : (n : ℕ) (before scratch after kept : List ℕ) (r : Answer)
+pub exchange-short : (n : ℕ) (before scratch after kept : List ℕ) (r : Answered)
     → OutcomeIs (exchange n before scratch) n after kept r → AllBytes before → Short r
 unfolding make_by
-exchange-short n before scratch after kept (Length m) is bytes =
+exchange-short n before scratch after kept (Ok m) is bytes =
     omega (arith, lengths_short.1 exchange_call n before scratch [] m bytes (ap (λ (o : Outcome). o.answer) is))
-exchange-short n before scratch after kept (Refused why) is bytes = tt
+exchange-short n before scratch after kept (Err why) is bytes = tt
 
-pub projected-short : (n : ℕ) (before scratch of_left of_right after kept : List ℕ) (r : Answer)
+pub projected-short : (n : ℕ) (before scratch of_left of_right after kept : List ℕ) (r : Answered)
     → OutcomeIs (project n before scratch of_left of_right) n after kept r → AllBytes before → Short r
-projected-short n before scratch of_left of_right after kept (Length m) is bytes =
+projected-short n before scratch of_left of_right after kept (Ok m) is bytes =
     omega (arith, lengths_short.2 n before scratch of_left of_right m bytes (ap (λ (o : Outcome). o.answer) is))
-projected-short n before scratch of_left of_right after kept (Refused why) is bytes = tt
+projected-short n before scratch of_left of_right after kept (Err why) is bytes = tt
 
-module _ (frame before after : List ℕ) (r : Answer) (is : PrintIs frame before after r) where
+module _ (frame before after : List ℕ) (r : Answered) (is : PrintIs frame before after r) where
   pub text-short : AllBytes frame → Short r
   unfolding accepted
   text-short = short r is where
-    short : (r : Answer) → PrintIs frame before after r → AllBytes frame → Short r
-    short (Length m) is bytes =
+    short : (r : Answered) → PrintIs frame before after r → AllBytes frame → Short r
+    short (Ok m) is bytes =
         let (F, wrote) = print-given frame before (ap (λ (o : PrintOutcome). accepted o.answer) is) in
         let size : m ≡ length (printed F.expr) = same_ok m _ (sym (ap (λ (o : PrintOutcome). o.answer) is) ∙ wrote.answer) in
         omega (arith, (text-is-short F (frame_back frame F bytes wrote.given).1).1)
-    short (Refused why) is bytes = tt
+    short (Err why) is bytes = tt
 
   pub print-hosted : (z : ℤ) → z ≡ hosted (answer_of r) → PrintHosted frame before after z
   print-hosted z e = rw (e, is) (refl, refl)

@@ -1,5 +1,6 @@
 -- A put or serve that met its contract gives the definition's answer, with a short length, and that, as one number, is the host's.
-use Prim.Native.Nat.{ℕ, ◌+◌, ◌*◌, ◌≤◌}
+use Rattle.std.specs.Prelude.{Some, None, Ok, Err}
+use Prim.Native.Nat.{ℕ, ◌≤◌}
 use native.Mathlib.Omega.{arith}
 use mathlib.Core.Path.{◌≡◌, refl, ap}
 use mathlib.Core.List.{List}
@@ -8,34 +9,30 @@ use Rattle.definitions.specs.Queues.{queue_number}
 use Rattle.definitions.specs.QueueBytes.{PutOutcome, put, ServeOutcome, serve}
 use Rattle.definitions.specs.Hosts.{hosted, hosted_serve}
 use Rattle.theorems.proofs.Proved.{queue-lengths}
-use Rattle.join_filter.specs.Outcomes.{answer_of}
-use Rattle.join_filter.specs.declared.answers.Answer.{Answer}
-use Rattle.join_filter.specs.declared.answers.Answer.TheVariants.{Length, Refused}
-use Rattle.queues.specs.Outcomes.{queue_is, serve_answer_of, PutIs, ServeIs}
+use Rattle.join_filter.specs.Outcomes.{Answered, answer_of}
+use Rattle.queues.specs.Outcomes.{queue_is, ServeAnswered, serve_answer_of, PutIs, ServeIs}
 use Rattle.queues.specs.declared.answers.Queue.{Queue}
 use Rattle.queues.specs.declared.answers.Queue.TheVariants.{Chassis, FixedUnit}
-use Rattle.queues.specs.declared.answers.ServeAnswer.{ServeAnswer}
-use Rattle.queues.specs.declared.answers.ServeAnswer.TheVariants as serves
 use Rattle.host_calls.specs.Short.{Short, ServeShort}
 use Rattle.host_calls.specs.Hosted.{PutHosted, ServeHosted}
 
-module _ (b : List ℕ) (number : ℕ) (f after : List ℕ) (r : Answer) (is : PutIs (put b number f) after r) where
+module _ (b : List ℕ) (number : ℕ) (f after : List ℕ) (r : Answered) (is : PutIs (put b number f) after r) where
   pub put-short : Short r
   put-short = short r is where
-    short : (r : Answer) → PutIs (put b number f) after r → Short r
-    short (Length n) is = omega (arith, (queue-lengths.0 b number f n (ap (λ (o : PutOutcome). o.answer) is)).1)
-    short (Refused why) is = tt
+    short : (r : Answered) → PutIs (put b number f) after r → Short r
+    short (Ok n) is = omega (arith, (queue-lengths.0 b number f n (ap (λ (o : PutOutcome). o.answer) is)).1)
+    short (Err why) is = tt
 
   pub put-hosted : (z : ℤ) → z ≡ hosted (answer_of r) → PutHosted (put b number f) after z
   put-hosted z e = rw (e, is) (refl, refl)
 
-module _ (b out after out_after : List ℕ) (r : ServeAnswer) (is : ServeIs (serve b out) after out_after r) where
+module _ (b out after out_after : List ℕ) (r : ServeAnswered) (is : ServeIs (serve b out) after out_after r) where
   pub serve-short : ServeShort r
   serve-short = short r is where
-    short : (r : ServeAnswer) → ServeIs (serve b out) after out_after r → ServeShort r
-    short (serves.Frame queue n) is = (queue-lengths.1 b out (queue_is queue) n (ap (λ (o : ServeOutcome). o.answer) is)).1
-    short serves.BothEmpty is = tt
-    short (serves.Refused why) is = tt
+    short : (r : ServeAnswered) → ServeIs (serve b out) after out_after r → ServeShort r
+    short (Ok (Some frame)) is = (queue-lengths.1 b out (queue_is frame.0) frame.1 (ap (λ (o : ServeOutcome). o.answer) is)).1
+    short (Ok None) is = tt
+    short (Err why) is = tt
 
   pub serve-hosted : (z : ℤ) → z ≡ hosted_serve (serve_answer_of r) → ServeHosted (serve b out) after out_after z
   serve-hosted z e = rw (e, is) (refl, refl, refl)

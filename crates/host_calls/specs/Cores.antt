@@ -1,5 +1,5 @@
 -- What a call leaves to be done with the table, and an extract from the numbers of its records. (Ours.)
-use Rattle.std.specs.Prelude.{ℕ, ◌≤◌, ◌≡◌, List, ◌++◌, ℤ, length, drop}
+use Rattle.std.specs.Prelude.{ℕ, ◌≤◌, ◌≡◌, List, ◌++◌, ℤ, pos, neg_ℤ, length, drop, Result, Ok, Err}
 use Rattle.definitions.specs.Calls.{load}
 use Rattle.definitions.specs.Merge.{merge}
 use Rattle.definitions.specs.NodeTable.{NodeRecord}
@@ -8,10 +8,18 @@ use Rattle.definitions.specs.Hosts.{hosted}
 use Rattle.definitions.specs.Settings.{Settings, extract_under, extract_walk_under}
 use Rattle.expression.specs.Filling.{Records}
 use Rattle.call_extract.specs.ExtractByTable.{RowOf}
+use Rattle.terms.specs.Refusals.{number_of}
+use Rattle.terms.specs.declared.refusals.Refusal.{Refusal}
+use Rattle.join_filter.specs.declared.answers.Loaded as calls
 use Rattle.host_calls.specs.declared.cores.Loaded.{Loaded}
 use Rattle.host_calls.specs.Hosted.{ExtractHosted}
 
 -- ---- a call that leaves the table to be filled
+
+-- What a load or a merge answers, as a host gets it, with what the table is to be filled with: nothing after a refusal. (Ours.)
+abbrev pub LeftBy : Result calls.Loaded Refusal → Loaded → Type 0
+LeftBy (Ok r) left = (left.answer ≡ pos r.length) × (left.root ≡ r.root) × (left.count ≡ r.count)
+LeftBy (Err why) left = (left.answer ≡ neg_ℤ (pos (number_of why))) × (left.root ≡ 0) × (left.count ≡ 0)
 
 -- What is left to do: records that stand in these bytes, which the table has room for, and which fill it. (Ours.)
 pub record Left (s : List ℕ) (root count : ℕ) (table filled : List NodeRecord) : Type 0 where

@@ -6,7 +6,7 @@ ghost use Rattle.join_filter.specs.Outcomes.{answer_of};
 ghost use Rattle.host_calls.specs.Short.{Short, ShortWalk};
 
 use join_filter::answers::{Answer, Extracted};
-use terms::refusals::{Refusal, refusal_number};
+use terms::refusals::Refusal;
 
 // A length, or a walk or a queue and a length in one number.
 pub(crate) fn length_number(n: usize) -> i64
@@ -16,13 +16,6 @@ pub(crate) fn length_number(n: usize) -> i64
     n as i64
 }
 
-pub fn minus_refusal(why: Refusal) -> i64
-    ensures { result ≡ neg_ℤ (pos (number_of why)) }
-{
-    let number = refusal_number(why);
-    0 - number as i64
-}
-
 fn minus_number(n: usize) -> i64
     requires { n ≤ 4294967295 }
     ensures { result ≡ neg_ℤ (pos n) }
@@ -30,19 +23,21 @@ fn minus_number(n: usize) -> i64
     0 - n as i64
 }
 
+pub fn minus_refusal(why: Refusal) -> i64
+    ensures { result ≡ neg_ℤ (pos (number_of why)) }
+{
+    minus_number(usize::from(u8::from(why)))
+}
+
 // Extract's: the walk that it carries is at most 2,047.
 pub fn walk_number(extracted: Extracted) -> i64
     requires { ShortWalk extracted }
     ensures { result ≡ hosted_walk extracted.walk (answer_of extracted.answer) }
 {
-    let answer = extracted.answer;
     let walk = extracted.walk;
-    match answer {
-        Answer::Length(n) => length_number(walk * 65536 + n),
-        Answer::Refused(why) => {
-            let number = refusal_number(why);
-            minus_number(walk * 256 + number as usize)
-        }
+    match extracted.answer {
+        Ok(n) => length_number(walk * 65536 + n),
+        Err(why) => minus_number(walk * 256 + usize::from(u8::from(why))),
     }
 }
 
@@ -52,7 +47,7 @@ pub fn answer_number(answer: Answer) -> i64
     ensures { result ≡ hosted (answer_of answer) }
 {
     match answer {
-        Answer::Length(n) => length_number(n),
-        Answer::Refused(why) => minus_refusal(why),
+        Ok(n) => length_number(n),
+        Err(why) => minus_refusal(why),
     }
 }

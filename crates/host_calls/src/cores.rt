@@ -1,7 +1,13 @@
 // What a call leaves for the table that a host lends, and how many of its records an extract takes. Public for the crates of the calls
 // with a table.
-ghost use Rattle.std.specs.Prelude.{◌≡◌, min};
+ghost use Rattle.std.specs.Prelude.{◌≡◌};
 ghost use Rattle.call_extract.specs.ExtractByTable.{lent_count};
+ghost use Rattle.host_calls.specs.Short.{ShortLoaded};
+ghost use Rattle.host_calls.specs.Cores.{LeftBy};
+
+use super::answers::{length_number, minus_refusal};
+use join_filter::answers;
+use terms::refusals::Refusal;
 
 // The answer, and what the table is to be filled with: the nodes of the expression that begins at `root`, `count` of them, or none.
 #[derive(Clone, Copy)]
@@ -11,15 +17,28 @@ pub struct Loaded {
     pub count: usize,
 }
 
-fn least(a: usize, b: usize) -> usize
-    ensures { result ≡ min a b }
+// What a load or a merge leaves; a refused one fills no record.
+pub(crate) fn left_by(loaded: Result<answers::Loaded, Refusal>) -> Loaded
+    requires { ShortLoaded loaded }
+    ensures { LeftBy loaded result }
 {
-    if a < b { a } else { b }
+    match loaded {
+        Ok(loaded) => Loaded {
+            answer: length_number(loaded.length),
+            root: loaded.root,
+            count: loaded.count,
+        },
+        Err(why) => Loaded {
+            answer: minus_refusal(why),
+            root: 0,
+            count: 0,
+        },
+    }
 }
 
 // How many of the table's records an extract takes: a frame of n bytes has at most 1,024 nodes, each of three bytes at least.
 pub fn taken_count(n: usize, held: usize) -> usize
     ensures { result ≡ lent_count n held }
 {
-    least(least(held, 1024), n / 3)
+    held.min(1024).min(n / 3)
 }

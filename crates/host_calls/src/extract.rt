@@ -1,30 +1,23 @@
 // All of extract but the table, the answer as a host gets it. Public for `spatialjoin_c`.
-ghost use Rattle.host_calls.specs.Hosted.{settings_by};
+ghost use Rattle.terms.specs.Settings.{settings_of};
 ghost use Rattle.host_calls.specs.Cores.{Lent, ExtractBy};
 
 use super::answers::walk_number;
 use call_extract::by_table::extract_by_table;
+use call_extract::compared::Table;
 use terms::settings::Settings;
 
-// `row` has the numbers of the first of the table's `held` records, as many as are taken; the settings are the host's three numbers.
+// The table's row has the numbers of the first of its records, as many as are taken.
 pub fn extract_core(
     plan: &mut [u8],
     n: usize,
     scratch: &mut [u8],
-    row: &[u32],
-    held: usize,
-    kinds: u8,
-    default_k: u32,
-    greatest_k: u32,
+    table: Table,
+    settings: Settings,
 ) -> i64
-    requires { Lent n row.now held }
-    ensures { ExtractBy (settings_by kinds default_k greatest_k) n plan.old scratch.old row.now held
+    requires { Lent n table.row.now table.places }
+    ensures { ExtractBy (settings_of settings) n plan.old scratch.old table.entry.row.now table.entry.places
         plan.new scratch.new result }
 {
-    let settings = Settings {
-        kinds: kinds as u32,
-        default_k,
-        greatest_k,
-    };
-    walk_number(extract_by_table(plan, n, scratch, row, held, settings))
+    walk_number(extract_by_table(plan, n, scratch, table, settings))
 }

@@ -5,7 +5,6 @@ ghost use Rattle.host_calls.specs.Hosted.{AllHosted};
 
 use super::answers::minus_refusal;
 use call_extract_all::call::extract_all;
-use join_filter::answers::Answer;
 use terms::settings::Settings;
 
 // At most 1,024 rounds and 16,384 bytes.
@@ -13,11 +12,8 @@ pub fn all_number(frame: &[u8], out: &mut [u8], settings: Settings) -> i64
     ensures { AllHosted frame.now (definitions.extract_all_under (settings_of settings) frame.now out.old)
         out.new result }
 {
-    let all = extract_all(out, frame, settings);
-    let rounds = all.rounds;
-    let answer = all.answer;
-    match answer {
-        Answer::Refused(why) => minus_refusal(why),
-        Answer::Length(n) => (rounds * 65536 + n) as i64,
+    match extract_all(out, frame, settings) {
+        Ok(taken) => (taken.rounds * 65536 + taken.length) as i64,
+        Err(why) => minus_refusal(why),
     }
 }

@@ -13,3 +13,4 @@ pub mod print;
 pub mod project;
 pub mod put;
 pub mod serve;
+pub mod settings;

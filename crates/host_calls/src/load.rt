@@ -3,8 +3,7 @@ ghost use Rattle.std.specs.Prelude.{◌≡◌, length};
 ghost use Rattle.node_rows.specs.Rows.{RowHas};
 ghost use Rattle.host_calls.specs.Cores.{LoadLeft};
 
-use super::answers::answer_number;
-use super::cores::Loaded;
+use super::cores::{Loaded, left_by};
 use call_load::load_row;
 
 // The numbers of these nodes are then the row's first.
@@ -13,13 +12,5 @@ pub fn load_core(row: &mut [u32], frame: &[u8], plan: &mut [u8], held: usize) ->
     ensures { LoadLeft frame.now plan.old held plan.new result
         × RowHas frame.now result.root result.count row.new }
 {
-    let loaded = load_row(row, plan, frame, held);
-    let answer = loaded.answer;
-    let root = loaded.root;
-    let count = loaded.count;
-    Loaded {
-        answer: answer_number(answer),
-        root,
-        count,
-    }
+    left_by(load_row(row, plan, frame, held))
 }

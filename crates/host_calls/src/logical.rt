@@ -4,19 +4,18 @@ ghost use Rattle.definitions.specs.Hosts.{hosted_names};
 ghost use Rattle.definitions.specs.Logical as logicals;
 
 use super::answers::minus_refusal;
-use logical_filter::call::{Names, logical};
-use logical_filter::knn_query_side::query_side_number;
+use logical_filter::call::logical;
 
 // Mask, count and side in one number.
 pub fn logical_number(frame: &[u8]) -> i64
     ensures { result ≡ hosted_names (logicals.logical frame.now) }
 {
     match logical(frame) {
-        Names::Refused(why) => minus_refusal(why),
-        Names::Found(found, side) => {
-            let mask = found.mask as u64;
-            let names = found.names as u64;
-            let side = query_side_number(side) as u64;
+        Err(why) => minus_refusal(why),
+        Ok(names) => {
+            let mask = u64::from(names.found.mask);
+            let side = u64::from(u8::from(names.side));
+            let names = u64::from(names.found.names);
             (mask * 65536 + names * 256 + side) as i64
         }
     }

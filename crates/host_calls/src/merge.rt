@@ -1,8 +1,7 @@
 // All of merge but the table, the answer as a host gets it. Public for `spatialjoin_c`.
 ghost use Rattle.host_calls.specs.Cores.{MergeLeft};
 
-use super::answers::answer_number;
-use super::cores::Loaded;
+use super::cores::{Loaded, left_by};
 use call_merge::call::merge;
 
 pub fn merge_core(
@@ -15,13 +14,5 @@ pub fn merge_core(
     ensures { MergeLeft frame.now n plan.old scratch.old held plan.new
         scratch.new result }
 {
-    let merged = merge(plan, n, scratch, frame, held);
-    let answer = merged.answer;
-    let root = merged.root;
-    let count = merged.count;
-    Loaded {
-        answer: answer_number(answer),
-        root,
-        count,
-    }
+    left_by(merge(plan, n, scratch, frame, held))
 }

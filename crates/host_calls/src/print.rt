@@ -7,6 +7,5 @@ use call_print::print;
 pub fn print_number(frame: &[u8], text: &mut [u8]) -> i64
     ensures { PrintHosted frame.now text.old text.new result }
 {
-    let printed = print(text, frame);
-    answer_number(printed)
+    answer_number(print(text, frame))
 }

@@ -8,6 +8,5 @@ use queues::put::put;
 pub fn put_number(queues: &mut [u8], queue: u8, frame: &[u8]) -> i64
     ensures { PutHosted (definitions.put queues.old queue frame.now) queues.new result }
 {
-    let added = put(queues, queue, frame);
-    answer_number(added)
+    answer_number(put(queues, queue, frame))
 }

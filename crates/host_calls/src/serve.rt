@@ -7,7 +7,7 @@ ghost use Rattle.host_calls.specs.Short.{ServeShort};
 ghost use Rattle.host_calls.specs.Hosted.{ServeHosted};
 
 use super::answers::{length_number, minus_refusal};
-use queues::answers::{ServeAnswer, queue_number};
+use queues::answers::ServeAnswer;
 use queues::serve::serve;
 
 // Queue and length in one number, 0 with both queues empty.
@@ -16,12 +16,12 @@ fn served_number(answer: ServeAnswer) -> i64
     ensures { result ≡ hosted_serve (serve_answer_of answer) }
 {
     match answer {
-        ServeAnswer::Frame(queue, n) => {
-            let number = queue_number(queue) as usize;
+        Ok(Some((queue, n))) => {
+            let number = usize::from(u8::from(queue));
             length_number(number * 65536 + n)
         }
-        ServeAnswer::BothEmpty => length_number(0),
-        ServeAnswer::Refused(why) => minus_refusal(why),
+        Ok(None) => length_number(0),
+        Err(why) => minus_refusal(why),
     }
 }
 

@@ -1,5 +1,5 @@
 -- What the calls answer is what their lines give.
-use Rattle.std.specs.Prelude.{if◌then◌else◌}
+use Rattle.std.specs.Prelude.{if◌then◌else◌, Result as Either, Ok, Err}
 use Prim.Native.Nat.{ℕ, zero, suc, ◌+◌, ◌/◌, ◌%◌, ◌≤◌, ◌<◌}
 use native.Mathlib.Omega.{arith}
 use mathlib.Core.Path.{◌≡◌, refl, sym, ap, ◌∙◌}
@@ -19,12 +19,10 @@ use Rattle.definitions.specs.Program.{Kept, LineOutcome, refused_line, load_line
 use Rattle.theorems.proofs.InversePlan.{refused_not_ok}
 use Rattle.terms.specs.Refusals.{number_of}
 use Rattle.terms.specs.declared.refusals.Refusal.{Refusal}
-use Rattle.join_filter.specs.Outcomes.{answer_of, n_after, LoadIs, OutcomeIs}
-use Rattle.join_filter.specs.declared.answers.Answer.{Answer as CallAnswer}
+use Rattle.join_filter.specs.Outcomes.{Answered as CallAnswered, answer_of, n_after, LoadIs, OutcomeIs}
 use Rattle.join_filter.specs.declared.answers.Loaded.{Loaded}
 use Rattle.call_load.specs.Loads.{LoadedIs}
-use Rattle.join_filter.specs.declared.answers.Answer.TheVariants.{Length, Refused as CallRefused}
-use Rattle.lines.specs.declared.answers.Answer.TheVariants.{Logical, Refused}
+use Rattle.lines.specs.declared.answers.Given.TheVariants.{Logical}
 use Rattle.lines.specs.Answers.{plan_length, kept_as, AnswerIs}
 use Rattle.lines.specs.Calling.{line_answer}
 use Rattle.lines.specs.Scratch.{call_scratch}
@@ -35,10 +33,10 @@ use Rattle.lines.specs.Scratch.{call_scratch}
 abbrev given : (answer : Result ℕ) (n : ℕ) (plan : List ℕ) → LineOutcome
 given answer n plan = record { answer = map_result (λ m. take m plan) answer; kept = record { n = n; buffer = plan } }
 
-answer-given : (a : CallAnswer) (n : ℕ) (plan : List ℕ) → plan_length (line_answer a) ≤ length plan
+answer-given : (a : CallAnswered) (n : ℕ) (plan : List ℕ) → plan_length (line_answer a) ≤ length plan
     → AnswerIs (given (answer_of a) (n_after n a) plan) n plan (line_answer a)
-answer-given (Length m) n plan h = record { answer = refl; kept = refl; fits = h }
-answer-given (CallRefused why) n plan h = record { answer = refl; kept = refl; fits = h }
+answer-given (Ok m) n plan h = record { answer = refl; kept = refl; fits = h }
+answer-given (Err why) n plan h = record { answer = refl; kept = refl; fits = h }
 
 -- A plan that was written is in its buffer.
 plan-written : (bytes before : List ℕ) {after : List ℕ} {m : ℕ} → ok (length bytes) ≡ ok m → written_over bytes before ≡ after
@@ -58,21 +56,32 @@ loaded-fits (ok F) frame n before table e = plan-written frame before (ap (λ (o
     (ap (λ (o : LoadOutcome). o.buffer) e)
 loaded-fits (refused number) frame n before table e = absurd (refused_not_ok _ _ (ap (λ (o : LoadOutcome). o.answer) e))
 
-load_fits : (frame before : List ℕ) {after : List ℕ} (table : List NodeRecord) {filled : List NodeRecord} (a : CallAnswer)
+load_fits : (frame before : List ℕ) {after : List ℕ} (table : List NodeRecord) {filled : List NodeRecord} (a : CallAnswered)
     → LoadIs frame before after table filled a → plan_length (line_answer a) ≤ length after
 unfolding load
-load_fits frame before table (Length m) is =
+load_fits frame before table (Ok m) is =
     loaded-fits (new_after_load frame (length before) (length table) (frame_of frame)) frame 0 before table (is 0)
-load_fits frame before table (CallRefused why) is = omega arith
+load_fits frame before table (Err why) is = omega arith
 
-pub load_gives : (frame before : List ℕ) {after : List ℕ} (r : Loaded) → LoadedIs frame before after 1024 r → (n : ℕ)
-    → AnswerIs (load_line frame (kept_as n before)) n after (line_answer r.answer)
-unfolding load_line
-load_gives frame before {after} r loaded n =
-    let table : List NodeRecord = replicate 1024 blank in
-    let is = loaded.2 table (length-replicate {A = NodeRecord} 1024 blank) in
-    rw (ap (λ (o : LoadOutcome). given o.answer o.n o.buffer) (is n))
-    (answer-given r.answer n after (load_fits frame before table r.answer is))
+-- The new plan's length, or why the load is refused.
+abbrev pub loaded_length : Either Loaded Refusal → CallAnswered
+loaded_length (Ok r) = Ok r.length
+loaded_length (Err why) = Err why
+
+abbrev blanks : List NodeRecord
+blanks = replicate 1024 blank
+
+module _ (frame before : List ℕ) {after : List ℕ} (n : ℕ) where
+  load-given : {filled : List NodeRecord} (a : CallAnswered) → LoadIs frame before after blanks filled a
+      → AnswerIs (load_line frame (kept_as n before)) n after (line_answer a)
+  unfolding load_line
+  load-given a is =
+      rw (ap (λ (o : LoadOutcome). given o.answer o.n o.buffer) (is n)) (answer-given a n after (load_fits frame before blanks a is))
+
+  pub load_gives : (r : Either Loaded Refusal) → LoadedIs frame before after 1024 r
+      → AnswerIs (load_line frame (kept_as n before)) n after (line_answer (loaded_length r))
+  load_gives (Ok r) loaded = load-given (Ok r.length) (loaded.2 blanks (length-replicate {A = NodeRecord} 1024 blank))
+  load_gives (Err why) loaded = load-given (Err why) (loaded blanks (length-replicate {A = NodeRecord} 1024 blank))
 
 -- ---- extract and exchange
 
@@ -97,15 +106,15 @@ unfolding finish
 finish-fits (ok bytes) n before s e = plan-written bytes before (ap (λ (o : Outcome). o.answer) e) (ap (λ (o : Outcome). o.buffer) e)
 finish-fits (refused number) n before s e = absurd (refused_not_ok _ _ (ap (λ (o : Outcome). o.answer) e))
 
-call_fits : (kind : Kind) (n : ℕ) (before s : List ℕ) {after t : List ℕ} (a : CallAnswer)
+call_fits : (kind : Kind) (n : ℕ) (before s : List ℕ) {after t : List ℕ} (a : CallAnswered)
     → OutcomeIs (line_call kind n before s) n after t a
     → plan_length (line_answer a) ≤ length after
 unfolding line_call extract_filled_by exchange
-call_fits extract_call n before s (Length m) is = finish-fits (new_after_extract n (length s) (held_plan n before)) n before s is
-call_fits exchange_call n before s (Length m) is = finish-fits (new_after_exchange n (length s) (held_plan n before)) n before s is
-call_fits kind n before s (CallRefused why) is = omega arith
+call_fits extract_call n before s (Ok m) is = finish-fits (new_after_extract n (length s) (held_plan n before)) n before s is
+call_fits exchange_call n before s (Ok m) is = finish-fits (new_after_exchange n (length s) (held_plan n before)) n before s is
+call_fits kind n before s (Err why) is = omega arith
 
-call-gives : (kind : Kind) (n : ℕ) (before s : List ℕ) {after t : List ℕ} (a : CallAnswer)
+call-gives : (kind : Kind) (n : ℕ) (before s : List ℕ) {after t : List ℕ} (a : CallAnswered)
     → OutcomeIs (line_call kind n before s) n after t a → length s ≡ 16384
     → AnswerIs (call_line kind [] (kept_as n before)) n after (line_answer a)
 unfolding call_line
@@ -114,7 +123,7 @@ call-gives kind n before s {after} a is size =
     (answer-given a n after (call_fits kind n before s a is))
 
 -- Nothing but the scratch that it was lent is left there.
-call-leaves : (kind : Kind) (n : ℕ) (before s : List ℕ) {after t : List ℕ} (a : CallAnswer)
+call-leaves : (kind : Kind) (n : ℕ) (before s : List ℕ) {after t : List ℕ} (a : CallAnswered)
     → OutcomeIs (line_call kind n before s) n after t a
     → t ≡ call_scratch kind [] (kept_as n before) s
 unfolding call_scratch
@@ -145,7 +154,7 @@ none-follow (suc zero) (a ∷ bytes) h = refl
 none-follow (suc (suc size)) bytes h = absurd (omega arith)
 
 -- A line with no more bytes gives what its call answers, and leaves what it leaves.
-pub alone-gives : (kind : Kind) (size : ℕ) (bytes : List ℕ) → size ≤ 1 → (n : ℕ) (before s : List ℕ) {after t : List ℕ} (a : CallAnswer)
+pub alone-gives : (kind : Kind) (size : ℕ) (bytes : List ℕ) → size ≤ 1 → (n : ℕ) (before s : List ℕ) {after t : List ℕ} (a : CallAnswered)
     → OutcomeIs (line_call kind n before s) n after t a → length s ≡ 16384
     → AnswerIs (call_line kind (drop 1 (take size bytes)) (kept_as n before)) n after (line_answer a)
     × (t ≡ call_scratch kind (drop 1 (take size bytes)) (kept_as n before) s)
@@ -179,25 +188,21 @@ unfolding logical
 few-names frame is = names-below (logical_of frame) is
 
 -- The mask's bytes, high first.
-mask-bytes : (mask : ℕ) → mask < 65536 → mask / 256 ∷ mask % 256 ∷ [] ≡ big_endian 2 mask
+mask-bytes : (mask : ℕ) → mask / 256 % 256 ∷ mask % 256 ∷ [] ≡ big_endian 2 mask
 unfolding big_endian
-mask-bytes mask h =
-    let high : mask / 256 % 256 ≡ mask / 256 = omega arith in
-    let low : mask / 1 % 256 ≡ mask % 256 = omega arith in
-    cc
+mask-bytes mask = let low : mask / 1 % 256 ≡ mask % 256 = omega arith in cc
 
 pub names-give : (frame : List ℕ) {mask names : ℕ} {side : Side} → ok (record { mask = mask; names = names; side = side }) ≡ logical frame
-    → mask < 65536
     → (n : ℕ) (plan : List ℕ)
-    → AnswerIs (logical_line frame (kept_as n plan)) n plan (Logical (mask / 256) (mask % 256) names (side_number side))
+    → AnswerIs (logical_line frame (kept_as n plan)) n plan (Ok (Logical (mask / 256 % 256) (mask % 256) names (side_number side)))
 unfolding logical_line logical_bytes
-names-give frame {mask} {names} {side} is h n plan = record {
-  answer = rw (← is) (ap (λ (l : List ℕ). ok (l ++ (names ∷ side_number side ∷ []))) (mask-bytes mask h));
+names-give frame {mask} {names} {side} is n plan = record {
+  answer = rw (← is) (ap (λ (l : List ℕ). ok (l ++ (names ∷ side_number side ∷ []))) (mask-bytes mask));
   kept = refl;
   fits = omega arith;
 }
 
 pub refusal-gives : (frame : List ℕ) (why : Refusal) → refused (number_of why) ≡ logical frame
-    → (n : ℕ) (plan : List ℕ) → AnswerIs (logical_line frame (kept_as n plan)) n plan (Refused why)
+    → (n : ℕ) (plan : List ℕ) → AnswerIs (logical_line frame (kept_as n plan)) n plan (Err why)
 unfolding logical_line
 refusal-gives frame why is n plan = record { answer = rw (← is) refl; kept = refl; fits = omega arith }

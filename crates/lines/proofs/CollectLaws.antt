@@ -73,17 +73,6 @@ pub record Collecting (piece before : List ℕ) (count at : ℕ) (after : List �
   pub buffer : after ≡ sets before count (take at piece)
   pub kept : length after ≡ length before
 
-pub collect-none : (piece buffer : List ℕ) (count : ℕ) → Collecting piece buffer count 0 buffer count
-collect-none piece buffer count = record {
-  within = omega arith;
-  line = refl;
-  feed = refl;
-  joined = λ line b. rw append-nil b;
-  counts = refl;
-  buffer = refl;
-  kept = refl;
-}
-
 pub no-feed : (c : ℕ) (s : List ℕ) → (c ≡ 10 → ⊥) → (first_line (c ∷ s) ≡ c ∷ first_line s) × (has_feed (c ∷ s) ≡ has_feed s)
 unfolding first_line has_feed
 no-feed c s h = (simp (ne_eqb c 10 h), simp (ne_eqb c 10 h))
@@ -156,8 +145,8 @@ at-feed {piece} {before} {after} {count} {at} s h c =
     stopped (at + 1) true s (ap first_line here) (ap has_feed here) refl
 
 pub at-end : {piece before after : List ℕ} {count at counted : ℕ} → Collecting piece before count at after counted → length piece ≤ at
-    → CollectedIs piece before count after (record { taken = at; count = counted; ended = false })
+    → CollectedIs piece before count after (record { taken = length piece; count = counted; ended = false })
 unfolding first_line has_feed
 at-end {piece} {before} {after} {count} {at} s h =
     let here : drop at piece ≡ [] = drop_of_length-le piece {i = at} h in
-    stopped at false s (ap first_line here) (ap has_feed here) (omega arith)
+    stopped (length piece) false s (ap first_line here) (ap has_feed here) (omega (arith, s.within))

@@ -1,4 +1,5 @@
 -- A session's steps, and what they make of the numbers and buffers that stand for it.
+use Rattle.std.specs.Prelude.{Ok, Err}
 use Prim.Native.Nat.{ℕ, ◌+◌, ◌*◌, ◌≤◌, ◌<◌}
 use native.Mathlib.Omega.{arith}
 use mathlib.Core.Path.{◌≡◌, refl, sym, ap, ◌∙◌}
@@ -11,12 +12,11 @@ use borrow.Author.Tests.{leb-true, leb-false, eqb-true, eqb-false}
 use Rattle.definitions.specs.Program.{Kept, line_outcome, written_line, fresh_plan}
 use Rattle.terms.specs.Refusals.{number_of}
 use Rattle.terms.specs.declared.refusals.Refusal.TheVariants.{NotHexadecimal}
-use Rattle.lines.specs.declared.answers.Answer.{Answer}
-use Rattle.lines.specs.declared.answers.Answer.TheVariants.{Plan, Logical, Refused}
+use Rattle.lines.specs.declared.answers.Given.TheVariants.{Plan, Logical}
 use Rattle.lines.specs.declared.states.Buffers.{Buffers}
 use Rattle.lines.specs.declared.states.State.{State}
 use Rattle.writing.specs.Written.{WroteAt}
-use Rattle.lines.specs.Answers.{answer_bytes, plan_length, kept_as, length_after, AnswerIs}
+use Rattle.lines.specs.Answers.{Answered, answer_bytes, plan_length, kept_as, length_after, AnswerIs}
 use Rattle.lines.specs.Pieces.{Session, end_line, piece, input_end, fresh_session, first_line, has_feed}
 use Rattle.lines.specs.Collecting.{Begun, CollectedIs}
 use Rattle.lines.specs.Sessions.{Stands, Makes, most_filled, EndedIs, TakenIs, FedIs, FinishedIs}
@@ -61,20 +61,20 @@ some-session b state h =
 
 pub too_long : {line begun : List ℕ} {count : ℕ} (b : Begun line count begun) (n : ℕ) (plan : List ℕ) → length line ≡ 32768
     → length line < count
-    → AnswerIs (line_outcome begun (kept_as n plan)) n plan (Refused NotHexadecimal)
+    → AnswerIs (line_outcome begun (kept_as n plan)) n plan (Err NotHexadecimal)
 too_long {begun = begun} b n plan size h =
     rw (← bad-line begun (kept_as n plan) (long-line begun (omega (arith, b.long h)))) (refused-line n plan NotHexadecimal)
 
 -- What a line gives fits the room that is asked for it.
-pub written-fits : (plan : List ℕ) (answer : Answer) → plan_length answer ≤ length plan
+pub written-fits : (plan : List ℕ) (answer : Answered) → plan_length answer ≤ length plan
     → length (written_line (answer_bytes plan answer)) ≤ 2 * length plan + 11
 unfolding written_line
-written-fits plan (Plan n) h = simp length-append (omega (arith, length_digits (0 ∷ take n plan), length-take-le n plan h))
-written-fits plan (Logical high low names side) h = simp length-append (omega (arith, length_digits (0 ∷ high ∷ low ∷ names ∷ side ∷ [])))
-written-fits plan (Refused why) h = simp length-append (omega (arith, length_digits (number_of why ∷ [])))
+written-fits plan (Ok (Plan n)) h = simp length-append (omega (arith, length_digits (0 ∷ take n plan), length-take-le n plan h))
+written-fits plan (Ok (Logical high low names side)) h = simp length-append (omega (arith, length_digits (0 ∷ high ∷ low ∷ names ∷ side ∷ [])))
+written-fits plan (Err why) h = simp length-append (omega (arith, length_digits (number_of why ∷ [])))
 
 -- What it gives is written, and none has begun.
-pub line-ended : {out plan line after plan-after : List ℕ} (scratch scratch_after : List ℕ) {state : State} {filled : ℕ} (answer : Answer)
+pub line-ended : {out plan line after plan-after : List ℕ} (scratch scratch_after : List ℕ) {state : State} {filled : ℕ} (answer : Answered)
     → ((begun : List ℕ) → Begun line state.count begun
     → AnswerIs (line_outcome begun (kept_as state.n plan)) state.n plan-after answer)
     → WroteAt state.filled (written_line (answer_bytes plan-after answer)) out after filled

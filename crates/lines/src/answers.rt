@@ -5,15 +5,16 @@ ghost use Rattle.writing.specs.Written.{WroteAt};
 ghost use Rattle.lines.specs.Answers.{answer_bytes, plan_length, length_after};
 
 use hexadecimal::digit_lines::put_line;
-use terms::refusals::{Refusal, refusal_number};
+use terms::refusals::Refusal;
 
-// The length of the new plan, the four bytes of the logical call, or a refusal.
+// What a line that is accepted gives: the length of the new plan, or the four bytes of the logical call.
 #[derive(Clone, Copy)]
-pub enum Answer {
+pub enum Given {
     Plan(usize),
     Logical(u8, u8, u8, u8),
-    Refused(Refusal),
 }
+
+pub type Answer = Result<Given, Refusal>;
 
 // The line out for an answer, from a place on; gives where it ends.
 pub fn put_answer(out: &mut [u8], at: usize, plan: &[u8], answer: Answer) -> usize
@@ -21,15 +22,11 @@ pub fn put_answer(out: &mut [u8], at: usize, plan: &[u8], answer: Answer) -> usi
     ensures { WroteAt at (written_line (answer_bytes plan.now answer)) out.old out.new result }
 {
     match answer {
-        Answer::Plan(n) => put_line(out, at, 0, &plan[..n]),
-        Answer::Logical(high, low, names, side) => {
-            let bytes = [high, low, names, side];
-            put_line(out, at, 0, &bytes)
+        Ok(Given::Plan(n)) => put_line(out, at, 0, &plan[..n]),
+        Ok(Given::Logical(high, low, names, side)) => {
+            put_line(out, at, 0, &[high, low, names, side])
         }
-        Answer::Refused(why) => {
-            let number = refusal_number(why);
-            put_line(out, at, number, &plan[..0])
-        }
+        Err(why) => put_line(out, at, u8::from(why), &[]),
     }
 }
 
@@ -38,8 +35,7 @@ pub fn length_after(n: usize, answer: Answer) -> usize
     ensures { result ≡ length_after n answer }
 {
     match answer {
-        Answer::Plan(size) => size,
-        Answer::Logical(_, _, _, _) => n,
-        Answer::Refused(_) => n,
+        Ok(Given::Plan(size)) => size,
+        _ => n,
     }
 }

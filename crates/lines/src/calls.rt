@@ -1,90 +1,50 @@
 // The call that a line of the program's input asks for.
-ghost use Rattle.std.specs.Prelude.{◌≡◌, List, ℕ, ◌≤◌, length, take, drop};
+ghost use Rattle.std.specs.Prelude.{◌≡◌, List, ℕ, ◌<◌, ◌≤◌, length, take, MatchResult};
 ghost use Rattle.definitions.specs.Program as program;
+ghost use Rattle.terms.specs.declared.refusals.Refusal.TheVariants.{BytesAfterEnd};
 ghost use Rattle.lines.specs.Answers.{kept_as, AnswerIs};
-ghost use Rattle.lines.specs.Calling.{kind_of, line_answer};
-ghost use Rattle.lines.specs.Scratch.{call_scratch, bytes_scratch, line_scratch};
+ghost use Rattle.lines.specs.Calling.{line_answer};
+ghost use Rattle.lines.specs.Scratch.{bytes_scratch, line_scratch};
 
-use super::answers::Answer;
+use super::answers::{Answer, Given};
 use call_exchange::call::exchange;
 use call_extract::call::extract;
 use call_load::load;
-use hexadecimal::hex::{Decoded, decode};
+use hexadecimal::hex::decode;
 use join_filter::answers;
-use logical_filter::call::{Names, logical};
-use logical_filter::knn_query_side::query_side_number;
+use logical_filter::call::logical;
 use terms::refusals::Refusal;
 use terms::settings::default_settings;
-
-// The calls that change a plan.
-#[derive(Clone, Copy)]
-enum Call {
-    Extract,
-    Exchange,
-}
 
 // A call's answer as that of its line.
 fn of_call(answer: answers::Answer) -> Answer
     ensures { result ≡ line_answer answer }
 {
-    match answer {
-        answers::Answer::Length(n) => Answer::Plan(n),
-        answers::Answer::Refused(why) => Answer::Refused(why),
-    }
-}
-
-// `01..`: load, as with a table of 1,024 records, which none needs here: extract finds the nodes again.
-fn load_line(plan: &mut [u8], bytes: &[u8], n: usize) -> Answer
-    ensures { AnswerIs (program.load_line bytes.now (kept_as n plan.old)) n plan.new result }
-{
-    let loaded = load(plan, bytes, 1024);
-    let answer = loaded.answer;
-    of_call(answer)
+    answer.map(Given::Plan)
 }
 
 // `02..`: logical.
 fn logical_line(bytes: &[u8]) -> Answer
     ensures { (n : ℕ) (plan : List ℕ) → AnswerIs (program.logical_line bytes.now (kept_as n plan)) n plan result }
 {
-    match logical(bytes) {
-        Names::Refused(why) => Answer::Refused(why),
-        Names::Found(found, side) => {
-            let mask = found.mask;
-            let names = found.names;
-            Answer::Logical(
-                (mask / 256) as u8,
-                (mask % 256) as u8,
-                names as u8,
-                query_side_number(side),
-            )
-        }
-    }
+    let names = logical(bytes)?;
+    let [high, low] = names.found.mask.to_be_bytes();
+    let side = u8::from(names.side);
+    Ok(Given::Logical(high, low, names.found.names as u8, side))
 }
 
-// `21` and `22`: extract, with the default settings, and exchange, 7 where more follows.
-fn plan_line(plan: &mut [u8], scratch: &mut [u8], size: usize, n: usize, call: Call) -> Answer
-    requires { length scratch.old ≡ 16384 }
-    ensures answer_is { AnswerIs
-        (program.call_line (kind_of call) (drop 1 (take size scratch.old)) (kept_as n plan.old))
-        n plan.new result }
-    ensures scratch_after { scratch.new
-        ≡ call_scratch (kind_of call) (drop 1 (take size scratch.old)) (kept_as n plan.old) scratch.old }
+// Nothing follows the one byte that asks for an extract or an exchange; else 7.
+fn alone(size: usize) -> Result<(), Refusal>
+    ensures { MatchResult result (λ _. size ≤ 1) (λ why. (why ≡ BytesAfterEnd) × (1 < size)) }
 {
     if 1 < size {
-        return Answer::Refused(Refusal::BytesAfterEnd);
+        return Err(Refusal::BytesAfterEnd);
     }
-    match call {
-        Call::Extract => {
-            let settings = default_settings();
-            let extracted = extract(plan, n, scratch, settings);
-            let answer = extracted.answer;
-            of_call(answer)
-        }
-        Call::Exchange => of_call(exchange(plan, n, scratch)),
-    }
+    Ok(())
 }
 
-// The call that a line's bytes ask for; they are the first `size` of the scratch.
+// The call that a line's bytes ask for; they are the first `size` of the scratch. A load is as with a table of 1,024 records, which none
+// needs here: extract finds the nodes again.
 fn call_line(plan: &mut [u8], scratch: &mut [u8], size: usize, n: usize) -> Answer
     requires { (size ≤ length scratch.old) × (length scratch.old ≡ 16384) }
     ensures answer_is { AnswerIs (program.line_of (take size scratch.old) (kept_as n plan.old)) n plan.new result }
@@ -92,14 +52,23 @@ fn call_line(plan: &mut [u8], scratch: &mut [u8], size: usize, n: usize) -> Answ
         ≡ bytes_scratch (take size scratch.old) (kept_as n plan.old) scratch.old }
 {
     if size == 0 {
-        return Answer::Refused(Refusal::EmptyOrTooLong);
+        return Err(Refusal::EmptyOrTooLong);
     }
     match scratch[0] {
-        0x01 => load_line(plan, &scratch[..size], n),
+        0x01 => {
+            let loaded = load(plan, &scratch[..size], 1024)?;
+            Ok(Given::Plan(loaded.length))
+        }
         0x02 => logical_line(&scratch[..size]),
-        0x21 => plan_line(plan, scratch, size, n, Call::Extract),
-        0x22 => plan_line(plan, scratch, size, n, Call::Exchange),
-        _ => Answer::Refused(Refusal::WrongFirstByte),
+        0x21 => {
+            alone(size)?;
+            of_call(extract(plan, n, scratch, default_settings()).answer)
+        }
+        0x22 => {
+            alone(size)?;
+            of_call(exchange(plan, n, scratch))
+        }
+        _ => Err(Refusal::WrongFirstByte),
     }
 }
 
@@ -110,7 +79,7 @@ pub fn answer_line(plan: &mut [u8], scratch: &mut [u8], line: &[u8], n: usize) -
     ensures scratch_after { scratch.new ≡ line_scratch line.now (kept_as n plan.old) scratch.old }
 {
     match decode(scratch, line) {
-        Decoded::Bad => Answer::Refused(Refusal::NotHexadecimal),
-        Decoded::Bytes(size) => call_line(plan, scratch, size, n),
+        Some(size) => call_line(plan, scratch, size, n),
+        None => Err(Refusal::NotHexadecimal),
     }
 }

@@ -14,26 +14,23 @@ pub fn collect(line: &mut [u8], piece: &[u8], count: usize) -> Collected
     ensures { CollectedIs piece.now line.old count line.new result }
 {
     let mut counted = count;
-    let mut at: usize = 0;
-    while at < piece.len() {
-        let c = piece[at];
-        at += 1;
-        if c == 10 {
+    for (at, c) in piece.iter().enumerate() {
+        if *c == b'\n' {
             return Collected {
-                taken: at,
+                taken: at + 1,
                 count: counted,
                 ended: true,
             };
         }
         if counted < line.len() {
-            line[counted] = c;
+            line[counted] = *c;
             counted += 1;
         } else {
             counted = line.len() + 1;
         }
     }
     Collected {
-        taken: at,
+        taken: piece.len(),
         count: counted,
         ended: false,
     }

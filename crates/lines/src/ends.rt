@@ -19,7 +19,7 @@ fn answer_begun(plan: &mut [u8], scratch: &mut [u8], line: &[u8], count: usize, 
     ensures scratch_after { scratch.new ≡ begun_scratch line.now count n plan.old scratch.old }
 {
     if line.len() < count {
-        return Answer::Refused(Refusal::NotHexadecimal);
+        return Err(Refusal::NotHexadecimal);
     }
     answer_line(plan, scratch, &line[..count], n)
 }

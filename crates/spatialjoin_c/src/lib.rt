@@ -14,6 +14,7 @@ ghost use Rattle.spatialjoin_c.specs.Version.{version};
 ghost use Rattle.node_table.specs.Records.{nodes_of};
 ghost use Rattle.host_calls.specs.Hosted.{LoadHosted, CallHosted, settings_by, ExtractHosted, MergeHosted, PrintHosted, PutHosted, ServeHosted, AllHosted};
 
+use call_extract::compared::Table;
 use host_calls::cores::taken_count;
 use host_calls::exchange::exchange_number;
 use host_calls::extract::extract_core;
@@ -25,8 +26,8 @@ use host_calls::print::print_number;
 use host_calls::project::project_number;
 use host_calls::put::put_number;
 use host_calls::serve::serve_number;
+use host_calls::settings::host_settings;
 use node_table::{NodeRecord, fill_table, put_nodes, take_nodes};
-use terms::settings::Settings;
 
 // Loads a frame as the new plan and fills the table with its nodes; reads nothing of what both held.
 pub fn spatialjoin_load(frame: &[u8], plan: &mut [u8], table: &mut [NodeRecord]) -> i64
@@ -60,15 +61,16 @@ pub fn spatialjoin_extract(
     let count = taken_count(n, table.len());
     let mut row = [0; 1024];
     take_nodes(&mut row, table, count);
+    let lent = Table {
+        row: &row,
+        places: table.len(),
+    };
     extract_core(
         plan,
         n,
         scratch,
-        &row,
-        table.len(),
-        kinds,
-        default_k,
-        greatest_k,
+        lent,
+        host_settings(kinds, default_k, greatest_k),
     )
 }
 
@@ -159,10 +161,5 @@ pub fn spatialjoin_extract_all(
     ensures { AllHosted frame.now (settled.extract_all_under (settings_by kinds default_k greatest_k) frame.now
         out.old) out.new result }
 {
-    let settings = Settings {
-        kinds: kinds as u32,
-        default_k,
-        greatest_k,
-    };
-    all_number(frame, out, settings)
+    all_number(frame, out, host_settings(kinds, default_k, greatest_k))
 }

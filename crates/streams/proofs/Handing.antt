@@ -5,7 +5,7 @@ use native.Mathlib.Omega.{arith}
 use mathlib.Core.Path.{◌≡◌, refl}
 use mathlib.Core.Bool.{Bool, true, false}
 use mathlib.Core.List.{List}
-use lib.ListN.{take, drop}
+use lib.ListN.{length, take, drop}
 use lib.Seq.{take-add, take-take}
 use lib.Dec.{leb}
 use borrow.Author.Tests.{leb-true}
@@ -13,6 +13,7 @@ use Rattle.lines.specs.Pieces.{Session, piece}
 use Rattle.lines.specs.Sessions.{Stands, Makes, most_filled}
 use Rattle.lines.specs.declared.states.Buffers.{Buffers}
 use Rattle.lines.specs.declared.states.State.{State}
+use Rattle.lines.proofs.SessionLaws.{some-session}
 use Rattle.lines.proofs.Whole.{piece-append}
 use Rattle.streams.specs.Turns.{settled, roomed}
 use Rattle.streams.specs.Handing.{Handing, none, more, After}
@@ -56,7 +57,9 @@ stands_after (more {p} {current = current} {next = fed} q old makes) s h =
     rw (piece-append s p q).1 (roomed-stands (leb fed.filled most_filled) (makes (piece s p).after (stands_after old s h)).stands)
 
 -- What waits fits its buffer.
-pub room_after : {before after : Buffers} {state next : State} {p : List ℕ} → Handing before state p after next
-    → state.filled ≤ most_filled → next.filled ≤ most_filled
-room_after none h = h
-room_after (more {next = fed} q old makes) h = (has_room fed).0
+pub fits_after : {before : Buffers} {state : State} {after : Buffers} {next : State} {p : List ℕ} → Handing before state p after next
+    → state.filled ≤ length before.out → next.filled ≤ length after.out
+fits_after none h = h
+fits_after (more {b = b} {current = current} {next = fed} q old makes) h =
+    let some = some-session b current (fits_after old h) in
+    omega (arith, (has_room fed).1, (makes some.0 some.1).stands.room)

@@ -23,5 +23,5 @@ returns c =
     let count = c.taken_count-count in
     let taken = c.take_nodes in
     let fits : SFits w64 c.extract_core.result = search rules in
-    simp to_z-of_z (c.extract_core.ensures (nodes_of args.table.now)
-    (row_of args.n args.table.now count.result (replicate 1024 0) taken.new.row count.ensures taken.ensures))
+    simp to_z-of_z (rw c.host_settings.ensures at (c.extract_core.ensures (nodes_of args.table.now)
+    (row_of args.n args.table.now count.result (replicate 1024 0) taken.new.row count.ensures taken.ensures)))

@@ -1,4 +1,5 @@
 -- Right because it is the extract by the table's row with its answer as one number.
+use Rattle.std.proofs.Common.{rules}
 use native.Mathlib.Omega.{arith}
 use Rattle.node_reader.proofs.Standing.{all-bytes}
 use Rattle.host_calls.proofs.Numbers.{given_back}
@@ -10,10 +11,10 @@ pub walk_number-requires : goal.walk_number-requires
 walk_number-requires c =
     let call = c.extract_by_table in
     extract-short _ _ _ _ _ _ c.requires.0 call.result (call.ensures c.requires.0 c.requires.1) (omega arith)
-    (all-bytes c.args.plan.now c.slice_known-1.given)
+    (search (rules, all-bytes))
 
 pub returns : goal.returns
 returns c =
     let call = c.extract_by_table in
-    λ table so. extract-hosted c.args.plan.now (all-bytes c.args.plan.now c.slice_known-1.given) _ _ _ _ _ call.result
+    λ table so. extract-hosted c.args.plan.now (search (rules, all-bytes)) _ _ _ _ _ call.result
     (call.ensures table so) _ (given_back _ _ c.walk_number.type_inv c.walk_number.ensures)

@@ -1,19 +1,15 @@
 -- Right because it is the load with its answer as one number.
+use Rattle.std.proofs.Common.{rules}
 use Rattle.node_reader.proofs.Standing.{all-bytes}
-use Rattle.host_calls.proofs.Numbers.{given_back}
-use Rattle.host_calls.proofs.CoreLaws.{load-short, load-left}
+use Rattle.host_calls.proofs.CoreLaws.{load-short, load-left, row-left}
 use Rattle.host_calls.proofs.load.load_core.Goals as goal
 
-pub answer_number-requires : goal.answer_number-requires
-answer_number-requires c =
-    let call = c.load_row-loaded in
-    load-short _ _ _ _ call.result call.ensures.0
-    (all-bytes c.args.frame.now c.shared_slice_known-1.given)
+pub left_by-requires : goal.left_by-requires
+left_by-requires c = load-short _ _ _ _ c.load_row.result c.load_row.ensures.0 (search (rules, all-bytes))
 
 pub returns : goal.returns
-returns c =
-    let call = c.load_row-loaded in (
-      load-left _ _ _ _ call.result call.ensures.0
-          (all-bytes c.args.frame.now c.shared_slice_known-1.given) _ (given_back _ _ c.answer_number.type_inv c.answer_number.ensures),
-      call.ensures.1,
-    )
+returns c = (
+  load-left _ _ _ _ c.load_row.result c.load_row.ensures.0 (search (rules, all-bytes)) c.left_by.result c.left_by.ensures,
+  row-left c.args.frame.now c.args.plan.now c.args.plan.now c.args.held c.load_row.result _ c.load_row.ensures.1 c.left_by.result
+      c.left_by.ensures,
+)

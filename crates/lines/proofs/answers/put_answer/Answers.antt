@@ -1,42 +1,23 @@
 -- `put_answer`: each answer is a line of one byte and more, `00` and the bytes or the refusal's number alone.
-use Prim.Native.Nat.{◌≤◌}
-use native.Mathlib.Omega.{arith}
-use mathlib.Core.Path.{sym}
-use lib.ListN.{length}
-use lib.Seq.{length-take-le}
 use Rattle.definitions.specs.Program.{written_line}
+use Rattle.std.proofs.Common.{◌≡◌, ◌∙◌, ap, Ok}
+use Rattle.lines.specs.declared.answers.Given.TheVariants.{Plan, Logical}
 use Rattle.lines.proofs.answers.put_answer.Goals as goal
-use Rattle.lines.proofs.answers.put_answer.Goals.{In-Plan}
 
--- The plan is as long as the answer says.
-plan-fits : (c : In-Plan)
-    → c.in-Plan.n ≤ length c.args.plan.now
-plan-fits c = rw c.in-Plan.is at c.requires.0
-
-pub slice_bounds-put_line-end : goal.slice_bounds-put_line-end
-slice_bounds-put_line-end c =
-    sym (length-take-le _ _ (plan-fits (goal.at.slice_bounds-put_line-end c).In-Plan))
-
-pub put_line-requires : goal.put_line-requires
-put_line-requires c =
-    rw (length-take-le _ _ (plan-fits (goal.at.put_line-requires c).In-Plan))
-    (omega (arith, plan-fits (goal.at.put_line-requires c).In-Plan))
-
-pub returns-in-Plan : goal.returns-in-Plan
+pub returns-in-Ok-Plan : goal.returns-in-Ok-Plan
 unfolding written_line
-returns-in-Plan c =
-    rw c.in-Plan.is c.put_line.ensures
+returns-in-Ok-Plan c =
+    let e : c.args.answer ≡ Ok (Plan c.in-Ok-Plan.n) =
+    c.in-Ok-Plan.is ∙ ap (λ g. Ok g) (rw c.in-Ok-Plan.is at c.in-Ok-Plan.field-0-is) in
+    rw e c.put_line.ensures
 
-pub returns-in-Logical : goal.returns-in-Logical
+pub returns-in-Ok-Logical : goal.returns-in-Ok-Logical
 unfolding written_line
-returns-in-Logical c =
-    rw c.in-Logical.is c.put_line-in-Logical.ensures
+returns-in-Ok-Logical c =
+    let l = c.in-Ok-Logical in
+    let e : c.args.answer ≡ Ok (Logical l.high l.low l.names l.side) = l.is ∙ ap (λ g. Ok g) (rw l.is at l.field-0-is) in
+    rw e c.put_line-in-Ok-Logical.ensures
 
-pub returns-in-Refused : goal.returns-in-Refused
+pub returns-in-Err : goal.returns-in-Err
 unfolding written_line
-returns-in-Refused c =
-    rw (
-      c.in-Refused.is,
-      ← c.refusal_number-number.ensures,
-    )
-    c.put_line-in-Refused.ensures
+returns-in-Err c = rw (c.in-Err.is, ← c.from.ensures) c.put_line-in-Err.ensures

@@ -1,28 +1,16 @@
 -- `logical_line`: mask, high byte first, count and side are the answer's bytes.
-use mathlib.Core.Path.{◌≡◌, sym, ap, ◌∙◌}
 use native.Mathlib.Omega.{arith}
-use Rattle.definitions.specs.Basics.{ok}
-use Rattle.definitions.specs.Logical.{logical}
-use Rattle.logical_filter.specs.QuerySides.{query_side_is}
-use Rattle.logical_filter.specs.Found.{names_of}
+use Rattle.std.proofs.lemmas.Result.{err_from_is_err_and}
 use Rattle.lines.proofs.CallLaws.{few-names, names-give, refusal-gives}
 use Rattle.lines.proofs.calls.logical_line.Goals as goal
-use Rattle.lines.proofs.calls.logical_line.Goals.{In-Found}
 
--- What was found is the definition's answer.
-found : (c : In-Found)
-    → (ok (record { mask = c.in-Found.found.mask; names = c.in-Found.found.names; side = query_side_is c.in-Found.side }) ≡ logical
-    c.args.bytes.now)
-found c = sym (ap names_of c.in-Found.is) ∙ c.logical.ensures
+pub returns-in_err-names : goal.returns-in_err-names
+returns-in_err-names c =
+    let p = err_from_is_err_and c.from_residual.result c.from_residual.ensures.1 in
+    rw (p.1, p.2) (refusal-gives _ _ c.in_err-names.ensures)
 
-pub overflow_cast-result-in-Found-2 : goal.overflow_cast-result-in-Found-2
-overflow_cast-result-in-Found-2 c =
-    omega (arith, few-names _ (found (goal.at.overflow_cast-result-in-Found-2 c).In-Found))
+pub overflow_cast-result : goal.overflow_cast-result
+overflow_cast-result c = omega (arith, few-names _ c.in_ok-names.ensures)
 
-pub returns-in-Refused : goal.returns-in-Refused
-returns-in-Refused c =
-    refusal-gives _ _ (sym (ap names_of c.in-Refused.is) ∙ c.logical.ensures)
-
-pub returns-in-Found : goal.returns-in-Found
-returns-in-Found c =
-    rw c.query_side_number.ensures (names-give _ (found (goal.at.returns-in-Found c).In-Found) (omega arith))
+pub returns : goal.returns
+returns c = λ n plan. rw (c.to_be_bytes.ensures, c.from-side.ensures) (names-give _ c.in_ok-names.ensures n plan)

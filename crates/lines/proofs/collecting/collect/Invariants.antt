@@ -1,13 +1,6 @@
 -- `collect`: the characters so far joined the line, and none of them is a line feed.
-use Prim.Native.Nat.{◌-◌}
-use lib.ListN.{length}
 use Rattle.lines.proofs.CollectLaws.{Collecting}
 use Rattle.lines.proofs.collecting.collect.Given as goal
 
 abbrev pub invariant-loop-at : goal.invariant-loop-at
-invariant-loop-at l =
-    Collecting l.piece l.initial.line l.count l.at l.line l.counted
-
-abbrev pub decreases-loop-at : goal.decreases-loop-at
-decreases-loop-at l =
-    length l.piece - l.at
+invariant-loop-at l = Collecting l.piece l.initial.line l.count l.at l.line l.counted
