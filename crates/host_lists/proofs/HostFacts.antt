@@ -14,16 +14,15 @@ use Rattle.definitions.specs.Calls.{LoadOutcome, finish_load, load, Outcome, exc
 use Rattle.definitions.specs.Machine.{Kind, extract_call, exchange_call}
 use Rattle.definitions.specs.Good.{AllBytes}
 use Rattle.definitions.specs.NodeTable.{NodeRecord}
-use Rattle.definitions.specs.Sessions.{make_by, walk_by, accepted}
-use Rattle.definitions.specs.Settings.{Settings, good_settings, match_under, extract_under, extract_walk_under, make_under, walk_under}
+use Rattle.definitions.specs.Sessions.{make_by, accepted}
+use Rattle.definitions.specs.Settings.{Settings, match_under, extract_under, extract_walk_under, make_under, walk_under}
 use Rattle.definitions.specs.Merge.{MergeOutcome, merge}
 use Rattle.definitions.specs.Project.{Lists, project}
 use Rattle.definitions.specs.History.{Call, loading, making, merging, projecting}
 use Rattle.definitions.specs.Hosts.{hosted, hosted_walk}
 use Rattle.theorems.proofs.Proved.{all-settings, refused-keeps, merge_keeps, project-keeps, walk-carried, walk-short}
 use Rattle.join_filter.proofs.Settling.{refused-24, by-settings}
-use Rattle.join_filter.specs.Outcomes.{answer_of}
-use Rattle.join_filter.specs.declared.answers.Answer.{Answer}
+use Rattle.join_filter.specs.Outcomes.{Answered, answer_of}
 use Rattle.node_table.specs.Records.{nodes_of}
 use Rattle.node_table.specs.declared.NodeRecord.{NodeRecord as TableRecord}
 use Rattle.host_lists.specs.Numbers.{answered, walk_answered, walk_carried, next_n, answered_by, carried_by, number_by, IsAnswer, Fits}
@@ -99,7 +98,7 @@ same-n n (ok m) e = absurd (false≢true (sym e))
 same-n n (refused number) e = refl
 
 -- The definition's answer is a refusal then.
-refused-is : (x : Result ℕ) (r : Answer) (z : ℤ) → z ≡ hosted (answer_of r) → x ≡ answer_of r → accepted (answered z) ≡ false
+refused-is : (x : Result ℕ) (r : Answered) (z : ℤ) → z ≡ hosted (answer_of r) → x ≡ answer_of r → accepted (answered z) ≡ false
     → accepted x ≡ false
 refused-is x r z e f h = ap accepted (f ∙ sym (ap answered e ∙ known r)) ∙ h
 

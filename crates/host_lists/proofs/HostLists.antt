@@ -1,4 +1,5 @@
 -- A host's run from a load or merge is the code's run, so all of demand 3 holds of it, and of any history.
+use Rattle.std.specs.Prelude.{Ok}
 use Prim.Native.Nat.{ℕ}
 use mathlib.Core.Path.{◌≡◌, refl, sym, ap, ap₂, ◌∙◌, subst}
 use mathlib.Core.Bool.{true, false, ◌&&◌, not}
@@ -26,10 +27,8 @@ use Rattle.definitions.specs.OddMachine.{odd_run}
 use Rattle.definitions.specs.ProjectClaims.{NewColumns, project_by, OddAgree}
 use Rattle.definitions.specs.History.{Call, making, nothing, state_plan, History, machine_history}
 use Rattle.definitions.specs.Hosts.{hosted}
-use Rattle.join_filter.specs.Outcomes.{LoadIs, OutcomeIs, MergeIs}
+use Rattle.join_filter.specs.Outcomes.{Answered, LoadIs, OutcomeIs, MergeIs}
 use Rattle.join_filter.specs.Lists.{Ran, given, carried, ran_to, Starts, by_load as code-by-load, by_merge as code-by-merge, CodeRun, outcome as code-outcome, DemandThree, AfterProjection, ProjectIs, CodeMeetsUnder}
-use Rattle.join_filter.specs.declared.answers.Answer.{Answer}
-use Rattle.join_filter.specs.declared.answers.Answer.TheVariants.{Length}
 use Rattle.join_filter.specs.declared.answers.Extracted.{Extracted}
 use Rattle.join_filter.proofs.DemandThree.{code-meets-demand-three, demand-three}
 use Rattle.node_table.specs.Records.{nodes_of, node_of}
@@ -43,23 +42,23 @@ use Rattle.host_lists.proofs.Walked.{none-carried, numbers-alone, Told, history-
 -- ---- a call that gave a length
 
 load-length : (frame before : List ℕ) (table : List NodeRecord) (after : List ℕ) (filled : List NodeRecord) (m : ℕ)
-    → LoadHosted frame before table after filled (pos m) → LoadIs frame before after table filled (Length m)
+    → LoadHosted frame before table after filled (pos m) → LoadIs frame before after table filled (Ok m)
 load-length frame before table after filled m h =
     let (r, is, same) = load_is frame before table after filled (pos m) h in
-    subst (λ (r : Answer). LoadIs frame before after table filled r) (length-told m r same) is
+    subst (λ (r : Answered). LoadIs frame before after table filled r) (length-told m r same) is
 
 pub merge-length : (frame : List ℕ) (n : ℕ) (before scratch kept : List ℕ) (table : List NodeRecord) (after : List ℕ)
     (filled : List NodeRecord) (m : ℕ) → MergeHosted frame before (merge frame n before scratch table) after kept filled (pos m)
-    → MergeIs (merge frame n before scratch table) n after kept filled (Length m)
+    → MergeIs (merge frame n before scratch table) n after kept filled (Ok m)
 merge-length frame n before scratch kept table after filled m h =
     let (r, is, same) = merge-is frame n before scratch table after kept filled (pos m) h in
-    subst (λ (r : Answer). MergeIs (merge frame n before scratch table) n after kept filled r) (length-told m r same) is
+    subst (λ (r : Answered). MergeIs (merge frame n before scratch table) n after kept filled r) (length-told m r same) is
 
 project-length : (lists : ChildLists) (b : Host) (scratch kept : List ℕ) (a : Host) → ProjectHosted lists b scratch kept a
     → ProjectIs lists (lent_of b) scratch kept (lent_of a)
 project-length lists b scratch kept a h =
     let (r, is, same) = project-is b.n b.plan scratch lists.of_left lists.of_right a.plan kept (pos a.n) h in
-    subst (λ (r : Answer). OutcomeIs (project_by lists b.n b.plan scratch) b.n a.plan kept r) (length-told a.n r same) is
+    subst (λ (r : Answered). OutcomeIs (project_by lists b.n b.plan scratch) b.n a.plan kept r) (length-told a.n r same) is
 
 starts_is : (F : Frame) (a : Host) → HostStarts F a → Starts F (lent_of a)
 starts_is F a (by_load frame before table good is) =

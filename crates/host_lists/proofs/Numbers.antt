@@ -1,5 +1,6 @@
 -- From a number the answer is known, and with extract the walk, because a refusal's number is from 1 to 24 and a length short; and every
 -- call answers a short length or such a refusal.
+use Rattle.std.specs.Prelude.{Ok, Err}
 use Prim.Native.Nat.{ℕ, zero, suc, ◌+◌, ◌*◌, ◌/◌, ◌%◌, ◌≤◌}
 use native.Mathlib.Omega.{arith}
 use mathlib.Core.Path.{◌≡◌, refl, sym, ap, ◌∙◌, subst}
@@ -16,7 +17,7 @@ use Rattle.definitions.specs.NodeTable.{NodeRecord}
 use Rattle.definitions.specs.Sessions.{make_by, accepted}
 use Rattle.definitions.specs.Settings.{Settings, make_under}
 use Rattle.definitions.specs.SettingsClaims.{settled_refusals}
-use Rattle.definitions.specs.Calls.{Outcome, exchange}
+use Rattle.definitions.specs.Calls.{Outcome}
 use Rattle.definitions.specs.Merge.{merge}
 use Rattle.definitions.specs.Hosts.{hosted, hosted_walk}
 use Rattle.definitions.specs.Claims.{load_refusals, exchange_refusals, merge_refusals, project_refusals, RefusedBy}
@@ -27,9 +28,7 @@ use Rattle.join_filter.proofs.Settling.{by-settings}
 use Rattle.terms.specs.Refusals.{number_of}
 use Rattle.terms.specs.declared.refusals.Refusal.{Refusal}
 use Rattle.terms.specs.declared.refusals.Refusal.TheVariants.{EmptyOrTooLong, WrongFirstByte, EndsInsideField, OutOfRange, TooManyOrTooDeep, NoSuchColumn, BytesAfterEnd, TooFewArguments, BufferTooShort, NoGoodPlan, PlanEmpty, AlreadyExtracted, NoLeafMatches, NotHexadecimal, TextBufferTooShort, MergedTooLarge, TableTooShort, NotExtracted, ListTooLong, NoSuchChild, NoSuchQueue, QueuedFrameTooLong, QueueFull, BadSettings}
-use Rattle.join_filter.specs.Outcomes.{answer_of}
-use Rattle.join_filter.specs.declared.answers.Answer.{Answer}
-use Rattle.join_filter.specs.declared.answers.Answer.TheVariants.{Length, Refused}
+use Rattle.join_filter.specs.Outcomes.{Answered, answer_of}
 use Rattle.host_lists.specs.Numbers.{answered, walk_answered, walk_carried, IsAnswer, AnswerKnown, NumbersApart, WalkKnown, WalkNumbersApart, WithoutWalk, Fits, AnswersOfCalls}
 
 -- ---- minus a refusal's number
@@ -99,10 +98,10 @@ at-least-1 QueueFull = omega arith
 at-least-1 BadSettings = omega arith
 
 -- The number of an answer of the code.
-pub known : (r : Answer) → answered (hosted (answer_of r)) ≡ answer_of r
+pub known : (r : Answered) → answered (hosted (answer_of r)) ≡ answer_of r
 unfolding hosted
-known (Length m) = refl
-known (Refused why) = known-refusal (number_of why) (at-least-1 why)
+known (Ok m) = refl
+known (Err why) = known-refusal (number_of why) (at-least-1 why)
 
 -- ---- each refusal of a call by its name
 
@@ -125,9 +124,9 @@ named-at : (numbers : List ℕ) → Named numbers → (k : ℕ) → any (eqb k) 
 named-at numbers (whys, is) k e = named_in whys k (subst (λ (l : List ℕ). any (eqb k) l ≡ true) (sym is) e)
 
 -- A value or one of these refusals is an answer of the code.
-pub answer-from : (numbers : List ℕ) → Named numbers → (x : Result ℕ) → RefusedBy numbers x → (r : Answer) × (answer_of r ≡ x)
-answer-from numbers named (ok m) h = (Length m, refl)
-answer-from numbers named (refused k) h = let (why, e) = named-at numbers named k h in (Refused why, ap refused e)
+pub answer-from : (numbers : List ℕ) → Named numbers → (x : Result ℕ) → RefusedBy numbers x → (r : Answered) × (answer_of r ≡ x)
+answer-from numbers named (ok m) h = (Ok m, refl)
+answer-from numbers named (refused k) h = let (why, e) = named-at numbers named k h in (Err why, ap refused e)
 
 pub load-named : Named load_refusals
 unfolding load_refusals

@@ -1,10 +1,10 @@
 -- A host's list of puts and serves is the definitions' list: from each number the answer is known.
-use Prim.Native.Nat.{ℕ, zero, suc, ◌+◌, ◌-◌, ◌*◌, ◌≤◌}
+use Prim.Native.Nat.{ℕ, zero, suc, ◌+◌, ◌*◌, ◌≤◌}
 use native.Mathlib.Omega.{arith}
 use mathlib.Core.Path.{◌≡◌, refl, sym, ap, ap₂, ◌∙◌, subst}
 use mathlib.Core.Option.{Option}
 use mathlib.Core.List.{List, [], ◌∷◌, ◌++◌}
-use lib.IntN.{ℤ, pos}
+use lib.IntN.{pos}
 use lib.ListN.{length}
 use borrow.Author.Tests.{lt-ltb, le-ltb, ne_eqb}
 use Rattle.definitions.specs.Basics.{Result, ok, refused, all}
@@ -14,7 +14,6 @@ use Rattle.definitions.specs.QueueLists.{QueueCall, put_call, serve_call, QueueM
 use Rattle.definitions.specs.QueueClaims.{left_by, served_after, ComesOut}
 use Rattle.definitions.specs.Hosts.{hosted, hosted_serve}
 use Rattle.definitions.specs.Claims.{put_refusals, serve_refusals, RefusedBy}
-use Rattle.theorems.proofs.InverseFrame.{same_ok}
 use Rattle.theorems.proofs.Proved.{refusals-of-calls, put-adds, queue-lengths, run-parts, always-held, in-order, fair}
 use Rattle.host_calls.specs.Hosted.{PutHosted}
 use Rattle.host_lists.specs.Numbers.{answered}

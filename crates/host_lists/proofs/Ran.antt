@@ -1,4 +1,5 @@
 -- A host's list of exported calls is a list of calls of the code: each number is that of the code's answer and of the walk it carries.
+use Rattle.std.specs.Prelude.{Ok, Err}
 use Prim.Native.Nat.{ℕ}
 use mathlib.Core.Path.{◌≡◌, refl, sym, ap, ap₂, ◌∙◌}
 use mathlib.Core.Bool.{false≢true}
@@ -20,11 +21,9 @@ use Rattle.definitions.specs.Hosts.{hosted, hosted_walk}
 use Rattle.definitions.specs.Claims.{load_refusals, exchange_refusals, merge_refusals, project_refusals, RefusedBy}
 use Rattle.theorems.proofs.Changes.{extract-writes}
 use Rattle.theorems.proofs.Proved.{refusals-of-calls, refusals-under}
-use Rattle.join_filter.specs.Outcomes.{answer_of, n_after, LoadIs, OutcomeIs, MergeIs}
+use Rattle.join_filter.specs.Outcomes.{Answered, answer_of, n_after, LoadIs, OutcomeIs, MergeIs}
 use Rattle.join_filter.proofs.Settling.{by-settings}
 use Rattle.join_filter.specs.Lists.{Lent, CallIs, Ran, no_call, called, given, carried, ran_to}
-use Rattle.join_filter.specs.declared.answers.Answer.{Answer}
-use Rattle.join_filter.specs.declared.answers.Answer.TheVariants.{Length, Refused}
 use Rattle.join_filter.specs.declared.answers.Extracted.{Extracted}
 use Rattle.node_table.specs.Records.{nodes_of}
 use Rattle.host_calls.specs.Hosted.{LoadHosted, CallHosted, MergeHosted}
@@ -38,15 +37,15 @@ lent_of h = record { n = h.n; buffer = h.plan; table = nodes_of h.table }
 
 -- ---- n is what the answer tells
 
-n-is : (n : ℕ) (r : Answer) → n_after n r ≡ next_n n (answer_of r)
-n-is n (Length m) = refl
-n-is n (Refused why) = refl
+n-is : (n : ℕ) (r : Answered) → n_after n r ≡ next_n n (answer_of r)
+n-is n (Ok m) = refl
+n-is n (Err why) = refl
 
-n-told : (n : ℕ) (x : Result ℕ) (m : ℕ) (r : Answer) → answer_of r ≡ x → m ≡ next_n n x → n_after n r ≡ m
+n-told : (n : ℕ) (x : Result ℕ) (m : ℕ) (r : Answered) → answer_of r ≡ x → m ≡ next_n n x → n_after n r ≡ m
 n-told n x m r e f = n-is n r ∙ ap (next_n n) e ∙ sym f
 
 -- By the answer that is read off.
-n-read : (n : ℕ) (x : Result ℕ) (m : ℕ) (r : Answer) → x ≡ answer_of r → m ≡ next_n n x → m ≡ n_after n r
+n-read : (n : ℕ) (x : Result ℕ) (m : ℕ) (r : Answered) → x ≡ answer_of r → m ≡ next_n n x → m ≡ n_after n r
 n-read n x m r e f = f ∙ ap (next_n n) e ∙ sym (n-is n r)
 
 finish-n : (n : ℕ) (buffer scratch : List ℕ) (x : Result (List ℕ))
@@ -102,21 +101,21 @@ load_same frame n m buffer table = loaded-same frame n m buffer table _
 
 -- ---- each contract of an exported call is that of a call of the code
 
-outcome-is : (o : Outcome) (n : ℕ) (after kept : List ℕ) (r : Answer) → answer_of r ≡ o.answer → o.n ≡ next_n n o.answer
+outcome-is : (o : Outcome) (n : ℕ) (after kept : List ℕ) (r : Answered) → answer_of r ≡ o.answer → o.n ≡ next_n n o.answer
     → after ≡ o.buffer → kept ≡ o.scratch → OutcomeIs o n after kept r
 outcome-is o n after kept r e f g h = rw (e, n-told n o.answer o.n r e f, g, h) refl
 
 -- A call with these refusals.
 call-is : (numbers : List ℕ) → Named numbers → (o : Outcome) (n : ℕ) (before after kept : List ℕ) (z : ℤ) → RefusedBy numbers o.answer
     → o.n ≡ next_n n o.answer → CallHosted before o after kept z
-    → (r : Answer) × OutcomeIs o n after kept r × (z ≡ hosted (answer_of r))
+    → (r : Answered) × OutcomeIs o n after kept r × (z ≡ hosted (answer_of r))
 call-is numbers named o n before after kept z h f c =
     let (r, e) = answer-from numbers named o.answer h in
     (r, outcome-is o n after kept r e f c.2 c.3, c.1 ∙ ap hosted (sym e))
 
 -- What an extract or exchange that met its contract is, and what is read off its number.
 pub record MadeIs (S : Settings) (kind : Kind) (b : Host) (scratch after kept : List ℕ) (z : ℤ) : Type 0 where
-  pub answer : Answer
+  pub answer : Answered
   pub is : OutcomeIs (make_under S kind b.n b.plan scratch (nodes_of b.table)) b.n after kept answer
   pub number : z ≡ made_number kind (walk_under S kind b.n b.plan scratch (nodes_of b.table)) (answer_of answer)
   pub read : made_answered kind z ≡ answer_of answer
@@ -151,30 +150,30 @@ made-is S fits exchange_call b scratch after kept z c =
 
 pub project-is : (n : ℕ) (buffer scratch of_left of_right after kept : List ℕ) (z : ℤ)
     → CallHosted buffer (project n buffer scratch of_left of_right) after kept z
-    → (r : Answer) × OutcomeIs (project n buffer scratch of_left of_right) n after kept r × (z ≡ hosted (answer_of r))
+    → (r : Answered) × OutcomeIs (project n buffer scratch of_left of_right) n after kept r × (z ≡ hosted (answer_of r))
 project-is n buffer scratch of_left of_right after kept z c =
     call-is project_refusals project-named (project n buffer scratch of_left of_right) n buffer after kept z
     (refusals-of-calls.6 n buffer scratch of_left of_right) (project-n n buffer scratch of_left of_right) c
 
-merged-is : (o : MergeOutcome) (n : ℕ) (after kept : List ℕ) (filled : List NodeRecord) (r : Answer) → answer_of r ≡ o.answer
+merged-is : (o : MergeOutcome) (n : ℕ) (after kept : List ℕ) (filled : List NodeRecord) (r : Answered) → answer_of r ≡ o.answer
     → o.n ≡ next_n n o.answer → after ≡ o.buffer → kept ≡ o.scratch → filled ≡ o.table → MergeIs o n after kept filled r
 merged-is o n after kept filled r e f g h t = rw (e, n-told n o.answer o.n r e f, g, h, t) refl
 
 pub merge-is : (frame : List ℕ) (n : ℕ) (buffer scratch : List ℕ) (table : List NodeRecord) (after kept : List ℕ)
     (filled : List NodeRecord) (z : ℤ) → MergeHosted frame buffer (merge frame n buffer scratch table) after kept filled z
-    → (r : Answer) × MergeIs (merge frame n buffer scratch table) n after kept filled r × (z ≡ hosted (answer_of r))
+    → (r : Answered) × MergeIs (merge frame n buffer scratch table) n after kept filled r × (z ≡ hosted (answer_of r))
 merge-is frame n buffer scratch table after kept filled z c =
     let o : MergeOutcome = merge frame n buffer scratch table in
     let (r, e) = answer-from merge_refusals merge-named o.answer (refusals-of-calls.5 frame n buffer scratch table) in
     (r, merged-is o n after kept filled r e (merge-n frame n buffer scratch table) c.3 c.4 c.5, c.2 ∙ ap hosted (sym e))
 
-loaded-is : (o : LoadOutcome) (n : ℕ) (after : List ℕ) (filled : List NodeRecord) (r : Answer) → answer_of r ≡ o.answer
+loaded-is : (o : LoadOutcome) (n : ℕ) (after : List ℕ) (filled : List NodeRecord) (r : Answered) → answer_of r ≡ o.answer
     → o.n ≡ next_n n o.answer → after ≡ o.buffer → filled ≡ o.table
     → o ≡ record { answer = answer_of r; n = n_after n r; buffer = after; table = filled }
 loaded-is o n after filled r e f g t = rw (e, n-told n o.answer o.n r e f, g, t) refl
 
 pub load_is : (frame before : List ℕ) (table : List NodeRecord) (after : List ℕ) (filled : List NodeRecord) (z : ℤ)
-    → LoadHosted frame before table after filled z → (r : Answer) × LoadIs frame before after table filled r × (z ≡ hosted (answer_of r))
+    → LoadHosted frame before table after filled z → (r : Answered) × LoadIs frame before after table filled r × (z ≡ hosted (answer_of r))
 load_is frame before table after filled z c =
     let (r, e) = answer-from load_refusals load-named (load frame 0 before table).answer (refusals-of-calls.0 frame 0 before table) in (
       r,
@@ -194,7 +193,7 @@ pub record OneIs (S : Settings) (b : Host) (c : Call) (a : Host) (z : ℤ) : Typ
   pub carries : carried_by c z ≡ answer.walk
 
 -- An answer that carries no walk.
-abbrev alone : Answer → Extracted
+abbrev alone : Answered → Extracted
 alone r = record { answer = r; walk = 0 }
 
 pub one-is : (S : Settings) → Fits S → (b : Host) (c : Call) (a : Host) (z : ℤ) → HostCall S b c a z → OneIs S b c a z
@@ -275,7 +274,7 @@ outcomes-same {last = last} r =
     (sym r.read) (sym r.carries)
 
 -- A number that is a length is that of a length.
-pub length-told : (m : ℕ) (r : Answer) → pos m ≡ hosted (answer_of r) → r ≡ Length m
+pub length-told : (m : ℕ) (r : Answered) → pos m ≡ hosted (answer_of r) → r ≡ Ok m
 unfolding accepted
-length-told m (Length k) e = ap Length (sym (ap (λ (z : ℤ). next_n 0 (answered z)) e ∙ ap (next_n 0) (known (Length k))))
-length-told m (Refused why) e = absurd (false≢true (sym (ap (λ (z : ℤ). accepted (answered z)) e ∙ ap accepted (known (Refused why)))))
+length-told m (Ok k) e = ap Ok (sym (ap (λ (z : ℤ). next_n 0 (answered z)) e ∙ ap (next_n 0) (known (Ok k))))
+length-told m (Err why) e = absurd (false≢true (sym (ap (λ (z : ℤ). accepted (answered z)) e ∙ ap accepted (known (Err why)))))

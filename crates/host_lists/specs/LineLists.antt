@@ -8,8 +8,7 @@ use Rattle.definitions.specs.Machine.{Kind, extract_call, exchange_call}
 use Rattle.definitions.specs.Logical.{logical, logical_bytes}
 use Rattle.definitions.specs.Program.{line_bytes, Kept, line_outcome, written_line, lines_of, output}
 use Rattle.definitions.specs.History.{Call, loading, making, State, nothing, state_plan, Answered, machine_call}
-use Rattle.lines.specs.Answers.{answer_bytes, length_after, kept_as, AnswerIs}
-use Rattle.lines.specs.declared.answers.Answer.{Answer}
+use Rattle.lines.specs.Answers.{Answered as LineAnswered, answer_bytes, length_after, kept_as, AnswerIs}
 
 -- ---- the machine's lines
 
@@ -81,7 +80,7 @@ ProgramIsMachine = (input : List ℕ) → output input ≡ written (machine_line
 -- before left.
 pub data LinesRan : Kept → List (List ℕ) → List (Result (List ℕ)) → Kept → Type 0 where
   no_line : {k : Kept} → LinesRan k [] [] k
-  one_line : {k last : Kept} {plan line : List ℕ} {lines : List (List ℕ)} {r : Answer} {answers : List (Result (List ℕ))}
+  one_line : {k last : Kept} {plan line : List ℕ} {lines : List (List ℕ)} {r : LineAnswered} {answers : List (Result (List ℕ))}
       → AnswerIs (line_outcome line (kept_as k.n k.buffer)) k.n plan r
       → LinesRan (kept_as (length_after k.n r) plan) lines answers last
       → LinesRan k (line ∷ lines) (answer_bytes plan r ∷ answers) last
