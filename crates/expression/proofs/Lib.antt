@@ -12,4 +12,3 @@ pub mod Parts
 pub mod There
 pub mod Cycles
 pub mod NameLaws
-pub mod WordLaws

@@ -1,4 +1,5 @@
--- Names are the same bytes: by length, and then byte by byte, each as it is spelled.
+-- Names are the same bytes: by length, and then byte by byte, each in small letters.
+use Rattle.std.specs.Prelude.{if◌then◌else◌}
 use Prim.Native.Nat.{ℕ, zero, suc, ◌+◌, ◌-◌, ◌≤◌, ◌<◌}
 use native.Mathlib.Numerals.{add-one}
 use native.Mathlib.Omega.{arith}
@@ -9,14 +10,11 @@ use lib.ListN.{length, drop, get_or, length-take, length-drop, drop_of_length-le
 use lib.Seq.{drop-cons, get_or-take, get_or-drop}
 use lib.Dec.{eqb, leb}
 use lib.Pointwise.{pointwise}
-use borrow.Author.Tests.{eq-eqb, ne_eqb, le-leb, lt-leb, le-ltb, lt-ltb, leb-true, leb-false}
+use borrow.Author.Tests.{eq-eqb, ne_eqb, le-leb, le-ltb, lt-ltb, leb-true, leb-false}
 use Rattle.std.specs.Char.{to_ascii_lowercase}
 use Rattle.definitions.specs.Basics.{same_name}
 use Rattle.definitions.specs.Logical.{lower_case}
 use Rattle.expression.specs.Places.{part}
-use Rattle.expression.specs.Names.{spelled, letter}
-use Rattle.expression.specs.declared.names.Case.{Case}
-use Rattle.expression.specs.declared.names.Case.TheVariants.{Exact, Ignored}
 
 pub by_bytes : (a b : List ℕ) → pointwise eqb a b ≡ same_name a b
 unfolding same_name
@@ -25,41 +23,34 @@ by_bytes [] (y ∷ b) = refl
 by_bytes (x ∷ a) [] = refl
 by_bytes (x ∷ a) (y ∷ b) = ap (λ (t : Bool). eqb x y && t) (by_bytes a b)
 
--- ---- spelling
+-- ---- small letters
 
-pub capital : (b : ℕ) → 65 ≤ b → b ≤ 90 → letter Ignored b ≡ b + 32
-capital b low high = rw (le-leb 65 b low, le-leb b 90 high)
-
-pub below-capitals : (b : ℕ) → b < 65 → letter Ignored b ≡ b
-below-capitals b low = rw (lt-leb 65 b low)
-
-pub above-capitals : (b : ℕ) → 90 < b → letter Ignored b ≡ b
-above-capitals b high = rw (le-leb 65 b (omega arith), lt-leb b 90 high)
+-- A byte as `lower_case` has it.
+abbrev pub letter : ℕ → ℕ
+letter b = if leb 65 b && leb b 90 then b + 32 else b
 
 -- As the library makes a letter small.
-small-high : (b : ℕ) → 65 ≤ b → (t : Bool) → leb b 90 ≡ t → to_ascii_lowercase b ≡ letter Ignored b
+small-high : (b : ℕ) → 65 ≤ b → (t : Bool) → leb b 90 ≡ t → to_ascii_lowercase b ≡ letter b
 small-high b low true e = rw (le-ltb b 65 low, lt-ltb b 91 (omega (arith, leb-true b 90 e)), le-leb 65 b low, e)
 small-high b low false e = rw (le-ltb b 65 low, le-ltb b 91 (omega (arith, leb-false b 90 e)), le-leb 65 b low, e)
 
-small-low : (b : ℕ) (t : Bool) → leb 65 b ≡ t → to_ascii_lowercase b ≡ letter Ignored b
+small-low : (b : ℕ) (t : Bool) → leb 65 b ≡ t → to_ascii_lowercase b ≡ letter b
 small-low b true e = small-high b (leb-true 65 b e) (leb b 90) refl
 small-low b false e = rw (lt-ltb b 65 (leb-false 65 b e), e)
 
-pub small : (b : ℕ) → to_ascii_lowercase b ≡ letter Ignored b
+pub small : (b : ℕ) → to_ascii_lowercase b ≡ letter b
 small b = small-low b (leb 65 b) refl
 
-spelled-length : (case : Case) (x : List ℕ) → length (spelled case x) ≡ length x
+small-length : (x : List ℕ) → length (lower_case x) ≡ length x
 unfolding lower_case
-spelled-length Exact x = refl
-spelled-length Ignored [] = refl
-spelled-length Ignored (b ∷ x) = ap suc (spelled-length Ignored x)
+small-length [] = refl
+small-length (b ∷ x) = ap suc (small-length x)
 
-spelled_at : (case : Case) (x : List ℕ) (i : ℕ) → get_or (spelled case x) i 0 ≡ letter case (get_or x i 0)
+small_at : (x : List ℕ) (i : ℕ) → get_or (lower_case x) i 0 ≡ letter (get_or x i 0)
 unfolding lower_case
-spelled_at Exact x i = refl
-spelled_at Ignored [] i = refl
-spelled_at Ignored (b ∷ x) zero = refl
-spelled_at Ignored (b ∷ x) (suc i) = spelled_at Ignored x i
+small_at [] i = refl
+small_at (b ∷ x) zero = refl
+small_at (b ∷ x) (suc i) = small_at x i
 
 -- ---- a part of the bytes
 
@@ -94,32 +85,32 @@ ahead : (a b : List ℕ) (i : ℕ) → i < length a → i < length b → (t : Bo
 unfolding same_name
 ahead a b i h k t e = rw (add-one, drop-cons a i 0 h, drop-cons b i 0 k, e)
 
--- ---- a part of the bytes, as it is spelled, and a name
+-- ---- a part of the bytes in small letters, and a name
 
-module _ (case : Case) (s name : List ℕ) (at end : ℕ) (low : at ≤ end) (high : end ≤ length s) where
-  name-length : length (spelled case (part s at end)) ≡ end - at
-  name-length = spelled-length case (part s at end) ∙ part_length s at end low high
+module _ (s name : List ℕ) (at end : ℕ) (low : at ≤ end) (high : end ≤ length s) where
+  name-length : length (lower_case (part s at end)) ≡ end - at
+  name-length = small-length (part s at end) ∙ part_length s at end low high
 
-  pub other_length : (end - at ≡ length name → ⊥) → same_name (spelled case (part s at end)) name ≡ false
-  other_length h = unlike (spelled case (part s at end)) name (λ e. h (sym name-length ∙ e))
+  pub other_length : (end - at ≡ length name → ⊥) → same_name (lower_case (part s at end)) name ≡ false
+  other_length h = unlike (lower_case (part s at end)) name (λ e. h (sym name-length ∙ e))
 
-  module _ (long : end - at ≡ length name) (i : ℕ) (inv : SoFar (spelled case (part s at end)) name i) where
-    pub same-all : length name ≤ i → same_name (spelled case (part s at end)) name ≡ true
+  module _ (long : end - at ≡ length name) (i : ℕ) (inv : SoFar (lower_case (part s at end)) name i) where
+    pub same-all : length name ≤ i → same_name (lower_case (part s at end)) name ≡ true
     unfolding same_name
     same-all h = inv.1
-        ∙ rw (drop_of_length-le (spelled case (part s at end)) {i = i} (omega (arith, name-length)), drop_of_length-le name {i = i} h)
+        ∙ rw (drop_of_length-le (lower_case (part s at end)) {i = i} (omega (arith, name-length)), drop_of_length-le name {i = i} h)
 
-    module _ (h : i < length name) (b : ℕ) (e : b ≡ letter case (get_or s (at + i) 0)) where
-      byte-is : b ≡ get_or (spelled case (part s at end)) i 0
-      byte-is = e ∙ ap (letter case) (sym (part_at s at end i (omega arith))) ∙ sym (spelled_at case (part s at end) i)
+    module _ (h : i < length name) (b : ℕ) (e : b ≡ letter (get_or s (at + i) 0)) where
+      byte-is : b ≡ get_or (lower_case (part s at end)) i 0
+      byte-is = e ∙ ap letter (sym (part_at s at end i (omega arith))) ∙ sym (small_at (part s at end) i)
 
-      pub same_more : b ≡ get_or name i 0 → SoFar (spelled case (part s at end)) name (i + 1)
+      pub same_more : b ≡ get_or name i 0 → SoFar (lower_case (part s at end)) name (i + 1)
       same_more k = (
         omega arith,
         inv.1
-            ∙ ahead (spelled case (part s at end)) name i (omega (arith, name-length)) h true (eq-eqb _ _ (sym byte-is ∙ k)),
+            ∙ ahead (lower_case (part s at end)) name i (omega (arith, name-length)) h true (eq-eqb _ _ (sym byte-is ∙ k)),
       )
 
-      pub same-less : (b ≡ get_or name i 0 → ⊥) → same_name (spelled case (part s at end)) name ≡ false
+      pub same-less : (b ≡ get_or name i 0 → ⊥) → same_name (lower_case (part s at end)) name ≡ false
       same-less k = inv.1
-          ∙ ahead (spelled case (part s at end)) name i (omega (arith, name-length)) h false (ne_eqb _ _ (λ f. k (byte-is ∙ f)))
+          ∙ ahead (lower_case (part s at end)) name i (omega (arith, name-length)) h false (ne_eqb _ _ (λ f. k (byte-is ∙ f)))

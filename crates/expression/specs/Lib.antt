@@ -5,4 +5,3 @@ pub mod Filling
 pub mod Heads
 pub mod Leaves
 pub mod Cuts
-pub mod Names

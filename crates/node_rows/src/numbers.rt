@@ -1,6 +1,6 @@
 // A node as one number: its kind times 2^29, its start times 2^15, and its end.
 ghost use Rattle.std.specs.Prelude.{◌<◌, ◌≤◌, ◌≡◌, length};
-ghost use Rattle.node_rows.specs.Numbers.{number, start_at, end_at};
+ghost use Rattle.node_rows.specs.Numbers.{number};
 ghost use Rattle.node_rows.specs.Stores.{SameIs, Storable, Stored};
 
 pub fn node_number(kind: u8, start: usize, end: usize) -> u32
@@ -28,22 +28,6 @@ pub fn put_node(
         numbers[i] = node_number(kind, start, end);
         next[i] = after as u16;
     }
-}
-
-// Where the node starts whose number is at an index.
-pub fn start_of(numbers: &[u32], i: usize) -> usize
-    requires { i < length numbers.now }
-    ensures { result ≡ start_at numbers.now i }
-{
-    numbers[i] as usize / 32768 % 16384
-}
-
-// Where it ends.
-pub fn end_of(numbers: &[u32], i: usize) -> usize
-    requires { i < length numbers.now }
-    ensures { result ≡ end_at numbers.now i }
-{
-    numbers[i] as usize % 32768
 }
 
 // Whether the first `count` numbers are equal. All are looked at, so that the compiler can compare several at once.

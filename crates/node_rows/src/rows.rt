@@ -3,7 +3,6 @@ ghost use Rattle.std.specs.Prelude.{◌<◌, ◌≡◌, length, get_or};
 ghost use Rattle.node_rows.specs.Numbers.{start_at, end_at};
 ghost use Rattle.node_rows.specs.Rows.{TwoTabled, OfTwo, TwoAre};
 
-use super::numbers::{end_of, start_of};
 use super::pairs::Two;
 
 // For each node its number, and the index of the node that comes after it and all below it.
@@ -19,7 +18,7 @@ impl Rows<'_> {
         requires { i < length self.numbers.now }
         ensures { result ≡ start_at self.entry.numbers.now i }
     {
-        start_of(self.numbers, i)
+        self.numbers[i] as usize / 32768 % 16384
     }
 
     // Where it ends.
@@ -27,7 +26,7 @@ impl Rows<'_> {
         requires { i < length self.numbers.now }
         ensures { result ≡ end_at self.entry.numbers.now i }
     {
-        end_of(self.numbers, i)
+        self.numbers[i] as usize % 32768
     }
 
     // The index of the node that comes after it and all below it.

@@ -39,10 +39,3 @@ impl From<Refusal> for u8 {
         why as u8
     }
 }
-
-// The same, under the name that it had. TEMP
-pub fn refusal_number(why: Refusal) -> u8
-    ensures { result ≡ number_of why }
-{
-    u8::from(why)
-}

@@ -57,17 +57,3 @@ pub fn negated_number(number: u8) -> u8
 {
     u8::from(JoinSide::from(u64::from(number)).negate())
 }
-
-// TEMP
-pub fn side_numbered(number: u64) -> JoinSide
-    ensures { join_side result ≡ side_numbered number }
-{
-    JoinSide::from(number)
-}
-
-// TEMP
-pub fn side_number(side: JoinSide) -> u8
-    ensures { result ≡ side_number (join_side side) }
-{
-    u8::from(side)
-}
