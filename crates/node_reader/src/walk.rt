@@ -9,6 +9,7 @@ ghost use Rattle.node_reader.specs.Nodes.{WalkedIs, Counted, NodeHead, Lent};
 
 use super::call_heads::{Columns, Head};
 use super::head_readers::{head_of_kind, node_kind};
+use node_rows::collecting::Passed;
 use node_rows::numbers::put_node;
 use terms::refusals::Refusal;
 
@@ -68,15 +69,11 @@ pub fn node(
         nodes(numbers, indexes, source, head, levels - 1, count + 1)?
     };
     let s = source.bytes;
-    put_node(
-        numbers,
-        indexes,
-        count,
-        s[at],
-        at,
-        walked.next,
-        walked.count,
-    );
+    let passed = Passed {
+        end: walked.next,
+        index: walked.count,
+    };
+    put_node(numbers, indexes, count, s[at], at, passed);
     Ok(walked)
 }
 

@@ -3,6 +3,8 @@ ghost use Rattle.std.specs.Prelude.{◌<◌, ◌≤◌, ◌≡◌, length};
 ghost use Rattle.node_rows.specs.Numbers.{number};
 ghost use Rattle.node_rows.specs.Stores.{SameIs, Storable, Stored};
 
+use super::collecting::Passed;
+
 pub fn node_number(kind: u8, start: usize, end: usize) -> u32
     requires { (kind < 7) × (start < 16384) × (end < 32768) }
     ensures { result ≡ number (record { kind = kind; start = start; end = end }) }
@@ -10,23 +12,22 @@ pub fn node_number(kind: u8, start: usize, end: usize) -> u32
     kind as u32 * 536870912 + (start * 32768 + end) as u32
 }
 
-// Puts a node's number and the index of the node after it into the rows, where these have its place.
+// Puts a node's number and the index of the node after it into the rows, where these have its place; the walk over it ended there.
 pub fn put_node(
     numbers: &mut [u32],
     next: &mut [u16],
     i: usize,
     kind: u8,
     start: usize,
-    end: usize,
-    after: usize,
+    passed: Passed,
 )
-    requires { Storable numbers.old next.old i kind start end after }
-    ensures { Stored numbers.old next.old i (record { kind = kind; start = start; end = end }) after
+    requires { Storable numbers.old next.old i kind start passed.end passed.index }
+    ensures { Stored numbers.old next.old i (record { kind = kind; start = start; end = passed.end }) passed.index
         numbers.new next.new }
 {
     if i < numbers.len() {
-        numbers[i] = node_number(kind, start, end);
-        next[i] = after as u16;
+        numbers[i] = node_number(kind, start, passed.end);
+        next[i] = passed.index as u16;
     }
 }
 
