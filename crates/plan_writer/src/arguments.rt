@@ -12,7 +12,7 @@ use terms::sides::JoinSide;
 use writing::copies::{copy_at, copy_bytes};
 use writing::numbers::put_number;
 
-// How far a copy read and wrote.
+// Where a copy read up to, and how many bytes it wrote.
 #[derive(Clone, Copy)]
 pub struct Copied {
     pub read: usize,

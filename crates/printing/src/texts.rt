@@ -7,7 +7,7 @@ ghost use Rattle.printing.specs.Texts.{NodePrinted, RowFits, RowPrinted};
 use super::marks::{put_before, put_closing, put_opening};
 use expression::heads::head_at;
 
-// How far a print read and wrote.
+// Where a print read up to and where its text ends: two places, where `Copied` of plan_writer has a place and a count.
 #[derive(Clone, Copy)]
 pub struct Printed {
     pub read: usize,
