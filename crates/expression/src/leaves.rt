@@ -13,7 +13,8 @@ pub struct Called {
     pub count: usize,
 }
 
-// And and the other operators with the place of their left child, a function, or any other node with its head.
+// And and the other operators with the place of their left child, a function, or any other node with its head. An operator is a byte up to
+// 63, and document 01 names only those that it reads.
 #[derive(Clone, Copy)]
 pub enum Node {
     And(usize),

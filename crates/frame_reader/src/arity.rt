@@ -66,7 +66,7 @@ fn comparison_arity(s: &[u8], operator: u8, left: usize) -> Option<usize>
     Some(end_node(s, right))
 }
 
-// Where an expression ends; nowhere, if some leaf lacks an argument.
+// Where an expression ends; nowhere, if some leaf lacks an argument. A turn goes from an And to its right side, and no range has those.
 pub fn check_arity(s: &[u8], at: usize) -> Option<usize>
     requires { Tree s.now at }
     ensures { OfTree s.now at (λ t. ArityIs (arity t) (at + length (expr_bytes t)) result) }

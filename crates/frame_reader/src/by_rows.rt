@@ -1,4 +1,5 @@
-// The same of an expression whose nodes are in rows: no end is looked for.
+// Whether AND-leaves have the arguments that they need, of an expression whose nodes are in rows: no end is looked for. (`arity` asks the
+// bytes, of held remainders, which have no rows.)
 ghost use Rattle.std.specs.Prelude.{◌≡◌, ◌+◌};
 ghost use Rattle.definitions.specs.Expression.{binary, nil, cons};
 ghost use Rattle.definitions.specs.Good.{nodes};
@@ -42,7 +43,7 @@ fn node_arity(s: &[u8], rows: Rows, i: usize) -> Option<usize>
     }
 }
 
-// The expression whose nodes have the indexes from `first` up to `end`.
+// The expression whose nodes have the indexes from `first` up to `end`. A leaf says which index is next, so it is no range.
 pub fn arity_by_rows(s: &[u8], rows: Rows, first: usize, end: usize) -> bool
     requires listed { Listed s.now rows.numbers.now rows.next.now first }
     requires of_tree { OfTree s.now (start_at rows.numbers.now first) (λ t. end ≡ first + nodes t) }

@@ -79,7 +79,7 @@ pub fn first_byte(s: &[u8]) -> Result<(u64, usize), Refusal>
     byte(s, 0)
 }
 
-// The length and the first byte of a frame of this sort: the place after them.
+// The length and the first byte of a frame of this sort, which is the document's first byte: the place after them.
 #[tactic(auto, unfolding(crate::specs::Frames::opening))]
 pub fn opened(s: &[u8], sort: u64) -> Result<usize, Refusal>
     ensures { SkippedIs s.now 0 result (opening sort) }

@@ -9,7 +9,8 @@ use super::answers::{length_number, minus_refusal};
 use join_filter::answers;
 use terms::refusals::Refusal;
 
-// The answer, and what the table is to be filled with: the nodes of the expression that begins at `root`, `count` of them, or none.
+// The answer, and what the table is to be filled with: the nodes of the expression that begins at `root`, `count` of them. None after a
+// refusal, which where the table is filled is no case of its own.
 #[derive(Clone, Copy)]
 pub struct Loaded {
     pub answer: i64,

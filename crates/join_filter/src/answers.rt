@@ -1,13 +1,14 @@
-// What load, extract, exchange, print and merge answer.
+// What the calls answer.
 ghost use Rattle.std.specs.Prelude.{◌≡◌};
 ghost use Rattle.join_filter.specs.Outcomes.{unwalked};
 
 use terms::refusals::Refusal;
 
-// The length of the new plan or of the text, or why the call is refused.
+// The length of the new plan, of the text or of the frame that waits, or why the call is refused.
 pub type Answer = Result<usize, Refusal>;
 
 // What extract answers, and how many And nodes and AND-leaves it read: 0 but with a length and with 13 (request 10 of document 02).
+// In a `Result` the walk would stand twice, beside a length and beside a refusal.
 #[derive(Clone, Copy)]
 pub struct Extracted {
     pub answer: Answer,

@@ -139,7 +139,7 @@ pub fn leaf_match(filter: Filter, leaf: Leaf, pass: Pass, parent: usize) -> Foun
     }
 }
 
-// The first match that is wanted below a node.
+// The first match that is wanted below a node. A turn goes from an And to its right side, and no range has those.
 pub fn first_match(filter: Filter, pass: Pass, from: Stop) -> Found
     requires framed { Framed filter.s.now filter.rec from.at }
     requires of_tree { OfTree filter.s.now from.at (Tabled filter.rows.numbers.now filter.rows.next.now from.at from.index) }

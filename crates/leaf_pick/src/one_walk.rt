@@ -136,7 +136,7 @@ pub fn walk_once(filter: Filter, at: usize, settings: Settings) -> Walk
     walk
 }
 
-// The place of the And above the AND-leaf that stands at a place; the root counts as its own.
+// The place of the And above the AND-leaf that stands at a place; the root counts as its own. A turn goes down to one side of an And.
 pub fn parent_of(rows: Rows, at: usize, leaf: usize) -> usize
     requires { Spotted rows.numbers.now rows.next.now at leaf }
     ensures { ParentIs rows.entry.numbers.now rows.entry.next.now at leaf result }

@@ -1,7 +1,7 @@
 // The line that has begun, of any length, in a buffer of fixed length.
 ghost use Rattle.lines.specs.Collecting.{CollectedIs};
 
-// How many characters were taken, how many the line has so far, and whether it is at its end.
+// How many characters were taken, how many the line has so far, and whether it is at its end: the counts are told in either case.
 #[derive(Clone, Copy)]
 pub struct Collected {
     pub taken: usize,

@@ -82,7 +82,7 @@ fn column_refs_all(s: &[u8], at: usize, n: usize) -> Schemas
     all
 }
 
-// The side of a KNN join whose plan has the query geometry, by document 01's number.
+// The side of a KNN join whose plan has the query geometry, by document 01's number. The Rust has this enum beside `JoinSide`.
 #[derive(Clone, Copy, Debug, PartialEq, Eq)]
 pub enum KNNJoinQuerySide {
     Left = 0,

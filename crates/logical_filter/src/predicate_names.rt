@@ -5,7 +5,7 @@ ghost use Rattle.definitions.specs.Basics.{ascii, same_name};
 ghost use Rattle.definitions.specs.Expression.{binary, nil, cons};
 ghost use Rattle.definitions.specs.Encode.{expr_bytes, exprs_bytes};
 ghost use Rattle.definitions.specs.Leaves.{leaves};
-ghost use Rattle.definitions.specs.Logical.{lower_case, spatial_names, function_name, leaf_name, mask};
+ghost use Rattle.definitions.specs.Logical.{lower_case, function_name, leaf_name, mask};
 ghost use Rattle.expression.specs.Places.{part};
 ghost use Rattle.expression.specs.Nodes.{Tree, OfTree};
 ghost use Rattle.expression.specs.Leaves.{Pair, OfPair};

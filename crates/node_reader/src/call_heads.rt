@@ -6,7 +6,8 @@ ghost use Rattle.node_reader.specs.Heads.{HeadIs};
 use super::field_readers::{byte_between, byte_up_to, name_bytes};
 use terms::refusals::Refusal;
 
-// Which columns an expression may have: those of a physical frame, below their count, or those of a logical one.
+// Which columns an expression may have: those of a physical frame, below their count, or those of a logical one. Two sorts of frames, of
+// which none lacks a bound.
 #[derive(Clone, Copy)]
 pub enum Columns {
     Below(u64),

@@ -1,5 +1,5 @@
 // The walk over a node and the walk over its children, which call each other. Nodes left to count fall.
-ghost use Rattle.std.specs.Prelude.{◌≡◌, ◌≤◌, length};
+ghost use Rattle.std.specs.Prelude.{◌≤◌, length};
 ghost use Rattle.definitions.specs.Decode as decode;
 ghost use Rattle.definitions.specs.Decode.{repeat_exprs};
 ghost use Rattle.definitions.specs.Good.{depth};

@@ -5,7 +5,8 @@ ghost use Rattle.node_rows.specs.Rows.{TwoTabled, OfTwo, TwoAre};
 
 use super::pairs::Two;
 
-// For each node its number, and the index of the node that comes after it and all below it.
+// For each node its number, and the index of the node that comes after it and all below it. Two slices: a table's numbers come in place of
+// the frame's own, beside the same indexes.
 #[derive(Clone, Copy)]
 pub struct Rows<'a> {
     pub numbers: &'a [u32],

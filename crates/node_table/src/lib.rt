@@ -2,7 +2,7 @@
 // row of numbers, one number a node record. Public for the crate `spatialjoin_c`.
 #![tactic(auto)]
 
-ghost use Rattle.std.specs.Prelude.{◌≡◌, map, ◌++◌, ◌<◌, ◌≤◌, length, get_or, take, drop};
+ghost use Rattle.std.specs.Prelude.{◌≡◌, map, ◌++◌, ◌<◌, ◌≤◌, length, take, drop};
 ghost use Rattle.node_rows.specs.Numbers.{number};
 ghost use Rattle.node_rows.specs.Rows.{Filling};
 ghost use Rattle.node_table.specs.Numbers.{numbered};

@@ -77,7 +77,8 @@ fn reproject_children(out: &mut [u8], src: &[u8], at: usize, n: usize, to: &[u16
     }
 }
 
-// How the indexes of an argument's columns change as it is written.
+// How the indexes of an argument's columns change as it is written. A name stands where an `Option` would say `None`: what it keeps is told
+// at each call.
 #[derive(Clone, Copy)]
 pub enum ColumnIndexes<'a> {
     Kept,

@@ -9,8 +9,8 @@ ghost use Rattle.projection.specs.Placing.{PlacedIs};
 use super::places::{Chains, fill_places, place_in};
 use terms::sides::JoinSide;
 
-// In each of the row's numbers that is of the side; answers whether the list has them all. Where it lacks one, what the row then has is of
-// no use.
+// Puts the place of its child index into each of the row's numbers that is of the side; answers whether the list has them all, a question
+// that two sides are asked. Where it lacks one, what the row then has is of no use.
 fn put_places(row: &mut [u32], side: JoinSide, items: &[u16], chains: Option<Chains>) -> bool
     requires items_bound { length items.now ≤ most_items }
     requires sought { Sought items.now chains }
@@ -30,7 +30,7 @@ fn put_places(row: &mut [u32], side: JoinSide, items: &[u16], chains: Option<Cha
     true
 }
 
-// The same. Where few places are sought or the list is short, the list is searched for each; else its chains are filled first.
+// Where few places are sought or the list is short, the list is searched for each; else its chains are filled first.
 pub fn find_places(row: &mut [u32], side: JoinSide, items: &[u16]) -> bool
     requires { length items.now ≤ most_items }
     ensures { PlacedIs (side_number (join_side side)) items.now row.old row.new result }

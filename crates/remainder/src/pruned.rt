@@ -7,7 +7,7 @@ use super::record_keys::Records;
 use super::references::collect_column_references;
 use plan_writer::arguments::reproject_column_references;
 
-// The same with rows for at most N records.
+// With rows for at most N records.
 fn put_pruned_in<const N: usize>(out: &mut [u8], records: Records, from: &[u8], at: usize) -> usize
     requires pruned_fits { PrunedFits records.src.now records.rec records.count from.now at out.old }
     requires count_bound { (records.count ≤ N) × (N ≤ 256) }

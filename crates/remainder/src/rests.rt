@@ -10,7 +10,8 @@ use expression::leaves::{Node, node_at};
 use node_rows::rows::Rows;
 use writing::copies::copy_at;
 
-// Where what stays of an expression starts, and how many AND-leaves are before the expression.
+// Where what stays of an expression starts, and how many AND-leaves are before the expression. Where nothing stays it starts at its end, and
+// the next one is written there without a case of its own.
 #[derive(Clone, Copy)]
 pub struct Stays {
     pub start: usize,
@@ -31,7 +32,7 @@ pub struct Place {
     pub index: usize,
 }
 
-// An AND-leaf, unless its flag says that it goes.
+// An AND-leaf, unless its flag says that it goes. Flags are bytes, so that what is said of bytes that stand somewhere holds of them.
 fn put_leaf(
     out: &mut [u8],
     end: usize,

@@ -41,7 +41,7 @@ pub fn spatialjoin_load(frame: &[u8], plan: &mut [u8], table: &mut [NodeRecord])
 }
 
 // Pulls the predicate out of the plan in the first n bytes, by the table of the nodes of the frame that is held. The settings are the kinds
-// allowed (bit 0 relation, bit 1 distance, bit 2 KNN), the default k and the greatest k.
+// allowed (bit 0 relation, bit 1 distance, bit 2 KNN), the default k and the greatest k. (Seven parameters are the C interface.)
 pub fn spatialjoin_extract(
     plan: &mut [u8],
     n: usize,

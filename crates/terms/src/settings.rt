@@ -4,7 +4,7 @@ ghost use Rattle.definitions.specs.Settings as definitions;
 ghost use Rattle.definitions.specs.SettingsClaims.{GoodSettings};
 ghost use Rattle.terms.specs.Settings.{settings_of};
 
-// The kinds allowed (bit 0 relation, bit 1 distance, bit 2 KNN), the default k and the greatest k.
+// The kinds allowed (bit 0 relation, bit 1 distance, bit 2 KNN), the default k and the greatest k, as a C host gives them.
 #[derive(Clone, Copy)]
 pub struct Settings {
     pub kinds: u32,
