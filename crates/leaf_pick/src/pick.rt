@@ -1,5 +1,5 @@
-// The AND-leaf that is taken, in two passes: the first KNN match, else the first other match. No call asks it: it is the plain engine, which
-// `engines-agree` is about and `oracle/engines` runs beside the one walk.
+// The AND-leaf that is taken, in two passes: the first KNN match, else the first other match. No call asks it: it is the plain engine,
+// which `engines-agree` is about and `oracle/engines` runs beside the one walk.
 // A port of `extract_spatial_predicate` and `extract_knn_predicate_prioritized` of
 // rust/sedona-query-planner/src/spatial_expr_utils.rs.
 // A node is given by its place and its index in the rows, which say where it ends and which node comes after it.

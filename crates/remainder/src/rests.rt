@@ -10,8 +10,8 @@ use expression::leaves::{Node, node_at};
 use node_rows::rows::Rows;
 use writing::copies::copy_at;
 
-// Where what stays of an expression starts, and how many AND-leaves are before the expression. Where nothing stays it starts at its end, and
-// the next one is written there without a case of its own.
+// Where what stays of an expression starts, and how many AND-leaves are before the expression. Where nothing stays it starts at its end,
+// and the next one is written there without a case of its own.
 #[derive(Clone, Copy)]
 pub struct Stays {
     pub start: usize,
