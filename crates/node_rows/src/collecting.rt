@@ -1,5 +1,5 @@
 // One walk over an expression that fills both rows.
-ghost use Rattle.std.specs.Prelude.{◌≤◌, length};
+ghost use Rattle.std.specs.Prelude.{◌≡◌, ◌≤◌, length};
 ghost use Rattle.expression.specs.Nodes.{OfTree, OfTrees};
 ghost use Rattle.node_rows.specs.Rows.{Fits, FitsAll, Collected, CollectedAll, Filling, RowIs};
 
@@ -58,7 +58,19 @@ fn collect_children(
     passed
 }
 
-// Puts the numbers of the `count` nodes of the expression at `root` at the row's start; those after them stay.
+// The walk over an expression of `count` nodes, with N places for the indexes, which are needed no longer than it takes.
+fn node_row_by<const N: usize>(row: &mut [u32], s: &[u8], root: usize, count: usize)
+    requires filling { (count ≤ length row.old) × Filling s.now root count }
+    requires some_nodes { count ≡ 0 → ⊥ }
+    requires places { (count ≤ 1024 → count ≤ N) × (N ≤ 1024) }
+    ensures { RowIs s.now root count row.old row.new }
+{
+    let mut next = [0u16; N];
+    collect_nodes(row, &mut next, s, root, 0);
+}
+
+// Puts the numbers of the `count` nodes of the expression at `root` at the row's start; those after them stay. Most expressions have few
+// nodes, and need no longer row cleared.
 pub fn node_row(row: &mut [u32], s: &[u8], root: usize, count: usize)
     requires { (count ≤ length row.old) × Filling s.now root count }
     ensures { RowIs s.now root count row.old row.new }
@@ -66,12 +78,8 @@ pub fn node_row(row: &mut [u32], s: &[u8], root: usize, count: usize)
     if count == 0 {
         return;
     }
-    // Most expressions have few nodes, and need no longer row cleared.
     if count <= 32 {
-        let mut few = [0u16; 32];
-        collect_nodes(row, &mut few, s, root, 0);
-        return;
+        return node_row_by::<32>(row, s, root, count);
     }
-    let mut next = [0u16; 1024];
-    collect_nodes(row, &mut next, s, root, 0);
+    node_row_by::<1024>(row, s, root, count)
 }
