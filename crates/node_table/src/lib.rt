@@ -9,6 +9,7 @@ ghost use Rattle.node_table.specs.Numbers.{numbered};
 ghost use Rattle.node_table.specs.Records.{node_of, nodes_of, FilledIs};
 
 use node_rows::collecting::node_row;
+use node_rows::numbers::node_number;
 
 #[repr(C)]
 #[derive(Clone, Copy, Debug, PartialEq, Eq)]
@@ -35,7 +36,7 @@ impl From<NodeRecord> for u32 {
         if 32767 < end {
             return u32::MAX;
         }
-        kind as u32 * 536870912 + start as u32 * 32768 + end as u32
+        node_number(kind, usize::from(start), usize::from(end))
     }
 }
 

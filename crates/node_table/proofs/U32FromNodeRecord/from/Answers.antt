@@ -2,7 +2,6 @@
 use native.Mathlib.Omega.{arith}
 use mathlib.Core.Path.{sym}
 use Rattle.node_table.specs.Records.{node_of}
-use Rattle.node_rows.proofs.NumberLaws.{number-told}
 use Rattle.node_table.proofs.NumberLaws.{kind-over, start-over, end-over}
 use Rattle.node_table.proofs.U32FromNodeRecord.from.Goals as goal
 
@@ -17,11 +16,3 @@ returns-then-start-gt16383 c =
 pub returns-then-end-gt32767 : goal.returns-then-end-gt32767
 returns-then-end-gt32767 c =
     sym (end-over (node_of c.args.node) (omega (arith, c.if-end-gt32767.true)))
-
-pub returns : goal.returns
-returns c =
-    sym (number-told (node_of c.args.node) (record {
-      kind = omega (arith, c.if-kind-gt6.false);
-      start = omega (arith, c.if-start-gt16383.false);
-      end = omega (arith, c.if-end-gt32767.false);
-    }))
