@@ -21,7 +21,7 @@ alone e one nil none = one
 alone e one (cons x es) none = absurd (omega arith)
 
 pub childless : (s : List ℕ) (at : ℕ) {first : ℕ} (reader : Reader Expr) (e : Expr) → children_of e ≡ nil → first ≤ length s
-    → ReadsAt s at first e reader → HeadIs s at (Ok (record { first = first; children = 0 })) (λ child. reader)
+    → ReadsAt s at first e reader → HeadIs s at (Ok (record { next = first; children = 0 })) (λ child. reader)
 unfolding repeat_exprs
 childless s at reader e one place reads = (place, (λ es. e), (λ child n. reads n), alone e one)
 
@@ -55,7 +55,7 @@ above-two (suc operator) (cons l (cons r nil)) both = refl
 above-two operator (cons l (cons r (cons x es))) both = absurd (omega arith)
 
 pub two : (s : List ℕ) (at end operator : ℕ) → end ≤ length s
-    → ((n : ℕ) → byte_up_to 63 n (drop at s) ≡ read operator n (drop end s)) → HeadIs s at (Ok (record { first = end; children = 2 })) binary_node
+    → ((n : ℕ) → byte_up_to 63 n (drop at s) ≡ read operator n (drop end s)) → HeadIs s at (Ok (record { next = end; children = 2 })) binary_node
 unfolding repeat_exprs binary_node
 two s at end operator w h = (
   w,

@@ -11,7 +11,7 @@ use Rattle.expression.specs.Nodes.{head_bytes, children_of}
 use Rattle.expression.proofs.Standing.{kind-is, node-some, tree-length}
 use Rattle.node_reader.specs.Heads.{depth_above}
 use Rattle.std.specs.Prelude.{Ok}
-use Rattle.node_reader.specs.declared.call_heads.Head.{Head}
+use Rattle.expression.specs.declared.heads.Head.{Head}
 use Rattle.node_rows.specs.Numbers.{number}
 use Rattle.node_rows.specs.Rows.{Collected, CollectedAll}
 use Rattle.node_rows.specs.Stores.{Storable, Stored}
@@ -32,14 +32,14 @@ pub record Below (c : Columns) (s : List ℕ) (at levels count : ℕ) (head : He
   pub lent : Lent s numbers indexes
   pub same : length numbers₁ ≡ length numbers
   pub alike : length indexes₁ ≡ length indexes
-  pub below : WalkedIs s head.first (count + 1) (Ok walked) (repeat_exprs head.children (node c (levels - 1))) depth_above (length numbers)
-      (CollectedAll head.first (count + 1) numbers indexes numbers₁ indexes₁)
+  pub below : WalkedIs s head.next (count + 1) (Ok walked) (repeat_exprs head.children (node c (levels - 1))) depth_above (length numbers)
+      (CollectedAll head.next (count + 1) numbers indexes numbers₁ indexes₁)
   pub counted : Counted (count + 1) 1 (Ok walked)
 
 module _ {c : Columns} {s : List ℕ} {at levels count : ℕ} {head : Head} {numbers indexes numbers₁ indexes₁ : List ℕ} {walked : Walked}
     (b : Below c s at levels count head numbers indexes numbers₁ indexes₁ walked) where
   collected-below : Passed → Exprs → Type 0
-  collected-below = CollectedAll head.first (count + 1) numbers indexes numbers₁ indexes₁
+  collected-below = CollectedAll head.next (count + 1) numbers indexes numbers₁ indexes₁
 
   itself : Expr
   itself = b.above.1 b.below.1
@@ -78,7 +78,7 @@ module _ {c : Columns} {s : List ℕ} {at levels count : ℕ} {head : Head} {num
       let told : collected-below end (children_of itself) =
       subst (collected-below end) (sym (its-children s at count head (node c levels) (node c (levels - 1)) b.above.1 b.above.2 b.above.3
       (length numbers) collected-below walked b.below)) (b.below.4 fits) in
-      let begins : head.first ≡ at + length (head_bytes itself) = omega (arith, told.ends, there.span.ends, tree-length itself) in
+      let begins : head.next ≡ at + length (head_bytes itself) = omega (arith, told.ends, there.span.ends, tree-length itself) in
       subst (λ (l : List ℕ). Collected at count numbers indexes l indexes₂ end itself) (sym put.0)
       (subst (λ (l : List ℕ). Collected at count numbers indexes (set numbers₁ count
       (number (record { kind = get_or s at 0; start = at; end = walked.next }))) l end itself) (sym put.1)
@@ -98,18 +98,18 @@ module _ {c : Columns} {s : List ℕ} {at levels count : ℕ} {head : Head} {num
     {numbers₁ indexes₁ : List ℕ} {walked : Walked} where
   pub inner : {numbers₂ indexes₂ : List ℕ} {below : Walked} → numbers₁ ≡ numbers₂ → indexes₁ ≡ indexes₂ → walked ≡ below
       → length numbers₂ ≡ length numbers → length indexes₂ ≡ length indexes
-      → WalkedIs s head.first (count + 1) (Ok below) (repeat_exprs head.children (node c (levels - 1))) depth_above (length numbers)
-      (CollectedAll head.first (count + 1) numbers indexes numbers₂ indexes₂)
+      → WalkedIs s head.next (count + 1) (Ok below) (repeat_exprs head.children (node c (levels - 1))) depth_above (length numbers)
+      (CollectedAll head.next (count + 1) numbers indexes numbers₂ indexes₂)
       → Counted (count + 1) 1 (Ok below) → Below c s at levels count head numbers indexes numbers₁ indexes₁ walked
   inner e f g same alike below counted =
       rw (e, f, g)
       (record { above = above; bytes = bytes; within = within; lent = lent; same = same; alike = alike; below = below; counted = counted })
 
-  pub leaf : numbers₁ ≡ numbers → indexes₁ ≡ indexes → walked ≡ record { next = head.first; count = count + 1; depth = 1 }
+  pub leaf : numbers₁ ≡ numbers → indexes₁ ≡ indexes → walked ≡ record { next = head.next; count = count + 1; depth = 1 }
       → head.children ≡ 0 → Below c s at levels count head numbers indexes numbers₁ indexes₁ walked
   leaf e f g none =
       inner e f g refl refl
-      (row_ends (row-begins s head.first (count + 1) head.children (node c (levels - 1)) numbers indexes above.0 (omega (arith, above.5)))
+      (row_ends (row-begins s head.next (count + 1) head.children (node c (levels - 1)) numbers indexes above.0 (omega (arith, above.5)))
       (omega arith)) (omega arith, omega (arith, above.5))
 
 -- Rows as long as those that were lent may be lent, too.

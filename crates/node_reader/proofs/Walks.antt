@@ -20,7 +20,7 @@ use Rattle.std.specs.Prelude.{Result, Ok, Err}
 use Rattle.std.proofs.Common.{◌⊎◌, inl, inr}
 use Rattle.terms.specs.Refusals.{number_of}
 use Rattle.expression.specs.Nodes.{children_of}
-use Rattle.node_reader.specs.declared.call_heads.Head.{Head}
+use Rattle.expression.specs.declared.heads.Head.{Head}
 use Rattle.node_reader.specs.Heads.{HeadIs, depth_above}
 use Rattle.node_rows.specs.Rows.{Collected, CollectedAll}
 use Rattle.node_rows.specs.declared.collecting.Passed.{Passed}
@@ -88,13 +88,13 @@ depth-above = each (λ t. depth t ≡ depth_above (children_of t))
 
 -- The walk of the children is the walk of the node, in which they were counted one later.
 module _ (s : List ℕ) (at count : ℕ) (head : Head) (reader child : Reader Expr) (build : Exprs → Expr)
-    (e : reader count (drop at s) ≡ continue (repeat_exprs head.children child (count + 1) (drop head.first s)) (λ es. give (build es)))
+    (e : reader count (drop at s) ≡ continue (repeat_exprs head.children child (count + 1) (drop head.next s)) (λ es. give (build es)))
     (same : (es : Exprs) → tree.count es ≡ head.children → children_of (build es) ≡ es) (room : ℕ) where
   module _ (below : Passed → Exprs → Type 0) (walked : Walked)
-      (h : WalkedIs s head.first (count + 1) (Ok walked) (repeat_exprs head.children child) depth_above room below) where
+      (h : WalkedIs s head.next (count + 1) (Ok walked) (repeat_exprs head.children child) depth_above room below) where
     -- The node that was read has the children that were.
     pub its-children : children_of (build h.1) ≡ h.1
-    its-children = same h.1 (as-many child head.children (count + 1) walked.count (drop head.first s) (drop walked.next s) h.1 h.2)
+    its-children = same h.1 (as-many child head.children (count + 1) walked.count (drop head.next s) (drop walked.next s) h.1 h.2)
 
     pub node-read : reader count (drop at s) ≡ read (build h.1) walked.count (drop walked.next s)
     node-read = e ∙ after _ h.2

@@ -9,7 +9,7 @@ use Rattle.terms.specs.Refusals.{number_of}
 use Rattle.terms.specs.declared.refusals.Refusal.{Refusal}
 use Rattle.node_reader.specs.declared.call_heads.Columns.{Columns}
 use Rattle.node_reader.specs.declared.call_heads.Columns.TheVariants.{Below, Fields}
-use Rattle.node_reader.specs.declared.call_heads.Head.{Head}
+use Rattle.expression.specs.declared.heads.Head.{Head}
 
 abbrev pub columns_of : Columns → decode.Columns
 columns_of (Below bound) = decode.index_below bound
@@ -22,9 +22,9 @@ depth_above es = suc (depth_all es)
 -- A node's fields were read: the rest of the node is its children, and `build` makes the node that has them.
 abbrev pub HeadIs : List ℕ → (at : ℕ) → Result Head Refusal → ((child : Reader Expr) → Reader Expr) → Type 0
 HeadIs s at (Ok head) reader =
-    (head.first ≤ length s) × (build : Exprs → Expr)
+    (head.next ≤ length s) × (build : Exprs → Expr)
     × ((child : Reader Expr) (n : ℕ)
     → reader child n (drop at s)
-    ≡ continue (decode.repeat_exprs head.children child n (drop head.first s)) (λ es. give (build es)))
+    ≡ continue (decode.repeat_exprs head.children child n (drop head.next s)) (λ es. give (build es)))
     × ((es : Exprs) → count es ≡ head.children → children_of (build es) ≡ es)
 HeadIs s at (Err why) reader = (child : Reader Expr) (n : ℕ) → reader child n (drop at s) ≡ stopped (number_of why)

@@ -7,7 +7,7 @@ use Rattle.definitions.specs.Decode.{Columns, node, repeat_exprs}
 use Rattle.terms.specs.Refusals.{number_of}
 use Rattle.terms.specs.declared.refusals.Refusal.{Refusal}
 use Rattle.expression.specs.Nodes.{children_of}
-use Rattle.node_reader.specs.declared.call_heads.Head.{Head}
+use Rattle.expression.specs.declared.heads.Head.{Head}
 use Rattle.node_rows.specs.declared.collecting.Passed.{Passed}
 use Rattle.node_reader.specs.declared.walk.Walked.{Walked}
 
@@ -19,9 +19,9 @@ pub record Lent (s numbers indexes : List ℕ) : Type 0 where
 -- A node below the limits is its children, one more counted and one level less, and what `build` makes of them.
 abbrev pub NodeHead : List ℕ → (at levels count : ℕ) → Columns → Result Head Refusal → Type 0
 NodeHead s at levels count c (Ok head) =
-    (head.first ≤ length s) × (build : Exprs → Expr)
+    (head.next ≤ length s) × (build : Exprs → Expr)
     × (node c levels count (drop at s)
-    ≡ continue (repeat_exprs head.children (node c (levels - 1)) (count + 1) (drop head.first s)) (λ es. give (build es)))
+    ≡ continue (repeat_exprs head.children (node c (levels - 1)) (count + 1) (drop head.next s)) (λ es. give (build es)))
     × ((es : Exprs) → tree.count es ≡ head.children → children_of (build es) ≡ es) × (0 < levels) × (count < 1024)
 NodeHead s at levels count c (Err why) = node c levels count (drop at s) ≡ stopped (number_of why)
 

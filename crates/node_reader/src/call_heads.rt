@@ -4,6 +4,7 @@ ghost use Rattle.definitions.specs.Decode as decode;
 ghost use Rattle.node_reader.specs.Heads.{HeadIs};
 
 use super::field_readers::{byte_between, byte_up_to, name_bytes};
+use expression::heads::Head;
 use terms::refusals::Refusal;
 
 // Which columns an expression may have: those of a physical frame, below their count, or those of a logical one. Two sorts of frames, of
@@ -14,13 +15,6 @@ pub enum Columns {
     Fields,
 }
 
-// Where a node's children start, and how many they are.
-#[derive(Clone, Copy)]
-pub struct Head {
-    pub first: usize,
-    pub children: u64,
-}
-
 // A function call: its name, and its arguments to come.
 #[tactic(auto, unfolding(definitions::specs::Decode::call_node))]
 pub fn call_head(s: &[u8], at: usize) -> Result<Head, Refusal>
@@ -29,6 +23,9 @@ pub fn call_head(s: &[u8], at: usize) -> Result<Head, Refusal>
 {
     let (size, name) = byte_between(s, at, 1, 32)?;
     let arguments = name_bytes(s, name, size)?;
-    let (children, first) = byte_up_to(s, arguments, 16)?;
-    Ok(Head { first, children })
+    let (children, next) = byte_up_to(s, arguments, 16)?;
+    Ok(Head {
+        next,
+        children: children as usize,
+    })
 }

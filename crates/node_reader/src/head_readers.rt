@@ -4,8 +4,9 @@ ghost use Rattle.definitions.specs.Decode as decode;
 ghost use Rattle.node_reader.specs.Fields.{FieldIs};
 ghost use Rattle.node_reader.specs.Heads.{HeadIs, columns_of};
 
-use super::call_heads::{Columns, Head, call_head};
+use super::call_heads::{Columns, call_head};
 use super::field_readers::{byte, byte_up_to, number};
+use expression::heads::Head;
 use expression::literals::literal_in_range;
 use terms::refusals::Refusal;
 
@@ -39,11 +40,11 @@ fn column_head(s: &[u8], at: usize, bound: u64) -> Result<Head, Refusal>
     ensures { HeadIs s.now at result (λ child. decode.column_node bound) }
 {
     let (index, tag) = number(s, at, 2)?;
-    let (_, first) = number(s, tag, 2)?;
+    let (_, next) = number(s, tag, 2)?;
     if bound <= index {
         return Err(Refusal::NoSuchColumn);
     }
-    Ok(Head { first, children: 0 })
+    Ok(Head { next, children: 0 })
 }
 
 // A logical column: which schemas have it, and its tag.
@@ -53,8 +54,8 @@ fn field_head(s: &[u8], at: usize) -> Result<Head, Refusal>
     ensures { HeadIs s.now at result (λ child. decode.field_node) }
 {
     let (_, tag) = byte_up_to(s, at, 3)?;
-    let (_, first) = number(s, tag, 2)?;
-    Ok(Head { first, children: 0 })
+    let (_, next) = number(s, tag, 2)?;
+    Ok(Head { next, children: 0 })
 }
 
 // A column of the sort that the frame has.
@@ -75,11 +76,11 @@ fn literal_head(s: &[u8], at: usize) -> Result<Head, Refusal>
     ensures { HeadIs s.now at result (λ child. decode.literal_node) }
 {
     let (kind, eight) = byte_up_to(s, at, 6)?;
-    let (bytes, first) = number(s, eight, 8)?;
+    let (bytes, next) = number(s, eight, 8)?;
     if !literal_in_range(kind, bytes) {
         return Err(Refusal::OutOfRange);
     }
-    Ok(Head { first, children: 0 })
+    Ok(Head { next, children: 0 })
 }
 
 // A binary operator: And, a comparison or any other, with its two children to come.
@@ -88,8 +89,8 @@ fn binary_head(s: &[u8], at: usize) -> Result<Head, Refusal>
     requires { at ≤ length s.now }
     ensures { HeadIs s.now at result decode.binary_node }
 {
-    let (_, first) = byte_up_to(s, at, 63)?;
-    Ok(Head { first, children: 2 })
+    let (_, next) = byte_up_to(s, at, 63)?;
+    Ok(Head { next, children: 2 })
 }
 
 // Any other node: its tag, and its children to come.
@@ -99,8 +100,11 @@ fn other_head(s: &[u8], at: usize) -> Result<Head, Refusal>
     ensures { HeadIs s.now at result decode.other_node }
 {
     let (_, many) = number(s, at, 2)?;
-    let (children, first) = byte_up_to(s, many, 16)?;
-    Ok(Head { first, children })
+    let (children, next) = byte_up_to(s, many, 16)?;
+    Ok(Head {
+        next,
+        children: children as usize,
+    })
 }
 
 // The fields of a node of this kind.

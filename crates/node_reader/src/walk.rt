@@ -7,8 +7,9 @@ ghost use Rattle.node_reader.specs.Heads.{columns_of, depth_above};
 ghost use Rattle.node_rows.specs.Rows.{Collected, CollectedAll};
 ghost use Rattle.node_reader.specs.Nodes.{WalkedIs, Counted, NodeHead, Lent};
 
-use super::call_heads::{Columns, Head};
+use super::call_heads::Columns;
 use super::head_readers::{head_of_kind, node_kind};
+use expression::heads::Head;
 use node_rows::collecting::Passed;
 use node_rows::numbers::put_node;
 use terms::refusals::Refusal;
@@ -61,7 +62,7 @@ pub fn node(
     // Most nodes are leaves, and need no walk of children.
     let walked = if head.children == 0 {
         Walked {
-            next: head.first,
+            next: head.next,
             count: count + 1,
             depth: 1,
         }
@@ -87,14 +88,14 @@ pub fn nodes(
     levels: usize,
     count: usize,
 ) -> Result<Walked, Refusal>
-    requires { (head.first ≤ length source.bytes.now) × (count ≤ 1024) × Lent source.bytes.now numbers.old indexes.old }
-    ensures read { WalkedIs source.entry.bytes.now head.first count result
+    requires { (head.next ≤ length source.bytes.now) × (count ≤ 1024) × Lent source.bytes.now numbers.old indexes.old }
+    ensures read { WalkedIs source.entry.bytes.now head.next count result
         (repeat_exprs head.children (decode.node (columns_of source.entry.columns) levels)) depth_above
         (length numbers.old)
-        (CollectedAll head.first count numbers.old indexes.old numbers.new indexes.new) }
+        (CollectedAll head.next count numbers.old indexes.old numbers.new indexes.new) }
     ensures counted { Counted count 1 result }
 {
-    let mut next = head.first;
+    let mut next = head.next;
     let mut total = count;
     let mut deepest: usize = 0;
     for _ in 0..head.children {

@@ -4,4 +4,4 @@ use Rattle.node_reader.proofs.head_readers.binary_head.Goals as goal
 
 pub returns : goal.returns
 returns c =
-    two _ c.args.at _ _ c.in_ok-first.ensures.0 c.in_ok-first.ensures.1
+    two _ c.args.at _ _ c.in_ok-next.ensures.0 c.in_ok-next.ensures.1

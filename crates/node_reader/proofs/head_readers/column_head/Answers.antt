@@ -11,6 +11,6 @@ use Rattle.node_reader.proofs.head_readers.column_head.Goals as goal
 pub returns : goal.returns
 unfolding column_node children_of
 returns c =
-    let tag = c.in_ok-first.ensures in
-    childless c.args.s.now c.args.at (column_node c.args.bound) (column c.in_ok-index.index c.in_ok-first.field-0-0) refl tag.0
+    let tag = c.in_ok-next.ensures in
+    childless c.args.s.now c.args.at (column_node c.args.bound) (column c.in_ok-index.index c.in_ok-next.field-0-0) refl tag.0
     (λ n. after _ (c.in_ok-index.ensures.1 n) ∙ after _ (tag.1 n) ∙ passes 6 _ n _ (lt-ltb _ _ c.if-bound-index.false))

@@ -9,7 +9,7 @@ use Rattle.node_reader.proofs.walk.+node_nodes.Given as goal
 abbrev pub invariant-nodes-loop : goal.invariant-nodes-loop
 invariant-nodes-loop l =
     let head = l.fn.head in
-    InRow l.source.bytes.now head.first l.count head.children (decode.node (columns_of l.source.columns) l.levels) l.initial.numbers
+    InRow l.source.bytes.now head.next l.count head.children (decode.node (columns_of l.source.columns) l.levels) l.initial.numbers
     l.initial.indexes l.next l.total l.deepest l.counter l.numbers l.indexes
 
 abbrev pub decreases-node : goal.decreases-node
