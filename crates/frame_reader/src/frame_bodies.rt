@@ -17,7 +17,7 @@ use terms::refusals::Refusal;
 // A physical frame: how many records it has, where they start, where its expression does, and how many nodes and levels that has.
 #[derive(Clone, Copy)]
 pub struct Frame {
-    pub columns: u64,
+    pub columns: usize,
     pub records: usize,
     pub root: usize,
     pub nodes: usize,
@@ -48,7 +48,7 @@ pub fn frame_body_in(
     let root = records(s, first, columns)?;
     let walked = expression_in(numbers, indexes, s, root, nodes, Columns::Below(columns))?;
     let frame = Frame {
-        columns,
+        columns: columns as usize,
         records: first,
         root,
         nodes: walked.count - nodes,

@@ -12,7 +12,7 @@ use terms::refusals::Refusal;
 // An extraction: the position that it holds, its predicate, and what is left of the frame that this was taken from.
 #[derive(Clone, Copy)]
 pub struct Extraction {
-    pub position: u64,
+    pub position: usize,
     pub predicate: SpatialPredicate,
     pub remainder: Option<Frame>,
 }
@@ -61,7 +61,7 @@ pub fn extraction_body(s: &[u8], at: usize, first: u64) -> Result<(Extraction, u
     let predicated = predicate_of_kind(s, start, first)?;
     let (remainder, end) = remainder_at(s, predicated.next, predicated.count)?;
     let extraction = Extraction {
-        position,
+        position: position as usize,
         predicate: predicated.predicate,
         remainder,
     };
