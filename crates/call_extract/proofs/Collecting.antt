@@ -1,4 +1,5 @@
 -- A held frame's nodes: there is room for them, and once it is read they are in the rows.
+use Rattle.std.specs.Prelude.{Ok}
 use Prim.Native.Nat.{ℕ, ◌*◌, ◌/◌, ◌≤◌, min}
 use native.Mathlib.Omega.{arith}
 use mathlib.Core.Path.{◌≡◌}
@@ -6,13 +7,14 @@ use mathlib.Core.List.{List}
 use lib.ListN.{length, take, replicate}
 use Rattle.definitions.specs.Expression as tree
 use Rattle.definitions.specs.Encode.{plan_bytes}
+use Rattle.definitions.specs.Plans.{plan_of}
 use Rattle.definitions.specs.Good.{AllBytes, GoodPlan, plan_nodes}
 use Rattle.theorems.proofs.ExchangeGood.{frame-length}
 use Rattle.frame_reader.specs.declared.frame_bodies.Frame.{Frame}
-use Rattle.frame_reader.specs.Frames.{FrameAt}
 use Rattle.frame_reader.proofs.Standing.{expr-stands}
 use Rattle.frame_reader.proofs.FrameRows.{clear-roomy}
-use Rattle.plan_reader.specs.Plans.{HoldsFrame}
+use Rattle.plan_reader.specs.declared.extraction_bodies.Held.TheVariants as held
+use Rattle.plan_reader.specs.Plans.{HoldsFrame, HeldIn}
 use Rattle.join_filter.proofs.Keeping.{plan-size, plan-length}
 use Rattle.node_rows.specs.Rows.{Tabled}
 use Rattle.node_rows.proofs.NodeBytes.{nodes-by-bytes}
@@ -24,10 +26,9 @@ pub clear-rows : (m n : ℕ) (plan : List ℕ) → n ≤ length plan → min 102
 clear-rows m n plan fits few = (fits, clear-roomy m (take n plan) (omega (arith, plan-length n plan fits)))
 
 -- The frame that was read there is the one that is in the rows.
-pub frame-indexed : (n : ℕ) (plan : List ℕ) {f : Frame} {end : ℕ} {F : tree.Frame} {numbers next : List ℕ} → FrameAt (take n plan) f end F
-    → Tabled numbers next f.root 0 F.expr → Indexed n plan f numbers next
-frame-indexed n plan {f} {numbers = numbers} {next} stands tabled =
-    of_tree (Tabled numbers next f.root 0) (expr-stands stands.expr) tabled
+pub held-indexed : (n : ℕ) (plan : List ℕ) {f : Frame} {numbers next : List ℕ}
+    → HeldIn (take n plan) (Ok (held.Frame f)) (plan_of (take n plan)) numbers next → Indexed n plan f numbers next
+held-indexed n plan {f} {numbers} {next} read = of_tree (Tabled numbers next f.root 0) (expr-stands read.1.expr) read.3
 
 module _ (n : ℕ) (plan : List ℕ) {f : Frame} (h : HoldsFrame n plan f) (bytes : AllBytes plan) where
   good : (length (plan_bytes (tree.held h.frame)) ≡ n) × GoodPlan (tree.held h.frame)

@@ -1,42 +1,75 @@
--- The extract under settings, with the table of the frame's own nodes: 24 where they are not good, else the extract with their matcher;
--- with the default settings 01's.
-use Rattle.std.specs.Prelude.{if◌then◌else◌}
-use Prim.Native.Nat.{ℕ, ◌≤◌}
+-- The extract under settings, with a lent table or that of the frame's own nodes: 24 where they are not good, else the extract with their
+-- matcher; with the default settings 01's.
+use Rattle.std.specs.Prelude.{if◌then◌else◌, Option, Some, None}
+use Prim.Native.Nat.{ℕ, ◌<◌, ◌≤◌}
 use lib.ListN.{length, take}
 use mathlib.Core.Path.{◌≡◌, refl, ap, ◌∙◌}
 use mathlib.Core.Bool.{Bool, false}
 use mathlib.Core.List.{List}
-use Rattle.definitions.specs.Basics.{refused}
+use Rattle.definitions.specs.Basics.{ok, refused}
+use Rattle.definitions.specs.Expression as tree
 use Rattle.definitions.specs.Extract.{Matcher}
-use Rattle.definitions.specs.Calls.{finish, extract_filled_by, extract_filled, walk_filled_by}
+use Rattle.definitions.specs.Calls.{finish, table_fits, extract_filled_by, extract_filled, walk_filled_by}
 use Rattle.definitions.specs.Settings.{Settings, good_settings, default_settings, match_under}
 use Rattle.definitions.specs.SettingsClaims.{GoodSettings}
 use Rattle.theorems.proofs.Proved.{default-settings}
 use Rattle.definitions.specs.Plans.{plan_of}
 use Rattle.plan_reader.specs.Plans.{NotHeld, no_bytes, no_good}
-use Rattle.join_filter.proofs.Walking.{bad-refused, empty-refused}
+use Rattle.join_filter.proofs.Walking.{bad-refused, empty-refused, extracted-refused, long-refused}
+use Rattle.join_filter.proofs.Settling.{lent-24, lent-settled}
 use Rattle.terms.specs.declared.refusals.Refusal.{Refusal}
-use Rattle.terms.specs.declared.refusals.Refusal.TheVariants.{BadSettings}
+use Rattle.terms.specs.declared.refusals.Refusal.TheVariants.{NoGoodPlan, AlreadyExtracted, BadSettings}
 use Rattle.join_filter.specs.Outcomes.{ExtractIs, unwalked}
 use Rattle.join_filter.specs.declared.answers.Extracted.{Extracted}
-use Rattle.call_extract.specs.Settled.{filled_under, walk_under}
+use Rattle.call_extract.specs.declared.compared.Table.{Table}
+use Rattle.call_extract.specs.Settled.{filled_under, walk_under, HeldBy, SettledBy}
+use Rattle.call_extract.proofs.Tables.{unheld, over-long, not-lent, extracted-lent}
 
 -- Where neither a frame nor an extraction is held.
-pub not-extracted : (match : Matcher) (n : ℕ) (plan scratch : List ℕ) → n ≤ length plan → {why : Refusal} → NotHeld (plan_of (take n plan)) why
+not-extracted : (match : Matcher) (n : ℕ) (plan scratch : List ℕ) → n ≤ length plan → {why : Refusal} → NotHeld (plan_of (take n plan)) why
     → ExtractIs (extract_filled_by match n plan scratch) (walk_filled_by match n plan scratch) n plan scratch (unwalked why)
 not-extracted match n plan scratch fits (no_bytes e) = empty-refused match n plan scratch fits e
 not-extracted match n plan scratch fits (no_good number e) = bad-refused match n plan scratch fits number e
 
+-- The same with any table or none, and where an extraction is held.
+module _ (match : Matcher) (n : ℕ) (plan scratch : List ℕ) (within : n ≤ length plan) where
+  pub not-held-by : (table : Option Table) {why : Refusal} → NotHeld (plan_of (take n plan)) why
+      → HeldBy match n table plan scratch plan scratch (unwalked why)
+  not-held-by (Some table) not = λ lent of. not-lent match n plan scratch lent within not
+  not-held-by None not = not-extracted match n plan scratch within not
+
+  pub extracted-by : (table : Option Table) (X : tree.Extraction) → plan_of (take n plan) ≡ ok (tree.extracted X)
+      → HeldBy match n table plan scratch plan scratch (unwalked AlreadyExtracted)
+  extracted-by (Some table) X e = λ lent of. extracted-lent match n plan scratch lent within X e
+  extracted-by None X e = extracted-refused match n plan scratch within X e
+
+-- A plan buffer shorter than n holds nothing.
+pub long-by : (match : Matcher) (n : ℕ) (plan scratch : List ℕ) → length plan < n → (table : Option Table)
+    → HeldBy match n table plan scratch plan scratch (unwalked NoGoodPlan)
+unfolding table_fits
+long-by match n plan scratch long (Some table) =
+    λ lent of. unheld match n plan scratch lent (over-long n plan long) refl (long-refused match n plan scratch long)
+long-by match n plan scratch long None = long-refused match n plan scratch long
+
 module _ (S : Settings) (n : ℕ) (before scratch : List ℕ) where
-  pub filled-24 : good_settings S ≡ false
+  filled-24 : good_settings S ≡ false
       → ExtractIs (filled_under S n before scratch) (walk_under S n before scratch) n before scratch (unwalked BadSettings)
   unfolding finish
   filled-24 bad = rw bad (record { outcome = refl; carried = refl })
 
-  pub filled-settled : GoodSettings S → {after kept : List ℕ} {r : Extracted}
+  filled-settled : GoodSettings S → {after kept : List ℕ} {r : Extracted}
       → ExtractIs (extract_filled_by (match_under S) n before scratch) (walk_filled_by (match_under S) n before scratch) n after kept r
       → ExtractIs (filled_under S n before scratch) (walk_under S n before scratch) n after kept r
   filled-settled g is = rw g.good is
+
+  pub by-24 : good_settings S ≡ false → (table : Option Table) → SettledBy S n table before scratch before scratch (unwalked BadSettings)
+  by-24 bad (Some table) = λ lent of. lent-24 S n before scratch lent bad
+  by-24 bad None = filled-24 bad
+
+  pub by-settled : GoodSettings S → (table : Option Table) (after kept : List ℕ) (r : Extracted)
+      → HeldBy (match_under S) n table before scratch after kept r → SettledBy S n table before scratch after kept r
+  by-settled g (Some table) after kept r is = λ lent of. lent-settled S n before scratch lent g (is lent of)
+  by-settled g None after kept r is = filled-settled g is
 
   pub filled-default : S ≡ default_settings → filled_under S n before scratch ≡ extract_filled n before scratch
   filled-default e =

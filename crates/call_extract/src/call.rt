@@ -1,13 +1,13 @@
 // The call extract.
 // A port of `transform_join_filter` of
 // rust/sedona-query-planner/src/spatial_expr_utils.rs.
-ghost use Rattle.std.specs.Prelude.{◌≤◌, length};
-ghost use Rattle.definitions.specs.Calls as definitions;
+ghost use Rattle.std.specs.Prelude.{◌/◌, ◌≤◌, min, length};
 ghost use Rattle.definitions.specs.Settings.{match_under};
 ghost use Rattle.terms.specs.Settings.{settings_of};
 ghost use Rattle.join_filter.specs.Outcomes.{ExtractIs};
-ghost use Rattle.call_extract.specs.Settled.{filled_under, walk_under};
+ghost use Rattle.call_extract.specs.Settled.{HeldBy, SettledBy, filled_under, walk_under};
 
+use super::compared::{Table, extract_compared};
 use super::held_frame::{Listed, extract_frame};
 use join_filter::answers::Extracted;
 use node_rows::rows::Rows;
@@ -17,39 +17,66 @@ use terms::checked::Checked;
 use terms::refusals::Refusal;
 use terms::settings::Settings;
 
-// What is held, whose nodes go into rows if it is a frame.
-fn extract_held(plan: &mut [u8], n: usize, scratch: &mut [u8], settings: Checked) -> Extracted
-    requires { n ≤ length plan.old }
-    ensures { ExtractIs (definitions.extract_filled_by (match_under (settings_of settings.settings)) n plan.old scratch.old)
-        (definitions.walk_filled_by (match_under (settings_of settings.settings)) n plan.old scratch.old) n plan.new
-        scratch.new result }
+// What is held, whose nodes go into rows of N places if it is a frame: it has no more. A table, if one is lent, has to have them too.
+fn extract_held<const N: usize>(
+    plan: &mut [u8],
+    n: usize,
+    scratch: &mut [u8],
+    table: Option<Table>,
+    settings: Checked,
+) -> Extracted
+    requires n_in_bounds { n ≤ length plan.old }
+    requires row_length { (min 1024 (n / 3) ≤ N) × (N ≤ 1024) }
+    ensures { HeldBy (match_under (settings_of settings.settings)) n table.entry plan.old scratch.old plan.new scratch.new result }
 {
-    let mut numbers = [0u32; 1024];
-    let mut next = [0u16; 1024];
-    match held_plan_in(&mut numbers, &mut next, &plan[..n]) {
-        Err(why) => Extracted::refused(why),
-        Ok(Held::Extraction(_)) => Extracted::refused(Refusal::AlreadyExtracted),
-        Ok(Held::Frame(frame)) => {
-            let rows = Rows {
-                numbers: &numbers,
-                next: &next,
-            };
-            extract_frame(plan, n, scratch, Listed { frame, rows }, settings)
-        }
+    let mut numbers = [0u32; N];
+    let mut next = [0u16; N];
+    let frame = match held_plan_in(&mut numbers, &mut next, &plan[..n]) {
+        Err(why) => return Extracted::refused(why),
+        Ok(Held::Extraction(_)) => return Extracted::refused(Refusal::AlreadyExtracted),
+        Ok(Held::Frame(frame)) => frame,
+    };
+    let rows = Rows {
+        numbers: &numbers,
+        next: &next,
+    };
+    let held = Listed { frame, rows };
+    match table {
+        Some(table) => extract_compared(plan, n, scratch, held, table, settings),
+        None => extract_frame(plan, n, scratch, held, settings),
     }
 }
 
-// 24 before every other check.
-pub fn extract(plan: &mut [u8], n: usize, scratch: &mut [u8], settings: Settings) -> Extracted
-    ensures { ExtractIs (filled_under (settings_of settings) n plan.old scratch.old)
-        (walk_under (settings_of settings) n plan.old scratch.old) n plan.new scratch.new result }
+// 24 before every other check. Short rows are enough for a short plan, and the longer ones cost more to clear than such a frame to read.
+pub(crate) fn extract_settled(
+    plan: &mut [u8],
+    n: usize,
+    scratch: &mut [u8],
+    table: Option<Table>,
+    settings: Settings,
+) -> Extracted
+    ensures { SettledBy (settings_of settings) n table.entry plan.old scratch.old plan.new scratch.new result }
 {
     let settings = match settings.checked() {
         Ok(checked) => checked,
-        Err(why) => return Extracted::refused(why),
+        Err(bad) => return Extracted::refused(bad),
     };
     if plan.len() < n {
         return Extracted::refused(Refusal::NoGoodPlan);
     }
-    extract_held(plan, n, scratch, settings)
+    if n <= 96 {
+        extract_held::<32>(plan, n, scratch, table, settings)
+    } else if n <= 768 {
+        extract_held::<256>(plan, n, scratch, table, settings)
+    } else {
+        extract_held::<1024>(plan, n, scratch, table, settings)
+    }
+}
+
+// The frame's own nodes are its table.
+pub fn extract(plan: &mut [u8], n: usize, scratch: &mut [u8], settings: Settings) -> Extracted
+    ensures { ExtractIs (filled_under (settings_of settings) n plan.old scratch.old)
+        (walk_under (settings_of settings) n plan.old scratch.old) n plan.new scratch.new result }
+{
+    extract_settled(plan, n, scratch, None, settings)
 }
