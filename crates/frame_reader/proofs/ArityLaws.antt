@@ -120,9 +120,6 @@ pub record OnRight (s : List ℕ) (at next : ℕ) : Type 0 where
       → OfTree s at (λ t. ArityIs (arity t) (at + length (expr_bytes t)) a)
 
 module _ {s : List ℕ} {at : ℕ} where
-  pub right-begins : Tree s at → OnRight s at at
-  right-begins there = record { there = there; low = omega arith; rest = λ a is. is }
-
   -- Where the node that it came to is a leaf, its answer is that of the whole.
   module _ {next : ℕ} (inv : OnRight s at next) {r : Node} (is : OfTreeIn s next (λ c t. NodeIs c s next r t)) where
     pub binary-last : {operator first : ℕ} → r ≡ node.Binary operator first → (a : std.Option ℕ)

@@ -77,13 +77,3 @@ clear-roomy m s h =
     let zeros : List ℕ = replicate m 0 in
     let long : length zeros ≡ m = length-replicate m 0 in
     record { long = omega arith; room = omega arith }
-
-pub without-rows : (s : List ℕ) (result : basics.Result tree.Frame) (numbers indexes : List ℕ) (r : Result Frame Refusal)
-    → PhysicalIn s r result numbers indexes → PhysicalIs s r result
-without-rows s result numbers indexes (Ok f) h = (h.0, h.1, h.2)
-without-rows s result numbers indexes (Err why) h = h
-
-pub body-without-rows : (s : List ℕ) (at before : ℕ) (numbers indexes : List ℕ) (r : Result Body Refusal)
-    → BodyIn s at before r frame_body numbers indexes → BodyIs s at before r frame_body
-body-without-rows s at before numbers indexes (Ok b) h = (h.0, h.1, h.2, h.3)
-body-without-rows s at before numbers indexes (Err why) h = h

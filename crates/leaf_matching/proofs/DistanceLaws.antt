@@ -76,17 +76,6 @@ module _ (records : List Record) (form : ℕ) (a b bound : Expr) where
 abbrev pub Parses : List ℕ → (at : ℕ) → ParsedDistancePredicate → Type 0
 Parses s at p = OfTreeIn s at (λ c t. parsed.Distance c s p (request t))
 
-module _ {s : List ℕ} {at : ℕ} {p : ParsedDistancePredicate} where
-  -- The arguments stand in the same frame.
-  pub arguments-framed : {rec : ℕ} → Parses s at p → Framed s rec at
-      → Framed s rec p.arg0 × Framed s rec p.arg1 × Framed s rec p.arg_distance
-  arguments-framed is f =
-      let d = is _ _ f.2.tree in (
-        (f.0, d.a, record { entries = f.2.entries; tree = d.arg0.stands }),
-        (f.0, d.b, record { entries = f.2.entries; tree = d.arg1.stands }),
-        (f.0, d.bound, record { entries = f.2.entries; tree = d.arg_distance.stands }),
-      )
-
 -- What is known once the arguments are read.
 pub record Walked (s : List ℕ) (rec at : ℕ) (p : ParsedDistancePredicate) (x y d : Argument) : Type 0 where
   pub asked : Parses s at p
@@ -146,12 +135,14 @@ module _ {s : List ℕ} {rec at : ℕ} {p : ParsedDistancePredicate} {x y d : Ar
     stored : {l r : Expr} {left left_end right right_end : ℕ} → ArgumentAt (on_children records) s left left_end l
         → ArgumentAt (on_children records) s right right_end r
         → match_leaf records t
-        ≡ some (distance (form_number p.form) (join_side side) (on_child records l) (on_child records r) (bound_on records (join_side side) it.bound))
+        ≡ some (distance (form_number p.form) (join_side side) (on_child records l) (on_child records r)
+        (bound_on records (join_side side) it.bound))
         → LeafMatching is_distance s rec (Ok (distance_at left left_end right right_end)) records t
     unfolding is_distance bound_on
     stored {l} {r} a b m =
         record {
-          q = distance (form_number p.form) (join_side side) (on_child records l) (on_child records r) (bound_on records (join_side side) it.bound);
+          q = distance (form_number p.form) (join_side side) (on_child records l) (on_child records r)
+              (bound_on records (join_side side) it.bound);
           is = m;
           passes = refl;
           stands =

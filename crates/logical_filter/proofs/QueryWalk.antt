@@ -237,9 +237,6 @@ pub record Joining (s : List ℕ) (at n : ℕ) (all : Schemas) (i : ℕ) : Type 
       (record { left = all.left && q.left; right = all.right && q.right; next = q.next }))
 
 module _ {s : List ℕ} {at n : ℕ} where
-  pub joining-begins : Trees s at n → Joining s at n (record { left = true; right = true; next = at }) 0
-  joining-begins there = record { there = rw sub-zero there; low = omega arith; rest = λ q is. rw sub-zero at is }
-
   module _ {all : Schemas} {i : ℕ} (inv : Joining s at n all i) where
     pub joining-first : i < n → Tree s all.next
     joining-first more = first-there inv.there (λ z. omega arith)

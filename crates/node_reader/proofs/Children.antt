@@ -55,7 +55,8 @@ above-two (suc operator) (cons l (cons r nil)) both = refl
 above-two operator (cons l (cons r (cons x es))) both = absurd (omega arith)
 
 pub two : (s : List ℕ) (at end operator : ℕ) → end ≤ length s
-    → ((n : ℕ) → byte_up_to 63 n (drop at s) ≡ read operator n (drop end s)) → HeadIs s at (Ok (record { next = end; children = 2 })) binary_node
+    → ((n : ℕ) → byte_up_to 63 n (drop at s) ≡ read operator n (drop end s))
+    → HeadIs s at (Ok (record { next = end; children = 2 })) binary_node
 unfolding repeat_exprs binary_node
 two s at end operator w h = (
   w,

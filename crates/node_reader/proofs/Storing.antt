@@ -24,7 +24,8 @@ use Rattle.node_reader.proofs.Standing.{There, node-there}
 use Rattle.node_reader.proofs.Walks.{its-children, node-read, node-walks, row-begins, row_ends}
 
 -- The children of a node were walked, and are in the rows if these have room.
-pub record Below (c : Columns) (s : List ℕ) (at levels count : ℕ) (head : Head) (numbers indexes numbers₁ indexes₁ : List ℕ) (walked : Walked)
+pub record Below (c : Columns) (s : List ℕ) (at levels count : ℕ) (head : Head) (numbers indexes numbers₁ indexes₁ : List ℕ)
+    (walked : Walked)
     : Type 0 where
   pub above : NodeHead s at levels count c (Ok head)
   pub bytes : AllBytes s

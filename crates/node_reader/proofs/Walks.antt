@@ -59,7 +59,8 @@ module _ (columns : Columns) (n : ℕ) (s : List ℕ) where
 
 -- So its fields are the node's head.
 pub below-limits : (c : Columns) (s : List ℕ) (at fields kind levels n : ℕ) → node_kind c n (drop at s) ≡ read kind n (drop fields s)
-    → (levels ≡ 0 → ⊥) → n < 1024 → (r : Result Head Refusal) → HeadIs s fields r (λ child. node_of_kind c child kind) → NodeHead s at levels n c r
+    → (levels ≡ 0 → ⊥) → n < 1024 → (r : Result Head Refusal) → HeadIs s fields r (λ child. node_of_kind c child kind)
+    → NodeHead s at levels n c r
 below-limits c s at fields kind levels n e z few (Ok head) h = (
   h.0,
   h.1,
@@ -173,7 +174,14 @@ module _ (s : List ℕ) (at count many : ℕ) (child : Reader Expr) (numbers ind
   from-none numbers₁ indexes₁ (Err why) h = h
 
   pub row-begins : at ≤ length s → count ≤ 1024 → InRow s at count many child numbers indexes at count 0 0 numbers indexes
-  row-begins w h = record { place = w; low = omega arith; high = h; same = refl; alike = refl; rest = λ numbers₁ indexes₁ r h. from-none numbers₁ indexes₁ r (rw sub-zero at h) }
+  row-begins w h = record {
+    place = w;
+    low = omega arith;
+    high = h;
+    same = refl;
+    alike = refl;
+    rest = λ numbers₁ indexes₁ r h. from-none numbers₁ indexes₁ r (rw sub-zero at h);
+  }
 
 module _ {s : List ℕ} {at count many : ℕ} {child : Reader Expr} {numbers indexes : List ℕ} where
   module _ {next total deepest done : ℕ} {numbered indexed : List ℕ}

@@ -13,9 +13,6 @@ module _ {A B : Type 0} (f : A → B) (xs : List A) (ys : List B) where
   abbrev pub filled : ℕ → List B
   filled i = take i (map f xs) ++ drop i ys
 
-  pub filled-length : (i : ℕ) → i ≤ length xs → i ≤ length ys → length (filled i) ≡ length ys
-  filled-length i l m = simp zero-add at (length-paste ys 0 (map f xs) i (omega arith) (omega (arith, length-map xs f)))
-
   pub filled_next : (d : A) (i : ℕ) → i < length xs → i < length ys → set (filled i) i (f (get_or xs i d)) ≡ filled (i + 1)
   filled_next d i l m =
       rw (← get_or-map f xs i d, add-one) (simp zero-add at

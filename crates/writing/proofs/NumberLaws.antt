@@ -80,15 +80,3 @@ module _ (base : ℕ) (sign : ℕ → ℕ) (v : ℕ) (before : List ℕ) (w widt
             (h.bytes ∙ ap (λ (n : ℕ). take n before ++ (places base sign k v ++ drop (w + width) before)) place)
             ∙ ap (λ (n : ℕ). take (w + (i - 1)) before ++ (places base sign n v ++ drop (w + width) before)) more;
       }
-
-  pub all-written : {out : List ℕ} {i rest : ℕ} → i ≡ 0 → Written base sign v before w width out i rest
-      → WroteAt w (places base sign width v) before out (w + width)
-  all-written {out} {i} {rest} e h =
-      let start : w + i ≡ w = omega arith in
-      let whole : width - i ≡ width = omega arith in
-      let end : w + width ≡ w + length (places base sign width v) = ap (λ (n : ℕ). w + n) (sym (places-length base sign width v)) in
-      record {
-        ends = end;
-        out = h.bytes ∙ ap₂ (λ (a b : ℕ). take a before ++ (places base sign b v ++ drop (w + width) before)) start whole
-            ∙ ap (λ (n : ℕ). take w before ++ (places base sign width v ++ drop n before)) end;
-      }

@@ -72,12 +72,6 @@ pub two-stores : (before : List ℕ) (w a b : ℕ) → w + 2 ≤ length before
 two-stores before w a b room =
     chain (omega arith) (store before w a (omega arith)) (store (set before w a) (w + 1) b (simp length-set (omega arith)))
 
-pub three-stores : (before : List ℕ) (w a b c : ℕ) → w + 3 ≤ length before
-    → WroteAt w (a ∷ b ∷ c ∷ []) before (set (set (set before w a) (w + 1) b) (w + 1 + 1) c) (w + 1 + 1 + 1)
-three-stores before w a b c room =
-    chain (omega arith) (two-stores before w a b (omega arith))
-    (store (set (set before w a) (w + 1) b) (w + 1 + 1) c (simp length-set (omega arith)))
-
 -- x may also be written to the start once y is written after it.
 pub under : {w r : ℕ} {x y before middle after : List ℕ} → w ≤ length before → WroteAt w y before middle r → WroteAt 0 x middle after w
     → WroteAt 0 (x ++ y) before after r

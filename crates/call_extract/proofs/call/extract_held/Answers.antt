@@ -3,10 +3,6 @@ use Rattle.call_extract.proofs.Collecting.{clear-rows, held-indexed}
 use Rattle.call_extract.proofs.Settling.{not-held-by, extracted-by}
 use Rattle.call_extract.proofs.call.extract_held.Goals as goal
 
-pub held_plan_in-requires : goal.held_plan_in-requires
-held_plan_in-requires g c =
-    (clear-rows g.row.N c.args.n c.args.plan.now c.requires.n_in_bounds c.requires.row_length.0).1
-
 pub returns-in-Err : goal.returns-in-Err
 returns-in-Err g c =
     rw c.refused.ensures (not-held-by _ _ _ _ c.requires.n_in_bounds c.args.table c.in-Err.ensures)

@@ -10,14 +10,6 @@ use Rattle.call_extract.proofs.extraction.put_extraction.Goals.{After-child_inde
 wide : (c : After-child_indexes) → 256 ≤ length c.child_indexes.new.to
 wide c = omega (arith, c.child_indexes.auto.to)
 
-pub child_indexes-requires : goal.child_indexes-requires
-child_indexes-requires c =
-    let fits = c.requires in
-    record {
-      recorded = taken-records fits.taking;
-      count_in_bounds = omega (arith, fits.taking.few);
-    }
-
 pub put_predicate-w-requires : goal.put_predicate-w-requires
 put_predicate-w-requires c =
     predicate-fits c.requires c.child_indexes.new.to (wide (goal.at.put_predicate-w-requires c).After-child_indexes)

@@ -1,16 +1,8 @@
 -- `check_arity`: of an And the left child is checked by a call, and the loop goes on with the right one, from where the left one ended;
 -- the measure is the bytes left.
-use Rattle.expression.proofs.There.{pair-there, call-there, plain-there}
-use Rattle.frame_reader.proofs.ArityLaws.{right-begins, left_below, left-lacks, right-less, right-goes-on, binary-last, call-last, plain-last}
+use Rattle.expression.proofs.There.{plain-there}
+use Rattle.frame_reader.proofs.ArityLaws.{left_below, left-lacks, right-less, right-goes-on, binary-last, call-last, plain-last}
 use Rattle.frame_reader.proofs.arity.+check_arity.Goals as goal
-
-pub loop-left-init : goal.loop-left-init
-loop-left-init t c =
-    right-begins c.requires
-
-pub node_at-requires : goal.node_at-requires
-node_at-requires t c =
-    c.loop-left.invariant.there
 
 pub check_arity-requires : goal.check_arity-requires
 check_arity-requires t c =
@@ -28,20 +20,10 @@ pub returns-in_err-right-in-And : goal.returns-in_err-right-in-And
 returns-in_err-right-in-And t c =
     rw c.from_residual.ensures (left-lacks c.loop-left.invariant c.node_at.ensures c.in-And.is c.in_err-right-in-And.ensures)
 
-pub comparison_arity-requires : goal.comparison_arity-requires
-comparison_arity-requires t c =
-    pair-there c.loop-left.invariant.there c.node_at.ensures
-    c.in-Binary.is
-
 pub returns-in-Binary : goal.returns-in-Binary
 returns-in-Binary t c =
     binary-last c.loop-left.invariant c.node_at.ensures
     c.in-Binary.is c.comparison_arity.result c.comparison_arity.ensures
-
-pub call_arity-requires : goal.call_arity-requires
-call_arity-requires t c =
-    call-there c.loop-left.invariant.there c.node_at.ensures
-    c.in-Call.is
 
 pub returns-in-Call : goal.returns-in-Call
 returns-in-Call t c =

@@ -1,9 +1,7 @@
 -- `node_arity`: an And is passed to its left child; a leaf is asked, and passed as a whole.
-use native.Mathlib.Omega.{arith}
-use mathlib.Core.Path.{sym, ◌∙◌, subst, subst⁻¹}
-use Rattle.expression.specs.Nodes.{Tree, OfTreeIn}
+use mathlib.Core.Path.{sym, ◌∙◌, subst}
+use Rattle.expression.specs.Nodes.{OfTreeIn}
 use Rattle.expression.specs.Leaves.{NodeIs}
-use Rattle.expression.proofs.There.{call-there}
 use Rattle.node_rows.specs.Numbers.{start_at}
 use Rattle.node_rows.proofs.RowLaws.{tabled-within}
 use Rattle.node_rows.proofs.IndexLaws.{pair_row, pair-listed}
@@ -31,20 +29,6 @@ start-requires c =
     let tree = c.requires.0 in
     (tabled-within (c.requires.1 tree.0 tree.1 tree.2)).0
 
-pub node_at-requires : goal.node_at-requires
-node_at-requires c =
-    subst⁻¹ (Tree c.args.s.now) c.start.ensures c.requires.0
-
-pub overflow_add-result : goal.overflow_add-result
-overflow_add-result c =
-    let tree = c.requires.0 in
-    omega (arith, c.ranges.rows, (tabled-within (c.requires.1 tree.0 tree.1 tree.2)).0)
-
-pub overflow_add-i : goal.overflow_add-i
-overflow_add-i c =
-    let tree = c.requires.0 in
-    omega (arith, c.ranges.rows, (tabled-within (c.requires.1 tree.0 tree.1 tree.2)).0)
-
 pub enough_to_compare-requires : goal.enough_to_compare-requires
 enough_to_compare-requires c =
     let both = pair-listed c.requires.0
@@ -52,17 +36,14 @@ enough_to_compare-requires c =
     c.in-Binary.is in
     record { pair = both.0; of_pair = both.1 }
 
-pub enough_arguments-requires : goal.enough_arguments-requires
-enough_arguments-requires c =
-    call-there c.requires.0 (is (goal.at.enough_arguments-requires c).After-node_at) c.in-Call.is
-
 pub returns-in-And : goal.returns-in-And
 returns-in-And c =
     λ d t h. and-passed _ (rw c.in-And.is at (is (goal.at.returns-in-And c).After-node_at d t h))
 
 pub returns-in-Plain : goal.returns-in-Plain
 returns-in-Plain c =
-    λ d t h. plain-passed (c.requires.1 d t h) (rw c.in-Plain.is at (is (goal.at.returns-in-Plain c).After-node_at d t h)).0 c.after-next.ensures
+    λ d t h. plain-passed (c.requires.1 d t h) (rw c.in-Plain.is at (is (goal.at.returns-in-Plain c).After-node_at d t h)).0
+    c.after-next.ensures
 
 pub returns-in-Binary : goal.returns-in-Binary
 returns-in-Binary c =

@@ -1,11 +1,7 @@
 -- One record and then the others: what is right for those left is right for all.
 use Rattle.node_reader.proofs.Reading.{kept}
-use Rattle.node_reader.proofs.Repeats.{all-left, one_fewer, one-stops, none-left}
+use Rattle.node_reader.proofs.Repeats.{one_fewer, one-stops, none-left}
 use Rattle.frame_reader.proofs.column_records.records.Goals as goal
-
-pub loop-init : goal.loop-init
-loop-init c =
-    (c.requires, all-left _ _ _ _)
 
 pub returns-in_err-next : goal.returns-in_err-next
 returns-in_err-next c =

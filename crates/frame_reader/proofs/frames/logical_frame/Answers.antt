@@ -29,5 +29,8 @@ pub returns : goal.returns
 unfolding logical_of logical_frame result_of
 returns c =
     let expr = c.in_ok-walked.ensures in
-    let end = c.if-walked-s.false in
-    (expr.0, rw end at expr.2, ap result_of (ends 2 (expression fields) give _ c.in_ok-root.root _ (c.in_ok-root.ensures.2 0) _ _ _ expr.1 end))
+    let end = c.if-walked-s.false in (
+      expr.0,
+      rw end at expr.2,
+      ap result_of (ends 2 (expression fields) give _ c.in_ok-root.root _ (c.in_ok-root.ensures.2 0) _ _ _ expr.1 end),
+    )

@@ -1,7 +1,4 @@
 -- `name_like`: one byte more at each turn.
-use mathlib.Core.Path.{ap, ◌∙◌}
-use Rattle.std.proofs.lemmas.List.{take_all}
-use Rattle.node_reader.specs.Fields.{name_like}
 use Rattle.node_reader.proofs.NameBytes.{like-none, like-more}
 use Rattle.node_reader.proofs.field_readers.name_like.Goals as goal
 
@@ -12,7 +9,3 @@ loop-b-init c =
 pub loop-b-preserved : goal.loop-b-preserved
 loop-b-preserved c =
     rw c.loop-b.invariant (like-more _ _ c.loop-b-test.true)
-
-pub returns : goal.returns
-returns c =
-    c.loop-b.invariant ∙ ap name_like (take_all _ _ c.loop-b-test.false)

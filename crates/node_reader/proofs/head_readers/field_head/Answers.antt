@@ -11,4 +11,5 @@ pub returns : goal.returns
 unfolding field_node children_of
 returns c =
     let tag = c.in_ok-next.ensures in
-    childless c.args.s.now c.args.at field_node (field c.in_ok-tag.field-0-0 c.in_ok-next.field-0-0) refl tag.0 (λ n. after _ (c.in_ok-tag.ensures.1 n) ∙ after _ (tag.1 n))
+    childless c.args.s.now c.args.at field_node (field c.in_ok-tag.field-0-0 c.in_ok-next.field-0-0) refl tag.0
+    (λ n. after _ (c.in_ok-tag.ensures.1 n) ∙ after _ (tag.1 n))
