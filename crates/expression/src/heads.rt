@@ -9,6 +9,7 @@ pub struct Head {
     pub children: usize,
 }
 
+// The head of the node at a place.
 pub fn head_at(s: &[u8], at: usize) -> Head
     requires { Tree s.now at }
     ensures { OfTree s.now at (HeadIs at result) }

@@ -23,6 +23,7 @@ pub enum Node {
     Plain(Head),
 }
 
+// What the node at a place is.
 pub fn node_at(s: &[u8], at: usize) -> Node
     requires { Tree s.now at }
     ensures { OfTreeIn s.now at (λ c t. NodeIs c s.now at result t) }

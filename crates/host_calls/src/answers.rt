@@ -16,6 +16,7 @@ pub(crate) fn length_number(n: usize) -> i64
     n as i64
 }
 
+// The negative number of a refusal that carries a walk, or of one alone.
 fn minus_number(n: usize) -> i64
     requires { n ≤ 4294967295 }
     ensures { result ≡ neg_ℤ (pos n) }
@@ -23,6 +24,7 @@ fn minus_number(n: usize) -> i64
     0 - n as i64
 }
 
+// A refusal's number, negative.
 pub fn minus_refusal(why: Refusal) -> i64
     ensures { result ≡ neg_ℤ (pos (number_of why)) }
 {

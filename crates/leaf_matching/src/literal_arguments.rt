@@ -50,6 +50,7 @@ pub fn extract_literal_k(s: &[u8], at: usize) -> Option<u32>
     if k == 0 { None } else { Some(k) }
 }
 
+// A Boolean literal.
 pub fn extract_literal_bool(s: &[u8], at: usize) -> Option<bool>
     requires { Tree s.now at }
     ensures { OfTree s.now at (λ t. flag_is result ≡ literal_bool t) }

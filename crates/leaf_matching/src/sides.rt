@@ -97,6 +97,7 @@ pub fn side_of_column_references(s: &[u8], rec: usize, at: usize) -> Argument
     collect_column_references(s, rec, at, Sides::NoColumns)
 }
 
+// In which order two arguments have their sides, if each is of one child and they are of both.
 #[tactic(auto, unfolding(definitions::specs::Match::order_of, definitions::specs::Match::is_side, definitions::specs::References::same_side))]
 pub fn resolve_column_reference_sides(first: Sides, second: Sides) -> Option<Order>
     ensures { order result ≡ order_of (argument_side first) (argument_side second) }

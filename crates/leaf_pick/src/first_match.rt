@@ -106,6 +106,7 @@ pub fn match_other(filter: Filter, leaf: Leaf, settings: Settings) -> Matching
     only_allowed(settings, match_relation_or_distance(filter, leaf))
 }
 
+// A leaf as what the pass looks for.
 pub fn match_wanted(filter: Filter, leaf: Leaf, pass: Pass) -> Matching
     requires { LeafThere filter.s.now filter.rows.numbers.now filter.rows.next.now filter.rec leaf }
     ensures { OfFrame filter.entry.s.now filter.entry.rec leaf.at
@@ -123,7 +124,8 @@ pub fn leaf_match(filter: Filter, leaf: Leaf, pass: Pass, parent: usize) -> Foun
     requires of_frame { OfFrame filter.s.now filter.rec leaf.at (λ records t. leaves t ≡ t ∷ []) }
     requires position_le_at { leaf.position ≤ leaf.at }
     ensures { OfFrame filter.entry.s.now filter.entry.rec leaf.at
-        (FoundIs (match_under (settings_of pass.settings)) pass.wanted filter.entry.s.now filter.entry.rec leaf.at leaf.position parent result) }
+        (FoundIs (match_under (settings_of pass.settings)) pass.wanted filter.entry.s.now filter.entry.rec
+        leaf.at leaf.position parent result) }
 {
     match match_wanted(filter, leaf, pass) {
         Ok(predicate) => ControlFlow::Break(Pick {
@@ -145,7 +147,8 @@ pub fn first_match(filter: Filter, pass: Pass, from: Stop) -> Found
     requires of_tree { OfTree filter.s.now from.at (Tabled filter.rows.numbers.now filter.rows.next.now from.at from.index) }
     requires position_le_at { from.position ≤ from.at }
     ensures { OfFrame filter.entry.s.now filter.entry.rec from.at
-        (FoundIs (match_under (settings_of pass.settings)) pass.wanted filter.entry.s.now filter.entry.rec from.at from.position from.parent result) }
+        (FoundIs (match_under (settings_of pass.settings)) pass.wanted filter.entry.s.now filter.entry.rec
+        from.at from.position from.parent result) }
 {
     let mut stop = from;
     loop {

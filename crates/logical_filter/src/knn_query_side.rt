@@ -44,6 +44,7 @@ pub struct Schemas {
     pub next: usize,
 }
 
+// The schemas that have all columns of the expression at a place.
 #[cycle(column_refs_column_refs_all)]
 fn column_refs(s: &[u8], at: usize) -> Schemas
     requires { Tree s.now at }
@@ -61,6 +62,7 @@ fn column_refs(s: &[u8], at: usize) -> Schemas
     column_refs_all(s, head.next, head.children)
 }
 
+// The same for n expressions in a row.
 #[cycle(column_refs_column_refs_all)]
 fn column_refs_all(s: &[u8], at: usize, n: usize) -> Schemas
     requires { Trees s.now at n }
@@ -100,6 +102,7 @@ impl From<KNNJoinQuerySide> for u8 {
     }
 }
 
+// The side of the first argument of the first `st_knn`, if its columns are of one schema.
 pub fn find_knn_query_side(s: &[u8], at: usize) -> KNNJoinQuerySide
     requires { Tree s.now at }
     ensures { OfTree s.now at (λ t. query_side_is result ≡ query_side (leaves t)) }

@@ -79,6 +79,7 @@ pub struct Collected {
     pub next: usize,
 }
 
+// The names of a comparison: `st_dwithin`, where the side that is read measures a distance.
 fn collect_comparison(s: &[u8], operator: u8, left: usize) -> Collected
     requires { Pair s.now left }
     ensures { OfPair s.now left (λ c l r.
@@ -93,6 +94,7 @@ fn collect_comparison(s: &[u8], operator: u8, left: usize) -> Collected
     Collected { mask, next }
 }
 
+// The names of the AND-leaves of an expression.
 fn collect(s: &[u8], at: usize) -> Collected
     requires { Tree s.now at }
     ensures { OfTree s.now at (λ t. NamesAre (map leaf_name (leaves t)) (at + length (expr_bytes t)) result) }
@@ -125,6 +127,7 @@ pub struct PredicateNames {
     pub names: u32,
 }
 
+// The names of an expression.
 pub fn collect_spatial_predicate_names(s: &[u8], at: usize) -> PredicateNames
     requires { Tree s.now at }
     ensures { OfTree s.now at (PredicateNamesAre result) }

@@ -48,7 +48,8 @@ pub fn held_plan(s: &[u8]) -> Result<Held, Refusal>
     }
 }
 
-// The same, the nodes of a frame going into the rows.
+// The same, the nodes of a frame going into the rows. (One function for both would take the reader of the frame as a closure over the rows,
+// and would be no shorter.)
 pub fn held_plan_in(numbers: &mut [u32], indexes: &mut [u16], s: &[u8]) -> Result<Held, Refusal>
     requires { Roomy s.now numbers.old indexes.old }
     ensures { HeldIn s.now result (plans.plan_of s.now) numbers.new indexes.new }

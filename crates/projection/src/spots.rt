@@ -9,6 +9,7 @@ use expression::heads::head_at;
 use node_rows::collecting::Passed;
 use terms::sides::JoinSide;
 
+// A child index, its place in the plan and the side that it is of as one number.
 fn spot_number(side: JoinSide, at: usize, child: usize) -> u32
     requires { (at < 16384) × (child < 65536) }
     ensures { result ≡ spot_number (record { side = join_side side; at = at; child = child }) }

@@ -33,6 +33,7 @@ pub struct ParsedDistancePredicate {
     pub distance_end: usize,
 }
 
+// The side of a comparison that is read, and the other; none, if the operator is no order.
 #[tactic(auto, unfolding(crate::specs::Parsed::compared))]
 pub fn comparison(operator: u8, left: usize, right: usize) -> Option<Compared>
     ensures { result ≡ compared operator left right }
