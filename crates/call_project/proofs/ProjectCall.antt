@@ -114,7 +114,8 @@ module _ (n : ℕ) (before scratch of_left of_right : List ℕ) where
             (kept-over n before h.fits scratch kept copied)
 
 -- Where neither a frame nor an extraction is held.
-pub not-held : (n : ℕ) (before scratch of_left of_right : List ℕ) → n ≤ length before → {why : Refusal} → NotHeld (plan_of (take n before)) why
+pub not-held : (n : ℕ) (before scratch of_left of_right : List ℕ) → n ≤ length before → {why : Refusal}
+    → NotHeld (plan_of (take n before)) why
     → project n before scratch of_left of_right ≡ refuses n before scratch (number_of why)
 not-held n before scratch of_left of_right fits (no_bytes e) = empty-plan (project-call of_left of_right) n before scratch fits e
 not-held n before scratch of_left of_right fits (no_good number e) = no-plan (project-call of_left of_right) n before scratch fits number e

@@ -109,7 +109,8 @@ pub record DemandThree (S : Settings) (F : Frame) : Type 0 where
   -- The load or merge gave the frame's length.
   pub size : (calls : List Made) (r : CodeRun S F calls) → r.start.n ≡ length (frame_bytes F)
   -- Plan, n, every answer and the walk that it carries are the two-bit machine's.
-  pub machine : (calls : List Made) (r : CodeRun S F calls) → AgreeBy (match_under S) F (outcome r) (machine_after_by (match_under S) F calls)
+  pub machine : (calls : List Made) (r : CodeRun S F calls)
+      → AgreeBy (match_under S) F (outcome r) (machine_after_by (match_under S) F calls)
   -- Two lists alike in whether an extract was accepted and in whether accepted exchanges are odd in number leave the same plan.
   pub same_plan : (calls calls' : List Made) (r : CodeRun S F calls) (r' : CodeRun S F calls')
       → extracted r ≡ extracted r' → odd r ≡ odd r' → plan r ≡ plan r'
@@ -171,7 +172,8 @@ pub record CodeMeetsUnder (S : Settings) : Type 0 where
       × (a.n ≡ b.n) × AfterProjection S lists X Y a
   -- Every list of load, extract, exchange, merge and project, from an empty plan and any table, gives the machine's answers, and leaves its
   -- plan, that plan's length, a plan buffer and a table as long as before, and a table that fits what is held.
-  pub history : (buffer : List ℕ) (table : List NodeRecord) (calls : List Call) (answers : List Extracted) (last : Lent) → FramesAreBytes calls
+  pub history : (buffer : List ℕ) (table : List NodeRecord) (calls : List Call) (answers : List Extracted) (last : Lent)
+      → FramesAreBytes calls
       → Ran S (record { n = 0; buffer = buffer; table = table }) calls answers last
       → let m : History = machine_history (match_under S) (length buffer) (length table) nothing calls in
       (given answers ≡ m.answers) × (take last.n last.buffer ≡ plan_bytes (state_plan (match_under S) m.state))

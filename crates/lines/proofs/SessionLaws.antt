@@ -70,7 +70,8 @@ pub written-fits : (plan : List ℕ) (answer : Answered) → plan_length answer 
     → length (written_line (answer_bytes plan answer)) ≤ 2 * length plan + 11
 unfolding written_line
 written-fits plan (Ok (Plan n)) h = simp length-append (omega (arith, length_digits (0 ∷ take n plan), length-take-le n plan h))
-written-fits plan (Ok (Logical high low names side)) h = simp length-append (omega (arith, length_digits (0 ∷ high ∷ low ∷ names ∷ side ∷ [])))
+written-fits plan (Ok (Logical high low names side)) h = simp length-append
+    (omega (arith, length_digits (0 ∷ high ∷ low ∷ names ∷ side ∷ [])))
 written-fits plan (Err why) h = simp length-append (omega (arith, length_digits (number_of why ∷ [])))
 
 -- What it gives is written, and none has begun.
@@ -161,7 +162,8 @@ module _ {p line after : List ℕ} {r : Collected} (state : State) (out plan scr
 pub taken-within : {p : List ℕ} {before after : Buffers} {state : State} {r : Fed} → TakenIs p before state after r → r.taken ≤ length p
 taken-within {p} t = rw t.taken (upto p).within
 
-pub taken-some : {p : List ℕ} {before after : Buffers} {state : State} {r : Fed} → TakenIs p before state after r → 0 < length p → 0 < r.taken
+pub taken-some : {p : List ℕ} {before after : Buffers} {state : State} {r : Fed} → TakenIs p before state after r → 0 < length p
+    → 0 < r.taken
 taken-some {p} t h = rw t.taken ((upto p).some h)
 
 -- What waits fits its buffer afterwards, too.

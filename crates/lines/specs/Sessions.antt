@@ -35,7 +35,8 @@ joined_count p before state = count_after (length before.line) state.count (leng
 
 -- What the line that has begun leaves in the scratch; one that is longer than its buffer is not decoded.
 abbrev pub begun_scratch : (line : List ℕ) (count n : ℕ) (plan scratch : List ℕ) → List ℕ
-begun_scratch line count n plan scratch = if leb count (length line) then line_scratch (take count line) (kept_as n plan) scratch else scratch
+begun_scratch line count n plan scratch =
+    if leb count (length line) then line_scratch (take count line) (kept_as n plan) scratch else scratch
 
 -- The line that has begun was ended: for every session that the state stands for it is that session's step.
 pub record EndedIs (before : Buffers) (state : State) (after : Buffers) (next : State) : Type 0 where

@@ -36,7 +36,8 @@ module _ {x before row : List ℕ} {count : ℕ} (wrote : WroteAt 0 x before row
   row_room = omega (arith, wrote.ends, simp length-append at (ap length wrote.out))
 
 -- What is lent of a row up to a place, once it came back.
-pub cut-there : (part rest : List ℕ) (count : ℕ) → length part ≡ count → (count ≤ length (part ++ rest)) × (take count (part ++ rest) ≡ part)
+pub cut-there : (part rest : List ℕ) (count : ℕ) → length part ≡ count
+    → (count ≤ length (part ++ rest)) × (take count (part ++ rest) ≡ part)
 cut-there part rest count e = (simp length-append (omega arith), take_at part rest count e)
 
 module _ (lists : Lists) {s : List ℕ} {x : Extraction} (X : tree.Extraction) (t : ExtractionThere s x X) (row : List ℕ)

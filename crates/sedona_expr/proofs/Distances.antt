@@ -119,10 +119,13 @@ module _ (form : ℕ) where
                 (index-row sides.stands_measured).1,
           ))
 
-      pub compared-distance : 2 ≤ n → {r : Two} → OfTwo numbers next (measured + 1) (TwoAre (measured + 1) r) → (kind : DistanceForm) → form ≡ form_number kind
-          → (d e : ℕ) → d ≡ start_at numbers bound → e ≡ end_at numbers bound → Distance c s (distance_at kind r d e) (comparison_request form q)
+      pub compared-distance : 2 ≤ n → {r : Two} → OfTwo numbers next (measured + 1) (TwoAre (measured + 1) r) → (kind : DistanceForm)
+          → form ≡ form_number kind
+          → (d e : ℕ) → d ≡ start_at numbers bound → e ≡ end_at numbers bound
+          → Distance c s (distance_at kind r d e) (comparison_request form q)
       unfolding distance_request
-      compared-distance h {r} told kind named d e start end = measured-two (λ args. Distance c s (distance_at kind r d e) (comparison_request form q))
+      compared-distance h {r} told kind named d e start end = measured-two
+          (λ args. Distance c s (distance_at kind r d e) (comparison_request form q))
           (λ a b more is same.
           let place : ℕ = start_at numbers measured + length (head_bytes sides.m) in
           let both = index-row sides.stands_measured in

@@ -14,7 +14,8 @@ use Rattle.call_extract.proofs.held_frame.extract_frame.Goals.{In-Some}
 -- What the pick took, of the held frame.
 taken : (c : In-Some)
     → let h = c.requires.holds_frame in
-    TakenIs (match_under (settings_of c.args.settings.settings)) (take c.args.n c.args.plan.now) c.args.held.frame.records c.args.held.frame.root c.in-Some.pick
+    TakenIs (match_under (settings_of c.args.settings.settings)) (take c.args.n c.args.plan.now) c.args.held.frame.records
+    c.args.held.frame.root c.in-Some.pick
     h.frame.records h.frame.expr
 taken c =
     rw c.in-Some.is at
@@ -24,27 +25,6 @@ taken c =
 pub returns-then-scratch-n : goal.returns-then-scratch-n
 returns-then-scratch-n c =
     rw c.refused.ensures (scratch-short _ _ _ _ c.requires.holds_frame c.if-scratch-n.true)
-
-pub slice_bounds-filter-end : goal.slice_bounds-filter-end
-slice_bounds-filter-end c =
-    c.requires.holds_frame.fits
-
-pub slice_bounds-filter-end-2 : goal.slice_bounds-filter-end-2
-slice_bounds-filter-end-2 c =
-    sym (plan-length _ _ c.requires.holds_frame.fits)
-
-pub extract_in_one_walk-walked-requires : goal.extract_in_one_walk-walked-requires
-extract_in_one_walk-walked-requires c =
-    record {
-      framed = (_, _, over (match_under (settings_of c.args.settings.settings)) c.args.n c.args.plan.now c.args.scratch.now c.requires.holds_frame);
-      of_tree = c.requires.indexed;
-    }
-
-pub slice_bounds-put_extraction-end-in-Some : goal.slice_bounds-put_extraction-end-in-Some
-slice_bounds-put_extraction-end-in-Some c =
-    let fits = c.requires.holds_frame.fits
-    in
-    kept-length _ _ fits _ _ c.copy_bytes.ensures
 
 pub put_extraction-length-requires : goal.put_extraction-length-requires
 put_extraction-length-requires c =

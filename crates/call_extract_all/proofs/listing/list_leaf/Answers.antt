@@ -88,7 +88,8 @@ returns c =
     let f = p.list_fits in
     leaf-is (match_under (settings_of c.args.listing.settings)) records (p.leaf_alone _ t l.tree) _
     (both-lack _
-    (miss-lacks is_knn c.args.listing.filter.s.now c.args.listing.filter.rec records _ c.in_default.field-0 (c.in_default.ensures records t (over f l)))
+    (miss-lacks is_knn c.args.listing.filter.s.now c.args.listing.filter.rec records _ c.in_default.field-0
+    (c.in_default.ensures records t (over f l)))
     (miss-lacks picks.is_other c.args.listing.filter.s.now c.args.listing.filter.rec records _ c.in_default-match_other.field-0
     (c.in_default-match_other.ensures records t (over f l))))
     (none-is-listed (flag-room f (p.leaf_alone _ f.tree f.frame.tree)))

@@ -47,6 +47,7 @@ returns-in_default c =
 pub returns-in_default-2 : goal.returns-in_default-2
 returns-in_default-2 c =
     λ d l r row. record {
-      names = unnamed (compares-nothing _ l r (sides-found row c.end_node-right.result c.end_node-right.ensures _ (rw c.in_default.is at c.comparison.ensures)));
+      names = unnamed (compares-nothing _ l r
+          (sides-found row c.end_node-right.result c.end_node-right.ensures _ (rw c.in_default.is at c.comparison.ensures)));
       next = pair_ends row _ _ c.end_node-right.ensures c.end_node-next.ensures;
     }

@@ -9,7 +9,8 @@ returns-in_err-first c =
 
 pub returns-in_err-extraction : goal.returns-in_err-extraction
 returns-in_err-extraction c =
-    rw (kept c.from_residual-in_err-extraction.ensures) (body-stops _ _ c.in_ok-first.at (c.in_ok-first.ensures.1 0) c.in_err-extraction.ensures)
+    rw (kept c.from_residual-in_err-extraction.ensures)
+    (body-stops _ _ c.in_ok-first.at (c.in_ok-first.ensures.1 0) c.in_err-extraction.ensures)
 
 pub returns-then-end-s : goal.returns-then-end-s
 returns-then-end-s c =

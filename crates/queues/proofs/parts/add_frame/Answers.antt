@@ -15,5 +15,6 @@ returns c =
       between = c.put_number-place.new.out;
       ended = c.put_number-place.result;
       number = c.put_number-place.ensures;
-      bytes = copied-over c.put_number-place.new.out c.args.frame.now (33 + 1024 * c.args.count) _ (omega arith) c.copy_from_slice.ensures.after refl;
+      bytes = copied-over c.put_number-place.new.out c.args.frame.now (33 + 1024 * c.args.count) _ (omega arith)
+          c.copy_from_slice.ensures.after refl;
     })

@@ -16,13 +16,15 @@ use Rattle.sedona_expr.proofs.utils.parse_comparison.Goals.{In_ok-sides}
 sides : (c : In_ok-sides)
     → let a = c.args in
     OfPair a.s.now (start_at a.rows.numbers.now a.i) (λ d l r.
-    SidesOf (Indexed d a.s.now a.rows.numbers.now a.rows.next.now) c.in_ok-sides.sides.measured c.in_ok-sides.sides.bound (comparison a.operator l r))
+    SidesOf (Indexed d a.s.now a.rows.numbers.now a.rows.next.now) c.in_ok-sides.sides.measured c.in_ok-sides.sides.bound
+    (comparison a.operator l r))
 sides c = index-sides c.requires.of_pair _ c.after.ensures c.in_ok-sides.ensures
 
 pub returns-in_err-form : goal.returns-in_err-form
 returns-in_err-form c =
     rw c.from_residual.ensures
-    (λ d l r row. not-compared _ (no-sides _ l r (omega (arith, form-unread _ c.try_from.ensures c.in_err-form.ensures.value, c.from.ensures))))
+    (λ d l r row. not-compared _
+    (no-sides _ l r (omega (arith, form-unread _ c.try_from.ensures c.in_err-form.ensures.value, c.from.ensures))))
 
 pub after-requires : goal.after-requires
 after-requires c =
@@ -78,4 +80,5 @@ returns c =
     λ d l r row.
     let both = sides (goal.at.returns c).In_ok-sides d l r row in
     compared-distance _ both (c.in_ok-call.ensures d both.m (starts both.stands_measured c.start.ensures)) c.if-call-lt2.false
-    c.two-geometries.ensures _ (sym c.from.ensures ∙ form-read _ c.try_from.ensures c.in_ok-form.ensures.value) _ _ c.start-2.ensures c.end.ensures
+    c.two-geometries.ensures _ (sym c.from.ensures ∙ form-read _ c.try_from.ensures c.in_ok-form.ensures.value) _ _ c.start-2.ensures
+    c.end.ensures

@@ -37,5 +37,6 @@ loop-at-preserved c =
       within f,
       on.0,
       omega (arith, on.1, room f),
-      taken c.args.characters.now c.loop-at.at (length c.args.characters.now) _ (omega (arith, within f)) c.loop-at.invariant.3 c.feed-fed.ensures.makes c.in_ok-current.ensures,
+      taken c.args.characters.now c.loop-at.at (length c.args.characters.now) _ (omega (arith, within f)) c.loop-at.invariant.3
+          c.feed-fed.ensures.makes c.in_ok-current.ensures,
     )
