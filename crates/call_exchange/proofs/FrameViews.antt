@@ -1,13 +1,15 @@
 -- The bytes of an exchanged frame, remainder and extraction as the parts that are written one after another.
-use Prim.Native.Nat.{ℕ}
+use Prim.Native.Nat.{ℕ, ◌+◌, ◌*◌, ◌≤◌}
+use native.Mathlib.Omega.{arith}
 use mathlib.Core.Path.{◌≡◌}
 use mathlib.Core.List.{List, [], ◌∷◌}
 use mathlib.Core.Option.{Option, none}
-use lib.ListN.{length-map}
+use lib.ListN.{length, length-map}
 use Rattle.definitions.specs.Basics.{big_endian}
 use Rattle.definitions.specs.Expression as tree
 use Rattle.definitions.specs.Encode.{expr_bytes, frame_bytes, remainder_bytes, extraction_bytes}
 use Rattle.definitions.specs.Exchange.{exchange_record, exchange_frame, exchange_predicate, exchange_extraction}
+use Rattle.theorems.proofs.ExchangeGood.{records-length}
 use Rattle.expression.specs.Places.{Between}
 use Rattle.frame_reader.specs.Frames.{FrameAt}
 use Rattle.plan_reader.specs.Plans.{RemainderAt, ExtractionAt}
@@ -32,6 +34,10 @@ abbrev pub ExtractionView : List ℕ → (end : ℕ) → Extraction → (swapped
 ExtractionView s end x swapped = (X : tree.Extraction) → ExtractionAt s x end X
     → Headed [] (Both (PredicateAt unchanged s swapped) (RemainderAt s x.remainder end))
     (joined (predicate_bytes x.position) remainder_exchanged) (extraction_exchanged X)
+
+-- The records of a frame lie within the bytes.
+pub records-there : {s : List ℕ} {f : Frame} {end : ℕ} {F : tree.Frame} → FrameAt s f end F → f.records + 5 * f.columns ≤ length s
+records-there {F = F} h = omega (arith, h.counted, h.records.ends, h.expr.bytes.within, h.expr.bytes.ends, records-length F.records)
 
 module _ {s : List ℕ} (end : ℕ) where
   pub frame-view : (f : Frame) (F : tree.Frame) → FrameAt s f end F

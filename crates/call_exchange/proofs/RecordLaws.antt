@@ -13,7 +13,6 @@ use Rattle.definitions.specs.Encode.{side_number, record_bytes, records_bytes}
 use Rattle.definitions.specs.Decode.{side_numbered}
 use Rattle.definitions.specs.Exchange.{negate, exchange_record}
 use Rattle.theorems.proofs.ExchangeGood.{records-length}
-use Rattle.expression.proofs.Placed.{fits}
 use Rattle.writing.specs.Writing.{Room, Puts}
 use Rattle.call_exchange.specs.Held.{RecordsAt}
 use Rattle.call_exchange.specs.ExchangedBytes.{records_exchanged}
@@ -50,11 +49,8 @@ module _ {s : List ℕ} {rec count : ℕ} where
   pub records-size : {rs : List Record} → RecordsAt s rec count rs → length (records_exchanged rs) ≡ 5 * count
   records-size {rs} h = records-length (map exchange_record rs) ∙ omega (arith, length-map rs exchange_record, h.counted)
 
-  pub records-fit : {out : List ℕ} → Room (RecordsAt s rec count) records_exchanged 0 out
-      → (rec + 5 * count ≤ length s) × (5 * count ≤ length out)
-  records-fit p =
-      let h = p.stands in
-      (omega (arith, fits h.bytes, records-length p.it, h.counted), omega (arith, p.room, records-size h))
+  pub records-room : {w : ℕ} {out : List ℕ} → Room (RecordsAt s rec count) records_exchanged w out → w + 5 * count ≤ length out
+  records-room p = omega (arith, p.room, records-size p.stands)
 
   pub negated-next : (before out : List ℕ) (i b : ℕ) → i < count → b ≡ side_number (negate (side_numbered (get_or out (5 * i) 0)))
       → Negated s rec count before out i → Negated s rec count before (set out (5 * i) b) (i + 1)

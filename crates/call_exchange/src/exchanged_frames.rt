@@ -1,4 +1,5 @@
 // Frames written with the side of each record negated.
+ghost use Rattle.std.specs.Prelude.{◌+◌, ◌*◌, ◌≤◌, ◌≡◌, length};
 ghost use Rattle.frame_reader.specs.Frames.{FrameAt};
 ghost use Rattle.plan_reader.specs.Plans.{RemainderAt};
 ghost use Rattle.writing.specs.Writing.{Room, Puts, PutsAt};
@@ -7,17 +8,20 @@ ghost use Rattle.call_exchange.specs.ExchangedBytes.{records_exchanged, frame_ex
 
 use frame_reader::frame_bodies::Frame;
 use plan_writer::frame_heads::put_frame_head;
+use plan_writer::records::Records;
 use terms::sides::negated_number;
 use writing::copies::{copy_at, copy_bytes};
 
 // Records are copied, then the side of each is negated where it stands.
-fn put_records_exchanged(out: &mut [u8], src: &[u8], rec: usize, count: usize) -> usize
-    requires { Room (RecordsAt src.now rec count) records_exchanged 0 out.old }
-    ensures { Puts (RecordsAt src.now rec count) records_exchanged out.old out.new result }
+fn put_records_exchanged(out: &mut [u8], records: Records) -> usize
+    requires { 5 * records.count ≤ length out.old }
+    ensures size { result ≡ 5 * records.entry.count }
+    ensures puts { Puts (RecordsAt records.entry.src.now records.entry.rec records.entry.count) records_exchanged
+        out.old out.new result }
 {
-    let n = 5 * count;
-    copy_bytes(out, src, rec, n);
-    for i in 0..count {
+    let n = 5 * records.count;
+    copy_bytes(out, records.src, records.rec, n);
+    for i in 0..records.count {
         let at = 5 * i;
         let side = out[at];
         let other = negated_number(side);
@@ -27,11 +31,12 @@ fn put_records_exchanged(out: &mut [u8], src: &[u8], rec: usize, count: usize) -
 }
 
 // The same from w on; answers where they ended.
-fn put_records_at(out: &mut [u8], w: usize, src: &[u8], rec: usize, count: usize) -> usize
-    requires { Room (RecordsAt src.now rec count) records_exchanged w out.old }
-    ensures { PutsAt (RecordsAt src.now rec count) records_exchanged w out.old out.new result }
+fn put_records_at(out: &mut [u8], w: usize, records: Records) -> usize
+    requires { w + 5 * records.count ≤ length out.old }
+    ensures { PutsAt (RecordsAt records.entry.src.now records.entry.rec records.entry.count) records_exchanged w
+        out.old out.new result }
 {
-    w + put_records_exchanged(&mut out[w..], src, rec, count)
+    w + put_records_exchanged(&mut out[w..], records)
 }
 
 // The frame that stands up to `end`, exchanged, to the start of `out`; answers its length.
@@ -39,10 +44,13 @@ pub fn put_frame_exchanged(out: &mut [u8], src: &[u8], f: Frame, end: usize) -> 
     requires { Room (FrameAt src.now f end) frame_exchanged 0 out.old }
     ensures { Puts (FrameAt src.now f end) frame_exchanged out.old out.new result }
 {
-    let count = f.columns as usize;
-    let rec = f.records;
-    let w = put_frame_head(out, count);
-    let v = put_records_at(out, w, src, rec, count);
+    let records = Records {
+        src,
+        rec: f.records,
+        count: f.columns as usize,
+    };
+    let w = put_frame_head(out, records.count);
+    let v = put_records_at(out, w, records);
     copy_at(out, v, src, f.root, end)
 }
 

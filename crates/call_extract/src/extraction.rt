@@ -6,7 +6,7 @@ use leaf_pick::first_match::Pick;
 use plan_writer::arguments::ColumnIndexes;
 use plan_writer::column_tables::child_indexes;
 use plan_writer::put_predicate::put_predicate;
-use remainder::record_keys::Records;
+use plan_writer::records::Records;
 use remainder::remainder::put_remainder;
 
 // Writes the extraction of the frame in `src`; answers its length.
@@ -14,9 +14,13 @@ pub(crate) fn put_extraction(out: &mut [u8], src: &[u8], f: Frame, pick: Pick) -
     requires { ExtractionFits src.now f pick out.old }
     ensures { ExtractionPut src.now f pick out.old out.new result }
 {
-    let count = f.columns as usize;
+    let records = Records {
+        src,
+        rec: f.records,
+        count: f.columns as usize,
+    };
     let mut to = [0u16; 256];
-    child_indexes(&mut to, src, f.records, count);
+    child_indexes(&mut to, records);
     let w = put_predicate(
         out,
         src,
@@ -24,10 +28,5 @@ pub(crate) fn put_extraction(out: &mut [u8], src: &[u8], f: Frame, pick: Pick) -
         pick.position,
         ColumnIndexes::FromTable(&to),
     );
-    let records = Records {
-        src,
-        rec: f.records,
-        count,
-    };
     w + put_remainder(&mut out[w..], records, f.root, pick.cut)
 }

@@ -10,8 +10,8 @@ use frame_reader::frame_bodies::Frame;
 use leaf_matching::filter::Filter;
 use node_rows::rows::Rows;
 use plan_writer::column_tables::child_indexes;
+use plan_writer::records::Records;
 use remainder::last::put_last;
-use remainder::record_keys::Records;
 use terms::checked::Checked;
 use writing::copies::copy_bytes;
 
@@ -66,9 +66,13 @@ pub fn put_all(
     ensures { AllPut (match_under (settings_of settings.settings)) given.entry.src.now given.entry.parts out.old out.new result }
 {
     let f = given.parts;
-    let count = f.columns as usize;
+    let records = Records {
+        src: given.src,
+        rec: f.records,
+        count: f.columns as usize,
+    };
     let mut to = [0u16; 256];
-    child_indexes(&mut to, given.src, f.records, count);
+    child_indexes(&mut to, records);
     let filter = Filter {
         s: given.src,
         rec: f.records,
@@ -76,7 +80,7 @@ pub fn put_all(
     };
     let listing = Listing {
         filter,
-        count,
+        count: records.count,
         to: &to,
         settings: settings.settings,
     };

@@ -53,9 +53,6 @@ pub entry-child : {s : List ℕ} {at : ℕ} {r : Record} → Entry s at r → sh
 unfolding record_bytes
 entry-child {s} {at} {r} h = short-is (front (big_endian 2 r.child) (big_endian 2 r.tag) (next h.bytes (at + 1) refl)) h.short
 
-pub child_fits : {s : List ℕ} {rec count : ℕ} → Recorded s rec count → (j : ℕ) → j < count → short_at s (rec + 5 * j + 1) < 65536
-child_fits p j b = let entry = entry_of p.1 j b in omega (arith, entry-child entry, entry.short)
-
 pub child-table : {s : List ℕ} {rec : ℕ} (count : ℕ) {to : List ℕ} → Table (λ j. short_at s (rec + 5 * j + 1)) count to
     → ChildTable s rec count to
 child-table count h records entries = record { entry = λ j b. h.entry j b ∙ entry-child (entry_of entries j b) }

@@ -1,19 +1,18 @@
 // The tables that give each column its new index: its index in its child, or its own raised by a count. Each entry is one expression, so
 // that a function over both, which would take a closure, would be no shorter.
 ghost use Rattle.std.specs.Prelude.{◌+◌, ◌≤◌, ◌≡◌, length, drop};
-ghost use Rattle.plan_writer.specs.Tables.{Recorded, ChildTable, RaisedTable};
+ghost use Rattle.plan_writer.specs.Tables.{ChildTable, RaisedTable};
 
-use expression::fields::short_at;
+use super::records::Records;
 
 // Each column's index in its child; the table is as it was past the last column.
-pub fn child_indexes(to: &mut [u16], src: &[u8], rec: usize, count: usize)
-    requires recorded { Recorded src.now rec count }
-    requires count_in_bounds { count ≤ length to.old }
-    ensures child_table { ChildTable src.now rec count to.new }
-    ensures to_unchanged { drop count to.new ≡ drop count to.old }
+pub fn child_indexes(to: &mut [u16], records: Records)
+    requires { records.count ≤ length to.old }
+    ensures child_table { ChildTable records.entry.src.now records.entry.rec records.entry.count to.new }
+    ensures to_unchanged { drop records.entry.count to.new ≡ drop records.entry.count to.old }
 {
-    for (j, place) in to[..count].iter_mut().enumerate() {
-        *place = short_at(src, rec + 5 * j + 1) as u16;
+    for (j, place) in to[..records.count].iter_mut().enumerate() {
+        *place = records.child(j);
     }
 }
 

@@ -5,3 +5,4 @@ pub mod arguments;
 pub mod column_tables;
 pub mod frame_heads;
 pub mod put_predicate;
+pub mod records;

@@ -1,5 +1,5 @@
 -- An extraction: its predicate after the first byte and the position, its remainder after the predicate.
-use Prim.Native.Nat.{ℕ, ◌+◌, ◌≤◌}
+use Prim.Native.Nat.{ℕ, ◌+◌, ◌*◌, ◌≤◌}
 use native.Mathlib.Omega.{arith}
 use mathlib.Core.Path.{◌≡◌, refl, sym, ap, ◌∙◌, subst}
 use mathlib.Core.List.{List, [], ◌++◌, map, map-append, append-nil}
@@ -82,7 +82,7 @@ module _ {s : List ℕ} {x : Extraction} {row : List ℕ} (f : ExtractionFits s 
 
   pub records-fit : (g : Frame) → RemainderAt s (Some g) (length s) f.X.remainder → (middle : List ℕ)
       → length middle ≡ length row → (p : Passed) → ArgumentsCollected s x.predicate row middle p
-      → RecordsFit s (p.end + 3) g.columns p.index middle
+      → (p.end + 3 + 5 * g.columns ≤ length s) × RecordsFit (p.end + 3) g.columns p.index middle
   unfolding extraction_spots remainder_spots
   records-fit g read middle same p is =
       let a = is f.X.predicate (predicate-there f.there) in
@@ -93,12 +93,14 @@ module _ {s : List ℕ} {x : Extraction} {row : List ℕ} (f : ExtractionFits s 
       ∙ ap (λ (R : Option tree.Frame). length (predicate_spots f.X.predicate)
       + length (remainder_spots (3 + length (predicate_fields f.X.predicate)) R)) read.1
       ∙ ap (λ (n : ℕ). length (predicate_spots f.X.predicate) + n) (record-spots _ F.records) in
-      record {
-        records = F.records;
-        stand = entries;
-        short = omega (arith, fits entries.bytes, records-length F.records, entries.counted, short f.there);
-        room = omega (arith, index-after a, room, f.room, entries.counted);
-      }
+      let within : p.end + 3 + 5 * g.columns ≤ length s =
+      omega (arith, fits entries.bytes, records-length F.records, entries.counted) in (
+        within,
+        record {
+          short = omega (arith, within, short f.there);
+          room = omega (arith, index-after a, room, f.room, entries.counted);
+        },
+      )
 
 -- ---- what is collected
 

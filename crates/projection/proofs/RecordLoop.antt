@@ -39,7 +39,7 @@ pub record Filling (s : List ℕ) (rec count i : ℕ) (before row : List ℕ) (k
       → WroteAt i (map spot_number (take k (record_spots rec records))) before row (i + k)
 
 module _ {s : List ℕ} {rec count i : ℕ} {before : List ℕ} where
-  module _ {row : List ℕ} {k : ℕ} (f : RecordsFit s rec count i before) (inv : Filling s rec count i before row k) where
+  module _ {row : List ℕ} {k : ℕ} (f : RecordsFit rec count i before) (inv : Filling s rec count i before row k) where
     pub filling-goes-on : k < count → (side : Side) → side ≡ side_numbered (get_or s (rec + 5 * k) 0) → (child : ℕ)
         → child ≡ short_at s (rec + 5 * k + 1) → (b : ℕ) → b ≡ spot_number (record { side = side; at = rec + 5 * k + 1; child = child })
         → Filling s rec count i before (set row (i + k) b) (k + 1)

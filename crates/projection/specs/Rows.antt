@@ -42,10 +42,8 @@ ChildrenCollected s at n side i before after r =
 
 -- ---- records
 
--- Records stand there, and the row has room for them.
-pub record RecordsFit (s : List ℕ) (rec count i : ℕ) (row : List ℕ) : Type 0 where
-  pub records : List Record
-  pub stand : Entries s rec count records
+-- So many records at a place end within a plan, and the row has room for them.
+pub record RecordsFit (rec count i : ℕ) (row : List ℕ) : Type 0 where
   pub short : rec + 5 * count ≤ most_bytes
   pub room : i + count ≤ length row
 

@@ -7,6 +7,7 @@ ghost use Rattle.projection.specs.Extractions.{ExtractionFits, ExtractionCollect
 use super::spots::{collect_columns, collect_records};
 use node_rows::collecting::Passed;
 use plan_reader::extraction_bodies::Extraction;
+use plan_writer::records::Records;
 use sedona_query_planner::spatial_predicate::SpatialPredicate;
 use terms::sides::JoinSide;
 
@@ -47,8 +48,12 @@ pub fn collect_extraction(row: &mut [u32], src: &[u8], x: Extraction) -> usize
     match x.remainder {
         None => passed.index,
         Some(f) => {
-            let count = f.columns as usize;
-            collect_records(row, src, passed.end + 3, count, passed.index)
+            let records = Records {
+                src,
+                rec: passed.end + 3,
+                count: f.columns as usize,
+            };
+            collect_records(row, records, passed.index)
         }
     }
 }

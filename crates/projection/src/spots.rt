@@ -7,6 +7,7 @@ ghost use Rattle.projection.specs.Rows.{ColumnsFit, ColumnsCollected, ChildrenFi
 use expression::fields::short_at;
 use expression::heads::head_at;
 use node_rows::collecting::Passed;
+use plan_writer::records::Records;
 use terms::sides::JoinSide;
 
 // A child index, its place in the plan and the side that it is of as one number.
@@ -63,15 +64,16 @@ fn collect_children(
     Passed { end, index }
 }
 
-// Puts the child indexes of the records at a place into the row from index i on; answers the index after them.
-pub fn collect_records(row: &mut [u32], src: &[u8], rec: usize, count: usize, i: usize) -> usize
-    requires { RecordsFit src.now rec count i row.old }
-    ensures { RecordsCollected src.now rec count i row.old row.new result }
+// Puts the child indexes of the records into the row from index i on; answers the index after them.
+pub fn collect_records(row: &mut [u32], records: Records, i: usize) -> usize
+    requires { RecordsFit records.rec records.count i row.old }
+    ensures { RecordsCollected records.entry.src.now records.entry.rec records.entry.count i
+        row.old row.new result }
 {
-    for k in 0..count {
-        let at = rec + 5 * k;
-        let side = JoinSide::from(u64::from(src[at]));
-        row[i + k] = spot_number(side, at + 1, short_at(src, at + 1));
+    for k in 0..records.count {
+        let at = records.rec + 5 * k;
+        let side = JoinSide::from(u64::from(records.side(k)));
+        row[i + k] = spot_number(side, at + 1, usize::from(records.child(k)));
     }
-    i + count
+    i + records.count
 }

@@ -1,22 +1,21 @@
 // The records of the columns that stay, and the columns' new indexes. A record whose own column is marked stays at once; any other is
 // looked for by its key, which is in a row with those of all marked records.
 ghost use Rattle.std.specs.Prelude.{◌≤◌, ◌<◌, length};
-ghost use Rattle.plan_writer.specs.Tables.{Recorded};
 ghost use Rattle.remainder.specs.Keys.{KeyRow};
 ghost use Rattle.remainder.specs.Records.{Referenced, OneFits, OneKept, AllFit, RowsFit, RecordsKept, RecordsPut};
 
-use super::record_keys::{Records, among, marked_keys};
+use super::record_keys::{among, marked_keys, record_key};
 use plan_writer::frame_heads::put_frame_head;
+use plan_writer::records::Records;
 use writing::copies::copy_bytes;
 
 // Whether the record j is equal, in side and child index, to that of a marked column.
 fn is_referenced(records: Records, used: &[bool], keys: &[u32], j: usize) -> bool
-    requires recorded { Recorded records.src.now records.rec records.count }
     requires count_in_bounds { (records.count ≤ length used.now) × (j < records.count) }
     requires key_row { KeyRow records.src.now records.rec records.count used.now keys.now (length keys.now) }
     ensures { Referenced records.entry.src.now records.entry.rec records.entry.count used.now j result }
 {
-    used[j] || among(keys, records.key(j))
+    used[j] || among(keys, record_key(records, j))
 }
 
 // Writes the record j if it stays, after those kept before it; answers how many are kept then.

@@ -4,9 +4,9 @@ ghost use Rattle.node_rows.specs.Rows.{Tabled};
 ghost use Rattle.remainder.specs.Last.{LastFits, LastPut};
 
 use super::pruned::put_pruned;
-use super::record_keys::Records;
 use super::rests::{Nodes, Place, put_rest};
 use node_rows::rows::Rows;
+use plan_writer::records::Records;
 
 // Writes what is left of a frame without the AND-leaves whose flag is 1; answers its length. The expression that stays is first written to
 // the lent `rest`.

@@ -3,9 +3,9 @@ ghost use Rattle.std.specs.Prelude.{◌≤◌};
 ghost use Rattle.remainder.specs.Pruned.{PrunedFits, PrunedPut};
 
 use super::kept_records::put_records;
-use super::record_keys::Records;
 use super::references::collect_column_references;
 use plan_writer::arguments::reproject_column_references;
+use plan_writer::records::Records;
 
 // With rows for at most N records.
 fn put_pruned_in<const N: usize>(out: &mut [u8], records: Records, from: &[u8], at: usize) -> usize

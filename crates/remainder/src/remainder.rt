@@ -6,10 +6,10 @@ ghost use Rattle.remainder.specs.HeldIndexes.{Unheld, HeldMarked};
 ghost use Rattle.remainder.specs.Remainders.{RemainderFits, RemainderPut};
 
 use super::kept_records::put_records;
-use super::record_keys::Records;
 use super::references::collect_remainder;
 use super::reprojecting::reproject_remainder;
 use expression::cuts::Cut;
+use plan_writer::records::Records;
 
 // Marks the indexes that are held: those of the column nodes of what is left.
 fn collect_held(used: &mut [bool], src: &[u8], at: usize, cut: Cut)

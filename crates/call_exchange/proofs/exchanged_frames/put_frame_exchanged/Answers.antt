@@ -4,8 +4,13 @@ use Rattle.definitions.specs.Basics.{big_endian}
 use Rattle.plan_writer.specs.Predicates.{frame_head}
 use Rattle.writing.specs.Writing.{same}
 use Rattle.writing.proofs.Sequence.{first-room, second-room, both-put, head-room, rest-room, headed-put}
-use Rattle.call_exchange.proofs.FrameViews.{frame-view}
+use Rattle.call_exchange.proofs.FrameViews.{frame-view, records-there}
+use Rattle.call_exchange.proofs.RecordLaws.{records-room}
 use Rattle.call_exchange.proofs.exchanged_frames.put_frame_exchanged.Goals as goal
+
+pub invariant_of-records : goal.invariant_of-records
+invariant_of-records c =
+    record { within = records-there c.requires.stands }
 
 pub put_frame_head-w-requires : goal.put_frame_head-w-requires
 unfolding big_endian frame_head
@@ -16,8 +21,8 @@ pub put_records_at-v-requires : goal.put_records_at-v-requires
 unfolding big_endian frame_head
 put_records_at-v-requires c =
     let head = c.put_frame_head-w in
-    first-room same (rest-room (frame-view _ _) c.requires head.ensures
-    head.auto.out)
+    records-room (first-room same (rest-room (frame-view _ _) c.requires head.ensures
+    head.auto.out))
 
 pub copy_at-requires : goal.copy_at-requires
 unfolding big_endian frame_head

@@ -2,22 +2,21 @@
 use native.Mathlib.Omega.{arith}
 use mathlib.Core.Path.{refl}
 use lib.ListN.{length-set}
-use Rattle.call_exchange.proofs.RecordLaws.{records-fit, negated-next, records-put}
+use Rattle.call_exchange.proofs.RecordLaws.{negated-next, records-put}
 use Rattle.call_exchange.proofs.exchanged_frames.put_records_exchanged.Goals as goal
 
 pub overflow_mul-n : goal.overflow_mul-n
 overflow_mul-n c =
-    omega (arith, c.well_formed, records-fit c.requires)
+    omega (arith, c.well_formed, c.requires)
 
 pub copy_bytes-requires : goal.copy_bytes-requires
 copy_bytes-requires c =
-    let both = records-fit c.requires in
-    record { src_has_bytes = both.0; out_has_room = both.1 }
+    record { src_has_bytes = c.args.records.within; out_has_room = omega (arith, c.requires) }
 
 pub loop-i-init : goal.loop-i-init
 loop-i-init c =
     let kept = c.copy_bytes.auto.out in
-    (omega (arith, kept, records-fit c.requires), refl, λ rs rest h e. e)
+    (omega (arith, kept, c.requires), refl, λ rs rest h e. e)
 
 pub loop-i-preserved : goal.loop-i-preserved
 loop-i-preserved c =
@@ -28,8 +27,8 @@ loop-i-preserved c =
       negated-next _ loop.out loop.i other.result c.loop-i-test.true other.ensures loop.invariant.2,
     )
 
-pub returns : goal.returns
-returns c =
+pub returns-clause-puts : goal.returns-clause-puts
+returns-clause-puts c =
     let loop = c.loop-i in
     let copied = c.copy_bytes in
     records-put _ copied.new.out loop.out copied.ensures loop.i (omega arith) loop.invariant.2

@@ -7,5 +7,6 @@ use Rattle.call_exchange.proofs.exchanged_frames.put_records_exchanged.Given as 
 
 abbrev pub invariant-loop-i : goal.invariant-loop-i
 invariant-loop-i l =
-    (5 * l.count ≤ length l.out) × (length l.out ≡ length l.initial.out)
-    × Negated l.src l.rec l.count l.initial.out l.out l.i
+    let records = l.fn.records in
+    (5 * records.count ≤ length l.out) × (length l.out ≡ length l.initial.out)
+    × Negated records.src.now records.rec records.count l.initial.out l.out l.i

@@ -2,6 +2,7 @@
 use Prim.Native.Nat.{◌≤◌}
 use native.Mathlib.Omega.{arith}
 use lib.ListN.{length}
+use Rattle.plan_writer.proofs.TableLaws.{records-within}
 use Rattle.call_extract.proofs.Taking.{taken-records, predicate-fits, predicate-ends, remainder-fits, extraction-is, extraction-ends}
 use Rattle.call_extract.proofs.extraction.put_extraction.Goals as goal
 use Rattle.call_extract.proofs.extraction.put_extraction.Goals.{After-child_indexes}
@@ -9,6 +10,10 @@ use Rattle.call_extract.proofs.extraction.put_extraction.Goals.{After-child_inde
 -- What is known of the table, and of the predicate that was written by it.
 wide : (c : After-child_indexes) → 256 ≤ length c.child_indexes.new.to
 wide c = omega (arith, c.child_indexes.auto.to)
+
+pub invariant_of-records : goal.invariant_of-records
+invariant_of-records c =
+    record { within = records-within (taken-records c.requires.taking) }
 
 pub put_predicate-w-requires : goal.put_predicate-w-requires
 put_predicate-w-requires c =

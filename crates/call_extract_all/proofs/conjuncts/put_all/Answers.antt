@@ -6,6 +6,7 @@ use Rattle.definitions.specs.Settings.{match_under, FairUnder}
 use Rattle.definitions.specs.AllClaims.{TakesAll}
 use Rattle.theorems.proofs.SettingsClaimed.{all-settings-hold}
 use Rattle.terms.specs.Settings.{settings_of}
+use Rattle.plan_writer.proofs.TableLaws.{records-within}
 use Rattle.remainder.proofs.LastLaws.{zeros-room}
 use Rattle.call_extract_all.proofs.AllLaws.{few, recorded, row-long, listable, list-fits, copy-fits, rest-starts, left-fits, ends, all-is}
 use Rattle.call_extract_all.proofs.conjuncts.put_all.Goals as goal
@@ -17,13 +18,14 @@ all-taken c = (all-settings-hold (settings_of c.args.settings.settings) c.requir
 wide : (c : After-child_indexes) → 256 ≤ length c.child_indexes.new.to
 wide c = omega (arith, c.child_indexes.auto.to)
 
+pub invariant_of-records : goal.invariant_of-records
+invariant_of-records c =
+    record { within = records-within (recorded c.requires.all_fits.at) }
+
 pub child_indexes-requires : goal.child_indexes-requires
 child_indexes-requires c =
     let p = c.requires.all_fits in
-    record {
-      recorded = recorded p.at;
-      count_in_bounds = omega (arith, few p.at, zeros-room 256);
-    }
+    omega (arith, few p.at, zeros-room 256)
 
 pub list_matches-listed-requires : goal.list_matches-listed-requires
 list_matches-listed-requires c =

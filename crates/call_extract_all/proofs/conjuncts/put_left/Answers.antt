@@ -2,7 +2,8 @@
 use native.Mathlib.Omega.{arith}
 use mathlib.Core.Path.{ap}
 use lib.ListN.{length}
-use Rattle.call_extract_all.proofs.AllLaws.{whole-left, whole-put, last_fits, last-put}
+use Rattle.plan_writer.proofs.TableLaws.{records-within}
+use Rattle.call_extract_all.proofs.AllLaws.{recorded, whole-left, whole-put, last_fits, last-put}
 use Rattle.call_extract_all.proofs.conjuncts.put_left.Goals as goal
 
 pub copy_bytes-requires : goal.copy_bytes-requires
@@ -17,6 +18,10 @@ pub returns-then-rounds-eq0 : goal.returns-then-rounds-eq0
 returns-then-rounds-eq0 c =
     λ match F at told.
     whole-put at told c.args.out.now _ c.if-rounds-eq0.true c.copy_bytes.ensures
+
+pub invariant_of-records : goal.invariant_of-records
+invariant_of-records c =
+    record { within = records-within (recorded c.requires.left_fits.at) }
 
 pub put_last-requires : goal.put_last-requires
 put_last-requires c =

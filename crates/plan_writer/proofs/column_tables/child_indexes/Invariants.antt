@@ -5,4 +5,5 @@ use Rattle.plan_writer.proofs.column_tables.child_indexes.Given as goal
 
 abbrev pub invariant-loop-j : goal.invariant-loop-j
 invariant-loop-j l =
-    (k : ℕ) → k < l.j → get_or l.place-items k 0 ≡ short_at l.src (l.rec + 5 * k + 1)
+    let records = l.fn.records in
+    (k : ℕ) → k < l.j → get_or l.place-items k 0 ≡ short_at records.src.now (records.rec + 5 * k + 1)

@@ -1,6 +1,7 @@
 -- `collect_extraction`: the records of a remainder come after the predicate's arguments.
-use Prim.Native.Nat.{◌+◌}
+use Prim.Native.Nat.{◌+◌, ◌*◌, ◌≤◌}
 use native.Mathlib.Omega.{arith}
+use lib.ListN.{length}
 use Rattle.projection.specs.Rows.{RecordsFit}
 use Rattle.projection.proofs.ExtractionLaws.{arguments-fit, records-fit, collected-nothing, collected-records}
 use Rattle.projection.proofs.plan_spots.collect_extraction.Goals as goal
@@ -9,8 +10,8 @@ use Rattle.projection.proofs.plan_spots.collect_extraction.Goals.{After-struct_k
 -- The records of the remainder have room.
 fits : (c : After-struct_known-1)
     → let call = c.collect_arguments-passed in
-    RecordsFit c.args.src.now (call.result.end + 3) c.in-Some.f.columns
-    call.result.index call.new.row
+    (call.result.end + 3 + 5 * c.in-Some.f.columns ≤ length c.args.src.now)
+    × RecordsFit (call.result.end + 3) c.in-Some.f.columns call.result.index call.new.row
 fits c =
     let call = c.collect_arguments-passed in
     records-fit c.requires _ (rw c.in-Some.is at c.requires.there.read.remainder)
@@ -20,13 +21,17 @@ pub collect_arguments-passed-requires : goal.collect_arguments-passed-requires
 collect_arguments-passed-requires c =
     arguments-fit c.requires
 
-pub overflow_add-passed : goal.overflow_add-passed
-overflow_add-passed c =
-    omega (arith, (fits (goal.at.overflow_add-passed c).After-struct_known-1).short)
+pub overflow_add-records : goal.overflow_add-records
+overflow_add-records c =
+    omega (arith, (fits (goal.at.overflow_add-records c).After-struct_known-1).1.short)
+
+pub invariant_of-records : goal.invariant_of-records
+invariant_of-records c =
+    record { within = (fits (goal.at.invariant_of-records c).After-struct_known-1).0 }
 
 pub collect_records-requires : goal.collect_records-requires
 collect_records-requires c =
-    fits (goal.at.collect_records-requires c).After-struct_known-1
+    (fits (goal.at.collect_records-requires c).After-struct_known-1).1
 
 pub returns-in-None : goal.returns-in-None
 returns-in-None c =

@@ -4,4 +4,5 @@ use Rattle.projection.proofs.spots.collect_records.Given as goal
 
 abbrev pub invariant-loop-k : goal.invariant-loop-k
 invariant-loop-k l =
-    Filling l.src l.rec l.count l.i l.initial.row l.row l.k
+    let records = l.fn.records in
+    Filling records.src.now records.rec records.count l.i l.initial.row l.row l.k

@@ -16,4 +16,4 @@ returns-else-used-j c =
     λ records columns m.
     let keys = c.args.keys.now in
     among-stays m c.args.j c.requires.count_in_bounds.1 c.requires.key_row c.among.result
-    (subst (λ key. AmongIs keys (length keys) key c.among.result) c.key.ensures c.among.ensures)
+    (subst (λ key. AmongIs keys (length keys) key c.among.result) c.record_key.ensures c.among.ensures)

@@ -12,6 +12,6 @@ loop-i-preserved c =
     elim c.if-used-i.branch [
       | then-used-i w ↦
           rw (w.keys-is, w.n-is) (filled-marked loop.invariant less w.if-used-i.true
-          (omega (arith, row.few, loop.invariant.same, c.requires.count_in_bounds)) w.key.result w.key.ensures)
+          (omega (arith, row.few, loop.invariant.same, c.requires)) w.record_key.result w.record_key.ensures)
       | else-used-i w ↦ rw (w.keys-is, w.n-is) (filled-passed loop.invariant less w.if-used-i.false)
     ]
