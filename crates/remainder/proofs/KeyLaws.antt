@@ -4,8 +4,8 @@ use native.Mathlib.Omega.{arith}
 use mathlib.Core.Path.{◌≡◌, ◌∙◌}
 use mathlib.Core.Bool.{Bool, true, false}
 use mathlib.Core.List.{List}
-use lib.ListN.{length, get_or, set, length-set}
-use lib.Seq.{get_or-set_same, get_or-set_other}
+use lib.ListN.{length, take, get_or, set, length-set}
+use lib.Seq.{get_or-set_same, get_or-set_other, length-take-le, get_or-take}
 use borrow.Author.Count.{below_more}
 use Rattle.remainder.specs.Keys.{key_at, MarkedKey, Among, KeyRow}
 
@@ -52,3 +52,15 @@ module _ {s : List ℕ} {rec count : ℕ} {flags : List Bool} where
         all = below_more (λ k. get_or flags k false ≡ true → Among keys n (key_at s (rec + 5 * k))) i f.row.all (λ m. absurd (let z : ◌≡◌ {A = ℕ} 0 1 = cc in omega arith));
       };
     }
+
+-- The row without what comes after them.
+pub keys-alone : {s : List ℕ} {rec count : ℕ} {flags : List Bool} {keys : List ℕ} {n : ℕ} → KeyRow s rec count flags keys n
+    → KeyRow s rec count flags (take n keys) (length (take n keys))
+keys-alone {keys = keys} {n = n} row =
+    let long : length (take n keys) ≡ n = length-take-le n keys row.room in
+    rw long (record {
+      few = row.few;
+      room = omega (arith, long);
+      each = λ i b. rw (get_or-take n keys i 0 b) (row.each i b);
+      all = λ i b m. let one = row.all i b m in (one.0, one.1, get_or-take n keys one.0 0 one.1 ∙ one.2);
+    })

@@ -61,15 +61,11 @@ held-collected {cut = cut} before after clear is t up position stands cutting e 
 
 -- Rows as they are made, for so many records, and once the flags were set.
 pub clear-rows : (n count : ℕ) → count ≤ n
-    → RowsFit count (replicate n false) (replicate n 0) (replicate n 0) × Unmarked (replicate n false)
+    → (count ≤ length {A = Bool} (replicate n false)) × RowsFit count (replicate n 0) (replicate n 0) × Unmarked (replicate n false)
 clear-rows n count room =
     let row : List ℕ = replicate n 0 in
     let fits : count ≤ length row = simp length-replicate room in
-    (record { flagged = simp length-replicate room; numbered = fits; keyed = fits }, no_flag n)
-
-pub rows-still : {count : ℕ} (flags used : List Bool) {to keys : List ℕ} → RowsFit count flags to keys → length used ≡ length flags
-    → RowsFit count used to keys
-rows-still flags used p same = record { flagged = omega (arith, p.flagged); numbered = p.numbered; keyed = p.keyed }
+    (simp length-replicate room, record { numbered = fits; keyed = fits }, no_flag n)
 
 -- ---- the frame's bytes
 

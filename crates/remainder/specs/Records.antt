@@ -57,9 +57,8 @@ pub record AllFit (s : List ℕ) (rec count : ℕ) (flags : List Bool) (extra : 
   pub few : count ≤ 256
   pub room : extra + length (records_bytes (kept_all records columns)) ≤ length out
 
--- There is a flag, a new index and a key for each of so many columns.
-pub record RowsFit (count : ℕ) (flags : List Bool) (to keys : List ℕ) : Type 0 where
-  pub flagged : count ≤ length flags
+-- There is a new index and a key for each of so many columns.
+pub record RowsFit (count : ℕ) (to keys : List ℕ) : Type 0 where
   pub numbered : count ≤ length to
   pub keyed : count ≤ length keys
 

@@ -3,6 +3,7 @@ ghost use Rattle.std.specs.Prelude.{◌≤◌};
 ghost use Rattle.remainder.specs.Pruned.{PrunedFits, PrunedPut};
 
 use super::kept_records::put_records;
+use super::record_keys::Marked;
 use super::references::collect_column_references;
 use plan_writer::arguments::reproject_column_references;
 use plan_writer::records::Records;
@@ -18,7 +19,11 @@ fn put_pruned_in<const N: usize>(out: &mut [u8], records: Records, from: &[u8], 
     let mut to = [0u16; N];
     let mut keys = [0u32; N];
     collect_column_references(&mut used, from, at);
-    let w = put_records(out, &mut to, &mut keys, records, &used);
+    let marked = Marked {
+        records,
+        used: &used,
+    };
+    let w = put_records(out, &mut to, &mut keys, marked);
     let copied = reproject_column_references(&mut out[w..], from, at, &to);
     w + copied.wrote
 }

@@ -4,6 +4,24 @@ ghost use Rattle.remainder.specs.Keys.{key_at, KeyRow, AmongIs};
 
 use plan_writer::records::Records;
 
+// The records of a frame, and a flag for each column, set where it is marked.
+#[derive(Clone, Copy)]
+pub struct Marked<'a> {
+    pub records: Records<'a>,
+    pub used: &'a [bool],
+    pub ghost flagged: { records.count ≤ length used.now },
+}
+
+// The same with the keys of the marked columns' records in a row. Several records may have one key, and a ghost field takes what has one
+// proof, so it keeps that there is a proof, not which record has which key.
+#[derive(Clone, Copy)]
+pub struct Keyed<'a> {
+    pub marked: Marked<'a>,
+    pub keys: &'a [u32],
+    pub ghost row: { ∥ KeyRow marked.records.src.now marked.records.rec marked.records.count marked.used.now
+        keys.now (length keys.now) ∥₁ },
+}
+
 // The side and child index of the record j, as one number.
 pub(crate) fn record_key(records: Records, j: usize) -> u32
     requires { j < records.count }
@@ -13,14 +31,15 @@ pub(crate) fn record_key(records: Records, j: usize) -> u32
 }
 
 // Writes the keys of the marked columns' records in a row; answers how many there are.
-pub fn marked_keys(keys: &mut [u32], records: Records, used: &[bool]) -> usize
-    requires { (records.count ≤ length used.now) × (records.count ≤ length keys.old) }
-    ensures { KeyRow records.entry.src.now records.entry.rec records.entry.count used.now keys.new result }
+pub fn marked_keys(keys: &mut [u32], marked: Marked) -> usize
+    requires { marked.records.count ≤ length keys.old }
+    ensures { KeyRow marked.entry.records.src.now marked.entry.records.rec marked.entry.records.count marked.entry.used.now
+        keys.new result }
 {
     let mut n = 0;
-    for i in 0..records.count {
-        if used[i] {
-            keys[n] = record_key(records, i);
+    for i in 0..marked.records.count {
+        if marked.used[i] {
+            keys[n] = record_key(marked.records, i);
             n += 1;
         }
     }

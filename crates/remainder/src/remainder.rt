@@ -6,6 +6,7 @@ ghost use Rattle.remainder.specs.HeldIndexes.{Unheld, HeldMarked};
 ghost use Rattle.remainder.specs.Remainders.{RemainderFits, RemainderPut};
 
 use super::kept_records::put_records;
+use super::record_keys::Marked;
 use super::references::collect_remainder;
 use super::reprojecting::reproject_remainder;
 use expression::cuts::Cut;
@@ -36,7 +37,11 @@ fn replace_join_filter_expr<const N: usize>(
     let mut to = [0u16; N];
     let mut keys = [0u32; N];
     collect_held(&mut used, records.src, at, cut);
-    let w = put_records(out, &mut to, &mut keys, records, &used);
+    let marked = Marked {
+        records,
+        used: &used,
+    };
+    let w = put_records(out, &mut to, &mut keys, marked);
     let copied = reproject_remainder(&mut out[w..], records.src, at, &to, cut);
     w + copied.wrote
 }

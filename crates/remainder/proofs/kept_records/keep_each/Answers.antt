@@ -9,11 +9,7 @@ loop-j-init c =
 
 pub keep_record-kept-requires : goal.keep_record-kept-requires
 keep_record-kept-requires c =
-    record {
-      one_fits = next_fits c.loop-j.invariant c.loop-j-test.true c.requires.all_fit;
-      count_in_bounds = c.requires.count_in_bounds.0;
-      key_row = c.requires.key_row;
-    }
+    next_fits c.loop-j.invariant c.loop-j-test.true c.requires.all_fit
 
 pub loop-j-preserved : goal.loop-j-preserved
 loop-j-preserved c =

@@ -5,5 +5,5 @@ use Rattle.remainder.proofs.kept_records.keep_each.Given as goal
 
 abbrev pub invariant-loop-j : goal.invariant-loop-j
 invariant-loop-j l =
-    let records = l.fn.records in
-    Keeping records.src.now records.rec records.count l.used l.initial.out (length l.initial.to) l.out l.to l.kept l.j
+    let records = l.fn.keyed.marked.records in
+    Keeping records.src.now records.rec records.count l.fn.keyed.marked.used.now l.initial.out (length l.initial.to) l.out l.to l.kept l.j

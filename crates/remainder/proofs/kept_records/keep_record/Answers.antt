@@ -8,11 +8,11 @@ use Rattle.remainder.proofs.kept_records.keep_record.Goals as goal
 use Rattle.remainder.proofs.kept_records.keep_record.Goals.{Then-is_referenced}
 
 room : (c : Then-is_referenced) → let args = c.args in 5 * args.kept + 5 ≤ length args.out.now
-room c = one-room c.requires.one_fits (rw c.if-is_referenced.true at c.is_referenced.ensures)
+room c = one-room c.requires (rw c.if-is_referenced.true at c.is_referenced.ensures)
 
 within : (c : Then-is_referenced)
-    → let args = c.args in args.records.rec + 5 * args.j + 5 ≤ length args.records.src.now
-within c = one-within c.requires.one_fits
+    → let args = c.args in let records = args.keyed.marked.records in records.rec + 5 * args.j + 5 ≤ length records.src.now
+within c = one-within c.requires
 
 pub overflow_mul-j : goal.overflow_mul-j
 overflow_mul-j c =
@@ -33,7 +33,7 @@ copy_bytes-requires c =
 pub returns-then-is_referenced : goal.returns-then-is_referenced
 returns-then-is_referenced c =
     let copy = c.copy_bytes in
-    one_kept c.args.j c.args.kept c.args.out.now copy.new.out copy.ensures c.requires.one_fits.below
+    one_kept c.args.j c.args.kept c.args.out.now copy.new.out copy.ensures c.requires.below
     (rw c.if-is_referenced.true at c.is_referenced.ensures)
 
 pub returns : goal.returns

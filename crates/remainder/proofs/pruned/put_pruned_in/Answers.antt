@@ -2,7 +2,7 @@
 use native.Mathlib.Omega.{arith}
 use mathlib.Core.Bool.{false}
 use lib.ListN.{replicate}
-use Rattle.remainder.proofs.RemainderLaws.{rows-still, clear-rows}
+use Rattle.remainder.proofs.RemainderLaws.{clear-rows}
 use Rattle.remainder.proofs.PrunedLaws.{plain-flagged, records-fit, records-end, expr-fits, frame-put}
 use Rattle.remainder.proofs.pruned.put_pruned_in.Goals as goal
 
@@ -10,17 +10,21 @@ use Rattle.remainder.proofs.pruned.put_pruned_in.Goals as goal
 
 pub collect_column_references-requires : goal.collect_column_references-requires
 collect_column_references-requires g c =
-    plain-flagged c.requires.pruned_fits.frame (replicate g.row.N false) (clear-rows g.row.N c.args.records.count c.requires.count_bound.0).0.flagged
+    plain-flagged c.requires.pruned_fits.frame (replicate g.row.N false) (clear-rows g.row.N c.args.records.count c.requires.count_bound.0).0
+
+pub invariant_of-marked : goal.invariant_of-marked
+invariant_of-marked g c =
+    record { flagged = omega (arith, (clear-rows g.row.N c.args.records.count c.requires.count_bound.0).0, c.collect_column_references.auto.used) }
 
 pub put_records-w-requires : goal.put_records-w-requires
 put_records-w-requires g c =
     let flags = c.collect_column_references in
     let p = c.requires.pruned_fits in
     let used = (replicate g.row.N false) in
-    let rows = (clear-rows g.row.N c.args.records.count c.requires.count_bound.0).0 in record {
-      all_fit = records-fit p.frame used flags.new.used rows.flagged (clear-rows g.row.N c.args.records.count c.requires.count_bound.0).1 flags.auto.used flags.ensures
+    let clear = clear-rows g.row.N c.args.records.count c.requires.count_bound.0 in record {
+      all_fit = records-fit p.frame used flags.new.used clear.0 (clear-rows g.row.N c.args.records.count c.requires.count_bound.0).2 flags.auto.used flags.ensures
           c.args.out.now p.room;
-      rows_fit = rows-still used flags.new.used rows flags.auto.used;
+      rows_fit = clear.1;
     }
 
 pub slice_bounds-reproject_column_references-count : goal.slice_bounds-reproject_column_references-count
@@ -30,7 +34,7 @@ slice_bounds-reproject_column_references-count g c =
     omega (
       arith,
       c.put_records-w.auto.out,
-      records-end p.frame (replicate g.row.N false) flags.new.used (clear-rows g.row.N c.args.records.count c.requires.count_bound.0).0.flagged (clear-rows g.row.N c.args.records.count c.requires.count_bound.0).1 flags.auto.used
+      records-end p.frame (replicate g.row.N false) flags.new.used (clear-rows g.row.N c.args.records.count c.requires.count_bound.0).0 (clear-rows g.row.N c.args.records.count c.requires.count_bound.0).2 flags.auto.used
           flags.ensures c.put_records-w.ensures p.room,
     )
 
@@ -41,7 +45,7 @@ slice_bounds-reproject_column_references-start g c =
     omega (
       arith,
       c.put_records-w.auto.out,
-      records-end p.frame (replicate g.row.N false) flags.new.used (clear-rows g.row.N c.args.records.count c.requires.count_bound.0).0.flagged (clear-rows g.row.N c.args.records.count c.requires.count_bound.0).1 flags.auto.used
+      records-end p.frame (replicate g.row.N false) flags.new.used (clear-rows g.row.N c.args.records.count c.requires.count_bound.0).0 (clear-rows g.row.N c.args.records.count c.requires.count_bound.0).2 flags.auto.used
           flags.ensures c.put_records-w.ensures p.room,
     )
 
@@ -50,9 +54,9 @@ reproject_column_references-copied-requires g c =
     let flags = c.collect_column_references in
     let p = c.requires.pruned_fits in
     let put = c.put_records-w in
-    let rows = (clear-rows g.row.N c.args.records.count c.requires.count_bound.0).0 in
-    expr-fits p.frame (replicate g.row.N false) flags.new.used rows.flagged (clear-rows g.row.N c.args.records.count c.requires.count_bound.0).1 flags.auto.used flags.ensures
-    put.ensures (omega (arith, put.auto.to, rows.numbered)) put.auto.out p.room
+    let clear = clear-rows g.row.N c.args.records.count c.requires.count_bound.0 in
+    expr-fits p.frame (replicate g.row.N false) flags.new.used clear.0 (clear-rows g.row.N c.args.records.count c.requires.count_bound.0).2 flags.auto.used flags.ensures
+    put.ensures (omega (arith, put.auto.to, clear.1.numbered)) put.auto.out p.room
 
 pub overflow_add-result : goal.overflow_add-result
 overflow_add-result g c =
@@ -64,9 +68,9 @@ overflow_add-result g c =
       ((let flags = c.collect_column_references in
           let put = c.put_records-w in
           let expr = c.reproject_column_references-copied in
-          let rows = (clear-rows g.row.N c.args.records.count c.requires.count_bound.0).0 in
-          frame-put p.frame (replicate g.row.N false) flags.new.used rows.flagged (clear-rows g.row.N c.args.records.count c.requires.count_bound.0).1 flags.auto.used flags.ensures
-          put.ensures expr.new.out expr.result (omega (arith, put.auto.to, rows.numbered)) expr.ensures)).0,
+          let clear = clear-rows g.row.N c.args.records.count c.requires.count_bound.0 in
+          frame-put p.frame (replicate g.row.N false) flags.new.used clear.0 (clear-rows g.row.N c.args.records.count c.requires.count_bound.0).2 flags.auto.used flags.ensures
+          put.ensures expr.new.out expr.result (omega (arith, put.auto.to, clear.1.numbered)) expr.ensures)).0,
     )
 
 pub returns : goal.returns
@@ -75,6 +79,6 @@ returns g c =
     let flags = c.collect_column_references in
     let put = c.put_records-w in
     let expr = c.reproject_column_references-copied in
-    let rows = (clear-rows g.row.N c.args.records.count c.requires.count_bound.0).0 in
-    frame-put frame (replicate g.row.N false) flags.new.used rows.flagged (clear-rows g.row.N c.args.records.count c.requires.count_bound.0).1 flags.auto.used flags.ensures
-    put.ensures expr.new.out expr.result (omega (arith, put.auto.to, rows.numbered)) expr.ensures
+    let clear = clear-rows g.row.N c.args.records.count c.requires.count_bound.0 in
+    frame-put frame (replicate g.row.N false) flags.new.used clear.0 (clear-rows g.row.N c.args.records.count c.requires.count_bound.0).2 flags.auto.used flags.ensures
+    put.ensures expr.new.out expr.result (omega (arith, put.auto.to, clear.1.numbered)) expr.ensures

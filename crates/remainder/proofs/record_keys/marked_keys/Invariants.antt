@@ -5,5 +5,5 @@ use Rattle.remainder.proofs.record_keys.marked_keys.Given as goal
 
 abbrev pub invariant-loop-i : goal.invariant-loop-i
 invariant-loop-i l =
-    let records = l.fn.records in
-    Filled records.src.now records.rec records.count l.used l.keys l.n l.i (length l.initial.keys)
+    let records = l.fn.marked.records in
+    Filled records.src.now records.rec records.count l.fn.marked.used.now l.keys l.n l.i (length l.initial.keys)

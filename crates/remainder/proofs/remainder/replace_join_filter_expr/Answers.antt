@@ -3,7 +3,7 @@ use native.Mathlib.Omega.{arith}
 use mathlib.Core.Bool.{false}
 use lib.ListN.{replicate}
 use Rattle.remainder.proofs.CutLaws.{something-left}
-use Rattle.remainder.proofs.RemainderLaws.{still-unheld, rows-still, clear-rows, records-fit, records-end, expr-fits, frame-put}
+use Rattle.remainder.proofs.RemainderLaws.{still-unheld, clear-rows, records-fit, records-end, expr-fits, frame-put}
 use Rattle.remainder.proofs.remainder.replace_join_filter_expr.Goals as goal
 
 -- Each call, from the one after it.
@@ -12,7 +12,11 @@ pub collect_held-requires : goal.collect_held-requires
 collect_held-requires g c =
     let p = c.requires.remainder_fits in
     let left = (something-left p.cutting c.requires.leaf_elsewhere).1 in
-    still-unheld p.frame left (replicate g.row.N false) p.cutting (clear-rows g.row.N c.args.records.count c.requires.count_bound.0).0.flagged (clear-rows g.row.N c.args.records.count c.requires.count_bound.0).1
+    still-unheld p.frame left (replicate g.row.N false) p.cutting (clear-rows g.row.N c.args.records.count c.requires.count_bound.0).0 (clear-rows g.row.N c.args.records.count c.requires.count_bound.0).2
+
+pub invariant_of-marked : goal.invariant_of-marked
+invariant_of-marked g c =
+    record { flagged = omega (arith, (clear-rows g.row.N c.args.records.count c.requires.count_bound.0).0, c.collect_held.auto.used) }
 
 pub put_records-w-requires : goal.put_records-w-requires
 put_records-w-requires g c =
@@ -20,10 +24,10 @@ put_records-w-requires g c =
     let p = c.requires.remainder_fits in
     let left = (something-left p.cutting c.requires.leaf_elsewhere).1 in
     let used = (replicate g.row.N false) in
-    let rows = (clear-rows g.row.N c.args.records.count c.requires.count_bound.0).0 in record {
-      all_fit = records-fit p.frame left used flags.new.used p.cutting rows.flagged flags.auto.used flags.ensures
+    let clear = clear-rows g.row.N c.args.records.count c.requires.count_bound.0 in record {
+      all_fit = records-fit p.frame left used flags.new.used p.cutting clear.0 flags.auto.used flags.ensures
           c.args.out.now p.room;
-      rows_fit = rows-still used flags.new.used rows flags.auto.used;
+      rows_fit = clear.1;
     }
 
 pub slice_bounds-reproject_remainder-count : goal.slice_bounds-reproject_remainder-count
@@ -34,7 +38,7 @@ slice_bounds-reproject_remainder-count g c =
     omega (
       arith,
       c.put_records-w.auto.out,
-      records-end p.frame left (replicate g.row.N false) flags.new.used p.cutting (clear-rows g.row.N c.args.records.count c.requires.count_bound.0).0.flagged flags.auto.used
+      records-end p.frame left (replicate g.row.N false) flags.new.used p.cutting (clear-rows g.row.N c.args.records.count c.requires.count_bound.0).0 flags.auto.used
           flags.ensures c.put_records-w.ensures p.room,
     )
 
@@ -46,7 +50,7 @@ slice_bounds-reproject_remainder-start g c =
     omega (
       arith,
       c.put_records-w.auto.out,
-      records-end p.frame left (replicate g.row.N false) flags.new.used p.cutting (clear-rows g.row.N c.args.records.count c.requires.count_bound.0).0.flagged flags.auto.used
+      records-end p.frame left (replicate g.row.N false) flags.new.used p.cutting (clear-rows g.row.N c.args.records.count c.requires.count_bound.0).0 flags.auto.used
           flags.ensures c.put_records-w.ensures p.room,
     )
 
@@ -56,9 +60,9 @@ reproject_remainder-copied-requires g c =
     let p = c.requires.remainder_fits in
     let left = (something-left p.cutting c.requires.leaf_elsewhere).1 in
     let put = c.put_records-w in
-    let rows = (clear-rows g.row.N c.args.records.count c.requires.count_bound.0).0 in
-    expr-fits p.frame left (replicate g.row.N false) flags.new.used p.cutting rows.flagged flags.auto.used flags.ensures
-    put.ensures (omega (arith, put.auto.to, rows.numbered)) put.auto.out p.room
+    let clear = clear-rows g.row.N c.args.records.count c.requires.count_bound.0 in
+    expr-fits p.frame left (replicate g.row.N false) flags.new.used p.cutting clear.0 flags.auto.used flags.ensures
+    put.ensures (omega (arith, put.auto.to, clear.1.numbered)) put.auto.out p.room
 
 pub overflow_add-result : goal.overflow_add-result
 overflow_add-result g c =
@@ -71,9 +75,9 @@ overflow_add-result g c =
           let left = (something-left p.cutting c.requires.leaf_elsewhere).1 in
           let put = c.put_records-w in
           let expr = c.reproject_remainder-copied in
-          let rows = (clear-rows g.row.N c.args.records.count c.requires.count_bound.0).0 in
-          frame-put p.frame left (replicate g.row.N false) flags.new.used p.cutting rows.flagged flags.auto.used flags.ensures put.ensures
-          expr.new.out expr.result (omega (arith, put.auto.to, rows.numbered)) expr.ensures)).0,
+          let clear = clear-rows g.row.N c.args.records.count c.requires.count_bound.0 in
+          frame-put p.frame left (replicate g.row.N false) flags.new.used p.cutting clear.0 flags.auto.used flags.ensures put.ensures
+          expr.new.out expr.result (omega (arith, put.auto.to, clear.1.numbered)) expr.ensures)).0,
     )
 
 pub returns : goal.returns
@@ -83,6 +87,6 @@ returns g c =
     let left = (something-left cutting c.requires.leaf_elsewhere).1 in
     let put = c.put_records-w in
     let expr = c.reproject_remainder-copied in
-    let rows = (clear-rows g.row.N c.args.records.count c.requires.count_bound.0).0 in
-    frame-put frame left (replicate g.row.N false) flags.new.used cutting rows.flagged flags.auto.used flags.ensures put.ensures
-    expr.new.out expr.result (omega (arith, put.auto.to, rows.numbered)) expr.ensures
+    let clear = clear-rows g.row.N c.args.records.count c.requires.count_bound.0 in
+    frame-put frame left (replicate g.row.N false) flags.new.used cutting clear.0 flags.auto.used flags.ensures put.ensures
+    expr.new.out expr.result (omega (arith, put.auto.to, clear.1.numbered)) expr.ensures
