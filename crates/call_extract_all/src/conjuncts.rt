@@ -5,9 +5,10 @@ ghost use Rattle.expression.specs.Nodes.{OfTree};
 ghost use Rattle.node_rows.specs.Rows.{Tabled};
 ghost use Rattle.call_extract_all.specs.Conjuncts.{LeftFits, LeftPut, AllFits, AllPut};
 
-use super::listing::{Below, Listing, list_matches};
+use super::listing::{Listing, list_matches};
 use frame_reader::frame_bodies::Frame;
 use leaf_matching::filter::Filter;
+use leaf_pick::first_match::Stop;
 use node_rows::rows::Rows;
 use plan_writer::column_tables::child_indexes;
 use plan_writer::records::Records;
@@ -84,7 +85,7 @@ pub fn put_all(
         to: &to,
         settings: settings.settings,
     };
-    let root = Below {
+    let root = Stop {
         at: f.root,
         index: 0,
         position: 0,

@@ -10,7 +10,7 @@ ghost use Rattle.call_extract_all.specs.Listings.{ListFits, ListPut};
 
 use expression::leaves::{Node, node_at};
 use leaf_matching::filter::Filter;
-use leaf_pick::first_match::{Leaf, match_knn, match_other};
+use leaf_pick::first_match::{Leaf, Stop, match_knn, match_other};
 use plan_writer::arguments::ColumnIndexes;
 use plan_writer::put_predicate::put_predicate;
 use terms::settings::Settings;
@@ -22,14 +22,6 @@ pub struct Listing<'a> {
     pub count: usize,
     pub to: &'a [u16],
     pub settings: Settings,
-}
-
-// A node that the walk comes to: where it stands, its index in the rows, and how many AND-leaves are before it.
-#[derive(Clone, Copy)]
-pub struct Below {
-    pub at: usize,
-    pub index: usize,
-    pub position: usize,
 }
 
 // How many AND-leaves there are up to the end of a node, how many bytes were written of KNN and of other matches, how many matches.
@@ -96,7 +88,7 @@ pub fn list_matches(
     others: &mut [u8],
     gone: &mut [u8],
     listing: Listing,
-    from: Below,
+    from: Stop,
 ) -> Listed
     requires list_fits { ListFits (match_under (settings_of listing.settings)) listing.filter.s.now listing.filter.rec listing.count
         from.at from.position listing.to.now knns.old others.old gone.old }
@@ -117,7 +109,7 @@ pub fn list_matches(
         return list_leaf(knns, others, gone, listing, leaf);
     };
     let below = from.index + 1;
-    let first = Below {
+    let first = Stop {
         at: left,
         index: below,
         position: from.position,
@@ -125,7 +117,7 @@ pub fn list_matches(
     let one = list_matches(knns, others, gone, listing, first);
     let k = one.knn;
     let o = one.other;
-    let second = Below {
+    let second = Stop {
         at: rows.end(below),
         index: rows.after(below),
         position: one.position,

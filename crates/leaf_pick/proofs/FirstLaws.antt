@@ -186,20 +186,20 @@ module _ {s : List ℕ} {rec at left : ℕ} {found : Node} (is : OfTreeIn s at (
           })
 
 -- What the loop along the right children keeps: what is found from the node that it came to is found from the first.
-pub record Along (match : Matcher) (wanted : Wanted) (s numbers next : List ℕ) (rec : ℕ) (from stop : Stop) : Type 0 where
+pub record Along (match : Matcher) (wanted : Wanted) (s numbers next : List ℕ) (rec : ℕ) (from : Stop) (parent : ℕ) (stop : Stop) (above : ℕ) : Type 0 where
   pub there : Framed s rec stop.at
   pub tabled : OfTree s stop.at (Tabled numbers next stop.at stop.index)
   pub low : from.at ≤ stop.at
   pub few : stop.position ≤ stop.at
-  pub rest : (r : Found) → OfFrame s rec stop.at (FoundIs match wanted s rec stop.at stop.position stop.parent r)
-      → OfFrame s rec from.at (FoundIs match wanted s rec from.at from.position from.parent r)
+  pub rest : (r : Found) → OfFrame s rec stop.at (FoundIs match wanted s rec stop.at stop.position above r)
+      → OfFrame s rec from.at (FoundIs match wanted s rec from.at from.position parent r)
 
-module _ {match : Matcher} {wanted : Wanted} {s numbers next : List ℕ} {rec : ℕ} {from : Stop} where
+module _ {match : Matcher} {wanted : Wanted} {s numbers next : List ℕ} {rec : ℕ} {from : Stop} {parent : ℕ} where
   pub along-begins : Framed s rec from.at → OfTree s from.at (Tabled numbers next from.at from.index) → from.position ≤ from.at
-      → Along match wanted s numbers next rec from from
+      → Along match wanted s numbers next rec from parent from parent
   along-begins there tabled few = record { there = there; tabled = tabled; low = omega arith; few = few; rest = λ r is. is }
 
-  module _ {stop : Stop} (inv : Along match wanted s numbers next rec from stop) where
+  module _ {stop : Stop} {above : ℕ} (inv : Along match wanted s numbers next rec from parent stop above) where
     -- The rows have a place for the node that it came to.
     pub along-within : (stop.index < length numbers) × (stop.index < length next)
     along-within = tabled-within (inv.tabled _ _ inv.there.2.tree)
@@ -225,7 +225,7 @@ module _ {match : Matcher} {wanted : Wanted} {s numbers next : List ℕ} {rec : 
           )
 
       pub along-left : {p : Pick} → OfFrame s rec left (FirstIs match wanted s rec left stop.position stop.at p)
-          → OfFrame s rec from.at (FirstIs match wanted s rec from.at from.position from.parent p)
+          → OfFrame s rec from.at (FirstIs match wanted s rec from.at from.position parent p)
       along-left {p} inner = inv.rest (Break p) (match-left is told inner)
 
       module _ {right counted : ℕ} (inner : OfFrame s rec left (NothingIs match wanted stop.position counted))
@@ -240,8 +240,8 @@ module _ {match : Matcher} {wanted : Wanted} {s numbers next : List ℕ} {rec : 
           pub along-less : length s - right < length s - stop.at
           along-less = omega (arith, after-left.1, node-some inv.there.2.tree)
 
-          pub along-right : (k : ℕ) → k ≡ get_or next (stop.index + 1) 0 → Along match wanted s numbers next rec from
-              (record { at = right; index = k; position = counted; parent = stop.at })
+          pub along-right : (k : ℕ) → k ≡ get_or next (stop.index + 1) 0 → Along match wanted s numbers next rec from parent
+              (record { at = right; index = k; position = counted }) stop.at
           along-right k after =
               let b = its-both in
               let h = inv.tabled _ _ inv.there.2.tree in
@@ -252,7 +252,7 @@ module _ {match : Matcher} {wanted : Wanted} {s numbers next : List ℕ} {rec : 
                     (right-tabled h b right k e (after ∙ tabled-next (left-tabled h b)));
                 low = omega (arith, inv.low, after-left.1);
                 few = after-left.2;
-                rest = λ r outer. inv.rest r (match-right is told inner left-ends stop.parent r outer);
+                rest = λ r outer. inv.rest r (match-right is told inner left-ends above r outer);
               }
 
 -- ---- two passes

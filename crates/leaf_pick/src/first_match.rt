@@ -48,14 +48,12 @@ pub struct Pick {
 // What a pass found below a node; if nothing, how many AND-leaves there are up to its end.
 pub type Found = ControlFlow<Pick, usize>;
 
-// A node that a pass comes to: where it stands, its index in the rows, how many AND-leaves are before it, and where the And above
-// it stands.
+// A node that a walk comes to: where it stands, its index in the rows, and how many AND-leaves are before it.
 #[derive(Clone, Copy)]
 pub struct Stop {
     pub at: usize,
     pub index: usize,
     pub position: usize,
-    pub parent: usize,
 }
 
 // An AND-leaf: where it stands, its index in the rows, its position among the AND-leaves, and what it is. That it is there is a
@@ -141,16 +139,17 @@ pub fn leaf_match(filter: Filter, leaf: Leaf, pass: Pass, parent: usize) -> Foun
     }
 }
 
-// The first match that is wanted below a node. A turn goes from an And to its right side, and no range has those.
-pub fn first_match(filter: Filter, pass: Pass, from: Stop) -> Found
+// The first match that is wanted below a node, where the And above the node is known. A turn goes from an And to its right side, and no range has those.
+pub fn first_match(filter: Filter, pass: Pass, from: Stop, parent: usize) -> Found
     requires framed { Framed filter.s.now filter.rec from.at }
     requires of_tree { OfTree filter.s.now from.at (Tabled filter.rows.numbers.now filter.rows.next.now from.at from.index) }
     requires position_le_at { from.position ≤ from.at }
     ensures { OfFrame filter.entry.s.now filter.entry.rec from.at
         (FoundIs (match_under (settings_of pass.settings)) pass.wanted filter.entry.s.now filter.entry.rec
-        from.at from.position from.parent result) }
+        from.at from.position parent result) }
 {
     let mut stop = from;
+    let mut above = parent;
     loop {
         let node = node_at(filter.s, stop.at);
         let Node::And(left) = node else {
@@ -160,23 +159,20 @@ pub fn first_match(filter: Filter, pass: Pass, from: Stop) -> Found
                 position: stop.position,
                 node,
             };
-            return leaf_match(filter, leaf, pass, stop.parent);
+            return leaf_match(filter, leaf, pass, above);
         };
-        let position = first_match(
-            filter,
-            pass,
-            Stop {
-                at: left,
-                index: stop.index + 1,
-                position: stop.position,
-                parent: stop.at,
-            },
-        )?;
+        above = stop.at;
+        let below = stop.index + 1;
+        let first = Stop {
+            at: left,
+            index: below,
+            position: stop.position,
+        };
+        let position = first_match(filter, pass, first, above)?;
         stop = Stop {
-            at: filter.rows.end(stop.index + 1),
-            index: filter.rows.after(stop.index + 1),
+            at: filter.rows.end(below),
+            index: filter.rows.after(below),
             position,
-            parent: stop.at,
         };
     }
 }

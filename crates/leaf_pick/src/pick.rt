@@ -26,9 +26,8 @@ fn from_root(filter: Filter, at: usize, i: usize, pass: Pass) -> Found
         at,
         index: i,
         position: 0,
-        parent: at,
     };
-    first_match(filter, pass, root)
+    first_match(filter, pass, root, at)
 }
 
 // The first KNN match.

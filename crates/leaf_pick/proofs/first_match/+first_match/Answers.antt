@@ -28,8 +28,8 @@ pub returns-in_default : goal.returns-in_default
 returns-in_default t c =
     c.loop-left.invariant.rest c.leaf_match.result c.leaf_match.ensures
 
-pub overflow_add-stop : goal.overflow_add-stop
-overflow_add-stop t c =
+pub overflow_add-below : goal.overflow_add-below
+overflow_add-below t c =
     omega (arith, c.well_formed, (along-within c.loop-left.invariant).0)
 
 pub first_match-requires : goal.first_match-requires
@@ -44,17 +44,9 @@ returns-in_err-position t c =
     rw c.from_residual.ensures
     (along-left c.loop-left.invariant c.node_at-node.ensures c.in-And.is c.in_err-position.ensures)
 
-pub overflow_add-stop-in-loop-left : goal.overflow_add-stop-in-loop-left
-overflow_add-stop-in-loop-left t c =
-    omega (arith, c.well_formed, (along-within c.loop-left.invariant).0)
-
 pub end-requires : goal.end-requires
 end-requires t c =
     (left-within c.loop-left.invariant c.node_at-node.ensures c.in-And.is).0
-
-pub overflow_add-stop-in-loop-left-2 : goal.overflow_add-stop-in-loop-left-2
-overflow_add-stop-in-loop-left-2 t c =
-    omega (arith, c.well_formed, (along-within c.loop-left.invariant).0)
 
 pub after-requires : goal.after-requires
 after-requires t c =
