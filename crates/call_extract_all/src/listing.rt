@@ -42,17 +42,17 @@ fn list_leaf(
     leaf: Leaf,
 ) -> Listed
     requires list_fits { ListFits (match_under (settings_of listing.settings)) listing.filter.s.now listing.filter.rec listing.count
-        leaf.at leaf.position listing.to.now knns.old others.old gone.old }
-    requires of_tree { OfTree listing.filter.s.now leaf.at
-        (Tabled listing.filter.rows.numbers.now listing.filter.rows.next.now leaf.at leaf.index) }
-    requires of_tree_in { OfTreeIn listing.filter.s.now leaf.at (λ c t. NodeIs c listing.filter.s.now leaf.at leaf.node t) }
-    requires leaf_alone { OfTree listing.filter.s.now leaf.at (λ t. leaves t ≡ t ∷ []) }
+        leaf.stop.at leaf.stop.position listing.to.now knns.old others.old gone.old }
+    requires of_tree { OfTree listing.filter.s.now leaf.stop.at
+        (Tabled listing.filter.rows.numbers.now listing.filter.rows.next.now leaf.stop.at leaf.stop.index) }
+    requires of_tree_in { OfTreeIn listing.filter.s.now leaf.stop.at (λ c t. NodeIs c listing.filter.s.now leaf.stop.at leaf.node t) }
+    requires leaf_alone { OfTree listing.filter.s.now leaf.stop.at (λ t. leaves t ≡ t ∷ []) }
     ensures { ListPut (match_under (settings_of listing.entry.settings)) listing.entry.filter.s.now listing.entry.filter.rec
-        listing.entry.count leaf.at leaf.position listing.entry.to.now knns.old knns.new others.old others.new gone.old gone.new result }
+        listing.entry.count leaf.stop.at leaf.stop.position listing.entry.to.now knns.old knns.new others.old others.new gone.old gone.new result }
 {
     let src = listing.filter.s;
     let indexes = ColumnIndexes::FromTable(listing.to);
-    let position = leaf.position;
+    let position = leaf.stop.position;
     if let Ok(predicate) = match_knn(listing.filter, leaf, listing.settings) {
         let w = put_predicate(knns, src, predicate, position, indexes);
         gone[position] = 1;
@@ -100,12 +100,7 @@ pub fn list_matches(
     let rows = listing.filter.rows;
     let node = node_at(listing.filter.s, from.at);
     let Node::And(left) = node else {
-        let leaf = Leaf {
-            at: from.at,
-            index: from.index,
-            position: from.position,
-            node,
-        };
+        let leaf = Leaf { stop: from, node };
         return list_leaf(knns, others, gone, listing, leaf);
     };
     let below = from.index + 1;

@@ -27,30 +27,30 @@ use Rattle.leaf_matching.specs.declared.matching.NoMatch.TheVariants.{Unmatched,
 
 -- The rows have a place for it.
 pub leaf-within : {s numbers next : List ℕ} {rec : ℕ} {leaf : Leaf} → LeafThere s numbers next rec leaf
-    → (leaf.index < length numbers) × (leaf.index < length next)
+    → (leaf.stop.index < length numbers) × (leaf.stop.index < length next)
 leaf-within there = tabled-within (there.tabled _ _ there.framed.2.tree)
 
 -- ---- a leaf that is a function
 
 module _ {s numbers next : List ℕ} {rec : ℕ} {leaf : Leaf} (there : LeafThere s numbers next rec leaf) {k : Called}
     (told : leaf.node ≡ Call k) where
-  its-call : {records : List Record} {t : Expr} → Over s rec leaf.at records t
-      → CallIs (index_below (length records)) s leaf.at k t
+  its-call : {records : List Record} {t : Expr} → Over s rec leaf.stop.at records t
+      → CallIs (index_below (length records)) s leaf.stop.at k t
   its-call {records} {t} over = rw told at (there.is (index_below (length records)) t over.tree)
 
-  call-over : {records : List Record} {t : Expr} → (over : Over s rec leaf.at records t)
+  call-over : {records : List Record} {t : Expr} → (over : Over s rec leaf.stop.at records t)
       → CallOver s rec k records (its-call over).name (its-call over).arguments
   call-over over = record { entries = over.entries; stands = (its-call over).stands }
 
   pub call-leaf : (d : ℕ) (kind : Predicate → Bool) (r : Matching) → OfCallFrame s rec k (CallMatchingBy d kind s rec r)
-      → {records : List Record} {t : Expr} → Over s rec leaf.at records t → LeafMatchingBy d kind s rec r records t
+      → {records : List Record} {t : Expr} → Over s rec leaf.stop.at records t → LeafMatchingBy d kind s rec r records t
   call-leaf d kind r answer {records} {t} over =
-      let it : CallIs (index_below (length records)) s leaf.at k t = its-call over in
+      let it : CallIs (index_below (length records)) s leaf.stop.at k t = its-call over in
       subst (λ (t : Expr). MatchingIs kind s rec records (match_leaf_by d records t) r) (sym it.is)
       (answer records it.name it.arguments (call-over over))
 
   -- Its arguments stand there, and are in the rows after it.
-  pub call-given : CallFramed s rec k × OfCall s k (λ c name. TabledAll numbers next k.first (leaf.index + 1))
+  pub call-given : CallFramed s rec k × OfCall s k (λ c name. TabledAll numbers next k.first (leaf.stop.index + 1))
   call-given =
       let over = there.framed.2 in
       let it = its-call over in (

@@ -62,17 +62,17 @@ module _ {match : Matcher} {s : List ℕ} {at position : ℕ} {records : List Re
   leaf-neither h k = leaf-unmatched (no-match (match records t) h k)
 
 module _ {s numbers next : List ℕ} {rec : ℕ} {leaf : Leaf} (there : LeafThere s numbers next rec leaf) {records : List Record} {t : Expr}
-    (over : Over s rec leaf.at records t) where
-  here-seen : (predicate : SpatialPredicate) → SeenHere leaf.at leaf.position (seen_here numbers leaf predicate) t
+    (over : Over s rec leaf.stop.at records t) where
+  here-seen : (predicate : SpatialPredicate) → SeenHere leaf.stop.at leaf.stop.position (seen_here numbers leaf predicate) t
   here-seen predicate = record { place = refl; ends = tabled-end (there.tabled _ t over.tree); counted = refl }
 
 module _ {match : Matcher} {s numbers next : List ℕ} {rec : ℕ} {leaf : Leaf} (there : LeafThere s numbers next rec leaf)
-    {records : List Record} {t : Expr} (over : Over s rec leaf.at records t) where
+    {records : List Record} {t : Expr} (over : Over s rec leaf.stop.at records t) where
   pub leaf-stops : (predicate : SpatialPredicate) → Matches is_knn s rec records predicate (match records t)
-      → (first : Option definition.Pick) → StoppedIs match s leaf.at leaf.position first (seen_here numbers leaf predicate) records t
+      → (first : Option definition.Pick) → StoppedIs match s leaf.stop.at leaf.stop.position first (seen_here numbers leaf predicate) records t
   unfolding read_leaf is_knn_match
   leaf-stops predicate m first = record {
-    p = record { position = leaf.position; predicate = m.q };
+    p = record { position = leaf.stop.position; predicate = m.q };
     is = rw (m.is, m.passes);
     near = rw m.is m.passes;
     seen-is = record { position = refl; stands = m.stands };
@@ -81,10 +81,10 @@ module _ {match : Matcher} {s numbers next : List ℕ} {rec : ℕ} {leaf : Leaf}
 
   pub leaf_first : (predicate : SpatialPredicate) → Matches is_other s rec records predicate (match records t)
       → (first : Option definition.Pick) → Remembers s records None first
-      → GoingIs match s leaf.at leaf.position first None (Some (seen_here numbers leaf predicate)) records t
+      → GoingIs match s leaf.stop.at leaf.stop.position first None (Some (seen_here numbers leaf predicate)) records t
   unfolding read_leaf is_knn_match first_of
   leaf_first predicate m first e =
-      let q : definition.Pick = record { position = leaf.position; predicate = m.q } in
+      let q : definition.Pick = record { position = leaf.stop.position; predicate = m.q } in
       let far : is_knn m.q ≡ false = not-other (is_knn m.q) m.passes in
       record {
         now-first = some q;

@@ -36,9 +36,9 @@ matches match records t = map (match records) (leaves t)
 
 -- An expression stands there over its records, it is in the rows at the leaf's index, and it is what the leaf's node says.
 pub record LeafThere (s numbers next : List ℕ) (rec : ℕ) (leaf : Leaf) : Type 0 where
-  pub framed : Framed s rec leaf.at
-  pub tabled : OfTree s leaf.at (Tabled numbers next leaf.at leaf.index)
-  pub is : OfTreeIn s leaf.at (λ c t. NodeIs c s leaf.at leaf.node t)
+  pub framed : Framed s rec leaf.stop.at
+  pub tabled : OfTree s leaf.stop.at (Tabled numbers next leaf.stop.at leaf.stop.index)
+  pub is : OfTreeIn s leaf.stop.at (λ c t. NodeIs c s leaf.stop.at leaf.node t)
 
 -- The answer for a leaf.
 abbrev pub LeafMatched : Matcher → (kind : Predicate → Bool) (s : List ℕ) (rec : ℕ) → Matching

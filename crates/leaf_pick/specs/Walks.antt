@@ -51,7 +51,7 @@ PassedIs node r =
 -- The leaf with its match, as it is remembered.
 abbrev pub seen_here : (numbers : List ℕ) → Leaf → SpatialPredicate → Seen
 seen_here numbers leaf predicate =
-    record { predicate = predicate; position = leaf.position; leaf = leaf.at; end = end_at numbers leaf.index }
+    record { predicate = predicate; position = leaf.stop.position; leaf = leaf.stop.at; end = end_at numbers leaf.stop.index }
 
 -- It was seen here.
 pub record SeenHere (at position : ℕ) (seen : Seen) (t : Expr) : Type 0 where
@@ -86,10 +86,10 @@ pub record GoingIs (match : Matcher) (s : List ℕ) (at position : ℕ) (first :
 abbrev pub ReadIs : Matcher → (s : List ℕ) → Leaf → Memory → ControlFlow Seen Memory → (records : List Record) → Expr → Type 0
 ReadIs match s leaf memory (Break seen) records t =
     (first : optional.Option definition.Pick) → Remembers s records memory first
-    → StoppedIs match s leaf.at leaf.position first seen records t
+    → StoppedIs match s leaf.stop.at leaf.stop.position first seen records t
 ReadIs match s leaf memory (Continue after) records t =
     (first : optional.Option definition.Pick) → Remembers s records memory first
-    → GoingIs match s leaf.at leaf.position first memory after records t
+    → GoingIs match s leaf.stop.at leaf.stop.position first memory after records t
 
 -- ---- the whole walk
 

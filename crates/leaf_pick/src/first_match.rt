@@ -56,49 +56,47 @@ pub struct Stop {
     pub position: usize,
 }
 
-// An AND-leaf: where it stands, its index in the rows, its position among the AND-leaves, and what it is. That it is there is a
-// `requires` of each function: a ghost field of that was refused, since the fact holds a frame and so has more than one proof.
+// An AND-leaf that a walk comes to, and what it is. That it is there is a `requires` of each function: a ghost field of that was refused,
+// since the fact holds a frame and so has more than one proof.
 #[derive(Clone, Copy)]
 pub struct Leaf {
-    pub at: usize,
-    pub index: usize,
-    pub position: usize,
+    pub stop: Stop,
     pub node: Node,
 }
 
 // A leaf as KNN, which only a function is.
 pub fn match_knn(filter: Filter, leaf: Leaf, settings: Settings) -> Matching
     requires { LeafThere filter.s.now filter.rows.numbers.now filter.rows.next.now filter.rec leaf }
-    ensures { OfFrame filter.entry.s.now filter.entry.rec leaf.at
+    ensures { OfFrame filter.entry.s.now filter.entry.rec leaf.stop.at
         (LeafMatched (match_under (settings_of settings)) is_knn filter.entry.s.now filter.entry.rec result) }
 {
     let Node::Call(called) = leaf.node else {
         return Err(NoMatch::NotAsked);
     };
-    let matching = match_knn_predicate(filter, called, leaf.index + 1, settings.default_k);
+    let matching = match_knn_predicate(filter, called, leaf.stop.index + 1, settings.default_k);
     only_allowed(settings, matching)
 }
 
 // A leaf as a relation, else as a distance, whatever the settings.
 fn match_relation_or_distance(filter: Filter, leaf: Leaf) -> Matching
     requires { LeafThere filter.s.now filter.rows.numbers.now filter.rows.next.now filter.rec leaf }
-    ensures { OfFrame filter.entry.s.now filter.entry.rec leaf.at
+    ensures { OfFrame filter.entry.s.now filter.entry.rec leaf.stop.at
         (LeafMatching is_other filter.entry.s.now filter.entry.rec result) }
 {
     let Node::Call(called) = leaf.node else {
-        return match_distance_predicate(filter, leaf.at, leaf.index);
+        return match_distance_predicate(filter, leaf.stop.at, leaf.stop.index);
     };
-    match match_relation_predicate(filter, called, leaf.index + 1) {
+    match match_relation_predicate(filter, called, leaf.stop.index + 1) {
         Ok(predicate) => Ok(predicate),
         Err(NoMatch::Unmatched) => Err(NoMatch::Unmatched),
-        Err(NoMatch::NotAsked) => match_distance_predicate(filter, leaf.at, leaf.index),
+        Err(NoMatch::NotAsked) => match_distance_predicate(filter, leaf.stop.at, leaf.stop.index),
     }
 }
 
 // What the settings leave of it.
 pub fn match_other(filter: Filter, leaf: Leaf, settings: Settings) -> Matching
     requires { LeafThere filter.s.now filter.rows.numbers.now filter.rows.next.now filter.rec leaf }
-    ensures { OfFrame filter.entry.s.now filter.entry.rec leaf.at
+    ensures { OfFrame filter.entry.s.now filter.entry.rec leaf.stop.at
         (LeafMatched (match_under (settings_of settings)) is_other filter.entry.s.now filter.entry.rec result) }
 {
     only_allowed(settings, match_relation_or_distance(filter, leaf))
@@ -107,7 +105,7 @@ pub fn match_other(filter: Filter, leaf: Leaf, settings: Settings) -> Matching
 // A leaf as what the pass looks for.
 pub fn match_wanted(filter: Filter, leaf: Leaf, pass: Pass) -> Matching
     requires { LeafThere filter.s.now filter.rows.numbers.now filter.rows.next.now filter.rec leaf }
-    ensures { OfFrame filter.entry.s.now filter.entry.rec leaf.at
+    ensures { OfFrame filter.entry.s.now filter.entry.rec leaf.stop.at
         (LeafMatched (match_under (settings_of pass.settings)) (wants pass.wanted) filter.entry.s.now filter.entry.rec result) }
 {
     match pass.wanted {
@@ -119,27 +117,28 @@ pub fn match_wanted(filter: Filter, leaf: Leaf, pass: Pass) -> Matching
 // What a leaf is to a pass.
 pub fn leaf_match(filter: Filter, leaf: Leaf, pass: Pass, parent: usize) -> Found
     requires leaf_there { LeafThere filter.s.now filter.rows.numbers.now filter.rows.next.now filter.rec leaf }
-    requires of_frame { OfFrame filter.s.now filter.rec leaf.at (λ records t. leaves t ≡ t ∷ []) }
-    requires position_le_at { leaf.position ≤ leaf.at }
-    ensures { OfFrame filter.entry.s.now filter.entry.rec leaf.at
+    requires of_frame { OfFrame filter.s.now filter.rec leaf.stop.at (λ records t. leaves t ≡ t ∷ []) }
+    requires position_le_at { leaf.stop.position ≤ leaf.stop.at }
+    ensures { OfFrame filter.entry.s.now filter.entry.rec leaf.stop.at
         (FoundIs (match_under (settings_of pass.settings)) pass.wanted filter.entry.s.now filter.entry.rec
-        leaf.at leaf.position parent result) }
+        leaf.stop.at leaf.stop.position parent result) }
 {
     match match_wanted(filter, leaf, pass) {
         Ok(predicate) => ControlFlow::Break(Pick {
             predicate,
-            position: leaf.position,
+            position: leaf.stop.position,
             cut: Cut {
-                leaf: leaf.at,
-                end: filter.rows.end(leaf.index),
+                leaf: leaf.stop.at,
+                end: filter.rows.end(leaf.stop.index),
                 parent,
             },
         }),
-        Err(_) => ControlFlow::Continue(leaf.position + 1),
+        Err(_) => ControlFlow::Continue(leaf.stop.position + 1),
     }
 }
 
-// The first match that is wanted below a node, where the And above the node is known. A turn goes from an And to its right side, and no range has those.
+// The first match that is wanted below a node, where the And above the node is known. A turn goes from an And to its right side, and no
+// range has those.
 pub fn first_match(filter: Filter, pass: Pass, from: Stop, parent: usize) -> Found
     requires framed { Framed filter.s.now filter.rec from.at }
     requires of_tree { OfTree filter.s.now from.at (Tabled filter.rows.numbers.now filter.rows.next.now from.at from.index) }
@@ -153,13 +152,7 @@ pub fn first_match(filter: Filter, pass: Pass, from: Stop, parent: usize) -> Fou
     loop {
         let node = node_at(filter.s, stop.at);
         let Node::And(left) = node else {
-            let leaf = Leaf {
-                at: stop.at,
-                index: stop.index,
-                position: stop.position,
-                node,
-            };
-            return leaf_match(filter, leaf, pass, above);
+            return leaf_match(filter, Leaf { stop, node }, pass, above);
         };
         above = stop.at;
         let below = stop.index + 1;

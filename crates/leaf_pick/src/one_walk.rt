@@ -10,7 +10,7 @@ ghost use Rattle.terms.specs.Settings.{settings_of};
 ghost use Rattle.leaf_pick.specs.Picks.{LeafThere};
 ghost use Rattle.leaf_pick.specs.Walks.{PassedIs, seen_here, ReadIs, WalkIs, WalkedIs, Spotted, ParentIs};
 
-use super::first_match::{Leaf, Pick, match_knn, match_other};
+use super::first_match::{Leaf, Pick, Stop, match_knn, match_other};
 use expression::cuts::Cut;
 use expression::leaves::{Node, node_at};
 use leaf_matching::filter::Filter;
@@ -59,21 +59,21 @@ fn is_passed(node: Node) -> bool
 
 // A leaf with its match, as it is remembered.
 fn seen_here(rows: Rows, leaf: Leaf, predicate: SpatialPredicate) -> Seen
-    requires { leaf.index < length rows.numbers.now }
+    requires { leaf.stop.index < length rows.numbers.now }
     ensures { result ≡ seen_here rows.entry.numbers.now leaf predicate }
 {
     Seen {
         predicate,
-        position: leaf.position,
-        leaf: leaf.at,
-        end: rows.end(leaf.index),
+        position: leaf.stop.position,
+        leaf: leaf.stop.at,
+        end: rows.end(leaf.stop.index),
     }
 }
 
 // A KNN match stops the walk, another is remembered if it is the first.
 pub fn read_leaf(filter: Filter, leaf: Leaf, memory: Option<Seen>, settings: Settings) -> Read
     requires { LeafThere filter.s.now filter.rows.numbers.now filter.rows.next.now filter.rec leaf }
-    ensures { OfFrame filter.entry.s.now filter.entry.rec leaf.at
+    ensures { OfFrame filter.entry.s.now filter.entry.rec leaf.stop.at
         (ReadIs (match_under (settings_of settings)) filter.entry.s.now leaf memory result) }
 {
     if is_passed(leaf.node) {
@@ -115,12 +115,12 @@ pub fn walk_once(filter: Filter, at: usize, settings: Settings) -> Walk
             place = left;
             index += 1;
         } else {
-            let leaf = Leaf {
+            let stop = Stop {
                 at: place,
                 index,
                 position,
-                node,
             };
+            let leaf = Leaf { stop, node };
             match read_leaf(filter, leaf, walk.memory, settings) {
                 ControlFlow::Break(seen) => {
                     walk.memory = Some(seen);
