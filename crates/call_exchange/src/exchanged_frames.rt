@@ -47,7 +47,7 @@ pub fn put_frame_exchanged(out: &mut [u8], src: &[u8], f: Frame, end: usize) -> 
     let records = Records {
         src,
         rec: f.records,
-        count: f.columns as usize,
+        count: f.columns,
     };
     let w = put_frame_head(out, records.count);
     let v = put_records_at(out, w, records);

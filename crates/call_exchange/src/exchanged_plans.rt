@@ -16,7 +16,7 @@ fn put_extraction_exchanged(out: &mut [u8], src: &[u8], x: Extraction, end: usiz
 {
     let predicate = x.predicate;
     let swapped = predicate.swap_for_swapped_children();
-    let position = x.position as usize;
+    let position = x.position;
     let rest = x.remainder;
     let w = put_predicate(out, src, swapped, position, ColumnIndexes::Kept);
     w + put_remainder_exchanged(&mut out[w..], src, rest, end)

@@ -17,7 +17,7 @@ pub(crate) fn put_extraction(out: &mut [u8], src: &[u8], f: Frame, pick: Pick) -
     let records = Records {
         src,
         rec: f.records,
-        count: f.columns as usize,
+        count: f.columns,
     };
     let mut to = [0u16; 256];
     child_indexes(&mut to, records);

@@ -48,7 +48,7 @@ fn put_left(out: &mut [u8], row: &mut [u8], given: Given, gone: &[u8], rounds: u
     let records = Records {
         src,
         rec: f.records,
-        count: f.columns as usize,
+        count: f.columns,
     };
     put_last(out, row, records, f.root, given.rows, gone)
 }
@@ -70,7 +70,7 @@ pub fn put_all(
     let records = Records {
         src: given.src,
         rec: f.records,
-        count: f.columns as usize,
+        count: f.columns,
     };
     let mut to = [0u16; 256];
     child_indexes(&mut to, records);

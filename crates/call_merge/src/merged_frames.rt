@@ -18,7 +18,7 @@ fn put_tables(out: &mut [u8], two: Two) -> usize
 {
     let old = two.old.parts;
     let new = two.new.parts;
-    let count = (old.columns + new.columns) as usize;
+    let count = old.columns + new.columns;
     let w = put_frame_head(out, count);
     let v = copy_at(out, w, two.old.bytes, old.records, old.root);
     copy_at(out, v, two.new.bytes, new.records, new.root)
@@ -32,7 +32,7 @@ fn put_raised(out: &mut [u8], w: usize, given: Given, by: usize) -> usize
         out.new result }
 {
     let mut to = [0u16; 256];
-    let count = given.parts.columns as usize;
+    let count = given.parts.columns;
     raised_indexes(&mut to, by, count);
     let copied = reproject_column_references(&mut out[w..], given.bytes, given.parts.root, &to);
     w + copied.wrote
@@ -45,7 +45,7 @@ fn put_and(out: &mut [u8], two: Two) -> usize
         out.old out.new result }
 {
     let old = two.old.bytes;
-    let by = two.old.parts.columns as usize;
+    let by = two.old.parts.columns;
     out[0] = 2;
     out[1] = 0;
     let v = copy_at(out, 2, old, two.old.parts.root, old.len());

@@ -51,7 +51,7 @@ pub fn collect_extraction(row: &mut [u32], src: &[u8], x: Extraction) -> usize
             let records = Records {
                 src,
                 rec: passed.end + 3,
-                count: f.columns as usize,
+                count: f.columns,
             };
             collect_records(row, records, passed.index)
         }

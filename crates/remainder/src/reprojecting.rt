@@ -34,7 +34,7 @@ pub fn reproject_remainder(out: &mut [u8], src: &[u8], at: usize, to: &[u16], cu
 
 // The same for both sides of an And.
 #[cycle(reproject_remainder_reproject_sides)]
-fn reproject_sides(out: &mut [u8], src: &[u8], at: usize, to: &[u16], cut: Cut) -> Copied
+pub fn reproject_sides(out: &mut [u8], src: &[u8], at: usize, to: &[u16], cut: Cut) -> Copied
     requires { SidesFit src.now at to.now cut out.old }
     ensures { SidesCopied src.now at to.now cut out.old out.new result }
 {
