@@ -1,20 +1,19 @@
 -- Names are the same bytes: by length, and then byte by byte, each in small letters.
 use Rattle.std.specs.Prelude.{if◌then◌else◌}
-use Prim.Native.Nat.{ℕ, zero, suc, ◌+◌, ◌-◌, ◌≤◌, ◌<◌}
+use Prim.Native.Nat.{ℕ, zero, suc, ◌+◌, ◌≤◌, ◌<◌}
 use native.Mathlib.Numerals.{add-one}
 use native.Mathlib.Omega.{arith}
 use mathlib.Core.Path.{◌≡◌, refl, sym, ap, ◌∙◌}
 use mathlib.Core.Bool.{Bool, true, false, ◌&&◌}
 use mathlib.Core.List.{List, [], ◌∷◌}
-use lib.ListN.{length, drop, get_or, length-take, length-drop, drop_of_length-le}
-use lib.Seq.{drop-cons, get_or-take, get_or-drop}
+use lib.ListN.{length, drop, get_or, drop_of_length-le}
+use lib.Seq.{drop-cons}
 use lib.Dec.{eqb, leb}
 use lib.Pointwise.{pointwise}
 use borrow.Author.Tests.{eq-eqb, ne_eqb, le-leb, le-ltb, lt-ltb, leb-true, leb-false}
 use Rattle.std.specs.Char.{to_ascii_lowercase}
 use Rattle.definitions.specs.Basics.{same_name}
 use Rattle.definitions.specs.Logical.{lower_case}
-use Rattle.expression.specs.Places.{part}
 
 pub by_bytes : (a b : List ℕ) → pointwise eqb a b ≡ same_name a b
 unfolding same_name
@@ -52,16 +51,6 @@ small_at [] i = refl
 small_at (b ∷ x) zero = refl
 small_at (b ∷ x) (suc i) = small_at x i
 
--- ---- a part of the bytes
-
-pub part_length : (s : List ℕ) (at end : ℕ) → at ≤ end → end ≤ length s → length (part s at end) ≡ end - at
-unfolding part
-part_length s at end low high = simp (length-take, length-drop) (omega arith)
-
-part_at : (s : List ℕ) (at end i : ℕ) → i < end - at → get_or (part s at end) i 0 ≡ get_or s (at + i) 0
-unfolding part
-part_at s at end i h = rw (get_or-take (end - at) (drop at s) i 0 h, get_or-drop)
-
 -- ---- two lists of bytes
 
 pub and-false : (t : Bool) → t && false ≡ false
@@ -85,32 +74,28 @@ ahead : (a b : List ℕ) (i : ℕ) → i < length a → i < length b → (t : Bo
 unfolding same_name
 ahead a b i h k t e = rw (add-one, drop-cons a i 0 h, drop-cons b i 0 k, e)
 
--- ---- a part of the bytes in small letters, and a name
+-- ---- a name in small letters, and another
 
-module _ (s name : List ℕ) (at end : ℕ) (low : at ≤ end) (high : end ≤ length s) where
-  name-length : length (lower_case (part s at end)) ≡ end - at
-  name-length = small-length (part s at end) ∙ part_length s at end low high
+module _ (x name : List ℕ) where
+  pub other_length : (length x ≡ length name → ⊥) → same_name (lower_case x) name ≡ false
+  other_length h = unlike (lower_case x) name (λ e. h (sym (small-length x) ∙ e))
 
-  pub other_length : (end - at ≡ length name → ⊥) → same_name (lower_case (part s at end)) name ≡ false
-  other_length h = unlike (lower_case (part s at end)) name (λ e. h (sym name-length ∙ e))
-
-  module _ (long : end - at ≡ length name) (i : ℕ) (inv : SoFar (lower_case (part s at end)) name i) where
-    pub same-all : length name ≤ i → same_name (lower_case (part s at end)) name ≡ true
+  module _ (long : length x ≡ length name) (i : ℕ) (inv : SoFar (lower_case x) name i) where
+    pub same-all : length name ≤ i → same_name (lower_case x) name ≡ true
     unfolding same_name
     same-all h = inv.1
-        ∙ rw (drop_of_length-le (lower_case (part s at end)) {i = i} (omega (arith, name-length)), drop_of_length-le name {i = i} h)
+        ∙ rw (drop_of_length-le (lower_case x) {i = i} (omega (arith, small-length x)), drop_of_length-le name {i = i} h)
 
-    module _ (h : i < length name) (b : ℕ) (e : b ≡ letter (get_or s (at + i) 0)) where
-      byte-is : b ≡ get_or (lower_case (part s at end)) i 0
-      byte-is = e ∙ ap letter (sym (part_at s at end i (omega arith))) ∙ sym (small_at (part s at end) i)
+    module _ (h : i < length name) (b : ℕ) (e : b ≡ letter (get_or x i 0)) where
+      byte-is : b ≡ get_or (lower_case x) i 0
+      byte-is = e ∙ sym (small_at x i)
 
-      pub same_more : b ≡ get_or name i 0 → SoFar (lower_case (part s at end)) name (i + 1)
+      pub same_more : b ≡ get_or name i 0 → SoFar (lower_case x) name (i + 1)
       same_more k = (
         omega arith,
-        inv.1
-            ∙ ahead (lower_case (part s at end)) name i (omega (arith, name-length)) h true (eq-eqb _ _ (sym byte-is ∙ k)),
+        inv.1 ∙ ahead (lower_case x) name i (omega (arith, small-length x)) h true (eq-eqb _ _ (sym byte-is ∙ k)),
       )
 
-      pub same-less : (b ≡ get_or name i 0 → ⊥) → same_name (lower_case (part s at end)) name ≡ false
-      same-less k = inv.1
-          ∙ ahead (lower_case (part s at end)) name i (omega (arith, name-length)) h false (ne_eqb _ _ (λ f. k (byte-is ∙ f)))
+      pub same-less : (b ≡ get_or name i 0 → ⊥) → same_name (lower_case x) name ≡ false
+      same-less k =
+          inv.1 ∙ ahead (lower_case x) name i (omega (arith, small-length x)) h false (ne_eqb _ _ (λ f. k (byte-is ∙ f)))

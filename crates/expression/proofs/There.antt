@@ -31,10 +31,7 @@ module _ {s : List ℕ} {at : ℕ} (tree : Tree s at) {r : Node} (is : OfTreeIn 
   pub call-there : {k : Called} → r ≡ Call k → Calls s k
   call-there e = let b = rw e at (is tree.0 tree.1 tree.2) in (tree.0, b.name, b.arguments, b.stands)
 
-  -- Its name and its arguments.
-  pub name-there : {k : Called} → r ≡ Call k → (k.name ≤ k.end) × (k.end ≤ length s)
-  name-there e = let call = call-there e in (call.3.low, call.3.high)
-
+  -- Its arguments.
   pub arguments-there : {k : Called} → r ≡ Call k → Trees s k.first k.count
   arguments-there e = let call = call-there e in (call.0, call.2, call.3.row)
 

@@ -1,6 +1,8 @@
 // What the walks over AND-leaves tell apart.
+ghost use Rattle.std.specs.Prelude.{◌≡◌};
+ghost use Rattle.expression.specs.Places.{part};
 ghost use Rattle.expression.specs.Nodes.{Tree, OfTreeIn};
-ghost use Rattle.expression.specs.Leaves.{NodeIs};
+ghost use Rattle.expression.specs.Leaves.{Calls, NodeIs};
 
 use super::heads::{Head, head_at};
 
@@ -11,6 +13,16 @@ pub struct Called {
     pub end: usize,
     pub first: usize,
     pub count: usize,
+}
+
+impl Called {
+    // Its name.
+    pub fn name<'a>(self, s: &'a [u8]) -> &'a [u8]
+        requires { Calls s.now self }
+        ensures { result.now ≡ part s.now self.name self.end }
+    {
+        &s[self.name..self.end]
+    }
 }
 
 // And and the other operators with the place of their left child, a function, or any other node with its head. An operator is a byte up to

@@ -9,7 +9,6 @@ use Rattle.definitions.specs.Expression as tree
 use Rattle.definitions.specs.Decode.{frame_body}
 use Rattle.definitions.specs.Good.{nodes}
 use Rattle.definitions.specs.Leaves.{arity}
-use Rattle.definitions.specs.Basics as basics
 use Rattle.definitions.specs.Readers.{read, byte}
 use Rattle.expression.specs.Nodes.{OfTree}
 use Rattle.frame_reader.specs.Arities.{Listed}
@@ -23,9 +22,8 @@ use Rattle.theorems.proofs.ReaderLaws.{step}
 use Rattle.theorems.proofs.InverseFrame.{opened}
 use Rattle.frame_reader.specs.declared.frame_bodies.Frame.{Frame}
 use Rattle.frame_reader.specs.declared.frame_bodies.Body.{Body}
-use Rattle.terms.specs.declared.refusals.Refusal.{Refusal}
-use Rattle.std.specs.Prelude.{Result, Ok, Err}
-use Rattle.frame_reader.specs.Frames.{FrameAt, BodyIs, BodyIn, Roomy, PhysicalIs, PhysicalIn, first_of, opening}
+use Rattle.std.specs.Prelude.{Ok}
+use Rattle.frame_reader.specs.Frames.{FrameAt, BodyIn, Roomy, first_of, opening}
 use Rattle.frame_reader.proofs.Standing.{expr-stands}
 
 -- Bytes that were opened are few enough.

@@ -19,10 +19,10 @@ pub(crate) fn enough_arguments(s: &[u8], call: Called) -> bool
     ensures { OfCall s.now call (λ c name arguments. result ≡ call_arity name (count_of arguments)) }
 {
     let count = call.count;
-    if same_name(s, call.name, call.end, b"st_dwithin") {
+    if same_name(call.name(s), b"st_dwithin") {
         return 3 <= count;
     }
-    match SpatialRelationType::from_name(s, call.name, call.end) {
+    match SpatialRelationType::from_name(call.name(s)) {
         Some(_) => 2 <= count,
         None => true,
     }

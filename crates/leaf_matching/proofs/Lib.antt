@@ -10,3 +10,4 @@ pub mod KnnLaws
 pub mod KnnOptionLaws
 pub mod DistanceLaws
 pub mod RelationLaws
+pub mod Missing

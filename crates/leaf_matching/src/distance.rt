@@ -34,18 +34,12 @@ pub fn match_distance_predicate(filter: Filter, at: usize, i: usize) -> Matching
     requires of_tree { OfTree filter.s.now at (Tabled filter.rows.numbers.now filter.rows.next.now at i) }
     ensures { OfFrame filter.entry.s.now filter.entry.rec at (LeafMatching is_distance filter.entry.s.now filter.entry.rec result) }
 {
-    let Some(parsed) = parse_distance_predicate(filter.s, at, filter.rows, i) else {
-        return Err(NoMatch::NotAsked);
-    };
+    let parsed = parse_distance_predicate(filter.s, at, filter.rows, i).ok_or(NoMatch::NotAsked)?;
     let distance = side_of_column_references(filter.s, filter.rec, parsed.arg_distance);
     let arg0 = side_of_column_references(filter.s, filter.rec, parsed.arg0);
     let arg1 = side_of_column_references(filter.s, filter.rec, parsed.arg1);
-    let Some(distance_side) = side_of_distance(distance.side) else {
-        return Err(NoMatch::Unmatched);
-    };
-    let Some(order) = resolve_column_reference_sides(arg0.side, arg1.side) else {
-        return Err(NoMatch::Unmatched);
-    };
+    let distance_side = side_of_distance(distance.side).ok_or(NoMatch::Unmatched)?;
+    let order = resolve_column_reference_sides(arg0.side, arg1.side).ok_or(NoMatch::Unmatched)?;
     let predicate = DistancePredicate {
         left: parsed.arg0,
         left_end: parsed.arg1,

@@ -84,19 +84,16 @@ pub fn match_knn_predicate(filter: Filter, called: Called, i: usize, default_k: 
     ensures { OfCallFrame filter.entry.s.now filter.entry.rec called
         (CallMatchingBy default_k is_knn filter.entry.s.now filter.entry.rec result) }
 {
-    if !same_name(filter.s, called.name, called.end, b"st_knn") {
+    if !same_name(called.name(filter.s), b"st_knn") {
         return Err(NoMatch::NotAsked);
     }
     if called.count < 2 || 5 < called.count {
         return Err(NoMatch::NotAsked);
     }
     let geometries = resolve_geometries(filter, called.first, i);
-    let Some(options) = knn_options(filter.s, geometries.end, called.count - 2, default_k) else {
-        return Err(NoMatch::Unmatched);
-    };
-    let Some(order) = geometries.order else {
-        return Err(NoMatch::Unmatched);
-    };
+    let given = knn_options(filter.s, geometries.end, called.count - 2, default_k);
+    let options = given.ok_or(NoMatch::Unmatched)?;
+    let order = geometries.order.ok_or(NoMatch::Unmatched)?;
     let probe_side = match order {
         Order::LeftRight => JoinSide::Left,
         Order::RightLeft => JoinSide::Right,

@@ -22,17 +22,13 @@ pub fn match_relation_predicate(filter: Filter, called: Called, i: usize) -> Mat
     ensures { OfCallFrame filter.entry.s.now filter.entry.rec called
         (CallMatching is_relation filter.entry.s.now filter.entry.rec result) }
 {
-    let named = SpatialRelationType::from_name(filter.s, called.name, called.end);
-    let Some(relation_type) = named else {
-        return Err(NoMatch::NotAsked);
-    };
+    let named = SpatialRelationType::from_name(called.name(filter.s));
+    let relation_type = named.ok_or(NoMatch::NotAsked)?;
     if called.count < 2 {
         return Err(NoMatch::NotAsked);
     }
     let geometries = resolve_geometries(filter, called.first, i);
-    let Some(order) = geometries.order else {
-        return Err(NoMatch::Unmatched);
-    };
+    let order = geometries.order.ok_or(NoMatch::Unmatched)?;
     Ok(SpatialPredicate::Relation(match order {
         Order::LeftRight => RelationPredicate {
             left: called.first,

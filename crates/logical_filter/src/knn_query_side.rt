@@ -26,7 +26,7 @@ fn find_st_knn_call(s: &[u8], at: usize) -> ControlFlow<Called, usize>
         }
         Node::Binary(_, left) => Continue(end_children(s, left, 2)),
         Node::Call(call) => {
-            if same_name_ignore_case(s, call.name, call.end, b"st_knn") {
+            if same_name_ignore_case(call.name(s), b"st_knn") {
                 Break(call)
             } else {
                 Continue(end_children(s, call.first, call.count))

@@ -6,7 +6,6 @@ ghost use Rattle.definitions.specs.Expression.{binary, nil, cons};
 ghost use Rattle.definitions.specs.Encode.{expr_bytes, exprs_bytes};
 ghost use Rattle.definitions.specs.Leaves.{leaves};
 ghost use Rattle.definitions.specs.Logical.{lower_case, function_name, leaf_name, mask};
-ghost use Rattle.expression.specs.Places.{part};
 ghost use Rattle.expression.specs.Nodes.{Tree, OfTree};
 ghost use Rattle.expression.specs.Leaves.{Pair, OfPair};
 ghost use Rattle.logical_filter.specs.Logicals.{spellings, apart, NamesAre, PredicateNamesAre};
@@ -24,7 +23,7 @@ fn is_distance_expr(s: &[u8], at: usize) -> bool
     let Node::Call(call) = node_at(s, at) else {
         return false;
     };
-    same_name_ignore_case(s, call.name, call.end, b"st_distance")
+    same_name_ignore_case(call.name(s), b"st_distance")
 }
 
 // The 15 names, bit 0 first.
@@ -47,23 +46,21 @@ const SPATIAL_NAMES: [&[u8]; 15] = [
 ];
 
 // Which of these names it is, from 0.
-fn name_position(s: &[u8], at: usize, end: usize, names: &[&[u8]]) -> Option<usize>
-    requires { (at ≤ end) × (end ≤ length s.now) }
-    ensures { result ≡ position (λ name. same_name (lower_case (part s.now at end)) name.now) names.now }
+fn name_position(name: &[u8], names: &[&[u8]]) -> Option<usize>
+    ensures { result ≡ position (λ other. same_name (lower_case name.now) other.now) names.now }
 {
     names
         .iter()
-        .position(|name| same_name_ignore_case(s, at, end, name))
+        .position(|other| same_name_ignore_case(name, other))
 }
 
 // The bit of a name by its place among these names, none of which stands twice; 0 for a name that is none of them.
-fn name_bit(s: &[u8], at: usize, end: usize, names: &[&[u8]]) -> u16
-    requires name { (at ≤ end) × (end ≤ length s.now) }
+fn name_bit(name: &[u8], names: &[&[u8]]) -> u16
     requires few { length names.now ≤ 16 }
     requires apart { apart (spellings names.now) ≡ true }
-    ensures { result ≡ mask (spellings names.now) (lower_case (part s.now at end) ∷ []) }
+    ensures { result ≡ mask (spellings names.now) (lower_case name.now ∷ []) }
 {
-    match name_position(s, at, end, names) {
+    match name_position(name, names) {
         Some(i) => 1 << i,
         None => 0,
     }
@@ -110,7 +107,7 @@ fn collect(s: &[u8], at: usize) -> Collected
         }
         Node::Binary(operator, left) => collect_comparison(s, operator, left),
         Node::Call(call) => Collected {
-            mask: name_bit(s, call.name, call.end, &SPATIAL_NAMES),
+            mask: name_bit(call.name(s), &SPATIAL_NAMES),
             next: end_children(s, call.first, call.count),
         },
         Node::Plain(head) => Collected {

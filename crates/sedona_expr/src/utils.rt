@@ -59,7 +59,7 @@ pub fn distance_arguments(s: &[u8], at: usize) -> Option<Called>
     let Node::Call(call) = node_at(s, at) else {
         return None;
     };
-    if same_name(s, call.name, call.end, b"st_distance") {
+    if same_name(call.name(s), b"st_distance") {
         Some(call)
     } else {
         None
@@ -97,7 +97,7 @@ fn parse_dwithin(s: &[u8], call: Called, rows: Rows, i: usize) -> Option<ParsedD
     requires of_call { OfCall s.now call (λ c name arguments. TabledAll rows.numbers.now rows.next.now call.first i arguments) }
     ensures { OfCall s.now call (λ c name arguments. ParsedIs c s.now result (call_request name arguments)) }
 {
-    if !same_name(s, call.name, call.end, b"st_dwithin") {
+    if !same_name(call.name(s), b"st_dwithin") {
         return None;
     }
     if call.count < 3 {

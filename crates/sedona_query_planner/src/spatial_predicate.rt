@@ -1,10 +1,9 @@
 // Spatial predicates: a port of rust/sedona-query-planner/src/spatial_predicate.rs.
-ghost use Rattle.std.specs.Prelude.{◌≡◌, ◌≤◌, length};
+ghost use Rattle.std.specs.Prelude.{◌≡◌};
 ghost use Rattle.definitions.specs.Encode.{relation_number};
 ghost use Rattle.definitions.specs.Decode.{relation_numbered};
 ghost use Rattle.definitions.specs.Leaves.{relation_named};
 ghost use Rattle.definitions.specs.Match as definitions;
-ghost use Rattle.expression.specs.Places.{part};
 ghost use Rattle.sedona_query_planner.specs.Relations.{relation_of, named_relation};
 ghost use Rattle.sedona_query_planner.specs.Predicates.{ties_number, ties_numbered, unchanged, RelationAt, DistanceAt, KnnAt, PredicateAt, Exchanges};
 
@@ -69,37 +68,36 @@ pub enum SpatialRelationType {
 }
 
 impl SpatialRelationType {
-    // The name stands from `at` up to `end`; it is compared byte by byte.
-    pub fn from_name(s: &[u8], at: usize, end: usize) -> Option<SpatialRelationType>
-        requires { (at ≤ end) × (end ≤ length s.now) }
-        ensures { named_relation result ≡ relation_named (part s.now at end) }
+    // The name is compared byte by byte.
+    pub fn from_name(name: &[u8]) -> Option<SpatialRelationType>
+        ensures { named_relation result ≡ relation_named name.now }
     {
         // A `match` on the bytes was tried: 132 goals, one for each byte at which it may end, and no names for their facts.
-        if same_name(s, at, end, b"st_intersects") {
+        if same_name(name, b"st_intersects") {
             Some(SpatialRelationType::Intersects)
-        } else if same_name(s, at, end, b"rs_intersects") {
+        } else if same_name(name, b"rs_intersects") {
             Some(SpatialRelationType::Intersects)
-        } else if same_name(s, at, end, b"st_contains") {
+        } else if same_name(name, b"st_contains") {
             Some(SpatialRelationType::Contains)
-        } else if same_name(s, at, end, b"rs_contains") {
+        } else if same_name(name, b"rs_contains") {
             Some(SpatialRelationType::Contains)
-        } else if same_name(s, at, end, b"st_within") {
+        } else if same_name(name, b"st_within") {
             Some(SpatialRelationType::Within)
-        } else if same_name(s, at, end, b"rs_within") {
+        } else if same_name(name, b"rs_within") {
             Some(SpatialRelationType::Within)
-        } else if same_name(s, at, end, b"st_covers") {
+        } else if same_name(name, b"st_covers") {
             Some(SpatialRelationType::Covers)
-        } else if same_name(s, at, end, b"st_coveredby") {
+        } else if same_name(name, b"st_coveredby") {
             Some(SpatialRelationType::CoveredBy)
-        } else if same_name(s, at, end, b"st_covered_by") {
+        } else if same_name(name, b"st_covered_by") {
             Some(SpatialRelationType::CoveredBy)
-        } else if same_name(s, at, end, b"st_touches") {
+        } else if same_name(name, b"st_touches") {
             Some(SpatialRelationType::Touches)
-        } else if same_name(s, at, end, b"st_crosses") {
+        } else if same_name(name, b"st_crosses") {
             Some(SpatialRelationType::Crosses)
-        } else if same_name(s, at, end, b"st_overlaps") {
+        } else if same_name(name, b"st_overlaps") {
             Some(SpatialRelationType::Overlaps)
-        } else if same_name(s, at, end, b"st_equals") {
+        } else if same_name(name, b"st_equals") {
             Some(SpatialRelationType::Equals)
         } else {
             None

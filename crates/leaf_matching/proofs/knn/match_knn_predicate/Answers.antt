@@ -6,32 +6,33 @@ use Rattle.std.specs.Prelude.{Some}
 use Rattle.definitions.specs.Basics.{ascii}
 use Rattle.leaf_matching.proofs.Asked.{other_name}
 use Rattle.leaf_matching.proofs.MatchLaws.{pair-framed, pair-begins, rest-trees, named}
+use Rattle.leaf_matching.proofs.Missing.{missed}
 use Rattle.leaf_matching.proofs.KnnLaws.{few-lacks, many-lacks, Walked, knn-unread, knn-neither, knn-left, knn-right}
 use Rattle.leaf_matching.proofs.knn.match_knn_predicate.Goals as goal
-use Rattle.leaf_matching.proofs.knn.match_knn_predicate.Goals.{After-knn_options, in-LeftRight, in-RightLeft}
+use Rattle.leaf_matching.proofs.knn.match_knn_predicate.Goals.{After-knn_options-given, in-LeftRight, in-RightLeft}
 
-walked : (c : After-knn_options)
+walked : (c : After-knn_options-given)
     → let start = c.args in
-    Walked start.default_k start.filter.s.now start.filter.rec start.called c.resolve_geometries-geometries.result c.knn_options.result
+    Walked start.default_k start.filter.s.now start.filter.rec start.called c.resolve_geometries-geometries.result c.knn_options-given.result
 unfolding ascii
 walked c =
     record {
-      same = c.if-not-same_name.ensures;
+      same = (rw c.name.ensures at c.if-not-same_name.ensures);
       enough = c.if-called-lt2.false;
       geometries = c.resolve_geometries-geometries.ensures;
-      options = c.knn_options.ensures;
+      options = c.knn_options-given.ensures;
     }
 
 pub returns-then-not-same_name : goal.returns-then-not-same_name
 unfolding ascii
 returns-then-not-same_name c =
-    λ records name ts over. other_name _ records name ts (named over _ (ascii "st_knn") c.if-not-same_name.ensures)
+    λ records name ts over. other_name _ records name ts (named over _ (ascii "st_knn") (rw c.name.ensures at c.if-not-same_name.ensures))
 
 pub returns-then-called-lt2 : goal.returns-then-called-lt2
 unfolding ascii
 returns-then-called-lt2 c =
     λ records name ts over.
-    let same = named over _ (ascii "st_knn") c.if-not-same_name.ensures in
+    let same = named over _ (ascii "st_knn") (rw c.name.ensures at c.if-not-same_name.ensures) in
     ⊎_elim (λ w. few-lacks _ records name ts same (omega (arith, w, over.stands.row.counted)))
     (λ w. many-lacks _ records name ts same (omega (arith, w, over.stands.row.counted))) c.then-called-lt2.either
 
@@ -42,24 +43,27 @@ resolve_geometries-geometries-requires c =
       of_frame_two = pair-begins c.requires.call_framed c.if-called-lt2.false c.requires.of_call;
     }
 
-pub knn_options-requires-clause-trees : goal.knn_options-requires-clause-trees
-knn_options-requires-clause-trees c =
+pub knn_options-given-requires-clause-trees : goal.knn_options-given-requires-clause-trees
+knn_options-given-requires-clause-trees c =
     rest-trees c.requires.call_framed c.if-called-lt2.false _ c.resolve_geometries-geometries.ensures
 
-pub returns-in_default : goal.returns-in_default
-returns-in_default c =
-    λ records name ts over. knn-unread (walked (goal.at.returns-in_default c).After-knn_options) over c.in_default.is
+pub returns-in_err-options : goal.returns-in_err-options
+returns-in_err-options c =
+    λ records name ts over.
+    let none = missed _ _ _ c.in_err-options.ensures.value c.from_residual.ensures in
+    rw none.1 (knn-unread (walked (goal.at.returns-in_err-options c).After-knn_options-given) over none.0)
 
-pub returns-in_default-order : goal.returns-in_default-order
-returns-in_default-order c =
-    λ records name ts over. knn-neither (walked (goal.at.returns-in_default-order c).After-knn_options) over _ c.in-Some.is
-    c.in_default-order.is
+pub returns-in_err-order : goal.returns-in_err-order
+returns-in_err-order c =
+    λ records name ts over.
+    let none = missed _ _ _ c.in_err-order.ensures.value c.from_residual-in_err-order.ensures in
+    rw none.1 (knn-neither (walked (goal.at.returns-in_err-order c).After-knn_options-given) over _ c.in_ok-options.ensures.ok_part none.0)
 
 pub returns : goal.returns
 returns c =
     λ records name ts over.
-    let w = walked (goal.at.returns c).After-knn_options in
+    let w = walked (goal.at.returns c).After-knn_options-given in
     elim c.match-order.branch [
-      | in-LeftRight v ↦ rw v.probe_side-is (knn-left w over _ c.in-Some.is (c.in-Some-order.is ∙ ap Some v.in-LeftRight.is))
-      | in-RightLeft v ↦ rw v.probe_side-is (knn-right w over _ c.in-Some.is (c.in-Some-order.is ∙ ap Some v.in-RightLeft.is))
+      | in-LeftRight v ↦ rw v.probe_side-is (knn-left w over _ c.in_ok-options.ensures.ok_part (c.in_ok-order.ensures.ok_part ∙ ap Some v.in-LeftRight.is))
+      | in-RightLeft v ↦ rw v.probe_side-is (knn-right w over _ c.in_ok-options.ensures.ok_part (c.in_ok-order.ensures.ok_part ∙ ap Some v.in-RightLeft.is))
     ]

@@ -4,6 +4,7 @@ use native.Mathlib.Omega.{arith}
 use Rattle.std.specs.Prelude.{Some}
 use Rattle.definitions.specs.Leaves.{relation_named}
 use Rattle.leaf_matching.proofs.Asked.{no-relation}
+use Rattle.leaf_matching.proofs.Missing.{missed}
 use Rattle.leaf_matching.proofs.MatchLaws.{pair-framed, pair-begins}
 use Rattle.leaf_matching.proofs.RelationLaws.{few-lacks, Walked, relation-neither, relation-left, relation-right}
 use Rattle.leaf_matching.proofs.relation.match_relation_predicate.Goals as goal
@@ -11,23 +12,26 @@ use Rattle.leaf_matching.proofs.relation.match_relation_predicate.Goals.{After-r
 
 walked : (c : After-resolve_geometries-geometries)
     → let start = c.args in
-    Walked start.filter.s.now start.filter.rec start.called c.resolve_geometries-geometries.result c.in-Some.relation_type
+    Walked start.filter.s.now start.filter.rec start.called c.resolve_geometries-geometries.result c.in_ok-relation_type.relation_type
 walked c =
     record {
-      named = sym c.in-Some.ensures;
+      named = sym (rw (c.in_ok-relation_type.ensures.ok_part, c.name.ensures) at c.from_name-named.ensures);
       enough = c.if-called-lt2.false;
       geometries = c.resolve_geometries-geometries.ensures;
     }
 
-pub returns-in_default : goal.returns-in_default
-returns-in_default c =
-    λ records name ts over. no-relation records name ts
-    (ap relation_named (sym over.stands.spelling) ∙ sym c.in_default.ensures)
+pub returns-in_err-relation_type : goal.returns-in_err-relation_type
+returns-in_err-relation_type c =
+    λ records name ts over.
+    let none = missed _ c.from_name-named.result _ c.in_err-relation_type.ensures.value c.from_residual.ensures in
+    rw none.1 (no-relation records name ts
+    (ap relation_named (sym over.stands.spelling) ∙ sym (rw (none.0, c.name.ensures) at c.from_name-named.ensures)))
 
 pub returns-then-called-lt2 : goal.returns-then-called-lt2
 returns-then-called-lt2 c =
     λ records name ts over. few-lacks records name ts
-    (ap relation_named (sym over.stands.spelling) ∙ sym c.in-Some.ensures) (omega (arith, over.stands.row.counted))
+    (ap relation_named (sym over.stands.spelling)
+    ∙ sym (rw (c.in_ok-relation_type.ensures.ok_part, c.name.ensures) at c.from_name-named.ensures)) (omega (arith, over.stands.row.counted))
 
 pub resolve_geometries-geometries-requires : goal.resolve_geometries-geometries-requires
 resolve_geometries-geometries-requires c =
@@ -36,19 +40,20 @@ resolve_geometries-geometries-requires c =
       of_frame_two = pair-begins c.requires.call_framed c.if-called-lt2.false c.requires.of_call;
     }
 
-pub returns-in_default-order : goal.returns-in_default-order
-returns-in_default-order c =
-    λ records name ts over. relation-neither
-    (walked (goal.at.returns-in_default-order c).After-resolve_geometries-geometries) over c.in_default-order.is
+pub returns-in_err-order : goal.returns-in_err-order
+returns-in_err-order c =
+    λ records name ts over.
+    let none = missed _ _ _ c.in_err-order.ensures.value c.from_residual-in_err-order.ensures in
+    rw none.1 (relation-neither (walked (goal.at.returns-in_err-order c).After-resolve_geometries-geometries) over none.0)
 
 pub returns-in-LeftRight : goal.returns-in-LeftRight
 returns-in-LeftRight c =
     λ records name ts over. relation-left
     (walked (goal.at.returns-in-LeftRight c).After-resolve_geometries-geometries) over
-    (c.in-Some-order.is ∙ ap Some c.in-LeftRight.is)
+    (c.in_ok-order.ensures.ok_part ∙ ap Some c.in-LeftRight.is)
 
 pub returns-in-RightLeft : goal.returns-in-RightLeft
 returns-in-RightLeft c =
     λ records name ts over. relation-right
     (walked (goal.at.returns-in-RightLeft c).After-resolve_geometries-geometries) over _ c.invert.ensures
-    (c.in-Some-order.is ∙ ap Some c.in-RightLeft.is)
+    (c.in_ok-order.ensures.ok_part ∙ ap Some c.in-RightLeft.is)

@@ -2,7 +2,7 @@
 use Rattle.definitions.specs.Basics.{ascii}
 use Rattle.expression.proofs.EndWalk.{end-node}
 use Rattle.expression.proofs.Parts.{left-stands, both_end, call-end}
-use Rattle.expression.proofs.There.{and-left-there, and-right-there, pair-there, plain-there, both-there, name-there, arguments-there}
+use Rattle.expression.proofs.There.{and-left-there, and-right-there, pair-there, plain-there, both-there, call-there, arguments-there}
 use Rattle.logical_filter.proofs.QueryWalk.{no_plain, no-binary, is-knn, no-knn, knn-left, knn-right}
 use Rattle.logical_filter.proofs.knn_query_side.+find_st_knn_call.Goals as goal
 
@@ -33,13 +33,13 @@ returns-in-Binary t c =
     let pair = c.in-Binary.ensures d t h in
     (no-binary pair, both_end pair c.end_children.result (c.end_children.ensures d _ pair.row))
 
-pub same_name_ignore_case-requires : goal.same_name_ignore_case-requires
-same_name_ignore_case-requires t c = name-there c.requires c.node_at.ensures c.in-Call.is
+pub name-requires : goal.name-requires
+name-requires t c = call-there c.requires c.node_at.ensures c.in-Call.is
 
 pub returns-then-same_name_ignore_case : goal.returns-then-same_name_ignore_case
 unfolding ascii
 returns-then-same_name_ignore_case t c =
-    λ d t h. is-knn (c.in-Call.ensures d t h) _ c.same_name_ignore_case.ensures c.if-same_name_ignore_case.true
+    λ d t h. is-knn (c.in-Call.ensures d t h) _ (rw c.name.ensures at c.same_name_ignore_case.ensures) c.if-same_name_ignore_case.true
 
 pub end_children-requires-else-same_name_ignore_case : goal.end_children-requires-else-same_name_ignore_case
 end_children-requires-else-same_name_ignore_case t c = arguments-there c.requires c.node_at.ensures c.in-Call.is
@@ -50,7 +50,7 @@ returns-else-same_name_ignore_case t c =
     λ d t h.
     let call = c.in-Call.ensures d t h in
     let end = c.end_children-else-same_name_ignore_case in (
-      no-knn call _ c.same_name_ignore_case.ensures c.if-same_name_ignore_case.false,
+      no-knn call _ (rw c.name.ensures at c.same_name_ignore_case.ensures) c.if-same_name_ignore_case.false,
       call-end call end.result (end.ensures d call.arguments call.stands.row),
     )
 

@@ -5,7 +5,7 @@ use Rattle.definitions.specs.Basics.{ascii, same_name, any}
 use Rattle.definitions.specs.Logical.{spatial_names}
 use Rattle.logical_filter.specs.Logicals.{apart}
 use Rattle.expression.proofs.EndWalk.{end-node}
-use Rattle.expression.proofs.There.{and-left-there, and-right-there, pair-there, plain-there, name-there, arguments-there}
+use Rattle.expression.proofs.There.{and-left-there, and-right-there, pair-there, plain-there, call-there, arguments-there}
 use Rattle.logical_filter.proofs.NameWalk.{both-names, binary-names, call-names, plain-names}
 use Rattle.logical_filter.proofs.predicate_names.+collect.Goals as goal
 
@@ -45,8 +45,11 @@ returns-in-Plain t c =
 
 pub name_bit-requires : goal.name_bit-requires
 unfolding apart ascii spatial_names same_name any
-name_bit-requires t c = record { name = name-there c.requires c.node_at.ensures c.in-Call.is; few = omega arith; apart = refl }
+name_bit-requires t c = record { few = omega arith; apart = refl }
+
+pub name-requires : goal.name-requires
+name-requires t c = call-there c.requires c.node_at.ensures c.in-Call.is
 
 pub returns-in-Call : goal.returns-in-Call
 unfolding spatial_names ascii
-returns-in-Call t c = λ d t h. call-names (c.in-Call.ensures d t h) _ _ c.name_bit.ensures c.end_children.ensures
+returns-in-Call t c = λ d t h. call-names (c.in-Call.ensures d t h) _ _ (rw c.name.ensures at c.name_bit.ensures) c.end_children.ensures

@@ -11,9 +11,9 @@ returns-in_default c =
 pub returns-then-same_name : goal.returns-then-same_name
 unfolding ascii
 returns-then-same_name c =
-    λ d t h. distance-found (c.in-Call.ensures d t h) _ c.same_name.ensures c.if-same_name.true
+    λ d t h. distance-found (c.in-Call.ensures d t h) _ (rw c.name.ensures at c.same_name.ensures) c.if-same_name.true
 
 pub returns-else-same_name : goal.returns-else-same_name
 unfolding ascii
 returns-else-same_name c =
-    λ d t h. distance-other (c.in-Call.ensures d t h) _ c.same_name.ensures c.if-same_name.false
+    λ d t h. distance-other (c.in-Call.ensures d t h) _ (rw c.name.ensures at c.same_name.ensures) c.if-same_name.false
