@@ -95,13 +95,8 @@ pub fn put_all(
     let o = listed.other;
     copy_bytes(&mut out[k..], row, 0, o);
     let w = k + o;
-    let rest = put_left(
-        &mut out[w..],
-        row,
-        given,
-        &gone[..listed.position],
-        listed.rounds,
-    );
+    let flags = &gone[..listed.position];
+    let rest = put_left(&mut out[w..], row, given, flags, listed.rounds);
     Taken {
         rounds: listed.rounds,
         length: w + rest,
