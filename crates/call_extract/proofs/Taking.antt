@@ -15,7 +15,7 @@ use Rattle.leaf_pick.specs.declared.first_match.Pick.{Pick}
 use Rattle.writing.specs.Written.{Wrote}
 use Rattle.writing.specs.Writing.{Room, Puts}
 use Rattle.writing.proofs.Written.{behind, together, behind-length, then-wrote}
-use Rattle.plan_writer.specs.Tables.{Recorded, ChildTable}
+use Rattle.plan_writer.specs.Tables.{ChildTable}
 use Rattle.plan_writer.specs.Arguments.{table_change}
 use Rattle.plan_writer.specs.Predicates.{predicate_bytes}
 use Rattle.plan_writer.proofs.ChildLaws.{by-children}
@@ -36,9 +36,6 @@ extraction-length X =
 -- ---- what is taken
 
 module _ {s : List ℕ} {f : Frame} {p : Pick} {F : tree.Frame} {q : tree.Predicate} (t : Taking s f p F q) where
-  pub taken-records : Recorded s f.records f.columns
-  taken-records = (F.records, t.entries)
-
   -- The predicate, by the table of child indexes.
   pub taken-predicate : (to : List ℕ) → 256 ≤ length to → ChildTable s f.records f.columns to
       → PredicateAt (table_change to) s p.predicate q

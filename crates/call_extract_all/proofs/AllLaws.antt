@@ -30,7 +30,7 @@ use Rattle.writing.specs.Written.{Wrote}
 use Rattle.writing.proofs.Written.{taken, behind, together, behind-length, together-length, then-wrote, from_start, copied-wrote}
 use Rattle.frame_reader.specs.declared.frame_bodies.Frame.{Frame}
 use Rattle.frame_reader.proofs.Standing.{between-holds, expr-stands}
-use Rattle.plan_writer.specs.Tables.{Entries, Recorded, ChildTable}
+use Rattle.plan_writer.specs.Tables.{Entries, ChildTable}
 use Rattle.leaf_pick.specs.Picks.{matches}
 use Rattle.remainder.specs.Rests.{flag_of}
 use Rattle.remainder.specs.Pruned.{Prunable}
@@ -94,9 +94,6 @@ module _ {s : List ℕ} {f : Frame} {F : tree.Frame} (g : GoodAt s f F) where
 
   pub few : f.columns ≤ 256
   few = omega (arith, g.good.readable.few, g.stands.counted)
-
-  pub recorded : Recorded s f.records f.columns
-  recorded = (F.records, entries)
 
   pub listable : Listable s f.records f.columns f.root F.records F.expr
   listable = record { entries = entries; few = few; tree = expr-stands g.stands.expr }

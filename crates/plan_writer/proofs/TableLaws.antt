@@ -17,7 +17,7 @@ use Rattle.theorems.proofs.ExchangeGood.{records-length}
 use Rattle.expression.specs.Places.{short_at}
 use Rattle.expression.proofs.Placed.{fits, front, next}
 use Rattle.plan_writer.specs.Copies.{copy_of}
-use Rattle.plan_writer.specs.Tables.{Table, Entry, Entries, Recorded, ChildTable}
+use Rattle.plan_writer.specs.Tables.{Table, Entry, Entries, ChildTable}
 use Rattle.expression.proofs.Records.{short-is, entry_at}
 use Rattle.plan_writer.proofs.Fields.{child-short}
 use Rattle.plan_writer.proofs.Ranges.{map-agrees}
@@ -37,8 +37,8 @@ table_more new to i room h = record {
 
 -- ---- child indexes
 
-pub records-within : {s : List ℕ} {rec count : ℕ} → Recorded s rec count → rec + 5 * count ≤ length s
-records-within p = omega (arith, fits p.1.bytes, records-length p.0, p.1.counted)
+pub records-within : {s : List ℕ} {rec count : ℕ} {records : List Record} → Entries s rec count records → rec + 5 * count ≤ length s
+records-within {records = records} h = omega (arith, fits h.bytes, records-length records, h.counted)
 
 pub entry_of : {s : List ℕ} {rec count : ℕ} {records : List Record} → Entries s rec count records → (j : ℕ) → j < count
     → Entry s (rec + 5 * j) (record_at records j)

@@ -21,10 +21,7 @@ pub record Entries (s : List ℕ) (rec count : ℕ) (records : List Record) : Ty
   pub in_range : RecordsInRange records
   pub counted : length records ≡ count
 
--- There are such records; what is claimed of them.
-abbrev pub Recorded : (s : List ℕ) (rec count : ℕ) → Type 0
-Recorded s rec count = (records : List Record) × Entries s rec count records
-
+-- What is claimed of such records.
 abbrev pub OfRecords : (s : List ℕ) (rec count : ℕ) → (List Record → Type 0) → Type 0
 OfRecords s rec count P = (records : List Record) → Entries s rec count records → P records
 

@@ -3,7 +3,7 @@ use Prim.Native.Nat.{◌≤◌}
 use native.Mathlib.Omega.{arith}
 use lib.ListN.{length}
 use Rattle.plan_writer.proofs.TableLaws.{records-within}
-use Rattle.call_extract.proofs.Taking.{taken-records, predicate-fits, predicate-ends, remainder-fits, extraction-is, extraction-ends}
+use Rattle.call_extract.proofs.Taking.{predicate-fits, predicate-ends, remainder-fits, extraction-is, extraction-ends}
 use Rattle.call_extract.proofs.extraction.put_extraction.Goals as goal
 use Rattle.call_extract.proofs.extraction.put_extraction.Goals.{After-child_indexes}
 
@@ -13,7 +13,7 @@ wide c = omega (arith, c.child_indexes.auto.to)
 
 pub invariant_of-records : goal.invariant_of-records
 invariant_of-records c =
-    record { within = records-within (taken-records c.requires.taking) }
+    record { within = records-within c.requires.taking.entries }
 
 pub put_predicate-w-requires : goal.put_predicate-w-requires
 put_predicate-w-requires c =

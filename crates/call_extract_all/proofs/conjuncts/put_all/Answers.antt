@@ -8,7 +8,7 @@ use Rattle.theorems.proofs.SettingsClaimed.{all-settings-hold}
 use Rattle.terms.specs.Settings.{settings_of}
 use Rattle.plan_writer.proofs.TableLaws.{records-within}
 use Rattle.remainder.proofs.LastLaws.{zeros-room}
-use Rattle.call_extract_all.proofs.AllLaws.{few, recorded, row-long, listable, list-fits, copy-fits, rest-starts, left-fits, ends, all-is}
+use Rattle.call_extract_all.proofs.AllLaws.{few, entries, row-long, listable, list-fits, copy-fits, rest-starts, left-fits, ends, all-is}
 use Rattle.call_extract_all.proofs.conjuncts.put_all.Goals as goal
 use Rattle.call_extract_all.proofs.conjuncts.put_all.Goals.{After-child_indexes, Start}
 
@@ -20,7 +20,7 @@ wide c = omega (arith, c.child_indexes.auto.to)
 
 pub invariant_of-records : goal.invariant_of-records
 invariant_of-records c =
-    record { within = records-within (recorded c.requires.all_fits.at) }
+    record { within = records-within (entries c.requires.all_fits.at) }
 
 pub child_indexes-requires : goal.child_indexes-requires
 child_indexes-requires c =

@@ -3,7 +3,7 @@ use native.Mathlib.Omega.{arith}
 use mathlib.Core.Path.{ap}
 use lib.ListN.{length}
 use Rattle.plan_writer.proofs.TableLaws.{records-within}
-use Rattle.call_extract_all.proofs.AllLaws.{recorded, whole-left, whole-put, last_fits, last-put}
+use Rattle.call_extract_all.proofs.AllLaws.{entries, whole-left, whole-put, last_fits, last-put}
 use Rattle.call_extract_all.proofs.conjuncts.put_left.Goals as goal
 
 pub copy_bytes-requires : goal.copy_bytes-requires
@@ -21,7 +21,7 @@ returns-then-rounds-eq0 c =
 
 pub invariant_of-records : goal.invariant_of-records
 invariant_of-records c =
-    record { within = records-within (recorded c.requires.left_fits.at) }
+    record { within = records-within (entries c.requires.left_fits.at) }
 
 pub put_last-requires : goal.put_last-requires
 put_last-requires c =
