@@ -6,7 +6,6 @@ ghost use Rattle.call_exchange.specs.Exchanged.{PlanAt, HeldPlan, ExchangedPlan}
 
 use super::exchanged_frames::{put_frame_exchanged, put_remainder_exchanged};
 use plan_reader::extraction_bodies::{Extraction, Held};
-use plan_writer::arguments::ColumnIndexes;
 use plan_writer::put_predicate::put_predicate;
 
 // The extraction exchanged, its position kept, its remainder where the predicate ended.
@@ -18,7 +17,7 @@ fn put_extraction_exchanged(out: &mut [u8], src: &[u8], x: Extraction, end: usiz
     let swapped = predicate.swap_for_swapped_children();
     let position = x.position;
     let rest = x.remainder;
-    let w = put_predicate(out, src, swapped, position, ColumnIndexes::Kept);
+    let w = put_predicate(out, src, swapped, position, None);
     w + put_remainder_exchanged(&mut out[w..], src, rest, end)
 }
 

@@ -3,7 +3,6 @@ ghost use Rattle.call_extract.specs.Extractions.{ExtractionFits, ExtractionPut};
 
 use frame_reader::frame_bodies::Frame;
 use leaf_pick::first_match::Pick;
-use plan_writer::arguments::ColumnIndexes;
 use plan_writer::column_tables::child_indexes;
 use plan_writer::put_predicate::put_predicate;
 use plan_writer::records::Records;
@@ -21,12 +20,6 @@ pub(crate) fn put_extraction(out: &mut [u8], src: &[u8], f: Frame, pick: Pick) -
     };
     let mut to = [0u16; 256];
     child_indexes(&mut to, records);
-    let w = put_predicate(
-        out,
-        src,
-        pick.predicate,
-        pick.position,
-        ColumnIndexes::FromTable(&to),
-    );
+    let w = put_predicate(out, src, pick.predicate, pick.position, Some(&to));
     w + put_remainder(&mut out[w..], records, f.root, pick.cut)
 }

@@ -11,7 +11,6 @@ ghost use Rattle.call_extract_all.specs.Listings.{ListFits, ListPut};
 use expression::leaves::{Node, node_at};
 use leaf_matching::filter::Filter;
 use leaf_pick::first_match::{Leaf, Stop, match_knn, match_other};
-use plan_writer::arguments::ColumnIndexes;
 use plan_writer::put_predicate::put_predicate;
 use terms::settings::Settings;
 
@@ -51,7 +50,7 @@ fn list_leaf(
         listing.entry.count leaf.stop.at leaf.stop.position listing.entry.to.now knns.old knns.new others.old others.new gone.old gone.new result }
 {
     let src = listing.filter.s;
-    let indexes = ColumnIndexes::FromTable(listing.to);
+    let indexes = Some(listing.to);
     let position = leaf.stop.position;
     if let Ok(predicate) = match_knn(listing.filter, leaf, listing.settings) {
         let w = put_predicate(knns, src, predicate, position, indexes);

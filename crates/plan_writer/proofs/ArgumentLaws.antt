@@ -4,16 +4,17 @@ use native.Mathlib.Omega.{arith}
 use mathlib.Core.Path.{◌≡◌, ap}
 use mathlib.Core.List.{List}
 use lib.ListN.{length}
+use Rattle.std.specs.Prelude.{Option}
+use Rattle.std.specs.Borrow.{Bor}
 use Rattle.definitions.specs.Expression.{Expr}
 use Rattle.definitions.specs.Encode.{expr_bytes}
 use Rattle.expression.specs.Places.{Between}
 use Rattle.expression.proofs.Standing.{spans-between}
 use Rattle.writing.specs.Writing.{Room, PutsAt, same}
 use Rattle.plan_writer.specs.Arguments.{Stood, written}
-use Rattle.plan_writer.specs.declared.arguments.ColumnIndexes.{ColumnIndexes}
 use Rattle.plan_writer.specs.declared.arguments.Argument.{Argument}
 
-module _ (indexes : ColumnIndexes) (s : List ℕ) (a : Argument) where
+module _ (indexes : Option (Bor (List ℕ))) (s : List ℕ) (a : Argument) where
   -- It is copied where that is what is to be written of it.
   module _ (same_bytes : (t : Expr) → written indexes a t ≡ expr_bytes t) where
     pub kept-room : {w : ℕ} {out : List ℕ} → Room (Stood indexes s a) (written indexes a) w out → Room (Between s a.start a.end) same w out

@@ -6,6 +6,8 @@ use mathlib.Core.List.{List, [], ◌∷◌, ◌++◌, append_assoc}
 use lib.ListN.{length}
 use lib.Seq.{sets}
 use Rattle.definitions.specs.Basics.{big_endian}
+use Rattle.std.specs.Prelude.{Option}
+use Rattle.std.specs.Borrow.{Bor}
 use Rattle.definitions.specs.Expression.{Predicate}
 use Rattle.definitions.specs.Encode.{side_number, relation_number, predicate_kind, predicate_fields}
 use Rattle.definitions.specs.Exchange.{negate}
@@ -26,14 +28,13 @@ use Rattle.writing.proofs.Written.{chain}
 use Rattle.writing.proofs.Sequence.{stores, Headed, head-room}
 use Rattle.plan_writer.specs.Arguments.{change_of, Stood, written, BothStood, both_written}
 use Rattle.plan_writer.specs.Predicates.{head_of, predicate_bytes, kind_of, knn_head}
-use Rattle.plan_writer.specs.declared.arguments.ColumnIndexes.{ColumnIndexes}
 use Rattle.plan_writer.specs.declared.arguments.Argument.{Argument}
 
 -- An argument from a place up to its end.
 abbrev argument : (start end : ℕ) → JoinSide → Argument
 argument start end side = record { start = start; end = end; side = side }
 
-module _ (indexes : ColumnIndexes) (s : List ℕ) where
+module _ (indexes : Option (Bor (List ℕ))) (s : List ℕ) where
   module _ (p : RelationPredicate) where
     abbrev relation_left : Argument
     relation_left = argument p.left p.left_end Left

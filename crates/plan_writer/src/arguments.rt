@@ -77,14 +77,6 @@ fn reproject_children(out: &mut [u8], src: &[u8], at: usize, n: usize, to: &[u16
     }
 }
 
-// How the indexes of an argument's columns change as it is written. A name stands where an `Option` would say `None`: what it keeps is told
-// at each call.
-#[derive(Clone, Copy)]
-pub enum ColumnIndexes<'a> {
-    Kept,
-    FromTable(&'a [u16]),
-}
-
 // An argument of a predicate: where it stands and ends, and the side of its columns.
 #[derive(Clone, Copy)]
 pub struct Argument {
@@ -93,20 +85,21 @@ pub struct Argument {
     pub side: JoinSide,
 }
 
-// Writes an argument from w on, its columns' indexes kept or changed by the table, but never those of side none; answers where it ends.
+// Writes an argument from w on; answers where it ends.
+// `None`: its columns keep their indexes; `Some(to)`: the table `to` has the new ones, but not for an argument of side none.
 pub fn reproject_column_references_for_side(
     out: &mut [u8],
     w: usize,
     src: &[u8],
     argument: Argument,
-    indexes: ColumnIndexes,
+    indexes: Option<&[u16]>,
 ) -> usize
     requires { Room (Stood indexes src.now argument) (written indexes argument) w out.old }
     ensures { PutsAt (Stood indexes.entry src.now argument) (written indexes.entry argument) w
         out.old out.new result }
 {
     match indexes {
-        ColumnIndexes::FromTable(to) if argument.side != JoinSide::None => {
+        Some(to) if argument.side != JoinSide::None => {
             let copied = reproject_column_references(&mut out[w..], src, argument.start, to);
             w + copied.wrote
         }
@@ -121,7 +114,7 @@ pub fn put_both(
     src: &[u8],
     one: Argument,
     two: Argument,
-    indexes: ColumnIndexes,
+    indexes: Option<&[u16]>,
 ) -> usize
     requires { Room (BothStood indexes src.now one two) (both_written indexes one two) w out.old }
     ensures { PutsAt (BothStood indexes.entry src.now one two)

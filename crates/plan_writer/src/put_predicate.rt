@@ -7,7 +7,7 @@ ghost use Rattle.writing.specs.Writing.{Room, Puts};
 ghost use Rattle.plan_writer.specs.Arguments.{change_of};
 ghost use Rattle.plan_writer.specs.Predicates.{predicate_bytes, kind_of, knn_head};
 
-use super::arguments::{Argument, ColumnIndexes, put_both, reproject_column_references_for_side};
+use super::arguments::{Argument, put_both, reproject_column_references_for_side};
 use super::frame_heads::put_head;
 use sedona_query_planner::spatial_predicate::{
     DistancePredicate, KNNPredicate, RelationPredicate, SpatialPredicate, ties_number,
@@ -16,7 +16,7 @@ use terms::sides::JoinSide;
 use writing::numbers::put_number;
 
 // Type, left, right.
-fn put_relation(out: &mut [u8], src: &[u8], p: RelationPredicate, indexes: ColumnIndexes) -> usize
+fn put_relation(out: &mut [u8], src: &[u8], p: RelationPredicate, indexes: Option<&[u16]>) -> usize
     requires { Room (RelationAt (change_of indexes) src.now p) predicate_fields 0 out.old }
     ensures { Puts (RelationAt (change_of indexes.entry) src.now p) predicate_fields out.old
         out.new result }
@@ -36,7 +36,7 @@ fn put_relation(out: &mut [u8], src: &[u8], p: RelationPredicate, indexes: Colum
 }
 
 // Form, side, left, right, distance.
-fn put_distance(out: &mut [u8], src: &[u8], p: DistancePredicate, indexes: ColumnIndexes) -> usize
+fn put_distance(out: &mut [u8], src: &[u8], p: DistancePredicate, indexes: Option<&[u16]>) -> usize
     requires { Room (DistanceAt (change_of indexes) src.now p) predicate_fields 0 out.old }
     ensures { Puts (DistanceAt (change_of indexes.entry) src.now p) predicate_fields out.old
         out.new result }
@@ -75,7 +75,7 @@ fn put_knn_head(out: &mut [u8], k: u32, spheroid: u8, probe: u8, ties: u8) -> us
 }
 
 // k, spheroid, probe side, ties, left, right.
-fn put_knn(out: &mut [u8], src: &[u8], p: KNNPredicate, indexes: ColumnIndexes) -> usize
+fn put_knn(out: &mut [u8], src: &[u8], p: KNNPredicate, indexes: Option<&[u16]>) -> usize
     requires { Room (KnnAt (change_of indexes) src.now p) predicate_fields 0 out.old }
     ensures { Puts (KnnAt (change_of indexes.entry) src.now p) predicate_fields out.old
         out.new result }
@@ -98,7 +98,7 @@ fn put_knn(out: &mut [u8], src: &[u8], p: KNNPredicate, indexes: ColumnIndexes) 
 }
 
 // A predicate after its first byte and its position.
-fn put_fields(out: &mut [u8], src: &[u8], p: SpatialPredicate, indexes: ColumnIndexes) -> usize
+fn put_fields(out: &mut [u8], src: &[u8], p: SpatialPredicate, indexes: Option<&[u16]>) -> usize
     requires { Room (PredicateAt (change_of indexes) src.now p) predicate_fields 0 out.old }
     ensures { Puts (PredicateAt (change_of indexes.entry) src.now p) predicate_fields out.old
         out.new result }
@@ -121,14 +121,14 @@ fn predicate_kind(p: SpatialPredicate) -> u8
     }
 }
 
-// Writes a predicate to the start of `out`, with the position of its leaf and its columns' indexes kept or changed by the table;
+// Writes a predicate to the start of `out`, with the position of its leaf, its columns' indexes kept (`None`) or changed by a table;
 // answers its length.
 pub fn put_predicate(
     out: &mut [u8],
     src: &[u8],
     p: SpatialPredicate,
     position: usize,
-    indexes: ColumnIndexes,
+    indexes: Option<&[u16]>,
 ) -> usize
     requires { Room (PredicateAt (change_of indexes) src.now p) (predicate_bytes position) 0 out.old }
     ensures { Puts (PredicateAt (change_of indexes.entry) src.now p) (predicate_bytes position)

@@ -7,13 +7,13 @@ use Rattle.terms.specs.declared.sides.JoinSide.TheVariants.{None}
 use Rattle.plan_writer.specs.Arguments.{written}
 use Rattle.plan_writer.proofs.ArgumentLaws.{kept-room, kept_put}
 use Rattle.plan_writer.proofs.arguments.reproject_column_references_for_side.Goals as goal
-use Rattle.plan_writer.proofs.arguments.reproject_column_references_for_side.Goals.{In_default, in_default-via-in-FromTable+else-ne, in_default-via-in_default}
+use Rattle.plan_writer.proofs.arguments.reproject_column_references_for_side.Goals.{In_default, in_default-via-in-Some+else-ne, in_default-via-in_default}
 
 -- What the table or its absence leaves as it is.
 as_it_is : (c : In_default) → (t : Expr) → written c.args.indexes c.args.argument t ≡ expr_bytes t
 as_it_is c t =
     elim c.in_default.branch [
-      | in_default-via-in-FromTable+else-ne w ↦ (let e : c.args.argument.side ≡ None = search rules in rw (w.in-FromTable.is, e))
+      | in_default-via-in-Some+else-ne w ↦ (let e : c.args.argument.side ≡ None = search rules in rw (w.in-Some.is, e))
       | in_default-via-in_default w ↦ rw w.in_default.is
     ]
 
