@@ -90,37 +90,30 @@ module _ (indexes : Option (Bor (List ℕ))) (s : List ℕ) where
     abbrev object : JoinSide → Argument
     object side = argument p.right p.right_end side
 
-    -- The numbers of its head, and the side of its object.
-    pub record Numbers (spheroid probe ties : ℕ) (other : JoinSide) : Type 0 where
-      pub flagged : spheroid ≡ flag p.use_spheroid
-      pub sided : probe ≡ side_number (join_side p.probe_side)
-      pub tied : ties ≡ ties_number p.include_tie_breakers
-      pub negated : join_side other ≡ negate (join_side p.probe_side)
-
-    pub knn-view : (spheroid probe ties : ℕ) (other : JoinSide) → Numbers spheroid probe ties other → (P : Predicate)
+    pub knn-view : (other : JoinSide) → join_side other ≡ negate (join_side p.probe_side) → (P : Predicate)
         → KnnAt (change_of indexes) s p P
-        → Headed (knn_head p.k spheroid probe ties) (BothStood indexes s query (object other))
-        (both_written indexes query (object other)) (predicate_fields P)
+        → Headed (knn_head p) (BothStood indexes s query (object other)) (both_written indexes query (object other)) (predicate_fields P)
     unfolding predicate_fields knn_head big_endian
-    knn-view spheroid probe ties other n P h = record {
-      it = (h.l, h.r);
-      stands = record { one = h.left; two = h.right };
-      is = rw (h.is, n.flagged, n.sided, n.tied, n.negated);
-    }
+    knn-view other negated P h =
+        record { it = (h.l, h.r); stands = record { one = h.left; two = h.right }; is = rw (h.is, negated) }
 
-    pub knn-fits : (spheroid probe ties : ℕ) (other : JoinSide) → Numbers spheroid probe ties other
+    pub knn-fits : (other : JoinSide) → join_side other ≡ negate (join_side p.probe_side)
         → {out : List ℕ} → Room (KnnAt (change_of indexes) s p) predicate_fields 0 out → 7 ≤ length out
     unfolding knn_head big_endian
-    knn-fits spheroid probe ties other n room = head-room (knn-view spheroid probe ties other n) room
+    knn-fits other negated room = head-room (knn-view other negated) room
 
--- Where k is written, the flags end the head of KNN.
-pub knn-head : (k spheroid probe ties : ℕ) (before : List ℕ) {middle : List ℕ} {r : ℕ} → 7 ≤ length before → length middle ≡ length before
-    → WroteAt 0 (big_endian 4 k) before middle r
-    → WroteAt 0 (knn_head k spheroid probe ties) before (sets middle 4 (spheroid ∷ probe ∷ ties ∷ [])) 7
+-- What the head of KNN has after k.
+abbrev flags : KNNPredicate → List ℕ
+flags p = flag p.use_spheroid ∷ side_number (join_side p.probe_side) ∷ ties_number p.include_tie_breakers ∷ []
+
+-- Where k is written, these end its head.
+pub knn-head : (p : KNNPredicate) (before : List ℕ) {middle : List ℕ} {r : ℕ} → 7 ≤ length before → length middle ≡ length before
+    → WroteAt 0 (big_endian 4 p.k) before middle r
+    → WroteAt 0 (knn_head p) before (sets middle 4 (flags p)) 7
 unfolding knn_head big_endian
-knn-head k spheroid probe ties before {middle} {r} room same number =
+knn-head p before {middle} {r} room same number =
     let end : r ≡ 4 = number.ends in
-    chain (omega arith) (rw end at number) (stores (spheroid ∷ probe ∷ ties ∷ []) middle 4 (omega arith))
+    chain (omega arith) (rw end at number) (stores (flags p) middle 4 (omega arith))
 
 -- ---- the first byte and the position, then the fields
 

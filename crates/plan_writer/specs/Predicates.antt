@@ -2,7 +2,10 @@
 use Rattle.std.specs.Prelude.{ℕ, List, [], ◌∷◌, ◌++◌}
 use Rattle.definitions.specs.Basics.{big_endian}
 use Rattle.definitions.specs.Expression.{Predicate}
-use Rattle.definitions.specs.Encode.{predicate_kind, predicate_fields}
+use Rattle.definitions.specs.Encode.{side_number, predicate_kind, predicate_fields}
+use Rattle.terms.specs.Sides.{join_side}
+use Rattle.sedona_query_planner.specs.Predicates.{flag, ties_number}
+use Rattle.sedona_query_planner.specs.declared.spatial_predicate.KNNPredicate.{KNNPredicate}
 use Rattle.sedona_query_planner.specs.declared.spatial_predicate.SpatialPredicate.{SpatialPredicate}
 use Rattle.sedona_query_planner.specs.declared.spatial_predicate.SpatialPredicate.TheVariants.{Distance, Relation, KNearestNeighbors}
 
@@ -20,9 +23,10 @@ kind_of (Distance p) = 0x12
 kind_of (Relation p) = 0x11
 kind_of (KNearestNeighbors p) = 0x13
 
--- The fields of KNN before its arguments, the probe side by its number.
-unfoldable pub knn_head : (k spheroid probe ties : ℕ) → List ℕ
-knn_head k spheroid probe ties = big_endian 4 k ++ (spheroid ∷ probe ∷ ties ∷ [])
+-- The fields of KNN before its arguments.
+unfoldable pub knn_head : KNNPredicate → List ℕ
+knn_head p =
+    big_endian 4 p.k ++ (flag p.use_spheroid ∷ side_number (join_side p.probe_side) ∷ ties_number p.include_tie_breakers ∷ [])
 
 -- The bytes of a frame before its records.
 unfoldable pub frame_head : (count : ℕ) → List ℕ

@@ -62,27 +62,24 @@ fn put_distance(out: &mut [u8], src: &[u8], p: DistancePredicate, indexes: Optio
     reproject_column_references_for_side(out, w, src, distance, indexes)
 }
 
-// k, spheroid, the number of the probe side, ties; answers where they end.
-fn put_knn_head(out: &mut [u8], k: u32, spheroid: u8, probe: u8, ties: u8) -> usize
+// k, spheroid, probe side, ties; answers where they end.
+fn put_knn_head(out: &mut [u8], p: KNNPredicate) -> usize
     requires { 7 ≤ length out.old }
-    ensures { WroteAt 0 (knn_head k spheroid probe ties) out.old out.new result }
+    ensures { WroteAt 0 (knn_head p) out.old out.new result }
 {
-    put_number(out, 0, 4, k as usize);
-    out[4] = spheroid;
-    out[5] = probe;
-    out[6] = ties;
+    put_number(out, 0, 4, p.k as usize);
+    out[4] = u8::from(p.use_spheroid);
+    out[5] = u8::from(p.probe_side);
+    out[6] = ties_number(p.include_tie_breakers);
     7
 }
 
-// k, spheroid, probe side, ties, left, right.
+// Its head, left, right.
 fn put_knn(out: &mut [u8], src: &[u8], p: KNNPredicate, indexes: Option<&[u16]>) -> usize
     requires { Room (KnnAt (change_of indexes) src.now p) predicate_fields 0 out.old }
     ensures { Puts (KnnAt (change_of indexes.entry) src.now p) predicate_fields out.old
         out.new result }
 {
-    let spheroid = u8::from(p.use_spheroid);
-    let probe = u8::from(p.probe_side);
-    let ties = ties_number(p.include_tie_breakers);
     let left = Argument {
         start: p.left,
         end: p.left_end,
@@ -93,7 +90,7 @@ fn put_knn(out: &mut [u8], src: &[u8], p: KNNPredicate, indexes: Option<&[u16]>)
         end: p.right_end,
         side: p.probe_side.negate(),
     };
-    let w = put_knn_head(out, p.k, spheroid, probe, ties);
+    let w = put_knn_head(out, p);
     put_both(out, w, src, left, right, indexes)
 }
 

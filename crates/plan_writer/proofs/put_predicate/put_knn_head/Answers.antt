@@ -6,4 +6,5 @@ pub returns : goal.returns
 returns c =
     let call = c.put_number in
     let a = c.args in
-    knn-head a.k a.spheroid a.probe a.ties a.out.now c.requires call.auto.out call.ensures
+    rw (c.from.ensures, c.from-2.ensures, c.ties_number.ensures)
+    (knn-head a.p a.out.now c.requires call.auto.out call.ensures)
