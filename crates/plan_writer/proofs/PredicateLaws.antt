@@ -1,7 +1,7 @@
 -- The fields of a predicate as numbers and the arguments after them, and its bytes as its first byte, its position and its fields.
 use Prim.Native.Nat.{ℕ, ◌≤◌}
 use native.Mathlib.Omega.{arith}
-use mathlib.Core.Path.{◌≡◌, refl, sym, ap, ◌∙◌}
+use mathlib.Core.Path.{◌≡◌, sym, ap, ◌∙◌}
 use mathlib.Core.List.{List, [], ◌∷◌, ◌++◌, append_assoc}
 use lib.ListN.{length}
 use lib.Seq.{sets}
@@ -23,9 +23,9 @@ use Rattle.sedona_query_planner.specs.declared.spatial_predicate.KNNPredicate.{K
 use Rattle.sedona_query_planner.specs.declared.spatial_predicate.SpatialPredicate.{SpatialPredicate}
 use Rattle.sedona_query_planner.specs.declared.spatial_predicate.SpatialPredicate.TheVariants.{Distance, Relation, KNearestNeighbors}
 use Rattle.writing.specs.Written.{WroteAt}
-use Rattle.writing.specs.Writing.{Room, Both, joined}
+use Rattle.writing.specs.Writing.{Both, joined}
 use Rattle.writing.proofs.Written.{chain}
-use Rattle.writing.proofs.Sequence.{stores, Headed, head-room}
+use Rattle.writing.proofs.Sequence.{stores, Headed}
 use Rattle.plan_writer.specs.Arguments.{change_of, Stood, written, BothStood, both_written}
 use Rattle.plan_writer.specs.Predicates.{head_of, predicate_bytes, kind_of, knn_head}
 use Rattle.plan_writer.specs.declared.arguments.Argument.{Argument}
@@ -35,72 +35,44 @@ abbrev argument : (start end : ℕ) → JoinSide → Argument
 argument start end side = record { start = start; end = end; side = side }
 
 module _ (indexes : Option (Bor (List ℕ))) (s : List ℕ) where
-  module _ (p : RelationPredicate) where
-    abbrev relation_left : Argument
-    relation_left = argument p.left p.left_end Left
+  -- A head, then a left and a right argument.
+  abbrev SidesAfter : (h : List ℕ) (left right : Argument) → List ℕ → Type 0
+  SidesAfter h left right = Headed h (BothStood indexes s left right) (both_written indexes left right)
 
-    abbrev relation_right : Argument
-    relation_right = argument p.right p.right_end Right
+  pub relation-view : (p : RelationPredicate) {number : ℕ} → number ≡ relation_number (relation_of p.relation_type) → (P : Predicate)
+      → RelationAt (change_of indexes) s p P
+      → SidesAfter (number ∷ []) (argument p.left p.left_end Left) (argument p.right p.right_end Right) (predicate_fields P)
+  unfolding predicate_fields
+  relation-view p e P h = record { it = (h.l, h.r); stands = record { one = h.left; two = h.right }; is = rw (h.is, e) }
 
-    pub relation-view : (number : ℕ) → number ≡ relation_number (relation_of p.relation_type) → (P : Predicate)
-        → RelationAt (change_of indexes) s p P
-        → Headed (number ∷ []) (BothStood indexes s relation_left relation_right) (both_written indexes relation_left relation_right)
-        (predicate_fields P)
-    unfolding predicate_fields
-    relation-view number e P h = record { it = (h.l, h.r); stands = record { one = h.left; two = h.right }; is = rw (h.is, e) }
+  pub knn-view : (p : KNNPredicate) (other : JoinSide) → join_side other ≡ negate (join_side p.probe_side) → (P : Predicate)
+      → KnnAt (change_of indexes) s p P
+      → SidesAfter (knn_head p) (argument p.left p.left_end p.probe_side) (argument p.right p.right_end other) (predicate_fields P)
+  unfolding predicate_fields knn_head big_endian
+  knn-view p other negated P h = record { it = (h.l, h.r); stands = record { one = h.left; two = h.right }; is = rw (h.is, negated) }
 
-    pub relation-fits : {out : List ℕ} → Room (RelationAt (change_of indexes) s p) predicate_fields 0 out → 1 ≤ length out
-    relation-fits room = head-room (relation-view _ refl) room
-
+  -- The distance is a third argument after them.
   module _ (p : DistancePredicate) where
-    abbrev distance_left : Argument
-    distance_left = argument p.left p.left_end Left
+    abbrev left_one : Argument
+    left_one = argument p.left p.left_end Left
 
-    abbrev distance_right : Argument
-    distance_right = argument p.right p.right_end Right
+    abbrev right_one : Argument
+    right_one = argument p.right p.right_end Right
 
     abbrev pub bound : Argument
     bound = argument p.distance p.distance_end p.distance_side
 
-    pub distance-view : (form number : ℕ) → form ≡ form_number p.form → number ≡ side_number (join_side p.distance_side) → (P : Predicate)
+    pub distance-view : {form number : ℕ} → form ≡ form_number p.form → number ≡ side_number (join_side p.distance_side) → (P : Predicate)
         → DistanceAt (change_of indexes) s p P
-        → Headed (form ∷ number ∷ []) (Both (BothStood indexes s distance_left distance_right) (Stood indexes s bound))
-        (joined (both_written indexes distance_left distance_right) (written indexes bound)) (predicate_fields P)
+        → Headed (form ∷ number ∷ []) (Both (BothStood indexes s left_one right_one) (Stood indexes s bound))
+        (joined (both_written indexes left_one right_one) (written indexes bound)) (predicate_fields P)
     unfolding predicate_fields
-    distance-view form number f e P h = record {
+    distance-view f e P h = record {
       it = ((h.l, h.r), h.bound);
       stands = record { one = record { one = h.left; two = h.right }; two = h.limit };
       is =
-          rw (
-            h.is,
-            f,
-            e,
-            append_assoc (written indexes distance_left h.l) (written indexes distance_right h.r)
-                (written indexes bound h.bound),
-          );
+          rw (h.is, f, e, append_assoc (written indexes left_one h.l) (written indexes right_one h.r) (written indexes bound h.bound));
     }
-
-    pub distance-fits : {out : List ℕ} → Room (DistanceAt (change_of indexes) s p) predicate_fields 0 out → 2 ≤ length out
-    distance-fits room = head-room (distance-view _ _ refl refl) room
-
-  module _ (p : KNNPredicate) where
-    abbrev query : Argument
-    query = argument p.left p.left_end p.probe_side
-
-    abbrev object : JoinSide → Argument
-    object side = argument p.right p.right_end side
-
-    pub knn-view : (other : JoinSide) → join_side other ≡ negate (join_side p.probe_side) → (P : Predicate)
-        → KnnAt (change_of indexes) s p P
-        → Headed (knn_head p) (BothStood indexes s query (object other)) (both_written indexes query (object other)) (predicate_fields P)
-    unfolding predicate_fields knn_head big_endian
-    knn-view other negated P h =
-        record { it = (h.l, h.r); stands = record { one = h.left; two = h.right }; is = rw (h.is, negated) }
-
-    pub knn-fits : (other : JoinSide) → join_side other ≡ negate (join_side p.probe_side)
-        → {out : List ℕ} → Room (KnnAt (change_of indexes) s p) predicate_fields 0 out → 7 ≤ length out
-    unfolding knn_head big_endian
-    knn-fits other negated room = head-room (knn-view other negated) room
 
 -- What the head of KNN has after k.
 abbrev flags : KNNPredicate → List ℕ

@@ -1,12 +1,15 @@
 -- Its head, then query and object.
-use Rattle.writing.proofs.Sequence.{rest-room, headed-put}
-use Rattle.plan_writer.proofs.PredicateLaws.{knn-view, knn-fits}
+use Rattle.definitions.specs.Basics.{big_endian}
+use Rattle.writing.proofs.Sequence.{head-room, rest-room, headed-put}
+use Rattle.plan_writer.specs.Predicates.{knn_head}
+use Rattle.plan_writer.proofs.PredicateLaws.{knn-view}
 use Rattle.plan_writer.proofs.put_predicate.put_knn.Goals as goal
 
 pub put_knn_head-w-requires : goal.put_knn_head-w-requires
+unfolding knn_head big_endian
 put_knn_head-w-requires c =
     let a = c.args in
-    knn-fits a.indexes a.src.now a.p _ c.negate.ensures c.requires
+    head-room (knn-view a.indexes a.src.now a.p _ c.negate.ensures) c.requires
 
 pub put_both-requires : goal.put_both-requires
 put_both-requires c =

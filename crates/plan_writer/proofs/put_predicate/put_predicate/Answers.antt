@@ -24,8 +24,8 @@ fields-room : (c : After-put_head-w)
     Room (PredicateAt (change_of a.indexes) a.src.now a.p) predicate_fields c.put_head-w.result
     c.put_head-w.new.out
 fields-room c =
-    rest-room ((let a = c.args in
-    predicate-view (change_of a.indexes) a.src.now a.p _ a.position c.predicate_kind-kind.ensures)) c.requires
+    let a = c.args in
+    rest-room (predicate-view (change_of a.indexes) a.src.now a.p _ a.position c.predicate_kind-kind.ensures) c.requires
     c.put_head-w.ensures c.put_head-w.auto.out
 
 pub put_head-w-requires : goal.put_head-w-requires
