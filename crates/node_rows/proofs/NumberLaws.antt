@@ -1,13 +1,12 @@
 -- Laws of the numbers of node records: which number it is, that it gives the end, and that another record has another one.
-use Prim.Native.Nat.{ℕ, ◌+◌, ◌*◌, ◌/◌, ◌%◌, ◌<◌}
+use Prim.Native.Nat.{ℕ, zero, suc, ◌+◌, ◌*◌, ◌/◌, ◌%◌, ◌≤◌, ◌<◌}
 use native.Mathlib.Omega.{arith}
-use mathlib.Core.Path.{◌≡◌, refl, ap, ◌∙◌}
+use mathlib.Core.Path.{◌≡◌, refl, sym, ap, ap₂, subst, ◌∙◌}
 use mathlib.Core.Bool.{Bool, true, false, ◌&&◌}
-use mathlib.Core.List.{List}
-use lib.ListN.{length, get_or}
-use lib.Seq.{take-suc}
+use mathlib.Core.List.{List, [], ◌∷◌}
+use lib.ListN.{length, take}
 use lib.Dec.{eqb}
-use native.Mathlib.Numerals.{add-one}
+use Rattle.std.specs.Cmp.Lexicographic.{pointwise}
 use borrow.Author.Tests.{lt-ltb, eqb-true, eqb-false}
 use Rattle.definitions.specs.NodeTable.{NodeRecord}
 use Rattle.node_rows.specs.Numbers.{number}
@@ -31,19 +30,23 @@ number-end r h = ap (λ (n : ℕ). n % 32768) (number-told r h) ∙ omega (arith
 pub number-start : (r : NodeRecord) → Told r → number r / 32768 % 16384 ≡ r.start
 number-start r h = ap (λ (n : ℕ). n / 32768 % 16384) (number-told r h) ∙ omega (arith, h.start, h.end)
 
--- ---- rows that are equal so far
+-- ---- rows that are compared
 
-module _ (a b : List ℕ) where
-  pub same_none : SameIs a b 0 true
-  same_none = refl
+-- A front differs in its first number, or where the rest does.
+same_first : (n : ℕ) (x y : ℕ) (a b : List ℕ) (equal same : Bool) → eqb x y ≡ equal → SameIs a b n same
+    → SameIs (x ∷ a) (y ∷ b) (suc n) (equal && same)
+same_first n x y a b false same e is = (0, omega arith, eqb-false x y e)
+same_first n x y a b true false e is = (suc is.0, omega (arith, is.1), is.2)
+same_first n x y a b true true e is = ap₂ ◌∷◌ (eqb-true x y e) is
 
-  same_next : (k : ℕ) (so equal : Bool) → k < length a → k < length b → eqb (get_or a k 0) (get_or b k 0) ≡ equal → SameIs a b k so
-      → SameIs a b (k + 1) (so && equal)
-  same_next k false equal h g e so = (so.0, omega (arith, so.1), so.2)
-  same_next k true false h g e so = (k, omega arith, eqb-false (get_or a k 0) (get_or b k 0) e)
-  same_next k true true h g e so =
-      rw (add-one k, take-suc a k 0 h, take-suc b k 0 g, so, eqb-true (get_or a k 0) (get_or b k 0) e)
+-- Fronts are equal where `==` says so.
+fronts_same : (count : ℕ) (a b : List ℕ) → count ≤ length a → count ≤ length b → SameIs a b count (pointwise eqb (take count a) (take count b))
+fronts_same zero a b h g = refl
+fronts_same (suc n) [] b h g = absurd (omega arith)
+fronts_same (suc n) (x ∷ a) [] h g = absurd (omega arith)
+fronts_same (suc n) (x ∷ a) (y ∷ b) h g =
+    same_first n x y a b (eqb x y) (pointwise eqb (take n a) (take n b)) refl (fronts_same n a b (omega arith) (omega arith))
 
-  pub same_more : (k : ℕ) (so : Bool) → k < length a → k < length b → SameIs a b k so
-      → SameIs a b (k + 1) (so && eqb (get_or a k 0) (get_or b k 0))
-  same_more k so h g is = same_next k so (eqb (get_or a k 0) (get_or b k 0)) h g refl is
+pub same_by_eq : (count : ℕ) (a b : List ℕ) (r : Bool) → count ≤ length a → count ≤ length b
+    → r ≡ pointwise eqb (take count a) (take count b) → SameIs a b count r
+same_by_eq count a b r h g e = subst (SameIs a b count) (sym e) (fronts_same count a b h g)

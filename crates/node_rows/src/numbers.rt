@@ -32,14 +32,11 @@ pub fn put_node(
     }
 }
 
-// Whether the first `count` numbers are equal. All are looked at, so that the compiler can compare several at once.
+// Whether the first `count` numbers are equal. The library compares several at once.
+#[tactic(auto, using(crate::proofs::NumberLaws::same_by_eq))]
 pub fn same_numbers(a: &[u32], b: &[u32], count: usize) -> bool
     requires { (count ≤ length a.now) × (count ≤ length b.now) }
     ensures { SameIs a.now b.now count result }
 {
-    let mut same = true;
-    for k in 0..count {
-        same &= a[k] == b[k];
-    }
-    same
+    a[..count] == b[..count]
 }
