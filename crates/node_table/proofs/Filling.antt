@@ -1,12 +1,12 @@
 -- A list whose first elements are overwritten, one after another, by those of another list under a function.
 use mathlib.Core.Path.{◌≡◌, refl, ap}
-use Prim.Native.Nat.{ℕ, zero, suc, ◌+◌, ◌<◌, ◌≤◌}
+use Prim.Native.Nat.{ℕ, zero, suc, ◌+◌, ◌<◌}
 use native.Mathlib.Nat.{zero-add}
 use native.Mathlib.Numerals.{add-one}
 use native.Mathlib.Omega.{arith}
 use mathlib.Core.List.{List, [], ◌∷◌, ◌++◌, map}
 use lib.ListN.{length, get_or, set, take, drop, length-map, get_or-map}
-use lib.Seq.{paste-suc, length-paste}
+use lib.Seq.{paste-suc}
 
 module _ {A B : Type 0} (f : A → B) (xs : List A) (ys : List B) where
   -- the list after i elements were overwritten
