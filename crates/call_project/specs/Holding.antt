@@ -1,5 +1,5 @@
 -- What is held where a projection begins. (Ours.)
-use Rattle.std.specs.Prelude.{ℕ, ◌*◌, ◌≤◌, ◌≡◌, List, length, take}
+use Rattle.std.specs.Prelude.{ℕ, ◌*◌, ◌≤◌, ◌<◌, ◌≡◌, List, length, take}
 use Rattle.definitions.specs.Basics.{ok}
 use Rattle.definitions.specs.Expression as tree
 use Rattle.definitions.specs.Plans.{plan_of}
@@ -14,10 +14,11 @@ pub record HoldsExtraction (n : ℕ) (plan : List ℕ) (x : Extraction) : Type 0
   pub there : ExtractionThere (take n plan) x X
   pub is : plan_of (take n plan) ≡ ok (tree.extracted X)
 
--- Lists and scratch will do, and a row of so many places has one for each five bytes; no plan needs more than 3,277.
+-- Lists and scratch will do, and a row of so many places has one for each five bytes. No row of numbers has more bytes than the last clause
+-- says.
 pub record Ready (n : ℕ) (plan scratch : List ℕ) (x : Extraction) (of_left of_right : List ℕ) (places : ℕ) : Type 0 where
   pub holds : HoldsExtraction n plan x
   pub lists : ListsFit of_left of_right
   pub scratched : n ≤ length scratch
   pub room : n ≤ 5 * places
-  pub few : places ≤ 3277
+  pub few : 4 * places < 9223372036854775808
