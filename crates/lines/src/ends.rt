@@ -1,5 +1,5 @@
 // The end of a line: what it gives is written, and the state goes on.
-ghost use Rattle.std.specs.Prelude.{◌≡◌, List, ℕ, ◌≤◌, length};
+ghost use Rattle.std.specs.Prelude.{◌≡◌, List, ℕ, ◌+◌, ◌*◌, ◌≤◌, length};
 ghost use Rattle.definitions.specs.Program.{line_outcome};
 ghost use Rattle.lines.specs.Answers.{plan_length, kept_as, AnswerIs};
 ghost use Rattle.lines.specs.Collecting.{Begun};
@@ -7,7 +7,7 @@ ghost use Rattle.lines.specs.Sessions.{begun_scratch, EndedIs};
 
 use super::answers::{Answer, length_after, put_answer};
 use super::calls::answer_line;
-use super::states::{Buffers, State};
+use super::states::State;
 use terms::refusals::Refusal;
 
 // What the line that has begun gives; one that the buffer does not hold is too long.
@@ -25,19 +25,21 @@ fn answer_begun(plan: &mut [u8], scratch: &mut [u8], line: &[u8], count: usize, 
 }
 
 // The line that has begun is at its end.
-pub fn end_line(buffers: &mut Buffers, state: State) -> State
-    requires { state.filled ≤ 32757 }
-    ensures { EndedIs buffers.old state buffers.new result }
+pub fn end_line(
+    out: &mut [u8],
+    plan: &mut [u8],
+    scratch: &mut [u8],
+    line: &[u8],
+    state: State,
+) -> State
+    requires scratch_len { (length scratch.old ≡ 16384) × (length line.now ≡ 32768) }
+    requires plan_in_bounds { state.filled + 2 * length plan.old + 11 ≤ length out.old }
+    ensures { EndedIs (record { out = out.old; plan = plan.old; scratch = scratch.old; line = line.now }) state
+        (record { out = out.new; plan = plan.new; scratch = scratch.new; line = line.now }) result }
 {
     let n = state.n;
-    let answer = answer_begun(
-        &mut buffers.plan,
-        &mut buffers.scratch,
-        &buffers.line,
-        state.count,
-        n,
-    );
-    let filled = put_answer(&mut buffers.out, state.filled, &buffers.plan, answer);
+    let answer = answer_begun(plan, scratch, line, state.count, n);
+    let filled = put_answer(out, state.filled, plan, answer);
     State {
         n: length_after(n, answer),
         count: 0,

@@ -1,9 +1,24 @@
 // What the program does with its input: lines of hexadecimal in, a line out for each. Public for the program.
-ghost use Rattle.lines.specs.Sessions.{FedIs, FinishedIs};
+ghost use Rattle.std.specs.Prelude.{◌≤◌};
+ghost use Rattle.lines.specs.Sessions.{EndedIs, FedIs, FinishedIs};
 
 use super::collecting::collect;
 use super::ends::end_line;
 use super::states::{Buffers, Fed, MOST_FILLED, State};
+
+// The line that has begun in the buffers is at its end.
+fn end(buffers: &mut Buffers, state: State) -> State
+    requires { state.filled ≤ 32757 }
+    ensures { EndedIs buffers.old state buffers.new result }
+{
+    end_line(
+        &mut buffers.out,
+        &mut buffers.plan,
+        &mut buffers.scratch,
+        &buffers.line,
+        state,
+    )
+}
 
 // Takes a piece of the input up to the end of a line; nothing where there is no room for what a line gives.
 pub fn feed(buffers: &mut Buffers, piece: &[u8], state: State) -> Fed
@@ -20,7 +35,7 @@ pub fn feed(buffers: &mut Buffers, piece: &[u8], state: State) -> Fed
     Fed {
         taken: collected.taken,
         state: if collected.ended {
-            end_line(buffers, joined)
+            end(buffers, joined)
         } else {
             joined
         },
@@ -34,5 +49,5 @@ pub fn finish(buffers: &mut Buffers, state: State) -> State
     if state.count == 0 || MOST_FILLED < state.filled {
         return state;
     }
-    end_line(buffers, state)
+    end(buffers, state)
 }

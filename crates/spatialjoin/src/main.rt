@@ -32,7 +32,7 @@ fn read_on(
     let got = stdin.read(chunk);
     match take_in(stdout, buffers, chunk, got, state)? {
         Turn::More(next) => {
-            let next = flush(stdout, buffers, next)?;
+            let next = flush(stdout, &buffers.out, next)?;
             Ok(Turn::More(next))
         }
         Turn::Ended(last) => Ok(Turn::Ended(last)),
@@ -66,7 +66,7 @@ fn write_last(stdout: Stdout, buffers: &mut Buffers, state: State) -> Result<Sta
     ensures { LastIs buffers.old state buffers.new result }
 {
     let last = finish(buffers, state);
-    flush(stdout, buffers, last)
+    flush(stdout, &buffers.out, last)
 }
 
 // The whole run, and its last line.

@@ -22,7 +22,7 @@ fn feed_all(
     let mut at = 0;
     while at < characters.len() {
         let fed = feed(buffers, &characters[at..], current);
-        current = make_room(stdout, buffers, fed.state)?;
+        current = make_room(stdout, &buffers.out, fed.state)?;
         at += fed.taken;
     }
     Ok(current)

@@ -2,7 +2,7 @@
 ghost use Rattle.std.specs.Prelude.{◌≤◌, length};
 ghost use Rattle.streams.specs.Turns.{Flushed, Roomy};
 
-use lines::states::{Buffers, MOST_FILLED, State};
+use lines::states::{MOST_FILLED, State};
 use std::io::Stdout;
 
 // What follows a read: another one, or the end of the input. Neither is a break: what is left of the last line is still to be answered.
@@ -20,11 +20,11 @@ pub enum Failure {
 }
 
 // Writes what waits.
-pub fn flush(stdout: Stdout, buffers: &Buffers, state: State) -> Result<State, Failure>
-    requires { state.filled ≤ length buffers.now.out }
+pub fn flush(stdout: Stdout, out: &[u8], state: State) -> Result<State, Failure>
+    requires { state.filled ≤ length out.now }
     ensures { Flushed state result }
 {
-    if stdout.write_all(&buffers.out[..state.filled]).is_ok() {
+    if stdout.write_all(&out[..state.filled]).is_ok() {
         Ok(State { filled: 0, ..state })
     } else {
         Err(Failure::NotWritten)
@@ -32,12 +32,12 @@ pub fn flush(stdout: Stdout, buffers: &Buffers, state: State) -> Result<State, F
 }
 
 // Writes what waits where there is no room for what another line gives.
-pub fn make_room(stdout: Stdout, buffers: &Buffers, state: State) -> Result<State, Failure>
-    requires { state.filled ≤ length buffers.now.out }
+pub fn make_room(stdout: Stdout, out: &[u8], state: State) -> Result<State, Failure>
+    requires { state.filled ≤ length out.now }
     ensures { Roomy state result }
 {
     if MOST_FILLED < state.filled {
-        flush(stdout, buffers, state)
+        flush(stdout, out, state)
     } else {
         Ok(state)
     }
