@@ -1,12 +1,14 @@
 -- Decoding: what is known after i pairs of digits, and what each answer means.
-use Prim.Native.Nat.{ℕ, suc, ◌+◌, ◌*◌, ◌/◌, ◌%◌, ◌≤◌, ◌<◌}
+use Prim.Native.Nat.{ℕ, zero, suc, ◌+◌, ◌*◌, ◌/◌, ◌%◌, ◌≤◌, ◌<◌}
 use native.Mathlib.Omega.{arith}
+use native.Mathlib.Nat.{add-zero}
 use native.Mathlib.Numerals.{add-one}
 use mathlib.Core.Path.{◌≡◌, refl, sym, ap, ◌∙◌}
 use mathlib.Core.List.{List, [], ◌∷◌, ◌++◌, append_assoc, append-nil}
 use mathlib.Core.Option.{Option, none, some}
 use lib.ListN.{length, take, drop, get_or, set, length-set, drop_of_length-le, take-append-drop}
-use lib.Seq.{drop-cons, take-suc-set, drop-set-lt, drop-drop, length-take-le}
+use lib.Seq.{drop-cons, take-suc-set, drop-set-lt, drop-drop, length-take-le, get_or-take, get_or-drop}
+use Rattle.std.specs.Simd.{first_chunks}
 use borrow.Author.Tests.{le-leb, lt-leb}
 use Rattle.hexadecimal.specs.Hex.{leading_pair, leading_bytes, decoded_to, DecodedIs}
 use Rattle.writing.specs.Written.{Wrote}
@@ -82,6 +84,24 @@ ahead-ahead x y (some bytes) = ap some (sym (append_assoc x y bytes))
 -- The two characters at a place.
 abbrev pub pair_at : List ℕ → ℕ → Option (List ℕ)
 pair_at line i = pair_bytes (digit_value (get_or line (2 * i) 0)) (digit_value (get_or line (2 * i + 1) 0)) (some [])
+
+-- Where the line is cut into pairs of characters, this is the pair at an index.
+abbrev pub pair_of : List ℕ → Option (List ℕ)
+pair_of pair = pair_bytes (digit_value (get_or pair 0 0)) (digit_value (get_or pair 1 0)) (some [])
+
+of_pair : (n : ℕ) (line : List ℕ) (i k : ℕ) → i < n → k < 2 → get_or (get_or (first_chunks 2 n line) i []) k 0 ≡ get_or line (2 * i + k) 0
+of_pair zero line i k h two = absurd (omega arith)
+of_pair (suc n) line zero k h two =
+    get_or-take 2 line k 0 two ∙ ap (λ (j : ℕ). get_or line j 0) (let e : k ≡ 2 * 0 + k = omega arith in e)
+of_pair (suc n) line (suc i) k h two =
+    of_pair n (drop 2 line) i k (omega arith) two ∙ get_or-drop 2 line (2 * i + k) 0
+    ∙ ap (λ (j : ℕ). get_or line j 0) (let e : 2 + (2 * i + k) ≡ 2 * suc i + k = omega arith in e)
+
+pub pair-there : (line : List ℕ) (n i : ℕ) → i < n → pair_of (get_or (first_chunks 2 n line) i []) ≡ pair_at line i
+pair-there line n i h =
+    let high : get_or (get_or (first_chunks 2 n line) i []) 0 0 ≡ get_or line (2 * i) 0 =
+    of_pair n line i 0 h (omega arith) ∙ ap (λ (j : ℕ). get_or line j 0) (add-zero (2 * i)) in
+    rw (high, of_pair n line i 1 h (omega arith)) refl
 
 digits-at : (line : List ℕ) (i : ℕ) → 2 * i + 1 < length line
     → digit_bytes (drop (2 * i) line) ≡ pair_bytes (digit_value (get_or line (2 * i) 0)) (digit_value (get_or line (2 * i + 1) 0))

@@ -36,14 +36,14 @@ pub fn decode(out: &mut [u8], line: &[u8]) -> Option<usize>
     if 32768 < line.len() {
         return None;
     }
-    if line.len() % 2 == 1 {
+    let (pairs, single) = line.as_chunks::<2>();
+    if !single.is_empty() {
         return None;
     }
-    let size = line.len() / 2;
-    for i in 0..size {
-        out[i] = digit_pair(line[2 * i], line[2 * i + 1])?;
+    for (i, &[high, low]) in pairs.iter().enumerate() {
+        out[i] = digit_pair(high, low)?;
     }
-    Some(size)
+    Some(pairs.len())
 }
 
 // The digit of a value below 16.
@@ -64,6 +64,7 @@ pub fn encode(out: &mut [u8], at: usize, bytes: &[u8]) -> usize
     requires { at + 2 * length bytes.now ≤ length out.old }
     ensures { WroteAt at (program.digits bytes.now) out.old out.new result }
 {
+    // By index: `chunks_exact_mut(2)` with a zip was tried and the proof did not close; the library does not say what `out` ends as.
     let mut next = at;
     for byte in bytes {
         out[next] = digit(byte / 16);
