@@ -2,12 +2,13 @@
 use Prim.Native.Nat.{ℕ, zero, suc, ◌+◌, ◌-◌, ◌*◌, ◌≤◌, ◌<◌}
 use native.Mathlib.Omega.{arith}
 use native.Mathlib.Nat.{sub-zero, mul-add, mul-one}
-use mathlib.Core.Path.{◌≡◌, refl, ap, ◌∙◌}
+use mathlib.Core.Path.{◌≡◌, refl, ap, ap₂, ◌∙◌}
 use mathlib.Core.Logic.{◌⊎◌, inl, inr}
 use mathlib.Core.Bool.{Bool, true, false, and-false}
 use mathlib.Core.List.{List, [], ◌∷◌}
 use lib.ListN.{length, take, drop, get_or}
-use lib.Seq.{drop-drop}
+use lib.Seq.{drop-drop, get_or-drop, get_or-take}
+use Rattle.std.specs.Simd.{first_chunks}
 use lib.Dec.{leb}
 use borrow.Author.Tests.{le-leb, lt-leb, ne_eqb, eq-eqb}
 use Rattle.definitions.specs.Basics.{ok, refused}
@@ -19,6 +20,25 @@ use Rattle.queues.specs.Held.{GoodIs}
 use Rattle.queues.proofs.Shifting.{length-there}
 
 -- ---- one queue
+
+-- Where the lengths are cut into two bytes each, those at an index are the length.
+in_twos : (n : ℕ) (xs : List ℕ) (i k : ℕ) → i < n → k < 2 → get_or (get_or (first_chunks 2 n xs) i []) k 0 ≡ get_or xs (2 * i + k) 0
+in_twos zero xs i k h two = absurd (omega arith)
+in_twos (suc n) xs zero k h two = get_or-take 2 xs k 0 two ∙ ap (λ (j : ℕ). get_or xs j 0) (let e : k ≡ 2 * 0 + k = omega arith in e)
+in_twos (suc n) xs (suc i) k h two =
+    in_twos n (drop 2 xs) i k (omega arith) two ∙ get_or-drop 2 xs (2 * i + k) 0
+    ∙ ap (λ (j : ℕ). get_or xs j 0) (let e : 2 + (2 * i + k) ≡ 2 * suc i + k = omega arith in e)
+
+pub length-cut : (part : List ℕ) (n count i : ℕ) → i < count → count ≤ n → n ≤ 16
+    → short_at (get_or (take count (first_chunks 2 n (lengths_of part))) i []) 0 ≡ short_at part (1 + 2 * i)
+length-cut part n count i more few all =
+    ap (λ (l : List ℕ). short_at l 0) (get_or-take count (first_chunks 2 n (lengths_of part)) i [] more)
+    ∙ ap₂ (λ (a b : ℕ). a * 256 + b) (byte 0 (1 + 2 * i) (omega arith) (omega arith)) (byte 1 (1 + 2 * i + 1) (omega arith) (omega arith))
+  where
+    byte : (k at : ℕ) → k < 2 → 1 + (2 * i + k) ≡ at → get_or (get_or (first_chunks 2 n (lengths_of part)) i []) k 0 ≡ get_or part at 0
+    byte k at two e =
+        in_twos n (lengths_of part) i k (omega arith) two ∙ get_or-take 32 (drop 1 part) (2 * i + k) 0 (omega arith)
+        ∙ get_or-drop 1 part (2 * i + k) 0 ∙ ap (λ (j : ℕ). get_or part j 0) e
 
 -- What is left to read after i lengths decides.
 pub record Read (part : List ℕ) (i : ℕ) : Type 0 where

@@ -3,7 +3,7 @@ ghost use Rattle.std.specs.Prelude.{◌≡◌, length};
 ghost use Rattle.definitions.specs.QueueBytes.{queue_of};
 ghost use Rattle.queues.specs.Held.{GoodIs, HeldIs};
 
-use crate::parts::{FIRST, LENGTHS, LONGEST, MOST, SECOND, WHOLE};
+use crate::parts::{FIRST, LENGTHS, LONGEST, MOST, PLACES, SECOND, WHOLE};
 use expression::fields::short_at;
 use terms::refusals::Refusal;
 
@@ -16,8 +16,9 @@ fn good_queue(part: &[u8]) -> bool
     if MOST < count {
         return false;
     }
-    for i in 0..count {
-        let n = short_at(part, LENGTHS + 2 * i);
+    let (lengths, _) = part[LENGTHS..PLACES].as_chunks::<2>();
+    for length in &lengths[..count] {
+        let n = short_at(length, 0);
         if n < 1 || LONGEST < n {
             return false;
         }

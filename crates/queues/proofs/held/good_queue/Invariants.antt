@@ -2,5 +2,5 @@
 use Rattle.queues.proofs.Reading.{Read}
 use Rattle.queues.proofs.held.good_queue.Given as goal
 
-abbrev pub invariant-loop-i : goal.invariant-loop-i
-invariant-loop-i l = Read l.part l.i
+abbrev pub invariant-loop-length : goal.invariant-loop-length
+invariant-loop-length l = Read l.part l.length-index
