@@ -40,7 +40,8 @@ same_first n x y a b true false e is = (suc is.0, omega (arith, is.1), is.2)
 same_first n x y a b true true e is = ap₂ ◌∷◌ (eqb-true x y e) is
 
 -- Fronts are equal where `==` says so.
-fronts_same : (count : ℕ) (a b : List ℕ) → count ≤ length a → count ≤ length b → SameIs a b count (pointwise eqb (take count a) (take count b))
+fronts_same : (count : ℕ) (a b : List ℕ) → count ≤ length a → count ≤ length b
+    → SameIs a b count (pointwise eqb (take count a) (take count b))
 fronts_same zero a b h g = refl
 fronts_same (suc n) [] b h g = absurd (omega arith)
 fronts_same (suc n) (x ∷ a) [] h g = absurd (omega arith)

@@ -18,6 +18,7 @@ fn put_places<const BASE: usize, const ZERO: u8>(
     ensures { WroteAt w (places BASE (λ d. d + ZERO) width value) out.old out.new result }
 {
     let mut rest = value;
+    // By index: `iter_mut().rev()` was tried and the proof did not close; the library does not say what `out` ends as.
     for i in (0..width).rev() {
         out[w + i] = (rest % BASE) as u8 + ZERO;
         rest /= BASE;
