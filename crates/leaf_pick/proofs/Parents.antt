@@ -72,32 +72,38 @@ pub record Steps (numbers next : List ℕ) (place index : ℕ) (cut : Cut) : Typ
   pub on_right : (cut.leaf < end_at numbers (index + 1) → ⊥)
       → Below numbers next (end_at numbers (index + 1)) (get_or next (index + 1) 0) place cut
 
+-- Both sides of an And are in the rows; the right one where the left one ends.
+module _ {numbers next : List ℕ} {place index : ℕ} {l r : Expr} (h : Tabled numbers next place index (and l r)) where
+  ends : end_at numbers (index + 1) ≡ left_of place + length (expr_bytes l)
+  ends = tabled-end (left-of h)
+
+  steps : {cut : Cut}
+      → (cut.leaf < end_at numbers (index + 1) → Below numbers next (place + 2) (index + 1) place cut)
+      → ((cut.leaf < end_at numbers (index + 1) → ⊥)
+      → Below numbers next (end_at numbers (index + 1)) (get_or next (index + 1) 0) place cut)
+      → Steps numbers next place index cut
+  steps on_left on_right = record {
+    numbered = (tabled-within (left-of h)).0;
+    followed = (tabled-within (left-of h)).1;
+    further = omega (arith, ends);
+    on_left = on_left;
+    on_right = on_right;
+  }
+
 step : {numbers next : List ℕ} {index : ℕ} {cut : Cut} {up : ℕ} {t : Expr} {place position : ℕ} → CutAt cut up t place position
     → Tabled numbers next place index t → place < cut.leaf → Steps numbers next place index cut
 step (here single at ends parent) h less = absurd (omega (arith, at))
-step {numbers} {next} {index} {cut} (in_left {l = l} {r = r} {at = place} {position = position} more) h less =
-    let ends : end_at numbers (index + 1) ≡ left_of place + length (expr_bytes l) = tabled-end (left-of h) in
-    record {
-      numbered = (tabled-within (left-of h)).0;
-      followed = (tabled-within (left-of h)).1;
-      further = omega (arith, ends);
-      on_left = λ _. record { t = l; position = position; tabled = left-of h; at = more };
-      on_right = λ never. absurd (never (omega (arith, ends, (within more).1)));
-    }
-step {numbers} {next} {index} {cut} (in_right {l = l} {r = r} {at = place} {position = position} more) h less =
-    let ends : end_at numbers (index + 1) ≡ left_of place + length (expr_bytes l) = tabled-end (left-of h) in
-    record {
-      numbered = (tabled-within (left-of h)).0;
-      followed = (tabled-within (left-of h)).1;
-      further = omega (arith, ends);
-      on_left = λ yes. absurd (omega (arith, ends, yes, (within more).0));
-      on_right = λ _. record {
-        t = r;
-        position = position;
-        tabled = right-of h (end_at numbers (index + 1)) (get_or next (index + 1) 0) ends (tabled-next (left-of h));
-        at = subst (λ (a : ℕ). CutAt cut place r a position) (sym ends) more;
-      };
-    }
+step (in_left {l = l} {position = position} more) h less = steps h
+    (λ _. record { t = l; position = position; tabled = left-of h; at = more })
+    (λ never. absurd (never (omega (arith, ends h, (within more).1))))
+step {numbers} {next} {index} {cut} (in_right {r = r} {at = place} {position = position} more) h less = steps h
+    (λ yes. absurd (omega (arith, ends h, yes, (within more).0)))
+    (λ _. record {
+      t = r;
+      position = position;
+      tabled = right-of h (end_at numbers (index + 1)) (get_or next (index + 1) 0) (ends h) (tabled-next (left-of h));
+      at = subst (λ (a : ℕ). CutAt cut place r a position) (sym (ends h)) more;
+    })
 
 pub below_step : {numbers next : List ℕ} {place index up : ℕ} {cut : Cut} → Below numbers next place index up cut → place < cut.leaf
     → Steps numbers next place index cut
