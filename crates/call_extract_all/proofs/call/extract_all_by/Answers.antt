@@ -1,10 +1,22 @@
 -- A refused frame has its own refusal. Of a good one, whose nodes are in the rows, a buffer as long as the frame is written at once; a
 -- shorter one once it is known to be long enough.
+use lib.ListN.{replicate}
 use Rattle.node_reader.proofs.Reading.{kept}
 use Rattle.node_reader.proofs.Standing.{all-bytes}
-use Rattle.call_extract_all.proofs.Calling.{all-refused, good-read, rows-read, clear-memory, straight-fits, straight, own-fits, own-holds, too_short, copied}
+use Rattle.call_extract_all.proofs.Calling.{GoodFrame, OwnMemory, all-refused, good-read, rows-read, clear-memory, straight-fits, straight, own-fits, own-holds, too_short, copied}
 use Rattle.frame_reader.proofs.FrameRows.{clear-roomy}
 use Rattle.call_extract_all.proofs.call.extract_all_by.Goals as goal
+use Rattle.call_extract_all.proofs.call.extract_all_by.Given.{Over}
+use Rattle.call_extract_all.proofs.call.extract_all_by.Goals.{In_ok-parts, Start}
+
+-- The frame that was read is good.
+good : (g : Over) (c : In_ok-parts g) → GoodFrame c.args.frame.now c.in_ok-parts.parts
+good g c = good-read c.args.frame.now (all-bytes c.args.frame.now c.type_inv.frame) c.in_ok-parts.ensures
+
+-- There is enough memory for it.
+memory : (g : Over) (c : Start g)
+    → OwnMemory c.args.frame.now (replicate g.row.BYTES 0) (replicate g.row.NODES 0) (replicate g.row.BYTES 0)
+memory g c = clear-memory g.row.BYTES g.row.NODES c.args.frame.now c.requires.bytes.0 c.requires.nodes.0
 
 pub physical_frame_in-requires : goal.physical_frame_in-requires
 physical_frame_in-requires g c =
@@ -17,54 +29,54 @@ returns-in_err-parts g c =
 
 pub put_all-requires : goal.put_all-requires
 put_all-requires g c =
-    let good = good-read c.args.frame.now (all-bytes c.args.frame.now c.type_inv.frame) c.in_ok-parts.ensures in
+    let it = good g (goal.at.put_all-requires g c).In_ok-parts in
     record {
-      all_fits = straight-fits c.args.settings.good c.args.frame.now c.args.out.now good
-          (clear-memory g.row.BYTES g.row.NODES c.args.frame.now c.requires.bytes.0 c.requires.nodes.0).memory
+      all_fits = straight-fits c.args.settings.good c.args.frame.now c.args.out.now it
+          (memory g (goal.at.put_all-requires g c).Start).memory
           c.if-frame-out.true;
       of_tree = rows-read c.args.frame.now (all-bytes c.args.frame.now c.type_inv.frame) c.in_ok-parts.ensures;
     }
 
 pub returns-then-frame-out : goal.returns-then-frame-out
 returns-then-frame-out g c =
-    let good = good-read c.args.frame.now (all-bytes c.args.frame.now c.type_inv.frame) c.in_ok-parts.ensures in
+    let it = good g (goal.at.returns-then-frame-out g c).In_ok-parts in
     let call = c.put_all in
-    straight c.args.settings.good c.args.frame.now c.args.out.now good c.if-frame-out.true call.new.out call.result
-    (call.ensures good.frame good.at)
+    straight c.args.settings.good c.args.frame.now c.args.out.now it c.if-frame-out.true call.new.out call.result
+    (call.ensures it.frame it.at)
 
 pub put_all-taken-requires : goal.put_all-taken-requires
 put_all-taken-requires g c =
     record {
       all_fits = own-fits c.args.settings.good c.args.frame.now c.args.out.now
-          (good-read c.args.frame.now (all-bytes c.args.frame.now c.type_inv.frame) c.in_ok-parts.ensures)
-          (clear-memory g.row.BYTES g.row.NODES c.args.frame.now c.requires.bytes.0 c.requires.nodes.0);
+          (good g (goal.at.put_all-taken-requires g c).In_ok-parts)
+          (memory g (goal.at.put_all-taken-requires g c).Start);
       of_tree = rows-read c.args.frame.now (all-bytes c.args.frame.now c.type_inv.frame) c.in_ok-parts.ensures;
     }
 
 pub returns-then-out-taken : goal.returns-then-out-taken
 returns-then-out-taken g c =
-    let good = good-read c.args.frame.now (all-bytes c.args.frame.now c.type_inv.frame) c.in_ok-parts.ensures in
+    let it = good g (goal.at.returns-then-out-taken g c).In_ok-parts in
     let call = c.put_all-taken in
-    too_short c.args.settings.good c.args.frame.now c.args.out.now good
-    (clear-memory g.row.BYTES g.row.NODES c.args.frame.now c.requires.bytes.0 c.requires.nodes.0) call.new.out call.result
-    call.auto.out (call.ensures good.frame good.at) c.if-out-taken.true
+    too_short c.args.settings.good c.args.frame.now c.args.out.now it
+    (memory g (goal.at.returns-then-out-taken g c).Start) call.new.out call.result
+    call.auto.out (call.ensures it.frame it.at) c.if-out-taken.true
 
 pub copy_bytes-requires : goal.copy_bytes-requires
 copy_bytes-requires g c =
-    let good = good-read c.args.frame.now (all-bytes c.args.frame.now c.type_inv.frame) c.in_ok-parts.ensures in
+    let it = good g (goal.at.copy_bytes-requires g c).In_ok-parts in
     let call = c.put_all-taken in
     record {
-      src_has_bytes = own-holds c.args.settings.good c.args.frame.now c.args.out.now good
-          (clear-memory g.row.BYTES g.row.NODES c.args.frame.now c.requires.bytes.0 c.requires.nodes.0) call.new.out
-          call.result call.auto.out (call.ensures good.frame good.at);
+      src_has_bytes = own-holds c.args.settings.good c.args.frame.now c.args.out.now it
+          (memory g (goal.at.copy_bytes-requires g c).Start) call.new.out
+          call.result call.auto.out (call.ensures it.frame it.at);
       out_has_room = c.if-out-taken.false;
     }
 
 pub returns : goal.returns
 returns g c =
-    let good = good-read c.args.frame.now (all-bytes c.args.frame.now c.type_inv.frame) c.in_ok-parts.ensures in
+    let it = good g (goal.at.returns g c).In_ok-parts in
     let call = c.put_all-taken in
     let copy = c.copy_bytes in
-    copied c.args.settings.good c.args.frame.now c.args.out.now good
-    (clear-memory g.row.BYTES g.row.NODES c.args.frame.now c.requires.bytes.0 c.requires.nodes.0) call.new.out call.result
-    call.auto.out (call.ensures good.frame good.at) c.if-out-taken.false copy.new.out copy.ensures
+    copied c.args.settings.good c.args.frame.now c.args.out.now it
+    (memory g (goal.at.returns g c).Start) call.new.out call.result
+    call.auto.out (call.ensures it.frame it.at) c.if-out-taken.false copy.new.out copy.ensures

@@ -24,7 +24,7 @@ use Rattle.call_extract_all.specs.Listings.{Listable, ListIs}
 use Rattle.call_extract_all.proofs.ListLaws.{and-listed}
 use Rattle.call_extract_all.proofs.ListWalk.{left_after, left-list, right-list, both-matches, as-many, left-fits, parts-fit, right-fits, count-short}
 use Rattle.call_extract_all.proofs.listing.+list_matches.Goals as goal
-use Rattle.call_extract_all.proofs.listing.+list_matches.Goals.{After-end, After-list_matches-two, In-And}
+use Rattle.call_extract_all.proofs.listing.+list_matches.Goals.{After-end, After-list_matches-one, After-list_matches-two, In-And}
 
 -- The And that was found.
 abbrev found : (t : ℕ) (c : In-And t) (d : Columns) (u : Expr)
@@ -61,6 +61,16 @@ right-at t c d u stands =
     c.end.ensures ∙ tabled-end
     (left-tabled (c.requires.of_tree d u stands)
     (c.in-And.ensures d u stands))
+
+-- What the left side wrote is within what it was given.
+parts : (t : ℕ) (c : After-list_matches-one t)
+    → let one = c.list_matches-one in
+    (one.result.knn ≤ length one.new.knns) × (one.result.other ≤ length one.new.others)
+parts t c =
+    let f = c.requires.list_fits in
+    let one = c.list_matches-one in
+    let both = c.in-And.ensures _ f.tree f.frame.tree in
+    parts-fit f both (one.ensures f.records both.l (left-list f.frame both)) one.auto.knns one.auto.others one.auto.gone
 
 -- Both sides were listed.
 done : (t : ℕ) (c : After-list_matches-two t) (records : List Record)
@@ -148,38 +158,16 @@ after-requires t c =
     (within t (goal.at.after-requires t c).In-And).1
 
 pub slice_bounds-list_matches-count : goal.slice_bounds-list_matches-count
-slice_bounds-list_matches-count t c =
-    let f = c.requires.list_fits in
-    let one = c.list_matches-one in
-    let both = found t (goal.at.slice_bounds-list_matches-count t c).In-And _
-    f.tree f.frame.tree in
-    (parts-fit f both (one.ensures f.records both.l (left-list f.frame both)) one.auto.knns one.auto.others
-    one.auto.gone).0
+slice_bounds-list_matches-count t c = (parts t (goal.at.slice_bounds-list_matches-count t c).After-list_matches-one).0
 
 pub slice_bounds-list_matches-start : goal.slice_bounds-list_matches-start
-slice_bounds-list_matches-start t c =
-    let f = c.requires.list_fits in
-    let one = c.list_matches-one in
-    let both = found t (goal.at.slice_bounds-list_matches-start t c).In-And _
-    f.tree f.frame.tree in
-    (parts-fit f both (one.ensures f.records both.l (left-list f.frame both)) one.auto.knns one.auto.others
-    one.auto.gone).0
+slice_bounds-list_matches-start t c = (parts t (goal.at.slice_bounds-list_matches-start t c).After-list_matches-one).0
 
 pub slice_bounds-list_matches-count-2 : goal.slice_bounds-list_matches-count-2
-slice_bounds-list_matches-count-2 t c =
-    let f = c.requires.list_fits in
-    let one = c.list_matches-one in
-    let both = found t (goal.at.slice_bounds-list_matches-count-2 t c).In-And _ f.tree f.frame.tree in
-    (parts-fit f both (one.ensures f.records both.l (left-list f.frame both)) one.auto.knns one.auto.others
-    one.auto.gone).1
+slice_bounds-list_matches-count-2 t c = (parts t (goal.at.slice_bounds-list_matches-count-2 t c).After-list_matches-one).1
 
 pub slice_bounds-list_matches-start-2 : goal.slice_bounds-list_matches-start-2
-slice_bounds-list_matches-start-2 t c =
-    let f = c.requires.list_fits in
-    let one = c.list_matches-one in
-    let both = found t (goal.at.slice_bounds-list_matches-start-2 t c).In-And _ f.tree f.frame.tree in
-    (parts-fit f both (one.ensures f.records both.l (left-list f.frame both)) one.auto.knns one.auto.others
-    one.auto.gone).1
+slice_bounds-list_matches-start-2 t c = (parts t (goal.at.slice_bounds-list_matches-start-2 t c).After-list_matches-one).1
 
 pub list_matches-two-requires : goal.list_matches-two-requires
 list_matches-two-requires t c =
@@ -226,22 +214,16 @@ overflow_add-result-3 t c =
 
 pub shape_of-knns : goal.shape_of-knns
 shape_of-knns t c =
-    let f = c.requires.list_fits in
     let one = c.list_matches-one in
     let two = c.list_matches-two in
-    let both = found t (goal.at.shape_of-knns t c).In-And _ f.tree f.frame.tree in
-    let fits = parts-fit f both (one.ensures f.records both.l (left-list f.frame both)) one.auto.knns one.auto.others
-    one.auto.gone in
+    let fits = parts t (goal.at.shape_of-knns t c).After-list_matches-one in
     together-length one.result.knn one.new.knns two.new.knns fits.0 two.auto.knns ∙ one.auto.knns
 
 pub shape_of-others : goal.shape_of-others
 shape_of-others t c =
-    let f = c.requires.list_fits in
     let one = c.list_matches-one in
     let two = c.list_matches-two in
-    let both = found t (goal.at.shape_of-others t c).In-And _ f.tree f.frame.tree in
-    let fits = parts-fit f both (one.ensures f.records both.l (left-list f.frame both)) one.auto.knns one.auto.others
-    one.auto.gone in
+    let fits = parts t (goal.at.shape_of-others t c).After-list_matches-one in
     together-length one.result.other one.new.others two.new.others fits.1 two.auto.others ∙ one.auto.others
 
 pub shape_of-gone : goal.shape_of-gone

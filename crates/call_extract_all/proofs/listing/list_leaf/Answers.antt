@@ -1,11 +1,18 @@
 -- `list_leaf`: the only AND-leaf below the node is the node: a KNN match, another, or none.
+use Prim.Native.Nat.{◌<◌}
 use native.Mathlib.Omega.{arith}
+use lib.ListN.{length}
 use Rattle.definitions.specs.Settings.{match_under}
 use Rattle.terms.specs.Settings.{settings_of}
 use Rattle.definitions.specs.Extract.{is_knn}
 use Rattle.leaf_pick.specs.Picks as picks
 use Rattle.call_extract_all.proofs.LeafList.{knn-listed, other-listed, none-is-listed, miss-lacks, both-lack, over, framed, by-table, flag-room, knn-room, other-room, leaf-is}
 use Rattle.call_extract_all.proofs.listing.list_leaf.Goals as goal
+use Rattle.call_extract_all.proofs.listing.list_leaf.Goals.{Start}
+
+-- There is a flag for the leaf.
+flag : (c : Start) → c.args.leaf.position < length c.args.gone.now
+flag c = flag-room c.requires.list_fits (c.requires.leaf_alone _ c.requires.list_fits.tree c.requires.list_fits.frame.tree)
 
 pub match_knn-requires : goal.match_knn-requires
 match_knn-requires c =
@@ -20,9 +27,7 @@ put_predicate-w-requires c =
     (c.in-Ok.ensures f.records f.tree (over f f.frame))
 
 pub bounds-gone-position : goal.bounds-gone-position
-bounds-gone-position c =
-    let p = c.requires in
-    flag-room p.list_fits (p.leaf_alone _ p.list_fits.tree p.list_fits.frame.tree)
+bounds-gone-position c = flag (goal.at.bounds-gone-position c).Start
 
 pub returns-in-Ok : goal.returns-in-Ok
 returns-in-Ok c =
@@ -33,7 +38,7 @@ returns-in-Ok c =
     let m = c.in-Ok.ensures records t (over f l) in
     let stands = by-table f l c.in-Ok.predicate m.q m.stands in
     leaf-is (match_under (settings_of c.args.listing.settings)) records (p.leaf_alone _ t l.tree) _ m.is
-    (knn-listed (flag-room f (p.leaf_alone _ f.tree f.frame.tree)) m.q put.result
+    (knn-listed (flag (goal.at.returns-in-Ok c).Start) m.q put.result
     m.passes (put.ensures.size m.q stands)
     (put.ensures.wrote m.q stands))
 
@@ -50,18 +55,10 @@ put_predicate-w-requires-in-Ok-match_other c =
     (c.in-Ok-match_other.ensures f.records f.tree (over f f.frame))
 
 pub bounds-gone-position-in-Ok-match_other : goal.bounds-gone-position-in-Ok-match_other
-bounds-gone-position-in-Ok-match_other c =
-    let p = c.requires in
-    flag-room p.list_fits (p.leaf_alone _ p.list_fits.tree p.list_fits.frame.tree)
+bounds-gone-position-in-Ok-match_other c = flag (goal.at.bounds-gone-position-in-Ok-match_other c).Start
 
 pub overflow_add-result-in-Ok-match_other : goal.overflow_add-result-in-Ok-match_other
-overflow_add-result-in-Ok-match_other c =
-    let p = c.requires in
-    omega (
-      arith,
-      c.well_formed,
-      flag-room p.list_fits (p.leaf_alone _ p.list_fits.tree p.list_fits.frame.tree),
-    )
+overflow_add-result-in-Ok-match_other c = omega (arith, c.well_formed, flag (goal.at.overflow_add-result-in-Ok-match_other c).Start)
 
 pub returns-in-Ok-match_other : goal.returns-in-Ok-match_other
 returns-in-Ok-match_other c =
@@ -72,14 +69,12 @@ returns-in-Ok-match_other c =
     let m = c.in-Ok-match_other.ensures records t (over f l) in
     let stands = by-table f l c.in-Ok-match_other.predicate m.q m.stands in
     leaf-is (match_under (settings_of c.args.listing.settings)) records (p.leaf_alone _ t l.tree) _ m.is
-    (other-listed (flag-room f (p.leaf_alone _ f.tree f.frame.tree)) m.q put.result
+    (other-listed (flag (goal.at.returns-in-Ok-match_other c).Start) m.q put.result
     m.passes (put.ensures.size m.q stands)
     (put.ensures.wrote m.q stands))
 
 pub bounds-gone-position-2 : goal.bounds-gone-position-2
-bounds-gone-position-2 c =
-    let p = c.requires in
-    flag-room p.list_fits (p.leaf_alone _ p.list_fits.tree p.list_fits.frame.tree)
+bounds-gone-position-2 c = flag (goal.at.bounds-gone-position-2 c).Start
 
 pub returns : goal.returns
 returns c =
@@ -92,4 +87,4 @@ returns c =
     (c.in_default.ensures records t (over f l)))
     (miss-lacks picks.is_other c.args.listing.filter.s.now c.args.listing.filter.rec records _ c.in_default-match_other.field-0
     (c.in_default-match_other.ensures records t (over f l))))
-    (none-is-listed (flag-room f (p.leaf_alone _ f.tree f.frame.tree)))
+    (none-is-listed (flag (goal.at.returns c).Start))
