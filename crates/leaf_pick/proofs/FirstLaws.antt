@@ -186,7 +186,8 @@ module _ {s : List ℕ} {rec at left : ℕ} {found : Node} (is : OfTreeIn s at (
           })
 
 -- What the loop along the right children keeps: what is found from the node that it came to is found from the first.
-pub record Along (match : Matcher) (wanted : Wanted) (s numbers next : List ℕ) (rec : ℕ) (from : Stop) (parent : ℕ) (stop : Stop) (above : ℕ) : Type 0 where
+pub record Along (match : Matcher) (wanted : Wanted) (s numbers next : List ℕ) (rec : ℕ) (from : Stop) (parent : ℕ) (stop : Stop)
+    (above : ℕ) : Type 0 where
   pub there : Framed s rec stop.at
   pub tabled : OfTree s stop.at (Tabled numbers next stop.at stop.index)
   pub low : from.at ≤ stop.at

@@ -69,7 +69,8 @@ module _ {s numbers next : List ℕ} {rec : ℕ} {leaf : Leaf} (there : LeafTher
 module _ {match : Matcher} {s numbers next : List ℕ} {rec : ℕ} {leaf : Leaf} (there : LeafThere s numbers next rec leaf)
     {records : List Record} {t : Expr} (over : Over s rec leaf.stop.at records t) where
   pub leaf-stops : (predicate : SpatialPredicate) → Matches is_knn s rec records predicate (match records t)
-      → (first : Option definition.Pick) → StoppedIs match s leaf.stop.at leaf.stop.position first (seen_here numbers leaf predicate) records t
+      → (first : Option definition.Pick)
+      → StoppedIs match s leaf.stop.at leaf.stop.position first (seen_here numbers leaf predicate) records t
   unfolding read_leaf is_knn_match
   leaf-stops predicate m first = record {
     p = record { position = leaf.stop.position; predicate = m.q };

@@ -49,7 +49,8 @@ module _ {s : List ℕ} {rec count : ℕ} {flags : List Bool} where
         few = omega (arith, f.row.few);
         room = f.row.room;
         each = λ k b. further (f.row.each k b);
-        all = below_more (λ k. get_or flags k false ≡ true → Among keys n (key_at s (rec + 5 * k))) i f.row.all (λ m. absurd (let z : ◌≡◌ {A = ℕ} 0 1 = cc in omega arith));
+        all = below_more (λ k. get_or flags k false ≡ true → Among keys n (key_at s (rec + 5 * k))) i f.row.all
+            (λ m. absurd (let z : ◌≡◌ {A = ℕ} 0 1 = cc in omega arith));
       };
     }
 

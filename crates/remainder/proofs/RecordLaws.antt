@@ -187,7 +187,8 @@ module _ {s : List ℕ} {rec count : ℕ} {flags : List Bool} (j kept : ℕ) (be
 -- ---- the loop over the records
 
 -- The first j records are done, and `kept` of them stay.
-pub record Keeping (s : List ℕ) (rec count : ℕ) (flags : List Bool) (before : List ℕ) (room : ℕ) (out to : List ℕ) (kept j : ℕ) : Type 0 where
+pub record Keeping (s : List ℕ) (rec count : ℕ) (flags : List Bool) (before : List ℕ) (room : ℕ) (out to : List ℕ)
+    (kept j : ℕ) : Type 0 where
   pub below : j ≤ count
   pub fewer : kept ≤ j
   pub long : length out ≡ length before

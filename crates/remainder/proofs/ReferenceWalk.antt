@@ -92,7 +92,8 @@ module _ {s : List ℕ} {at : ℕ} where
   flagged-tree flags p = (index_below (length flags), p.0, p.1)
 
   -- A column's bytes lie within s, and it has a flag.
-  pub column-flag : (flags : List Bool) → Flagged s at flags → get_or s at 0 ≡ 0 → (at + 5 ≤ length s) × (short_at s (at + 1) < length flags)
+  pub column-flag : (flags : List Bool) → Flagged s at flags → get_or s at 0 ≡ 0
+      → (at + 5 ≤ length s) × (short_at s (at + 1) < length flags)
   column-flag flags p e =
       let own = column-is p.1 e in
       (omega (arith, fits own.bytes, column-size (short_at s (at + 1)) (short_at s (at + 3))), own.below)
@@ -107,7 +108,8 @@ module _ {s : List ℕ} {at : ℕ} where
   first-flagged flags {n} p some = some-children (λ ts. Row (index_below (length flags)) s at n ts → Flagged s at flags)
       (λ t ts o. (t, first-stands o)) p.0 (omega (arith, p.1.counted)) p.1
 
-  pub rest-flagged : (before middle : List Bool) → length middle ≡ length before → {n : ℕ} → FlaggedAll s at n before → (n ≡ 0 → ⊥) → (q : ℕ)
+  pub rest-flagged : (before middle : List Bool) → length middle ≡ length before → {n : ℕ} → FlaggedAll s at n before → (n ≡ 0 → ⊥)
+      → (q : ℕ)
       → NodeCollected s at before middle q → FlaggedAll s q (n - 1) middle
   rest-flagged before middle same {n} p some q is =
       some-children (λ ts. Row (index_below (length before)) s at n ts → FlaggedAll s q (n - 1) middle)

@@ -94,7 +94,8 @@ module _ {s : List ℕ} {rec count at : ℕ} {cut : Cut} {records : List Record}
   unfolding big_endian
   size = ap length parts ∙ simp length-append (omega arith)
 
-  pub still-unheld : {up : ℕ} (flags : List Bool) → CutAt cut up t at position → count ≤ length flags → Unmarked flags → Unheld s at cut flags
+  pub still-unheld : {up : ℕ} (flags : List Bool) → CutAt cut up t at position → count ≤ length flags → Unmarked flags
+      → Unheld s at cut flags
   still-unheld {up} flags cutting room clear =
       record { tree = t; up = up; position = position; stands = wider-stands room f.tree; cutting = cutting; clear = clear }
 

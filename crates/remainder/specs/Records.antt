@@ -78,4 +78,5 @@ columns_part records = 1 ∷ (big_endian 2 (length records) ++ records_bytes rec
 
 abbrev pub RecordsPut : (s : List ℕ) (rec count : ℕ) (flags : List Bool) (before after to : List ℕ) → ℕ → Type 0
 RecordsPut s rec count flags before after to r =
-    OfMarked s rec count flags (λ records columns. AllKept (columns_part (kept_all records columns)) before after to count records columns r)
+    OfMarked s rec count flags
+    (λ records columns. AllKept (columns_part (kept_all records columns)) before after to count records columns r)

@@ -27,7 +27,8 @@ copies : (c : After-list_matches-listed)
 copies c =
     let p = c.requires.all_fits in
     let call = c.list_matches-listed in
-    copy-fits p.at (all-settings-hold _ p.settings).takes_all (call.ensures p.frame.records p.frame.expr (listable p.at)) call.auto.knns call.auto.others
+    copy-fits p.at (all-settings-hold _ p.settings).takes_all (call.ensures p.frame.records p.frame.expr (listable p.at)) call.auto.knns
+    call.auto.others
     call.auto.gone p.room (row-long p.at p.memory)
 
 -- The last remainder starts behind both.

@@ -11,13 +11,8 @@ use Rattle.call_extract_all.proofs.listing.list_leaf.Goals as goal
 use Rattle.call_extract_all.proofs.listing.list_leaf.Goals.{Start}
 
 -- There is a flag for the leaf.
-flag : (c : Start) → c.args.leaf.position < length c.args.gone.now
+flag : (c : Start) → c.args.leaf.stop.position < length c.args.gone.now
 flag c = flag-room c.requires.list_fits (c.requires.leaf_alone _ c.requires.list_fits.tree c.requires.list_fits.frame.tree)
-
-pub match_knn-requires : goal.match_knn-requires
-match_knn-requires c =
-    let p = c.requires in
-    record { framed = framed p.list_fits; tabled = p.of_tree; is = p.of_tree_in }
 
 pub put_predicate-w-requires : goal.put_predicate-w-requires
 put_predicate-w-requires c =
@@ -25,9 +20,6 @@ put_predicate-w-requires c =
     let f = p.list_fits in
     knn-room f (p.leaf_alone _ f.tree f.frame.tree) c.in-Ok.predicate
     (c.in-Ok.ensures f.records f.tree (over f f.frame))
-
-pub bounds-gone-position : goal.bounds-gone-position
-bounds-gone-position c = flag (goal.at.bounds-gone-position c).Start
 
 pub returns-in-Ok : goal.returns-in-Ok
 returns-in-Ok c =
@@ -42,23 +34,12 @@ returns-in-Ok c =
     m.passes (put.ensures.size m.q stands)
     (put.ensures.wrote m.q stands))
 
-pub match_other-requires : goal.match_other-requires
-match_other-requires c =
-    let p = c.requires in
-    record { framed = framed p.list_fits; tabled = p.of_tree; is = p.of_tree_in }
-
 pub put_predicate-w-requires-in-Ok-match_other : goal.put_predicate-w-requires-in-Ok-match_other
 put_predicate-w-requires-in-Ok-match_other c =
     let p = c.requires in
     let f = p.list_fits in
     other-room f (p.leaf_alone _ f.tree f.frame.tree) c.in-Ok-match_other.predicate
     (c.in-Ok-match_other.ensures f.records f.tree (over f f.frame))
-
-pub bounds-gone-position-in-Ok-match_other : goal.bounds-gone-position-in-Ok-match_other
-bounds-gone-position-in-Ok-match_other c = flag (goal.at.bounds-gone-position-in-Ok-match_other c).Start
-
-pub overflow_add-result-in-Ok-match_other : goal.overflow_add-result-in-Ok-match_other
-overflow_add-result-in-Ok-match_other c = omega (arith, c.well_formed, flag (goal.at.overflow_add-result-in-Ok-match_other c).Start)
 
 pub returns-in-Ok-match_other : goal.returns-in-Ok-match_other
 returns-in-Ok-match_other c =
@@ -72,9 +53,6 @@ returns-in-Ok-match_other c =
     (other-listed (flag (goal.at.returns-in-Ok-match_other c).Start) m.q put.result
     m.passes (put.ensures.size m.q stands)
     (put.ensures.wrote m.q stands))
-
-pub bounds-gone-position-2 : goal.bounds-gone-position-2
-bounds-gone-position-2 c = flag (goal.at.bounds-gone-position-2 c).Start
 
 pub returns : goal.returns
 returns c =

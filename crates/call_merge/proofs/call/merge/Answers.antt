@@ -3,11 +3,6 @@ use Rattle.node_reader.proofs.Reading.{kept}
 use Rattle.join_filter.proofs.Refusing.{frame_refused}
 use Rattle.call_merge.proofs.call.merge.Goals as goal
 
-pub merge_good-requires : goal.merge_good-requires
-merge_good-requires c =
-    let good = c.in_ok-new.ensures in
-    record { frame = good.0; stands = good.1; is = good.2 }
-
 pub returns-in_err-new : goal.returns-in_err-new
 returns-in_err-new c =
     let a = c.args in

@@ -31,18 +31,6 @@ returns-then-plan-n c =
     let a = c.args in
     λ table size. no-room-for-n (merge-call table a.frame.now _ c.requires.is) a.n a.plan.now a.scratch.now c.if-plan-n.true
 
-pub slice_bounds-held_plan-end-2 : goal.slice_bounds-held_plan-end-2
-slice_bounds-held_plan-end-2 c =
-    let a = c.args in sym (plan-length a.n a.plan.now c.if-plan-n.false)
-
-pub merge_held-requires : goal.merge_held-requires
-merge_held-requires c =
-    let good = rw c.in-Frame.is at c.in_ok-held_plan.ensures in
-    record {
-      holds_frame = record { frame = good.0; fits = c.if-plan-n.false; stands = good.1; is = good.2 };
-      given_frame = c.requires;
-    }
-
 pub returns-in_err-held_plan : goal.returns-in_err-held_plan
 returns-in_err-held_plan c =
     let a = c.args in

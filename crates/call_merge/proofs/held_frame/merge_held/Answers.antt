@@ -69,10 +69,6 @@ returns-then-scratch-n c =
     (scratch-short (both (goal.at.returns-then-scratch-n c).After-shared_slice_known-1) _ _
     (under (goal.at.returns-then-scratch-n c).After-over_limits-over c.if-over.false) c.if-scratch-n.true)
 
-pub overflow_add-n : goal.overflow_add-n
-overflow_add-n c =
-    omega (arith, some-length (goal.at.overflow_add-n c).After-shared_slice_known-1)
-
 pub overflow_sub-n : goal.overflow_sub-n
 overflow_sub-n c =
     omega (arith, some-length (goal.at.overflow_sub-n c).After-shared_slice_known-1)
@@ -84,14 +80,6 @@ returns-then-plan-n c =
     (omega (arith, c.if-scratch-n.false))
     c.if-plan-n.true)
 
-pub overflow_add-count : goal.overflow_add-count
-overflow_add-count c =
-    omega (arith, (counts (both (goal.at.overflow_add-count c).After-shared_slice_known-1)).nodes)
-
-pub overflow_add-count-2 : goal.overflow_add-count-2
-overflow_add-count-2 c =
-    omega (arith, (counts (both (goal.at.overflow_add-count-2 c).After-shared_slice_known-1)).nodes)
-
 pub returns-then-held-count : goal.returns-then-held-count
 returns-then-held-count c =
     (table-short (both (goal.at.returns-then-held-count c).After-shared_slice_known-1) _ _
@@ -99,28 +87,9 @@ returns-then-held-count c =
     (omega (arith, c.if-scratch-n.false))
     (omega (arith, c.if-plan-n.false)) c.if-held-count.true)
 
-pub overflow_add-root : goal.overflow_add-root
-overflow_add-root c =
-    omega (arith, roots (goal.at.overflow_add-root c).After-shared_slice_known-1)
-
 pub overflow_sub-root : goal.overflow_sub-root
 overflow_sub-root c =
     omega (arith, roots (goal.at.overflow_sub-root c).After-shared_slice_known-1)
-
-pub copy_bytes-requires : goal.copy_bytes-requires
-copy_bytes-requires c =
-    record {
-      src_has_bytes = omega (arith, c.requires.holds_frame.fits);
-      out_has_room = omega (arith, c.requires.holds_frame.fits);
-    }
-
-pub slice_bounds-two-end-2 : goal.slice_bounds-two-end-2
-slice_bounds-two-end-2 c =
-    copy-length (ready (goal.at.slice_bounds-two-end-2 c).After-copy_bytes)
-
-pub invariant_of-two : goal.invariant_of-two
-invariant_of-two c =
-    record { few = (merged-room (ready (goal.at.invariant_of-two c).After-copy_bytes)).1 }
 
 pub put_merged-length-requires : goal.put_merged-length-requires
 put_merged-length-requires c =

@@ -27,10 +27,6 @@ put_raised-requires c =
       columns_bound = c.args.two.few;
     }
 
-pub shape_of-out : goal.shape_of-out
-shape_of-out c =
-    c.put_raised.auto.out ∙ c.copy_at-v.auto.out ∙ simp length-set
-
 pub returns : goal.returns
 returns c =
     let held = c.copy_at-v in

@@ -9,34 +9,11 @@ pub put_tables-w-requires : goal.put_tables-w-requires
 put_tables-w-requires c =
     first-room merged_expr (stored-room (merged-view _ _) c.requires)
 
-pub slice_bounds-put_and-count : goal.slice_bounds-put_and-count
-slice_bounds-put_and-count c =
-    let tables = c.put_tables-w in
-    part-starts (first-room merged_expr (stored-room (merged-view _ _) c.requires))
-    (from_zero tables.ensures) tables.auto.out
-
-pub slice_bounds-put_and-start : goal.slice_bounds-put_and-start
-slice_bounds-put_and-start c =
-    let tables = c.put_tables-w in
-    part-starts (first-room merged_expr (stored-room (merged-view _ _) c.requires))
-    (from_zero tables.ensures) tables.auto.out
-
 pub put_and-requires : goal.put_and-requires
 put_and-requires c =
     let tables = c.put_tables-w in
     let room = stored-room (merged-view c.args.two.old.parts c.args.two.new.parts) c.requires in
     part_room (second-room room (from_zero tables.ensures) tables.auto.out)
-
-pub overflow_add-result : goal.overflow_add-result
-overflow_add-result c =
-    omega (
-      arith,
-      c.well_formed,
-      ends-within c.requires (from_zero ((let and = c.put_and in
-          let tables = c.put_tables-w in
-          stored-put (merged-view c.args.two.old.parts c.args.two.new.parts) c.requires
-          (both-put (omega arith) (from_zero tables.ensures) (part-put tables.new.out and.new.out tables.result and.ensures))))),
-    )
 
 pub returns : goal.returns
 returns c =

@@ -8,22 +8,10 @@ use Rattle.writing.proofs.Sequence.{first-room, second-room, both-put, head-room
 use Rattle.call_merge.proofs.MergeViews.{tables-view}
 use Rattle.call_merge.proofs.merged_frames.put_tables.Goals as goal
 
-pub overflow_add-count : goal.overflow_add-count
-unfolding big_endian frame_head
-overflow_add-count c =
-    search rules
-
 pub put_frame_head-w-requires : goal.put_frame_head-w-requires
 unfolding big_endian frame_head
 put_frame_head-w-requires c =
     head-room (tables-view _ _) c.requires
-
-pub copy_at-v-requires : goal.copy_at-v-requires
-unfolding big_endian frame_head
-copy_at-v-requires c =
-    let head = c.put_frame_head-w in
-    let fits = c.requires in
-    first-room same (rest-room (tables-view _ _) fits head.ensures head.auto.out)
 
 pub copy_at-requires : goal.copy_at-requires
 unfolding big_endian frame_head
@@ -32,11 +20,6 @@ copy_at-requires c =
     let head = c.put_frame_head-w in
     let fits = c.requires in
     second-room (rest-room (tables-view _ _) fits head.ensures head.auto.out) held.ensures held.auto.out
-
-pub shape_of-out : goal.shape_of-out
-unfolding big_endian frame_head
-shape_of-out c =
-    search rules
 
 pub returns : goal.returns
 unfolding big_endian frame_head

@@ -4,10 +4,6 @@ use Rattle.projection.proofs.ProjectedBytes.{within}
 use Rattle.call_project.proofs.ProjectCall.{extraction-fits, none-such, projected}
 use Rattle.call_project.proofs.by_row.project_by.Goals as goal
 
-pub slice_bounds-project_spots-end-2 : goal.slice_bounds-project_spots-end-2
-slice_bounds-project_spots-end-2 g c =
-    c.requires.holds.fits
-
 pub project_spots-requires : goal.project_spots-requires
 project_spots-requires g c =
     record {

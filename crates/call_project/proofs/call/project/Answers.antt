@@ -12,11 +12,6 @@ returns-then-plan-n c =
     let a = c.args in
     no-room-for-n (project-call a.left.now a.right.now) a.n a.plan.now a.scratch.now c.if-plan-n.true
 
-pub slice_bounds-held_plan-end-2 : goal.slice_bounds-held_plan-end-2
-slice_bounds-held_plan-end-2 c =
-    let a = c.args in
-    sym (plan-length a.n a.plan.now c.if-plan-n.false)
-
 pub returns-in_err-held_plan : goal.returns-in_err-held_plan
 returns-in_err-held_plan c =
     let a = c.args in

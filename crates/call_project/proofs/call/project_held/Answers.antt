@@ -13,13 +13,3 @@ returns-then-scratch-n c =
     let a = c.args in
     scratch-short a.n a.plan.now a.scratch.now a.left.now a.right.now c.requires
     (record { first = c.if-left-gt4096.false; second = c.if-right-gt4096.false }) c.if-scratch-n.true
-
-pub project_by-requires-else-n-le320 : goal.project_by-requires-else-n-le320
-project_by-requires-else-n-le320 c =
-    record {
-      holds = c.requires;
-      lists = record { first = c.if-left-gt4096.false; second = c.if-right-gt4096.false };
-      scratched = c.if-scratch-n.false;
-      room = omega (arith, held-short c.requires);
-      few = omega arith;
-    }

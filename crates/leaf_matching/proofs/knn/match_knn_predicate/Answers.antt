@@ -13,7 +13,8 @@ use Rattle.leaf_matching.proofs.knn.match_knn_predicate.Goals.{After-knn_options
 
 walked : (c : After-knn_options-given)
     → let start = c.args in
-    Walked start.default_k start.filter.s.now start.filter.rec start.called c.resolve_geometries-geometries.result c.knn_options-given.result
+    Walked start.default_k start.filter.s.now start.filter.rec start.called c.resolve_geometries-geometries.result
+    c.knn_options-given.result
 unfolding ascii
 walked c =
     record {
@@ -64,6 +65,8 @@ returns c =
     λ records name ts over.
     let w = walked (goal.at.returns c).After-knn_options-given in
     elim c.match-order.branch [
-      | in-LeftRight v ↦ rw v.probe_side-is (knn-left w over _ c.in_ok-options.ensures.ok_part (c.in_ok-order.ensures.ok_part ∙ ap Some v.in-LeftRight.is))
-      | in-RightLeft v ↦ rw v.probe_side-is (knn-right w over _ c.in_ok-options.ensures.ok_part (c.in_ok-order.ensures.ok_part ∙ ap Some v.in-RightLeft.is))
+      | in-LeftRight v ↦ rw v.probe_side-is
+      (knn-left w over _ c.in_ok-options.ensures.ok_part (c.in_ok-order.ensures.ok_part ∙ ap Some v.in-LeftRight.is))
+      | in-RightLeft v ↦ rw v.probe_side-is
+      (knn-right w over _ c.in_ok-options.ensures.ok_part (c.in_ok-order.ensures.ok_part ∙ ap Some v.in-RightLeft.is))
     ]

@@ -31,7 +31,8 @@ pub returns-then-called-lt2 : goal.returns-then-called-lt2
 returns-then-called-lt2 c =
     λ records name ts over. few-lacks records name ts
     (ap relation_named (sym over.stands.spelling)
-    ∙ sym (rw (c.in_ok-relation_type.ensures.ok_part, c.name.ensures) at c.from_name-named.ensures)) (omega (arith, over.stands.row.counted))
+    ∙ sym (rw (c.in_ok-relation_type.ensures.ok_part, c.name.ensures) at c.from_name-named.ensures))
+    (omega (arith, over.stands.row.counted))
 
 pub resolve_geometries-geometries-requires : goal.resolve_geometries-geometries-requires
 resolve_geometries-geometries-requires c =

@@ -11,7 +11,8 @@ use Rattle.leaf_pick.proofs.first_match.+first_match.Given as goal
 abbrev pub invariant-loop-left : goal.invariant-loop-left
 invariant-loop-left l =
     let f = l.filter in
-    Along (match_under (settings_of l.pass.settings)) l.pass.wanted f.s.now f.rows.numbers.now f.rows.next.now f.rec l.fn.from l.fn.parent l.stop l.above
+    Along (match_under (settings_of l.pass.settings)) l.pass.wanted f.s.now f.rows.numbers.now f.rows.next.now f.rec l.fn.from l.fn.parent
+    l.stop l.above
 
 abbrev pub decreases-loop-left : goal.decreases-loop-left
 decreases-loop-left l =

@@ -10,11 +10,15 @@ use Rattle.remainder.proofs.pruned.put_pruned_in.Goals as goal
 
 pub collect_column_references-requires : goal.collect_column_references-requires
 collect_column_references-requires g c =
-    plain-flagged c.requires.pruned_fits.frame (replicate g.row.N false) (clear-rows g.row.N c.args.records.count c.requires.count_bound.0).0
+    plain-flagged c.requires.pruned_fits.frame (replicate g.row.N false)
+    (clear-rows g.row.N c.args.records.count c.requires.count_bound.0).0
 
 pub invariant_of-marked : goal.invariant_of-marked
 invariant_of-marked g c =
-    record { flagged = omega (arith, (clear-rows g.row.N c.args.records.count c.requires.count_bound.0).0, c.collect_column_references.auto.used) }
+    record {
+      flagged = omega
+          (arith, (clear-rows g.row.N c.args.records.count c.requires.count_bound.0).0, c.collect_column_references.auto.used);
+    }
 
 pub put_records-w-requires : goal.put_records-w-requires
 put_records-w-requires g c =
@@ -22,7 +26,8 @@ put_records-w-requires g c =
     let p = c.requires.pruned_fits in
     let used = (replicate g.row.N false) in
     let clear = clear-rows g.row.N c.args.records.count c.requires.count_bound.0 in record {
-      all_fit = records-fit p.frame used flags.new.used clear.0 (clear-rows g.row.N c.args.records.count c.requires.count_bound.0).2 flags.auto.used flags.ensures
+      all_fit = records-fit p.frame used flags.new.used clear.0 (clear-rows g.row.N c.args.records.count c.requires.count_bound.0).2
+          flags.auto.used flags.ensures
           c.args.out.now p.room;
       rows_fit = clear.1;
     }
@@ -34,7 +39,8 @@ slice_bounds-reproject_column_references-count g c =
     omega (
       arith,
       c.put_records-w.auto.out,
-      records-end p.frame (replicate g.row.N false) flags.new.used (clear-rows g.row.N c.args.records.count c.requires.count_bound.0).0 (clear-rows g.row.N c.args.records.count c.requires.count_bound.0).2 flags.auto.used
+      records-end p.frame (replicate g.row.N false) flags.new.used (clear-rows g.row.N c.args.records.count c.requires.count_bound.0).0
+          (clear-rows g.row.N c.args.records.count c.requires.count_bound.0).2 flags.auto.used
           flags.ensures c.put_records-w.ensures p.room,
     )
 
@@ -45,7 +51,8 @@ slice_bounds-reproject_column_references-start g c =
     omega (
       arith,
       c.put_records-w.auto.out,
-      records-end p.frame (replicate g.row.N false) flags.new.used (clear-rows g.row.N c.args.records.count c.requires.count_bound.0).0 (clear-rows g.row.N c.args.records.count c.requires.count_bound.0).2 flags.auto.used
+      records-end p.frame (replicate g.row.N false) flags.new.used (clear-rows g.row.N c.args.records.count c.requires.count_bound.0).0
+          (clear-rows g.row.N c.args.records.count c.requires.count_bound.0).2 flags.auto.used
           flags.ensures c.put_records-w.ensures p.room,
     )
 
@@ -55,7 +62,8 @@ reproject_column_references-copied-requires g c =
     let p = c.requires.pruned_fits in
     let put = c.put_records-w in
     let clear = clear-rows g.row.N c.args.records.count c.requires.count_bound.0 in
-    expr-fits p.frame (replicate g.row.N false) flags.new.used clear.0 (clear-rows g.row.N c.args.records.count c.requires.count_bound.0).2 flags.auto.used flags.ensures
+    expr-fits p.frame (replicate g.row.N false) flags.new.used clear.0
+    (clear-rows g.row.N c.args.records.count c.requires.count_bound.0).2 flags.auto.used flags.ensures
     put.ensures (omega (arith, put.auto.to, clear.1.numbered)) put.auto.out p.room
 
 pub overflow_add-result : goal.overflow_add-result
@@ -69,7 +77,8 @@ overflow_add-result g c =
           let put = c.put_records-w in
           let expr = c.reproject_column_references-copied in
           let clear = clear-rows g.row.N c.args.records.count c.requires.count_bound.0 in
-          frame-put p.frame (replicate g.row.N false) flags.new.used clear.0 (clear-rows g.row.N c.args.records.count c.requires.count_bound.0).2 flags.auto.used flags.ensures
+          frame-put p.frame (replicate g.row.N false) flags.new.used clear.0
+          (clear-rows g.row.N c.args.records.count c.requires.count_bound.0).2 flags.auto.used flags.ensures
           put.ensures expr.new.out expr.result (omega (arith, put.auto.to, clear.1.numbered)) expr.ensures)).0,
     )
 
@@ -80,5 +89,6 @@ returns g c =
     let put = c.put_records-w in
     let expr = c.reproject_column_references-copied in
     let clear = clear-rows g.row.N c.args.records.count c.requires.count_bound.0 in
-    frame-put frame (replicate g.row.N false) flags.new.used clear.0 (clear-rows g.row.N c.args.records.count c.requires.count_bound.0).2 flags.auto.used flags.ensures
+    frame-put frame (replicate g.row.N false) flags.new.used clear.0 (clear-rows g.row.N c.args.records.count c.requires.count_bound.0).2
+    flags.auto.used flags.ensures
     put.ensures expr.new.out expr.result (omega (arith, put.auto.to, clear.1.numbered)) expr.ensures

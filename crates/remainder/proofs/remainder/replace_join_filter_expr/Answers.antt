@@ -12,7 +12,8 @@ pub collect_held-requires : goal.collect_held-requires
 collect_held-requires g c =
     let p = c.requires.remainder_fits in
     let left = (something-left p.cutting c.requires.leaf_elsewhere).1 in
-    still-unheld p.frame left (replicate g.row.N false) p.cutting (clear-rows g.row.N c.args.records.count c.requires.count_bound.0).0 (clear-rows g.row.N c.args.records.count c.requires.count_bound.0).2
+    still-unheld p.frame left (replicate g.row.N false) p.cutting (clear-rows g.row.N c.args.records.count c.requires.count_bound.0).0
+    (clear-rows g.row.N c.args.records.count c.requires.count_bound.0).2
 
 pub invariant_of-marked : goal.invariant_of-marked
 invariant_of-marked g c =
@@ -38,7 +39,8 @@ slice_bounds-reproject_remainder-count g c =
     omega (
       arith,
       c.put_records-w.auto.out,
-      records-end p.frame left (replicate g.row.N false) flags.new.used p.cutting (clear-rows g.row.N c.args.records.count c.requires.count_bound.0).0 flags.auto.used
+      records-end p.frame left (replicate g.row.N false) flags.new.used p.cutting
+          (clear-rows g.row.N c.args.records.count c.requires.count_bound.0).0 flags.auto.used
           flags.ensures c.put_records-w.ensures p.room,
     )
 
@@ -50,7 +52,8 @@ slice_bounds-reproject_remainder-start g c =
     omega (
       arith,
       c.put_records-w.auto.out,
-      records-end p.frame left (replicate g.row.N false) flags.new.used p.cutting (clear-rows g.row.N c.args.records.count c.requires.count_bound.0).0 flags.auto.used
+      records-end p.frame left (replicate g.row.N false) flags.new.used p.cutting
+          (clear-rows g.row.N c.args.records.count c.requires.count_bound.0).0 flags.auto.used
           flags.ensures c.put_records-w.ensures p.room,
     )
 
