@@ -21,7 +21,7 @@ use Rattle.node_reader.specs.Nodes.{Lent}
 use Rattle.theorems.proofs.ReaderLaws.{step}
 use Rattle.theorems.proofs.InverseFrame.{opened}
 use Rattle.frame_reader.specs.declared.frame_bodies.Frame.{Frame}
-use Rattle.frame_reader.specs.declared.frame_bodies.Body.{Body}
+use Rattle.frame_reader.specs.declared.frame_bodies.Counted.{Counted}
 use Rattle.std.specs.Prelude.{Ok}
 use Rattle.frame_reader.specs.Frames.{FrameAt, BodyIn, Roomy, first_of, opening}
 use Rattle.frame_reader.proofs.Standing.{expr-stands}
@@ -36,8 +36,8 @@ module _ {s numbers indexes : List ℕ} (room : Roomy s numbers indexes) where
   roomy-lent short = record { long = room.long; short = λ some. short }
 
   -- A node has three bytes at least.
-  pub body-tabled : {numbered indexed₁ : List ℕ} → length numbered ≡ length numbers → (at : ℕ) (b : Body)
-      → (body : BodyIn s at 0 (Ok b) frame_body numbered indexed₁) → Tabled numbered indexed₁ b.frame.root 0 body.1.expr
+  pub body-tabled : {numbered indexed₁ : List ℕ} → length numbered ≡ length numbers → (at : ℕ) (b : Counted Frame)
+      → (body : BodyIn s at 0 (Ok b) frame_body numbered indexed₁) → Tabled numbered indexed₁ b.read.root 0 body.1.expr
   body-tabled same at b body =
       let stands = body.3.expr in
       body.6 (omega (

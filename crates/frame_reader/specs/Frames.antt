@@ -13,7 +13,7 @@ use Rattle.node_reader.specs.Places.{ExprAt}
 use Rattle.node_rows.specs.Rows.{Tabled}
 use Rattle.expression.specs.Places.{Between}
 use Rattle.frame_reader.specs.declared.frame_bodies.Frame.{Frame}
-use Rattle.frame_reader.specs.declared.frame_bodies.Body.{Body}
+use Rattle.frame_reader.specs.declared.frame_bodies.Counted.{Counted}
 
 -- The length (1) and the first byte.
 unfoldable pub first_of : Reader ℕ
@@ -36,17 +36,17 @@ pub record FrameAt (s : List ℕ) (f : Frame) (end : ℕ) (F : tree.Frame) : Typ
   pub deep : f.depth ≡ depth F.expr
 
 -- A frame after its first byte was read, `before` nodes counted up to its place.
-abbrev pub BodyIs : List ℕ → (at before : ℕ) → Result Body Refusal → Reader tree.Frame → Type 0
+abbrev pub BodyIs : List ℕ → (at before : ℕ) → Result (Counted Frame) Refusal → Reader tree.Frame → Type 0
 BodyIs s at before (Ok b) reader =
-    (b.next ≤ length s) × (F : tree.Frame) × (reader before (drop at s) ≡ read F b.count (drop b.next s)) × FrameAt s b.frame b.next F
+    (b.next ≤ length s) × (F : tree.Frame) × (reader before (drop at s) ≡ read F b.count (drop b.next s)) × FrameAt s b.read b.next F
 BodyIs s at before (Err why) reader = reader before (drop at s) ≡ stopped (number_of why)
 
 -- The same, at most 1,024 nodes counted in all; and if rows have room for its nodes, they hold them from index `before` on.
-abbrev pub BodyIn : List ℕ → (at before : ℕ) → Result Body Refusal → Reader tree.Frame → (numbers indexes : List ℕ) → Type 0
+abbrev pub BodyIn : List ℕ → (at before : ℕ) → Result (Counted Frame) Refusal → Reader tree.Frame → (numbers indexes : List ℕ) → Type 0
 BodyIn s at before (Ok b) reader numbers indexes =
-    (b.next ≤ length s) × (F : tree.Frame) × (reader before (drop at s) ≡ read F b.count (drop b.next s)) × FrameAt s b.frame b.next F
-    × (b.count ≡ before + b.frame.nodes) × (b.count ≤ 1024)
-    × (b.count ≤ length numbers → Tabled numbers indexes b.frame.root before F.expr)
+    (b.next ≤ length s) × (F : tree.Frame) × (reader before (drop at s) ≡ read F b.count (drop b.next s)) × FrameAt s b.read b.next F
+    × (b.count ≡ before + b.read.nodes) × (b.count ≤ 1024)
+    × (b.count ≤ length numbers → Tabled numbers indexes b.read.root before F.expr)
 BodyIn s at before (Err why) reader numbers indexes = reader before (drop at s) ≡ stopped (number_of why)
 
 -- Rows have room for the nodes of any frame in s: at most 1,024, and a third of its bytes.

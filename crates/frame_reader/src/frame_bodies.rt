@@ -24,10 +24,10 @@ pub struct Frame {
     pub depth: usize,
 }
 
-// A physical frame after its first byte, the place after it, and how many nodes there were up to it.
+// What was read, the place after it, and how many nodes there were up to it.
 #[derive(Clone, Copy)]
-pub struct Body {
-    pub frame: Frame,
+pub struct Counted<T> {
+    pub read: T,
     pub next: usize,
     pub count: usize,
 }
@@ -40,7 +40,7 @@ pub fn frame_body_in(
     s: &[u8],
     at: usize,
     nodes: usize,
-) -> Result<Body, Refusal>
+) -> Result<Counted<Frame>, Refusal>
     requires { (at ≤ length s.now) × Lent s.now numbers.old indexes.old }
     ensures { BodyIn s.now at nodes result decode.frame_body numbers.new indexes.new }
 {
@@ -54,15 +54,15 @@ pub fn frame_body_in(
         nodes: walked.count - nodes,
         depth: walked.depth,
     };
-    Ok(Body {
-        frame,
+    Ok(Counted {
+        read: frame,
         next: walked.next,
         count: walked.count,
     })
 }
 
 // The same without rows.
-pub fn frame_body(s: &[u8], at: usize, nodes: usize) -> Result<Body, Refusal>
+pub fn frame_body(s: &[u8], at: usize, nodes: usize) -> Result<Counted<Frame>, Refusal>
     requires { at ≤ length s.now }
     ensures { BodyIs s.now at nodes result decode.frame_body }
 {

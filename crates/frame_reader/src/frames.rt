@@ -31,7 +31,7 @@ pub fn physical_frame_in(
     if !arity_by_rows(s, rows, 0, body.count) {
         return Err(Refusal::TooFewArguments);
     }
-    Ok(body.frame)
+    Ok(body.read)
 }
 
 // A whole physical frame, by rows of N places on the stack, of which its nodes need no more.

@@ -7,7 +7,8 @@ use Rattle.definitions.specs.Decode.{argument}
 use Rattle.terms.specs.Refusals.{number_of}
 use Rattle.terms.specs.declared.refusals.Refusal.{Refusal}
 use Rattle.sedona_query_planner.specs.Predicates.{unchanged, ArgumentAt, PredicateAt}
-use Rattle.plan_reader.specs.declared.held_predicates.Predicated.{Predicated}
+use Rattle.sedona_query_planner.specs.declared.spatial_predicate.SpatialPredicate.{SpatialPredicate}
+use Rattle.frame_reader.specs.declared.frame_bodies.Counted.{Counted}
 use Rattle.plan_reader.specs.declared.held_predicates.Pair.{Pair}
 
 -- ---- two arguments
@@ -33,8 +34,8 @@ abbrev pub distance_arguments : (form : ℕ) → tree.Side → Reader tree.Predi
 distance_arguments form side = then_both (λ l r. argument >>= λ bound. give (tree.distance form side l r bound))
 
 -- A predicate was read.
-abbrev pub PredicateIs : List ℕ → (at : ℕ) → Result Predicated Refusal → Reader tree.Predicate → Type 0
+abbrev pub PredicateIs : List ℕ → (at : ℕ) → Result (Counted SpatialPredicate) Refusal → Reader tree.Predicate → Type 0
 PredicateIs s at (Ok p) reader =
-    (p.next ≤ length s) × (P : tree.Predicate) × PredicateAt unchanged s p.predicate P
+    (p.next ≤ length s) × (P : tree.Predicate) × PredicateAt unchanged s p.read P
     × (reader 0 (drop at s) ≡ read P p.count (drop p.next s))
 PredicateIs s at (Err why) reader = reader 0 (drop at s) ≡ stopped (number_of why)

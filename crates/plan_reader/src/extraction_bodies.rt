@@ -31,10 +31,10 @@ pub fn some_remainder(s: &[u8], at: usize, nodes: usize) -> Result<(Option<Frame
     ensures { RemainderIs s.now at nodes result decode.some_remainder }
 {
     let body = frame_body(s, at, nodes)?;
-    if !enough_arguments(s, body.frame.root) {
+    if !enough_arguments(s, body.read.root) {
         return Err(Refusal::TooFewArguments);
     }
-    Ok((Some(body.frame), body.next))
+    Ok((Some(body.read), body.next))
 }
 
 // Nothing, or a physical frame, with so many nodes counted before it; and the place after it.
@@ -62,7 +62,7 @@ pub fn extraction_body(s: &[u8], at: usize, first: u64) -> Result<(Extraction, u
     let (remainder, end) = remainder_at(s, predicated.next, predicated.count)?;
     let extraction = Extraction {
         position: position as usize,
-        predicate: predicated.predicate,
+        predicate: predicated.read,
         remainder,
     };
     Ok((extraction, end))

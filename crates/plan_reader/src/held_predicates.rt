@@ -8,6 +8,7 @@ ghost use Rattle.plan_reader.specs.Predicates.{PairIs, PredicateIs, distance_arg
 
 use super::knn_fields::{k_field, knn_flags};
 use frame_reader::column_records::side_up_to;
+use frame_reader::frame_bodies::Counted;
 use node_reader::call_heads::Columns;
 use node_reader::expressions::expression;
 use node_reader::field_readers::{byte, byte_up_to};
@@ -18,14 +19,6 @@ use sedona_query_planner::spatial_predicate::{
 use terms::forms::DistanceForm;
 use terms::refusals::Refusal;
 use terms::sides::JoinSide;
-
-// A predicate, the place after it, and how many nodes there were up to it.
-#[derive(Clone, Copy)]
-pub struct Predicated {
-    pub predicate: SpatialPredicate,
-    pub next: usize,
-    pub count: usize,
-}
 
 // Two arguments: where the second starts, where it ends, and how many nodes there were up to it.
 #[derive(Clone, Copy)]
@@ -60,7 +53,7 @@ fn both(s: &[u8], at: usize) -> Result<Pair, Refusal>
 
 // A relation: type, left, right.
 #[tactic(auto, unfolding(definitions::specs::Decode::relation_predicate))]
-fn relation_predicate(s: &[u8], at: usize) -> Result<Predicated, Refusal>
+fn relation_predicate(s: &[u8], at: usize) -> Result<Counted<SpatialPredicate>, Refusal>
     requires { at ≤ length s.now }
     ensures { PredicateIs s.now at result decode.relation_predicate }
 {
@@ -73,8 +66,8 @@ fn relation_predicate(s: &[u8], at: usize) -> Result<Predicated, Refusal>
         right_end: pair.end,
         relation_type: SpatialRelationType::from(number),
     };
-    Ok(Predicated {
-        predicate: SpatialPredicate::Relation(relation),
+    Ok(Counted {
+        read: SpatialPredicate::Relation(relation),
         next: pair.end,
         count: pair.count,
     })
@@ -86,7 +79,7 @@ fn distance_arguments(
     left: usize,
     form: DistanceForm,
     distance_side: JoinSide,
-) -> Result<Predicated, Refusal>
+) -> Result<Counted<SpatialPredicate>, Refusal>
     requires { left ≤ length s.now }
     ensures { PredicateIs s.now left result (distance_arguments (form_number form) (join_side distance_side)) }
 {
@@ -102,8 +95,8 @@ fn distance_arguments(
         distance_side,
         form,
     };
-    Ok(Predicated {
-        predicate: SpatialPredicate::Distance(distance),
+    Ok(Counted {
+        read: SpatialPredicate::Distance(distance),
         next: bound.next,
         count: bound.count,
     })
@@ -111,7 +104,7 @@ fn distance_arguments(
 
 // A distance: form, side, left, right, distance.
 #[tactic(auto, unfolding(definitions::specs::Decode::distance_predicate, definitions::specs::Readers::byte_up_to))]
-fn distance_predicate(s: &[u8], at: usize) -> Result<Predicated, Refusal>
+fn distance_predicate(s: &[u8], at: usize) -> Result<Counted<SpatialPredicate>, Refusal>
     requires { at ≤ length s.now }
     ensures { PredicateIs s.now at result decode.distance_predicate }
 {
@@ -123,7 +116,7 @@ fn distance_predicate(s: &[u8], at: usize) -> Result<Predicated, Refusal>
 
 // KNN: k, spheroid, probe side, ties, left, right.
 #[tactic(auto, unfolding(definitions::specs::Decode::knn_predicate))]
-fn knn_predicate(s: &[u8], at: usize) -> Result<Predicated, Refusal>
+fn knn_predicate(s: &[u8], at: usize) -> Result<Counted<SpatialPredicate>, Refusal>
     requires { at ≤ length s.now }
     ensures { PredicateIs s.now at result decode.knn_predicate }
 {
@@ -140,8 +133,8 @@ fn knn_predicate(s: &[u8], at: usize) -> Result<Predicated, Refusal>
         probe_side: flags.probe_side,
         include_tie_breakers: flags.ties,
     };
-    Ok(Predicated {
-        predicate: SpatialPredicate::KNearestNeighbors(knn),
+    Ok(Counted {
+        read: SpatialPredicate::KNearestNeighbors(knn),
         next: pair.end,
         count: pair.count,
     })
@@ -149,7 +142,11 @@ fn knn_predicate(s: &[u8], at: usize) -> Result<Predicated, Refusal>
 
 // The predicate that a first byte announces.
 #[tactic(auto, unfolding(definitions::specs::Decode::predicate_of_kind))]
-pub fn predicate_of_kind(s: &[u8], at: usize, kind: u64) -> Result<Predicated, Refusal>
+pub fn predicate_of_kind(
+    s: &[u8],
+    at: usize,
+    kind: u64,
+) -> Result<Counted<SpatialPredicate>, Refusal>
     requires { at ≤ length s.now }
     ensures { PredicateIs s.now at result (decode.predicate_of_kind kind) }
 {
