@@ -46,8 +46,8 @@ pub fn extract_frame(
         rows: held.rows,
     };
     let walked = extract_in_one_walk(filter, held.frame.root, settings.settings);
-    let walk = walked.walk;
-    match walked.picked {
+    let walk = walked.read;
+    match walked.found {
         None => Extracted {
             answer: Err(Refusal::NoLeafMatches),
             walk,

@@ -40,15 +40,15 @@ use Rattle.leaf_pick.proofs.Forests.{row_open, tabled-open, nodes-open, SpotAll,
 -- ---- of a frame
 
 -- The expressions ts are ahead: they stand in a row and are in the rows of numbers; the walk goes on among them.
-pub record Ahead (match : Matcher) (s numbers next : List ℕ) (rec at last place index position : ℕ) (w : Walk)
+pub record Ahead (match : Matcher) (s numbers next : List ℕ) (rec at last place index position : ℕ) (w : Walk Seen)
     (records : List Record) (t : Expr)
     (ts : Exprs) : Type 0 where
   pub row : OverAll s rec place (count ts) records ts
   pub tabled : TabledAll numbers next place index ts
   pub left : index + nodes_all ts ≡ last
   pub first : Option definition.Pick
-  pub remembers : Remembers s records w.memory first
-  pub spot : SpotOf t at w.memory
+  pub remembers : Remembers s records w.found first
+  pub spot : SpotOf t at w.found
   pub picks : one_walk (matches match records t) ≡ walk_on (reading position first) (map (match records) (leaves_all ts))
   pub walked : walk_length_by match (record { records = records; expr = t })
       ≡ w.read + count_to is_knn_match (reached_all (match records) ts)
@@ -62,7 +62,7 @@ begins-spot t at leaf end p (inr (q, e, nowhere)) = absurd nowhere
 
 module _ {match : Matcher} {s numbers next : List ℕ} {rec at i last : ℕ} {records : List Record} {t : Expr} where
   ahead-begins : Over s rec at records t → Tabled numbers next at i t → last ≡ get_or next i 0
-      → Ahead match s numbers next rec at last at i 0 (record { memory = None; read = 0 }) records t (cons t nil)
+      → Ahead match s numbers next rec at last at i 0 (record { found = None; read = 0 }) records t (cons t nil)
   unfolding one_walk walk_length_by leaves_all reached_all exprs_bytes row_from row_nexts nodes_all count
   ahead-begins over h e = record {
     row = record {
@@ -85,12 +85,12 @@ module _ {match : Matcher} {s numbers next : List ℕ} {rec at i last : ℕ} {re
 
 -- ---- one step
 
-module _ {match : Matcher} {s numbers next : List ℕ} {rec at last place index position : ℕ} {w : Walk} {records : List
+module _ {match : Matcher} {s numbers next : List ℕ} {rec at last place index position : ℕ} {w : Walk Seen} {records : List
     Record} {t : Expr} where
   -- An And opens.
   ahead-and : {l r : Expr} {us : Exprs} → Ahead match s numbers next rec at last place index position w records t (cons (and l r) us)
       → Ahead match s numbers next rec at last (left_of place) (index + 1) position
-      (record { memory = w.memory; read = w.read + 1 }) records t
+      (record { found = w.found; read = w.read + 1 }) records t
       (cons l (cons r us))
   unfolding count_to is_knn_match
   ahead-and {l} {r} {us} a = record {
@@ -131,9 +131,9 @@ module _ {match : Matcher} {s numbers next : List ℕ} {rec at last place index 
     kept-spot same spot = spot
     kept-spot (here {seen} h) spot = subst (Spot seen.leaf seen.end t at) (sym h.counted) (here-spot h.place h.ends)
 
-    ahead-leaf : {kept : Memory} → GoingIs match s place position a.first w.memory kept records u
+    ahead-leaf : {kept : Memory} → GoingIs match s place position a.first w.found kept records u
         → (p k : ℕ) → p ≡ place + length (expr_bytes u) → k ≡ index + nodes u
-        → Ahead match s numbers next rec at last p k (position + 1) (record { memory = kept; read = w.read + 1 }) records t us
+        → Ahead match s numbers next rec at last p k (position + 1) (record { found = kept; read = w.read + 1 }) records t us
     unfolding count nodes_all
     ahead-leaf {kept} g p k e f = record {
       row = rest_over a.row p (count us) e refl;
@@ -155,7 +155,7 @@ module _ {match : Matcher} {s numbers next : List ℕ} {rec at last place index 
     }
 
     leaf-stopped : {seen : Seen} → StoppedIs match s place position a.first seen records u
-        → WalkIs match s rec at (record { memory = Some seen; read = w.read + 1 }) records t
+        → WalkIs match s rec at (record { found = Some seen; read = w.read + 1 }) records t
     unfolding matches_by remembered walk_on
     leaf-stopped {seen} h = record {
       remembers = (
@@ -183,7 +183,7 @@ module _ {match : Matcher} {s numbers next : List ℕ} {rec at last place index 
   unfolding matches_by remembered walk_on leaves_all reached_all count_to
   ahead-ends a = record {
     remembers =
-        subst (Remembers s records w.memory) (sym (ap remembered a.picks) ∙ one-walk-is-pick (matches match records t)) a.remembers;
+        subst (Remembers s records w.found) (sym (ap remembered a.picks) ∙ one-walk-is-pick (matches match records t)) a.remembers;
     spot = a.spot;
     walk = sym (a.walked ∙ add-zero w.read);
   }
@@ -191,13 +191,13 @@ module _ {match : Matcher} {s numbers next : List ℕ} {rec at last place index 
 -- ---- of every frame that stands there
 
 -- Some expressions are ahead.
-abbrev pub SomeAhead : Matcher → (s numbers next : List ℕ) (rec at last place index position : ℕ) (w : Walk)
+abbrev pub SomeAhead : Matcher → (s numbers next : List ℕ) (rec at last place index position : ℕ) (w : Walk Seen)
     (records : List Record) → Expr → Type 0
 SomeAhead match s numbers next rec at last place index position w records t =
     (ts : Exprs) × Ahead match s numbers next rec at last place index position w records t ts
 
 -- What the loop keeps.
-pub record Along (match : Matcher) (s numbers next : List ℕ) (rec at last place index position : ℕ) (w : Walk) : Type 0 where
+pub record Along (match : Matcher) (s numbers next : List ℕ) (rec at last place index position : ℕ) (w : Walk Seen) : Type 0 where
   pub there : Framed s rec at
   pub ahead : OfFrame s rec at (SomeAhead match s numbers next rec at last place index position w)
   pub few : w.read ≤ index
@@ -205,7 +205,7 @@ pub record Along (match : Matcher) (s numbers next : List ℕ) (rec at last plac
 
 pub along-begins : {match : Matcher} {s numbers next : List ℕ} {rec at i last : ℕ} → Framed s rec at
     → OfTree s at (Tabled numbers next at i)
-    → last ≡ get_or next i 0 → Along match s numbers next rec at last at i 0 (record { memory = None; read = 0 })
+    → last ≡ get_or next i 0 → Along match s numbers next rec at last at i 0 (record { found = None; read = 0 })
 along-begins there tabled e = record {
   there = there;
   ahead = λ records t over. (cons t nil, ahead-begins over (tabled _ t over.tree) e);
@@ -213,7 +213,7 @@ along-begins there tabled e = record {
   fewer = omega arith;
 }
 
-module _ {match : Matcher} {s numbers next : List ℕ} {rec at last place index position : ℕ} {w : Walk}
+module _ {match : Matcher} {s numbers next : List ℕ} {rec at last place index position : ℕ} {w : Walk Seen}
     (inv : Along match s numbers next rec at last place index position w) where
   by-rest : (index < last → ⊥) → {records : List Record} {t : Expr} (ts : Exprs)
       → Ahead match s numbers next rec at last place index position w records t ts → WalkIs match s rec at w records t
@@ -264,7 +264,7 @@ module _ {match : Matcher} {s numbers next : List ℕ} {rec at last place index 
 
     module _ {left : ℕ} {found : Node} (is : OfTreeIn s place (λ c t. NodeIs c s place found t)) (told : found ≡ node.And left) where
       opened : (records : List Record) (t : Expr) → Over s rec at records t
-          → SomeAhead match s numbers next rec at last left (index + 1) position (record { memory = w.memory; read = w.read + 1 }) records t
+          → SomeAhead match s numbers next rec at last left (index + 1) position (record { found = w.found; read = w.read + 1 }) records t
       unfolding head_bytes
       opened records t over =
           let n : Now records t = now over in
@@ -273,7 +273,7 @@ module _ {match : Matcher} {s numbers next : List ℕ} {rec at last place index 
           let begins : left ≡ left_of place = b.begins ∙ ap (λ (t : Expr). place + length (head_bytes t)) b.is in (
             cons b.l (cons b.r n.us),
             subst
-                (λ (p : ℕ). Ahead match s numbers next rec at last p (index + 1) position (record { memory = w.memory; read = w.read + 1 })
+                (λ (p : ℕ). Ahead match s numbers next rec at last p (index + 1) position (record { found = w.found; read = w.read + 1 })
                 records t (cons b.l (cons b.r n.us)))
                 (sym begins)
                 (ahead-and
@@ -281,7 +281,7 @@ module _ {match : Matcher} {s numbers next : List ℕ} {rec at last place index 
                 n.ahead)),
           )
 
-      pub along-and : Along match s numbers next rec at last left (index + 1) position (record { memory = w.memory; read = w.read + 1 })
+      pub along-and : Along match s numbers next rec at last left (index + 1) position (record { found = w.found; read = w.read + 1 })
       along-and = record {
         there = inv.there;
         ahead = opened;
@@ -293,20 +293,20 @@ module _ {match : Matcher} {s numbers next : List ℕ} {rec at last place index 
 
     module _ (single : OfFrame s rec place (λ records u. leaves u ≡ u ∷ [])) where
       pub along-stopped : {seen : Seen}
-          → OfFrame s rec place (λ records u. (first : Option definition.Pick) → Remembers s records w.memory first
+          → OfFrame s rec place (λ records u. (first : Option definition.Pick) → Remembers s records w.found first
           → StoppedIs match s place position first seen records u)
-          → OfFrame s rec at (WalkIs match s rec at (record { memory = Some seen; read = w.read + 1 }))
+          → OfFrame s rec at (WalkIs match s rec at (record { found = Some seen; read = w.read + 1 }))
       along-stopped inner records t over =
           let n : Now records t = now over in
           let o : Over s rec place records n.u = first-over n.ahead.row in
           leaf-stopped n.ahead (single records n.u o) (inner records n.u o n.ahead.first n.ahead.remembers)
 
       module _ {kept : Memory}
-          (inner : OfFrame s rec place (λ records u. (first : Option definition.Pick) → Remembers s records w.memory first
-          → GoingIs match s place position first w.memory kept records u)) where
+          (inner : OfFrame s rec place (λ records u. (first : Option definition.Pick) → Remembers s records w.found first
+          → GoingIs match s place position first w.found kept records u)) where
         passed : (p k : ℕ) → p ≡ end_at numbers index → k ≡ get_or next index 0
             → (records : List Record) (t : Expr) → Over s rec at records t
-            → SomeAhead match s numbers next rec at last p k (position + 1) (record { memory = kept; read = w.read + 1 }) records t
+            → SomeAhead match s numbers next rec at last p k (position + 1) (record { found = kept; read = w.read + 1 }) records t
         passed p k e f records t over =
             let n : Now records t = now over in
             let o : Over s rec place records n.u = first-over n.ahead.row in
@@ -317,7 +317,7 @@ module _ {match : Matcher} {s numbers next : List ℕ} {rec at last place index 
             )
 
         pub along-going : (p k : ℕ) → p ≡ end_at numbers index → k ≡ get_or next index 0
-            → Along match s numbers next rec at last p k (position + 1) (record { memory = kept; read = w.read + 1 })
+            → Along match s numbers next rec at last p k (position + 1) (record { found = kept; read = w.read + 1 })
         along-going p k e f = record {
           there = inv.there;
           ahead = passed p k e f;

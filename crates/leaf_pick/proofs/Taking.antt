@@ -12,12 +12,12 @@ use Rattle.leaf_pick.specs.Walks.{Remembers, SpotOf, WalkIs, Spotted, ParentIs, 
 use Rattle.leaf_pick.specs.declared.one_walk.Seen.{Seen}
 use Rattle.leaf_pick.specs.declared.one_walk.Walk.{Walk}
 
-module _ {match : Matcher} {s : List ℕ} {rec at : ℕ} {w : Walk} {records : List Record} {t : Expr}
+module _ {match : Matcher} {s : List ℕ} {rec at : ℕ} {w : Walk Seen} {records : List Record} {t : Expr}
     (h : WalkIs match s rec at w records t) where
-  pub walked-nothing : w.memory ≡ None → WalkedIs match s rec at (record { picked = None; walk = w.read }) records t
+  pub walked-nothing : w.found ≡ None → WalkedIs match s rec at (record { found = None; read = w.read }) records t
   walked-nothing told = record { picked = rw told at h.remembers; walk = h.walk }
 
-  module _ {seen : Seen} (told : w.memory ≡ Some seen) where
+  module _ {seen : Seen} (told : w.found ≡ Some seen) where
     found : Remembers s records (Some seen) (pick (matches_by match (record { records = records; expr = t })))
     found = rw told at h.remembers
 
@@ -30,12 +30,12 @@ module _ {match : Matcher} {s : List ℕ} {rec at : ℕ} {w : Walk} {records : L
     pub walked-leaf : {numbers next : List ℕ} {parent : ℕ} → Tabled numbers next at 0 t → ParentIs numbers next at seen.leaf parent
         → WalkedIs match s rec at
         (record {
-          picked = Some (record {
+          found = Some (record {
             predicate = seen.predicate;
             position = seen.position;
             cut = record { leaf = seen.leaf; end = seen.end; parent = parent };
           });
-          walk = w.read;
+          read = w.read;
         }) records t
     walked-leaf {parent = parent} tabled is = record {
       picked = record {

@@ -20,8 +20,8 @@ use Rattle.sedona_query_planner.specs.declared.spatial_predicate.SpatialPredicat
 use Rattle.leaf_pick.specs.Picks.{PickedIs}
 use Rattle.leaf_pick.specs.declared.first_match.Leaf.{Leaf}
 use Rattle.leaf_pick.specs.declared.one_walk.Seen.{Seen}
+use Rattle.leaf_pick.specs.declared.first_match.Pick.{Pick}
 use Rattle.leaf_pick.specs.declared.one_walk.Walk.{Walk}
-use Rattle.leaf_pick.specs.declared.one_walk.Walked.{Walked}
 
 -- ---- what is remembered
 
@@ -103,9 +103,9 @@ SpotOf t at None = Unit {0}
 SpotOf t at (Some seen) = Spot seen.leaf seen.end t at seen.position
 
 -- The walk ended with the definitions' pick in memory, and its length is the definitions'.
-pub record WalkIs (match : Matcher) (s : List ℕ) (rec at : ℕ) (w : Walk) (records : List Record) (t : Expr) : Type 0 where
-  pub remembers : Remembers s records w.memory (pick (matches_by match (record { records = records; expr = t })))
-  pub spot : SpotOf t at w.memory
+pub record WalkIs (match : Matcher) (s : List ℕ) (rec at : ℕ) (w : Walk Seen) (records : List Record) (t : Expr) : Type 0 where
+  pub remembers : Remembers s records w.found (pick (matches_by match (record { records = records; expr = t })))
+  pub spot : SpotOf t at w.found
   pub walk : w.read ≡ walk_length_by match (record { records = records; expr = t })
 
 -- ---- the And above a leaf
@@ -124,6 +124,6 @@ ParentIs numbers next at leaf r =
 -- ---- the answer
 
 -- The definitions' pick, as the engine of two passes gives it, and the walk's length.
-pub record WalkedIs (match : Matcher) (s : List ℕ) (rec at : ℕ) (w : Walked) (records : List Record) (t : Expr) : Type 0 where
-  pub picked : PickedIs match s rec at w.picked records t
-  pub walk : w.walk ≡ walk_length_by match (record { records = records; expr = t })
+pub record WalkedIs (match : Matcher) (s : List ℕ) (rec at : ℕ) (w : Walk Pick) (records : List Record) (t : Expr) : Type 0 where
+  pub picked : PickedIs match s rec at w.found records t
+  pub walk : w.read ≡ walk_length_by match (record { records = records; expr = t })

@@ -32,18 +32,11 @@ pub struct Seen {
 // What a leaf makes of what is remembered: a KNN match stops the walk.
 pub type Read = ControlFlow<Seen, Option<Seen>>;
 
-// The walk: what it remembers, the first match or nothing yet, and how many And nodes and AND-leaves it has read.
+// A walk: what it has found, a match or nothing yet, and how many And nodes and AND-leaves it has read.
 #[derive(Clone, Copy)]
-pub struct Walk {
-    pub memory: Option<Seen>,
+pub struct Walk<T> {
+    pub found: Option<T>,
     pub read: usize,
-}
-
-// What was picked, and the length of the walk.
-#[derive(Clone, Copy)]
-pub struct Walked {
-    pub picked: Option<Pick>,
-    pub walk: usize,
 }
 
 // Whether the node alone tells that a leaf matches nothing: only functions and the first four operators can match.
@@ -94,7 +87,7 @@ pub fn read_leaf(filter: Filter, leaf: Leaf, memory: Option<Seen>, settings: Set
 }
 
 // The walk from the root to the first KNN match or to the end.
-pub fn walk_once(filter: Filter, at: usize, settings: Settings) -> Walk
+pub fn walk_once(filter: Filter, at: usize, settings: Settings) -> Walk<Seen>
     requires framed { Framed filter.s.now filter.rec at }
     requires of_tree { OfTree filter.s.now at (Tabled filter.rows.numbers.now filter.rows.next.now at 0) }
     ensures { OfFrame filter.entry.s.now filter.entry.rec at
@@ -105,7 +98,7 @@ pub fn walk_once(filter: Filter, at: usize, settings: Settings) -> Walk
     let mut index = 0;
     let mut position = 0;
     let mut walk = Walk {
-        memory: None,
+        found: None,
         read: 0,
     };
     while index < last {
@@ -121,12 +114,12 @@ pub fn walk_once(filter: Filter, at: usize, settings: Settings) -> Walk
                 position,
             };
             let leaf = Leaf { stop, node };
-            match read_leaf(filter, leaf, walk.memory, settings) {
+            match read_leaf(filter, leaf, walk.found, settings) {
                 ControlFlow::Break(seen) => {
-                    walk.memory = Some(seen);
+                    walk.found = Some(seen);
                     return walk;
                 }
-                ControlFlow::Continue(memory) => walk.memory = memory,
+                ControlFlow::Continue(memory) => walk.found = memory,
             }
             place = filter.rows.end(index);
             index = filter.rows.after(index);
@@ -159,17 +152,17 @@ pub fn parent_of(rows: Rows, at: usize, leaf: usize) -> usize
 }
 
 // The first KNN match, else the first other match, by one walk over an expression whose root has the first rows.
-pub fn extract_in_one_walk(filter: Filter, at: usize, settings: Settings) -> Walked
+pub fn extract_in_one_walk(filter: Filter, at: usize, settings: Settings) -> Walk<Pick>
     requires framed { Framed filter.s.now filter.rec at }
     requires of_tree { OfTree filter.s.now at (Tabled filter.rows.numbers.now filter.rows.next.now at 0) }
     ensures { OfFrame filter.entry.s.now filter.entry.rec at
         (WalkedIs (match_under (settings_of settings)) filter.entry.s.now filter.entry.rec at result) }
 {
-    let found = walk_once(filter, at, settings);
-    let Some(seen) = found.memory else {
-        return Walked {
-            picked: None,
-            walk: found.read,
+    let walk = walk_once(filter, at, settings);
+    let Some(seen) = walk.found else {
+        return Walk {
+            found: None,
+            read: walk.read,
         };
     };
     let cut = Cut {
@@ -177,12 +170,12 @@ pub fn extract_in_one_walk(filter: Filter, at: usize, settings: Settings) -> Wal
         end: seen.end,
         parent: parent_of(filter.rows, at, seen.leaf),
     };
-    Walked {
-        picked: Some(Pick {
+    Walk {
+        found: Some(Pick {
             predicate: seen.predicate,
             position: seen.position,
             cut,
         }),
-        walk: found.read,
+        read: walk.read,
     }
 }
