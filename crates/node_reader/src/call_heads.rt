@@ -15,6 +15,13 @@ pub enum Columns {
     Fields,
 }
 
+// Bytes, and which columns their expressions may have.
+#[derive(Clone, Copy)]
+pub struct Source<'a> {
+    pub bytes: &'a [u8],
+    pub columns: Columns,
+}
+
 // A function call: its name, and its arguments to come.
 #[tactic(auto, unfolding(definitions::specs::Decode::call_node))]
 pub fn call_head(s: &[u8], at: usize) -> Result<Head, Refusal>

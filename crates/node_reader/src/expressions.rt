@@ -4,8 +4,8 @@ ghost use Rattle.node_reader.specs.Heads.{columns_of};
 ghost use Rattle.node_reader.specs.Nodes.{Lent};
 ghost use Rattle.node_reader.specs.Places.{ExpressionIs, ExpressionIn};
 
-use super::call_heads::Columns;
-use super::walk::{Source, Walked, node};
+use super::call_heads::{Columns, Source};
+use super::walk::{Walked, node};
 use terms::refusals::Refusal;
 
 // An expression of depth at most 64, whose nodes go into the rows from `count` on, where these are so long.

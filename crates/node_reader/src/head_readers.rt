@@ -4,7 +4,7 @@ ghost use Rattle.definitions.specs.Decode as decode;
 ghost use Rattle.node_reader.specs.Fields.{FieldIs};
 ghost use Rattle.node_reader.specs.Heads.{HeadIs, columns_of};
 
-use super::call_heads::{Columns, call_head};
+use super::call_heads::{Columns, Source, call_head};
 use super::field_readers::{byte, byte_up_to, number};
 use expression::heads::Head;
 use expression::literals::literal_in_range;
@@ -22,12 +22,12 @@ fn allowed_kind(kind: u64, columns: Columns) -> bool
 
 // A kind byte.
 #[tactic(auto, unfolding(definitions::specs::Decode::node_kind))]
-pub fn node_kind(s: &[u8], at: usize, columns: Columns) -> Result<(u64, usize), Refusal>
-    requires { at ≤ length s.now }
-    ensures { FieldIs s.now at result (decode.node_kind (columns_of columns)) }
+pub fn node_kind(source: Source, at: usize) -> Result<(u64, usize), Refusal>
+    requires { at ≤ length source.bytes.now }
+    ensures { FieldIs source.entry.bytes.now at result (decode.node_kind (columns_of source.entry.columns)) }
 {
-    let (kind, fields) = byte(s, at)?;
-    if !allowed_kind(kind, columns) {
+    let (kind, fields) = byte(source.bytes, at)?;
+    if !allowed_kind(kind, source.columns) {
         return Err(Refusal::OutOfRange);
     }
     Ok((kind, fields))
@@ -59,13 +59,13 @@ fn field_head(s: &[u8], at: usize) -> Result<Head, Refusal>
 }
 
 // A column of the sort that the frame has.
-fn any_column_head(s: &[u8], at: usize, columns: Columns) -> Result<Head, Refusal>
-    requires { at ≤ length s.now }
-    ensures { HeadIs s.now at result (λ child. decode.any_column (columns_of columns)) }
+fn any_column_head(source: Source, at: usize) -> Result<Head, Refusal>
+    requires { at ≤ length source.bytes.now }
+    ensures { HeadIs source.entry.bytes.now at result (λ child. decode.any_column (columns_of source.entry.columns)) }
 {
-    match columns {
-        Columns::Below(bound) => column_head(s, at, bound),
-        Columns::Fields => field_head(s, at),
+    match source.columns {
+        Columns::Below(bound) => column_head(source.bytes, at, bound),
+        Columns::Fields => field_head(source.bytes, at),
     }
 }
 
@@ -108,15 +108,16 @@ fn other_head(s: &[u8], at: usize) -> Result<Head, Refusal>
 }
 
 // The fields of a node of this kind.
-pub fn head_of_kind(s: &[u8], at: usize, kind: u64, columns: Columns) -> Result<Head, Refusal>
-    requires { at ≤ length s.now }
-    ensures { HeadIs s.now at result (λ child. decode.node_of_kind (columns_of columns) child kind) }
+pub fn head_of_kind(source: Source, at: usize, kind: u64) -> Result<Head, Refusal>
+    requires { at ≤ length source.bytes.now }
+    ensures { HeadIs source.entry.bytes.now at result (λ child. decode.node_of_kind (columns_of source.entry.columns) child kind) }
 {
+    let s = source.bytes;
     match kind {
         1 => literal_head(s, at),
         2 => binary_head(s, at),
         3 => call_head(s, at),
         4 => other_head(s, at),
-        _ => any_column_head(s, at, columns),
+        _ => any_column_head(source, at),
     }
 }

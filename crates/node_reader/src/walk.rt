@@ -7,19 +7,12 @@ ghost use Rattle.node_reader.specs.Heads.{columns_of, depth_above};
 ghost use Rattle.node_rows.specs.Rows.{Collected, CollectedAll};
 ghost use Rattle.node_reader.specs.Nodes.{WalkedIs, Counted, NodeHead, Lent};
 
-use super::call_heads::Columns;
+use super::call_heads::Source;
 use super::head_readers::{head_of_kind, node_kind};
 use expression::heads::Head;
 use node_rows::collecting::Passed;
 use node_rows::numbers::put_node;
 use terms::refusals::Refusal;
-
-// Bytes, and which columns their expressions may have.
-#[derive(Clone, Copy)]
-pub struct Source<'a> {
-    pub bytes: &'a [u8],
-    pub columns: Columns,
-}
 
 // The place after nodes, how many nodes there were up to it, and the depth of what was read.
 #[derive(Clone, Copy)]
@@ -34,11 +27,11 @@ pub fn node_head(source: Source, at: usize, levels: usize, count: usize) -> Resu
     requires { at ≤ length source.bytes.now }
     ensures { NodeHead source.entry.bytes.now at levels count (columns_of source.entry.columns) result }
 {
-    let (kind, fields) = node_kind(source.bytes, at, source.columns)?;
+    let (kind, fields) = node_kind(source, at)?;
     if levels == 0 || 1024 <= count {
         return Err(Refusal::TooManyOrTooDeep);
     }
-    head_of_kind(source.bytes, fields, kind, source.columns)
+    head_of_kind(source, fields, kind)
 }
 
 // A node and all below it, with this many levels left. Its number and the index of the node after it go into the rows at `count`, where

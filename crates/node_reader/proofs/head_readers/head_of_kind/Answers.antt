@@ -29,4 +29,4 @@ unfolding node_of_kind
 returns-in_default c =
     let a = c.args in
     let no = c.in_default.in_default-own.rest in
-    simp (column-kind (columns_of a.columns) a.kind no.0.0.0.1 no.0.0.1 no.0.1 no.1) c.any_column_head.ensures
+    simp (column-kind (columns_of a.source.columns) a.kind no.0.0.0.1 no.0.0.1 no.0.1 no.1) c.any_column_head.ensures
