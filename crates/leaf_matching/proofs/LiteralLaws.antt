@@ -1,12 +1,13 @@
 -- Laws of literals: what stands in their bytes, and what number or flag they are.
 use Rattle.std.specs.Prelude.{if◌then◌else◌, Result, Ok, Err, OkIff}
+use Rattle.std.specs.Bool.{then_some}
 use Rattle.std.specs.Result.{result_ok}
 use Rattle.std.specs.Int.{FitsUnsignedBits}
 use Prim.Native.Nat.{ℕ, zero, suc, ◌+◌, ◌*◌, ◌-◌, ◌/◌, ◌%◌, ◌≤◌, ◌<◌}
 use native.Mathlib.Omega.{arith}
 use native.Mathlib.Nat.{add-zero}
 use mathlib.Core.Path.{◌≡◌, refl, sym, ap, ap₂, ◌∙◌}
-use mathlib.Core.Bool.{true, ◌||◌}
+use mathlib.Core.Bool.{true, not, ◌||◌}
 use mathlib.Core.List.{List, [], ◌∷◌}
 use mathlib.Core.Logic.{◌⊎◌, inl, inr, ⊎_elim}
 use mathlib.Core.Option.{Option, none, some, some-ne-none}
@@ -133,13 +134,12 @@ pub k-of : (t : Expr) (n : Option ℕ) → n ≡ literal_u32 t → (given n then
 unfolding literal_k
 k-of t n e = ap (λ (m : Option ℕ). given m then only_k else none) e
 
-pub only_zero : (k : ℕ) → k ≡ 0 → none ≡ only_k k
+pub k-kept : (k : ℕ) → k < 4294967296 → number_is (then_some (not (eqb k 0)) k) ≡ only_k k
 unfolding only_k
-only_zero k e = rw (zero-no-k k e)
-
-pub only-some : (k : ℕ) → (k ≡ 0 → ⊥) → k < 4294967296 → some k ≡ only_k k
-unfolding only_k
-only-some k n few = rw (is-k k n few)
+k-kept zero few = rw (zero-no-k 0 refl) refl
+k-kept (suc k) few =
+    let some : suc k ≡ 0 → ⊥ = λ e. omega arith in
+    rw (is-k (suc k) some few, ne_eqb (suc k) 0 some) refl
 
 pub k-ten : (t : Expr) (k : ℕ) → some k ≡ literal_k t → length (expr_bytes t) ≡ 10
 k-ten t k e = ⊎_elim (λ w. w.1) (λ w. absurd (some-ne-none k (e ∙ sym (k-of t none w.0)))) (literal-or-not t)

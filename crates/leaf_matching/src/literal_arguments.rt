@@ -13,16 +13,7 @@ fn long_at(s: &[u8], at: usize) -> u64
     requires { at + 8 ≤ length s.now }
     ensures { result ≡ long_at s.now at }
 {
-    u64::from_be_bytes([
-        s[at],
-        s[at + 1],
-        s[at + 2],
-        s[at + 3],
-        s[at + 4],
-        s[at + 5],
-        s[at + 6],
-        s[at + 7],
-    ])
+    u64::from_be_bytes(*s[at..].first_chunk().unwrap())
 }
 
 // A whole number from 0 to 4,294,967,295. Int32 and Int64 have a sign, UInt32 and UInt64 have none.
@@ -47,7 +38,7 @@ pub fn extract_literal_k(s: &[u8], at: usize) -> Option<u32>
     ensures { OfTree s.now at (λ t. number_is result ≡ literal_k t) }
 {
     let k = extract_literal_u32(s, at)?;
-    if k == 0 { None } else { Some(k) }
+    (k != 0).then_some(k)
 }
 
 // A Boolean literal.
