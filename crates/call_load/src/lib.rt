@@ -2,7 +2,6 @@
 #![tactic(auto)]
 
 ghost use Rattle.std.specs.Prelude.{◌≡◌, length};
-ghost use Rattle.frame_reader.specs.Frames.{Roomy};
 ghost use Rattle.call_load.specs.Loads.{LoadedIs, RowIs};
 
 use frame_reader::frames::physical_frame_in;
@@ -11,18 +10,17 @@ use terms::refusals::Refusal;
 use writing::copies::copy_bytes;
 
 // Copies a good frame to the plan's start and gives its length; reads nothing of the old plan. `held` is how many records the table
-// has; its caller fills it with those of the row's first numbers, as many as the answer says.
-fn load_in(
+// has; its caller fills it with those of the row's first numbers, as many as the answer says. The row is lent.
+pub fn load_row(
     row: &mut [u32],
-    indexes: &mut [u16],
     plan: &mut [u8],
     frame: &[u8],
     held: usize,
 ) -> Result<Loaded, Refusal>
-    requires { Roomy frame.now row.old indexes.old }
+    requires { length row.old ≡ 1024 }
     ensures { LoadedIs frame.now plan.old plan.new held result × RowIs frame.now result row.new }
 {
-    let f = physical_frame_in(row, indexes, frame)?;
+    let f = physical_frame_in(row, &mut [0; 1024], frame)?;
     let length = frame.len();
     let count = f.nodes;
     if plan.len() < length {
@@ -39,20 +37,7 @@ fn load_in(
     })
 }
 
-// The same with a row that is lent.
-pub fn load_row(
-    row: &mut [u32],
-    plan: &mut [u8],
-    frame: &[u8],
-    held: usize,
-) -> Result<Loaded, Refusal>
-    requires { length row.old ≡ 1024 }
-    ensures { LoadedIs frame.now plan.old plan.new held result × RowIs frame.now result row.new }
-{
-    load_in(row, &mut [0; 1024], plan, frame, held)
-}
-
-// The same with none.
+// The same with a row of its own.
 pub fn load(plan: &mut [u8], frame: &[u8], held: usize) -> Result<Loaded, Refusal>
     ensures { LoadedIs frame.now plan.old plan.new held result }
 {

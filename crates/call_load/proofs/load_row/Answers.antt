@@ -3,7 +3,7 @@ use native.Mathlib.Omega.{arith}
 use Rattle.node_reader.proofs.Reading.{kept}
 use Rattle.node_reader.proofs.Standing.{all-bytes}
 use Rattle.call_load.proofs.Loading.{load-refuses, load-short, load-untabled, load-copies, frame_has}
-use Rattle.call_load.proofs.load_in.Goals as goal
+use Rattle.call_load.proofs.load_row.Goals as goal
 
 pub returns-in_err-f : goal.returns-in_err-f
 returns-in_err-f c =
