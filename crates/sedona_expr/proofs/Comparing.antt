@@ -1,5 +1,6 @@
 -- The side of a comparison that is read, and the arguments of `st_distance`.
 use Rattle.std.specs.Prelude.{if◌then◌else◌, Option, Some, None}
+use Rattle.std.specs.Bool.{then_some}
 use Prim.Native.Nat.{ℕ, ◌+◌, ◌<◌}
 use native.Mathlib.Omega.{arith}
 use mathlib.Core.Path.{◌≡◌, refl, sym, ap, ◌∙◌, subst, subst⁻¹}
@@ -26,7 +27,7 @@ use Rattle.node_rows.specs.Numbers.{start_at}
 use Rattle.node_rows.specs.Rows.{TabledAll}
 use Rattle.node_rows.proofs.RowLaws.{tabled-first, tabled-within}
 use Rattle.node_rows.proofs.IndexLaws.{Indexed, index-pair}
-use Rattle.sedona_expr.specs.Parsed.{compared, ComparedIs, Arguments}
+use Rattle.sedona_expr.specs.Parsed.{compared, ComparedIs, DistanceIs}
 use Rattle.sedona_expr.specs.declared.utils.Compared.{Compared}
 
 -- Two sides, the first of which is read.
@@ -99,14 +100,13 @@ no_arguments c s at t (Plain head) other (plain_literal, h) = refl
 no_arguments c s at t (Plain head) other (plain_other, h) = refl
 no_arguments c s at t (Plain head) other (plain_field, h) = refl
 
-module _ {c : Columns} {s : List ℕ} {at : ℕ} {k : Called} {t : Expr} (b : CallIs c s at k t) (same : Bool)
-    (e : same ≡ same_name (part s k.name k.end) (ascii "st_distance")) where
-  arguments-are : distance_arguments t ≡ (if same then some b.arguments else none)
+module _ {c : Columns} {s : List ℕ} {at : ℕ} {k : Called} {t : Expr} (b : CallIs c s at k t) where
+  arguments-are : (same : Bool) → same ≡ same_name (part s k.name k.end) (ascii "st_distance")
+      → distance_arguments t ≡ (if same then some b.arguments else none)
   unfolding distance_arguments
-  arguments-are = ap distance_arguments b.is ∙ rw (← b.stands.spelling, ← e)
+  arguments-are same e = ap distance_arguments b.is ∙ rw (← b.stands.spelling, ← e)
 
-  pub distance-found : same ≡ true → Arguments c s k.first k.count (distance_arguments t)
-  distance-found f = record { all = b.arguments; is = arguments-are ∙ rw f; row = b.stands.row }
-
-  pub distance-other : same ≡ false → distance_arguments t ≡ none
-  distance-other f = arguments-are ∙ rw f
+  pub distance-named : (same : Bool) → same ≡ same_name (part s k.name k.end) (ascii "st_distance")
+      → DistanceIs c s (then_some same k) (distance_arguments t)
+  distance-named true e = record { all = b.arguments; is = arguments-are true e; row = b.stands.row }
+  distance-named false e = arguments-are false e

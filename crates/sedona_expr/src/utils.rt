@@ -59,11 +59,7 @@ pub fn distance_arguments(s: &[u8], at: usize) -> Option<Called>
     let Node::Call(call) = node_at(s, at) else {
         return None;
     };
-    if same_name(call.name(s), b"st_distance") {
-        Some(call)
-    } else {
-        None
-    }
+    same_name(call.name(s), b"st_distance").then_some(call)
 }
 
 // A comparison takes the first two arguments of `st_distance`; its left side has index i.
