@@ -11,7 +11,7 @@ use Rattle.definitions.specs.Encode.{expr_bytes}
 use Rattle.definitions.specs.Leaves.{leaves}
 use Rattle.definitions.specs.Decode.{Columns}
 use Rattle.theorems.proofs.Pick.{leaves-most}
-use Rattle.expression.proofs.Standing.{head-some, tree-length}
+use Rattle.expression.proofs.Standing.{some_bytes}
 use Rattle.expression.specs.Leaves.{Both, CallIs, PlainNode, plain_column, plain_literal, plain_other, plain_field}
 use Rattle.expression.specs.Cuts.{CutAt, here, in_left, in_right}
 use Rattle.expression.specs.declared.cuts.Cut.{Cut}
@@ -66,7 +66,7 @@ plain-leaf plain_field = refl
 -- An expression has no more of them than bytes.
 pub leaves-few : (t : Expr) → length (leaves t) ≤ length (expr_bytes t)
 unfolding expr_bytes
-leaves-few = leaves-most (λ t. length (expr_bytes t)) (λ t. omega (arith, tree-length t, head-some t))
+leaves-few = leaves-most (λ t. length (expr_bytes t)) some_bytes
     (λ l r. simp length-append (omega arith))
 
 -- ---- what holds of all

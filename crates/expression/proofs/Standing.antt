@@ -41,6 +41,9 @@ head-some = each (λ t. 0 < length (head_bytes t))
     (λ i g. omega arith) (λ y v. omega arith) (λ l r. omega arith) (λ o l r. omega arith) (λ n ts. omega arith) (λ g ts. omega arith)
     (λ b g. omega arith)
 
+pub some_bytes : (t : Expr) → 0 < length (expr_bytes t)
+some_bytes t = omega (arith, tree-length t, head-some t)
+
 pub children-in-range : (c : Columns) (t : Expr) → InRange c t → InRangeAll c (children_of t)
 unfolding children_of
 children-in-range c (column i g) r = tt
@@ -98,7 +101,7 @@ module _ {c : Columns} {s : List ℕ} {at : ℕ} where
   after-head {t} h p e = omega (arith, head-some t)
 
   pub after-node : {t : Expr} → Stands c s at t → (p : ℕ) → p ≡ at + length (expr_bytes t) → at < p
-  after-node {t} h p e = omega (arith, head-some t, tree-length t)
+  after-node {t} h p e = omega (arith, some_bytes t)
 
 -- ---- a row by its length
 

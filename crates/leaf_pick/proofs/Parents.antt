@@ -10,14 +10,11 @@ use Rattle.definitions.specs.Good.{nodes}
 use Rattle.expression.specs.Nodes.{head_bytes, children_of, left_of}
 use Rattle.expression.specs.Cuts.{CutAt, here, in_left, in_right}
 use Rattle.expression.specs.declared.cuts.Cut.{Cut}
-use Rattle.expression.proofs.Standing.{head-some, tree-length}
+use Rattle.expression.proofs.Standing.{some_bytes}
 use Rattle.node_rows.specs.Numbers.{end_at}
 use Rattle.node_rows.specs.Rows.{Tabled, TabledAll}
 use Rattle.node_rows.proofs.RowLaws.{tabled-end, tabled-next, tabled-within, tabled-children, tabled-first, tabled-rest}
 use Rattle.leaf_pick.specs.Walks.{Spotted, ParentIs}
-
-some_bytes : (t : Expr) → 0 < length (expr_bytes t)
-some_bytes t = omega (arith, tree-length t, head-some t)
 
 -- The leaf stands within the expression.
 within : {cut : Cut} {up : ℕ} {t : Expr} {at position : ℕ} → CutAt cut up t at position

@@ -14,7 +14,7 @@ use Rattle.definitions.specs.NodeTable.{record_of, nodes_from, row_from}
 use Rattle.expression.specs.Nodes.{head_bytes, children_of, Stands, Row, OfTree, OfTrees, Tree}
 use Rattle.expression.specs.Heads.{HeadIs}
 use Rattle.expression.specs.declared.heads.Head.{Head}
-use Rattle.expression.proofs.Standing.{tree-length, kind-is, head-some, children-stand, first-stands, rest-stands, some-children, no-children}
+use Rattle.expression.proofs.Standing.{tree-length, kind-is, some_bytes, children-stand, first-stands, rest-stands, some-children, no-children}
 use Rattle.writing.specs.Written.{WroteAt}
 use Rattle.writing.proofs.Written.{chain, nothing-wrote}
 use Rattle.node_rows.specs.Numbers.{number, numbers_from, row_numbers, nexts_from, row_nexts}
@@ -111,7 +111,7 @@ module _ {s : List ℕ} {at : ℕ} (i : ℕ) {numbers next numbered followed : L
       let t = f.tree in
       record {
         kind = omega (arith, sym (kind-is f.stands), kind-byte t, kind-small t);
-        start = omega (arith, f.short, head-some t, tree-length t);
+        start = omega (arith, f.short, some_bytes t);
         end = omega (arith, f.short, its-end i f.stands head.next told);
         few = omega (arith, f.room.few, index);
         numbered = omega (arith, f.room.numbered, nodes-below t);

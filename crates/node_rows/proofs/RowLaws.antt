@@ -15,7 +15,7 @@ use Rattle.expression.specs.Places.{Holds}
 use Rattle.expression.specs.Nodes.{head_bytes, children_of, kind_of}
 use Rattle.expression.proofs.Placed.{fits, first, front, back}
 use Rattle.expression.proofs.Placed as placed
-use Rattle.expression.proofs.Standing.{head-some, tree-length}
+use Rattle.expression.proofs.Standing.{some_bytes, tree-length}
 use Rattle.node_rows.specs.Numbers.{number, start_at, end_at, numbers_from, row_numbers, nexts_from, row_nexts}
 use Rattle.node_rows.specs.Rows.{Tabled, TabledAll, TwoAre}
 use Rattle.node_rows.specs.declared.pairs.Two.{Two}
@@ -63,7 +63,7 @@ kind-small = each (λ t. kind_byte t < 7)
 -- A node within the bytes of a frame.
 pub node-told : (at : ℕ) (t : Expr) → at + length (expr_bytes t) ≤ 16384 → Told (record_of at t)
 unfolding record_of
-node-told at t h = record { kind = kind-small t; start = omega (arith, head-some t, tree-length t); end = omega arith }
+node-told at t h = record { kind = kind-small t; start = omega (arith, some_bytes t); end = omega arith }
 
 -- ---- how many
 
