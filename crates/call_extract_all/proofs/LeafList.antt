@@ -7,6 +7,7 @@ use mathlib.Core.Bool.{Bool, true, false, not, false≢true}
 use mathlib.Core.List.{List, [], ◌∷◌, map, append-nil}
 use mathlib.Core.Option.{Option, none, some}
 use lib.ListN.{length, set}
+use borrow.Author.Tests.{not-true}
 use Rattle.definitions.specs.Expression.{Expr, Record, Predicate}
 use Rattle.definitions.specs.Leaves.{leaves}
 use Rattle.definitions.specs.Extract.{is_knn, Matcher}
@@ -47,10 +48,6 @@ not-other : (q : Predicate) → is_knn q ≡ true → is_other q ≡ false
 unfolding is_other
 not-other q e = ap not e
 
-turned : (b : Bool) → not b ≡ true → b ≡ false
-turned true e = sym e
-turned false e = refl
-
 -- Another predicate, as first_match has it, is one.
 other-is : (q : Predicate) → picks.is_other q ≡ true → is_other q ≡ true
 unfolding is_other
@@ -80,7 +77,7 @@ module _ {position : ℕ} {knns others gone : List ℕ} (room : position < lengt
       (record { position = position + 1; knn = 0; other = w; rounds = 1 })
   unfolding match_count
   other-listed {others'} q w e size wrote =
-      let no : is_knn q ≡ false = turned (is_knn q) e in
+      let no : is_knn q ≡ false = not-true (is_knn q) e in
       let yes : is_other q ≡ true = other-is q e in
       record {
         counted = refl;

@@ -2,7 +2,7 @@
 use Prim.Native.Nat.{ℕ, ◌≤◌, ◌<◌}
 use native.Mathlib.Omega.{arith}
 use mathlib.Core.Path.{◌≡◌, refl, sym, ap, ◌∙◌}
-use mathlib.Core.Bool.{Bool, true, false, ◌&&◌}
+use mathlib.Core.Bool.{Bool, ◌&&◌, and-true, and_assoc}
 use mathlib.Core.List.{List, [], ◌∷◌, ◌++◌}
 use lib.ListN.{length, length-append}
 use Rattle.definitions.specs.Basics.{all}
@@ -71,10 +71,6 @@ leaves-few = leaves-most (λ t. length (expr_bytes t)) some_bytes
 
 -- ---- what holds of all
 
-and_assoc : (a b d : Bool) → (a && b) && d ≡ a && (b && d)
-and_assoc true b d = refl
-and_assoc false b d = refl
-
 pub all_append : {A : Type 0} (f : A → Bool) (xs ys : List A) → all f (xs ++ ys) ≡ all f xs && all f ys
 unfolding all
 all_append f [] ys = refl
@@ -83,7 +79,3 @@ all_append f (x ∷ xs) ys = ap (λ (t : Bool). f x && t) (all_append f xs ys) �
 pub all_one : {A : Type 0} (f : A → Bool) (x : A) → all f (x ∷ []) ≡ f x
 unfolding all
 all_one f x = and-true (f x)
-  where
-    and-true : (t : Bool) → t && true ≡ t
-    and-true true = refl
-    and-true false = refl

@@ -1,26 +1,25 @@
 -- Two hosts agree because both agree with the machine, as two sessions of the frame do.
-use Prim.Native.Nat.{ℕ, zero, suc}
+use Prim.Native.Nat.{ℕ}
 use mathlib.Core.Path.{◌≡◌, refl, sym, ap, ap₂, ◌∙◌, subst}
-use mathlib.Core.Bool.{Bool, true, false, ◌&&◌, ◌||◌, not, or-true}
-use mathlib.Core.List.{List, [], ◌∷◌}
-use mathlib.Core.Option.{Option, none, some}
+use mathlib.Core.Bool.{Bool, true, false, ◌&&◌, not, and-true}
+use mathlib.Core.List.{List, []}
 use native.Mathlib.Omega.{arith}
 use lib.IntN.{ℤ}
-use lib.ListN.{length, take, get_or}
+use lib.ListN.{length, take}
 use lib.Dec.{leb}
-use Rattle.definitions.specs.Basics.{any}
-use Rattle.definitions.specs.Expression.{Frame, Predicate, Extraction, held}
+use Rattle.definitions.specs.Expression.{Frame, Extraction, held}
 use Rattle.definitions.specs.Encode.{frame_bytes, plan_bytes}
 use Rattle.definitions.specs.Extract.{Matcher, matches_by}
 use Rattle.definitions.specs.Machine.{extract_call}
 use Rattle.definitions.specs.Good.{GoodPlan}
 use Rattle.definitions.specs.Sessions.{Made, machine_after_by, accepted, extract_accepted, exchanges_odd, SessionBy, after, plan_after, extracted_in, odd_in}
 use Rattle.definitions.specs.Merge.{merge_frames, MergeOutcome, merge}
-use Rattle.definitions.specs.Claims.{AgreeBy, is_match, some_leaf_matches_by, TookAmong, extracted_plan}
+use Rattle.definitions.specs.Claims.{AgreeBy, some_leaf_matches_by, TookAmong, extracted_plan}
 use Rattle.definitions.specs.Settings.{Settings, match_under, FairUnder}
 use Rattle.definitions.specs.SettingsClaims.{GoodSettings}
 use Rattle.definitions.specs.AnyMatcher.{Lists}
 use Rattle.theorems.proofs.InverseFrame.{same_ok, frame_back}
+use Rattle.theorems.proofs.Pick.{any_some}
 use Rattle.theorems.proofs.ListTheorem.{written_held}
 use Rattle.theorems.proofs.MergeCall.{same-held}
 use Rattle.theorems.proofs.Proved.{all-settings, merge-holds}
@@ -31,19 +30,9 @@ use Rattle.host_lists.specs.HostsAgree.{HostsAgreeUnder, HostsAgree}
 use Rattle.host_lists.proofs.HostLists.{merge-length, host-demand-three}
 
 -- A leaf that matches is among the leaves.
-some-match : (ms : List (Option Predicate)) (i : ℕ) (p : Predicate) → get_or ms i none ≡ some p → any is_match ms ≡ true
-unfolding any is_match
-some-match [] i p e = let z : ◌≡◌ {A = ℕ} 0 1 = cc in absurd (omega arith)
-some-match (m ∷ ms) zero p e = ap (λ (x : Option Predicate). is_match x || any is_match ms) e
-some-match (m ∷ ms) (suc i) p e = ap (λ (b : Bool). is_match m || b) (some-match ms i p e) ∙ or-true (is_match m)
-
 matches : (match : Matcher) (F : Frame) (X : Extraction) → TookAmong (matches_by match F) F X → some_leaf_matches_by match F ≡ true
 unfolding some_leaf_matches_by
-matches match F X took = some-match (matches_by match F) X.position X.predicate took.match
-
-and-true : (b : Bool) → (b && true) ≡ b
-and-true true = refl
-and-true false = refl
+matches match F X took = any_some (matches_by match F) X.position X.predicate took.match
 
 module _ (S : Settings) (g : GoodSettings S) where
   lists : Lists (match_under S) (FairUnder S)

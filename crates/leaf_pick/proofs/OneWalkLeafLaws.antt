@@ -2,9 +2,10 @@
 use Rattle.std.specs.Prelude.{Some, None}
 use Prim.Native.Nat.{ℕ, suc}
 use mathlib.Core.Path.{◌≡◌, refl, sym, ap, ◌∙◌}
-use mathlib.Core.Bool.{Bool, true, false, not, false≢true}
+use mathlib.Core.Bool.{false, not, false≢true}
 use mathlib.Core.List.{List}
 use mathlib.Core.Option.{Option, none, some}
+use borrow.Author.Tests.{not-true}
 use Rattle.definitions.specs.Expression.{Expr, Record, Predicate}
 use Rattle.definitions.specs.Extract as definition
 use Rattle.definitions.specs.Extract.{is_knn, is_knn_match, first_of, Matcher}
@@ -30,10 +31,6 @@ read_known : (n : ℕ) (p : definition.Pick) (m : Option Predicate) → Lacks is
 unfolding read_leaf first_of
 read_known n p none h = refl
 read_known n p (some q) h = rw h
-
-not-other : (b : Bool) → not b ≡ true → b ≡ false
-not-other true e = sym e
-not-other false e = refl
 
 no-match : (m : Option Predicate) → Lacks is_knn m → Lacks is_other m → m ≡ none
 no-match none h k = refl
@@ -86,7 +83,7 @@ module _ {match : Matcher} {s numbers next : List ℕ} {rec : ℕ} {leaf : Leaf}
   unfolding read_leaf is_knn_match first_of
   leaf_first predicate m first e =
       let q : definition.Pick = record { position = leaf.stop.position; predicate = m.q } in
-      let far : is_knn m.q ≡ false = not-other (is_knn m.q) m.passes in
+      let far : is_knn m.q ≡ false = not-true (is_knn m.q) m.passes in
       record {
         now-first = some q;
         is = rw (m.is, far, e);

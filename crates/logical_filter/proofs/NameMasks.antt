@@ -1,11 +1,12 @@
 -- Masks of names: a bit for each name of the table, lowest first.
 use Rattle.std.specs.Prelude.{if◌then◌else◌, cond, Some, None}
 use Rattle.std.specs.List.{position, position_or_len}
+use Rattle.std.proofs.lemmas.Bool.{or_parts}
 use Prim.Native.Nat.{ℕ, suc, ◌+◌, ◌*◌, ◌/◌, ◌%◌, ◌^◌, ◌≤◌, ◌<◌, max}
 use native.Mathlib.Nat.{pow-suc, mod-eq_of_lt}
 use native.Mathlib.Omega.{arith}
 use mathlib.Core.Path.{◌≡◌, refl, sym, ap, ap₂, ◌∙◌}
-use mathlib.Core.Bool.{Bool, true, false, ◌&&◌, ◌||◌, not}
+use mathlib.Core.Bool.{Bool, true, false, ◌&&◌, ◌||◌, not, or-false, or_assoc}
 use mathlib.Core.List.{List, [], ◌∷◌, ◌++◌, map}
 use lib.ListN.{length, length-map}
 use denote.Bor.{Bor}
@@ -23,11 +24,7 @@ use Rattle.theorems.proofs.Requests.{same-name}
 any_append : {A : Type 0} (f : A → Bool) (xs ys : List A) → any f (xs ++ ys) ≡ any f xs || any f ys
 unfolding any
 any_append f [] ys = refl
-any_append f (x ∷ xs) ys = ap (λ (t : Bool). f x || t) (any_append f xs ys) ∙ assoc (f x)
-  where
-    assoc : (a : Bool) → a || (any f xs || any f ys) ≡ (a || any f xs) || any f ys
-    assoc true = refl
-    assoc false = refl
+any_append f (x ∷ xs) ys = ap (λ (t : Bool). f x || t) (any_append f xs ys) ∙ sym (or_assoc (f x) (any f xs) (any f ys))
 
 abbrev digit : Bool → ℕ
 digit t = if t then 1 else 0
@@ -87,10 +84,6 @@ first-apart : (t u : Bool) → not t && u ≡ true → (t ≡ false) × (u ≡ t
 first-apart true u e = absurd (let z : ◌≡◌ {A = ℕ} 0 1 = ap (λ (t : Bool). if t then 1 else 0) e in omega arith)
 first-apart false u e = (refl, e)
 
-neither : (t u : Bool) → t || u ≡ false → (t ≡ false) × (u ≡ false)
-neither true u e = absurd (let z : ◌≡◌ {A = ℕ} 0 1 = ap (λ (t : Bool). if t then 0 else 1) e in omega arith)
-neither false u e = (refl, e)
-
 -- What the first name adds to a position, and to a bit.
 past_first : (same : Bool) (later : Bool) (n p : ℕ) → (n ≤ p → later ≡ false) → suc n ≤ cond (not same) (1 + p) 0 → same || later ≡ false
 past_first true later n p ih h = absurd (omega arith)
@@ -109,16 +102,12 @@ module _ (x : List ℕ) where
       → mask (name ∷ names) (x ∷ []) ≡ digit t + 2 * mask names (x ∷ [])
   unfolding mask any
   one name names t e = ap (λ (t : Bool). digit t + 2 * mask names (x ∷ [])) (or-false (same_name name x) ∙ same-sym name x ∙ e)
-    where
-      or-false : (t : Bool) → t || false ≡ t
-      or-false true = refl
-      or-false false = refl
 
   none : (names : List (List ℕ)) → any (same_name x) names ≡ false → mask names (x ∷ []) ≡ 0
   unfolding any mask
   none [] e = refl
   none (name ∷ names) e =
-      let f = neither (same_name x name) (any (same_name x) names) e in
+      let f = or_parts (same_name x name) (any (same_name x) names) e in
       one name names false f.0 ∙ omega (arith, none names f.1)
 
   missing : (names : List (List ℕ)) → length names ≤ position_or_len (same_name x) names → any (same_name x) names ≡ false

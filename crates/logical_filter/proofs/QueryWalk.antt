@@ -4,7 +4,7 @@ use Rattle.std.proofs.Common.{ControlFlow, Break, Continue}
 use Prim.Native.Nat.{ℕ, ◌+◌, ◌-◌, ◌/◌, ◌%◌, ◌≤◌, ◌<◌}
 use native.Mathlib.Omega.{arith}
 use mathlib.Core.Path.{◌≡◌, refl, sym, ap, ap₂, ◌∙◌}
-use mathlib.Core.Bool.{Bool, true, false, ◌&&◌, not}
+use mathlib.Core.Bool.{Bool, true, false, ◌&&◌, not, and_assoc, and-true}
 use mathlib.Core.List.{List, [], ◌∷◌, ◌++◌, append-nil}
 use mathlib.Core.Option.{Option, none, some}
 use lib.ListN.{length, get_or, length-append}
@@ -217,14 +217,6 @@ module _ {c : Columns} {s : List ℕ} {at n : ℕ} {ts : Exprs} (row : Row c s a
       ts (omega (arith, row.counted)) row
 
 -- ---- the loop over a row
-
-and_assoc : (a b d : Bool) → (a && b) && d ≡ a && (b && d)
-and_assoc true b d = refl
-and_assoc false b d = refl
-
-and-true : (b : Bool) → b && true ≡ b
-and-true true = refl
-and-true false = refl
 
 -- What it keeps after i of n: what is right for the expressions left, joined to what was seen, is right for the whole row.
 pub record Joining (s : List ℕ) (at n : ℕ) (all : Schemas) (i : ℕ) : Type 0 where
