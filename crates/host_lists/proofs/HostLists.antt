@@ -8,11 +8,9 @@ use mathlib.Core.Option.{some}
 use lib.IntN.{ℤ, pos}
 use lib.ListN.{length, take, length-map}
 use lib.Dec.{leb}
-use Rattle.definitions.specs.Basics.{ok}
 use Rattle.definitions.specs.Expression.{Frame, Extraction}
 use Rattle.definitions.specs.Encode.{plan_bytes}
 use Rattle.definitions.specs.Extract.{matches_by}
-use Rattle.definitions.specs.Calls.{table_fits}
 use Rattle.definitions.specs.Machine.{extract_call, exchange_call}
 use Rattle.definitions.specs.NodeTable.{NodeRecord}
 use Rattle.definitions.specs.Sessions.{Made, fed, ListOutcome, machine_after_by, accepted, extract_accepted, exchanges_odd, plan_left}
@@ -25,17 +23,16 @@ use Rattle.definitions.specs.Merge.{merge_frames, merge}
 use Rattle.definitions.specs.Project.{Lists as ChildLists}
 use Rattle.definitions.specs.OddMachine.{odd_run}
 use Rattle.definitions.specs.ProjectClaims.{NewColumns, project_by, OddAgree}
-use Rattle.definitions.specs.History.{Call, making, nothing, state_plan, History, machine_history}
+use Rattle.definitions.specs.History.{making, nothing}
 use Rattle.definitions.specs.Hosts.{hosted}
 use Rattle.join_filter.specs.Outcomes.{Answered, LoadIs, OutcomeIs, MergeIs}
 use Rattle.join_filter.specs.Lists.{Ran, given, carried, ran_to, Starts, by_load as code-by-load, by_merge as code-by-merge, CodeRun, outcome as code-outcome, DemandThree, AfterProjection, ProjectIs, CodeMeetsUnder}
 use Rattle.join_filter.specs.declared.answers.Extracted.{Extracted}
 use Rattle.join_filter.proofs.DemandThree.{code-meets-demand-three, demand-three}
 use Rattle.node_table.specs.Records.{nodes_of, node_of}
-use Rattle.node_table.specs.declared.NodeRecord.{NodeRecord as TableRecord}
 use Rattle.host_calls.specs.Hosted.{LoadHosted, MergeHosted}
 use Rattle.host_lists.specs.Numbers.{answered, walk_answered, numbers_by}
-use Rattle.host_lists.specs.HostLists.{Host, MadeHosted, HostRan, host_to, made_to, HostStarts, by_load, by_merge, HostRun, outcome, plan, extracted, odd, ProjectHosted, HostDemandThree, HostProjected, machine_walks, HostsMeetUnder, HostsMeetDemandThree}
+use Rattle.host_lists.specs.HostLists.{Host, MadeHosted, HostRan, made_to, HostStarts, by_load, by_merge, HostRun, outcome, plan, extracted, odd, ProjectHosted, HostDemandThree, HostProjected, HostsMeetUnder, HostsMeetDemandThree}
 use Rattle.host_lists.proofs.Ran.{lent_of, MadeIs, made-is, project-is, merge-is, load_is, RanAs, host-ran, frames-bytes, outcomes-same, length-told}
 use Rattle.host_lists.proofs.Walked.{none-carried, numbers-alone, Told, history-told}
 
@@ -214,31 +211,6 @@ module _ (S : Settings) (g : GoodSettings S) where
 
   -- ---- whole
 
-  host-history : (plan : List ℕ) (table : List TableRecord) (calls : List Call) (numbers : List ℤ) (last : Host)
-      → HostRan S (record { plan = plan; n = 0; table = table }) calls numbers last
-      → let m : History = machine_history (match_under S) (length plan) (length table) nothing calls in
-      let walks : List ℕ = machine_walks S (length plan) (length table) nothing calls in
-      (numbers ≡ numbers_by calls walks m.answers) × ((host_to calls numbers last).answers ≡ m.answers)
-      × ((host_to calls numbers last).walks ≡ walks) × (take last.n last.plan ≡ plan_bytes (state_plan (match_under S) m.state))
-      × (last.n ≡ length (plan_bytes (state_plan (match_under S) m.state))) × (length last.plan ≡ length plan)
-      × (length last.table ≡ length table) × (table_fits (nodes_of last.table) (ok (state_plan (match_under S) m.state)) ≡ true)
-  host-history plan table calls numbers last ran =
-      let code-ran = host-ran g.width ran in
-      let bytes = frames-bytes ran in
-      let h = code_meets.history plan (nodes_of table) calls code-ran.answers (lent_of last) bytes code-ran.ran in
-      let k = rw (length-map table node_of) at h in
-      let t : Told S g (length plan) (length table) nothing calls numbers =
-      history-told S g (length plan) (length table) ran bytes nothing (refl, (refl, length-map table node_of)) in (
-        t.numbered,
-        code-ran.read ∙ k.0,
-        t.carries,
-        k.1,
-        k.2,
-        k.3,
-        sym (length-map last.table node_of) ∙ k.4,
-        k.5,
-      )
-
   meets_under : HostsMeetUnder S
   meets_under = record {
     after_load = λ frame before table a is.
@@ -261,7 +233,22 @@ module _ (S : Settings) (g : GoodSettings S) where
         code_meets.after_projection lists (lent_of b) scratch kept (lent_of a) is.0
         (project-length lists b scratch kept a is) in
         (X, Y, found, new, size, host-projected lists X Y a after);
-    history = host-history;
+    history = λ plan table calls numbers last ran.
+        let code-ran = host-ran g.width ran in
+        let bytes = frames-bytes ran in
+        let h = code_meets.history plan (nodes_of table) calls code-ran.answers (lent_of last) bytes code-ran.ran in
+        let k = rw (length-map table node_of) at h in
+        let t : Told S g (length plan) (length table) nothing calls numbers =
+        history-told S g (length plan) (length table) ran bytes nothing (refl, (refl, length-map table node_of)) in (
+          t.numbered,
+          code-ran.read ∙ k.0,
+          t.carries,
+          k.1,
+          k.2,
+          k.3,
+          sym (length-map last.table node_of) ∙ k.4,
+          k.5,
+        );
   }
 
 pub hosts-meet-demand-three : HostsMeetDemandThree
