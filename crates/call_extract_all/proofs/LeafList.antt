@@ -1,6 +1,6 @@
 -- What is listed of a single leaf.
 use Rattle.std.specs.Prelude.{if◌then◌else◌}
-use Prim.Native.Nat.{ℕ, ◌+◌, ◌<◌}
+use Prim.Native.Nat.{ℕ, ◌+◌, ◌≤◌, ◌<◌}
 use native.Mathlib.Omega.{arith}
 use mathlib.Core.Path.{◌≡◌, refl, sym, ap, ◌∙◌, subst}
 use mathlib.Core.Bool.{Bool, true, false, not, false≢true}
@@ -137,34 +137,30 @@ module _ {match : Matcher} {s : List ℕ} {rec count at position : ℕ} {to knns
     pub flag-room : position < length gone
     flag-room = omega (arith, f.flags, ap length single)
 
-    pub knn-room : (p : SpatialPredicate) → Matches is_knn s rec f.records p (match f.records f.tree)
-        → Room (PredicateAt (table_change to) s p) (predicate_bytes position) 0 knns
-    knn-room p m = record {
+    -- A match has room where what is listed of the leaf has.
+    match-room : {kind : Predicate → Bool} {out : List ℕ} (test : Predicate → Bool)
+        → length (listed test position (matches match f.records f.tree)) ≤ length out → (p : SpatialPredicate)
+        → (m : Matches kind s rec f.records p (match f.records f.tree)) → test m.q ≡ true
+        → Room (PredicateAt (table_change to) s p) (predicate_bytes position) 0 out
+    match-room test room p m passes = record {
       it = m.q;
       stands = by-table f.frame p m.q m.stands;
       room = omega (
         arith,
-        f.knn,
-        ap (λ (x : List (Option Predicate)). length (listed is_knn position x))
+        room,
+        ap (λ (x : List (Option Predicate)). length (listed test position x))
             (leaf-match ∙ ap (λ (x : Option Predicate). x ∷ []) m.is),
-        ap length (one-listed is_knn position m.q m.passes),
+        ap length (one-listed test position m.q passes),
       );
     }
 
+    pub knn-room : (p : SpatialPredicate) → Matches is_knn s rec f.records p (match f.records f.tree)
+        → Room (PredicateAt (table_change to) s p) (predicate_bytes position) 0 knns
+    knn-room p m = match-room is_knn f.knn p m m.passes
+
     pub other-room : (p : SpatialPredicate) → Matches picks.is_other s rec f.records p (match f.records f.tree)
         → Room (PredicateAt (table_change to) s p) (predicate_bytes position) 0 others
-    other-room p m = record {
-      it = m.q;
-      stands = by-table f.frame p m.q m.stands;
-      room = omega (
-        arith,
-        f.other,
-        ap (λ (x : List (Option Predicate)). length (listed is_other position x))
-            (leaf-match ∙ ap (λ (x : Option Predicate). x ∷ []) m.is),
-        ap length
-            (one-listed is_other position m.q (other-is m.q m.passes)),
-      );
-    }
+    other-room p m = match-room is_other f.other p m (other-is m.q m.passes)
 
 -- The list of a leaf is that of its match.
 pub leaf-is : (match : Matcher) (records : List Record) {t : Expr} {position : ℕ}
