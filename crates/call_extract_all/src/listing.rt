@@ -47,7 +47,8 @@ fn list_leaf(
     requires of_tree_in { OfTreeIn listing.filter.s.now leaf.stop.at (λ c t. NodeIs c listing.filter.s.now leaf.stop.at leaf.node t) }
     requires leaf_alone { OfTree listing.filter.s.now leaf.stop.at (λ t. leaves t ≡ t ∷ []) }
     ensures { ListPut (match_under (settings_of listing.entry.settings)) listing.entry.filter.s.now listing.entry.filter.rec
-        listing.entry.count leaf.stop.at leaf.stop.position listing.entry.to.now knns.old knns.new others.old others.new gone.old gone.new result }
+        listing.entry.count leaf.stop.at leaf.stop.position listing.entry.to.now
+        knns.old knns.new others.old others.new gone.old gone.new result }
 {
     let src = listing.filter.s;
     let indexes = Some(listing.to);

@@ -137,8 +137,8 @@ pub fn leaf_match(filter: Filter, leaf: Leaf, pass: Pass, parent: usize) -> Foun
     }
 }
 
-// The first match that is wanted below a node, where the And above the node is known. A turn goes from an And to its right side, and no
-// range has those.
+// The first match that is wanted below a node; `parent` is where the And above it stands. A turn goes from an And to its right side: no
+// range has those, and a call for each would take its room on the stack.
 pub fn first_match(filter: Filter, pass: Pass, from: Stop, parent: usize) -> Found
     requires framed { Framed filter.s.now filter.rec from.at }
     requires of_tree { OfTree filter.s.now from.at (Tabled filter.rows.numbers.now filter.rows.next.now from.at from.index) }

@@ -21,7 +21,7 @@ fn collect_held(used: &mut [bool], src: &[u8], at: usize, cut: Cut)
 }
 
 // Writes the frame that is left, with rows for at most N records: those that its columns refer to, and the expression over them.
-// A function for this and `put_pruned_in` would match on a cut at the two calls that differ and in its contract, and be longer than both.
+// One function for this and `put_pruned_in` would need two more, which match on a cut where the calls differ, and be no shorter.
 fn replace_join_filter_expr<const N: usize>(
     out: &mut [u8],
     records: Records,
