@@ -44,7 +44,8 @@ fn physical_frame_by<const N: usize>(s: &[u8]) -> Result<Frame, Refusal>
     physical_frame_in(&mut numbers, &mut indexes, s)
 }
 
-// A whole physical frame. Short rows are enough for a short one, and the longer ones cost more to clear than such a frame to read.
+// A whole physical frame. Short rows are enough for a short one, and the longer ones cost more to clear than such a frame to read. (No
+// closure is generic in N, so that each call with rows of its own chooses, and each function of N says its bound.)
 pub fn physical_frame(s: &[u8]) -> Result<Frame, Refusal>
     ensures { PhysicalIs s.now result (plans.frame_of s.now) }
 {

@@ -4,11 +4,12 @@ ghost use Rattle.join_filter.specs.Outcomes.{unwalked};
 
 use terms::refusals::Refusal;
 
-// The length of the new plan, of the text or of the frame that waits, or why the call is refused.
+// The length of the new plan, of the text or of the frame that waits, or why the call is refused. A call takes the plan's buffer, its
+// length and the scratch one by one, as the C interface does, and an answer may be longer than what the plan held.
 pub type Answer = Result<usize, Refusal>;
 
 // What extract answers, and how many And nodes and AND-leaves it read: 0 but with a length and with 13 (request 10 of document 02).
-// In a `Result` the walk would stand twice, beside a length and beside a refusal.
+// With the walk once, in the `Ok` of a `Result`, a 13 would be no refusal like the others.
 #[derive(Clone, Copy)]
 pub struct Extracted {
     pub answer: Answer,

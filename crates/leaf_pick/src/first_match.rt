@@ -22,7 +22,8 @@ use sedona_query_planner::spatial_predicate::SpatialPredicate;
 use std::ops::ControlFlow;
 use terms::settings::Settings;
 
-// Which matches a pass over the AND-leaves is for: KNN, or relations and distances.
+// Which matches a pass over the AND-leaves is for: KNN, or relations and distances. The claims about a pass are of this, so that a closure
+// that matches would still need it beside itself.
 #[derive(Clone, Copy)]
 pub enum Wanted {
     Knn,

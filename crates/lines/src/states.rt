@@ -7,7 +7,8 @@ ghost use Rattle.lines.specs.declared.states.Buffers.{Buffers};
 // The most bytes that may wait to be written where a line is answered.
 pub const MOST_FILLED: usize = 32757;
 
-// What is to be written, the plan, the scratch, and the line that has begun.
+// What is to be written, the plan, the scratch, and the line that has begun. They stay where they are while a `State`, which says how much
+// of each is in use, goes by value from read to read.
 #[derive(Drop)]
 pub struct Buffers {
     pub out: [u8; 65536],

@@ -84,7 +84,8 @@ fn column_refs_all(s: &[u8], at: usize, n: usize) -> Schemas
     all
 }
 
-// The side of a KNN join whose plan has the query geometry, by document 01's number. The Rust has this enum beside `JoinSide`.
+// The side of a KNN join whose plan has the query geometry, by document 01's number. The Rust has this enum beside `JoinSide`, and what it
+// names has its names here.
 #[derive(Clone, Copy, Debug, PartialEq, Eq)]
 pub enum KNNJoinQuerySide {
     Left = 0,

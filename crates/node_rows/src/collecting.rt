@@ -13,7 +13,8 @@ pub struct Passed {
     pub index: usize,
 }
 
-// Puts the expression at a place into the rows, its first node at index i.
+// Puts the expression at a place into the rows, its first node at index i. The rows are two slices: walks that call each other would take a
+// struct of both apart and make it again at each call.
 #[cycle(collect_children_collect_nodes)]
 pub fn collect_nodes(numbers: &mut [u32], next: &mut [u16], s: &[u8], at: usize, i: usize) -> Passed
     requires { Fits s.now at i numbers.old next.old }

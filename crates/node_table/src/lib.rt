@@ -19,7 +19,7 @@ pub struct NodeRecord {
     pub end: u16,
 }
 
-// A record as one number. A good frame has no record that is not told apart here.
+// A record as one number. The C interface lets a host lend any record: one that no good frame has gets a number that none of these has.
 impl From<NodeRecord> for u32 {
     ghost from_gives = { λ node result. result ≡ number (node_of node) };
 

@@ -1,6 +1,7 @@
 // The place of a child index in a list: by a search of the list, or of a chain of the places whose items have its last ten bits.
 // `heads` has for each of 1,024 such chains the place and one of its last item, `nexts` for each item that of the one before it, 0
-// standing for none. Only the first of equal items is in a chain, so none has over 64.
+// standing for none, since memory is fixed and an `Option` takes twice as much. Only the first of equal items is in a chain, so none has
+// over 64.
 ghost use Rattle.std.specs.Prelude.{◌≡◌, ◌==◌, ℕ, length, position};
 ghost use Rattle.std.proofs.Math.Option.{Option};
 ghost use Rattle.definitions.specs.Project.{place_in};
@@ -50,7 +51,7 @@ pub fn fill_places(heads: &mut [u16], nexts: &mut [u16], items: &[u16])
     }
 }
 
-// By the chains, or where there are none of the list itself.
+// By the chains, or where there are none of the list itself. (As a closure that its callers take, the clause would be said at each.)
 pub fn place_in(items: &[u16], chains: Option<Chains>, index: u16) -> Option<usize>
     requires { Sought items.now chains }
     ensures { place_of result ≡ place_in items.now index }

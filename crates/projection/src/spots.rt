@@ -10,7 +10,7 @@ use node_rows::collecting::Passed;
 use plan_writer::records::Records;
 use terms::sides::JoinSide;
 
-// A child index, its place in the plan and the side that it is of as one number.
+// A child index, its place in the plan and the side that it is of as one number: memory is fixed, and a struct of the three takes more.
 fn spot_number(side: JoinSide, at: usize, child: usize) -> u32
     requires { (at < 16384) × (child < 65536) }
     ensures { result ≡ spot_number (record { side = join_side side; at = at; child = child }) }

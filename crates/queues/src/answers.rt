@@ -14,7 +14,7 @@ pub enum Queue {
 }
 
 impl Queue {
-    // The byte that marks it as the last served.
+    // The byte of document 02's format that marks it as the last served.
     pub(crate) fn mark_byte(self) -> u8
         ensures { result ≡ mark_byte (last (queue_is self)) }
     {

@@ -73,6 +73,7 @@ impl SpatialRelationType {
         ensures { named_relation result ≡ relation_named name.now }
     {
         // A `match` on the bytes was tried: 132 goals, one for each byte at which it may end, and no names for their facts.
+        // A table of names would need another of their types beside it.
         if same_name(name, b"st_intersects") {
             Some(SpatialRelationType::Intersects)
         } else if same_name(name, b"rs_intersects") {
@@ -123,7 +124,7 @@ impl SpatialRelationType {
     }
 }
 
-// The relation type of a number, 0 to 8.
+// The relation type of a number, 0 to 8: readers give no other, so that a `TryFrom` would only ask again.
 impl From<u64> for SpatialRelationType {
     ghost from_gives = { λ number type. relation_of type ≡ relation_numbered number };
 

@@ -5,7 +5,8 @@ ghost use Rattle.streams.specs.Turns.{Flushed, Roomy};
 use lines::states::{MOST_FILLED, State};
 use std::io::Stdout;
 
-// What follows a read: another one, or the end of the input. Neither is a break: what is left of the last line is still to be answered.
+// What follows a read: another one, or the end of the input. `ControlFlow` would say that one of them breaks, and neither does: what is
+// left of the last line is still to be answered.
 #[derive(Clone, Copy)]
 pub enum Turn {
     More(State),

@@ -27,7 +27,7 @@ impl JoinSide {
     }
 }
 
-// The side with this number.
+// The side with this number. Readers give 0 to 2 alone, so that a `TryFrom` would only ask again.
 impl From<u64> for JoinSide {
     ghost from_gives = { λ number side. join_side side ≡ side_numbered number };
 
@@ -51,7 +51,7 @@ impl From<JoinSide> for u8 {
     }
 }
 
-// The number of the other side, of a number.
+// The number of the other side, of a number: for the bytes of records, which are no sides until they are read.
 pub fn negated_number(number: u8) -> u8
     ensures { result ≡ side_number (definitions.negate (side_numbered number)) }
 {
