@@ -83,9 +83,16 @@ lacks-other none e f = tt
 lacks-other (some q) e f = neither-other q e f
 
 module _ {s : List ℕ} {rec at : ℕ} {records : List Record} {t : Expr} (over : Over s rec at records t) where
-  pub relation-matched : (p : SpatialPredicate) → LeafMatching is_relation s rec (Ok p) records t
+  relation-matched : (p : SpatialPredicate) → LeafMatching is_relation s rec (Ok p) records t
       → LeafMatching is_other s rec (Ok p) records t
   relation-matched p m = record { q = m.q; is = m.is; passes = relation-other _ m.passes; stands = m.stands }
+
+  -- What is asked of the relations is answered.
+  pub asked-matched : (r : Matching) → LeafMatching is_relation s rec r records t → (r ≡ Err NotAsked → ⊥)
+      → LeafMatching is_other s rec r records t
+  asked-matched (Ok p) m asked = relation-matched p m
+  asked-matched (Err Unmatched) m asked = m
+  asked-matched (Err NotAsked) m asked = absurd (asked refl)
 
   -- A leaf that is no relation is of a kind that is not KNN if it is a distance.
   pub distance-matching : (r : Matching) → Lacks is_relation (match_leaf records t) → LeafMatching is_distance s rec r records t

@@ -88,9 +88,8 @@ fn match_relation_or_distance(filter: Filter, leaf: Leaf) -> Matching
         return match_distance_predicate(filter, leaf.stop.at, leaf.stop.index);
     };
     match match_relation_predicate(filter, called, leaf.stop.index + 1) {
-        Ok(predicate) => Ok(predicate),
-        Err(NoMatch::Unmatched) => Err(NoMatch::Unmatched),
         Err(NoMatch::NotAsked) => match_distance_predicate(filter, leaf.stop.at, leaf.stop.index),
+        asked => asked,
     }
 }
 

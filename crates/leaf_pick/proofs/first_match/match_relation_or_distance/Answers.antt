@@ -1,8 +1,9 @@
 -- `match_relation_or_distance`: a function of relation name is no distance, any other leaf no relation.
-use Rattle.std.specs.Prelude.{Ok, Err}
+use borrow.Author.Rules.{rules}
+use Rattle.std.specs.Prelude.{Err}
 use Rattle.leaf_matching.specs.Matches.{is_relation}
 use Rattle.leaf_pick.proofs.Nodes.{no-function}
-use Rattle.leaf_pick.proofs.LeafLaws.{call-given, call-leaf, relation-matched, distance-matching}
+use Rattle.leaf_pick.proofs.LeafLaws.{call-given, call-leaf, asked-matched, distance-matching}
 use Rattle.leaf_pick.proofs.first_match.match_relation_or_distance.Goals as goal
 
 pub returns-in_default : goal.returns-in_default
@@ -16,14 +17,16 @@ match_relation_predicate-requires c =
     let both = call-given c.requires c.in-Call.is in
     record { call_framed = both.0; of_call = both.1 }
 
-pub returns-in-Ok : goal.returns-in-Ok
-returns-in-Ok c =
-    λ records t over. relation-matched over _ (call-leaf c.requires c.in-Call.is 1 is_relation (Ok c.in-Ok.predicate) c.in-Ok.ensures over)
+pub returns-in_default-match_relation_predicate : goal.returns-in_default-match_relation_predicate
+returns-in_default-match_relation_predicate c =
+    λ records t over.
+    let m = call-leaf c.requires c.in-Call.is 1 is_relation c.match_relation_predicate.result c.match_relation_predicate.ensures over in
+    search (rules, m, asked-matched over)
 
-pub returns-in-Err-Unmatched : goal.returns-in-Err-Unmatched
-returns-in-Err-Unmatched c =
-    let arm = c.in-Err-Unmatched in
-    λ records t over. rw arm.field-0-is at (call-leaf c.requires c.in-Call.is 1 is_relation (Err arm.field-0) arm.ensures over)
+pub returns-in_default-match_relation_predicate-2 : goal.returns-in_default-match_relation_predicate-2
+returns-in_default-match_relation_predicate-2 c =
+    λ records t over. asked-matched over _
+    (call-leaf c.requires c.in-Call.is 1 is_relation _ c.match_relation_predicate.ensures over) (search rules)
 
 pub returns-in-Err-NotAsked : goal.returns-in-Err-NotAsked
 returns-in-Err-NotAsked c =
