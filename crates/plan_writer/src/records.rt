@@ -2,7 +2,8 @@
 ghost use Rattle.std.specs.Prelude.{◌+◌, ◌*◌, ◌≤◌, ◌<◌, ◌≡◌, length, get_or};
 ghost use Rattle.expression.specs.Places.{short_at};
 
-// The bytes that they stand in, where the first stands, and how many there are: all lie within the bytes.
+// The bytes that they stand in, where the first stands, and how many there are: all lie within the bytes. A record is asked for by its
+// index, which loops over several rows share.
 #[derive(Clone, Copy)]
 pub struct Records<'a> {
     pub src: &'a [u8],
