@@ -37,6 +37,7 @@ use Rattle.node_rows.proofs.TableLaws.{nodes-told, numbers-tell, same-tabled}
 use Rattle.node_rows.proofs.OneTree.{of_tree}
 use Rattle.call_extract.specs.FrameRows.{Indexed}
 use Rattle.call_extract.specs.ExtractByTable.{lent_count, Begins, RowOf}
+use Rattle.std.proofs.lemmas.Bool.{false_from_ne_true}
 
 numbers-taken : (k : ℕ) (table : List NodeRecord) → take k (map number table) ≡ map number (take k table)
 numbers-taken zero table = refl
@@ -72,10 +73,6 @@ row-long n count places row table enough few small of =
     )
 
 -- ---- no frame is held
-
-decided : (b : Bool) → (b ≡ true → ⊥) → b ≡ false
-decided true never = absurd (never refl)
-decided false never = refl
 
 -- The extract with a table, and without one; what is true of the one is true of the other.
 abbrev pub With : Matcher → (n : ℕ) (plan scratch : List ℕ) (table : List NodeRecord) (after kept : List ℕ) → Extracted → Type 0
@@ -150,7 +147,7 @@ module _ (n : ℕ) (plan : List ℕ) {f : Frame} (h : HoldsFrame n plan f) (byte
   unfolding finish
   refuted match scratch table never = by-fit match n plan scratch table false
       (fits_by table false
-      (decided (begins_with (node_table h.frame) table)
+      (false_from_ne_true (begins_with (node_table h.frame) table)
       (λ e. never (sym ((begins-exactly-by (node_table h.frame) table).0 e) ∙ ap (λ (k : ℕ). take k table) counted))))
       (record { outcome = refl; carried = refl })
 

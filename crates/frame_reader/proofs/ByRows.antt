@@ -2,7 +2,7 @@
 use Prim.Native.Nat.{ℕ, ◌+◌, ◌≤◌, ◌<◌}
 use native.Mathlib.Omega.{arith}
 use mathlib.Core.Path.{◌≡◌, refl, sym, ap, ◌∙◌, subst}
-use mathlib.Core.Bool.{Bool, true, false, ◌&&◌}
+use mathlib.Core.Bool.{Bool, true, false, ◌&&◌, and-true, and_assoc}
 use mathlib.Core.List.{List, [], ◌∷◌, ◌++◌, map, append_assoc, append-nil}
 use lib.ListN.{length, get_or, length-append}
 use Rattle.definitions.specs.Expression.{Expr, and, binary, Exprs, nil, cons, count}
@@ -58,14 +58,6 @@ module _ {c : Columns} {s : List ℕ} {at : ℕ} {t : Expr} where
 pub arity_all : Exprs → Bool
 arity_all nil = true
 arity_all (cons t ts) = arity t && arity_all ts
-
-and-true : (a : Bool) → a && true ≡ a
-and-true true = refl
-and-true false = refl
-
-and_assoc : (a b d : Bool) → (a && b) && d ≡ a && (b && d)
-and_assoc true b d = refl
-and_assoc false b d = refl
 
 both-need : (l r : Expr) (ts : Exprs) → arity_all (cons (and l r) ts) ≡ arity_all (cons l (cons r ts))
 unfolding arity_all arity leaves

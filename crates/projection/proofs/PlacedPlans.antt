@@ -1,7 +1,7 @@
 -- Whether the lists have every child index of an extraction: of its columns and records, and of their places in its bytes.
 use Prim.Native.Nat.{ℕ, ◌+◌}
 use mathlib.Core.Path.{◌≡◌, refl, sym, ap, ap₂, ◌∙◌}
-use mathlib.Core.Bool.{Bool, true, false, ◌&&◌}
+use mathlib.Core.Bool.{Bool, ◌&&◌, and_assoc}
 use mathlib.Core.List.{List, [], ◌∷◌}
 use mathlib.Core.Option.{Option, none, some}
 use lib.ListN.{length}
@@ -58,11 +58,7 @@ module _ (lists : Lists) where
       let at : ℕ = 5 + (length (expr_bytes l) + length (expr_bytes r)) in
       all_append (has lists) (both_spots left right 5 l r) (column_spots side at bound)
       ∙ ap₂ ◌&&◌ (both-have left right 5 l r) (columns-have side at bound)
-      ∙ regroup (placed_expr lists left l) (placed_expr lists right r) (placed_expr lists side bound)
-    where
-      regroup : (a b d : Bool) → (a && b) && d ≡ a && (b && d)
-      regroup true b d = refl
-      regroup false b d = refl
+      ∙ and_assoc (placed_expr lists left l) (placed_expr lists right r) (placed_expr lists side bound)
   predicate-have (knn k spheroid probe ties l r) = both-have probe (negate probe) 10 l r
 
   records-have : (at : ℕ) (rs : List Record) → all (has lists) (record_spots at rs) ≡ all (placed_record lists) rs

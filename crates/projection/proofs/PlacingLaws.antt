@@ -3,7 +3,7 @@ use Prim.Native.Nat.{ℕ, zero, suc, ◌+◌, ◌-◌, ◌/◌, ◌%◌, ◌≤�
 use native.Mathlib.Omega.{arith}
 use native.Mathlib.Nat.{not-suc-le-zero}
 use mathlib.Core.Path.{◌≡◌, refl, sym, ap, ap₂, ◌∙◌}
-use mathlib.Core.Bool.{Bool, true, false, ◌&&◌}
+use mathlib.Core.Bool.{Bool, true, false, and-false}
 use mathlib.Core.List.{List, [], ◌∷◌, ◌++◌, map, append-nil}
 use mathlib.Core.Option.{none, some}
 use lib.ListN.{length, take, drop, get_or, set, length-map, drop_of_length-le}
@@ -27,11 +27,7 @@ all-false : (test : ℕ → Bool) (xs : List ℕ) (k : ℕ) → k < length xs �
 unfolding all
 all-false test [] k b e = absurd (not-suc-le-zero b)
 all-false test (x ∷ xs) zero b e = rw e refl
-all-false test (x ∷ xs) (suc k) b e = rw (all-false test xs k (omega arith) e) (never (test x))
-  where
-    never : (t : Bool) → (t && false) ≡ false
-    never true = refl
-    never false = refl
+all-false test (x ∷ xs) (suc k) b e = rw (all-false test xs k (omega arith) e) (and-false (test x))
 
 -- ---- one number
 

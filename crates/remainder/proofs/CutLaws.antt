@@ -16,17 +16,14 @@ use Rattle.definitions.specs.Extract.{without, and_left, and_right}
 use Rattle.definitions.specs.Good.{InRange}
 use Rattle.theorems.proofs.Taken.{Taken, RestIs, rest-in-range}
 use Rattle.expression.specs.Nodes.{left_of, right_of}
-use Rattle.expression.proofs.Standing.{tree-length, head-some}
+use Rattle.expression.proofs.Standing.{some_bytes}
 use Rattle.remainder.specs.Around.{inside, around, EndsInside, Ends}
 use Rattle.expression.specs.Cuts.{CutAt, here, in_left, in_right}
 use Rattle.expression.specs.declared.cuts.Cut.{Cut}
 use Rattle.expression.proofs.AndLeaves.{no-and, position-below}
 use Rattle.remainder.proofs.AroundLaws.{at_leaf, not-leaf, lone-around}
 
--- An expression has bytes, an And those of its sides and two more.
-size-some : (t : Expr) → 0 < length (expr_bytes t)
-size-some t = omega (arith, tree-length t, head-some t)
-
+-- An And has the bytes of its sides and two more.
 size-and : (l r : Expr) → length (expr_bytes (and l r)) ≡ 2 + length (expr_bytes l) + length (expr_bytes r)
 unfolding expr_bytes
 size-and l r = simp length-append (omega arith)
@@ -114,8 +111,7 @@ spans lt (here {t = t} lone leaf end parent) =
       gap = λ a b. omega arith;
       parent = omega arith;
       leaf = omega arith;
-      some = omega
-          (arith, size-some t);
+      some = omega (arith, some_bytes t);
       end = omega arith;
     }
 spans {at = at} lt (in_left {l = l} {r = r} c) =
@@ -137,7 +133,7 @@ module _ {p at : ℕ} (l r : Expr) (far : Away p at (length (expr_bytes (and l r
   away-right a b = far (omega arith) (omega (arith, size-and l r))
 
 away-here : {p at : ℕ} (t : Expr) → Away p at (length (expr_bytes t)) → at ≡ p → ⊥
-away-here t far e = far (omega arith) (omega (arith, size-some t))
+away-here t far e = far (omega arith) (omega (arith, some_bytes t))
 
 -- `head` is h but at the leaf's parent, where it is empty, and `one` is made of an And as of its sides.
 pub record Joins (cut : Cut) (head : ℕ → List ℕ) (one : Expr → List ℕ) (h : List ℕ) : Type 0 where
@@ -227,11 +223,11 @@ module _ (cut : Cut) where
   ends-inside (literal y v) at far = tt
   ends-inside (and l r) at far = (
     (
-      λ e. absurd (far (omega arith) (omega (arith, size-and l r, size-some l))),
+      λ e. absurd (far (omega arith) (omega (arith, size-and l r, some_bytes l))),
       ends-inside l (left_of at) (λ a b. far (omega arith) (omega (arith, size-and l r))),
     ),
     (
-      λ e. absurd (far (omega arith) (omega (arith, size-and l r, size-some r))),
+      λ e. absurd (far (omega arith) (omega (arith, size-and l r, some_bytes r))),
       ends-inside r (right_of at l) (λ a b. far (omega arith) (omega (arith, size-and l r))),
     ),
   )

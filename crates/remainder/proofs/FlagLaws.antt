@@ -2,7 +2,7 @@
 use Prim.Native.Nat.{ℕ, zero, suc, ◌≤◌, ◌<◌}
 use native.Mathlib.Omega.{arith}
 use mathlib.Core.Path.{◌≡◌, refl, sym, ap, ◌∙◌}
-use mathlib.Core.Bool.{Bool, true, false, ◌||◌}
+use mathlib.Core.Bool.{Bool, true, false, ◌||◌, or-true, or-false}
 use mathlib.Core.List.{List, [], ◌∷◌}
 use lib.ListN.{length, get_or, set, replicate, length-set}
 use lib.Seq.{get_or-set_same, get_or-set_other}
@@ -20,21 +20,13 @@ use Rattle.remainder.specs.HeldIndexes.{Unmarked, Marks}
 
 -- ---- what marking makes of a flag
 
-or-set : (b : Bool) → (b || true) ≡ true
-or-set true = refl
-or-set false = refl
-
-or-clear : (b : Bool) → (b || false) ≡ b
-or-clear true = refl
-or-clear false = refl
-
 -- One column was marked first.
 marked-first : (c i : ℕ) (flags : List Bool) (x b : Bool) → eqb c i ≡ b → i < length flags
     → (x || get_or (set flags c true) i false) ≡ ((b || x) || get_or flags i false)
 marked-first c i flags x true same h =
     ap (λ (b : Bool). x || b)
     (ap (λ (k : ℕ). get_or (set flags k true) i false) (eqb-true c i same) ∙ get_or-set_same flags i true false h)
-    ∙ or-set x
+    ∙ or-true x
 marked-first c i flags x false apart h =
     ap (λ (b : Bool). x || b) (get_or-set_other flags c i true false (λ k. eqb-false c i apart (sym k)))
 
@@ -54,7 +46,7 @@ pub held-marks : (e : Expr) (flags : List Bool) → Unmarked flags → Marks e (
 unfolding holds
 held-marks e flags clear i h =
     marked-at (columns_of e) flags i (omega (arith, h, marked-length (columns_of e) flags))
-    ∙ ap (λ (b : Bool). any (λ c. eqb c i) (columns_of e) || b) (clear i) ∙ or-clear (any (λ c. eqb c i) (columns_of e))
+    ∙ ap (λ (b : Bool). any (λ c. eqb c i) (columns_of e) || b) (clear i) ∙ or-false (any (λ c. eqb c i) (columns_of e))
 
 -- ---- flags that are those of an expression mark its columns, and no other
 

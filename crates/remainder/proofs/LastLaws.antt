@@ -22,6 +22,7 @@ use Rattle.remainder.specs.Rests.{bytes_left, left_bytes, flags_of, RestFits, Re
 use Rattle.remainder.specs.declared.rests.Stays.{Stays}
 use Rattle.remainder.specs.Pruned.{Prunable, PrunedFits, PrunedPut}
 use Rattle.remainder.specs.Last.{last_bytes, Left}
+use Rattle.expression.proofs.Standing.{some_bytes}
 
 -- ---- what stays is in range
 
@@ -44,16 +45,6 @@ stays-in c goes (binary o l r) h = unless-in (InRange c) goes (binary o l r) h
 stays-in c goes (call n es) h = unless-in (InRange c) goes (call n es) h
 stays-in c goes (other g es) h = unless-in (InRange c) goes (other g es) h
 stays-in c goes (field b g) h = unless-in (InRange c) goes (field b g) h
-
-some_bytes : (e : Expr) → 0 < length (expr_bytes e)
-unfolding expr_bytes
-some_bytes (column i t) = omega arith
-some_bytes (literal type v) = omega arith
-some_bytes (and l r) = omega arith
-some_bytes (binary o l r) = omega arith
-some_bytes (call name es) = omega arith
-some_bytes (other tag es) = omega arith
-some_bytes (field b t) = omega arith
 
 -- A row as it is made has so many places.
 pub zeros-room : (n : ℕ) → n ≤ length {A = ℕ} (replicate n 0)

@@ -1,6 +1,6 @@
 -- What stays of an And by what stays of its sides; parts written from the end to the start.
 use Rattle.std.specs.Prelude.{if◌then◌else◌}
-use Prim.Native.Nat.{ℕ, ◌+◌, ◌-◌, ◌≤◌, ◌<◌}
+use Prim.Native.Nat.{ℕ, ◌+◌, ◌-◌, ◌≤◌}
 use native.Mathlib.Omega.{arith}
 use mathlib.Core.Path.{◌≡◌, refl, sym, ap, ap₂, ◌∙◌, subst}
 use mathlib.Core.Bool.{Bool, true, false}
@@ -21,6 +21,7 @@ use Rattle.writing.specs.Written.{WroteAt}
 use Rattle.writing.proofs.Written.{nothing-wrote, two-stores}
 use Rattle.remainder.specs.Rests.{bytes_left, left_bytes, flag_of, flags_of, RestPut, AndPut}
 use Rattle.remainder.specs.declared.rests.Stays.{Stays}
+use Rattle.expression.proofs.Standing.{some_bytes}
 
 -- ---- from the end to the start
 
@@ -44,16 +45,6 @@ below {a} {b} {r} {x} {y} {before} {middle} {after} room first second =
     }
 
 -- ---- what stays of an And
-
-some_bytes : (e : Expr) → 0 < length (expr_bytes e)
-unfolding expr_bytes
-some_bytes (column i t) = omega arith
-some_bytes (literal type v) = omega arith
-some_bytes (and l r) = omega arith
-some_bytes (binary o l r) = omega arith
-some_bytes (call name es) = omega arith
-some_bytes (other tag es) = omega arith
-some_bytes (field b t) = omega arith
 
 -- Where one side is gone, no head is written.
 none-left : (x y : Option Expr) → length (bytes_left x) ≡ 0 → bytes_left (and_both x y) ≡ bytes_left x ++ bytes_left y

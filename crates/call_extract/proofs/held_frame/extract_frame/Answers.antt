@@ -1,12 +1,10 @@
 -- Each refusal is the definition's; the frame is kept in the scratch and its extraction written from there.
-use mathlib.Core.Path.{sym}
 use lib.ListN.{take}
 use Rattle.definitions.specs.Settings.{match_under}
 use Rattle.terms.specs.Settings.{settings_of}
 use Rattle.theorems.proofs.SettingsLaws.{settings-laws}
 use Rattle.leaf_pick.specs.Picks.{TakenIs}
 use Rattle.node_reader.proofs.Standing.{all-bytes}
-use Rattle.join_filter.proofs.Keeping.{plan-length, kept-length}
 use Rattle.call_extract.proofs.Extracting.{scratch-short, no-leaf, over, extraction-fits, extracts}
 use Rattle.call_extract.proofs.held_frame.extract_frame.Goals as goal
 use Rattle.call_extract.proofs.held_frame.extract_frame.Goals.{In-Some}
