@@ -1,17 +1,20 @@
 -- A list whose first elements are overwritten, one after another, by those of another list under a function.
 use mathlib.Core.Path.{◌≡◌, refl, ap}
-use Prim.Native.Nat.{ℕ, zero, suc, ◌+◌, ◌<◌}
+use Prim.Native.Nat.{ℕ, zero, suc, ◌+◌, ◌<◌, ◌≤◌}
 use native.Mathlib.Nat.{zero-add}
 use native.Mathlib.Numerals.{add-one}
 use native.Mathlib.Omega.{arith}
 use mathlib.Core.List.{List, [], ◌∷◌, ◌++◌, map}
 use lib.ListN.{length, get_or, set, take, drop, length-map, get_or-map}
-use lib.Seq.{paste-suc}
+use lib.Seq.{paste-suc, length-paste}
 
 module _ {A B : Type 0} (f : A → B) (xs : List A) (ys : List B) where
   -- the list after i elements were overwritten
   abbrev pub filled : ℕ → List B
   filled i = take i (map f xs) ++ drop i ys
+
+  pub filled-length : (i : ℕ) → i ≤ length xs → i ≤ length ys → length (filled i) ≡ length ys
+  filled-length i l m = simp zero-add at (length-paste ys 0 (map f xs) i (omega arith) (omega (arith, length-map xs f)))
 
   pub filled_next : (d : A) (i : ℕ) → i < length xs → i < length ys → set (filled i) i (f (get_or xs i d)) ≡ filled (i + 1)
   filled_next d i l m =
