@@ -37,7 +37,7 @@ pub fn load_row(
     })
 }
 
-// The same with a row of its own.
+// The same with a row of its own, for the program, which has no table.
 pub fn load(plan: &mut [u8], frame: &[u8], held: usize) -> Result<Loaded, Refusal>
     ensures { LoadedIs frame.now plan.old plan.new held result }
 {

@@ -6,7 +6,8 @@ ghost use Rattle.expression.specs.Nodes.{Tree, OfTree, Trees, OfTrees};
 
 use super::heads::head_at;
 
-// Where the expression at a place ends.
+// Where the expression at a place ends. A walk over a node and one over its children that call each other are the form that document 01
+// binds.
 #[cycle(end_children_end_node)]
 pub fn end_node(s: &[u8], at: usize) -> usize
     requires { Tree s.now at }

@@ -17,6 +17,7 @@ pub struct Called {
 
 impl Called {
     // Its name.
+    #[inline(always)]
     pub fn name<'a>(self, s: &'a [u8]) -> &'a [u8]
         requires { Calls s.now self }
         ensures { result.now ≡ part s.now self.name self.end }

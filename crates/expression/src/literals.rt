@@ -9,7 +9,8 @@ pub fn signed(bytes: u64) -> i64
     bytes.cast_signed()
 }
 
-// Whether a literal's eight bytes are in the range of its type: Boolean, Int32, UInt32, or one that takes any.
+// Whether a literal's eight bytes are in the range of its type: Boolean, Int32, UInt32, or one that takes any. A type, as a node's kind,
+// stays the byte of document 01's format, which a `match` is on.
 #[tactic(auto, unfolding(definitions::specs::Literals::literal_in_range))]
 pub fn literal_in_range(kind: u64, bytes: u64) -> bool
     ensures { result ≡ literals.literal_in_range kind bytes }

@@ -3,14 +3,16 @@ ghost use Rattle.std.specs.Prelude.{◌≡◌};
 ghost use Rattle.definitions.specs.Basics.{same_name};
 ghost use Rattle.definitions.specs.Logical.{lower_case};
 
-// Whether a name is this one.
+// Whether a name is this one: the definition's comparison, which is stated of every name.
+#[inline(always)]
 pub fn same_name(name: &[u8], other: &[u8]) -> bool
     ensures { result ≡ same_name name.now other.now }
 {
     name == other
 }
 
-// The same without regard to the case of ASCII letters; `other` has small ones.
+// The same without regard to the case of ASCII letters; `other` has small ones. (The library's comparison takes capital letters of both
+// sides as small.)
 pub fn same_name_ignore_case(name: &[u8], other: &[u8]) -> bool
     ensures { result ≡ same_name (lower_case name.now) other.now }
 {

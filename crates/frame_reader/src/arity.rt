@@ -66,8 +66,8 @@ fn comparison_arity(s: &[u8], operator: u8, left: usize) -> Option<usize>
     Some(end_node(s, right))
 }
 
-// Where an expression ends; nowhere, if some leaf lacks an argument. A turn goes from an And to its right side: no range has those, and a call
-// for each would take its room on the stack.
+// Where an expression ends; nowhere, if some leaf lacks an argument. A turn goes from an And to its right side: no range has those, and a
+// call for each would take its room on the stack.
 pub fn check_arity(s: &[u8], at: usize) -> Option<usize>
     requires { Tree s.now at }
     ensures { OfTree s.now at (λ t. ArityIs (arity t) (at + length (expr_bytes t)) result) }

@@ -61,7 +61,7 @@ pub fn frame_body_in(
     })
 }
 
-// The same without rows.
+// The same for those who have no rows to lend: memory is fixed.
 pub fn frame_body(s: &[u8], at: usize, nodes: usize) -> Result<Counted<Frame>, Refusal>
     requires { at ≤ length s.now }
     ensures { BodyIs s.now at nodes result decode.frame_body }

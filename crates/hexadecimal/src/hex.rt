@@ -64,7 +64,7 @@ pub fn encode(out: &mut [u8], at: usize, bytes: &[u8]) -> usize
     requires { at + 2 * length bytes.now ≤ length out.old }
     ensures { WroteAt at (program.digits bytes.now) out.old out.new result }
 {
-    // By index: `chunks_exact_mut(2)` with a zip was tried and the proof did not close; the library does not say what `out` ends as.
+    // By index: `chunks_exact_mut(2)` with a zip was tried and the proof did not close.
     let mut next = at;
     for byte in bytes {
         out[next] = digit(byte / 16);

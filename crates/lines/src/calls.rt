@@ -43,8 +43,8 @@ fn alone(size: usize) -> Result<(), Refusal>
     Ok(())
 }
 
-// The call that a line's bytes ask for; they are the first `size` of the scratch, a slice of 16,384 bytes as a call takes one. A load is as with a table of 1,024 records, which none
-// needs here: extract finds the nodes again.
+// The call that a line's bytes ask for; they are the first `size` of the scratch, a slice of 16,384 bytes as a call takes one. A load is as
+// with a table of 1,024 records, which none needs here: extract finds the nodes again.
 fn call_line(plan: &mut [u8], scratch: &mut [u8], size: usize, n: usize) -> Answer
     requires { (size ≤ length scratch.old) × (length scratch.old ≡ 16384) }
     ensures answer_is { AnswerIs (program.line_of (take size scratch.old) (kept_as n plan.old)) n plan.new result }

@@ -30,7 +30,7 @@ pub fn expression_in(
     )
 }
 
-// An expression of depth at most 64.
+// An expression of depth at most 64, for those who have no rows to lend.
 pub fn expression(s: &[u8], at: usize, count: usize, columns: Columns) -> Result<Walked, Refusal>
     requires { at ≤ length s.now }
     ensures { ExpressionIs s.now at count result (columns_of columns) }

@@ -5,7 +5,7 @@ ghost use Rattle.node_rows.specs.Stores.{SameIs, Storable, Stored};
 
 use super::collecting::Passed;
 
-// The number of a node.
+// The number of a node. No `From`, which has one argument: it is of three fields.
 pub fn node_number(kind: u8, start: usize, end: usize) -> u32
     requires { (kind < 7) × (start < 16384) × (end < 32768) }
     ensures { result ≡ number (record { kind = kind; start = start; end = end }) }

@@ -69,7 +69,7 @@ pub fn put_nodes(table: &mut [NodeRecord], row: &[u32], count: usize)
     ensures { nodes_of table.new
         ≡ take count (map numbered row.now) ++ drop count (nodes_of table.old) }
 {
-    // By index: a zip with `iter_mut` was tried and the proof did not close; the library does not say what such a slice ends as.
+    // By index: a zip with `iter_mut` was tried and the proof did not close.
     for i in 0..count {
         put_record(&mut table[i], NodeRecord::from(row[i]));
     }

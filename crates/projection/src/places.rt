@@ -37,7 +37,7 @@ fn chain_place(items: &[u16], chains: Chains, index: u16) -> Option<usize>
     None
 }
 
-// Fills the chains with a list.
+// Fills the chains with a list: two rows, which are no `Chains` until they are filled.
 pub fn fill_places(heads: &mut [u16], nexts: &mut [u16], items: &[u16])
     requires { Unfilled items.now heads.old nexts.old }
     ensures { Chained items.now heads.new nexts.new (length items.now) }

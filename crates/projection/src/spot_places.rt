@@ -11,6 +11,7 @@ use terms::sides::JoinSide;
 
 // Puts the place of its child index into each of the row's numbers that is of the side; answers whether the list has them all, a question
 // that two sides are asked. Where it lacks one, what the row then has is of no use.
+#[inline(always)]
 fn put_places(row: &mut [u32], side: JoinSide, items: &[u16], chains: Option<Chains>) -> bool
     requires items_bound { length items.now ≤ most_items }
     requires sought { Sought items.now chains }

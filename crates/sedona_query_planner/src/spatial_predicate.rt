@@ -69,6 +69,7 @@ pub enum SpatialRelationType {
 
 impl SpatialRelationType {
     // The name is compared byte by byte.
+    #[inline]
     pub fn from_name(name: &[u8]) -> Option<SpatialRelationType>
         ensures { named_relation result ≡ relation_named name.now }
     {
@@ -175,6 +176,7 @@ pub fn ties_numbered(number: u64) -> Option<bool>
 }
 
 impl RelationPredicate {
+    // One for each struct of the enum over structs that document 01 asks for; the name is the Rust's.
     pub fn swap_for_swapped_children(self) -> Self
         ensures { Exchanges (λ s. RelationAt unchanged s self) (λ s. RelationAt unchanged s result) }
     {

@@ -8,7 +8,8 @@ use lines::states::{Buffers, State};
 use std::io;
 use std::io::Stdout;
 
-// Hands over characters, as many at a time as are taken. What they give waits, but for what is written where there is no room.
+// Hands over characters, as many at a time as are taken. What they give waits, but for what is written where there is no room. That
+// nothing waits before is a clause: the state goes on to be one of which bytes wait.
 fn feed_all(
     stdout: Stdout,
     buffers: &mut Buffers,

@@ -14,7 +14,7 @@ pub enum JoinSide {
 }
 
 impl JoinSide {
-    // The other side; none stays none.
+    // The other side; none stays none. The name is the Rust's.
     #[tactic(auto, unfolding(definitions::specs::Exchange::negate))]
     pub fn negate(self) -> Self
         ensures { join_side result ≡ definitions.negate (join_side self) }

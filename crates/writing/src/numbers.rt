@@ -18,7 +18,7 @@ fn put_places<const BASE: usize, const ZERO: u8>(
     ensures { WroteAt w (places BASE (λ d. d + ZERO) width value) out.old out.new result }
 {
     let mut rest = value;
-    // By index: `iter_mut().rev()` was tried and the proof did not close; the library does not say what `out` ends as.
+    // By index: `iter_mut().rev()` was tried and the proof did not close.
     for i in (0..width).rev() {
         out[w + i] = (rest % BASE) as u8 + ZERO;
         rest /= BASE;
@@ -26,7 +26,7 @@ fn put_places<const BASE: usize, const ZERO: u8>(
     w + width
 }
 
-// Writes a number as `width` bytes from w on, the most significant first; answers where it ended.
+// Writes a number as `width` bytes from w on, the most significant first; answers where it ended. No conversion: it goes to a place.
 pub fn put_number(out: &mut [u8], w: usize, width: usize, value: usize) -> usize
     requires { w + width ≤ length out.old }
     ensures { WroteAt w (big_endian width value) out.old out.new result }
