@@ -1,12 +1,12 @@
 -- What was handed over makes up the piece that the state stands after, and there is room for what another line gives.
 use Rattle.std.specs.Prelude.{if◌then◌else◌}
-use Prim.Native.Nat.{ℕ, ◌≤◌, ◌+◌, ◌-◌}
+use Prim.Native.Nat.{ℕ, ◌-◌, ◌≤◌}
 use native.Mathlib.Omega.{arith}
-use mathlib.Core.Path.{◌≡◌, refl}
+use mathlib.Core.Path.{◌≡◌, refl, sym, ap, ◌∙◌}
 use mathlib.Core.Bool.{Bool, true, false}
-use mathlib.Core.List.{List}
-use lib.ListN.{length, take, drop}
-use lib.Seq.{take-add, take-take}
+use mathlib.Core.List.{List, [], ◌++◌, append_assoc}
+use lib.ListN.{length, take, drop, length-drop, take-append-drop}
+use lib.Seq.{take-length}
 use lib.Dec.{leb}
 use borrow.Author.Tests.{leb-true}
 use Rattle.lines.specs.Pieces.{Session, piece}
@@ -18,14 +18,31 @@ use Rattle.lines.proofs.Whole.{piece-append}
 use Rattle.streams.specs.Turns.{settled, roomed}
 use Rattle.streams.specs.Handing.{Handing, none, more, After}
 
--- What was taken from `at` on follows what was handed over before.
-pub taken : {before b after : Buffers} {state current fed next : State} (chunk : List ℕ) (at size k : ℕ) → k ≤ size - at
-    → Handing before state (take at chunk) b current
-    → Makes (λ s. piece s (take k (take (size - at) (drop at chunk)))) b current after fed
+-- The front of a chunk was handed over, and this is the rest.
+pub record HandedFront (chunk rest : List ℕ) (before : Buffers) (state : State) (after : Buffers) (next : State) : Type 0 where
+  pub front : List ℕ
+  pub whole : chunk ≡ front ++ rest
+  pub handed : Handing before state front after next
+
+pub nothing-handed : (chunk : List ℕ) (before : Buffers) (state : State) → HandedFront chunk chunk before state before state
+nothing-handed chunk before state = record { front = []; whole = refl; handed = none }
+
+left : (k : ℕ) (rest : List ℕ) → take (length rest - k) (drop k rest) ≡ drop k rest
+left k rest = ap (λ (n : ℕ). take n (drop k rest)) (sym (length-drop k rest)) ∙ take-length (drop k rest)
+
+-- What was taken from the rest follows what was handed over before.
+pub taken : {before b after : Buffers} {state current fed next : State} {chunk rest : List ℕ} (k : ℕ)
+    → HandedFront chunk rest before state b current
+    → Makes (λ s. piece s (take k rest)) b current after fed
     → next ≡ roomed fed
-    → Handing before state (take (at + k) chunk) after next
-taken chunk at size k fits old makes e =
-    rw (e, take-add at k chunk) (more (take k (drop at chunk)) old (rw (take-take k (size - at) (drop at chunk) fits) at makes))
+    → HandedFront chunk (take (length rest - k) (drop k rest)) before state after next
+taken {rest = rest} k old makes e = record {
+  front = old.front ++ take k rest;
+  whole =
+      old.whole ∙ ap (λ (l : List ℕ). old.front ++ l) (sym (take-append-drop k rest))
+      ∙ sym (append_assoc old.front (take k rest) (drop k rest)) ∙ ap (λ (l : List ℕ). (old.front ++ take k rest) ++ l) (sym (left k rest));
+  handed = rw e (more (take k rest) old.handed makes);
+}
 
 -- There is room for what a line gives, and no more waits than did.
 abbrev pub HasRoom : (current next : State) → Type 0

@@ -20,11 +20,11 @@ fn feed_all(
     ensures { Handed characters.now buffers.old state buffers.new result }
 {
     let mut current = state;
-    let mut at = 0;
-    while at < characters.len() {
-        let fed = feed(buffers, &characters[at..], current);
+    let mut rest = characters;
+    while !rest.is_empty() {
+        let fed = feed(buffers, rest, current);
         current = make_room(stdout, &buffers.out, fed.state)?;
-        at += fed.taken;
+        rest = &rest[fed.taken..];
     }
     Ok(current)
 }
