@@ -1,12 +1,12 @@
 -- A list whose first elements are overwritten, one after another, by those of another list under a function.
-use mathlib.Core.Path.{◌≡◌, refl, ap}
-use Prim.Native.Nat.{ℕ, zero, suc, ◌+◌, ◌<◌, ◌≤◌}
+use mathlib.Core.Path.{◌≡◌, refl, sym, ap, ◌∙◌}
+use Prim.Native.Nat.{ℕ, zero, suc, ◌<◌, ◌≤◌}
 use native.Mathlib.Nat.{zero-add}
-use native.Mathlib.Numerals.{add-one}
 use native.Mathlib.Omega.{arith}
 use mathlib.Core.List.{List, [], ◌∷◌, ◌++◌, map}
-use lib.ListN.{length, get_or, set, take, drop, length-map, get_or-map}
-use lib.Seq.{paste-suc, length-paste}
+use lib.ListN.{length, get_or, take, drop, length-map, length-take, get_or-map}
+use lib.Seq.{length-paste}
+use Rattle.std.proofs.lemmas.List.{ext_get_or, get_or-take, get_or_default}
 
 module _ {A B : Type 0} (f : A → B) (xs : List A) (ys : List B) where
   -- the list after i elements were overwritten
@@ -15,11 +15,6 @@ module _ {A B : Type 0} (f : A → B) (xs : List A) (ys : List B) where
 
   pub filled-length : (i : ℕ) → i ≤ length xs → i ≤ length ys → length (filled i) ≡ length ys
   filled-length i l m = simp zero-add at (length-paste ys 0 (map f xs) i (omega arith) (omega (arith, length-map xs f)))
-
-  pub filled_next : (d : A) (i : ℕ) → i < length xs → i < length ys → set (filled i) i (f (get_or xs i d)) ≡ filled (i + 1)
-  filled_next d i l m =
-      rw (← get_or-map f xs i d, add-one) (simp zero-add at
-      (paste-suc ys 0 (map f xs) i (f d) (omega arith) (omega (arith, length-map xs f))))
 
 pub map-take : {A B : Type 0} (f : A → B) (n : ℕ) (xs : List A) → map f (take n xs) ≡ take n (map f xs)
 map-take f zero xs = refl
@@ -30,3 +25,12 @@ pub map-drop : {A B : Type 0} (f : A → B) (n : ℕ) (xs : List A) → map f (d
 map-drop f zero xs = refl
 map-drop f (suc n) [] = refl
 map-drop f (suc n) (x ∷ xs) = map-drop f n xs
+
+-- Elements that are each f of another list's at its place are f of that list's first.
+pub by-places : {A B : Type 0} (f : A → B) (d : A) (e : B) (n : ℕ) (xs : List A) (ys : List B) → length ys ≡ n → n ≤ length xs
+    → ((i : ℕ) → i < n → get_or ys i e ≡ f (get_or xs i d)) → ys ≡ take n (map f xs)
+by-places f d e n xs ys long within are =
+    ext_get_or e ys (take n (map f xs)) (omega (arith, length-take n (map f xs), length-map xs f))
+    (λ i h. are i (omega arith)
+    ∙ sym (get_or-take n (map f xs) i e (omega arith)
+    ∙ get_or_default (map f xs) i e (f d) (omega (arith, length-map xs f)) ∙ get_or-map f xs i d))

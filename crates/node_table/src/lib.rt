@@ -69,9 +69,8 @@ pub fn put_nodes(table: &mut [NodeRecord], row: &[u32], count: usize)
     ensures { nodes_of table.new
         ≡ take count (map numbered row.now) ++ drop count (nodes_of table.old) }
 {
-    // By index: a zip with `iter_mut` was tried and the proof did not close.
-    for i in 0..count {
-        put_record(&mut table[i], NodeRecord::from(row[i]));
+    for (i, place) in table[..count].iter_mut().enumerate() {
+        put_record(place, NodeRecord::from(row[i]));
     }
 }
 
@@ -91,8 +90,7 @@ pub fn take_nodes(row: &mut [u32], table: &[NodeRecord], count: usize)
     ensures { row.new
         ≡ take count (map number (nodes_of table.now)) ++ drop count row.old }
 {
-    // By index, for the reason in `put_nodes`.
-    for k in 0..count {
-        row[k] = u32::from(table[k]);
+    for (k, number) in row[..count].iter_mut().enumerate() {
+        *number = u32::from(table[k]);
     }
 }

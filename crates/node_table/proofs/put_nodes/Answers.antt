@@ -1,23 +1,19 @@
--- Right because a turn puts the record of the row's number i, which its conversion gives, at place i of the table: i + 1 are put then.
+-- Right because a turn puts the record of the row's number i, which its conversion gives, at place i of the table.
 use native.Mathlib.Omega.{arith}
-use mathlib.Core.Path.{◌≡◌, ap, ap₂, ◌∙◌}
-use lib.ListN.{set, get_or}
+use mathlib.Core.Path.{ap, ◌∙◌}
+use mathlib.Core.List.{List, ◌++◌}
+use lib.ListN.{drop, length-take}
 use Rattle.node_table.specs.Records.{nodes_of}
-use Rattle.node_table.proofs.Filling.{filled, filled_next}
-use Rattle.node_table.proofs.RecordLaws.{lent, lent_again, put_all}
+use Rattle.node_table.specs.declared.NodeRecord.{NodeRecord}
+use Rattle.node_table.proofs.Filling.{by-places}
+use Rattle.node_table.proofs.RecordLaws.{blank, lent, put_all}
 use Rattle.node_table.proofs.put_nodes.Goals as goal
-
-pub loop-i-preserved : goal.loop-i-preserved
-loop-i-preserved c =
-    let args = c.args in
-    let loop = c.loop-i in
-    let put : c.put_record.new.place ≡ lent (get_or args.row.now loop.i 0) =
-    c.put_record.ensures ∙ lent_again c.from.result _ c.from.ensures in
-    ap₂ (λ l r. set l loop.i r) loop.invariant put
-    ∙ filled_next lent args.row.now args.table.now 0 loop.i (omega arith) (omega arith)
 
 pub returns : goal.returns
 returns c =
-    let args = c.args in
-    let end : c.loop-i.i ≡ args.count = omega arith in
-    ap nodes_of (c.loop-i.invariant ∙ ap (filled lent args.row.now args.table.now) end) ∙ put_all args.count args.row.now args.table.now
+    let a = c.args in
+    ap nodes_of (ap (λ (l : List NodeRecord). l ++ drop a.count a.table.now)
+    (by-places lent 0 blank a.count a.row.now c.loop-i.place-items
+    (omega (arith, c.loop-i.auto.place-items, length-take a.count a.table.now)) c.requires.1
+    (λ j h. c.loop-i.invariant j (omega (arith, c.loop-i-test.false, length-take a.count a.table.now)))))
+    ∙ put_all a.count a.row.now a.table.now

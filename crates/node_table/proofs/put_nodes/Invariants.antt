@@ -1,8 +1,8 @@
--- `put_nodes`: i records are put and the rest is as it was.
-use mathlib.Core.Path.{◌≡◌}
-use Rattle.node_table.proofs.Filling.{filled}
-use Rattle.node_table.proofs.RecordLaws.{lent}
+-- `put_nodes`: i records are put.
+use Rattle.std.proofs.Common.{◌≡◌, ℕ, ◌<◌, get_or}
+use Rattle.node_table.proofs.RecordLaws.{blank, lent}
 use Rattle.node_table.proofs.put_nodes.Given as goal
 
 abbrev pub invariant-loop-i : goal.invariant-loop-i
-invariant-loop-i l = l.table ≡ filled lent l.row l.initial.table l.i
+invariant-loop-i l =
+    (j : ℕ) → j < l.i → get_or l.place-items j blank ≡ lent (get_or l.row j 0)

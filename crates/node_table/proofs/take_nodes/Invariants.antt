@@ -1,8 +1,8 @@
--- `take_nodes`: the numbers of k records are taken and the rest of the row is as it was.
-use mathlib.Core.Path.{◌≡◌}
-use Rattle.node_table.proofs.Filling.{filled}
-use Rattle.node_table.proofs.RecordLaws.{number_of}
+-- `take_nodes`: the numbers of k records are taken.
+use Rattle.std.proofs.Common.{◌≡◌, ℕ, ◌<◌, get_or}
+use Rattle.node_table.proofs.RecordLaws.{blank, number_of}
 use Rattle.node_table.proofs.take_nodes.Given as goal
 
 abbrev pub invariant-loop-k : goal.invariant-loop-k
-invariant-loop-k l = l.row ≡ filled number_of l.table l.initial.row l.k
+invariant-loop-k l =
+    (j : ℕ) → j < l.k → get_or l.number-items j 0 ≡ number_of (get_or l.table j blank)

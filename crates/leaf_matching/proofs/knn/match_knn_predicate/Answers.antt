@@ -66,7 +66,7 @@ returns c =
     let w = walked (goal.at.returns c).After-knn_options-given in
     elim c.match-order.branch [
       | in-LeftRight v ↦ rw v.probe_side-is
-      (knn-left w over _ c.in_ok-options.ensures.ok_part (c.in_ok-order.ensures.ok_part ∙ ap Some v.in-LeftRight.is))
+          (knn-left w over _ c.in_ok-options.ensures.ok_part (c.in_ok-order.ensures.ok_part ∙ ap Some v.in-LeftRight.is))
       | in-RightLeft v ↦ rw v.probe_side-is
-      (knn-right w over _ c.in_ok-options.ensures.ok_part (c.in_ok-order.ensures.ok_part ∙ ap Some v.in-RightLeft.is))
+          (knn-right w over _ c.in_ok-options.ensures.ok_part (c.in_ok-order.ensures.ok_part ∙ ap Some v.in-RightLeft.is))
     ]
