@@ -21,6 +21,7 @@ fn put_records_exchanged(out: &mut [u8], records: Records) -> usize
 {
     let n = 5 * records.count;
     copy_bytes(out, records.src, records.rec, n);
+    // By index, as in `hexadecimal`, where `chunks_exact_mut` was tried and the proof did not close.
     for i in 0..records.count {
         let at = 5 * i;
         let side = out[at];

@@ -16,7 +16,8 @@ use remainder::last::put_last;
 use terms::checked::Checked;
 use writing::copies::copy_bytes;
 
-// A frame: its bytes, where its parts stand in them, and its nodes in rows.
+// A frame: its bytes, where its parts stand in them, and its nodes in rows. This call reads all three; merge has no rows, and extract has
+// the bytes in a plan.
 #[derive(Clone, Copy)]
 pub struct Given<'s, 'r> {
     pub src: &'s [u8],

@@ -7,7 +7,8 @@ ghost use Rattle.lines.specs.Answers.{answer_bytes, plan_length, length_after};
 use hexadecimal::digit_lines::put_line;
 use terms::refusals::Refusal;
 
-// What a line that is accepted gives: the length of the new plan, or the four bytes of the logical call.
+// What a line that is accepted gives: the length of the new plan, or the four bytes of the logical call, one by one, since contracts name
+// them.
 #[derive(Clone, Copy)]
 pub enum Given {
     Plan(usize),

@@ -15,7 +15,7 @@ use sedona_query_planner::spatial_predicate::{
 use terms::sides::JoinSide;
 use writing::numbers::put_number;
 
-// Type, left, right.
+// Type, left, right. An `Argument` is written out here and below: made by a function, each proof would have to open it first.
 fn put_relation(out: &mut [u8], src: &[u8], p: RelationPredicate, indexes: Option<&[u16]>) -> usize
     requires { Room (RelationAt (change_of indexes) src.now p) predicate_fields 0 out.old }
     ensures { Puts (RelationAt (change_of indexes.entry) src.now p) predicate_fields out.old

@@ -19,6 +19,7 @@ fn put_places(row: &mut [u32], side: JoinSide, items: &[u16], chains: Option<Cha
 {
     let wanted = u32::from(u8::from(side));
     for number in row.iter_mut() {
+        // The parts of the number are those that the definition of a spot joins.
         let spot = *number;
         let child = spot % 65536;
         if spot / 65536 % 4 == wanted {

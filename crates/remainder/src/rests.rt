@@ -18,7 +18,8 @@ pub struct Stays {
     pub leaf: usize,
 }
 
-// The bytes of a filter, with its nodes in rows.
+// The bytes of a filter, with its nodes in rows. This, and `Place` below, are what the walk needs of what the matchers take, which have the
+// records and a position too.
 #[derive(Clone, Copy)]
 pub struct Nodes<'a> {
     pub src: &'a [u8],

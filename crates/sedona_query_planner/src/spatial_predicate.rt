@@ -74,7 +74,7 @@ impl SpatialRelationType {
         ensures { named_relation result ≡ relation_named name.now }
     {
         // A `match` on the bytes was tried: 132 goals, one for each byte at which it may end, and no names for their facts.
-        // A table of names would need another of their types beside it.
+        // A table of names with their types would have as many lines, and a search beside it.
         if same_name(name, b"st_intersects") {
             Some(SpatialRelationType::Intersects)
         } else if same_name(name, b"rs_intersects") {
