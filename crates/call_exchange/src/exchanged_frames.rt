@@ -21,7 +21,7 @@ fn put_records_exchanged(out: &mut [u8], records: Records) -> usize
 {
     let n = 5 * records.count;
     copy_bytes(out, records.src, records.rec, n);
-    // By index, as in `hexadecimal`, where `chunks_exact_mut` was tried and the proof did not close.
+    // By index, by which a record is asked for, and of its five bytes one changes.
     for i in 0..records.count {
         let at = 5 * i;
         let side = out[at];

@@ -24,6 +24,7 @@ pub fn project_by<const N: usize>(
         plan.new scratch.new result }
 {
     let mut row = [0u32; N];
+    // With `ok_or` and `?` it would be no shorter.
     let Some(count) = project_spots(&mut row, &plan[..n], x, left, right) else {
         return Err(Refusal::NoSuchChild);
     };

@@ -20,7 +20,8 @@ use sedona_query_planner::spatial_predicate::SpatialPredicate;
 use std::ops::ControlFlow;
 use terms::settings::Settings;
 
-// An AND-leaf that matches: its predicate, its position among the AND-leaves, and where it stands and ends.
+// An AND-leaf that matches: its predicate, its position among the AND-leaves, and where it stands and ends. No `Pick` yet: the And above it
+// is looked for only once the walk has ended.
 #[derive(Clone, Copy)]
 pub struct Seen {
     pub predicate: SpatialPredicate,

@@ -72,7 +72,7 @@ fn call_line(plan: &mut [u8], scratch: &mut [u8], size: usize, n: usize) -> Answ
     }
 }
 
-// What a line of characters gives.
+// What a line of characters gives. (With `ok_or` and `?` it would be no shorter.)
 pub fn answer_line(plan: &mut [u8], scratch: &mut [u8], line: &[u8], n: usize) -> Answer
     requires { length scratch.old ≡ 16384 }
     ensures answer_is { AnswerIs (program.line_outcome line.now (kept_as n plan.old)) n plan.new result }

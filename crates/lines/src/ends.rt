@@ -24,7 +24,7 @@ fn answer_begun(plan: &mut [u8], scratch: &mut [u8], line: &[u8], count: usize, 
     answer_line(plan, scratch, &line[..count], n)
 }
 
-// The line that has begun is at its end.
+// The line that has begun is at its end. The buffers are slices of any length that the clauses allow: `Buffers` would ask for more.
 pub fn end_line(
     out: &mut [u8],
     plan: &mut [u8],

@@ -21,7 +21,7 @@ fn whole_extraction(s: &[u8]) -> Result<Extraction, Refusal>
     Ok(extraction)
 }
 
-// What the bytes of a plan hold that is no frame.
+// What the bytes of a plan hold that is no frame. (Here and below a `match`: by `map` and `map_err` each arm would be a closure.)
 fn held_extraction(s: &[u8]) -> Result<Held, Refusal>
     requires { get_or s.now 0 0 ≡ 1 → ⊥ }
     ensures { (numbers indexes : List ℕ) → HeldIn s.now result (plans.plan_of s.now) numbers indexes }

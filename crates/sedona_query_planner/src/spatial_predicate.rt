@@ -11,7 +11,8 @@ use expression::names::same_name;
 use terms::forms::DistanceForm;
 use terms::sides::JoinSide;
 
-// A predicate of two geometries and what relates them; each argument stands from its start up to its end.
+// A predicate of two geometries and what relates them; each argument stands from its start up to its end. These are fields of each struct,
+// the form that document 01 binds.
 #[derive(Clone, Copy)]
 pub enum SpatialPredicate {
     Distance(DistancePredicate),
