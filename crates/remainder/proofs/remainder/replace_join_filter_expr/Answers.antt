@@ -1,10 +1,27 @@
 -- `replace_join_filter_expr`: the flags are those of what is left, its records are written, and the expression over them after those.
+use Prim.Native.Nat.{◌≤◌}
 use native.Mathlib.Omega.{arith}
 use mathlib.Core.Bool.{false}
-use lib.ListN.{replicate}
+use lib.ListN.{length, replicate}
 use Rattle.remainder.proofs.CutLaws.{something-left}
 use Rattle.remainder.proofs.RemainderLaws.{still-unheld, clear-rows, records-fit, records-end, expr-fits, frame-put}
 use Rattle.remainder.proofs.remainder.replace_join_filter_expr.Goals as goal
+use Rattle.remainder.proofs.remainder.replace_join_filter_expr.Given.{Over}
+use Rattle.remainder.proofs.remainder.replace_join_filter_expr.Goals.{After-put_records-w}
+
+-- The records end within the buffer.
+ended : (g : Over) (c : After-put_records-w g) → c.put_records-w.result ≤ length c.put_records-w.new.out
+ended g c =
+    let flags = c.collect_held in
+    let p = c.requires.remainder_fits in
+    let left = (something-left p.cutting c.requires.leaf_elsewhere).1 in
+    let clear = clear-rows g.row.N c.args.records.count c.requires.count_bound.0 in
+    omega (
+      arith,
+      c.put_records-w.auto.out,
+      records-end p.frame left (replicate g.row.N false) flags.new.used p.cutting clear.0 flags.auto.used
+          flags.ensures c.put_records-w.ensures p.room,
+    )
 
 -- Each call, from the one after it.
 
@@ -33,29 +50,11 @@ put_records-w-requires g c =
 
 pub slice_bounds-reproject_remainder-count : goal.slice_bounds-reproject_remainder-count
 slice_bounds-reproject_remainder-count g c =
-    let flags = c.collect_held in
-    let p = c.requires.remainder_fits in
-    let left = (something-left p.cutting c.requires.leaf_elsewhere).1 in
-    omega (
-      arith,
-      c.put_records-w.auto.out,
-      records-end p.frame left (replicate g.row.N false) flags.new.used p.cutting
-          (clear-rows g.row.N c.args.records.count c.requires.count_bound.0).0 flags.auto.used
-          flags.ensures c.put_records-w.ensures p.room,
-    )
+    ended g (goal.at.slice_bounds-reproject_remainder-count g c).After-put_records-w
 
 pub slice_bounds-reproject_remainder-start : goal.slice_bounds-reproject_remainder-start
 slice_bounds-reproject_remainder-start g c =
-    let flags = c.collect_held in
-    let p = c.requires.remainder_fits in
-    let left = (something-left p.cutting c.requires.leaf_elsewhere).1 in
-    omega (
-      arith,
-      c.put_records-w.auto.out,
-      records-end p.frame left (replicate g.row.N false) flags.new.used p.cutting
-          (clear-rows g.row.N c.args.records.count c.requires.count_bound.0).0 flags.auto.used
-          flags.ensures c.put_records-w.ensures p.room,
-    )
+    ended g (goal.at.slice_bounds-reproject_remainder-start g c).After-put_records-w
 
 pub reproject_remainder-copied-requires : goal.reproject_remainder-copied-requires
 reproject_remainder-copied-requires g c =
