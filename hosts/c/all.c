@@ -25,11 +25,11 @@ static size_t past(const uint8_t *bytes, size_t at, size_t expressions)
     while (expressions > 0) {
         expressions--;
         switch (bytes[at]) {
-        case 0: at += 5; break;                                                /* a column */
-        case 1: at += 10; break;                                               /* a literal */
-        case 2: at += 2, expressions += 2; break;                              /* an operator of two */
-        case 3: at += 3 + bytes[at + 1], expressions += bytes[at - 1]; break;  /* a function: the last byte counts its arguments */
-        default: at += 4, expressions += bytes[at - 1]; break;                 /* any other node, likewise */
+        case SPATIALJOIN_NODE_COLUMN: at += 5; break;
+        case SPATIALJOIN_NODE_LITERAL: at += 10; break;
+        case SPATIALJOIN_NODE_BINARY: at += 2, expressions += 2; break;
+        case SPATIALJOIN_NODE_FUNCTION: at += 3 + bytes[at + 1], expressions += bytes[at - 1]; break; /* its last byte counts them */
+        default: at += 4, expressions += bytes[at - 1]; break;                                        /* any other node, likewise */
         }
     }
     return at;
