@@ -1,4 +1,4 @@
-use crate::{Refusal, numbers};
+use crate::{Extraction, FrameError, Refusal, numbers};
 
 /// What an accepted [`extract_all`](crate::extract_all) gives.
 #[derive(Clone, Copy, Debug, PartialEq, Eq)]
@@ -36,6 +36,17 @@ pub struct Conjunct<'a> {
     pub position: u16,
     /// All of the predicate, as in an extraction: with a `00` after it it is one without a remainder.
     pub bytes: &'a [u8],
+}
+
+impl Conjunct<'_> {
+    /// The predicate, as an extraction of which nothing is left.
+    ///
+    /// # Errors
+    ///
+    /// Of bytes that [`extract_all`](crate::extract_all) did not write, what is wrong with them.
+    pub fn extraction(&self) -> Result<Extraction, FrameError> {
+        Extraction::of_predicate(self.bytes)
+    }
 }
 
 /// The predicates in the bytes that [`extract_all`](crate::extract_all) wrote, one after another, and

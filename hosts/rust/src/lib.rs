@@ -15,6 +15,9 @@
 //! allowed, the k of an `st_knn` call that has none, and the greatest k. [`Settings::default`] changes no
 //! answer.
 //!
+//! A host that has filters as a tree of its own builds a [`Frame`], by [`Records`] and [`Expression`], and
+//! has its bytes tested for every limit ([`FrameError`]); what an extract leaves, [`Extraction`] reads.
+//!
 //! [`extract_all`] writes all indexable conjuncts of a frame, for a price list for one; [`Conjuncts`]
 //! reads them. It takes no plan, no scratch and no table.
 //!
@@ -29,6 +32,7 @@
 
 mod conjuncts;
 mod extracted;
+mod frames;
 pub mod numbers;
 mod queues;
 mod refusal;
@@ -39,6 +43,10 @@ use std::mem::offset_of;
 
 pub use conjuncts::{AllExtracted, Conjunct, Conjuncts, Kind};
 pub use extracted::{Extracted, Unextracted};
+pub use frames::{
+    DistanceForm, Expression, Extraction, Frame, FrameError, Literal, LogicalFrame, Operator,
+    Predicate, Record, Records, RelationType,
+};
 pub use queues::{MOST_QUEUED, MOST_WAITING, QUEUES_BYTES, Queue, Queues, Served, put, serve};
 pub use refusal::Refusal;
 pub use settings::{DEFAULT_K, GREATEST_K, Kinds, Settings};
@@ -55,6 +63,18 @@ pub const MOST_NODES: usize = 1_024;
 
 /// The most items of a list of [`project`].
 pub const MOST_ITEMS: usize = 4_096;
+
+/// The most levels of an expression, its root being the first.
+pub const MOST_LEVELS: usize = 64;
+
+/// The most records of a frame.
+pub const MOST_RECORDS: usize = 256;
+
+/// The most bytes of a function's name.
+pub const MOST_NAME: usize = 32;
+
+/// The most arguments of a function, or children of another node.
+pub const MOST_ARGUMENTS: usize = 16;
 
 /// A node of a frame: six bytes, that after the kind of no field.
 #[repr(C)]
@@ -112,7 +132,7 @@ pub struct Names {
 }
 
 /// A child of the join.
-#[derive(Clone, Copy, Debug, PartialEq, Eq)]
+#[derive(Clone, Copy, Debug, PartialEq, Eq, Hash)]
 pub enum Side {
     Left,
     Right,
