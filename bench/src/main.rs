@@ -18,13 +18,16 @@ use std::env;
 use std::process::ExitCode;
 
 use frames::Group;
-use measure::{Row, Task, measure};
+use measure::{Rounds, Task};
 use operations::{Logical, Merges, Physical};
 use ours::{Console, Ours};
 use projections::{Length, Projections};
 use queues::Waiting;
 use spatialjoin::{Settings, numbers};
 use table::{BESIDE_EXCHANGE, BESIDE_EXTRACT, BOTH, Column, ORIGINAL, QUEUED, Table, YARDSTICK};
+
+/// How many tables a run has, of an operation each.
+const OPERATIONS: usize = 13;
 
 const USAGE: &str = "bench [--rounds N | --repeat GROUP | --conjuncts N]";
 
@@ -40,7 +43,7 @@ fn main() -> ExitCode {
         Some(_) if !spatialjoin::version_matches() => Err(another_version()),
         Some(Asked::Tables(rounds)) => run(rounds),
         Some(Asked::Repeat(group)) => repeat(&group),
-        Some(Asked::Conjuncts(rounds)) => all_conjuncts(rounds),
+        Some(Asked::Conjuncts(rounds)) => all_conjuncts(&mut Rounds::new(rounds, 1)).map(drop),
         None => {
             eprintln!("{USAGE}");
             return ExitCode::from(2);
@@ -136,103 +139,96 @@ fn run(rounds: usize) -> Result<(), String> {
     let waiting = Waiting::all();
     waiting.iter().try_for_each(check::queues)?;
 
-    print_tables(&physical, &texts, &logical, &merges, &projections, rounds);
-    print_queue_tables(&waiting, rounds);
-    all_conjuncts(rounds)
-}
-
-/// The table of all conjuncts alone.
-fn all_conjuncts(rounds: usize) -> Result<(), String> {
-    let groups = frames::conjuncts();
-    groups.iter().try_for_each(check::conjuncts)?;
-    let tasks = groups.iter().map(conjuncts::all).collect();
-    let table = shown(
-        "All conjuncts (the original has no such call)",
-        BESIDE_EXTRACT,
-        measure(tasks, rounds),
+    let mut rounds = Rounds::new(rounds, OPERATIONS);
+    let mut tables = print_tables(
+        &physical,
+        &texts,
+        &logical,
+        &merges,
+        &projections,
+        &mut rounds,
     );
-    table::print_all_goals(&table);
+    tables.extend(print_queue_tables(&waiting, &mut rounds));
+    tables.push(all_conjuncts(&mut rounds)?);
+    assert_eq!(tables.len(), OPERATIONS, "what progress counts");
+    table::print_all(&tables);
     Ok(())
 }
 
-/// What a frame costs before it is loaded.
-fn print_queue_tables(waiting: &[Waiting], rounds: usize) {
-    let timed = |title, tasks| shown(title, QUEUED, measure(tasks, rounds));
-    let puts = waiting.iter().map(Waiting::put).collect();
-    println!();
-    timed(
-        "Put, the last of these frames (the original has no such call)",
-        puts,
-    );
-    let serves = waiting.iter().map(Waiting::serve).collect();
-    timed(
-        "Serve, the first of these frames (the original has no such call)",
-        serves,
-    );
+/// The table of all conjuncts alone.
+fn all_conjuncts(rounds: &mut Rounds) -> Result<Table, String> {
+    let groups = frames::conjuncts();
+    groups.iter().try_for_each(check::conjuncts)?;
+    let tasks = groups.iter().map(conjuncts::all).collect();
+    let table = shown(rounds, "All conjuncts", BESIDE_EXTRACT, tasks);
+    table::print_all_goals(&table);
+    Ok(table)
 }
 
+/// What a frame costs before it is loaded.
+fn print_queue_tables(waiting: &[Waiting], rounds: &mut Rounds) -> [Table; 2] {
+    let mut timed = |title, tasks| shown(rounds, title, QUEUED, tasks);
+    let puts = waiting.iter().map(Waiting::put).collect();
+    let serves = waiting.iter().map(Waiting::serve).collect();
+    println!();
+    [
+        timed("Put, the last of these frames", puts),
+        timed("Serve, the first of these frames", serves),
+    ]
+}
+
+/// What the calls on frames and plans cost, and the goals.
 fn print_tables(
     physical: &[Physical],
     texts: &[Physical],
     logical: &[Logical],
     merges: &[Merges],
     [short, long]: &[Vec<Projections>; 2],
-    rounds: usize,
-) {
+    rounds: &mut Rounds,
+) -> Vec<Table> {
     println!("Nanoseconds a frame: median, ± half the distance between the quartiles.\n");
-    let beside_both = |title, tasks| shown(title, BOTH, measure(tasks, rounds));
-    let timed = |title, tasks| shown(title, ORIGINAL, measure(tasks, rounds));
-    let ours_alone = |title, tasks| shown(title, YARDSTICK, measure(tasks, rounds));
+    let mut timed = |title, columns, tasks| shown(rounds, title, columns, tasks);
     let each = |task: fn(&Physical) -> Task<'_>| physical.iter().map(task).collect();
-    let projected = |title, groups: &[Projections]| {
-        let tasks = groups.iter().map(Projections::project).collect();
-        shown(title, BESIDE_EXCHANGE, measure(tasks, rounds))
-    };
+    let exchange = each(Physical::exchange_frame);
+    let exchange_back = each(Physical::exchange_extraction);
+    let logical = logical.iter().map(Logical::logical).collect();
+    let printed = physical.iter().chain(texts);
+    let merges = merges.iter().map(Merges::merge).collect();
+    let short = short.iter().map(Projections::project).collect();
+    let long = long.iter().map(Projections::project).collect();
+    let own = "Project by lists of the plan's own columns";
+    let all = "Project by lists of 4,096 columns";
     let tables = [
-        beside_both("Load", each(Physical::load)),
-        beside_both("Load and extract", each(Physical::load_and_extract)),
-        beside_both("Extract, a frame held", each(Physical::extract)),
-        timed("Exchange, a frame held", each(Physical::exchange_frame)),
-        timed(
-            "Exchange, an extraction held",
-            each(Physical::exchange_extraction),
-        ),
-        timed("Logical", logical.iter().map(Logical::logical).collect()),
-        ours_alone(
-            "Print (the original has no such call)",
-            physical.iter().chain(texts).map(Physical::print).collect(),
-        ),
-        ours_alone(
-            "Merge, a frame held (the original has no such call)",
-            merges.iter().map(Merges::merge).collect(),
-        ),
-        projected(
-            "Project by lists of the plan's own columns (the original has no such call)",
-            short,
-        ),
-        projected("Project by lists of 4,096 columns", long),
+        timed("Load", BOTH, each(Physical::load)),
+        timed("Load and extract", BOTH, each(Physical::load_and_extract)),
+        timed("Extract, a frame held", BOTH, each(Physical::extract)),
+        timed("Exchange, a frame held", ORIGINAL, exchange),
+        timed("Exchange, an extraction held", ORIGINAL, exchange_back),
+        timed("Logical", ORIGINAL, logical),
+        timed("Print", YARDSTICK, printed.map(Physical::print).collect()),
+        timed("Merge, a frame held", YARDSTICK, merges),
+        timed(own, BESIDE_EXCHANGE, short),
+        timed(all, BESIDE_EXCHANGE, long),
     ];
     table::print_growth(&tables);
-    let [
-        load,
-        load_and_extract,
-        extract,
-        ..,
-        print,
-        merge,
-        project,
-        _,
-    ] = &tables;
+    let [load, load_and_extract, extract, ..] = &tables;
+    let [.., print, merge, project, _] = &tables;
     table::print_goals(load, load_and_extract, [print, merge, project]);
     table::print_record_goals(load, load_and_extract, extract);
+    tables.into()
 }
 
 /// Prints a table as soon as it is measured.
-fn shown(title: &'static str, columns: &'static [Column], rows: Vec<Row>) -> Table {
+fn shown(
+    rounds: &mut Rounds,
+    title: &'static str,
+    columns: &'static [Column],
+    tasks: Vec<Task<'_>>,
+) -> Table {
     let table = Table {
         title,
         columns,
-        rows,
+        rows: rounds.measure(tasks),
     };
     table.print();
     table

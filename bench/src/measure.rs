@@ -52,15 +52,33 @@ pub type Readings = Vec<f64>;
 const BATCH: Duration = Duration::from_millis(4);
 const WARM_UP: Duration = Duration::from_millis(20);
 
-pub fn measure(tasks: Vec<Task<'_>>, rounds: usize) -> Vec<Row> {
-    let mut all: Vec<Course<'_>> = tasks.into_iter().map(Course::warmed_up).collect();
-    let mut progress = Progress::new("rounds of this operation", rounds as u64);
-    for round in 1..=rounds {
-        let running = all.iter_mut().flat_map(|course| &mut course.running);
-        running.for_each(Running::take_reading);
-        progress.done(round as u64);
+/// The rounds of all operations, and how many of them are done.
+pub struct Rounds {
+    each: usize,
+    done: u64,
+    progress: Progress,
+}
+
+impl Rounds {
+    /// So many of each operation.
+    pub fn new(each: usize, operations: usize) -> Self {
+        Rounds {
+            each,
+            done: 0,
+            progress: Progress::new("rounds of all operations", (each * operations) as u64),
+        }
     }
-    all.into_iter().map(Course::row).collect()
+
+    pub fn measure(&mut self, tasks: Vec<Task<'_>>) -> Vec<Row> {
+        let mut all: Vec<Course<'_>> = tasks.into_iter().map(Course::warmed_up).collect();
+        for _ in 0..self.each {
+            let running = all.iter_mut().flat_map(|course| &mut course.running);
+            running.for_each(Running::take_reading);
+            self.done += 1;
+            self.progress.done(self.done);
+        }
+        all.into_iter().map(Course::row).collect()
+    }
 }
 
 /// A task under way.

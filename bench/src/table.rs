@@ -12,11 +12,28 @@ pub struct Table {
     pub rows: Vec<Row>,
 }
 
-/// The value below which this many quarters of the values lie.
+/// The value below which this many quarters of the values lie; between two of them, as far along as the
+/// quarters are, so that two readings have a spread too.
 fn quartile(values: &[f64], number: usize) -> f64 {
     let mut sorted = values.to_vec();
     sorted.sort_by(f64::total_cmp);
-    sorted[(sorted.len() - 1) * number / 4]
+    let (place, part) = (
+        (sorted.len() - 1) * number / 4,
+        (sorted.len() - 1) * number % 4,
+    );
+    let next = sorted[(place + 1).min(sorted.len() - 1)];
+    sorted[place] + (next - sorted[place]) * part as f64 / 4.0
+}
+
+/// Half the distance between the quartiles, in percent of the median; of one reading there is none.
+fn spread(readings: &[f64]) -> String {
+    let half = (quartile(readings, 3) - quartile(readings, 1)) / 2.0;
+    let percent = 100.0 * half / median(readings);
+    match (readings.len(), percent) {
+        (1, _) => String::new(),
+        (_, ..0.95) => format!(" ±{percent:.1} %"),
+        _ => format!(" ±{percent:.0} %"),
+    }
 }
 
 fn median(values: &[f64]) -> f64 {
@@ -49,9 +66,7 @@ impl Row {
         let Some(readings) = self.readings.get(&contender) else {
             return NONE.to_owned();
         };
-        let spread = (quartile(readings, 3) - quartile(readings, 1)) / 2.0;
-        let percent = 100.0 * spread / median(readings);
-        format!("{} ±{percent:.0} %", number(median(readings)))
+        format!("{}{}", number(median(readings)), spread(readings))
     }
 
     fn per_byte(&self, contender: Contender) -> Option<f64> {
@@ -221,7 +236,12 @@ fn number(value: f64) -> String {
 
 impl Table {
     pub fn print(&self) {
-        println!("## {}\n", self.title);
+        let original = |row: &Row| row.readings.contains_key(&Contender::RustFromBytes);
+        let note = match self.rows.iter().any(original) {
+            true => "",
+            false => " (the original has no such call)",
+        };
+        println!("## {}{note}\n", self.title);
         let heads: Vec<&str> = self.columns.iter().map(|(head, _)| *head).collect();
         println!("| {} |", heads.join(" | "));
         println!("|---{}|", "|--:".repeat(heads.len() - 1));
@@ -277,6 +297,33 @@ impl Table {
         let least = values.min_by(|a, b| (sign * a.0).total_cmp(&(sign * b.0)));
         least.unwrap_or((f64::NAN, NONE))
     }
+}
+
+/// The columns of the table of all calls, after the call's.
+const ALL: &[Column] = &[
+    FRAMES,
+    BYTES,
+    OURS,
+    FROM_BYTES_TO_OURS,
+    CALL_AND_ANSWER_TO_OURS,
+    CALL_TO_OURS,
+    PLAIN_TO_OURS,
+    OURS_TO_COPY,
+];
+
+/// Every call on every group of frames, in one table.
+pub fn print_all(tables: &[Table]) {
+    println!("## All calls in one table\n");
+    let heads: Vec<&str> = ALL.iter().map(|(head, _)| *head).collect();
+    println!("| call | {} |", heads.join(" | "));
+    println!("|---|---{}|", "|--:".repeat(heads.len() - 1));
+    for table in tables {
+        for row in &table.rows {
+            let cells: Vec<String> = ALL.iter().map(|(_, cell)| cell(row)).collect();
+            println!("| {} | {} |", table.title, cells.join(" | "));
+        }
+    }
+    println!();
 }
 
 pub fn print_growth(tables: &[Table]) {
@@ -375,4 +422,27 @@ fn print_speeds(load_and_extract: &Table) {
 fn print_goal(goal: &str, measured: &str, reached: bool) {
     let reached = if reached { "yes" } else { "no" };
     println!("| {goal} | {measured} | {reached} |");
+}
+
+#[cfg(test)]
+mod tests {
+    use super::{quartile, spread};
+
+    #[test]
+    fn quartiles_of_few_values() {
+        let quartiles = |values: &[f64]| [1, 2, 3].map(|number| quartile(values, number));
+        assert_eq!(quartiles(&[7.0]), [7.0, 7.0, 7.0]);
+        assert_eq!(quartiles(&[3.0, 1.0]), [1.5, 2.0, 2.5]);
+        assert_eq!(quartiles(&[1.0, 3.0, 2.0]), [1.5, 2.0, 2.5]);
+        assert_eq!(quartiles(&[4.0, 3.0, 2.0, 1.0]), [1.75, 2.5, 3.25]);
+        assert_eq!(quartiles(&[5.0, 4.0, 3.0, 2.0, 1.0]), [2.0, 3.0, 4.0]);
+    }
+
+    #[test]
+    fn one_reading_has_no_spread_and_two_have() {
+        assert_eq!(spread(&[100.0]), "");
+        assert_eq!(spread(&[96.0, 104.0]), " ±2 %");
+        assert_eq!(spread(&[99.0, 101.0]), " ±0.5 %");
+        assert_eq!(spread(&[100.0; 5]), " ±0.0 %");
+    }
 }
