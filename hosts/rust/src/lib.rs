@@ -55,7 +55,7 @@ pub use version::{VERSION, Version, version, version_matches};
 /// The most bytes of a frame or plan.
 pub const MOST_BYTES: usize = 16_384;
 
-/// The most bytes of a text that [`print`] writes.
+/// The most bytes of a text that [`print()`] writes.
 pub const MOST_TEXT: usize = 26_620;
 
 /// The most nodes of a frame, a merged one too: a table of so many records is never too short.
