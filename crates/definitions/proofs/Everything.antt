@@ -1,6 +1,7 @@
 -- Names to unfold definitions by, for theorems that hold by computation: one for each file of definitions, and one for all.
 use Prim.Native.Nat.{ℕ}
 use mathlib.Core.Bool as Bool
+use mathlib.Core.Option as Option
 use Rattle.definitions.specs.Basics as Basics
 use Rattle.definitions.specs.Expression as Expression
 use Rattle.definitions.specs.Literals as Literals
@@ -32,6 +33,7 @@ use Rattle.definitions.specs.QueueLists as QueueLists
 use Rattle.definitions.specs.ExtractAll as ExtractAll
 use Rattle.definitions.specs.Hosts as Hosts
 use Rattle.definitions.specs.Settings as Settings
+use Rattle.definitions.specs.Verdicts as Verdicts
 
 unfoldable pub basics : ℕ
 unfolding Basics.ascii Basics.same_name Basics.big_endian Basics.any Basics.all Basics.keep
@@ -174,7 +176,20 @@ unfolding Settings.good_settings Settings.default_settings Settings.has_bit Sett
     Settings.calls_run_under
 settings = 0
 
+unfoldable pub verdicts : ℕ
+unfolding Option.or_else Verdicts.verdict_byte Verdicts.reasons Verdicts.line_named Verdicts.line_compared Verdicts.line_meant
+    Verdicts.is_no_line Verdicts.is_distance_line Verdicts.is_knn_line Verdicts.with_bound Verdicts.arguments_compared Verdicts.arguments_of
+    Verdicts.argument_is Verdicts.has_argument Verdicts.is_distance_call Verdicts.measured_in_small Verdicts.ours_in_small
+    Verdicts.measured_other_side Verdicts.measured_beside Verdicts.distance_on_other_side Verdicts.distance_beside_other Verdicts.parts_of
+    Verdicts.some_of_ours Verdicts.sides_of Verdicts.none_of Verdicts.of_both Verdicts.of_mark Verdicts.only_of Verdicts.whole_number
+    Verdicts.literal_whole Verdicts.no_number Verdicts.is_below_one Verdicts.is_above Verdicts.below_one Verdicts.above Verdicts.no_flag
+    Verdicts.left_out Verdicts.lacks Verdicts.geometry_is Verdicts.bound_is Verdicts.knn_literal_is Verdicts.applies Verdicts.first_that
+    Verdicts.matches_as Verdicts.verdict_under Verdicts.verdicts_under Verdicts.verdict_bytes Verdicts.one_on Verdicts.first_passing
+    Verdicts.named_by Verdicts.bill_number Verdicts.explained Verdicts.new_verdicts Verdicts.finish_explain Verdicts.explain
+    Verdicts.exchange_verdict
+verdicts = 0
+
 unfoldable pub everything : ℕ
 unfolding basics expression literals encode leaves readers decode plans references match extract walk exchange tables calls machine sessions
-    meaning logical program printing merging projecting queues listing settings
+    meaning logical program printing merging projecting queues listing settings verdicts
 everything = 0

@@ -14,3 +14,4 @@ pub mod WalkedRows
 pub mod WaitingRows
 pub mod ListedRows
 pub mod SettledRows
+pub mod ExplainedRows

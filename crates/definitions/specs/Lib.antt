@@ -8,7 +8,8 @@
 --   ℕ, zero, suc n          the numbers from 0 on; 0, and n + 1
 --   [], a ∷ s, s ++ t       the empty list; a, then the list s; s, then t
 --   length, take n, drop n  how many; the first n; all but the first n; `get_or s n d`: the element at n from 0, d past the end
---   none, some a            no value, or a; `Option.map f` (`map f` where no list is meant) changes the value where there is one
+--   none, some a            no value, or a; `Option.map f` (`map f` where no list is meant) changes the value where there is one,
+--                           `Option.or_else x y` is x where there is one, else y
 --   leb, ltb, eqb           whether ≤, <, = holds of two numbers, as true or false; &&, || and `not` of such
 --   if b then a else c      a where b is true, else c
 --   do, x ← r               read one thing after another, x being what r read; the first refusal ends it
@@ -52,6 +53,7 @@ pub mod AnyMatcher
 pub mod ExtractAll
 pub mod AllClaims
 pub mod Settings
+pub mod Verdicts
 pub mod TenRows
 pub mod FurtherRows
 pub mod PositionRows
@@ -63,6 +65,7 @@ pub mod PrintClaims
 pub mod PrintRows
 pub mod MergeClaims
 pub mod SettingsClaims
+pub mod VerdictClaims
 pub mod MergeRows
 pub mod TableClaims
 pub mod TableRows
@@ -78,3 +81,4 @@ pub mod QueueClaims
 pub mod QueueRows
 pub mod AllRows
 pub mod SettingsRows
+pub mod VerdictRows
