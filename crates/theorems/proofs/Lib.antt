@@ -18,9 +18,16 @@ pub mod MatchAsks
 pub mod MatchMeans
 pub mod Moved
 pub mod SettingsLaws
+pub mod VerdictSides
+pub mod VerdictMatches
+pub mod VerdictReasons
+pub mod VerdictStages
+pub mod VerdictArity
+pub mod VerdictTurns
 pub mod MatchLaws
 pub mod ExtractExchange
 pub mod Pick
+pub mod VerdictLines
 pub mod Walks
 pub mod ExtractGood
 pub mod NodeTables
@@ -36,6 +43,7 @@ pub mod Answers
 pub mod Changes
 pub mod WrittenPlans
 pub mod RefusalNumbers
+pub mod VerdictCall
 pub mod Machines
 pub mod Truth
 pub mod KnnLeaves
@@ -47,6 +55,7 @@ pub mod TextLength
 pub mod PrintCall
 pub mod MatchesMoved
 pub mod Merged
+pub mod VerdictMoved
 pub mod MergeCall
 pub mod TablesRoom
 pub mod Histories

@@ -25,7 +25,7 @@ all-negated s [] = refl
 all-negated s (t ∷ ss) = ap₂ ◌&&◌ (same-negated s t) (all-negated s ss)
 
 -- An argument's side after an exchange.
-abbrev turned : ArgumentSide → ArgumentSide
+abbrev pub turned : ArgumentSide → ArgumentSide
 turned no_columns = no_columns
 turned (all_on s) = all_on (negate s)
 turned mixed = mixed
@@ -34,13 +34,13 @@ if-turned : (b : Bool) (s : Side) → (if b then all_on (negate s) else mixed) �
 if-turned true s = refl
 if-turned false s = refl
 
-common-negated : (ss : List Side) → common_side (map negate ss) ≡ turned (common_side ss)
+pub common-negated : (ss : List Side) → common_side (map negate ss) ≡ turned (common_side ss)
 unfolding common_side
 common-negated [] = refl
 common-negated (s ∷ ss) =
     ap (λ (b : Bool). if b then all_on (negate s) else mixed) (all-negated s ss) ∙ if-turned (all (same_side s) ss) s
 
-sides-at : (rs : List Record) (is : List ℕ)
+pub sides-at : (rs : List Record) (is : List ℕ)
     → map (λ i. (record_at (swapped rs) i).side) is ≡ map negate (map (λ i. (record_at rs i).side) is)
 sides-at rs [] = refl
 sides-at rs (i ∷ is) = ap₂ (λ (a : Side) (b : List Side). a ∷ b) (side-at rs i) (sides-at rs is)

@@ -104,7 +104,7 @@ module _ (default : ℕ) (f : ℕ → ℕ) where
   k-mapped = each (λ e. literal_k (map_columns f e) ≡ literal_k e)
       (λ i g. refl) (λ y v. refl) (λ l r. refl) (λ o l r. refl) (λ n ts. refl) (λ g ts. refl) (λ b g. refl)
 
-  bool-mapped : (e : Expr) → literal_bool (map_columns f e) ≡ literal_bool e
+  pub bool-mapped : (e : Expr) → literal_bool (map_columns f e) ≡ literal_bool e
   unfolding literal_bool map_columns
   bool-mapped = each (λ e. literal_bool (map_columns f e) ≡ literal_bool e)
       (λ i g. refl) (λ y v. refl) (λ l r. refl) (λ o l r. refl) (λ n ts. refl) (λ g ts. refl) (λ b g. refl)
@@ -158,7 +158,7 @@ module _ (default : ℕ) (f : ℕ → ℕ) where
       cases false true = dwithin-mapped es
       cases false false = relation-mapped (relation_named name) es
 
-  arguments-mapped : (e : Expr) → distance_arguments (map_columns f e) ≡ Option.map (map_columns_all f) (distance_arguments e)
+  pub arguments-mapped : (e : Expr) → distance_arguments (map_columns f e) ≡ Option.map (map_columns_all f) (distance_arguments e)
   unfolding distance_arguments map_columns
   arguments-mapped (column i t) = refl
   arguments-mapped (literal type v) = refl
@@ -235,12 +235,17 @@ module _ (rs rs' : List Record) (f : ℕ → ℕ) (b : ℕ) (same : (i : ℕ) �
   unfolding on_child
   child-moved e h = map-twice f (λ i. (record_at rs' i).child) e ∙ map_same _ _ e (read-moved (λ (r : Record). r.child) e h)
 
+  -- An expression's columns lie where they lay.
+  pub sides-moved : (e : Expr) → InRange (index_below b) e
+      → map (λ i. (record_at rs' i).side) (columns_of (map_columns f e)) ≡ map (λ i. (record_at rs i).side) (columns_of e)
+  sides-moved e h =
+      ap (map (λ i. (record_at rs' i).side)) (columns-mapped f e)
+      ∙ sides-after f (λ i. (record_at rs' i).side) (columns_of e)
+      ∙ sides-same _ _ (columns_of e) (read-moved (λ (r : Record). r.side) e h)
+
   side-moved : (e : Expr) → InRange (index_below b) e → side_of rs' (map_columns f e) ≡ side_of rs e
   unfolding side_of
-  side-moved e h =
-      ap (λ (is : List ℕ). common_side (map (λ i. (record_at rs' i).side) is)) (columns-mapped f e)
-      ∙ ap common_side (sides-after f (λ i. (record_at rs' i).side) (columns_of e)
-      ∙ sides-same _ _ (columns_of e) (read-moved (λ (r : Record). r.side) e h))
+  side-moved e h = ap common_side (sides-moved e h)
 
   distance-moved : (form : ℕ) (x y bound : Expr) (s : ArgumentSide) (o : Order) → InRange (index_below b) bound → side_of rs bound ≡ s
       → match_distance rs' form x y (map_columns f bound) s o ≡ match_distance rs form x y bound s o

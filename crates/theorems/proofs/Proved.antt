@@ -1,6 +1,9 @@
 -- Each claim of specs/Claims.antt and of the tables beside it, proved.
-use mathlib.Core.Path.{◌∙◌}
+use mathlib.Core.Path.{ap, ◌∙◌}
+use Rattle.std.proofs.Math.Option
+use Rattle.definitions.specs.Encode.{predicate_kind}
 use Rattle.definitions.specs.Match.{match_leaf}
+use Rattle.definitions.specs.Extract.{Matcher}
 use Rattle.definitions.specs.Sessions.{odd_in}
 use Rattle.definitions.specs.Meaning.{Fair}
 use Rattle.definitions.specs.Claims.{ExchangeTwice, ExtractExchanged, ExpressionReadBack, PlanReadBack, PlanOfBytes, AnyPosition, ExtractionGood, ExchangeGood, LengthsShort, RefusedKeeps, AcceptedWrites, RefusalsOfCalls, LoadAccepted, LoadHolds, ListOfCalls, AnswersInPlace, SamePlan, ExchangeAccepted, ExtractAccepted, PickExactly, RestOfLeaves, ExtractTakes, PositionInBytes, PriceLineOfCalls, PriceLineStays, PriceLineExchanged, MachinesAgree, NamesAreOnes, NamesOnce}
@@ -12,6 +15,8 @@ use Rattle.definitions.specs.SettingsClaims.{AllSettings, BadSettings, RefusalsU
 use Rattle.definitions.specs.AllClaims.{LeavesThatStay, AnyMatcherAll}
 use Rattle.definitions.specs.AllRows.{AllRows}
 use Rattle.definitions.specs.SettingsRows.{SettingsRows}
+use Rattle.definitions.specs.VerdictClaims.{VerdictExactly, VerdictByDefault, ReasonsTrueAndFirst, OnlyKnnTooFew, VerdictBytesApart, VerdictsNameTheLine, AnswerIsTheBill, VerdictsExchanged, VerdictsMerged, ExplainCalls}
+use Rattle.definitions.specs.VerdictRows.{VerdictRows}
 use Rattle.definitions.specs.TenRows.{TenRows}
 use Rattle.definitions.specs.FurtherRows.{FurtherRows}
 use Rattle.definitions.specs.PositionRows.{PositionRows}
@@ -61,12 +66,20 @@ use Rattle.theorems.proofs.ShortClaims as short
 use Rattle.theorems.proofs.LineNumbers.{line-refusals-by}
 use Rattle.theorems.proofs.SettingsClaimed.{all-settings-hold, bad-settings-refused, default-settings-same, kinds-narrow-holds}
 use Rattle.theorems.proofs.AllConjuncts.{leaves-that-stay, any-matcher-all-is}
+use Rattle.theorems.proofs.VerdictMatches.{verdict-exactly-holds}
+use Rattle.theorems.proofs.VerdictReasons.{reasons-first-hold, bytes-apart-hold}
+use Rattle.theorems.proofs.VerdictArity.{only-knn-holds}
+use Rattle.theorems.proofs.VerdictLines.{line-named, bill-answered}
+use Rattle.theorems.proofs.VerdictTurns.{verdicts-turned}
+use Rattle.theorems.proofs.VerdictMoved.{verdicts-joined}
+use Rattle.theorems.proofs.VerdictCall.{explain-calls-hold}
 use Rattle.theorems.proofs.FairExample.{fair-points, fair-under, marks-left}
 use Rattle.theorems.proofs.FairCounting.{fair-counting}
 use Rattle.definitions.proofs.Names.{each-once, names-ones, tables-hold}
 use Rattle.theorems.proofs.Table.{ten-rows-hold}
 use Rattle.definitions.proofs.ListedRows.{all-rows-hold}
 use Rattle.definitions.proofs.SettledRows.{settings-rows-hold}
+use Rattle.definitions.proofs.ExplainedRows.{verdict-rows-hold}
 use Rattle.definitions.proofs.OurRows.{further-rows-hold}
 use Rattle.definitions.proofs.PlacedRows.{position-rows-hold}
 use Rattle.definitions.proofs.Nearest.{nearest-rows-hold}
@@ -539,3 +552,40 @@ walk-short = walk-short-by
 
 pub walk_rows : WalkRows
 walk_rows = walk-rows-hold
+
+-- ---- explain (ours)
+
+pub verdict-exactly : VerdictExactly
+verdict-exactly = verdict-exactly-holds
+
+pub verdict-by-default : VerdictByDefault
+verdict-by-default records leaf =
+    verdict-exactly _ default-settings.0 records leaf
+    ∙ ap (λ (match : Matcher). Option.map predicate_kind (match records leaf)) default-settings.1
+
+pub reasons-true-and-first : ReasonsTrueAndFirst
+reasons-true-and-first = reasons-first-hold
+
+pub only-knn-too-few : OnlyKnnTooFew
+only-knn-too-few = only-knn-holds
+
+pub verdict-bytes-apart : VerdictBytesApart
+verdict-bytes-apart = bytes-apart-hold
+
+pub verdicts-name-the-line : VerdictsNameTheLine
+verdicts-name-the-line = line-named
+
+pub answer-is-the-bill : AnswerIsTheBill
+answer-is-the-bill = bill-answered
+
+pub verdicts-exchanged : VerdictsExchanged
+verdicts-exchanged = verdicts-turned
+
+pub verdicts-merged : VerdictsMerged
+verdicts-merged = verdicts-joined
+
+pub explain-calls : ExplainCalls
+explain-calls = explain-calls-hold
+
+pub verdict-rows : VerdictRows
+verdict-rows = verdict-rows-hold

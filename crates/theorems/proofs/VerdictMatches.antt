@@ -1,0 +1,532 @@
+-- A verdict says the line of the leaf's match, exactly where the leaf matches under the settings.
+use Rattle.std.specs.Prelude.{if◌then◌else◌}
+use Prim.Native.Nat.{ℕ, ◌<◌}
+use native.Mathlib.Omega.{arith}
+use mathlib.Core.Path.{◌≡◌, refl, sym, ap, ap₂, ◌∙◌, subst}
+use mathlib.Core.Bool.{Bool, true, false, ◌&&◌, ◌||◌, not, false≢true}
+use mathlib.Core.List.{List, [], ◌∷◌}
+use mathlib.Core.Option.{Option, none, some, map}
+use lib.Dec.{leb, ltb, eqb}
+use lib.IntN.{ℤ, pos, negsuc}
+use borrow.Author.Tests.{ltb-true, ltb-false, le-leb, lt-leb, lt-ltb, not-true}
+use Rattle.definitions.specs.Basics.{given◌then◌else◌, ascii, same_name, any, all}
+use Rattle.definitions.specs.Expression.{Side, left, right, no_side, Relation, Expr, column, literal, and, binary, call, other, field, Exprs, nil, cons, Record, Predicate, relation, distance, knn, invert}
+use Rattle.definitions.specs.Encode.{predicate_kind}
+use Rattle.definitions.specs.Literals.{signed, u32, number_u32, is_k, only_k}
+use Rattle.definitions.specs.Leaves.{relation_named, Comparison, compares, no_comparison, comparison, distance_arguments}
+use Rattle.definitions.specs.References.{same_side}
+use Rattle.definitions.specs.Match.{literal_u32, literal_k, literal_bool, Request, ask_relation, ask_distance, ask_knn, ask_nothing, relation_request, dwithin_request, knn_literals, knn_request_by, call_request_by, distance_request, comparison_request, request_by, ArgumentSide, no_columns, all_on, mixed, common_side, is_side, side_of, on_child, Order, left_right, right_left, no_order, order_of, match_relation, store_distance, match_distance, match_knn, match_request, match_leaf_by}
+use Rattle.definitions.specs.Claims.{is_match}
+use Rattle.definitions.specs.Settings.{Settings, good_settings, has_bit, allowed, passing, only_if, match_under}
+use Rattle.definitions.specs.SettingsClaims.{GoodSettings}
+use Rattle.definitions.specs.Verdicts.{Verdict, verdict_byte, reasons, PriceLine, relation_line, distance_line, knn_line, no_line, line_named, line_compared, line_meant, is_no_line, is_distance_line, is_knn_line, with_bound, arguments_compared, arguments_of, argument_is, has_argument, ours_in_small, distance_on_other_side, distance_beside_other, parts_of, some_of_ours, sides_of, none_of, of_both, of_mark, only_of, whole_number, literal_whole, no_number, is_below_one, is_above, below_one, above, no_flag, left_out, lacks, geometry_is, bound_is, knn_literal_is, applies, first_that, matches_as, verdict_under}
+use Rattle.definitions.specs.VerdictClaims.{line_said, VerdictExactly}
+use Rattle.theorems.proofs.Tools.{by-test, and-both}
+use Rattle.theorems.proofs.OnlyIf.{passing-is}
+use Rattle.theorems.proofs.VerdictSides.{and-no, and-yes, or-yes, or-no, not-and, shape, Shape, on_left, on_right, astray, ordered, geometry_reasons, geometries-are}
+
+-- ---- a bound
+
+bound-ok : ArgumentSide → Bool
+bound-ok no_columns = true
+bound-ok (all_on left) = true
+bound-ok (all_on right) = true
+bound-ok (all_on no_side) = false
+bound-ok mixed = false
+
+not-bound : (b : Bool) (s : Side) → is_side left (if b then all_on s else mixed) ≡ false
+    → is_side right (if b then all_on s else mixed) ≡ false
+    → bound-ok (if b then all_on s else mixed) ≡ false
+unfolding is_side bound-ok same_side
+not-bound true left e f = absurd (false≢true (sym e))
+not-bound true right e f = absurd (false≢true (sym f))
+not-bound true no_side e f = refl
+not-bound false s e f = refl
+
+or-two : (a b x : Bool) → (a || b) ≡ true → (a || (b || x)) ≡ true
+or-two true b x e = refl
+or-two false true x e = refl
+or-two false false x e = absurd (false≢true e)
+
+bounds-are : (ss : List Side) (rest : Bool) → (of_both ss || (of_mark ss || rest)) ≡ (not (bound-ok (common_side ss)) || rest)
+unfolding of_both of_mark any common_side bound-ok none_of
+bounds-are [] rest = refl
+bounds-are (s ∷ ss) rest = by-shape (shape (s ∷ ss))
+  where
+    by-shape : Shape (s ∷ ss) → (of_both (s ∷ ss) || (of_mark (s ∷ ss) || rest)) ≡ (not (bound-ok (common_side (s ∷ ss))) || rest)
+    by-shape (on_left e f g c) = rw (f, g, c) refl
+    by-shape (on_right e f g c) = rw (f, g, c) refl
+    by-shape (astray e l r) =
+        or-two (of_both (s ∷ ss)) (of_mark (s ∷ ss)) rest e
+        ∙ sym (ap (λ (b : Bool). not b || rest) (not-bound (all (same_side s) ss) s l r))
+
+-- ---- k and the flags
+
+module _ (greatest : ℕ) (width : greatest < 4294967296) where
+  k-ok : Option ℕ → Bool
+  k-ok none = false
+  k-ok (some n) = leb n greatest
+
+  too-great : (n : ℕ) → leb n greatest ≡ false → k-ok (given (if leb n 4294967295 then some n else none) then only_k else none) ≡ false
+  unfolding k-ok only_k
+  too-great n e =
+      by-test (λ (x : Option ℕ). k-ok (given x then only_k else none) ≡ false) (leb n 4294967295) (some n) none
+      (λ _. by-test (λ (x : Option ℕ). k-ok x ≡ false) (is_k n) (some n) none (λ _. e) (λ _. refl)) (λ _. refl)
+
+  pos-k : (n : ℕ) (rest p q : Bool) → ltb n 1 ≡ p → ltb greatest n ≡ q
+      → (p || (q || rest)) ≡ (not (k-ok (given u32 (pos n) then only_k else none)) || rest)
+  unfolding u32 only_k is_k k-ok
+  pos-k n rest true q e f =
+      rw (le-leb n 4294967295 (omega (arith, ltb-true n 1 e)), lt-leb 1 n (ltb-true n 1 e)) refl
+  pos-k n rest false true e f =
+      sym (ap (λ (b : Bool). not b || rest) (too-great n (lt-leb n greatest (ltb-true greatest n f))))
+  pos-k n rest false false e f =
+      rw (
+        le-leb n 4294967295 (omega (arith, ltb-false greatest n f, width)),
+        le-leb 1 n (ltb-false n 1 e),
+        lt-ltb n 4294967296 (omega (arith, ltb-false greatest n f, width)),
+        le-leb n greatest (ltb-false greatest n f),
+      ) refl
+
+  whole-k : (z : Option ℤ) (rest : Bool)
+      → ((given z then (λ y. false) else true)
+      || ((given z then is_below_one else false) || ((given z then is_above greatest else false) || rest)))
+      ≡ (not (k-ok (given (given z then u32 else none) then only_k else none)) || rest)
+  unfolding is_below_one is_above
+  whole-k none rest = unfold k-ok in refl
+  whole-k (some (negsuc n)) rest = unfold k-ok u32 in refl
+  whole-k (some (pos n)) rest = pos-k n rest (ltb n 1) (ltb greatest n) refl refl
+
+  number-whole : (type v : ℕ) → number_u32 type v ≡ (given whole_number type v then u32 else none)
+  unfolding number_u32 whole_number
+  number-whole type v = cases (eqb type 2 || eqb type 3) (eqb type 4 || eqb type 5)
+    where
+      cases : (p q : Bool)
+          → (if p then u32 (signed v) else if q then u32 (pos v) else none)
+          ≡ (given (if p then some (signed v) else if q then some (pos v) else none) then u32 else none)
+      cases true q = refl
+      cases false true = refl
+      cases false false = refl
+
+  k-reasons-are : (e : Expr) (rest : Bool)
+      → (no_number e || (below_one e || (above greatest e || rest))) ≡ (not (k-ok (literal_k e)) || rest)
+  unfolding no_number below_one above literal_whole literal_k literal_u32
+  k-reasons-are (literal type v) rest =
+      whole-k (whole_number type v) rest
+      ∙ sym (ap (λ (x : Option ℕ). not (k-ok (given x then only_k else none)) || rest) (number-whole type v))
+  k-reasons-are (column i t) rest = unfold k-ok in refl
+  k-reasons-are (and l r) rest = unfold k-ok in refl
+  k-reasons-are (binary o l r) rest = unfold k-ok in refl
+  k-reasons-are (call name es) rest = unfold k-ok in refl
+  k-reasons-are (other tag es) rest = unfold k-ok in refl
+  k-reasons-are (field b t) rest = unfold k-ok in refl
+
+is-flag : Option ℕ → Bool
+is-flag none = false
+is-flag (some n) = true
+
+flag-reason : (e : Expr) → no_flag e ≡ not (is-flag (literal_bool e))
+unfolding no_flag is-flag
+flag-reason e = by-flag (literal_bool e)
+  where
+    by-flag : (x : Option ℕ) → (given x then (λ flag. false) else true) ≡ not (is-flag x)
+    by-flag none = refl
+    by-flag (some n) = refl
+
+-- ---- matches under settings
+
+if-match : (b : Bool) (p : Predicate) → is_match (if b then some p else none) ≡ b
+unfolding is_match
+if-match true p = refl
+if-match false p = refl
+
+-- A match of this kind, or none.
+abbrev Kinded : (kind : ℕ) → Option Predicate → Type 0
+Kinded kind none = Unit {0}
+Kinded kind (some p) = predicate_kind p ≡ kind
+
+-- Where no reason applies exactly when there is a match of this kind, the line is that of the match.
+says : (kind : ℕ) (bad : Bool) (m : Option Predicate) → bad ≡ not (is_match m) → Kinded kind m
+    → (if bad then none else some kind) ≡ map predicate_kind m
+unfolding is_match
+says kind bad none e k = ap (λ (b : Bool). if b then none else some kind) e
+says kind bad (some p) e k = ap (λ (b : Bool). if b then none else some kind) e ∙ ap {B = Option ℕ} some (sym k)
+
+module _ (S : Settings) (good : GoodSettings S) (rs : List Record) where
+  abbrev kept : Option Predicate → Option Predicate
+  kept = passing (allowed S)
+
+  kept-one : (p : Predicate) → is_match (kept (some p)) ≡ allowed S p
+  unfolding passing
+  kept-one p = if-match (allowed S p) p
+
+  abbrev bit : (place : ℕ) → Bool
+  bit place = has_bit place S.kinds
+
+  relation-matches : (t : Relation) (a b : Expr) (o : Order) → is_match (kept (match_relation t a b o)) ≡ (bit 0 && ordered o)
+  unfolding passing allowed match_relation ordered is_match
+  relation-matches t a b left_right = kept-one (relation t a b) ∙ sym (and-yes (bit 0))
+  relation-matches t a b right_left = kept-one (relation (invert t) b a) ∙ sym (and-yes (bit 0))
+  relation-matches t a b no_order = sym (and-no (bit 0))
+
+  stored-matches : (form : ℕ) (s : Side) (a b d : Expr) (o : Order)
+      → is_match (kept (store_distance form s a b d o)) ≡ (bit 1 && (ordered o && true))
+  unfolding passing allowed store_distance ordered is_match
+  stored-matches form s a b d left_right = kept-one (distance form s a b d) ∙ sym (and-yes (bit 1))
+  stored-matches form s a b d right_left = kept-one (distance form s b a d) ∙ sym (and-yes (bit 1))
+  stored-matches form s a b d no_order = sym (and-no (bit 1))
+
+  two-no : (a b : Bool) → false ≡ (a && (b && false))
+  two-no a b = sym (ap (λ (x : Bool). a && x) (and-no b) ∙ and-no a)
+
+  distance-matches : (form : ℕ) (a b d : Expr) (side : ArgumentSide) (o : Order)
+      → is_match (kept (match_distance rs form a b d side o)) ≡ (bit 1 && (ordered o && bound-ok side))
+  unfolding match_distance bound-ok passing is_match
+  distance-matches form a b d no_columns o = stored-matches form no_side a b d o
+  distance-matches form a b d (all_on left) o = stored-matches form left a b _ o
+  distance-matches form a b d (all_on right) o = stored-matches form right a b _ o
+  distance-matches form a b d (all_on no_side) o = two-no (bit 1) (ordered o)
+  distance-matches form a b d mixed o = two-no (bit 1) (ordered o)
+
+  abbrev ok-k : Option ℕ → Bool
+  ok-k = k-ok S.greatest_k good.width
+
+  nearest-matches : (k s t : ℕ) (a b : Expr) (o : Order)
+      → is_match (kept (match_knn k s t a b o)) ≡ (bit 2 && (ordered o && leb k S.greatest_k))
+  unfolding passing allowed match_knn ordered is_match
+  nearest-matches k s t a b left_right = kept-one (knn k s left t a b)
+  nearest-matches k s t a b right_left = kept-one (knn k s right t a b)
+  nearest-matches k s t a b no_order = sym (and-no (bit 2))
+
+  abbrev order_in : (a b : Expr) → Order
+  order_in a b = order_of (side_of rs a) (side_of rs b)
+
+  knn-matches : (k s t : Option ℕ) (a b : Expr)
+      → is_match (kept (match_request rs (knn_literals k s t a b)))
+      ≡ (bit 2 && (ordered (order_in a b) && (ok-k k && (is-flag s && is-flag t))))
+  unfolding knn_literals match_request k-ok is-flag passing is_match
+  knn-matches none s t a b = two-no (bit 2) (ordered (order_in a b))
+  knn-matches (some k) none t a b =
+      two-no (bit 2) (ordered (order_in a b))
+      ∙ ap (λ (x : Bool). bit 2 && (ordered (order_in a b) && x)) (sym (and-no (leb k S.greatest_k)))
+  knn-matches (some k) (some s) none a b =
+      two-no (bit 2) (ordered (order_in a b))
+      ∙ ap (λ (x : Bool). bit 2 && (ordered (order_in a b) && x)) (sym (and-no (leb k S.greatest_k)))
+  knn-matches (some k) (some s) (some t) a b =
+      nearest-matches k s t _ _ (order_in a b)
+      ∙ ap (λ (x : Bool). bit 2 && (ordered (order_in a b) && x)) (sym (and-yes (leb k S.greatest_k)))
+
+  -- ---- the reasons of a leaf by its line and its arguments; `w` is what else is known of one that is meant for no line
+
+  abbrev bad : (w x y z : Bool) → PriceLine → Exprs → Bool
+  bad w x y z line es =
+      (is_no_line line && w) || ((is_no_line line && x) || ((is_no_line line && y) || ((is_no_line line && z) || (is_no_line line ||
+      (left_out S line || (lacks line es || ((is_knn_line line && has_argument 5 es) ||
+      (geometry_is rs line es 0 none_of || (geometry_is rs line es 0 of_both || (geometry_is rs line es 0 of_mark ||
+      (geometry_is rs line es 1 none_of || (geometry_is rs line es 1 of_both || (geometry_is rs line es 1 of_mark ||
+      ((geometry_is rs line es 0 (only_of left) && geometry_is rs line es 1 (only_of left)) ||
+      ((geometry_is rs line es 0 (only_of right) && geometry_is rs line es 1 (only_of right)) ||
+      (bound_is rs line es of_both || (bound_is rs line es of_mark ||
+      (knn_literal_is line es 2 no_number || (knn_literal_is line es 2 below_one || (knn_literal_is line es 2 (above S.greatest_k) ||
+      (knn_literal_is line es 3 no_flag || (knn_literal_is line es 4 no_flag || false))))))))))))))))))))))
+
+  bad-applies : (leaf : Expr)
+      → any (applies S rs leaf) reasons
+      ≡ bad (ours_in_small leaf) (distance_on_other_side leaf) (distance_beside_other leaf) (some_of_ours (parts_of leaf)) (line_meant leaf)
+      (arguments_of leaf)
+  unfolding any applies reasons
+  bad-applies leaf = refl
+
+  abbrev sides : Expr → List Side
+  sides = sides_of rs
+
+  geometry-reasons : (a b : Expr) (rest : Bool)
+      → geometry_reasons (sides a) (sides b) rest ≡ (not (ordered (order_in a b)) || rest)
+  unfolding sides_of side_of
+  geometry-reasons a b rest = geometries-are (sides a) (sides b) rest
+
+  bound-reasons : (d : Expr) (rest : Bool)
+      → (of_both (sides d) || (of_mark (sides d) || rest)) ≡ (not (bound-ok (side_of rs d)) || rest)
+  unfolding sides_of side_of
+  bound-reasons d rest = bounds-are (sides d) rest
+
+  -- A relation.
+  relation-bad : (w x y z : Bool) (t : Relation) (es : Exprs)
+      → bad w x y z relation_line es ≡ not (is_match (kept (match_request rs (relation_request (some t) es))))
+  unfolding is_no_line is_knn_line is_distance_line left_out lacks has_argument geometry_is bound_is knn_literal_is argument_is relation_request
+      match_request
+  relation-bad w x y z t nil = unfold passing is_match in or-yes (not (bit 0))
+  relation-bad w x y z t (cons a nil) = unfold passing is_match in or-yes (not (bit 0))
+  relation-bad w x y z t (cons a (cons b more)) =
+      ap (λ (r : Bool). not (bit 0) || r) (geometry-reasons a b false ∙ or-no (not (ordered (order_in a b))))
+      ∙ sym (ap not (relation-matches t _ _ (order_in a b)) ∙ not-and (bit 0) (ordered (order_in a b)))
+
+  -- A distance asks for its first three arguments.
+  unfoldable third : (form : ℕ) → Exprs → Request
+  third form nil = ask_nothing
+  third form (cons a nil) = ask_nothing
+  third form (cons a (cons b nil)) = ask_nothing
+  third form (cons a (cons b (cons d more))) = ask_distance form a b d
+
+  distance-bad : (w x y z : Bool) (form : ℕ) (es : Exprs)
+      → bad w x y z distance_line es ≡ not (is_match (kept (match_request rs (third form es))))
+  unfolding is_no_line is_knn_line is_distance_line left_out lacks has_argument geometry_is bound_is knn_literal_is argument_is third match_request
+  distance-bad w x y z form nil = unfold passing is_match in or-yes (not (bit 1))
+  distance-bad w x y z form (cons a nil) = unfold passing is_match in or-yes (not (bit 1))
+  distance-bad w x y z form (cons a (cons b nil)) = unfold passing is_match in or-yes (not (bit 1))
+  distance-bad w x y z form (cons a (cons b (cons d more))) =
+      ap (λ (r : Bool). not (bit 1) || r) (
+      geometry-reasons a b _
+      ∙ ap (λ (r : Bool). not (ordered (order_in a b)) || r) (bound-reasons d false ∙ or-no (not (bound-ok (side_of rs d))))
+      ∙ sym (not-and (ordered (order_in a b)) (bound-ok (side_of rs d)))
+      )
+      ∙ sym (ap not (distance-matches form _ _ d (side_of rs d) (order_in a b))
+      ∙ not-and (bit 1) (ordered (order_in a b) && bound-ok (side_of rs d)))
+
+  -- A KNN.
+  knn-chain : (o k s t : Bool) → (not o || (not k || (not s || (not t || false)))) ≡ not (o && (k && (s && t)))
+  knn-chain false k s t = refl
+  knn-chain true false s t = refl
+  knn-chain true true false t = refl
+  knn-chain true true true false = refl
+  knn-chain true true true true = refl
+
+  abbrev k_reasons : Expr → Bool → Bool
+  k_reasons k rest = no_number k || (below_one k || (above S.greatest_k k || rest))
+
+  literals-bad : (a b k : Expr) (s t : Option ℕ) (x y : Bool) → x ≡ not (is-flag s) → y ≡ not (is-flag t)
+      → (not (bit 2) || geometry_reasons (sides a) (sides b) (k_reasons k (x || (y || false))))
+      ≡ not (is_match (kept (match_request rs (knn_literals (literal_k k) s t a b))))
+  literals-bad a b k s t x y e f =
+      let o : Bool = ordered (order_in a b) in
+      let n : Bool = ok-k (literal_k k) in
+      ap (λ (r : Bool). not (bit 2) || r) (
+      geometry-reasons a b (k_reasons k (x || (y || false)))
+      ∙ ap (λ (r : Bool). not o || r) (
+      k-reasons-are S.greatest_k good.width k (x || (y || false))
+      ∙ ap₂ (λ (c d : Bool). not n || (c || (d || false))) e f
+      )
+      ∙ knn-chain o n (is-flag s) (is-flag t)
+      )
+      ∙ sym (ap not (knn-matches (literal_k k) s t a b) ∙ not-and (bit 2) (o && (n && (is-flag s && is-flag t))))
+
+  default-fits : leb S.default_k S.greatest_k ≡ true
+  unfolding good_settings
+  default-fits =
+      (and-both (leb 1 S.default_k) _ (and-both (leb S.kinds 7) _ (and-both (leb 1 S.kinds) _ good.good).1).1).1
+
+  knn-bad : (w x y z : Bool) (es : Exprs)
+      → bad w x y z knn_line es ≡ not (is_match (kept (match_request rs (knn_request_by S.default_k es))))
+  unfolding is_no_line is_knn_line is_distance_line left_out lacks has_argument geometry_is bound_is knn_literal_is argument_is knn_request_by
+  knn-bad w x y z nil = unfold match_request passing is_match in or-yes (not (bit 2))
+  knn-bad w x y z (cons a nil) = unfold match_request passing is_match in or-yes (not (bit 2))
+  knn-bad w x y z (cons a (cons b nil)) = unfold match_request in
+      (ap (λ (r : Bool). not (bit 2) || r) (geometry-reasons a b false ∙ or-no (not (ordered (order_in a b))))
+      ∙ sym (ap not (nearest-matches S.default_k 0 2 (on_child rs a) (on_child rs b) (order_in a b)
+      ∙ ap (λ (c : Bool). bit 2 && (ordered (order_in a b) && c)) default-fits
+      ∙ ap (λ (c : Bool). bit 2 && c) (and-yes (ordered (order_in a b))))
+      ∙ not-and (bit 2) (ordered (order_in a b))))
+  knn-bad w x y z (cons a (cons b (cons k nil))) = unfold is-flag in literals-bad a b k (some 0) (some 2) false false refl refl
+  knn-bad w x y z (cons a (cons b (cons k (cons s nil)))) =
+      literals-bad a b k (literal_bool s) (some 2) (no_flag s) false (flag-reason s) (unfold is-flag in refl)
+  knn-bad w x y z (cons a (cons b (cons k (cons s (cons t nil))))) =
+      literals-bad a b k (literal_bool s) (literal_bool t) (no_flag s) (no_flag t) (flag-reason s) (flag-reason t)
+  knn-bad w x y z (cons a (cons b (cons k (cons s (cons t (cons u more)))))) =
+      unfold match_request passing is_match in or-yes (not (bit 2))
+
+  -- One that is meant for no line.
+  none-bad : (w x y z : Bool) (es : Exprs) → bad w x y z no_line es ≡ true
+  unfolding is_no_line
+  none-bad true x y z es = refl
+  none-bad false true y z es = refl
+  none-bad false false true z es = refl
+  none-bad false false false true es = refl
+  none-bad false false false false es = refl
+
+  -- ---- what is asked for is of one kind
+
+  abbrev AsksFor : (kind : ℕ) → Request → Type 0
+  AsksFor kind (ask_relation t a b) = 0x11 ≡ kind
+  AsksFor kind (ask_distance form a b d) = 0x12 ≡ kind
+  AsksFor kind (ask_knn k s t a b) = 0x13 ≡ kind
+  AsksFor kind ask_nothing = Unit {0}
+
+  relation-kinded : (kind : ℕ) (t : Relation) (a b : Expr) (o : Order) → 0x11 ≡ kind → Kinded kind (match_relation t a b o)
+  unfolding match_relation predicate_kind
+  relation-kinded kind t a b left_right e = e
+  relation-kinded kind t a b right_left e = e
+  relation-kinded kind t a b no_order e = tt
+
+  stored-kinded : (kind form : ℕ) (s : Side) (a b d : Expr) (o : Order) → 0x12 ≡ kind → Kinded kind (store_distance form s a b d o)
+  unfolding store_distance predicate_kind
+  stored-kinded kind form s a b d left_right e = e
+  stored-kinded kind form s a b d right_left e = e
+  stored-kinded kind form s a b d no_order e = tt
+
+  distance-kinded : (kind form : ℕ) (a b d : Expr) (side : ArgumentSide) (o : Order) → 0x12 ≡ kind
+      → Kinded kind (match_distance rs form a b d side o)
+  unfolding match_distance
+  distance-kinded kind form a b d no_columns o e = stored-kinded kind form no_side a b d o e
+  distance-kinded kind form a b d (all_on left) o e = stored-kinded kind form left a b _ o e
+  distance-kinded kind form a b d (all_on right) o e = stored-kinded kind form right a b _ o e
+  distance-kinded kind form a b d (all_on no_side) o e = tt
+  distance-kinded kind form a b d mixed o e = tt
+
+  knn-kinded : (kind k s t : ℕ) (a b : Expr) (o : Order) → 0x13 ≡ kind → Kinded kind (match_knn k s t a b o)
+  unfolding match_knn predicate_kind
+  knn-kinded kind k s t a b left_right e = e
+  knn-kinded kind k s t a b right_left e = e
+  knn-kinded kind k s t a b no_order e = tt
+
+  kinded : (kind : ℕ) (q : Request) → AsksFor kind q → Kinded kind (kept (match_request rs q))
+  unfolding match_request
+  kinded kind q h = passing-is (allowed S) (Kinded kind) tt (match_request rs q) (by-request q h)
+    where
+      by-request : (q : Request) → AsksFor kind q → Kinded kind (match_request rs q)
+      by-request (ask_relation t a b) e = relation-kinded kind t _ _ _ e
+      by-request (ask_distance form a b d) e = distance-kinded kind form _ _ d _ _ e
+      by-request (ask_knn k s t a b) e = knn-kinded kind k s t _ _ _ e
+      by-request ask_nothing e = tt
+
+  relation-asks : (t : Relation) (es : Exprs) → AsksFor 0x11 (relation_request (some t) es)
+  unfolding relation_request
+  relation-asks t nil = tt
+  relation-asks t (cons a nil) = tt
+  relation-asks t (cons a (cons b more)) = refl
+
+  third-asks : (form : ℕ) (es : Exprs) → AsksFor 0x12 (third form es)
+  unfolding third
+  third-asks form nil = tt
+  third-asks form (cons a nil) = tt
+  third-asks form (cons a (cons b nil)) = tt
+  third-asks form (cons a (cons b (cons d more))) = refl
+
+  literals-ask : (k s t : Option ℕ) (a b : Expr) → AsksFor 0x13 (knn_literals k s t a b)
+  unfolding knn_literals
+  literals-ask none s t a b = tt
+  literals-ask (some k) none t a b = tt
+  literals-ask (some k) (some s) none a b = tt
+  literals-ask (some k) (some s) (some t) a b = refl
+
+  knn-asks : (d : ℕ) (es : Exprs) → AsksFor 0x13 (knn_request_by d es)
+  unfolding knn_request_by
+  knn-asks d nil = tt
+  knn-asks d (cons a nil) = tt
+  knn-asks d (cons a (cons b nil)) = refl
+  knn-asks d (cons a (cons b (cons k nil))) = literals-ask (literal_k k) _ _ a b
+  knn-asks d (cons a (cons b (cons k (cons s nil)))) = literals-ask (literal_k k) _ _ a b
+  knn-asks d (cons a (cons b (cons k (cons s (cons t nil))))) = literals-ask (literal_k k) _ _ a b
+  knn-asks d (cons a (cons b (cons k (cons s (cons t (cons u more)))))) = tt
+
+  -- ---- a leaf
+
+  -- What is to be shown of a leaf that is meant for a line, has these arguments and asks for this.
+  abbrev Said : (w x y z : Bool) → PriceLine → Exprs → Request → Type 0
+  Said w x y z line es q =
+      (if bad w x y z line es then none else line_said (matches_as line)) ≡ map predicate_kind (kept (match_request rs q))
+
+  module _ (w x y z : Bool) where
+    said-relation : (t : Relation) (es : Exprs) → Said w x y z relation_line es (relation_request (some t) es)
+    unfolding matches_as line_said verdict_byte
+    said-relation t es =
+        says 0x11 _ _ (relation-bad w x y z t es) (kinded 0x11 (relation_request (some t) es) (relation-asks t es))
+
+    said-distance : (form : ℕ) (es : Exprs) → Said w x y z distance_line es (third form es)
+    unfolding matches_as line_said verdict_byte
+    said-distance form es = says 0x12 _ _ (distance-bad w x y z form es) (kinded 0x12 (third form es) (third-asks form es))
+
+    said-knn : (es : Exprs) → Said w x y z knn_line es (knn_request_by S.default_k es)
+    unfolding matches_as line_said verdict_byte
+    said-knn es =
+        says 0x13 _ _ (knn-bad w x y z es) (kinded 0x13 (knn_request_by S.default_k es) (knn-asks S.default_k es))
+
+    said-nothing : (es : Exprs) → Said w x y z no_line es ask_nothing
+    unfolding match_request passing
+    said-nothing es = ap (λ (b : Bool). if b then none else line_said (matches_as no_line)) (none-bad w x y z es)
+
+    dwithin-third : (es : Exprs) → third 0 es ≡ dwithin_request es
+    unfolding third dwithin_request
+    dwithin-third nil = refl
+    dwithin-third (cons a nil) = refl
+    dwithin-third (cons a (cons b nil)) = refl
+    dwithin-third (cons a (cons b (cons d more))) = refl
+
+    bound-third : (form : ℕ) (d : Expr) (es : Exprs) → third form (with_bound d es) ≡ distance_request form d (some es)
+    unfolding third with_bound distance_request
+    bound-third form d nil = refl
+    bound-third form d (cons a nil) = refl
+    bound-third form d (cons a (cons b more)) = refl
+
+    said-call : (name : List ℕ) (es : Exprs) → Said w x y z (line_named name) es (call_request_by S.default_k name es)
+    unfolding line_named call_request_by
+    said-call name es = cases (same_name name (ascii "st_knn")) (same_name name (ascii "st_dwithin")) (relation_named name)
+      where
+        none-asked : Said w x y z no_line es (relation_request none es)
+        none-asked = unfold relation_request in said-nothing es
+
+        cases : (p q : Bool) (t : Option Relation)
+            → Said w x y z (if p then knn_line else if q then distance_line else given t then (λ type. relation_line) else no_line) es
+            (if p then knn_request_by S.default_k es else if q then dwithin_request es else relation_request t es)
+        cases true q t = said-knn es
+        cases false true t = subst (Said w x y z distance_line es) (dwithin-third es) (said-distance 0 es)
+        cases false false (some t) = said-relation t es
+        cases false false none = none-asked
+
+    said-compared : (form : ℕ) (c : Comparison) → Said w x y z (line_compared c) (arguments_compared c) (comparison_request form c)
+    unfolding line_compared arguments_compared comparison_request
+    said-compared form no_comparison = said-nothing nil
+    said-compared form (compares measured d) = by-arguments (distance_arguments measured)
+      where
+        none-asked : Said w x y z no_line nil (distance_request form d none)
+        none-asked = unfold distance_request in said-nothing nil
+
+        by-arguments : (m : Option Exprs)
+            → Said w x y z (given m then (λ es. distance_line) else no_line) (given m then with_bound d else nil) (distance_request form d m)
+        by-arguments none = none-asked
+        by-arguments (some es) =
+            subst (Said w x y z distance_line (with_bound d es)) (bound-third form d es) (said-distance form (with_bound d es))
+
+    said-leaf : (e : Expr) → Said w x y z (line_meant e) (arguments_of e) (request_by S.default_k e)
+    unfolding line_meant arguments_of request_by
+    said-leaf (column i t) = said-nothing nil
+    said-leaf (literal type v) = said-nothing nil
+    said-leaf (and l r) = said-nothing nil
+    said-leaf (binary o l r) = said-compared o (comparison o l r)
+    said-leaf (call name es) = said-call name es
+    said-leaf (other tag es) = said-nothing nil
+    said-leaf (field b t) = said-nothing nil
+
+-- ---- the verdict
+
+-- Whether a verdict is a reason.
+abbrev pub is_reason : Verdict → Bool
+is_reason v = not (leb (verdict_byte v) 0x13)
+
+reason-says : (v : Verdict) → is_reason v ≡ true → line_said v ≡ none
+unfolding line_said
+reason-says v e = ap (λ (b : Bool). if b then some (verdict_byte v) else none) (not-true (leb (verdict_byte v) 0x13) e)
+
+by-head : (test : Verdict → Bool) (last v : Verdict) (vs : List Verdict) (b : Bool) → line_said v ≡ none
+    → line_said (first_that test last vs) ≡ (if any test vs then none else line_said last)
+    → line_said (if b then v else first_that test last vs) ≡ (if b || any test vs then none else line_said last)
+by-head test last v vs true e h = e
+by-head test last v vs false e h = h
+
+pub first-said : (test : Verdict → Bool) (last : Verdict) (vs : List Verdict) → all is_reason vs ≡ true
+    → line_said (first_that test last vs) ≡ (if any test vs then none else line_said last)
+unfolding first_that any all
+first-said test last [] h = refl
+first-said test last (v ∷ vs) h =
+    let both : (is_reason v ≡ true) × (all is_reason vs ≡ true) = and-both (is_reason v) (all is_reason vs) h in
+    by-head test last v vs (test v) (reason-says v both.0) (first-said test last vs both.1)
+
+pub reasons-are : all is_reason reasons ≡ true
+unfolding all reasons verdict_byte
+reasons-are = refl
+
+pub verdict-exactly-holds : VerdictExactly
+unfolding verdict_under match_under only_if match_leaf_by
+verdict-exactly-holds S good rs leaf =
+    first-said (applies S rs leaf) (matches_as (line_meant leaf)) reasons reasons-are
+    ∙ ap (λ (b : Bool). if b then none else line_said (matches_as (line_meant leaf))) (bad-applies S good rs leaf)
+    ∙ said-leaf S good rs (ours_in_small leaf) (distance_on_other_side leaf) (distance_beside_other leaf) (some_of_ours (parts_of leaf)) leaf
