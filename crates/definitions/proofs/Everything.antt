@@ -183,10 +183,10 @@ unfolding Option.or_else Verdicts.verdict_byte Verdicts.reasons Verdicts.line_na
     Verdicts.measured_other_side Verdicts.measured_beside Verdicts.distance_on_other_side Verdicts.distance_beside_other Verdicts.parts_of
     Verdicts.some_of_ours Verdicts.sides_of Verdicts.none_of Verdicts.of_both Verdicts.of_mark Verdicts.only_of Verdicts.whole_number
     Verdicts.literal_whole Verdicts.no_number Verdicts.is_below_one Verdicts.is_above Verdicts.below_one Verdicts.above Verdicts.no_flag
-    Verdicts.left_out Verdicts.lacks Verdicts.geometry_is Verdicts.bound_is Verdicts.knn_literal_is Verdicts.applies Verdicts.first_that
-    Verdicts.matches_as Verdicts.verdict_under Verdicts.verdicts_under Verdicts.verdict_bytes Verdicts.one_on Verdicts.first_passing
-    Verdicts.named_by Verdicts.bill_number Verdicts.explained Verdicts.new_verdicts Verdicts.finish_explain Verdicts.explain
-    Verdicts.exchange_verdict
+    Verdicts.left_out Verdicts.lacks Verdicts.geometry_is Verdicts.bound_is Verdicts.knn_literal_is Verdicts.applies_by Verdicts.applies
+    Verdicts.first_that Verdicts.matches_as Verdicts.verdict_under Verdicts.verdicts_under Verdicts.verdict_bytes Verdicts.one_on
+    Verdicts.first_passing Verdicts.named_by Verdicts.bill_number Verdicts.explained Verdicts.new_verdicts Verdicts.finish_explain
+    Verdicts.explain Verdicts.exchange_verdict
 verdicts = 0
 
 unfoldable pub everything : ℕ

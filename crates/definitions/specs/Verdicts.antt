@@ -285,50 +285,52 @@ bound_is records line arguments test = is_distance_line line && argument_is 2 (�
 unfoldable pub knn_literal_is : PriceLine → Exprs → (place : ℕ) → (Expr → Bool) → Bool
 knn_literal_is line arguments place test = is_knn_line line && argument_is place test arguments
 
--- Whether a reason applies to a leaf, whatever other reasons do. (A match is no reason.)
-unfoldable pub applies : Settings → List Record → (leaf : Expr) → (reason : Verdict) → Bool
-applies S records leaf as_relation = false
-applies S records leaf as_distance = false
-applies S records leaf as_knn = false
+-- Whether a reason applies to a leaf that is meant for a line and has these arguments, whatever other reasons do. (A match is no reason.)
+unfoldable pub applies_by : Settings → List Record → (leaf : Expr) → PriceLine → (arguments : Exprs) → (reason : Verdict) → Bool
+applies_by S records leaf line arguments as_relation = false
+applies_by S records leaf line arguments as_distance = false
+applies_by S records leaf line arguments as_knn = false
 -- It is meant for no line: but it would be in small letters,
-applies S records leaf other_case = is_no_line (line_meant leaf) && ours_in_small leaf
+applies_by S records leaf line arguments other_case = is_no_line line && ours_in_small leaf
 -- or if `st_distance` stood on the side that is looked at,
-applies S records leaf other_side = is_no_line (line_meant leaf) && distance_on_other_side leaf
+applies_by S records leaf line arguments other_side = is_no_line line && distance_on_other_side leaf
 -- or beside <, <=, > or >=,
-applies S records leaf other_operator = is_no_line (line_meant leaf) && distance_beside_other leaf
+applies_by S records leaf line arguments other_operator = is_no_line line && distance_beside_other leaf
 -- or it is an OR, a NOT or another expression with a leaf that would be directly below it,
-applies S records leaf inside_another = is_no_line (line_meant leaf) && some_of_ours (parts_of leaf)
+applies_by S records leaf line arguments inside_another = is_no_line line && some_of_ours (parts_of leaf)
 -- or whatever else.
-applies S records leaf nothing_of_ours = is_no_line (line_meant leaf)
+applies_by S records leaf line arguments nothing_of_ours = is_no_line line
 -- The settings leave its kind out.
-applies S records leaf kind_left_out = left_out S (line_meant leaf)
+applies_by S records leaf line arguments kind_left_out = left_out S line
 -- It has too few arguments, or as a KNN a sixth.
-applies S records leaf too_few_arguments = lacks (line_meant leaf) (arguments_of leaf)
-applies S records leaf too_many_arguments = is_knn_line (line_meant leaf) && has_argument 5 (arguments_of leaf)
+applies_by S records leaf line arguments too_few_arguments = lacks line arguments
+applies_by S records leaf line arguments too_many_arguments = is_knn_line line && has_argument 5 arguments
 -- Its first geometry has no column, or columns of both children, or a mark column;
-applies S records leaf first_without_columns = geometry_is records (line_meant leaf) (arguments_of leaf) 0 none_of
-applies S records leaf first_of_both = geometry_is records (line_meant leaf) (arguments_of leaf) 0 of_both
-applies S records leaf first_with_mark = geometry_is records (line_meant leaf) (arguments_of leaf) 0 of_mark
+applies_by S records leaf line arguments first_without_columns = geometry_is records line arguments 0 none_of
+applies_by S records leaf line arguments first_of_both = geometry_is records line arguments 0 of_both
+applies_by S records leaf line arguments first_with_mark = geometry_is records line arguments 0 of_mark
 -- its second;
-applies S records leaf second_without_columns = geometry_is records (line_meant leaf) (arguments_of leaf) 1 none_of
-applies S records leaf second_of_both = geometry_is records (line_meant leaf) (arguments_of leaf) 1 of_both
-applies S records leaf second_with_mark = geometry_is records (line_meant leaf) (arguments_of leaf) 1 of_mark
+applies_by S records leaf line arguments second_without_columns = geometry_is records line arguments 1 none_of
+applies_by S records leaf line arguments second_of_both = geometry_is records line arguments 1 of_both
+applies_by S records leaf line arguments second_with_mark = geometry_is records line arguments 1 of_mark
 -- or both are of one and the same child.
-applies S records leaf both_left =
-    geometry_is records (line_meant leaf) (arguments_of leaf) 0 (only_of left)
-    && geometry_is records (line_meant leaf) (arguments_of leaf) 1 (only_of left)
-applies S records leaf both_right =
-    geometry_is records (line_meant leaf) (arguments_of leaf) 0 (only_of right)
-    && geometry_is records (line_meant leaf) (arguments_of leaf) 1 (only_of right)
+applies_by S records leaf line arguments both_left =
+    geometry_is records line arguments 0 (only_of left) && geometry_is records line arguments 1 (only_of left)
+applies_by S records leaf line arguments both_right =
+    geometry_is records line arguments 0 (only_of right) && geometry_is records line arguments 1 (only_of right)
 -- Its bound has columns of both children, or a mark column.
-applies S records leaf bound_of_both = bound_is records (line_meant leaf) (arguments_of leaf) of_both
-applies S records leaf bound_with_mark = bound_is records (line_meant leaf) (arguments_of leaf) of_mark
+applies_by S records leaf line arguments bound_of_both = bound_is records line arguments of_both
+applies_by S records leaf line arguments bound_with_mark = bound_is records line arguments of_mark
 -- Its k is no whole-number literal, or below 1, or above the greatest; a flag is no Boolean literal.
-applies S records leaf k_no_number = knn_literal_is (line_meant leaf) (arguments_of leaf) 2 no_number
-applies S records leaf k_below_one = knn_literal_is (line_meant leaf) (arguments_of leaf) 2 below_one
-applies S records leaf k_above_greatest = knn_literal_is (line_meant leaf) (arguments_of leaf) 2 (above S.greatest_k)
-applies S records leaf spheroid_no_flag = knn_literal_is (line_meant leaf) (arguments_of leaf) 3 no_flag
-applies S records leaf ties_no_flag = knn_literal_is (line_meant leaf) (arguments_of leaf) 4 no_flag
+applies_by S records leaf line arguments k_no_number = knn_literal_is line arguments 2 no_number
+applies_by S records leaf line arguments k_below_one = knn_literal_is line arguments 2 below_one
+applies_by S records leaf line arguments k_above_greatest = knn_literal_is line arguments 2 (above S.greatest_k)
+applies_by S records leaf line arguments spheroid_no_flag = knn_literal_is line arguments 3 no_flag
+applies_by S records leaf line arguments ties_no_flag = knn_literal_is line arguments 4 no_flag
+
+-- Whether a reason applies to a leaf.
+unfoldable pub applies : Settings → List Record → (leaf : Expr) → (reason : Verdict) → Bool
+applies S records leaf = applies_by S records leaf (line_meant leaf) (arguments_of leaf)
 
 -- ---- the verdict
 

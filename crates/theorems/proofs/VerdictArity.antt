@@ -7,7 +7,7 @@ use lib.Dec.{leb}
 use Rattle.definitions.specs.Basics.{given◌then◌else◌, ascii, same_name}
 use Rattle.definitions.specs.Expression.{Relation, Expr, column, literal, and, binary, call, other, field, Exprs, nil, cons, count}
 use Rattle.definitions.specs.Leaves.{relation_named, Comparison, compares, no_comparison, comparison, distance_arguments, relation_arity, call_arity, distance_arity, comparison_arity, leaf_arity}
-use Rattle.definitions.specs.Verdicts.{PriceLine, relation_line, distance_line, knn_line, no_line, line_named, line_compared, line_meant, with_bound, arguments_compared, arguments_of, argument_is, has_argument, lacks, applies}
+use Rattle.definitions.specs.Verdicts.{PriceLine, relation_line, distance_line, knn_line, no_line, line_named, line_compared, line_meant, with_bound, arguments_compared, arguments_of, argument_is, has_argument, lacks, applies_by, applies}
 use Rattle.definitions.specs.VerdictClaims.{OnlyKnnTooFew}
 
 -- What is there is not lacking.
@@ -69,5 +69,5 @@ by-leaf (other tag es) e f = absurd (false≢true (unfold lacks in f))
 by-leaf (field b t) e f = absurd (false≢true (unfold lacks in f))
 
 pub only-knn-holds : OnlyKnnTooFew
-unfolding applies
+unfolding applies applies_by
 only-knn-holds S records leaf = by-leaf leaf

@@ -3,7 +3,7 @@ use Rattle.std.specs.Prelude.{if◌then◌else◌}
 use Prim.Native.Nat.{ℕ, ◌<◌}
 use native.Mathlib.Omega.{arith}
 use mathlib.Core.Path.{◌≡◌, refl, sym, ap, ap₂, ◌∙◌, subst}
-use mathlib.Core.Bool.{Bool, true, false, ◌&&◌, ◌||◌, not, false≢true}
+use mathlib.Core.Bool.{Bool, true, false, ◌&&◌, ◌||◌, not, false≢true, and-false, and-true, or-true, or-false}
 use mathlib.Core.List.{List, [], ◌∷◌}
 use mathlib.Core.Option.{Option, none, some, map}
 use lib.Dec.{leb, ltb, eqb}
@@ -19,11 +19,11 @@ use Rattle.definitions.specs.Match.{literal_u32, literal_k, literal_bool, Reques
 use Rattle.definitions.specs.Claims.{is_match}
 use Rattle.definitions.specs.Settings.{Settings, good_settings, has_bit, allowed, passing, only_if, match_under}
 use Rattle.definitions.specs.SettingsClaims.{GoodSettings}
-use Rattle.definitions.specs.Verdicts.{Verdict, verdict_byte, reasons, PriceLine, relation_line, distance_line, knn_line, no_line, line_named, line_compared, line_meant, is_no_line, is_distance_line, is_knn_line, with_bound, arguments_compared, arguments_of, argument_is, has_argument, ours_in_small, distance_on_other_side, distance_beside_other, parts_of, some_of_ours, sides_of, none_of, of_both, of_mark, only_of, whole_number, literal_whole, no_number, is_below_one, is_above, below_one, above, no_flag, left_out, lacks, geometry_is, bound_is, knn_literal_is, applies, first_that, matches_as, verdict_under}
+use Rattle.definitions.specs.Verdicts.{Verdict, verdict_byte, reasons, PriceLine, relation_line, distance_line, knn_line, no_line, line_named, line_compared, line_meant, is_no_line, is_distance_line, is_knn_line, with_bound, arguments_compared, arguments_of, argument_is, has_argument, sides_of, none_of, of_both, of_mark, whole_number, literal_whole, no_number, is_below_one, is_above, below_one, above, no_flag, left_out, lacks, geometry_is, bound_is, knn_literal_is, applies_by, applies, first_that, matches_as, verdict_under}
 use Rattle.definitions.specs.VerdictClaims.{line_said, VerdictExactly}
 use Rattle.theorems.proofs.Tools.{by-test, and-both}
 use Rattle.theorems.proofs.OnlyIf.{passing-is}
-use Rattle.theorems.proofs.VerdictSides.{and-no, and-yes, or-yes, or-no, not-and, shape, Shape, on_left, on_right, astray, ordered, geometry_reasons, geometries-are}
+use Rattle.theorems.proofs.VerdictSides.{not-and, shape, Shape, on_left, on_right, astray, ordered, geometry_reasons, geometries-are}
 
 -- ---- a bound
 
@@ -133,6 +133,12 @@ flag-reason e = by-flag (literal_bool e)
     by-flag none = refl
     by-flag (some n) = refl
 
+-- What the reasons of a leaf are read by, under one name.
+unfoldable pub reading : ℕ
+unfolding any reasons applies_by is_no_line is_distance_line is_knn_line left_out lacks has_argument argument_is geometry_is bound_is
+    knn_literal_is
+reading = 0
+
 -- ---- matches under settings
 
 if-match : (b : Bool) (p : Predicate) → is_match (if b then some p else none) ≡ b
@@ -152,7 +158,7 @@ unfolding is_match
 says kind bad none e k = ap (λ (b : Bool). if b then none else some kind) e
 says kind bad (some p) e k = ap (λ (b : Bool). if b then none else some kind) e ∙ ap {B = Option ℕ} some (sym k)
 
-module _ (S : Settings) (good : GoodSettings S) (rs : List Record) where
+module _ (S : Settings) (good : GoodSettings S) (rs : List Record) (leaf : Expr) where
   abbrev kept : Option Predicate → Option Predicate
   kept = passing (allowed S)
 
@@ -165,19 +171,19 @@ module _ (S : Settings) (good : GoodSettings S) (rs : List Record) where
 
   relation-matches : (t : Relation) (a b : Expr) (o : Order) → is_match (kept (match_relation t a b o)) ≡ (bit 0 && ordered o)
   unfolding passing allowed match_relation ordered is_match
-  relation-matches t a b left_right = kept-one (relation t a b) ∙ sym (and-yes (bit 0))
-  relation-matches t a b right_left = kept-one (relation (invert t) b a) ∙ sym (and-yes (bit 0))
-  relation-matches t a b no_order = sym (and-no (bit 0))
+  relation-matches t a b left_right = kept-one (relation t a b) ∙ sym (and-true (bit 0))
+  relation-matches t a b right_left = kept-one (relation (invert t) b a) ∙ sym (and-true (bit 0))
+  relation-matches t a b no_order = sym (and-false (bit 0))
 
   stored-matches : (form : ℕ) (s : Side) (a b d : Expr) (o : Order)
       → is_match (kept (store_distance form s a b d o)) ≡ (bit 1 && (ordered o && true))
   unfolding passing allowed store_distance ordered is_match
-  stored-matches form s a b d left_right = kept-one (distance form s a b d) ∙ sym (and-yes (bit 1))
-  stored-matches form s a b d right_left = kept-one (distance form s b a d) ∙ sym (and-yes (bit 1))
-  stored-matches form s a b d no_order = sym (and-no (bit 1))
+  stored-matches form s a b d left_right = kept-one (distance form s a b d) ∙ sym (and-true (bit 1))
+  stored-matches form s a b d right_left = kept-one (distance form s b a d) ∙ sym (and-true (bit 1))
+  stored-matches form s a b d no_order = sym (and-false (bit 1))
 
   two-no : (a b : Bool) → false ≡ (a && (b && false))
-  two-no a b = sym (ap (λ (x : Bool). a && x) (and-no b) ∙ and-no a)
+  two-no a b = sym (ap (λ (x : Bool). a && x) (and-false b) ∙ and-false a)
 
   distance-matches : (form : ℕ) (a b d : Expr) (side : ArgumentSide) (o : Order)
       → is_match (kept (match_distance rs form a b d side o)) ≡ (bit 1 && (ordered o && bound-ok side))
@@ -196,7 +202,7 @@ module _ (S : Settings) (good : GoodSettings S) (rs : List Record) where
   unfolding passing allowed match_knn ordered is_match
   nearest-matches k s t a b left_right = kept-one (knn k s left t a b)
   nearest-matches k s t a b right_left = kept-one (knn k s right t a b)
-  nearest-matches k s t a b no_order = sym (and-no (bit 2))
+  nearest-matches k s t a b no_order = sym (and-false (bit 2))
 
   abbrev order_in : (a b : Expr) → Order
   order_in a b = order_of (side_of rs a) (side_of rs b)
@@ -208,34 +214,19 @@ module _ (S : Settings) (good : GoodSettings S) (rs : List Record) where
   knn-matches none s t a b = two-no (bit 2) (ordered (order_in a b))
   knn-matches (some k) none t a b =
       two-no (bit 2) (ordered (order_in a b))
-      ∙ ap (λ (x : Bool). bit 2 && (ordered (order_in a b) && x)) (sym (and-no (leb k S.greatest_k)))
+      ∙ ap (λ (x : Bool). bit 2 && (ordered (order_in a b) && x)) (sym (and-false (leb k S.greatest_k)))
   knn-matches (some k) (some s) none a b =
       two-no (bit 2) (ordered (order_in a b))
-      ∙ ap (λ (x : Bool). bit 2 && (ordered (order_in a b) && x)) (sym (and-no (leb k S.greatest_k)))
+      ∙ ap (λ (x : Bool). bit 2 && (ordered (order_in a b) && x)) (sym (and-false (leb k S.greatest_k)))
   knn-matches (some k) (some s) (some t) a b =
       nearest-matches k s t _ _ (order_in a b)
-      ∙ ap (λ (x : Bool). bit 2 && (ordered (order_in a b) && x)) (sym (and-yes (leb k S.greatest_k)))
+      ∙ ap (λ (x : Bool). bit 2 && (ordered (order_in a b) && x)) (sym (and-true (leb k S.greatest_k)))
 
-  -- ---- the reasons of a leaf by its line and its arguments; `w` is what else is known of one that is meant for no line
+  -- ---- the reasons of a leaf by its line and its arguments
 
-  abbrev bad : (w x y z : Bool) → PriceLine → Exprs → Bool
-  bad w x y z line es =
-      (is_no_line line && w) || ((is_no_line line && x) || ((is_no_line line && y) || ((is_no_line line && z) || (is_no_line line ||
-      (left_out S line || (lacks line es || ((is_knn_line line && has_argument 5 es) ||
-      (geometry_is rs line es 0 none_of || (geometry_is rs line es 0 of_both || (geometry_is rs line es 0 of_mark ||
-      (geometry_is rs line es 1 none_of || (geometry_is rs line es 1 of_both || (geometry_is rs line es 1 of_mark ||
-      ((geometry_is rs line es 0 (only_of left) && geometry_is rs line es 1 (only_of left)) ||
-      ((geometry_is rs line es 0 (only_of right) && geometry_is rs line es 1 (only_of right)) ||
-      (bound_is rs line es of_both || (bound_is rs line es of_mark ||
-      (knn_literal_is line es 2 no_number || (knn_literal_is line es 2 below_one || (knn_literal_is line es 2 (above S.greatest_k) ||
-      (knn_literal_is line es 3 no_flag || (knn_literal_is line es 4 no_flag || false))))))))))))))))))))))
-
-  bad-applies : (leaf : Expr)
-      → any (applies S rs leaf) reasons
-      ≡ bad (ours_in_small leaf) (distance_on_other_side leaf) (distance_beside_other leaf) (some_of_ours (parts_of leaf)) (line_meant leaf)
-      (arguments_of leaf)
-  unfolding any applies reasons
-  bad-applies leaf = refl
+  -- Whether one applies.
+  abbrev bad : PriceLine → Exprs → Bool
+  bad line es = any (applies_by S rs leaf line es) reasons
 
   abbrev sides : Expr → List Side
   sides = sides_of rs
@@ -251,14 +242,13 @@ module _ (S : Settings) (good : GoodSettings S) (rs : List Record) where
   bound-reasons d rest = bounds-are (sides d) rest
 
   -- A relation.
-  relation-bad : (w x y z : Bool) (t : Relation) (es : Exprs)
-      → bad w x y z relation_line es ≡ not (is_match (kept (match_request rs (relation_request (some t) es))))
-  unfolding is_no_line is_knn_line is_distance_line left_out lacks has_argument geometry_is bound_is knn_literal_is argument_is relation_request
-      match_request
-  relation-bad w x y z t nil = unfold passing is_match in or-yes (not (bit 0))
-  relation-bad w x y z t (cons a nil) = unfold passing is_match in or-yes (not (bit 0))
-  relation-bad w x y z t (cons a (cons b more)) =
-      ap (λ (r : Bool). not (bit 0) || r) (geometry-reasons a b false ∙ or-no (not (ordered (order_in a b))))
+  relation-bad : (t : Relation) (es : Exprs)
+      → bad relation_line es ≡ not (is_match (kept (match_request rs (relation_request (some t) es))))
+  unfolding reading relation_request match_request
+  relation-bad t nil = unfold passing is_match in or-true (not (bit 0))
+  relation-bad t (cons a nil) = unfold passing is_match in or-true (not (bit 0))
+  relation-bad t (cons a (cons b more)) =
+      ap (λ (r : Bool). not (bit 0) || r) (geometry-reasons a b false ∙ or-false (not (ordered (order_in a b))))
       ∙ sym (ap not (relation-matches t _ _ (order_in a b)) ∙ not-and (bit 0) (ordered (order_in a b)))
 
   -- A distance asks for its first three arguments.
@@ -268,16 +258,16 @@ module _ (S : Settings) (good : GoodSettings S) (rs : List Record) where
   third form (cons a (cons b nil)) = ask_nothing
   third form (cons a (cons b (cons d more))) = ask_distance form a b d
 
-  distance-bad : (w x y z : Bool) (form : ℕ) (es : Exprs)
-      → bad w x y z distance_line es ≡ not (is_match (kept (match_request rs (third form es))))
-  unfolding is_no_line is_knn_line is_distance_line left_out lacks has_argument geometry_is bound_is knn_literal_is argument_is third match_request
-  distance-bad w x y z form nil = unfold passing is_match in or-yes (not (bit 1))
-  distance-bad w x y z form (cons a nil) = unfold passing is_match in or-yes (not (bit 1))
-  distance-bad w x y z form (cons a (cons b nil)) = unfold passing is_match in or-yes (not (bit 1))
-  distance-bad w x y z form (cons a (cons b (cons d more))) =
+  distance-bad : (form : ℕ) (es : Exprs)
+      → bad distance_line es ≡ not (is_match (kept (match_request rs (third form es))))
+  unfolding reading third match_request
+  distance-bad form nil = unfold passing is_match in or-true (not (bit 1))
+  distance-bad form (cons a nil) = unfold passing is_match in or-true (not (bit 1))
+  distance-bad form (cons a (cons b nil)) = unfold passing is_match in or-true (not (bit 1))
+  distance-bad form (cons a (cons b (cons d more))) =
       ap (λ (r : Bool). not (bit 1) || r) (
       geometry-reasons a b _
-      ∙ ap (λ (r : Bool). not (ordered (order_in a b)) || r) (bound-reasons d false ∙ or-no (not (bound-ok (side_of rs d))))
+      ∙ ap (λ (r : Bool). not (ordered (order_in a b)) || r) (bound-reasons d false ∙ or-false (not (bound-ok (side_of rs d))))
       ∙ sym (not-and (ordered (order_in a b)) (bound-ok (side_of rs d)))
       )
       ∙ sym (ap not (distance-matches form _ _ d (side_of rs d) (order_in a b))
@@ -315,33 +305,29 @@ module _ (S : Settings) (good : GoodSettings S) (rs : List Record) where
   default-fits =
       (and-both (leb 1 S.default_k) _ (and-both (leb S.kinds 7) _ (and-both (leb 1 S.kinds) _ good.good).1).1).1
 
-  knn-bad : (w x y z : Bool) (es : Exprs)
-      → bad w x y z knn_line es ≡ not (is_match (kept (match_request rs (knn_request_by S.default_k es))))
-  unfolding is_no_line is_knn_line is_distance_line left_out lacks has_argument geometry_is bound_is knn_literal_is argument_is knn_request_by
-  knn-bad w x y z nil = unfold match_request passing is_match in or-yes (not (bit 2))
-  knn-bad w x y z (cons a nil) = unfold match_request passing is_match in or-yes (not (bit 2))
-  knn-bad w x y z (cons a (cons b nil)) = unfold match_request in
-      (ap (λ (r : Bool). not (bit 2) || r) (geometry-reasons a b false ∙ or-no (not (ordered (order_in a b))))
+  knn-bad : (es : Exprs)
+      → bad knn_line es ≡ not (is_match (kept (match_request rs (knn_request_by S.default_k es))))
+  unfolding reading knn_request_by
+  knn-bad nil = unfold match_request passing is_match in or-true (not (bit 2))
+  knn-bad (cons a nil) = unfold match_request passing is_match in or-true (not (bit 2))
+  knn-bad (cons a (cons b nil)) = unfold match_request in
+      (ap (λ (r : Bool). not (bit 2) || r) (geometry-reasons a b false ∙ or-false (not (ordered (order_in a b))))
       ∙ sym (ap not (nearest-matches S.default_k 0 2 (on_child rs a) (on_child rs b) (order_in a b)
       ∙ ap (λ (c : Bool). bit 2 && (ordered (order_in a b) && c)) default-fits
-      ∙ ap (λ (c : Bool). bit 2 && c) (and-yes (ordered (order_in a b))))
+      ∙ ap (λ (c : Bool). bit 2 && c) (and-true (ordered (order_in a b))))
       ∙ not-and (bit 2) (ordered (order_in a b))))
-  knn-bad w x y z (cons a (cons b (cons k nil))) = unfold is-flag in literals-bad a b k (some 0) (some 2) false false refl refl
-  knn-bad w x y z (cons a (cons b (cons k (cons s nil)))) =
+  knn-bad (cons a (cons b (cons k nil))) = unfold is-flag in literals-bad a b k (some 0) (some 2) false false refl refl
+  knn-bad (cons a (cons b (cons k (cons s nil)))) =
       literals-bad a b k (literal_bool s) (some 2) (no_flag s) false (flag-reason s) (unfold is-flag in refl)
-  knn-bad w x y z (cons a (cons b (cons k (cons s (cons t nil))))) =
+  knn-bad (cons a (cons b (cons k (cons s (cons t nil))))) =
       literals-bad a b k (literal_bool s) (literal_bool t) (no_flag s) (no_flag t) (flag-reason s) (flag-reason t)
-  knn-bad w x y z (cons a (cons b (cons k (cons s (cons t (cons u more)))))) =
-      unfold match_request passing is_match in or-yes (not (bit 2))
+  knn-bad (cons a (cons b (cons k (cons s (cons t (cons u more)))))) =
+      unfold match_request passing is_match in or-true (not (bit 2))
 
   -- One that is meant for no line.
-  none-bad : (w x y z : Bool) (es : Exprs) → bad w x y z no_line es ≡ true
-  unfolding is_no_line
-  none-bad true x y z es = refl
-  none-bad false true y z es = refl
-  none-bad false false true z es = refl
-  none-bad false false false true es = refl
-  none-bad false false false false es = refl
+  none-bad : (es : Exprs) → bad no_line es ≡ true
+  unfolding reading
+  none-bad es = simp or-true
 
   -- ---- what is asked for is of one kind
 
@@ -421,80 +407,79 @@ module _ (S : Settings) (good : GoodSettings S) (rs : List Record) where
   -- ---- a leaf
 
   -- What is to be shown of a leaf that is meant for a line, has these arguments and asks for this.
-  abbrev Said : (w x y z : Bool) → PriceLine → Exprs → Request → Type 0
-  Said w x y z line es q =
-      (if bad w x y z line es then none else line_said (matches_as line)) ≡ map predicate_kind (kept (match_request rs q))
+  abbrev Said : PriceLine → Exprs → Request → Type 0
+  Said line es q =
+      (if bad line es then none else line_said (matches_as line)) ≡ map predicate_kind (kept (match_request rs q))
 
-  module _ (w x y z : Bool) where
-    said-relation : (t : Relation) (es : Exprs) → Said w x y z relation_line es (relation_request (some t) es)
-    unfolding matches_as line_said verdict_byte
-    said-relation t es =
-        says 0x11 _ _ (relation-bad w x y z t es) (kinded 0x11 (relation_request (some t) es) (relation-asks t es))
+  said-relation : (t : Relation) (es : Exprs) → Said relation_line es (relation_request (some t) es)
+  unfolding matches_as line_said verdict_byte
+  said-relation t es =
+      says 0x11 _ _ (relation-bad t es) (kinded 0x11 (relation_request (some t) es) (relation-asks t es))
 
-    said-distance : (form : ℕ) (es : Exprs) → Said w x y z distance_line es (third form es)
-    unfolding matches_as line_said verdict_byte
-    said-distance form es = says 0x12 _ _ (distance-bad w x y z form es) (kinded 0x12 (third form es) (third-asks form es))
+  said-distance : (form : ℕ) (es : Exprs) → Said distance_line es (third form es)
+  unfolding matches_as line_said verdict_byte
+  said-distance form es = says 0x12 _ _ (distance-bad form es) (kinded 0x12 (third form es) (third-asks form es))
 
-    said-knn : (es : Exprs) → Said w x y z knn_line es (knn_request_by S.default_k es)
-    unfolding matches_as line_said verdict_byte
-    said-knn es =
-        says 0x13 _ _ (knn-bad w x y z es) (kinded 0x13 (knn_request_by S.default_k es) (knn-asks S.default_k es))
+  said-knn : (es : Exprs) → Said knn_line es (knn_request_by S.default_k es)
+  unfolding matches_as line_said verdict_byte
+  said-knn es =
+      says 0x13 _ _ (knn-bad es) (kinded 0x13 (knn_request_by S.default_k es) (knn-asks S.default_k es))
 
-    said-nothing : (es : Exprs) → Said w x y z no_line es ask_nothing
-    unfolding match_request passing
-    said-nothing es = ap (λ (b : Bool). if b then none else line_said (matches_as no_line)) (none-bad w x y z es)
+  said-nothing : (es : Exprs) → Said no_line es ask_nothing
+  unfolding match_request passing
+  said-nothing es = ap (λ (b : Bool). if b then none else line_said (matches_as no_line)) (none-bad es)
 
-    dwithin-third : (es : Exprs) → third 0 es ≡ dwithin_request es
-    unfolding third dwithin_request
-    dwithin-third nil = refl
-    dwithin-third (cons a nil) = refl
-    dwithin-third (cons a (cons b nil)) = refl
-    dwithin-third (cons a (cons b (cons d more))) = refl
+  dwithin-third : (es : Exprs) → third 0 es ≡ dwithin_request es
+  unfolding third dwithin_request
+  dwithin-third nil = refl
+  dwithin-third (cons a nil) = refl
+  dwithin-third (cons a (cons b nil)) = refl
+  dwithin-third (cons a (cons b (cons d more))) = refl
 
-    bound-third : (form : ℕ) (d : Expr) (es : Exprs) → third form (with_bound d es) ≡ distance_request form d (some es)
-    unfolding third with_bound distance_request
-    bound-third form d nil = refl
-    bound-third form d (cons a nil) = refl
-    bound-third form d (cons a (cons b more)) = refl
+  bound-third : (form : ℕ) (d : Expr) (es : Exprs) → third form (with_bound d es) ≡ distance_request form d (some es)
+  unfolding third with_bound distance_request
+  bound-third form d nil = refl
+  bound-third form d (cons a nil) = refl
+  bound-third form d (cons a (cons b more)) = refl
 
-    said-call : (name : List ℕ) (es : Exprs) → Said w x y z (line_named name) es (call_request_by S.default_k name es)
-    unfolding line_named call_request_by
-    said-call name es = cases (same_name name (ascii "st_knn")) (same_name name (ascii "st_dwithin")) (relation_named name)
-      where
-        none-asked : Said w x y z no_line es (relation_request none es)
-        none-asked = unfold relation_request in said-nothing es
+  said-call : (name : List ℕ) (es : Exprs) → Said (line_named name) es (call_request_by S.default_k name es)
+  unfolding line_named call_request_by
+  said-call name es = cases (same_name name (ascii "st_knn")) (same_name name (ascii "st_dwithin")) (relation_named name)
+    where
+      none-asked : Said no_line es (relation_request none es)
+      none-asked = unfold relation_request in said-nothing es
 
-        cases : (p q : Bool) (t : Option Relation)
-            → Said w x y z (if p then knn_line else if q then distance_line else given t then (λ type. relation_line) else no_line) es
-            (if p then knn_request_by S.default_k es else if q then dwithin_request es else relation_request t es)
-        cases true q t = said-knn es
-        cases false true t = subst (Said w x y z distance_line es) (dwithin-third es) (said-distance 0 es)
-        cases false false (some t) = said-relation t es
-        cases false false none = none-asked
+      cases : (p q : Bool) (t : Option Relation)
+          → Said (if p then knn_line else if q then distance_line else given t then (λ type. relation_line) else no_line) es
+          (if p then knn_request_by S.default_k es else if q then dwithin_request es else relation_request t es)
+      cases true q t = said-knn es
+      cases false true t = subst (Said distance_line es) (dwithin-third es) (said-distance 0 es)
+      cases false false (some t) = said-relation t es
+      cases false false none = none-asked
 
-    said-compared : (form : ℕ) (c : Comparison) → Said w x y z (line_compared c) (arguments_compared c) (comparison_request form c)
-    unfolding line_compared arguments_compared comparison_request
-    said-compared form no_comparison = said-nothing nil
-    said-compared form (compares measured d) = by-arguments (distance_arguments measured)
-      where
-        none-asked : Said w x y z no_line nil (distance_request form d none)
-        none-asked = unfold distance_request in said-nothing nil
+  said-compared : (form : ℕ) (c : Comparison) → Said (line_compared c) (arguments_compared c) (comparison_request form c)
+  unfolding line_compared arguments_compared comparison_request
+  said-compared form no_comparison = said-nothing nil
+  said-compared form (compares measured d) = by-arguments (distance_arguments measured)
+    where
+      none-asked : Said no_line nil (distance_request form d none)
+      none-asked = unfold distance_request in said-nothing nil
 
-        by-arguments : (m : Option Exprs)
-            → Said w x y z (given m then (λ es. distance_line) else no_line) (given m then with_bound d else nil) (distance_request form d m)
-        by-arguments none = none-asked
-        by-arguments (some es) =
-            subst (Said w x y z distance_line (with_bound d es)) (bound-third form d es) (said-distance form (with_bound d es))
+      by-arguments : (m : Option Exprs)
+          → Said (given m then (λ es. distance_line) else no_line) (given m then with_bound d else nil) (distance_request form d m)
+      by-arguments none = none-asked
+      by-arguments (some es) =
+          subst (Said distance_line (with_bound d es)) (bound-third form d es) (said-distance form (with_bound d es))
 
-    said-leaf : (e : Expr) → Said w x y z (line_meant e) (arguments_of e) (request_by S.default_k e)
-    unfolding line_meant arguments_of request_by
-    said-leaf (column i t) = said-nothing nil
-    said-leaf (literal type v) = said-nothing nil
-    said-leaf (and l r) = said-nothing nil
-    said-leaf (binary o l r) = said-compared o (comparison o l r)
-    said-leaf (call name es) = said-call name es
-    said-leaf (other tag es) = said-nothing nil
-    said-leaf (field b t) = said-nothing nil
+  said-leaf : (e : Expr) → Said (line_meant e) (arguments_of e) (request_by S.default_k e)
+  unfolding line_meant arguments_of request_by
+  said-leaf (column i t) = said-nothing nil
+  said-leaf (literal type v) = said-nothing nil
+  said-leaf (and l r) = said-nothing nil
+  said-leaf (binary o l r) = said-compared o (comparison o l r)
+  said-leaf (call name es) = said-call name es
+  said-leaf (other tag es) = said-nothing nil
+  said-leaf (field b t) = said-nothing nil
 
 -- ---- the verdict
 
@@ -525,8 +510,6 @@ unfolding all reasons verdict_byte
 reasons-are = refl
 
 pub verdict-exactly-holds : VerdictExactly
-unfolding verdict_under match_under only_if match_leaf_by
+unfolding verdict_under match_under only_if match_leaf_by applies
 verdict-exactly-holds S good rs leaf =
-    first-said (applies S rs leaf) (matches_as (line_meant leaf)) reasons reasons-are
-    ∙ ap (λ (b : Bool). if b then none else line_said (matches_as (line_meant leaf))) (bad-applies S good rs leaf)
-    ∙ said-leaf S good rs (ours_in_small leaf) (distance_on_other_side leaf) (distance_beside_other leaf) (some_of_ours (parts_of leaf)) leaf
+    first-said (applies S rs leaf) (matches_as (line_meant leaf)) reasons reasons-are ∙ said-leaf S good rs leaf leaf

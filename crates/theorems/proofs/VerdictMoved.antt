@@ -17,7 +17,7 @@ use Rattle.definitions.specs.Good.{InRange, InRangeAll}
 use Rattle.definitions.specs.Logical.{function_name}
 use Rattle.definitions.specs.Merge.{raised, merge_frames}
 use Rattle.definitions.specs.Settings.{Settings}
-use Rattle.definitions.specs.Verdicts.{Verdict, as_relation, as_distance, as_knn, other_case, other_side, other_operator, inside_another, nothing_of_ours, kind_left_out, too_few_arguments, too_many_arguments, first_without_columns, first_of_both, first_with_mark, second_without_columns, second_of_both, second_with_mark, both_left, both_right, bound_of_both, bound_with_mark, k_no_number, k_below_one, k_above_greatest, spheroid_no_flag, ties_no_flag, reasons, PriceLine, relation_line, distance_line, knn_line, no_line, line_compared, line_meant, is_no_line, is_distance_line, is_knn_line, with_bound, arguments_compared, arguments_of, argument_is, has_argument, measured_in_small, ours_in_small, is_distance_call, measured_other_side, measured_beside, distance_on_other_side, distance_beside_other, parts_of, some_of_ours, sides_of, none_of, of_both, of_mark, only_of, literal_whole, no_number, below_one, above, no_flag, lacks, geometry_is, bound_is, knn_literal_is, applies, first_that, matches_as, verdict_under, verdicts_under}
+use Rattle.definitions.specs.Verdicts.{Verdict, as_relation, as_distance, as_knn, other_case, other_side, other_operator, inside_another, nothing_of_ours, kind_left_out, too_few_arguments, too_many_arguments, first_without_columns, first_of_both, first_with_mark, second_without_columns, second_of_both, second_with_mark, both_left, both_right, bound_of_both, bound_with_mark, k_no_number, k_below_one, k_above_greatest, spheroid_no_flag, ties_no_flag, reasons, PriceLine, relation_line, distance_line, knn_line, no_line, line_compared, line_meant, is_no_line, is_distance_line, is_knn_line, with_bound, arguments_compared, arguments_of, argument_is, has_argument, measured_in_small, ours_in_small, is_distance_call, measured_other_side, measured_beside, distance_on_other_side, distance_beside_other, parts_of, some_of_ours, sides_of, none_of, of_both, of_mark, only_of, literal_whole, no_number, below_one, above, no_flag, lacks, geometry_is, bound_is, knn_literal_is, applies_by, applies, first_that, matches_as, verdict_under, verdicts_under}
 use Rattle.definitions.specs.VerdictClaims.{VerdictsMerged}
 use Rattle.theorems.proofs.Cases.{each}
 use Rattle.theorems.proofs.Columns.{map_comparison, comparison-mapped}
@@ -264,49 +264,43 @@ module _ (rs rs' : List Record) (f : ℕ → ℕ) (b : ℕ) (same : (i : ℕ) �
   bound-moved t line es h = ap (λ (x : Bool). is_distance_line line && x) (argument-moved t 2 es h)
 
   module _ (S : Settings) (e : Expr) (range : InRange (index_below b) e) where
-    abbrev in-range : InRangeAll (index_below b) (arguments_of e)
-    in-range = arguments-range b e range
+    by-moved : (line : PriceLine) (es : Exprs) → InRangeAll (index_below b) es → (v : Verdict)
+        → applies_by S rs' (map_columns f e) line (map_columns_all f es) v ≡ applies_by S rs e line es v
+    unfolding applies_by
+    by-moved line es h as_relation = refl
+    by-moved line es h as_distance = refl
+    by-moved line es h as_knn = refl
+    by-moved line es h other_case = ap (λ (x : Bool). is_no_line line && x) (small-mapped f e)
+    by-moved line es h other_side = ap (λ (x : Bool). is_no_line line && x) (side-mapped f e)
+    by-moved line es h other_operator = ap (λ (x : Bool). is_no_line line && x) (beside-mapped f e)
+    by-moved line es h inside_another = ap (λ (x : Bool). is_no_line line && x) (inside-mapped f e)
+    by-moved line es h nothing_of_ours = refl
+    by-moved line es h kind_left_out = refl
+    by-moved line es h too_few_arguments = lacks-mapped f line es
+    by-moved line es h too_many_arguments = ap (λ (x : Bool). is_knn_line line && x) (has-mapped f 5 es)
+    by-moved line es h first_without_columns = geometry-moved none_of line es h 0
+    by-moved line es h first_of_both = geometry-moved of_both line es h 0
+    by-moved line es h first_with_mark = geometry-moved of_mark line es h 0
+    by-moved line es h second_without_columns = geometry-moved none_of line es h 1
+    by-moved line es h second_of_both = geometry-moved of_both line es h 1
+    by-moved line es h second_with_mark = geometry-moved of_mark line es h 1
+    by-moved line es h both_left =
+        ap₂ ◌&&◌ (geometry-moved (only_of left) line es h 0) (geometry-moved (only_of left) line es h 1)
+    by-moved line es h both_right =
+        ap₂ ◌&&◌ (geometry-moved (only_of right) line es h 0) (geometry-moved (only_of right) line es h 1)
+    by-moved line es h bound_of_both = bound-moved of_both line es h
+    by-moved line es h bound_with_mark = bound-moved of_mark line es h
+    by-moved line es h k_no_number = literal-mapped f no_number (no-number-mapped f) line es 2
+    by-moved line es h k_below_one = literal-mapped f below_one (below-mapped f) line es 2
+    by-moved line es h k_above_greatest = literal-mapped f (above S.greatest_k) (above-mapped f S.greatest_k) line es 2
+    by-moved line es h spheroid_no_flag = literal-mapped f no_flag (flag-mapped f) line es 3
+    by-moved line es h ties_no_flag = literal-mapped f no_flag (flag-mapped f) line es 4
 
     applies-moved : (v : Verdict) → applies S rs' (map_columns f e) v ≡ applies S rs e v
     unfolding applies
-    applies-moved as_relation = refl
-    applies-moved as_distance = refl
-    applies-moved as_knn = refl
-    applies-moved other_case = rw (line-mapped f e, small-mapped f e) refl
-    applies-moved other_side = rw (line-mapped f e, side-mapped f e) refl
-    applies-moved other_operator = rw (line-mapped f e, beside-mapped f e) refl
-    applies-moved inside_another = rw (line-mapped f e, inside-mapped f e) refl
-    applies-moved nothing_of_ours = rw (line-mapped f e) refl
-    applies-moved kind_left_out = rw (line-mapped f e) refl
-    applies-moved too_few_arguments = rw (line-mapped f e, leaf-arguments f e) (lacks-mapped f (line_meant e) (arguments_of e))
-    applies-moved too_many_arguments = rw (line-mapped f e, leaf-arguments f e, has-mapped f 5 (arguments_of e)) refl
-    applies-moved first_without_columns =
-        rw (line-mapped f e, leaf-arguments f e) (geometry-moved none_of (line_meant e) (arguments_of e) in-range 0)
-    applies-moved first_of_both = rw (line-mapped f e, leaf-arguments f e) (geometry-moved of_both (line_meant e) (arguments_of e) in-range 0)
-    applies-moved first_with_mark = rw (line-mapped f e, leaf-arguments f e) (geometry-moved of_mark (line_meant e) (arguments_of e) in-range 0)
-    applies-moved second_without_columns =
-        rw (line-mapped f e, leaf-arguments f e) (geometry-moved none_of (line_meant e) (arguments_of e) in-range 1)
-    applies-moved second_of_both = rw (line-mapped f e, leaf-arguments f e) (geometry-moved of_both (line_meant e) (arguments_of e) in-range 1)
-    applies-moved second_with_mark = rw (line-mapped f e, leaf-arguments f e) (geometry-moved of_mark (line_meant e) (arguments_of e) in-range 1)
-    applies-moved both_left = rw (line-mapped f e, leaf-arguments f e) (
-        ap₂ ◌&&◌ (geometry-moved (only_of left) (line_meant e) (arguments_of e) in-range 0)
-        (geometry-moved (only_of left) (line_meant e) (arguments_of e) in-range 1))
-    applies-moved both_right = rw (line-mapped f e, leaf-arguments f e) (
-        ap₂ ◌&&◌ (geometry-moved (only_of right) (line_meant e) (arguments_of e) in-range 0)
-        (geometry-moved (only_of right) (line_meant e) (arguments_of e) in-range 1))
-    applies-moved bound_of_both = rw (line-mapped f e, leaf-arguments f e) (bound-moved of_both (line_meant e) (arguments_of e) in-range)
-    applies-moved bound_with_mark = rw (line-mapped f e, leaf-arguments f e) (bound-moved of_mark (line_meant e) (arguments_of e) in-range)
-    applies-moved k_no_number =
-        rw (line-mapped f e, leaf-arguments f e) (literal-mapped f no_number (no-number-mapped f) (line_meant e) (arguments_of e) 2)
-    applies-moved k_below_one =
-        rw (line-mapped f e, leaf-arguments f e) (literal-mapped f below_one (below-mapped f) (line_meant e) (arguments_of e) 2)
-    applies-moved k_above_greatest =
-        rw (line-mapped f e, leaf-arguments f e)
-        (literal-mapped f (above S.greatest_k) (above-mapped f S.greatest_k) (line_meant e) (arguments_of e) 2)
-    applies-moved spheroid_no_flag =
-        rw (line-mapped f e, leaf-arguments f e) (literal-mapped f no_flag (flag-mapped f) (line_meant e) (arguments_of e) 3)
-    applies-moved ties_no_flag =
-        rw (line-mapped f e, leaf-arguments f e) (literal-mapped f no_flag (flag-mapped f) (line_meant e) (arguments_of e) 4)
+    applies-moved v =
+        ap₂ (λ (line : PriceLine) (es : Exprs). applies_by S rs' (map_columns f e) line es v) (line-mapped f e) (leaf-arguments f e)
+        ∙ by-moved (line_meant e) (arguments_of e) (arguments-range b e range) v
 
     verdict-moved : verdict_under S rs' (map_columns f e) ≡ verdict_under S rs e
     unfolding verdict_under

@@ -1,31 +1,13 @@
 -- Where no reason is given by the columns of two geometries or of a bound, they lie as a match needs them.
 use Rattle.std.specs.Prelude.{if◌then◌else◌}
 use mathlib.Core.Path.{◌≡◌, refl, sym, ap, ap₂, ◌∙◌}
-use mathlib.Core.Bool.{Bool, true, false, ◌&&◌, ◌||◌, not, false≢true}
+use mathlib.Core.Bool.{Bool, true, false, ◌&&◌, ◌||◌, not, false≢true, and-false, or-true}
 use mathlib.Core.List.{List, [], ◌∷◌}
 use Rattle.definitions.specs.Basics.{any, all}
 use Rattle.definitions.specs.Expression.{Side, left, right, no_side}
 use Rattle.definitions.specs.References.{same_side}
 use Rattle.definitions.specs.Match.{all_on, mixed, common_side, is_side, Order, left_right, right_left, no_order, order_of}
 use Rattle.definitions.specs.Verdicts.{none_of, of_both, of_mark, only_of}
-
--- ---- Booleans
-
-pub and-no : (a : Bool) → (a && false) ≡ false
-and-no true = refl
-and-no false = refl
-
-pub and-yes : (a : Bool) → (a && true) ≡ a
-and-yes true = refl
-and-yes false = refl
-
-pub or-yes : (a : Bool) → (a || true) ≡ true
-or-yes true = refl
-or-yes false = refl
-
-pub or-no : (a : Bool) → (a || false) ≡ a
-or-no true = refl
-or-no false = refl
 
 pub not-and : (a b : Bool) → not (a && b) ≡ (not a || not b)
 not-and true b = refl
@@ -42,22 +24,22 @@ unfolding all any same_side
 all-left [] = refl
 all-left (left ∷ ss) = all-left ss
 all-left (right ∷ ss) = refl
-all-left (no_side ∷ ss) = sym (ap not (or-yes (of ss right)))
+all-left (no_side ∷ ss) = sym (ap not (or-true (of ss right)))
 
 all-right : (ss : List Side) → all (same_side right) ss ≡ not (of ss left || of ss no_side)
 unfolding all any same_side
 all-right [] = refl
 all-right (left ∷ ss) = refl
 all-right (right ∷ ss) = all-right ss
-all-right (no_side ∷ ss) = sym (ap not (or-yes (of ss left)))
+all-right (no_side ∷ ss) = sym (ap not (or-true (of ss left)))
 
 -- For a walk that keeps a bit for each side: what is asked of columns, by whether one is left, right, or a mark column.
 pub none-by-bits : (ss : List Side) → none_of ss ≡ not (of ss left || (of ss right || of ss no_side))
 unfolding none_of any same_side
 none-by-bits [] = refl
 none-by-bits (left ∷ ss) = refl
-none-by-bits (right ∷ ss) = sym (ap not (or-yes (of ss left)))
-none-by-bits (no_side ∷ ss) = sym (ap (λ (b : Bool). not (of ss left || b)) (or-yes (of ss right)) ∙ ap not (or-yes (of ss left)))
+none-by-bits (right ∷ ss) = sym (ap not (or-true (of ss left)))
+none-by-bits (no_side ∷ ss) = sym (ap (λ (b : Bool). not (of ss left || b)) (or-true (of ss right)) ∙ ap not (or-true (of ss left)))
 
 if-left : (b : Bool) → is_side left (if b then all_on left else mixed) ≡ b
 unfolding is_side same_side
@@ -78,19 +60,19 @@ pub left-by-bits : (ss : List Side) → only_of left ss ≡ (of ss left && not (
 unfolding only_of common_side any same_side
 left-by-bits [] = unfold is_side in refl
 left-by-bits (left ∷ ss) = if-left (all (same_side left) ss) ∙ all-left ss
-left-by-bits (right ∷ ss) = if-other left right refl (all (same_side right) ss) ∙ sym (and-no (of ss left))
+left-by-bits (right ∷ ss) = if-other left right refl (all (same_side right) ss) ∙ sym (and-false (of ss left))
 left-by-bits (no_side ∷ ss) =
     if-other left no_side refl (all (same_side no_side) ss)
-    ∙ sym (ap (λ (b : Bool). of ss left && not b) (or-yes (of ss right)) ∙ and-no (of ss left))
+    ∙ sym (ap (λ (b : Bool). of ss left && not b) (or-true (of ss right)) ∙ and-false (of ss left))
 
 pub right-by-bits : (ss : List Side) → only_of right ss ≡ (of ss right && not (of ss left || of ss no_side))
 unfolding only_of common_side any same_side
 right-by-bits [] = unfold is_side in refl
-right-by-bits (left ∷ ss) = if-other right left refl (all (same_side left) ss) ∙ sym (and-no (of ss right))
+right-by-bits (left ∷ ss) = if-other right left refl (all (same_side left) ss) ∙ sym (and-false (of ss right))
 right-by-bits (right ∷ ss) = if-right (all (same_side right) ss) ∙ all-right ss
 right-by-bits (no_side ∷ ss) =
     if-other right no_side refl (all (same_side no_side) ss)
-    ∙ sym (ap (λ (b : Bool). of ss right && not b) (or-yes (of ss left)) ∙ and-no (of ss right))
+    ∙ sym (ap (λ (b : Bool). of ss right && not b) (or-true (of ss left)) ∙ and-false (of ss right))
 
 -- What columns with these sides are: all left, all right, or astray.
 pub data Shape (ss : List Side) : Type 0 where
@@ -128,7 +110,7 @@ right-first ss false true e f =
 
 mark-first : (ss : List Side) (b : Bool) → all (same_side no_side) ss ≡ b → Shape (no_side ∷ ss)
 unfolding none_of of_both of_mark common_side is_side any same_side
-mark-first ss b e = astray (or-yes (of ss left && of ss right)) (one left refl b e) (one right refl b e)
+mark-first ss b e = astray (or-true (of ss left && of ss right)) (one left refl b e) (one right refl b e)
   where
     one : (s : Side) → is_side s (all_on no_side) ≡ false → (b : Bool) → all (same_side no_side) ss ≡ b
         → is_side s (if all (same_side no_side) ss then all_on no_side else mixed) ≡ false

@@ -6,7 +6,8 @@ use mathlib.Core.Bool.{Bool, true, false, ◌&&◌, not}
 use mathlib.Core.List.{List}
 use Rattle.definitions.specs.Expression.{Side, left, right, Expr, Exprs, nil, cons, Record}
 use Rattle.definitions.specs.Settings.{Settings, has_bit}
-use Rattle.definitions.specs.Verdicts.{Verdict, as_relation, as_distance, as_knn, other_case, other_side, other_operator, inside_another, nothing_of_ours, kind_left_out, too_few_arguments, too_many_arguments, first_without_columns, first_of_both, first_with_mark, second_without_columns, second_of_both, second_with_mark, both_left, both_right, bound_of_both, bound_with_mark, k_no_number, k_below_one, k_above_greatest, spheroid_no_flag, ties_no_flag, reasons, PriceLine, relation_line, distance_line, knn_line, no_line, line_meant, is_no_line, is_distance_line, is_knn_line, arguments_of, argument_is, has_argument, ours_in_small, distance_on_other_side, distance_beside_other, parts_of, some_of_ours, sides_of, none_of, of_both, of_mark, only_of, no_number, below_one, above, no_flag, left_out, lacks, geometry_is, bound_is, knn_literal_is, applies, first_that, matches_as, verdict_under}
+use Rattle.definitions.specs.Verdicts.{Verdict, as_relation, as_distance, as_knn, other_case, other_side, other_operator, inside_another, nothing_of_ours, kind_left_out, too_few_arguments, too_many_arguments, first_without_columns, first_of_both, first_with_mark, second_without_columns, second_of_both, second_with_mark, both_left, both_right, bound_of_both, bound_with_mark, k_no_number, k_below_one, k_above_greatest, spheroid_no_flag, ties_no_flag, reasons, PriceLine, relation_line, distance_line, knn_line, no_line, line_meant, arguments_of, ours_in_small, distance_on_other_side, distance_beside_other, parts_of, some_of_ours, sides_of, none_of, of_both, of_mark, only_of, no_number, below_one, above, no_flag, applies_by, applies, first_that, matches_as, verdict_under}
+use Rattle.theorems.proofs.VerdictMatches.{reading}
 
 -- Two geometries by the sides of their columns; if they are fine, what comes after them.
 unfoldable pub geometry_verdict : (a b : List Side) → (after : Verdict) → Verdict
@@ -82,37 +83,8 @@ module _ (S : Settings) (records : List Record) where
   if-not false u v = refl
 
   module _ (leaf : Expr) where
-    -- The reasons of a leaf that is meant for this line and has these arguments.
-    abbrev on : PriceLine → Exprs → Verdict → Bool
-    on line es as_relation = false
-    on line es as_distance = false
-    on line es as_knn = false
-    on line es other_case = is_no_line line && ours_in_small leaf
-    on line es other_side = is_no_line line && distance_on_other_side leaf
-    on line es other_operator = is_no_line line && distance_beside_other leaf
-    on line es inside_another = is_no_line line && some_of_ours (parts_of leaf)
-    on line es nothing_of_ours = is_no_line line
-    on line es kind_left_out = left_out S line
-    on line es too_few_arguments = lacks line es
-    on line es too_many_arguments = is_knn_line line && has_argument 5 es
-    on line es first_without_columns = geometry_is records line es 0 none_of
-    on line es first_of_both = geometry_is records line es 0 of_both
-    on line es first_with_mark = geometry_is records line es 0 of_mark
-    on line es second_without_columns = geometry_is records line es 1 none_of
-    on line es second_of_both = geometry_is records line es 1 of_both
-    on line es second_with_mark = geometry_is records line es 1 of_mark
-    on line es both_left = geometry_is records line es 0 (only_of left) && geometry_is records line es 1 (only_of left)
-    on line es both_right = geometry_is records line es 0 (only_of right) && geometry_is records line es 1 (only_of right)
-    on line es bound_of_both = bound_is records line es of_both
-    on line es bound_with_mark = bound_is records line es of_mark
-    on line es k_no_number = knn_literal_is line es 2 no_number
-    on line es k_below_one = knn_literal_is line es 2 below_one
-    on line es k_above_greatest = knn_literal_is line es 2 (above S.greatest_k)
-    on line es spheroid_no_flag = knn_literal_is line es 3 no_flag
-    on line es ties_no_flag = knn_literal_is line es 4 no_flag
-
-    staged : (line : PriceLine) (es : Exprs) → first_that (on line es) (matches_as line) reasons ≡ stage leaf line es
-    unfolding first_that reasons matches_as is_no_line is_distance_line is_knn_line left_out lacks has_argument argument_is geometry_is bound_is knn_literal_is
+    staged : (line : PriceLine) (es : Exprs) → first_that (applies_by S records leaf line es) (matches_as line) reasons ≡ stage leaf line es
+    unfolding reading first_that matches_as
         stage no_stage relation_stage distance_stage knn_stage geometry_verdict bound_verdict k_verdict flag_verdict
     staged no_line es = refl
     staged relation_line nil = if-not (has_bit 0 S.kinds) kind_left_out too_few_arguments
@@ -131,5 +103,5 @@ module _ (S : Settings) (records : List Record) where
     staged knn_line (cons a (cons b (cons k (cons s (cons t (cons x more)))))) = if-not (has_bit 2 S.kinds) kind_left_out too_many_arguments
 
     pub verdict-staged : verdict_under S records leaf ≡ stage leaf (line_meant leaf) (arguments_of leaf)
-    unfolding verdict_under first_that reasons applies
+    unfolding verdict_under applies
     verdict-staged = staged (line_meant leaf) (arguments_of leaf)

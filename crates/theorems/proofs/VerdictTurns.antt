@@ -2,7 +2,7 @@
 use Rattle.std.specs.Prelude.{if◌then◌else◌}
 use Prim.Native.Nat.{ℕ, zero, suc}
 use mathlib.Core.Path.{◌≡◌, refl, sym, ap, ap₂, ◌∙◌}
-use mathlib.Core.Bool.{Bool, true, false, ◌&&◌, ◌||◌, not, false≢true}
+use mathlib.Core.Bool.{Bool, true, false, ◌&&◌, ◌||◌, not, false≢true, and-false, and_comm}
 use mathlib.Core.List.{List, [], ◌∷◌, ◌++◌, map}
 use lib.ListN.{take, drop}
 use lib.Dec.{eqb}
@@ -14,12 +14,11 @@ use Rattle.definitions.specs.Leaves.{leaves}
 use Rattle.definitions.specs.Match.{ArgumentSide, no_columns, all_on, mixed, common_side, is_side}
 use Rattle.definitions.specs.Exchange.{negate, exchange_frame}
 use Rattle.definitions.specs.Settings.{Settings}
-use Rattle.definitions.specs.Verdicts.{Verdict, as_relation, as_distance, as_knn, other_case, other_side, other_operator, inside_another, nothing_of_ours, kind_left_out, too_few_arguments, too_many_arguments, first_without_columns, first_of_both, first_with_mark, second_without_columns, second_of_both, second_with_mark, both_left, both_right, bound_of_both, bound_with_mark, k_no_number, k_below_one, k_above_greatest, spheroid_no_flag, ties_no_flag, verdict_byte, reasons, PriceLine, relation_line, distance_line, knn_line, no_line, line_meant, is_no_line, is_distance_line, arguments_of, argument_is, sides_of, none_of, of_both, of_mark, only_of, geometry_is, bound_is, applies, first_that, matches_as, verdict_under, verdicts_under, exchange_verdict}
+use Rattle.definitions.specs.Verdicts.{Verdict, as_relation, as_distance, as_knn, other_case, other_side, other_operator, inside_another, nothing_of_ours, kind_left_out, too_few_arguments, too_many_arguments, first_without_columns, first_of_both, first_with_mark, second_without_columns, second_of_both, second_with_mark, both_left, both_right, bound_of_both, bound_with_mark, k_no_number, k_below_one, k_above_greatest, spheroid_no_flag, ties_no_flag, verdict_byte, reasons, PriceLine, relation_line, distance_line, knn_line, no_line, line_meant, is_no_line, is_distance_line, arguments_of, argument_is, sides_of, none_of, of_both, of_mark, only_of, geometry_is, bound_is, applies_by, applies, first_that, matches_as, verdict_under, verdicts_under, exchange_verdict}
 use Rattle.definitions.specs.VerdictClaims.{VerdictsExchanged}
 use Rattle.theorems.proofs.Tools.{and-both}
 use Rattle.theorems.proofs.Exchange.{swapped}
 use Rattle.theorems.proofs.MatchTurns.{turned, common-negated, sides-at}
-use Rattle.theorems.proofs.VerdictSides.{and-no}
 use Rattle.theorems.proofs.VerdictReasons.{bytes-apart-hold}
 
 -- ---- sides
@@ -44,12 +43,6 @@ any-negated s (t ∷ ss) = ap₂ ◌||◌ (one s t) (any-negated s ss)
     one no_side right = unfold same_side negate in refl
     one no_side no_side = unfold same_side negate in refl
 
-and-turned : (a b : Bool) → (a && b) ≡ (b && a)
-and-turned true true = refl
-and-turned true false = refl
-and-turned false true = refl
-and-turned false false = refl
-
 none-turned : (ss : List Side) → none_of (map negate ss) ≡ none_of ss
 unfolding none_of
 none-turned [] = refl
@@ -57,7 +50,7 @@ none-turned (s ∷ ss) = refl
 
 both-turned : (ss : List Side) → of_both (map negate ss) ≡ of_both ss
 unfolding of_both negate
-both-turned ss = ap₂ ◌&&◌ (any-negated left ss) (any-negated right ss) ∙ and-turned (any (same_side right) ss) (any (same_side left) ss)
+both-turned ss = ap₂ ◌&&◌ (any-negated left ss) (any-negated right ss) ∙ and_comm (any (same_side right) ss) (any (same_side left) ss)
 
 mark-turned : (ss : List Side) → of_mark (map negate ss) ≡ of_mark ss
 unfolding of_mark negate
@@ -117,42 +110,47 @@ abbrev names_no_child : Verdict → Bool
 names_no_child v = eqb (verdict_byte (exchange_verdict v)) (verdict_byte v)
 
 module _ (S : Settings) (rs : List Record) (leaf : Expr) where
+  by-turned : (line : PriceLine) (es : Exprs) (v : Verdict)
+      → applies_by S (swapped rs) leaf line es v ≡ applies_by S rs leaf line es (exchange_verdict v)
+  unfolding applies_by exchange_verdict verdict_byte negate
+  by-turned line es as_relation = refl
+  by-turned line es as_distance = refl
+  by-turned line es as_knn = refl
+  by-turned line es other_case = refl
+  by-turned line es other_side = refl
+  by-turned line es other_operator = refl
+  by-turned line es inside_another = refl
+  by-turned line es nothing_of_ours = refl
+  by-turned line es kind_left_out = refl
+  by-turned line es too_few_arguments = refl
+  by-turned line es too_many_arguments = refl
+  by-turned line es first_without_columns = geometry-turned rs none_of none_of none-turned line es 0
+  by-turned line es first_of_both = geometry-turned rs of_both of_both both-turned line es 0
+  by-turned line es first_with_mark = geometry-turned rs of_mark of_mark mark-turned line es 0
+  by-turned line es second_without_columns = geometry-turned rs none_of none_of none-turned line es 1
+  by-turned line es second_of_both = geometry-turned rs of_both of_both both-turned line es 1
+  by-turned line es second_with_mark = geometry-turned rs of_mark of_mark mark-turned line es 1
+  by-turned line es both_left =
+      ap₂ ◌&&◌ (geometry-turned rs (only_of left) (only_of right) (only-turned left) line es 0)
+      (geometry-turned rs (only_of left) (only_of right) (only-turned left) line es 1)
+  by-turned line es both_right =
+      ap₂ ◌&&◌ (geometry-turned rs (only_of right) (only_of left) (only-turned right) line es 0)
+      (geometry-turned rs (only_of right) (only_of left) (only-turned right) line es 1)
+  by-turned line es bound_of_both = bound-turned rs of_both of_both both-turned line es
+  by-turned line es bound_with_mark = bound-turned rs of_mark of_mark mark-turned line es
+  by-turned line es k_no_number = refl
+  by-turned line es k_below_one = refl
+  by-turned line es k_above_greatest = refl
+  by-turned line es spheroid_no_flag = refl
+  by-turned line es ties_no_flag = refl
+
   applies-turned : (v : Verdict) → applies S (swapped rs) leaf v ≡ applies S rs leaf (exchange_verdict v)
-  unfolding applies exchange_verdict verdict_byte negate
-  applies-turned as_relation = refl
-  applies-turned as_distance = refl
-  applies-turned as_knn = refl
-  applies-turned other_case = refl
-  applies-turned other_side = refl
-  applies-turned other_operator = refl
-  applies-turned inside_another = refl
-  applies-turned nothing_of_ours = refl
-  applies-turned kind_left_out = refl
-  applies-turned too_few_arguments = refl
-  applies-turned too_many_arguments = refl
-  applies-turned first_without_columns = geometry-turned rs none_of none_of none-turned (line_meant leaf) (arguments_of leaf) 0
-  applies-turned first_of_both = geometry-turned rs of_both of_both both-turned (line_meant leaf) (arguments_of leaf) 0
-  applies-turned first_with_mark = geometry-turned rs of_mark of_mark mark-turned (line_meant leaf) (arguments_of leaf) 0
-  applies-turned second_without_columns = geometry-turned rs none_of none_of none-turned (line_meant leaf) (arguments_of leaf) 1
-  applies-turned second_of_both = geometry-turned rs of_both of_both both-turned (line_meant leaf) (arguments_of leaf) 1
-  applies-turned second_with_mark = geometry-turned rs of_mark of_mark mark-turned (line_meant leaf) (arguments_of leaf) 1
-  applies-turned both_left =
-      ap₂ ◌&&◌ (geometry-turned rs (only_of left) (only_of right) (only-turned left) (line_meant leaf) (arguments_of leaf) 0)
-      (geometry-turned rs (only_of left) (only_of right) (only-turned left) (line_meant leaf) (arguments_of leaf) 1)
-  applies-turned both_right =
-      ap₂ ◌&&◌ (geometry-turned rs (only_of right) (only_of left) (only-turned right) (line_meant leaf) (arguments_of leaf) 0)
-      (geometry-turned rs (only_of right) (only_of left) (only-turned right) (line_meant leaf) (arguments_of leaf) 1)
-  applies-turned bound_of_both = bound-turned rs of_both of_both both-turned (line_meant leaf) (arguments_of leaf)
-  applies-turned bound_with_mark = bound-turned rs of_mark of_mark mark-turned (line_meant leaf) (arguments_of leaf)
-  applies-turned k_no_number = refl
-  applies-turned k_below_one = refl
-  applies-turned k_above_greatest = refl
-  applies-turned spheroid_no_flag = refl
-  applies-turned ties_no_flag = refl
+  unfolding applies
+  applies-turned = by-turned (line_meant leaf) (arguments_of leaf)
 
   geometry-one : (line : PriceLine) (es : Exprs) → geometry_is rs line es 0 (only_of left) ≡ true → geometry_is rs line es 0 (only_of right) ≡ false
   unfolding geometry_is argument_is is_no_line only_of
-  geometry-one line nil e = and-no (not (is_no_line line))
+  geometry-one line nil e = and-false (not (is_no_line line))
   geometry-one relation_line (cons a es) e = not-two (common_side (sides_of rs a)) e
   geometry-one distance_line (cons a es) e = not-two (common_side (sides_of rs a)) e
   geometry-one knn_line (cons a es) e = not-two (common_side (sides_of rs a)) e
@@ -163,7 +161,7 @@ module _ (S : Settings) (rs : List Record) (leaf : Expr) where
   first-of-both false b c d h e = absurd (false≢true e)
 
   not-both : applies S rs leaf both_left ≡ true → applies S rs leaf both_right ≡ false
-  unfolding applies
+  unfolding applies applies_by
   not-both = first-of-both _ _ _ _ (geometry-one (line_meant leaf) (arguments_of leaf))
 
   -- The verdict, from the last reason to the first.
