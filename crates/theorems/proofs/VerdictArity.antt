@@ -1,4 +1,4 @@
--- Of leaves that load takes only those that are meant for KNN have too few arguments.
+-- Load refuses relations and distances with too few arguments (8), so of the leaves that it takes only a KNN can have too few.
 use Rattle.std.specs.Prelude.{if◌then◌else◌}
 use mathlib.Core.Path.{◌≡◌, refl, sym, ap, ◌∙◌}
 use mathlib.Core.Bool.{Bool, true, false, not, false≢true}

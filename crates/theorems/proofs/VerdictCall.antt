@@ -1,4 +1,4 @@
--- The call explain: when it is accepted, what it writes, what it refuses.
+-- The call looks at the settings, then at the frame, then at the room, and each outcome follows by cases.
 use Rattle.std.specs.Prelude.{if◌then◌else◌}
 use Prim.Native.Nat.{ℕ, ◌≤◌, ◌<◌}
 use mathlib.Core.Path.{◌≡◌, refl, sym, ap, ◌∙◌, subst}

@@ -1,4 +1,4 @@
--- The position and the line that are read off the bytes of a frame's verdicts are those of extract; the answer holds them as a plan does.
+-- A verdict's byte is the line of the leaf's match, or above all lines: so the first lines among the bytes are the first matches.
 use Rattle.std.specs.Prelude.{if◌then◌else◌}
 use Prim.Native.Nat.{ℕ, suc, ◌+◌, ◌*◌, ◌/◌, ◌%◌, ◌<◌}
 use native.Mathlib.Omega.{arith}
@@ -51,16 +51,15 @@ on-later (some p) = refl
 
 module _ (t : ℕ → Bool) (u : Predicate → Bool) (same : (p : Predicate) → t (predicate_kind p) ≡ u p)
     (reason : (b : ℕ) → leb b 0x13 ≡ false → t b ≡ false) where
-  first-of : (b : ℕ) (m : Option Predicate) (bs : List ℕ) (ms : List (Option Predicate)) → ByteSays b m
-      → first_passing t bs ≡ Option.map pick_named (first_match u ms) → first_passing t (b ∷ bs) ≡ Option.map pick_named (first_match u (m ∷ ms))
+  -- What is read off the bytes is the first match.
+  abbrev Reads : List ℕ → List (Option Predicate) → Type 0
+  Reads bs ms = first_passing t bs ≡ Option.map pick_named (first_match u ms)
+
+  first-of : (b : ℕ) (m : Option Predicate) (bs : List ℕ) (ms : List (Option Predicate))
+      → ByteSays b m → Reads bs ms → Reads (b ∷ bs) (m ∷ ms)
   unfolding first_passing first_match
-  first-of b none bs ms h e =
-      ap (λ (c : Bool). if c then some (record { position = 0; line = b }) else Option.map one_on (first_passing t bs)) (reason b h)
-      ∙ ap (Option.map one_on) e ∙ on-later (first_match u ms)
-  first-of b (some p) bs ms h e =
-      ap (λ (c : ℕ). if t c then some (record { position = 0; line = c }) else Option.map one_on (first_passing t bs)) h
-      ∙ ap (λ (c : Bool). if c then some (record { position = 0; line = predicate_kind p }) else Option.map one_on (first_passing t bs)) (same p)
-      ∙ cases (u p)
+  first-of b none bs ms h e = rw (reason b h) (ap (Option.map one_on) e ∙ on-later (first_match u ms))
+  first-of b (some p) bs ms h e = rw (h, same p) (cases (u p))
     where
       cases : (c : Bool)
           → (if c then some (record { position = 0; line = predicate_kind p }) else Option.map one_on (first_passing t bs))
@@ -69,13 +68,12 @@ module _ (t : ℕ → Bool) (u : Predicate → Bool) (same : (p : Predicate) →
       cases false = ap (Option.map one_on) e ∙ on-later (first_match u ms)
 
   module _ (S : Settings) (good : GoodSettings S) (rs : List Record) where
-    firsts : (es : List Expr)
-        → first_passing t (map verdict_byte (map (verdict_under S rs) es)) ≡ Option.map pick_named (first_match u (map (match_under S rs) es))
+    firsts : (es : List Expr) → Reads (map verdict_byte (map (verdict_under S rs) es)) (map (match_under S rs) es)
     firsts [] = unfold first_passing first_match in refl
     firsts (e ∷ es) =
-        first-of (verdict_byte (verdict_under S rs e)) (match_under S rs e) _ (map (match_under S rs) es)
-        (byte-says (verdict_byte (verdict_under S rs e)) _ refl (match_under S rs e) (unfold line_said in verdict-exactly-holds S good rs e))
-        (firsts es)
+        let b : ℕ = verdict_byte (verdict_under S rs e) in
+        first-of b (match_under S rs e) _ (map (match_under S rs) es)
+        (byte-says b _ refl (match_under S rs e) (unfold line_said in verdict-exactly-holds S good rs e)) (firsts es)
 
 knn-byte : (p : Predicate) → eqb (predicate_kind p) 0x13 ≡ is_knn p
 unfolding predicate_kind is_knn
@@ -99,7 +97,8 @@ unfolding take_pick
 taken-named F none = refl
 taken-named F (some p) = refl
 
-names : (S : Settings) → GoodSettings S → (F : Frame) → named_by (verdict_bytes S F) ≡ Option.map taken_leaf (extraction_by (match_under S) F)
+names : (S : Settings) → GoodSettings S → (F : Frame)
+    → named_by (verdict_bytes S F) ≡ Option.map taken_leaf (extraction_by (match_under S) F)
 unfolding named_by verdict_bytes verdicts_under extraction_by pick matches_by
 names S good F =
     ap₂ Option.or_else
@@ -164,7 +163,8 @@ module _ (S : Settings) (good : GoodSettings S) (F : Frame) (g : GoodPlan (held 
   answer-before : explained (verdict_bytes S F) / 65536 ≡ bill_number (Option.map taken_leaf (extraction_by (match_under S) F))
   answer-before = ap (λ (n : ℕ). n / 65536) answer-is ∙ before-two _ number number-small
 
-  small : (x : Option Extraction) → extraction_by (match_under S) F ≡ x → bill_number (Option.map taken_leaf x) * 65536 + number < 1099511627776
+  small : (x : Option Extraction) → extraction_by (match_under S) F ≡ x
+      → bill_number (Option.map taken_leaf x) * 65536 + number < 1099511627776
   unfolding bill_number
   small none e = omega (arith, number-small)
   small (some X) e =
@@ -217,7 +217,8 @@ unfolding shifted one_on
 shifted-on k none = refl
 shifted-on k (some t) = at-same (suc (k + t.position)) (suc k + t.position) t.line (omega arith)
 
-on-or : (k : ℕ) (x y : Option TakenLeaf) → Option.map one_on (Option.or_else x (shifted k y)) ≡ Option.or_else (Option.map one_on x) (shifted (suc k) y)
+on-or : (k : ℕ) (x y : Option TakenLeaf)
+    → Option.map one_on (Option.or_else x (shifted k y)) ≡ Option.or_else (Option.map one_on x) (shifted (suc k) y)
 unfolding Option.or_else one_on
 on-or k none y = shifted-on k y
 on-or k (some t) y = refl

@@ -1,9 +1,9 @@
--- A verdict says the line of the leaf's match, exactly where the leaf matches under the settings.
+-- A leaf matches unless a reason applies, argument by argument: so a verdict says a match exactly where there is one, and its line.
 use Rattle.std.specs.Prelude.{if◌then◌else◌}
 use Prim.Native.Nat.{ℕ, ◌<◌}
 use native.Mathlib.Omega.{arith}
 use mathlib.Core.Path.{◌≡◌, refl, sym, ap, ap₂, ◌∙◌, subst}
-use mathlib.Core.Bool.{Bool, true, false, ◌&&◌, ◌||◌, not, false≢true, and-false, and-true, or-true, or-false}
+use mathlib.Core.Bool.{Bool, true, false, ◌&&◌, ◌||◌, not, and-false, and-true, or-true, or-false}
 use mathlib.Core.List.{List, [], ◌∷◌}
 use mathlib.Core.Option.{Option, none, some, map}
 use lib.Dec.{leb, ltb, eqb}
@@ -14,51 +14,15 @@ use Rattle.definitions.specs.Expression.{Side, left, right, no_side, Relation, E
 use Rattle.definitions.specs.Encode.{predicate_kind}
 use Rattle.definitions.specs.Literals.{signed, u32, number_u32, is_k, only_k}
 use Rattle.definitions.specs.Leaves.{relation_named, Comparison, compares, no_comparison, comparison, distance_arguments}
-use Rattle.definitions.specs.References.{same_side}
-use Rattle.definitions.specs.Match.{literal_u32, literal_k, literal_bool, Request, ask_relation, ask_distance, ask_knn, ask_nothing, relation_request, dwithin_request, knn_literals, knn_request_by, call_request_by, distance_request, comparison_request, request_by, ArgumentSide, no_columns, all_on, mixed, common_side, is_side, side_of, on_child, Order, left_right, right_left, no_order, order_of, match_relation, store_distance, match_distance, match_knn, match_request, match_leaf_by}
+use Rattle.definitions.specs.Match.{literal_u32, literal_k, literal_bool, Request, ask_relation, ask_distance, ask_knn, ask_nothing, relation_request, dwithin_request, knn_literals, knn_request_by, call_request_by, distance_request, comparison_request, request_by, ArgumentSide, no_columns, all_on, mixed, side_of, on_child, Order, left_right, right_left, no_order, order_of, match_relation, store_distance, match_distance, match_knn, match_request, match_leaf_by}
 use Rattle.definitions.specs.Claims.{is_match}
 use Rattle.definitions.specs.Settings.{Settings, good_settings, has_bit, allowed, passing, only_if, match_under}
 use Rattle.definitions.specs.SettingsClaims.{GoodSettings}
-use Rattle.definitions.specs.Verdicts.{Verdict, verdict_byte, reasons, PriceLine, relation_line, distance_line, knn_line, no_line, line_named, line_compared, line_meant, is_no_line, is_distance_line, is_knn_line, with_bound, arguments_compared, arguments_of, argument_is, has_argument, sides_of, none_of, of_both, of_mark, whole_number, literal_whole, no_number, is_below_one, is_above, below_one, above, no_flag, left_out, lacks, geometry_is, bound_is, knn_literal_is, applies_by, applies, first_that, matches_as, verdict_under}
+use Rattle.definitions.specs.Verdicts.{Verdict, verdict_byte, reasons, PriceLine, relation_line, distance_line, knn_line, no_line, line_named, line_compared, line_meant, is_no_line, is_distance_line, is_knn_line, with_bound, arguments_compared, arguments_of, argument_is, has_argument, sides_of, of_both, of_mark, whole_number, literal_whole, no_number, is_below_one, is_above, below_one, above, no_flag, left_out, lacks, geometry_is, bound_is, knn_literal_is, applies_by, applies, first_that, matches_as, verdict_under}
 use Rattle.definitions.specs.VerdictClaims.{line_said, VerdictExactly}
 use Rattle.theorems.proofs.Tools.{by-test, and-both}
 use Rattle.theorems.proofs.OnlyIf.{passing-is}
-use Rattle.theorems.proofs.VerdictSides.{not-and, shape, Shape, on_left, on_right, astray, ordered, geometry_reasons, geometries-are}
-
--- ---- a bound
-
-bound-ok : ArgumentSide → Bool
-bound-ok no_columns = true
-bound-ok (all_on left) = true
-bound-ok (all_on right) = true
-bound-ok (all_on no_side) = false
-bound-ok mixed = false
-
-not-bound : (b : Bool) (s : Side) → is_side left (if b then all_on s else mixed) ≡ false
-    → is_side right (if b then all_on s else mixed) ≡ false
-    → bound-ok (if b then all_on s else mixed) ≡ false
-unfolding is_side bound-ok same_side
-not-bound true left e f = absurd (false≢true (sym e))
-not-bound true right e f = absurd (false≢true (sym f))
-not-bound true no_side e f = refl
-not-bound false s e f = refl
-
-or-two : (a b x : Bool) → (a || b) ≡ true → (a || (b || x)) ≡ true
-or-two true b x e = refl
-or-two false true x e = refl
-or-two false false x e = absurd (false≢true e)
-
-bounds-are : (ss : List Side) (rest : Bool) → (of_both ss || (of_mark ss || rest)) ≡ (not (bound-ok (common_side ss)) || rest)
-unfolding of_both of_mark any common_side bound-ok none_of
-bounds-are [] rest = refl
-bounds-are (s ∷ ss) rest = by-shape (shape (s ∷ ss))
-  where
-    by-shape : Shape (s ∷ ss) → (of_both (s ∷ ss) || (of_mark (s ∷ ss) || rest)) ≡ (not (bound-ok (common_side (s ∷ ss))) || rest)
-    by-shape (on_left e f g c) = rw (f, g, c) refl
-    by-shape (on_right e f g c) = rw (f, g, c) refl
-    by-shape (astray e l r) =
-        or-two (of_both (s ∷ ss)) (of_mark (s ∷ ss)) rest e
-        ∙ sym (ap (λ (b : Bool). not b || rest) (not-bound (all (same_side s) ss) s l r))
+use Rattle.theorems.proofs.VerdictSides.{not-and, ordered, geometry_reasons, geometries-are, bound-ok, bounds-are}
 
 -- ---- k and the flags
 

@@ -37,7 +37,8 @@ module _ (f : ℕ → ℕ) where
       ap (λ (x : Option Exprs). given x then (λ es. distance_line) else no_line) (distance-mapped m) ∙ same (distance_arguments m)
     where
       same : (x : Option Exprs)
-          → (given Option.map (map_columns_all f) x then (λ es. distance_line) else no_line) ≡ (given x then (λ es. distance_line) else no_line)
+          → (given Option.map (map_columns_all f) x then (λ es. distance_line) else no_line)
+          ≡ (given x then (λ es. distance_line) else no_line)
       same none = refl
       same (some es) = refl
 
@@ -120,7 +121,8 @@ module _ (f : ℕ → ℕ) where
   side-mapped (other tag es) = refl
   side-mapped (field b t) = refl
 
-  beside-one : (l r : Expr) (c : Comparison) → measured_beside (map_columns f l) (map_columns f r) (map_comparison f c) ≡ measured_beside l r c
+  beside-one : (l r : Expr) (c : Comparison)
+      → measured_beside (map_columns f l) (map_columns f r) (map_comparison f c) ≡ measured_beside l r c
   unfolding measured_beside map_comparison
   beside-one l r no_comparison = ap₂ ◌||◌ (measured-mapped l) (measured-mapped r)
   beside-one l r (compares m d) = refl

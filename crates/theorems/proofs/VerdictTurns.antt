@@ -1,4 +1,4 @@
--- The verdicts of an exchanged frame are those of the frame, left and right exchanged in their words.
+-- Exchange turns each side over, and only two reasons name a side: so the verdicts are the same, but for these two, exchanged.
 use Rattle.std.specs.Prelude.{if◌then◌else◌}
 use Prim.Native.Nat.{ℕ, zero, suc}
 use mathlib.Core.Path.{◌≡◌, refl, sym, ap, ap₂, ◌∙◌}
@@ -17,7 +17,7 @@ use Rattle.definitions.specs.Settings.{Settings}
 use Rattle.definitions.specs.Verdicts.{Verdict, as_relation, as_distance, as_knn, other_case, other_side, other_operator, inside_another, nothing_of_ours, kind_left_out, too_few_arguments, too_many_arguments, first_without_columns, first_of_both, first_with_mark, second_without_columns, second_of_both, second_with_mark, both_left, both_right, bound_of_both, bound_with_mark, k_no_number, k_below_one, k_above_greatest, spheroid_no_flag, ties_no_flag, verdict_byte, reasons, PriceLine, relation_line, distance_line, knn_line, no_line, line_meant, is_no_line, is_distance_line, arguments_of, argument_is, sides_of, none_of, of_both, of_mark, only_of, geometry_is, bound_is, applies_by, applies, first_that, matches_as, verdict_under, verdicts_under, exchange_verdict}
 use Rattle.definitions.specs.VerdictClaims.{VerdictsExchanged}
 use Rattle.theorems.proofs.Tools.{and-both}
-use Rattle.theorems.proofs.Exchange.{swapped}
+use Rattle.theorems.proofs.Exchange.{negate-negate, swapped, same-negated}
 use Rattle.theorems.proofs.MatchTurns.{turned, common-negated, sides-at}
 use Rattle.theorems.proofs.VerdictReasons.{bytes-apart-hold}
 
@@ -27,21 +27,13 @@ sides-turned : (rs : List Record) (e : Expr) → sides_of (swapped rs) e ≡ map
 unfolding sides_of
 sides-turned rs e = sides-at rs (columns_of e)
 
+same-other : (s t : Side) → same_side s (negate t) ≡ same_side (negate s) t
+same-other s t = ap (λ (u : Side). same_side u (negate t)) (sym (negate-negate s)) ∙ same-negated (negate s) t
+
 any-negated : (s : Side) (ss : List Side) → any (same_side s) (map negate ss) ≡ any (same_side (negate s)) ss
 unfolding any
 any-negated s [] = refl
-any-negated s (t ∷ ss) = ap₂ ◌||◌ (one s t) (any-negated s ss)
-  where
-    one : (s t : Side) → same_side s (negate t) ≡ same_side (negate s) t
-    one left left = unfold same_side negate in refl
-    one left right = unfold same_side negate in refl
-    one left no_side = unfold same_side negate in refl
-    one right left = unfold same_side negate in refl
-    one right right = unfold same_side negate in refl
-    one right no_side = unfold same_side negate in refl
-    one no_side left = unfold same_side negate in refl
-    one no_side right = unfold same_side negate in refl
-    one no_side no_side = unfold same_side negate in refl
+any-negated s (t ∷ ss) = ap₂ ◌||◌ (same-other s t) (any-negated s ss)
 
 none-turned : (ss : List Side) → none_of (map negate ss) ≡ none_of ss
 unfolding none_of
@@ -57,18 +49,10 @@ unfolding of_mark negate
 mark-turned ss = any-negated no_side ss
 
 side-turned : (s : Side) (c : ArgumentSide) → is_side s (turned c) ≡ is_side (negate s) c
-unfolding is_side negate same_side
+unfolding is_side
 side-turned s no_columns = refl
 side-turned s mixed = refl
-side-turned left (all_on left) = refl
-side-turned left (all_on right) = refl
-side-turned left (all_on no_side) = refl
-side-turned right (all_on left) = refl
-side-turned right (all_on right) = refl
-side-turned right (all_on no_side) = refl
-side-turned no_side (all_on left) = refl
-side-turned no_side (all_on right) = refl
-side-turned no_side (all_on no_side) = refl
+side-turned s (all_on t) = same-other s t
 
 only-turned : (s : Side) (ss : List Side) → only_of s (map negate ss) ≡ only_of (negate s) ss
 unfolding only_of
@@ -148,7 +132,8 @@ module _ (S : Settings) (rs : List Record) (leaf : Expr) where
   unfolding applies
   applies-turned = by-turned (line_meant leaf) (arguments_of leaf)
 
-  geometry-one : (line : PriceLine) (es : Exprs) → geometry_is rs line es 0 (only_of left) ≡ true → geometry_is rs line es 0 (only_of right) ≡ false
+  geometry-one : (line : PriceLine) (es : Exprs) → geometry_is rs line es 0 (only_of left) ≡ true
+      → geometry_is rs line es 0 (only_of right) ≡ false
   unfolding geometry_is argument_is is_no_line only_of
   geometry-one line nil e = and-false (not (is_no_line line))
   geometry-one relation_line (cons a es) e = not-two (common_side (sides_of rs a)) e
