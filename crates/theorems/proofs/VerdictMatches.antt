@@ -2,7 +2,7 @@
 use Rattle.std.specs.Prelude.{if◌then◌else◌}
 use Prim.Native.Nat.{ℕ, ◌<◌}
 use native.Mathlib.Omega.{arith}
-use mathlib.Core.Path.{◌≡◌, refl, sym, ap, ap₂, ◌∙◌, subst}
+use mathlib.Core.Path.{◌≡◌, refl, sym, ap, ◌∙◌, subst}
 use mathlib.Core.Bool.{Bool, true, false, ◌&&◌, ◌||◌, not, and-false, and-true, or-true, or-false}
 use mathlib.Core.List.{List, [], ◌∷◌}
 use mathlib.Core.Option.{Option, none, some, map}
@@ -14,14 +14,12 @@ use Rattle.definitions.specs.Expression.{Side, left, right, no_side, Relation, E
 use Rattle.definitions.specs.Encode.{predicate_kind}
 use Rattle.definitions.specs.Literals.{signed, u32, number_u32, is_k, only_k}
 use Rattle.definitions.specs.Leaves.{relation_named, Comparison, compares, no_comparison, comparison, distance_arguments}
-use Rattle.definitions.specs.Match.{literal_u32, literal_k, literal_bool, Request, ask_relation, ask_distance, ask_knn, ask_nothing, relation_request, dwithin_request, knn_literals, knn_request_by, call_request_by, distance_request, comparison_request, request_by, ArgumentSide, no_columns, all_on, mixed, side_of, on_child, Order, left_right, right_left, no_order, order_of, match_relation, store_distance, match_distance, match_knn, match_request, match_leaf_by}
-use Rattle.definitions.specs.Claims.{is_match}
+use Rattle.definitions.specs.Match.{literal_u32, literal_k, literal_bool, Request, ask_distance, ask_nothing, relation_request, dwithin_request, knn_literals, knn_request_by, call_request_by, distance_request, comparison_request, request_by, ArgumentSide, no_columns, all_on, mixed, side_of, Order, left_right, right_left, no_order, order_of, match_relation, store_distance, match_distance, match_knn, match_request, match_leaf_by}
 use Rattle.definitions.specs.Settings.{Settings, good_settings, has_bit, allowed, passing, only_if, match_under}
 use Rattle.definitions.specs.SettingsClaims.{GoodSettings}
 use Rattle.definitions.specs.Verdicts.{Verdict, verdict_byte, reasons, PriceLine, relation_line, distance_line, knn_line, no_line, line_named, line_compared, line_meant, is_no_line, is_distance_line, is_knn_line, with_bound, arguments_compared, arguments_of, argument_is, has_argument, sides_of, of_both, of_mark, whole_number, literal_whole, no_number, is_below_one, is_above, below_one, above, no_flag, left_out, lacks, geometry_is, bound_is, knn_literal_is, applies_by, applies, first_that, matches_as, verdict_under}
 use Rattle.definitions.specs.VerdictClaims.{line_said, VerdictExactly}
 use Rattle.theorems.proofs.Tools.{by-test, and-both}
-use Rattle.theorems.proofs.OnlyIf.{passing-is}
 use Rattle.theorems.proofs.VerdictSides.{not-and, ordered, geometry_reasons, geometries-are, bound-ok, bounds-are}
 
 -- ---- k and the flags
@@ -105,115 +103,96 @@ reading = 0
 
 -- ---- matches under settings
 
-if-match : (b : Bool) (p : Predicate) → is_match (if b then some p else none) ≡ b
-unfolding is_match
+-- The line of a kind where this holds, else none.
+abbrev if-holds : (kind : ℕ) → Bool → Option ℕ
+if-holds kind c = if c then some kind else none
+
+if-not : (kind : ℕ) (c : Bool) → (if not c then none else some kind) ≡ if-holds kind c
+if-not kind true = refl
+if-not kind false = refl
+
+if-match : (b : Bool) (p : Predicate) → map predicate_kind (if b then some p else none) ≡ if-holds (predicate_kind p) b
 if-match true p = refl
 if-match false p = refl
 
--- A match of this kind, or none.
-abbrev Kinded : (kind : ℕ) → Option Predicate → Type 0
-Kinded kind none = Unit {0}
-Kinded kind (some p) = predicate_kind p ≡ kind
-
--- Where no reason applies exactly when there is a match of this kind, the line is that of the match.
-says : (kind : ℕ) (bad : Bool) (m : Option Predicate) → bad ≡ not (is_match m) → Kinded kind m
-    → (if bad then none else some kind) ≡ map predicate_kind m
-unfolding is_match
-says kind bad none e k = ap (λ (b : Bool). if b then none else some kind) e
-says kind bad (some p) e k = ap (λ (b : Bool). if b then none else some kind) e ∙ ap {B = Option ℕ} some (sym k)
-
 module _ (S : Settings) (good : GoodSettings S) (rs : List Record) (leaf : Expr) where
-  abbrev kept : Option Predicate → Option Predicate
-  kept = passing (allowed S)
+  -- The line of a match that the settings allow.
+  abbrev line : Option Predicate → Option ℕ
+  line m = map predicate_kind (passing (allowed S) m)
 
-  kept-one : (p : Predicate) → is_match (kept (some p)) ≡ allowed S p
+  line-is : (p : Predicate) → line (some p) ≡ if-holds (predicate_kind p) (allowed S p)
   unfolding passing
-  kept-one p = if-match (allowed S p) p
+  line-is p = if-match (allowed S p) p
 
   abbrev bit : (place : ℕ) → Bool
   bit place = has_bit place S.kinds
 
-  relation-matches : (t : Relation) (a b : Expr) (o : Order) → is_match (kept (match_relation t a b o)) ≡ (bit 0 && ordered o)
-  unfolding passing allowed match_relation ordered is_match
-  relation-matches t a b left_right = kept-one (relation t a b) ∙ sym (and-true (bit 0))
-  relation-matches t a b right_left = kept-one (relation (invert t) b a) ∙ sym (and-true (bit 0))
-  relation-matches t a b no_order = sym (and-false (bit 0))
+  relation-matches : (t : Relation) (a b : Expr) (o : Order) → line (match_relation t a b o) ≡ if-holds 0x11 (bit 0 && (ordered o && true))
+  unfolding passing allowed match_relation ordered predicate_kind
+  relation-matches t a b left_right = line-is (relation t a b) ∙ simp and-true
+  relation-matches t a b right_left = line-is (relation (invert t) b a) ∙ simp and-true
+  relation-matches t a b no_order = simp and-false
 
   stored-matches : (form : ℕ) (s : Side) (a b d : Expr) (o : Order)
-      → is_match (kept (store_distance form s a b d o)) ≡ (bit 1 && (ordered o && true))
-  unfolding passing allowed store_distance ordered is_match
-  stored-matches form s a b d left_right = kept-one (distance form s a b d) ∙ sym (and-true (bit 1))
-  stored-matches form s a b d right_left = kept-one (distance form s b a d) ∙ sym (and-true (bit 1))
-  stored-matches form s a b d no_order = sym (and-false (bit 1))
-
-  two-no : (a b : Bool) → false ≡ (a && (b && false))
-  two-no a b = sym (ap (λ (x : Bool). a && x) (and-false b) ∙ and-false a)
+      → line (store_distance form s a b d o) ≡ if-holds 0x12 (bit 1 && (ordered o && true))
+  unfolding passing allowed store_distance ordered predicate_kind
+  stored-matches form s a b d left_right = line-is (distance form s a b d) ∙ simp and-true
+  stored-matches form s a b d right_left = line-is (distance form s b a d) ∙ simp and-true
+  stored-matches form s a b d no_order = simp and-false
 
   distance-matches : (form : ℕ) (a b d : Expr) (side : ArgumentSide) (o : Order)
-      → is_match (kept (match_distance rs form a b d side o)) ≡ (bit 1 && (ordered o && bound-ok side))
-  unfolding match_distance bound-ok passing is_match
+      → line (match_distance rs form a b d side o) ≡ if-holds 0x12 (bit 1 && (ordered o && bound-ok side))
+  unfolding match_distance bound-ok passing
   distance-matches form a b d no_columns o = stored-matches form no_side a b d o
   distance-matches form a b d (all_on left) o = stored-matches form left a b _ o
   distance-matches form a b d (all_on right) o = stored-matches form right a b _ o
-  distance-matches form a b d (all_on no_side) o = two-no (bit 1) (ordered o)
-  distance-matches form a b d mixed o = two-no (bit 1) (ordered o)
+  distance-matches form a b d (all_on no_side) o = simp and-false
+  distance-matches form a b d mixed o = simp and-false
 
   abbrev ok-k : Option ℕ → Bool
   ok-k = k-ok S.greatest_k good.width
 
   nearest-matches : (k s t : ℕ) (a b : Expr) (o : Order)
-      → is_match (kept (match_knn k s t a b o)) ≡ (bit 2 && (ordered o && leb k S.greatest_k))
-  unfolding passing allowed match_knn ordered is_match
-  nearest-matches k s t a b left_right = kept-one (knn k s left t a b)
-  nearest-matches k s t a b right_left = kept-one (knn k s right t a b)
-  nearest-matches k s t a b no_order = sym (and-false (bit 2))
+      → line (match_knn k s t a b o) ≡ if-holds 0x13 (bit 2 && (ordered o && leb k S.greatest_k))
+  unfolding passing allowed match_knn ordered predicate_kind
+  nearest-matches k s t a b left_right = line-is (knn k s left t a b)
+  nearest-matches k s t a b right_left = line-is (knn k s right t a b)
+  nearest-matches k s t a b no_order = simp and-false
 
   abbrev order_in : (a b : Expr) → Order
   order_in a b = order_of (side_of rs a) (side_of rs b)
 
   knn-matches : (k s t : Option ℕ) (a b : Expr)
-      → is_match (kept (match_request rs (knn_literals k s t a b)))
-      ≡ (bit 2 && (ordered (order_in a b) && (ok-k k && (is-flag s && is-flag t))))
-  unfolding knn_literals match_request k-ok is-flag passing is_match
-  knn-matches none s t a b = two-no (bit 2) (ordered (order_in a b))
-  knn-matches (some k) none t a b =
-      two-no (bit 2) (ordered (order_in a b))
-      ∙ ap (λ (x : Bool). bit 2 && (ordered (order_in a b) && x)) (sym (and-false (leb k S.greatest_k)))
-  knn-matches (some k) (some s) none a b =
-      two-no (bit 2) (ordered (order_in a b))
-      ∙ ap (λ (x : Bool). bit 2 && (ordered (order_in a b) && x)) (sym (and-false (leb k S.greatest_k)))
-  knn-matches (some k) (some s) (some t) a b =
-      nearest-matches k s t _ _ (order_in a b)
-      ∙ ap (λ (x : Bool). bit 2 && (ordered (order_in a b) && x)) (sym (and-true (leb k S.greatest_k)))
+      → line (match_request rs (knn_literals k s t a b))
+      ≡ if-holds 0x13 (bit 2 && (ordered (order_in a b) && (ok-k k && (is-flag s && is-flag t))))
+  unfolding knn_literals match_request k-ok is-flag passing
+  knn-matches none s t a b = simp and-false
+  knn-matches (some k) none t a b = simp and-false
+  knn-matches (some k) (some s) none a b = simp and-false
+  knn-matches (some k) (some s) (some t) a b = nearest-matches k s t _ _ (order_in a b) ∙ simp and-true
 
-  -- ---- the reasons of a leaf by its line and its arguments
+  -- ---- the line that is said of a leaf, by the line that it is meant for and its arguments
 
-  -- Whether one applies.
-  abbrev bad : PriceLine → Exprs → Bool
-  bad line es = any (applies_by S rs leaf line es) reasons
+  -- What is to be shown of one that asks for this.
+  abbrev Said : PriceLine → Exprs → Request → Type 0
+  Said meant es q =
+      (if any (applies_by S rs leaf meant es) reasons then none else line_said (matches_as meant)) ≡ line (match_request rs q)
 
-  abbrev sides : Expr → List Side
-  sides = sides_of rs
-
-  geometry-reasons : (a b : Expr) (rest : Bool)
-      → geometry_reasons (sides a) (sides b) rest ≡ (not (ordered (order_in a b)) || rest)
+  -- One of a kind that the settings may leave out, with two geometries: what comes after them is a reason unless this holds.
+  by-geometries : (kind place : ℕ) (a b : Expr) (rest c : Bool) (x : Option ℕ) → rest ≡ not c
+      → x ≡ if-holds kind (bit place && (ordered (order_in a b) && c))
+      → (if not (bit place) || geometry_reasons (sides_of rs a) (sides_of rs b) rest then none else some kind) ≡ x
   unfolding sides_of side_of
-  geometry-reasons a b rest = geometries-are (sides a) (sides b) rest
+  by-geometries kind place a b rest c x e m =
+      rw (geometries-are (sides_of rs a) (sides_of rs b) rest, e)
+      (rw (sym (not-and (ordered (order_in a b)) c), sym (not-and (bit place) (ordered (order_in a b) && c)))
+      (if-not kind (bit place && (ordered (order_in a b) && c)) ∙ sym m))
 
-  bound-reasons : (d : Expr) (rest : Bool)
-      → (of_both (sides d) || (of_mark (sides d) || rest)) ≡ (not (bound-ok (side_of rs d)) || rest)
-  unfolding sides_of side_of
-  bound-reasons d rest = bounds-are (sides d) rest
-
-  -- A relation.
-  relation-bad : (t : Relation) (es : Exprs)
-      → bad relation_line es ≡ not (is_match (kept (match_request rs (relation_request (some t) es))))
-  unfolding reading relation_request match_request
-  relation-bad t nil = unfold passing is_match in or-true (not (bit 0))
-  relation-bad t (cons a nil) = unfold passing is_match in or-true (not (bit 0))
-  relation-bad t (cons a (cons b more)) =
-      ap (λ (r : Bool). not (bit 0) || r) (geometry-reasons a b false ∙ or-false (not (ordered (order_in a b))))
-      ∙ sym (ap not (relation-matches t _ _ (order_in a b)) ∙ not-and (bit 0) (ordered (order_in a b)))
+  said-relation : (t : Relation) (es : Exprs) → Said relation_line es (relation_request (some t) es)
+  unfolding reading relation_request match_request matches_as line_said verdict_byte
+  said-relation t nil = unfold passing in simp or-true
+  said-relation t (cons a nil) = unfold passing in simp or-true
+  said-relation t (cons a (cons b more)) = by-geometries 0x11 0 a b false true _ refl (relation-matches t _ _ (order_in a b))
 
   -- A distance asks for its first three arguments.
   unfoldable third : (form : ℕ) → Exprs → Request
@@ -222,176 +201,56 @@ module _ (S : Settings) (good : GoodSettings S) (rs : List Record) (leaf : Expr)
   third form (cons a (cons b nil)) = ask_nothing
   third form (cons a (cons b (cons d more))) = ask_distance form a b d
 
-  distance-bad : (form : ℕ) (es : Exprs)
-      → bad distance_line es ≡ not (is_match (kept (match_request rs (third form es))))
-  unfolding reading third match_request
-  distance-bad form nil = unfold passing is_match in or-true (not (bit 1))
-  distance-bad form (cons a nil) = unfold passing is_match in or-true (not (bit 1))
-  distance-bad form (cons a (cons b nil)) = unfold passing is_match in or-true (not (bit 1))
-  distance-bad form (cons a (cons b (cons d more))) =
-      ap (λ (r : Bool). not (bit 1) || r) (
-      geometry-reasons a b _
-      ∙ ap (λ (r : Bool). not (ordered (order_in a b)) || r) (bound-reasons d false ∙ or-false (not (bound-ok (side_of rs d))))
-      ∙ sym (not-and (ordered (order_in a b)) (bound-ok (side_of rs d)))
-      )
-      ∙ sym (ap not (distance-matches form _ _ d (side_of rs d) (order_in a b))
-      ∙ not-and (bit 1) (ordered (order_in a b) && bound-ok (side_of rs d)))
+  bound-reasons : (d : Expr) → (of_both (sides_of rs d) || (of_mark (sides_of rs d) || false)) ≡ not (bound-ok (side_of rs d))
+  unfolding sides_of side_of
+  bound-reasons d = bounds-are (sides_of rs d) false ∙ or-false _
 
-  -- A KNN.
-  knn-chain : (o k s t : Bool) → (not o || (not k || (not s || (not t || false)))) ≡ not (o && (k && (s && t)))
-  knn-chain false k s t = refl
-  knn-chain true false s t = refl
-  knn-chain true true false t = refl
-  knn-chain true true true false = refl
-  knn-chain true true true true = refl
+  said-distance : (form : ℕ) (es : Exprs) → Said distance_line es (third form es)
+  unfolding reading third match_request matches_as line_said verdict_byte
+  said-distance form nil = unfold passing in simp or-true
+  said-distance form (cons a nil) = unfold passing in simp or-true
+  said-distance form (cons a (cons b nil)) = unfold passing in simp or-true
+  said-distance form (cons a (cons b (cons d more))) =
+      by-geometries 0x12 1 a b _ (bound-ok (side_of rs d)) _ (bound-reasons d) (distance-matches form _ _ d (side_of rs d) (order_in a b))
 
-  abbrev k_reasons : Expr → Bool → Bool
-  k_reasons k rest = no_number k || (below_one k || (above S.greatest_k k || rest))
+  literal-chain : (k s t : Bool) → (not k || (not s || (not t || false))) ≡ not (k && (s && t))
+  literal-chain false s t = refl
+  literal-chain true false t = refl
+  literal-chain true true false = refl
+  literal-chain true true true = refl
 
-  literals-bad : (a b k : Expr) (s t : Option ℕ) (x y : Bool) → x ≡ not (is-flag s) → y ≡ not (is-flag t)
-      → (not (bit 2) || geometry_reasons (sides a) (sides b) (k_reasons k (x || (y || false))))
-      ≡ not (is_match (kept (match_request rs (knn_literals (literal_k k) s t a b))))
-  literals-bad a b k s t x y e f =
-      let o : Bool = ordered (order_in a b) in
-      let n : Bool = ok-k (literal_k k) in
-      ap (λ (r : Bool). not (bit 2) || r) (
-      geometry-reasons a b (k_reasons k (x || (y || false)))
-      ∙ ap (λ (r : Bool). not o || r) (
-      k-reasons-are S.greatest_k good.width k (x || (y || false))
-      ∙ ap₂ (λ (c d : Bool). not n || (c || (d || false))) e f
-      )
-      ∙ knn-chain o n (is-flag s) (is-flag t)
-      )
-      ∙ sym (ap not (knn-matches (literal_k k) s t a b) ∙ not-and (bit 2) (o && (n && (is-flag s && is-flag t))))
+  said-literals : (a b k : Expr) (s t : Option ℕ) (x y : Bool) → x ≡ not (is-flag s) → y ≡ not (is-flag t)
+      → (if not (bit 2) || geometry_reasons (sides_of rs a) (sides_of rs b)
+      (no_number k || (below_one k || (above S.greatest_k k || (x || (y || false))))) then none else some 0x13)
+      ≡ line (match_request rs (knn_literals (literal_k k) s t a b))
+  said-literals a b k s t x y e f =
+      by-geometries 0x13 2 a b _ (ok-k (literal_k k) && (is-flag s && is-flag t)) _
+      (k-reasons-are S.greatest_k good.width k (x || (y || false)) ∙ rw (e, f) (literal-chain (ok-k (literal_k k)) (is-flag s) (is-flag t)))
+      (knn-matches (literal_k k) s t a b)
 
   default-fits : leb S.default_k S.greatest_k ≡ true
   unfolding good_settings
   default-fits =
       (and-both (leb 1 S.default_k) _ (and-both (leb S.kinds 7) _ (and-both (leb 1 S.kinds) _ good.good).1).1).1
 
-  knn-bad : (es : Exprs)
-      → bad knn_line es ≡ not (is_match (kept (match_request rs (knn_request_by S.default_k es))))
-  unfolding reading knn_request_by
-  knn-bad nil = unfold match_request passing is_match in or-true (not (bit 2))
-  knn-bad (cons a nil) = unfold match_request passing is_match in or-true (not (bit 2))
-  knn-bad (cons a (cons b nil)) = unfold match_request in
-      (ap (λ (r : Bool). not (bit 2) || r) (geometry-reasons a b false ∙ or-false (not (ordered (order_in a b))))
-      ∙ sym (ap not (nearest-matches S.default_k 0 2 (on_child rs a) (on_child rs b) (order_in a b)
-      ∙ ap (λ (c : Bool). bit 2 && (ordered (order_in a b) && c)) default-fits
-      ∙ ap (λ (c : Bool). bit 2 && c) (and-true (ordered (order_in a b))))
-      ∙ not-and (bit 2) (ordered (order_in a b))))
-  knn-bad (cons a (cons b (cons k nil))) = unfold is-flag in literals-bad a b k (some 0) (some 2) false false refl refl
-  knn-bad (cons a (cons b (cons k (cons s nil)))) =
-      literals-bad a b k (literal_bool s) (some 2) (no_flag s) false (flag-reason s) (unfold is-flag in refl)
-  knn-bad (cons a (cons b (cons k (cons s (cons t nil))))) =
-      literals-bad a b k (literal_bool s) (literal_bool t) (no_flag s) (no_flag t) (flag-reason s) (flag-reason t)
-  knn-bad (cons a (cons b (cons k (cons s (cons t (cons u more)))))) =
-      unfold match_request passing is_match in or-true (not (bit 2))
+  said-knn : (es : Exprs) → Said knn_line es (knn_request_by S.default_k es)
+  unfolding reading knn_request_by matches_as line_said verdict_byte
+  said-knn nil = unfold match_request passing in simp or-true
+  said-knn (cons a nil) = unfold match_request passing in simp or-true
+  said-knn (cons a (cons b nil)) =
+      by-geometries 0x13 2 a b false (leb S.default_k S.greatest_k) _ (ap not (sym default-fits))
+      (unfold match_request in nearest-matches S.default_k 0 2 _ _ (order_in a b))
+  said-knn (cons a (cons b (cons k nil))) = unfold is-flag in said-literals a b k (some 0) (some 2) false false refl refl
+  said-knn (cons a (cons b (cons k (cons s nil)))) =
+      said-literals a b k (literal_bool s) (some 2) (no_flag s) false (flag-reason s) (unfold is-flag in refl)
+  said-knn (cons a (cons b (cons k (cons s (cons t nil))))) =
+      said-literals a b k (literal_bool s) (literal_bool t) (no_flag s) (no_flag t) (flag-reason s) (flag-reason t)
+  said-knn (cons a (cons b (cons k (cons s (cons t (cons u more)))))) = unfold match_request passing in simp or-true
 
   -- One that is meant for no line.
-  none-bad : (es : Exprs) → bad no_line es ≡ true
-  unfolding reading
-  none-bad es = simp or-true
-
-  -- ---- what is asked for is of one kind
-
-  abbrev AsksFor : (kind : ℕ) → Request → Type 0
-  AsksFor kind (ask_relation t a b) = 0x11 ≡ kind
-  AsksFor kind (ask_distance form a b d) = 0x12 ≡ kind
-  AsksFor kind (ask_knn k s t a b) = 0x13 ≡ kind
-  AsksFor kind ask_nothing = Unit {0}
-
-  relation-kinded : (kind : ℕ) (t : Relation) (a b : Expr) (o : Order) → 0x11 ≡ kind → Kinded kind (match_relation t a b o)
-  unfolding match_relation predicate_kind
-  relation-kinded kind t a b left_right e = e
-  relation-kinded kind t a b right_left e = e
-  relation-kinded kind t a b no_order e = tt
-
-  stored-kinded : (kind form : ℕ) (s : Side) (a b d : Expr) (o : Order) → 0x12 ≡ kind → Kinded kind (store_distance form s a b d o)
-  unfolding store_distance predicate_kind
-  stored-kinded kind form s a b d left_right e = e
-  stored-kinded kind form s a b d right_left e = e
-  stored-kinded kind form s a b d no_order e = tt
-
-  distance-kinded : (kind form : ℕ) (a b d : Expr) (side : ArgumentSide) (o : Order) → 0x12 ≡ kind
-      → Kinded kind (match_distance rs form a b d side o)
-  unfolding match_distance
-  distance-kinded kind form a b d no_columns o e = stored-kinded kind form no_side a b d o e
-  distance-kinded kind form a b d (all_on left) o e = stored-kinded kind form left a b _ o e
-  distance-kinded kind form a b d (all_on right) o e = stored-kinded kind form right a b _ o e
-  distance-kinded kind form a b d (all_on no_side) o e = tt
-  distance-kinded kind form a b d mixed o e = tt
-
-  knn-kinded : (kind k s t : ℕ) (a b : Expr) (o : Order) → 0x13 ≡ kind → Kinded kind (match_knn k s t a b o)
-  unfolding match_knn predicate_kind
-  knn-kinded kind k s t a b left_right e = e
-  knn-kinded kind k s t a b right_left e = e
-  knn-kinded kind k s t a b no_order e = tt
-
-  kinded : (kind : ℕ) (q : Request) → AsksFor kind q → Kinded kind (kept (match_request rs q))
-  unfolding match_request
-  kinded kind q h = passing-is (allowed S) (Kinded kind) tt (match_request rs q) (by-request q h)
-    where
-      by-request : (q : Request) → AsksFor kind q → Kinded kind (match_request rs q)
-      by-request (ask_relation t a b) e = relation-kinded kind t _ _ _ e
-      by-request (ask_distance form a b d) e = distance-kinded kind form _ _ d _ _ e
-      by-request (ask_knn k s t a b) e = knn-kinded kind k s t _ _ _ e
-      by-request ask_nothing e = tt
-
-  relation-asks : (t : Relation) (es : Exprs) → AsksFor 0x11 (relation_request (some t) es)
-  unfolding relation_request
-  relation-asks t nil = tt
-  relation-asks t (cons a nil) = tt
-  relation-asks t (cons a (cons b more)) = refl
-
-  third-asks : (form : ℕ) (es : Exprs) → AsksFor 0x12 (third form es)
-  unfolding third
-  third-asks form nil = tt
-  third-asks form (cons a nil) = tt
-  third-asks form (cons a (cons b nil)) = tt
-  third-asks form (cons a (cons b (cons d more))) = refl
-
-  literals-ask : (k s t : Option ℕ) (a b : Expr) → AsksFor 0x13 (knn_literals k s t a b)
-  unfolding knn_literals
-  literals-ask none s t a b = tt
-  literals-ask (some k) none t a b = tt
-  literals-ask (some k) (some s) none a b = tt
-  literals-ask (some k) (some s) (some t) a b = refl
-
-  knn-asks : (d : ℕ) (es : Exprs) → AsksFor 0x13 (knn_request_by d es)
-  unfolding knn_request_by
-  knn-asks d nil = tt
-  knn-asks d (cons a nil) = tt
-  knn-asks d (cons a (cons b nil)) = refl
-  knn-asks d (cons a (cons b (cons k nil))) = literals-ask (literal_k k) _ _ a b
-  knn-asks d (cons a (cons b (cons k (cons s nil)))) = literals-ask (literal_k k) _ _ a b
-  knn-asks d (cons a (cons b (cons k (cons s (cons t nil))))) = literals-ask (literal_k k) _ _ a b
-  knn-asks d (cons a (cons b (cons k (cons s (cons t (cons u more)))))) = tt
-
-  -- ---- a leaf
-
-  -- What is to be shown of a leaf that is meant for a line, has these arguments and asks for this.
-  abbrev Said : PriceLine → Exprs → Request → Type 0
-  Said line es q =
-      (if bad line es then none else line_said (matches_as line)) ≡ map predicate_kind (kept (match_request rs q))
-
-  said-relation : (t : Relation) (es : Exprs) → Said relation_line es (relation_request (some t) es)
-  unfolding matches_as line_said verdict_byte
-  said-relation t es =
-      says 0x11 _ _ (relation-bad t es) (kinded 0x11 (relation_request (some t) es) (relation-asks t es))
-
-  said-distance : (form : ℕ) (es : Exprs) → Said distance_line es (third form es)
-  unfolding matches_as line_said verdict_byte
-  said-distance form es = says 0x12 _ _ (distance-bad form es) (kinded 0x12 (third form es) (third-asks form es))
-
-  said-knn : (es : Exprs) → Said knn_line es (knn_request_by S.default_k es)
-  unfolding matches_as line_said verdict_byte
-  said-knn es =
-      says 0x13 _ _ (knn-bad es) (kinded 0x13 (knn_request_by S.default_k es) (knn-asks S.default_k es))
-
   said-nothing : (es : Exprs) → Said no_line es ask_nothing
-  unfolding match_request passing
-  said-nothing es = ap (λ (b : Bool). if b then none else line_said (matches_as no_line)) (none-bad es)
+  unfolding reading match_request passing
+  said-nothing es = simp or-true
 
   dwithin-third : (es : Exprs) → third 0 es ≡ dwithin_request es
   unfolding third dwithin_request
