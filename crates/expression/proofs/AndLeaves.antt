@@ -1,7 +1,7 @@
 -- The AND-leaves of what `node_at` found: those of both children of an And, and any other node is its only one.
 use Prim.Native.Nat.{ℕ, ◌≤◌, ◌<◌}
 use native.Mathlib.Omega.{arith}
-use mathlib.Core.Path.{◌≡◌, refl, sym, ap, ◌∙◌}
+use mathlib.Core.Path.{◌≡◌, refl, sym, ap, ◌∙◌, subst⁻¹}
 use mathlib.Core.Bool.{Bool, ◌&&◌, and-true, and_assoc}
 use mathlib.Core.List.{List, [], ◌∷◌, ◌++◌}
 use lib.ListN.{length, length-append}
@@ -12,10 +12,13 @@ use Rattle.definitions.specs.Leaves.{leaves}
 use Rattle.definitions.specs.Decode.{Columns}
 use Rattle.theorems.proofs.Pick.{leaves-most}
 use Rattle.expression.proofs.Standing.{some_bytes}
-use Rattle.expression.specs.Leaves.{Both, CallIs, PlainNode, plain_column, plain_literal, plain_other, plain_field}
+use Rattle.expression.specs.Nodes.{Stands, OfTreeIn}
+use Rattle.expression.specs.Leaves.{Both, CallIs, NodeIs, PlainNode, plain_column, plain_literal, plain_other, plain_field}
 use Rattle.expression.specs.Cuts.{CutAt, here, in_left, in_right}
 use Rattle.expression.specs.declared.cuts.Cut.{Cut}
 use Rattle.expression.specs.declared.leaves.Called.{Called}
+use Rattle.expression.specs.declared.leaves.Node.{Node}
+use Rattle.expression.specs.declared.leaves.Node.TheVariants.{And, Binary, Call, Plain}
 
 -- ---- how many
 
@@ -79,3 +82,16 @@ all_append f (x ∷ xs) ys = ap (λ (t : Bool). f x && t) (all_append f xs ys) �
 pub all_one : {A : Type 0} (f : A → Bool) (x : A) → all f (x ∷ []) ≡ f x
 unfolding all
 all_one f x = and-true (f x)
+
+-- Any node but And is an AND-leaf.
+leaf-node : (c : Columns) (s : List ℕ) (at : ℕ) (t : Expr) (node : Node) → ((first : ℕ) → node ≡ And first → ⊥)
+    → NodeIs c s at node t → leaves t ≡ t ∷ []
+unfolding leaves
+leaf-node c s at t (And first) none is = absurd (none first refl)
+leaf-node c s at t (Binary operator first) none is = subst⁻¹ (λ (t : Expr). leaves t ≡ t ∷ []) is.is refl
+leaf-node c s at t (Call k) none is = subst⁻¹ (λ (t : Expr). leaves t ≡ t ∷ []) is.is refl
+leaf-node c s at t (Plain head) none is = plain-leaf is.0
+
+pub single-leaf : {c : Columns} {s : List ℕ} {at : ℕ} {t : Expr} (node : Node) → OfTreeIn s at (λ c t. NodeIs c s at node t)
+    → Stands c s at t → ((first : ℕ) → node ≡ And first → ⊥) → leaves t ≡ t ∷ []
+single-leaf {c} {s} {at} {t} node is stands none = leaf-node c s at t node none (is c t stands)

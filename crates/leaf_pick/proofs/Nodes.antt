@@ -1,34 +1,31 @@
 -- What is known of a node that is no And, of one that asks for nothing, and of one that is no function.
-use Prim.Native.Nat.{ℕ, ◌<◌}
+use Prim.Native.Nat.{ℕ, ◌<◌, ◌≤◌, ◌-◌}
 use native.Mathlib.Omega.{arith}
-use mathlib.Core.Path.{◌≡◌, refl, ap, ◌∙◌, subst⁻¹}
+use mathlib.Core.Path.{◌≡◌, refl, sym, ap, ◌∙◌, subst⁻¹}
+use mathlib.Core.Bool.{Bool, true, false}
 use mathlib.Core.List.{List, [], ◌∷◌}
+use lib.ListN.{length, drop}
 use mathlib.Core.Logic.{inr}
 use mathlib.Core.Option.{none}
 use borrow.Author.Tests.{ne_eqb}
-use Rattle.definitions.specs.Expression.{Expr, binary, Record}
-use Rattle.definitions.specs.Leaves.{leaves, comparison}
+use Rattle.definitions.specs.Basics.{ascii, same_name, any}
+use Rattle.definitions.specs.Expression.{relations, Expr, binary, call, Exprs, Record}
+use Rattle.definitions.specs.Leaves.{type_named, relation_named, leaves, comparison}
 use Rattle.definitions.specs.Decode.{Columns}
-use Rattle.definitions.specs.Match.{Request, ask_nothing, comparison_request, request_by, match_request, match_leaf_by}
+use Rattle.definitions.specs.Match.{Request, ask_nothing, relation_request, call_request_by, comparison_request, request_by, match_request, match_leaf_by}
 use Rattle.definitions.specs.Settings.{Settings, allowed, passing, only_if, match_under}
 use Rattle.definitions.specs.Extract.{is_knn}
 use Rattle.expression.specs.Nodes.{Stands, OfTreeIn}
-use Rattle.expression.specs.Leaves.{NodeIs, PlainNode, plain_column, plain_literal, plain_other, plain_field}
+use Rattle.expression.specs.Places.{part}
+use Rattle.expression.specs.Leaves.{CallStands, NodeIs, PlainNode, plain_column, plain_literal, plain_other, plain_field}
 use Rattle.expression.specs.declared.leaves.Called.{Called}
 use Rattle.expression.specs.declared.leaves.Node.{Node}
 use Rattle.expression.specs.declared.leaves.Node.TheVariants.{And, Binary, Call, Plain}
+use Rattle.std.proofs.lemmas.List.{length-drop, length-take-le}
+use Rattle.theorems.proofs.Tools.{same-name}
 use Rattle.expression.proofs.AndLeaves.{plain-leaf}
 use Rattle.leaf_matching.specs.Matches.{is_relation, Lacks}
 use Rattle.leaf_matching.proofs.Asked.{request_kind, Only, comparison-only, only-distance}
-
--- Any node but And is an AND-leaf.
-leaf-node : (c : Columns) (s : List ℕ) (at : ℕ) (t : Expr) (node : Node) → ((first : ℕ) → node ≡ And first → ⊥)
-    → NodeIs c s at node t → leaves t ≡ t ∷ []
-unfolding leaves
-leaf-node c s at t (And first) other is = absurd (other first refl)
-leaf-node c s at t (Binary operator first) other is = subst⁻¹ (λ (t : Expr). leaves t ≡ t ∷ []) is.is refl
-leaf-node c s at t (Call k) other is = subst⁻¹ (λ (t : Expr). leaves t ≡ t ∷ []) is.is refl
-leaf-node c s at t (Plain head) other is = plain-leaf is.0
 
 -- A node that is neither an operator nor a function asks for nothing, and so does an operator that compares no distance.
 plain-asks : (d : ℕ) {t : Expr} → PlainNode t → request_by d t ≡ ask_nothing
@@ -61,6 +58,47 @@ pub binary-passed : (S : Settings) (records : List Record) (operator : ℕ) {l r
 binary-passed S records operator {l} {r} {t} e h =
     nothing-asked S records t (ap (request_by S.default_k) e ∙ binary-asks S.default_k operator l r h)
 
+-- A name is as long as the bytes from its start to its end.
+pub name-length : {c : Columns} {s : List ℕ} {k : Called} {name : List ℕ} {ts : Exprs} → CallStands c s k name ts
+    → length name ≡ k.end - k.name
+unfolding part
+name-length {s = s} {k = k} it = ap length (sym it.spelling)
+    ∙ length-take-le (k.end - k.name) (drop k.name s) (rw (length-drop k.name s) (omega (arith, it.high)))
+
+-- A name of another length is another name.
+other-length : (name other : List ℕ) → (length name ≡ length other → ⊥) → (b : Bool) → same_name name other ≡ b → b ≡ false
+other-length name other h true same = absurd (h (ap length (same-name name other same)))
+other-length name other h false same = refl
+
+-- A function asks for something only where its name has 6 bytes, or 9 to 13.
+module _ (name : List ℕ) (six : length name ≡ 6 → ⊥) (others : (n : ℕ) → length name ≡ n → 9 ≤ n → n ≤ 13 → ⊥) where
+  apart : (text : List ℕ) → (length name ≡ length text → ⊥) → same_name name text ≡ false
+  apart text h = other-length name text h (same_name name text) refl
+
+  name-asks : (d : ℕ) (ts : Exprs) → request_by d (call name ts) ≡ ask_nothing
+  unfolding request_by call_request_by relation_named type_named relations any ascii relation_request
+  name-asks d ts =
+      rw (
+        apart (ascii "st_knn") six,
+        apart (ascii "st_dwithin") (λ e. others 10 e (omega arith) (omega arith)),
+        apart (ascii "st_intersects") (λ e. others 13 e (omega arith) (omega arith)),
+        apart (ascii "rs_intersects") (λ e. others 13 e (omega arith) (omega arith)),
+        apart (ascii "st_contains") (λ e. others 11 e (omega arith) (omega arith)),
+        apart (ascii "rs_contains") (λ e. others 11 e (omega arith) (omega arith)),
+        apart (ascii "st_within") (λ e. others 9 e (omega arith) (omega arith)),
+        apart (ascii "rs_within") (λ e. others 9 e (omega arith) (omega arith)),
+        apart (ascii "st_covers") (λ e. others 9 e (omega arith) (omega arith)),
+        apart (ascii "st_coveredby") (λ e. others 12 e (omega arith) (omega arith)),
+        apart (ascii "st_covered_by") (λ e. others 13 e (omega arith) (omega arith)),
+        apart (ascii "st_touches") (λ e. others 10 e (omega arith) (omega arith)),
+        apart (ascii "st_crosses") (λ e. others 10 e (omega arith) (omega arith)),
+        apart (ascii "st_overlaps") (λ e. others 11 e (omega arith) (omega arith)),
+        apart (ascii "st_equals") (λ e. others 9 e (omega arith) (omega arith)),
+      )
+
+  pub call-passed : (S : Settings) (records : List Record) {ts : Exprs} {t : Expr} → t ≡ call name ts → match_under S records t ≡ none
+  call-passed S records {ts} {t} e = nothing-asked S records t (ap (request_by S.default_k) e ∙ name-asks S.default_k ts)
+
 -- Any node but a function asks for a distance or for nothing.
 node-only : (d : ℕ) (c : Columns) (s : List ℕ) (at : ℕ) (t : Expr) (node : Node) → ((called : Called) → node ≡ Call called → ⊥)
     → NodeIs c s at node t → Only 2 (request_by d t)
@@ -73,9 +111,6 @@ node-only d c s at t (Plain head) other is = inr (ap request_kind (plain-asks d 
 
 module _ {c : Columns} {s : List ℕ} {at : ℕ} {t : Expr} (node : Node) (is : OfTreeIn s at (λ c t. NodeIs c s at node t))
     (stands : Stands c s at t) where
-  pub single-leaf : ((first : ℕ) → node ≡ And first → ⊥) → leaves t ≡ t ∷ []
-  single-leaf other = leaf-node c s at t node other (is c t stands)
-
   pub no-function : ((called : Called) → node ≡ Call called → ⊥)
       → (d : ℕ) (records : List Record) → Lacks is_knn (match_leaf_by d records t) × Lacks is_relation (match_leaf_by d records t)
   no-function other d records = only-distance d records t (node-only d c s at t node other (is c t stands))

@@ -66,6 +66,7 @@ pub struct Leaf {
 }
 
 // A leaf as KNN, which only a function is.
+#[inline]
 pub fn match_knn(filter: Filter, leaf: Leaf, settings: Settings) -> Matching
     requires { LeafThere filter.s.now filter.rows.numbers.now filter.rows.next.now filter.rec leaf }
     ensures { OfFrame filter.entry.s.now filter.entry.rec leaf.stop.at
@@ -79,6 +80,7 @@ pub fn match_knn(filter: Filter, leaf: Leaf, settings: Settings) -> Matching
 }
 
 // A leaf as a relation, else as a distance, whatever the settings.
+#[inline]
 fn match_relation_or_distance(filter: Filter, leaf: Leaf) -> Matching
     requires { LeafThere filter.s.now filter.rows.numbers.now filter.rows.next.now filter.rec leaf }
     ensures { OfFrame filter.entry.s.now filter.entry.rec leaf.stop.at
@@ -94,6 +96,7 @@ fn match_relation_or_distance(filter: Filter, leaf: Leaf) -> Matching
 }
 
 // What the settings leave of it.
+#[inline]
 pub fn match_other(filter: Filter, leaf: Leaf, settings: Settings) -> Matching
     requires { LeafThere filter.s.now filter.rows.numbers.now filter.rows.next.now filter.rec leaf }
     ensures { OfFrame filter.entry.s.now filter.entry.rec leaf.stop.at

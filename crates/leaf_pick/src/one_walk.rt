@@ -12,7 +12,7 @@ ghost use Rattle.leaf_pick.specs.Walks.{PassedIs, seen_here, ReadIs, WalkIs, Wal
 
 use super::first_match::{Leaf, Pick, Stop, match_knn, match_other};
 use expression::cuts::Cut;
-use expression::leaves::{Node, node_at};
+use expression::leaves::{Called, Node, node_at};
 use leaf_matching::filter::Filter;
 use leaf_matching::matching::NoMatch;
 use node_rows::rows::Rows;
@@ -40,18 +40,31 @@ pub struct Walk<T> {
     pub read: usize,
 }
 
-// Whether the node alone tells that a leaf matches nothing: only functions and the first four operators can match.
+// How many bytes the name of a function has, if it can match: 6 of KNN, 9 to 13 of relations, 10 of a distance.
+#[inline]
+fn is_passed_call(called: Called) -> bool
+    ensures { PassedIs (Node.Call called) result }
+{
+    let n = called.end.saturating_sub(called.name);
+    n != 6 && (n < 9 || 13 < n)
+}
+
+// Whether the node alone tells that a leaf matches nothing: only the first four operators can match, and functions with a name as long as one
+// of those that do. So most leaves are passed without a call of a matcher.
+#[inline]
 fn is_passed(node: Node) -> bool
     ensures { PassedIs node result }
 {
     match node {
-        Node::And(_) | Node::Call(_) => false,
+        Node::And(_) => false,
         Node::Binary(operator, _) => 4 < operator,
+        Node::Call(called) => is_passed_call(called),
         Node::Plain(_) => true,
     }
 }
 
 // A leaf with its match, as it is remembered.
+#[inline]
 fn seen_here(rows: Rows, leaf: Leaf, predicate: SpatialPredicate) -> Seen
     requires { leaf.stop.index < length rows.numbers.now }
     ensures { result ≡ seen_here rows.entry.numbers.now leaf predicate }
@@ -65,6 +78,7 @@ fn seen_here(rows: Rows, leaf: Leaf, predicate: SpatialPredicate) -> Seen
 }
 
 // A KNN match stops the walk, another is remembered if it is the first.
+#[inline]
 pub fn read_leaf(filter: Filter, leaf: Leaf, memory: Option<Seen>, settings: Settings) -> Read
     requires { LeafThere filter.s.now filter.rows.numbers.now filter.rows.next.now filter.rec leaf }
     ensures { OfFrame filter.entry.s.now filter.entry.rec leaf.stop.at

@@ -3,7 +3,7 @@
 -- A call goes to a place further on, so the measure is the bytes left.
 use native.Mathlib.Omega.{arith}
 use Rattle.leaf_matching.proofs.Framing.{framed-tree}
-use Rattle.leaf_pick.proofs.Nodes.{single-leaf}
+use Rattle.expression.proofs.AndLeaves.{single-leaf}
 use Rattle.leaf_pick.proofs.FirstLaws.{along-begins, along-within, along-tabled, left-within, left_there, along-left, along-less, along-right}
 use Rattle.leaf_pick.proofs.first_match.+first_match.Goals as goal
 

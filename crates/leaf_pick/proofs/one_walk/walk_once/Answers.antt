@@ -6,7 +6,7 @@ use Rattle.definitions.specs.Leaves.{leaves}
 use Rattle.node_rows.proofs.RowLaws.{tabled-within}
 use Rattle.leaf_matching.specs.Frames.{OfFrame}
 use Rattle.leaf_matching.proofs.Framing.{framed-tree}
-use Rattle.leaf_pick.proofs.Nodes.{single-leaf}
+use Rattle.expression.proofs.AndLeaves.{single-leaf}
 use Rattle.leaf_pick.proofs.Ahead.{along-begins, along-ends, along-and, along-stopped, along-going}
 use Rattle.leaf_pick.proofs.Ahead.{here-framed, here-tabled, here-within, next-index}
 use Rattle.leaf_pick.proofs.one_walk.walk_once.Goals as goal
