@@ -21,7 +21,6 @@ pub mod SettingsLaws
 pub mod VerdictSides
 pub mod VerdictMatches
 pub mod VerdictReasons
-pub mod VerdictStages
 pub mod VerdictArity
 pub mod VerdictTurns
 pub mod MatchLaws

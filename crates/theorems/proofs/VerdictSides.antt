@@ -26,19 +26,26 @@ module _ (ss : List Side) where
   abbrev pub right-alone : Bool
   right-alone = of right && not (of left || of no_side)
 
-all-left : (ss : List Side) → all (same_side left) ss ≡ not (of ss right || of ss no_side)
+pub all-left : (ss : List Side) → all (same_side left) ss ≡ not (of ss right || of ss no_side)
 unfolding all any same_side
 all-left [] = refl
 all-left (left ∷ ss) = all-left ss
 all-left (right ∷ ss) = refl
 all-left (no_side ∷ ss) = sym (ap not (or-true (of ss right)))
 
-all-right : (ss : List Side) → all (same_side right) ss ≡ not (of ss left || of ss no_side)
+pub all-right : (ss : List Side) → all (same_side right) ss ≡ not (of ss left || of ss no_side)
 unfolding all any same_side
 all-right [] = refl
 all-right (left ∷ ss) = refl
 all-right (right ∷ ss) = all-right ss
 all-right (no_side ∷ ss) = sym (ap not (or-true (of ss left)))
+
+pub all-mark : (ss : List Side) → all (same_side no_side) ss ≡ not (of ss left || of ss right)
+unfolding all any same_side
+all-mark [] = refl
+all-mark (left ∷ ss) = refl
+all-mark (right ∷ ss) = sym (ap not (or-true (of ss left)))
+all-mark (no_side ∷ ss) = all-mark ss
 
 pub none-by-bits : (ss : List Side) → none_of ss ≡ not (of ss left || (of ss right || of ss no_side))
 unfolding none_of any same_side
