@@ -17,7 +17,7 @@ use Rattle.expression.specs.Nodes.{Spans, OfTreeIn}
 use Rattle.sedona_expr.specs.Parsed as parsed
 use Rattle.sedona_expr.specs.Parsed.{ParsedIs}
 use Rattle.sedona_expr.specs.declared.utils.ParsedDistancePredicate.{ParsedDistancePredicate}
-use Rattle.leaf_matching.specs.Frames.{Over, Framed, OfFrame}
+use Rattle.leaf_matching.specs.Frames.{Over, OfFrame}
 use Rattle.terms.specs.Forms.{form_number}
 use Rattle.terms.specs.Sides.{join_side}
 use Rattle.leaf_matching.specs.Sides.{argument_side, ArgumentIs}

@@ -37,7 +37,7 @@ pub record Pair (s : List ℕ) (rec at n : ℕ) (records : List Record) (g : Geo
   pub rest : Row (index_below (length records)) s g.end (n - 2) more
 
 module _ {s : List ℕ} {rec at n : ℕ} {records : List Record} where
-  two-over : {a b : Expr} {ts : Exprs} → 2 ≤ n → OverAll s rec at n records (cons a (cons b ts)) → OverTwo s rec at records a b
+  pub two-over : {a b : Expr} {ts : Exprs} → 2 ≤ n → OverAll s rec at n records (cons a (cons b ts)) → OverTwo s rec at records a b
   two-over {a} h o = record { one = first-over o; two = first-over (rest_over o (at + length (expr_bytes a)) (n - 1) refl (omega arith)) }
 
   pair_row : (g : Geometries) → OfFrameTwo s rec at (GeometriesAre at g) → 2 ≤ n → (a b : Expr) (more : Exprs)
@@ -63,7 +63,7 @@ module _ {s : List ℕ} {rec at n : ℕ} {records : List Record} where
       (λ a b more o. pair_row g is h a b more o) arguments (omega (arith, o.row.counted)) o
 
 module _ {s : List ℕ} {rec : ℕ} {k : Called} where
-  arguments-over : {records : List Record} {name : List ℕ} {arguments : Exprs} → CallOver s rec k records name arguments
+  pub arguments-over : {records : List Record} {name : List ℕ} {arguments : Exprs} → CallOver s rec k records name arguments
       → OverAll s rec k.first k.count records arguments
   arguments-over o = record { entries = o.entries; row = o.stands.row }
 

@@ -20,10 +20,11 @@ use Rattle.leaf_matching.specs.Frames.{Over, OverAll, Framed, OfFrame, FramedAll
 use Rattle.terms.specs.Sides.{join_side}
 use Rattle.node_rows.specs.Rows.{Begin, TwoTabled, OfTwo, TwoAre}
 use Rattle.node_rows.specs.declared.pairs.Two.{Two}
-use Rattle.leaf_matching.specs.Sides.{argument_side, order, see, see_all, sides_in, SideIs, SidesAre, ArgumentIs, GeometriesAre}
+use Rattle.leaf_matching.specs.Sides.{argument_side, order, nothing_seen, see, see_all, sides_seen, sides_in, SideIs, SidesAre, ArgumentIs, GeometriesAre}
 use Rattle.terms.specs.declared.sides.JoinSide.{JoinSide}
 use Rattle.leaf_matching.specs.declared.sides.Sides.{Sides}
-use Rattle.leaf_matching.specs.declared.sides.Sides.TheVariants.{NoColumns}
+use Rattle.leaf_matching.specs.declared.sides.Seen.{Seen}
+use Rattle.leaf_matching.specs.declared.sides.References.{References}
 use Rattle.leaf_matching.specs.declared.sides.Argument.{Argument}
 use Rattle.leaf_matching.specs.declared.sides.Order.{Order}
 use Rattle.expression.proofs.Placed.{first}
@@ -39,22 +40,22 @@ sides-append records (x ∷ xs) ys = ap (λ (l : List Side). (record_at records 
 
 -- ---- the answers
 
-module _ {s : List ℕ} {rec at : ℕ} {seen : Sides} {records : List Record} where
+module _ {s : List ℕ} {rec at : ℕ} {seen : Seen} {records : List Record} where
   -- A column: its record's side is seen.
   pub side-column : (t : Expr) → Over s rec at records t → get_or s at 0 ≡ 0
       → (index : ℕ) → index ≡ short_at s (at + 1) → (side : JoinSide) → join_side side ≡ side_numbered (get_or s (rec + 5 * index) 0)
-      → (sides : Sides) → sides ≡ see seen (join_side side) → SideIs at seen (record { end = at + 5; side = sides }) records t
+      → (now : Seen) → now ≡ see seen (join_side side) → SideIs at seen (record { end = at + 5; seen = now }) records t
   unfolding expr_bytes big_endian columns_of see_all record_bytes
-  side-column t over e index number side is sides saw =
+  side-column t over e index number side is now saw =
       let known : ColumnIs s rec at records t = column-is over e in
       let its : join_side side ≡ (record_at records (short_at s (at + 1))).side =
       is ∙ ap (λ (i : ℕ). side_numbered (get_or s (rec + 5 * i) 0)) number
       ∙ ap side_numbered (first known.entry) ∙ side-again _ in
-      rw known.tree (record { end = refl; side = saw ∙ ap (see seen) its })
+      rw known.tree (record { end = refl; seen = saw ∙ ap (see seen) its })
 
   -- Another node: what its children show.
   pub side-other : (t : Expr) → Over s rec at records t → (get_or s at 0 ≡ 0 → ⊥)
-      → (h : Head) → OfTree s at (HeadIs at h) → (r : Argument) → OfFrameAll s rec h.next h.children (SidesAre h.next seen r)
+      → (h : Head) → OfTree s at (HeadIs at h) → (r : References) → OfFrameAll s rec h.next h.children (SidesAre h.next seen r)
       → SideIs at seen r records t
   side-other t over n h its r is =
       let head : HeadIs at h t = its (index_below (length records)) t over.tree in
@@ -62,53 +63,53 @@ module _ {s : List ℕ} {rec at : ℕ} {seen : Sides} {records : List Record} wh
       (children-over over h.next h.children head.next head.children) in
       record {
         end = omega (arith, head.next, below.end, tree-length t);
-        side =
-            below.side ∙ ap (λ (xs : List ℕ). see_all seen (sides_in records xs))
+        seen =
+            below.seen ∙ ap (λ (xs : List ℕ). see_all seen (sides_in records xs))
             (sym (no-own-columns t (λ k. n (sym (kind-is over.tree) ∙ k))));
       }
 
   -- No children: nothing is seen.
   pub sides-none : {n : ℕ} (ts : Exprs) → OverAll s rec at n records ts → n ≡ 0
-      → SidesAre at seen (record { end = at; side = seen }) records ts
+      → SidesAre at seen (record { end = at; seen = seen }) records ts
   unfolding exprs_bytes columns_of_all see_all
   sides-none {n} ts over e =
-      no-children (SidesAre at seen (record { end = at; side = seen }) records) (record { end = omega arith; side = refl }) ts
+      no-children (SidesAre at seen (record { end = at; seen = seen }) records) (record { end = omega arith; seen = refl }) ts
       (over.row.counted ∙ e)
 
   -- A first child, and then the others.
   pub sides-some : {n : ℕ} (ts : Exprs) → OverAll s rec at n records ts → (n ≡ 0 → ⊥)
-      → (r q : Argument) → OfFrame s rec at (SideIs at seen r) → OfFrameAll s rec r.end (n - 1) (SidesAre r.end r.side q)
+      → (r q : References) → OfFrame s rec at (SideIs at seen r) → OfFrameAll s rec r.end (n - 1) (SidesAre r.end r.seen q)
       → SidesAre at seen q records ts
   unfolding exprs_bytes columns_of_all
   sides-some {n} ts over some r q one others = some-children (λ ts. OverAll s rec at n records ts → SidesAre at seen q records ts)
       (λ t ts o.
       let a : SideIs at seen r records t = one records t (first-over o) in
-      let b : SidesAre r.end r.side q records ts = others records ts (rest_over o r.end (n - 1) a.end (omega (arith))) in
+      let b : SidesAre r.end r.seen q records ts = others records ts (rest_over o r.end (n - 1) a.end (omega (arith))) in
       record {
         end = simp length-append (omega (arith, a.end, b.end));
-        side = rw (sides-append records (columns_of t) (columns_of_all ts), see-append)
-            (b.side ∙ ap (λ (x : Sides). see_all x (sides_in records (columns_of_all ts))) a.side);
+        seen = rw (sides-append records (columns_of t) (columns_of_all ts), see-append)
+            (b.seen ∙ ap (λ (x : Seen). see_all x (sides_in records (columns_of_all ts))) a.seen);
       }) ts (omega (arith, over.row.counted)) over
 
 -- ---- the loop over a row
 
 -- What it keeps: what is right for the expressions left is right for the whole row.
-pub record Seeing (s : List ℕ) (rec at n : ℕ) (seen : Sides) (left : ℕ) (walked : Argument) : Type 0 where
+pub record Seeing (s : List ℕ) (rec at n : ℕ) (seen : Seen) (left : ℕ) (walked : References) : Type 0 where
   pub there : FramedAll s rec walked.end left
   pub low : at ≤ walked.end
-  pub rest : (r : Argument) → OfFrameAll s rec walked.end left (SidesAre walked.end walked.side r)
+  pub rest : (r : References) → OfFrameAll s rec walked.end left (SidesAre walked.end walked.seen r)
       → OfFrameAll s rec at n (SidesAre at seen r)
 
-module _ {s : List ℕ} {rec at n : ℕ} {seen : Sides} where
-  pub seeing-begins : FramedAll s rec at n → (left : ℕ) → n ≡ left → Seeing s rec at n seen left (record { end = at; side = seen })
-  seeing-begins there left e = subst (λ (k : ℕ). Seeing s rec at n seen k (record { end = at; side = seen })) e
+module _ {s : List ℕ} {rec at n : ℕ} {seen : Seen} where
+  pub seeing-begins : FramedAll s rec at n → (left : ℕ) → n ≡ left → Seeing s rec at n seen left (record { end = at; seen = seen })
+  seeing-begins there left e = subst (λ (k : ℕ). Seeing s rec at n seen k (record { end = at; seen = seen })) e
       (record { there = there; low = omega arith; rest = λ r is. is })
 
-  module _ {left : ℕ} {walked : Argument} (inv : Seeing s rec at n seen left walked) where
+  module _ {left : ℕ} {walked : References} (inv : Seeing s rec at n seen left walked) where
     pub seeing-first : 0 < left → Framed s rec walked.end
     seeing-first some = first-framed inv.there (λ z. omega arith)
 
-    pub seeing-goes-on : 0 < left → (r : Argument) → OfFrame s rec walked.end (SideIs walked.end walked.side r)
+    pub seeing-goes-on : 0 < left → (r : References) → OfFrame s rec walked.end (SideIs walked.end walked.seen r)
         → (fewer : ℕ) → left - 1 ≡ fewer → Seeing s rec at n seen fewer r
     seeing-goes-on some r is fewer e =
         let first = seeing-first some in
@@ -122,11 +123,12 @@ module _ {s : List ℕ} {rec at n : ℕ} {seen : Sides} where
     seeing-ends none = inv.rest walked (λ records ts o. sides-none ts o (omega arith))
 
 -- What has been seen in the end is the side of the argument.
-pub argument_is : {at : ℕ} {records : List Record} {t : Expr} (r : Argument) → SideIs at NoColumns r records t → ArgumentIs at r records t
+pub argument_is : {at : ℕ} {records : List Record} {t : Expr} (r : References) → SideIs at nothing_seen r records t
+    → (sides : Sides) → sides ≡ sides_seen r.seen → ArgumentIs at (record { end = r.end; side = sides }) records t
 unfolding side_of
-argument_is {records = records} {t = t} r saw = record {
+argument_is {records = records} {t = t} r saw sides is = record {
   end = saw.end;
-  side = ap argument_side saw.side ∙ seen_all (sides_in records (columns_of t));
+  side = ap argument_side is ∙ ap (λ (seen : Seen). argument_side (sides_seen seen)) saw.seen ∙ seen_all (sides_in records (columns_of t));
 }
 
 -- ---- two arguments in a row

@@ -1,24 +1,20 @@
 -- What the answers about sides mean.
-use Rattle.std.specs.Prelude.{ℕ, ◌+◌, ◌≡◌, List, [], ◌∷◌, map, length, if◌then◌else◌, Option, Some, None}
+use Rattle.std.specs.Prelude.{ℕ, ◌+◌, ◌/◌, ◌%◌, ◌≡◌, eqb, bit_or, if◌then◌else◌, List, [], ◌∷◌, map, length, Option, Some, None}
 use Rattle.definitions.specs.Expression.{Side, left, right, no_side, Expr, Exprs, Record}
 use Rattle.definitions.specs.Encode.{expr_bytes, exprs_bytes}
 use Rattle.definitions.specs.Match as definition
-use Rattle.definitions.specs.Match.{columns_of, columns_of_all, record_at, same_side, ArgumentSide, no_columns, all_on, mixed, side_of, order_of}
+use Rattle.definitions.specs.Match.{columns_of, columns_of_all, record_at, ArgumentSide, no_columns, all_on, mixed, side_of, order_of}
 use Rattle.terms.specs.Sides.{join_side}
-use Rattle.terms.specs.declared.sides.JoinSide.{JoinSide}
 use Rattle.terms.specs.declared.sides.JoinSide.TheVariants as side
 use Rattle.leaf_matching.specs.declared.sides.Sides.{Sides}
 use Rattle.leaf_matching.specs.declared.sides.Sides.TheVariants.{NoColumns, AllOn, Mixed}
+use Rattle.leaf_matching.specs.declared.sides.Seen.{Seen}
+use Rattle.leaf_matching.specs.declared.sides.Flags.{Flags}
+use Rattle.leaf_matching.specs.declared.sides.References.{References}
 use Rattle.leaf_matching.specs.declared.sides.Argument.{Argument}
 use Rattle.leaf_matching.specs.declared.sides.Geometries.{Geometries}
 use Rattle.leaf_matching.specs.declared.sides.Order.{Order}
 use Rattle.leaf_matching.specs.declared.sides.Order.TheVariants.{LeftRight, RightLeft}
-
--- The case that each side is.
-abbrev pub side_for : Side → JoinSide
-side_for left = side.Left
-side_for right = side.Right
-side_for no_side = side.None
 
 -- The side of the columns seen.
 abbrev pub argument_side : Sides → ArgumentSide
@@ -32,28 +28,51 @@ order (Some LeftRight) = definition.left_right
 order (Some RightLeft) = definition.right_left
 order None = definition.no_order
 
--- One column more, and a list of them.
-abbrev pub see : Sides → Side → Sides
-see NoColumns x = AllOn (side_for x)
-see (AllOn side) x = if same_side (join_side side) x then AllOn side else Mixed
-see Mixed x = Mixed
+-- No column yet, one column more, and a list of them.
+abbrev pub nothing_seen : Seen
+nothing_seen = record { bits = 0 }
 
-unfoldable pub see_all : Sides → List Side → Sides
+abbrev pub bit_of : Side → ℕ
+bit_of left = 1
+bit_of right = 2
+bit_of no_side = 4
+
+abbrev pub see : Seen → Side → Seen
+see seen x = record { bits = bit_or seen.bits (bit_of x) }
+
+unfoldable pub see_all : Seen → List Side → Seen
 see_all seen [] = seen
 see_all seen (x ∷ xs) = see_all (see seen x) xs
+
+-- What these columns are.
+abbrev pub sides_by : (bits : ℕ) → Sides
+sides_by bits =
+    if eqb bits 0 then NoColumns else
+    if eqb bits 1 then AllOn side.Left else
+    if eqb bits 2 then AllOn side.Right else
+    if eqb bits 4 then AllOn side.None else
+    Mixed
+
+abbrev pub sides_seen : Seen → Sides
+sides_seen seen = sides_by seen.bits
+
+-- Of which there are any.
+abbrev pub flags_of : Seen → Flags
+flags_of seen =
+    record { left = eqb (seen.bits % 2) 1; right = eqb (seen.bits / 2 % 2) 1; mark = eqb (seen.bits / 4 % 2) 1 }
 
 -- The sides of an expression's columns.
 abbrev pub sides_in : List Record → List ℕ → List Side
 sides_in records indexes = map (λ index. (record_at records index).side) indexes
 
 -- Where the walk of the expression at a place ended, and what it has seen.
-pub record SideIs (at : ℕ) (seen : Sides) (r : Argument) (records : List Record) (t : Expr) : Type 0 where
+pub record SideIs (at : ℕ) (before : Seen) (r : References) (records : List Record) (t : Expr) : Type 0 where
   pub end : r.end ≡ at + length (expr_bytes t)
-  pub side : r.side ≡ see_all seen (sides_in records (columns_of t))
+  pub seen : r.seen ≡ see_all before (sides_in records (columns_of t))
 
-pub record SidesAre (at : ℕ) (seen : Sides) (r : Argument) (records : List Record) (ts : Exprs) : Type 0 where
+pub record SidesAre (at : ℕ) (before : Seen) (r : References) (records : List Record) (ts : Exprs) : Type 0 where
   pub end : r.end ≡ at + length (exprs_bytes ts)
-  pub side : r.side ≡ see_all seen (sides_in records (columns_of_all ts))
+  pub seen : r.seen ≡ see_all before (sides_in records (columns_of_all ts))
 
 -- Where an argument ends, and its side.
 pub record ArgumentIs (at : ℕ) (r : Argument) (records : List Record) (t : Expr) : Type 0 where

@@ -7,6 +7,7 @@ use sedona_query_planner::spatial_predicate::SpatialPredicate;
 use terms::settings::Settings;
 
 // Whether a predicate is of a kind allowed and its k, if it has one, is not above the greatest.
+#[inline]
 fn is_allowed(settings: Settings, predicate: SpatialPredicate) -> bool
     ensures { AllowedIs (settings_of settings) predicate result }
 {
@@ -20,6 +21,7 @@ fn is_allowed(settings: Settings, predicate: SpatialPredicate) -> bool
 }
 
 // What is left of a match.
+#[inline]
 pub fn only_allowed(settings: Settings, matching: Matching) -> Matching
     ensures { Allows (settings_of settings) matching result }
 {

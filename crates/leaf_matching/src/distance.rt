@@ -29,6 +29,7 @@ fn side_of_distance(of: Sides) -> Option<JoinSide>
 }
 
 // The left geometry is stored first; the distance needs a defined side. The leaf at a place has index i.
+#[inline]
 pub fn match_distance_predicate(filter: Filter, at: usize, i: usize) -> Matching
     requires framed { Framed filter.s.now filter.rec at }
     requires of_tree { OfTree filter.s.now at (Tabled filter.rows.numbers.now filter.rows.next.now at i) }

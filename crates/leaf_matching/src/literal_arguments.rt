@@ -9,7 +9,7 @@ ghost use Rattle.leaf_matching.specs.Literals.{long_at, number_is, flag_is};
 use expression::literals::signed;
 
 // The number in the eight bytes at a place.
-fn long_at(s: &[u8], at: usize) -> u64
+pub fn long_at(s: &[u8], at: usize) -> u64
     requires { at + 8 ≤ length s.now }
     ensures { result ≡ long_at s.now at }
 {

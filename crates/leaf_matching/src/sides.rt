@@ -6,14 +6,28 @@ ghost use Rattle.definitions.specs.Match.{order_of};
 ghost use Rattle.terms.specs.Sides.{join_side};
 ghost use Rattle.node_rows.specs.Rows.{Begin};
 ghost use Rattle.leaf_matching.specs.Frames.{Framed, OfFrame, FramedAll, OfFrameAll, FramedTwo, OfFrameTwo};
-ghost use Rattle.leaf_matching.specs.Sides.{argument_side, order, see, SideIs, SidesAre, ArgumentIs, GeometriesAre};
+ghost use Rattle.leaf_matching.specs.Sides.{argument_side, order, see, nothing_seen, sides_seen, flags_of, SideIs, SidesAre, ArgumentIs, GeometriesAre};
 
 use super::filter::Filter;
 use expression::fields::short_at;
 use expression::heads::head_at;
 use terms::sides::JoinSide;
 
-// The columns seen so far: none, all on one side, or not.
+// The columns that were seen: bit 0 for those of the left child, 1 for those of the right child, 2 for mark columns.
+#[derive(Clone, Copy)]
+pub struct Seen {
+    pub bits: u8,
+}
+
+// The bits one by one.
+#[derive(Clone, Copy)]
+pub struct Flags {
+    pub left: bool,
+    pub right: bool,
+    pub mark: bool,
+}
+
+// The side of an argument's columns: there are none, all are on one side, or not.
 #[derive(Clone, Copy)]
 pub enum Sides {
     NoColumns,
@@ -21,7 +35,14 @@ pub enum Sides {
     Mixed,
 }
 
-// Where the walk of an argument ended, and the columns that it saw.
+// Where the walk of an expression ended, and the columns that it saw.
+#[derive(Clone, Copy)]
+pub struct References {
+    pub end: usize,
+    pub seen: Seen,
+}
+
+// Where an argument ends, and the side of its columns.
 #[derive(Clone, Copy)]
 pub struct Argument {
     pub end: usize,
@@ -43,30 +64,58 @@ pub struct Geometries {
     pub order: Option<Order>,
 }
 
-// One column more.
-#[tactic(auto, unfolding(definitions::specs::References::same_side))]
-fn see_side(seen: Sides, side: JoinSide) -> Sides
-    ensures { result ≡ see seen (join_side side) }
-{
-    match seen {
-        Sides::NoColumns => Sides::AllOn(side),
-        Sides::AllOn(one) if one == side => seen,
-        Sides::AllOn(_) | Sides::Mixed => Sides::Mixed,
+impl Seen {
+    // One column more.
+    fn with(self, side: JoinSide) -> Seen
+        ensures { result ≡ see self (join_side side) }
+    {
+        let bit = match side {
+            JoinSide::Left => 1,
+            JoinSide::Right => 2,
+            JoinSide::None => 4,
+        };
+        Seen {
+            bits: self.bits | bit,
+        }
+    }
+
+    // The side of these columns.
+    fn sides(self) -> Sides
+        ensures { result ≡ sides_seen self }
+    {
+        match self.bits {
+            0 => Sides::NoColumns,
+            1 => Sides::AllOn(JoinSide::Left),
+            2 => Sides::AllOn(JoinSide::Right),
+            4 => Sides::AllOn(JoinSide::None),
+            _ => Sides::Mixed,
+        }
+    }
+
+    // Of which there are any.
+    pub fn flags(self) -> Flags
+        ensures { result ≡ flags_of self }
+    {
+        Flags {
+            left: self.bits % 2 == 1,
+            right: self.bits / 2 % 2 == 1,
+            mark: self.bits / 4 % 2 == 1,
+        }
     }
 }
 
 // The columns of one expression, after those seen before it.
 #[cycle(collect_children_collect_column_references)]
-fn collect_column_references(s: &[u8], rec: usize, at: usize, seen: Sides) -> Argument
+fn collect_column_references(s: &[u8], rec: usize, at: usize, seen: Seen) -> References
     requires { Framed s.now rec at }
     ensures { OfFrame s.now rec at (SideIs at seen result) }
 {
     if s[at] == 0 {
         let index = short_at(s, at + 1);
         let side = JoinSide::from(u64::from(s[rec + 5 * index]));
-        return Argument {
+        return References {
             end: at + 5,
-            side: see_side(seen, side),
+            seen: seen.with(side),
         };
     }
     let head = head_at(s, at);
@@ -75,18 +124,23 @@ fn collect_column_references(s: &[u8], rec: usize, at: usize, seen: Sides) -> Ar
 
 // The columns of n expressions in a row.
 #[cycle(collect_children_collect_column_references)]
-fn collect_children(s: &[u8], rec: usize, at: usize, n: usize, seen: Sides) -> Argument
+fn collect_children(s: &[u8], rec: usize, at: usize, n: usize, seen: Seen) -> References
     requires { FramedAll s.now rec at n }
     ensures { OfFrameAll s.now rec at n (SidesAre at seen result) }
 {
-    let mut walked = Argument {
-        end: at,
-        side: seen,
-    };
+    let mut walked = References { end: at, seen };
     for _ in 0..n {
-        walked = collect_column_references(s, rec, walked.end, walked.side);
+        walked = collect_column_references(s, rec, walked.end, walked.seen);
     }
     walked
+}
+
+// Where the argument at a place ends, and which columns it has.
+pub fn column_references(s: &[u8], rec: usize, at: usize) -> References
+    requires { Framed s.now rec at }
+    ensures { OfFrame s.now rec at (SideIs at nothing_seen result) }
+{
+    collect_column_references(s, rec, at, Seen { bits: 0 })
 }
 
 // Where the argument at a place ends, and the side of its columns.
@@ -94,7 +148,11 @@ pub fn side_of_column_references(s: &[u8], rec: usize, at: usize) -> Argument
     requires { Framed s.now rec at }
     ensures { OfFrame s.now rec at (ArgumentIs at result) }
 {
-    collect_column_references(s, rec, at, Sides::NoColumns)
+    let walked = column_references(s, rec, at);
+    Argument {
+        end: walked.end,
+        side: walked.seen.sides(),
+    }
 }
 
 // In which order two arguments have their sides, if each is of one child and they are of both.

@@ -35,6 +35,7 @@ pub struct ParsedDistancePredicate {
 
 // The side of a comparison that is read, and the other; none, if the operator is no order.
 #[tactic(auto, unfolding(crate::specs::Parsed::compared))]
+#[inline]
 pub fn comparison(operator: u8, left: usize, right: usize) -> Option<Compared>
     ensures { result ≡ compared operator left right }
 {
@@ -52,6 +53,7 @@ pub fn comparison(operator: u8, left: usize, right: usize) -> Option<Compared>
 }
 
 // An `st_distance` call.
+#[inline]
 pub fn distance_arguments(s: &[u8], at: usize) -> Option<Called>
     requires { Tree s.now at }
     ensures { OfTreeIn s.now at (λ c t. DistanceIs c s.now result (distance_arguments t)) }
@@ -63,6 +65,7 @@ pub fn distance_arguments(s: &[u8], at: usize) -> Option<Called>
 }
 
 // A comparison takes the first two arguments of `st_distance`; its left side has index i.
+#[inline]
 fn parse_comparison(s: &[u8], operator: u8, rows: Rows, i: usize) -> Option<ParsedDistancePredicate>
     requires pair { Pair s.now (start_at rows.numbers.now i) }
     requires of_pair { OfPair s.now (start_at rows.numbers.now i)
@@ -88,6 +91,7 @@ fn parse_comparison(s: &[u8], operator: u8, rows: Rows, i: usize) -> Option<Pars
 }
 
 // `st_dwithin` takes its first three arguments; the first has index i.
+#[inline]
 fn parse_dwithin(s: &[u8], call: Called, rows: Rows, i: usize) -> Option<ParsedDistancePredicate>
     requires calls { Calls s.now call }
     requires of_call { OfCall s.now call (λ c name arguments. TabledAll rows.numbers.now rows.next.now call.first i arguments) }
@@ -111,6 +115,7 @@ fn parse_dwithin(s: &[u8], call: Called, rows: Rows, i: usize) -> Option<ParsedD
 }
 
 // The leaf at a place, which has index i.
+#[inline]
 pub fn parse_distance_predicate(
     s: &[u8],
     at: usize,

@@ -40,7 +40,7 @@ pub collect_column_references-returns-then-s-at-eq0 : goal.collect_column_refere
 collect_column_references-returns-then-s-at-eq0 t c =
     λ records t o.
     side-column t o c.if-s-at-eq0.true _ c.short_at-index.ensures
-    _ (c.from-side.ensures ∙ ap side_numbered c.from.ensures) _ c.see_side.ensures
+    _ (c.from-side.ensures ∙ ap side_numbered c.from.ensures) _ c.with.ensures
 
 pub collect_column_references-collect_children-requires : goal.collect_column_references-collect_children-requires
 collect_column_references-collect_children-requires t c =

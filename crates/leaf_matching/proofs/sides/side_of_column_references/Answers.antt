@@ -4,4 +4,4 @@ use Rattle.leaf_matching.proofs.sides.side_of_column_references.Goals as goal
 
 pub returns : goal.returns
 returns c =
-    λ records t over. argument_is _ (c.collect_column_references.ensures records t over)
+    λ records t over. argument_is _ (c.column_references-walked.ensures records t over) _ c.sides.ensures
