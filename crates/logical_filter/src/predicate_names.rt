@@ -1,11 +1,12 @@
 // The spatial names of a logical filter. A port of `collect_spatial_predicate_names` of
 // rust/sedona-query-planner/src/spatial_expr_utils.rs; the case of letters is ignored.
 ghost use Rattle.std.specs.Prelude.{◌≡◌, true, ◌∷◌, [], map, position, ◌+◌, ◌≤◌, length};
-ghost use Rattle.definitions.specs.Basics.{ascii, same_name};
+ghost use Rattle.std.specs.List.{list_any};
+ghost use Rattle.definitions.specs.Basics.{ascii, same_name, any};
 ghost use Rattle.definitions.specs.Expression.{binary, nil, cons};
 ghost use Rattle.definitions.specs.Encode.{expr_bytes, exprs_bytes};
 ghost use Rattle.definitions.specs.Leaves.{leaves};
-ghost use Rattle.definitions.specs.Logical.{lower_case, function_name, leaf_name, mask};
+ghost use Rattle.definitions.specs.Logical.{lower_case, spatial_names, function_name, leaf_name, mask};
 ghost use Rattle.expression.specs.Nodes.{Tree, OfTree};
 ghost use Rattle.expression.specs.Leaves.{Pair, OfPair};
 ghost use Rattle.logical_filter.specs.Logicals.{spellings, apart, NamesAre, PredicateNamesAre};
@@ -16,7 +17,7 @@ use expression::names::same_name_ignore_case;
 use sedona_expr::utils::comparison;
 
 // Whether an expression measures a distance.
-fn is_distance_expr(s: &[u8], at: usize) -> bool
+pub fn is_distance_expr(s: &[u8], at: usize) -> bool
     requires { Tree s.now at }
     ensures { OfTree s.now at (λ t. result ≡ same_name (function_name t) (ascii "st_distance")) }
 {
@@ -44,6 +45,20 @@ const SPATIAL_NAMES: [&[u8]; 15] = [
     b"rs_contains",
     b"rs_within",
 ];
+
+// Whether it is one of these names.
+fn is_among(name: &[u8], names: &[&[u8]]) -> bool
+    ensures { result ≡ list_any (λ other. same_name (lower_case name.now) other.now) names.now }
+{
+    names.iter().any(|other| same_name_ignore_case(name, other))
+}
+
+// Whether it is one of the 15.
+pub fn is_spatial_name(name: &[u8]) -> bool
+    ensures { result ≡ any (same_name (lower_case name.now)) spatial_names }
+{
+    is_among(name, &SPATIAL_NAMES)
+}
 
 // Which of these names it is, from 0.
 fn name_position(name: &[u8], names: &[&[u8]]) -> Option<usize>
