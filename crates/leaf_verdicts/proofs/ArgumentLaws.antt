@@ -1,0 +1,145 @@
+-- What two geometries and what follows them make of the arguments of a leaf, since these stand in a row.
+use Rattle.std.specs.Prelude.{Option, Some, None}
+use Prim.Native.Nat.{ℕ, ◌+◌, ◌-◌, ◌<◌, ◌≤◌}
+use native.Mathlib.Omega.{arith}
+use mathlib.Core.Path.{◌≡◌, refl, ◌∙◌}
+use mathlib.Core.Bool.{false}
+use mathlib.Core.List.{List}
+use lib.ListN.{length}
+use Rattle.definitions.specs.Expression.{Expr, Exprs, nil, cons, count, Record}
+use Rattle.definitions.specs.Encode.{expr_bytes}
+use Rattle.definitions.specs.Decode.{Columns, index_below}
+use Rattle.definitions.specs.Verdicts.{Verdict, as_relation, too_few_arguments, too_many_arguments, with_bound, argument_is, has_argument, sides_of}
+use Rattle.expression.specs.Nodes.{Row, Trees}
+use Rattle.expression.proofs.Standing.{some-children}
+use Rattle.expression.proofs.Parts.{two-of}
+use Rattle.leaf_matching.specs.Frames.{Over, Framed, OverAll, FramedAll, OfFrameAll, FramedTwo, OfFrameTwo}
+use Rattle.leaf_matching.proofs.Framing.{first-over, rest_over}
+use Rattle.leaf_matching.proofs.MatchLaws.{two-over}
+use Rattle.leaf_verdicts.specs.declared.geometries.Geometries.{Geometries}
+use Rattle.std.specs.Option.{unwrap_or}
+use Rattle.leaf_verdicts.specs.declared.verdict.Verdict as verdicts
+use Rattle.leaf_verdicts.specs.Cases.{verdict_of}
+use Rattle.leaf_verdicts.specs.Columns.{or_after, GeometriesTold}
+use Rattle.leaf_verdicts.specs.Stages.{geometry_verdict, bound_verdict, relation_stage, distance_stage, options_stage, knn_stage}
+
+-- ---- too few or too many
+
+module _ (records : List Record) where
+  pub relation-few : (ts : Exprs) → count ts < 2 → too_few_arguments ≡ relation_stage records ts
+  unfolding relation_stage count
+  relation-few nil h = refl
+  relation-few (cons a nil) h = refl
+  relation-few (cons a (cons b ts)) h = absurd (omega arith)
+
+  pub distance-few : (ts : Exprs) → count ts < 3 → too_few_arguments ≡ distance_stage records ts
+  unfolding distance_stage count
+  distance-few nil h = refl
+  distance-few (cons a nil) h = refl
+  distance-few (cons a (cons b nil)) h = refl
+  distance-few (cons a (cons b (cons d ts))) h = absurd (omega arith)
+
+  pub measured-few : (d : Expr) (ts : Exprs) → count ts < 2 → too_few_arguments ≡ distance_stage records (with_bound d ts)
+  unfolding distance_stage with_bound count
+  measured-few d nil h = refl
+  measured-few d (cons a nil) h = refl
+  measured-few d (cons a (cons b ts)) h = absurd (omega arith)
+
+  pub knn-few : (greatest : ℕ) (ts : Exprs) → count ts < 2 → too_few_arguments ≡ knn_stage greatest records ts
+  unfolding knn_stage count
+  knn-few greatest nil h = refl
+  knn-few greatest (cons a nil) h = refl
+  knn-few greatest (cons a (cons b ts)) h = absurd (omega arith)
+
+  pub knn-many : (greatest : ℕ) (ts : Exprs) → 5 < count ts → too_many_arguments ≡ knn_stage greatest records ts
+  unfolding knn_stage has_argument argument_is count
+  knn-many greatest nil h = absurd (omega arith)
+  knn-many greatest (cons a nil) h = absurd (omega arith)
+  knn-many greatest (cons a (cons b nil)) h = absurd (omega arith)
+  knn-many greatest (cons a (cons b (cons k nil))) h = absurd (omega arith)
+  knn-many greatest (cons a (cons b (cons k (cons s nil)))) h = absurd (omega arith)
+  knn-many greatest (cons a (cons b (cons k (cons s (cons t nil))))) h = absurd (omega arith)
+  knn-many greatest (cons a (cons b (cons k (cons s (cons t (cons x ts)))))) h = refl
+
+-- Three arguments after the geometries are not too many.
+no-sixth : (more : Exprs) → count more ≤ 3 → has_argument 3 more ≡ false
+unfolding has_argument argument_is count
+no-sixth nil h = refl
+no-sixth (cons k nil) h = refl
+no-sixth (cons k (cons s nil)) h = refl
+no-sixth (cons k (cons s (cons t nil))) h = refl
+no-sixth (cons k (cons s (cons t (cons x ts)))) h = absurd (omega arith)
+
+-- The reason, else the verdict after it.
+pub or-else : (r : Option verdicts.Verdict) (v : verdicts.Verdict) → verdict_of (unwrap_or r v) ≡ or_after r (verdict_of v)
+or-else (Some why) v = refl
+or-else None v = refl
+
+-- ---- the geometries first
+
+module _ {s : List ℕ} {rec at n : ℕ} where
+  pub two-framed : FramedAll s rec at n → 2 ≤ n → FramedTwo s rec at
+  two-framed p h = two-of (λ ts. OverAll s rec at n p.0 ts → FramedTwo s rec at)
+      (λ a b ts o. (p.0, a, b, two-over h o)) p.1 (omega (arith, p.2.row.counted)) p.2
+
+  module _ (g : Geometries) (is : OfFrameTwo s rec at (GeometriesTold at g)) (enough : 2 ≤ n) where
+    -- What follows them stands where they end.
+    after-two : {records : List Record} {a b : Expr} {more : Exprs} → OverAll s rec at n records (cons a (cons b more))
+        → OverAll s rec g.end (n - 2) records more
+    after-two {records} {a} {b} o =
+        rest_over (rest_over o (at + length (expr_bytes a)) (n - 1) refl (omega arith)) g.end (n - 2)
+        (is records a b (two-over enough o)).end (omega arith)
+
+    -- Whatever the verdict after them is.
+    told : {records : List Record} {a b : Expr} {more : Exprs} → OverAll s rec at n records (cons a (cons b more)) → (after : Verdict)
+        → or_after g.reason after ≡ geometry_verdict (sides_of records a) (sides_of records b) after
+    told {records} {a} {b} o = (is records a b (two-over enough o)).told
+
+    by-two : (P : List Record → Exprs → Type 0) → ((records : List Record) (a b : Expr) (more : Exprs)
+        → OverAll s rec at n records (cons a (cons b more)) → P records (cons a (cons b more))) → OfFrameAll s rec at n P
+    by-two P f records ts o = two-of (λ ts. OverAll s rec at n records ts → P records ts) (f records) ts (omega (arith, o.row.counted)) o
+
+    pub relation-told : OfFrameAll s rec at n (λ records ts. or_after g.reason as_relation ≡ relation_stage records ts)
+    unfolding relation_stage
+    relation-told = by-two (λ records ts. or_after g.reason as_relation ≡ relation_stage records ts)
+        (λ records a b more o. told o as_relation)
+
+    pub measured-told : (v : Verdict) (q : ℕ)
+        → ((records : List Record) (d : Expr) → Over s rec q records d → v ≡ or_after g.reason (bound_verdict (sides_of records d)))
+        → OfFrameAll s rec at n (λ records ts. (d : Expr) → Over s rec q records d → v ≡ distance_stage records (with_bound d ts))
+    unfolding distance_stage with_bound
+    measured-told v q e = by-two (λ records ts. (d : Expr) → Over s rec q records d → v ≡ distance_stage records (with_bound d ts))
+        (λ records a b more o d over. e records d over ∙ told o (bound_verdict (sides_of records d)))
+
+    -- The bound after them.
+    pub third-framed : FramedAll s rec at n → 3 ≤ n → Framed s rec g.end
+    third-framed p h = two-of (λ ts. OverAll s rec at n p.0 ts → Framed s rec g.end)
+        (λ a b more o. some-children (λ more. OverAll s rec g.end (n - 2) p.0 more → Framed s rec g.end)
+        (λ d ts o. (p.0, d, first-over o)) more (omega (arith, (after-two o).row.counted)) (after-two o))
+        p.1 (omega (arith, p.2.row.counted)) p.2
+
+    pub distance-told : 3 ≤ n → (v : Verdict)
+        → ((records : List Record) (d : Expr) → Over s rec g.end records d → v ≡ or_after g.reason (bound_verdict (sides_of records d)))
+        → OfFrameAll s rec at n (λ records ts. v ≡ distance_stage records ts)
+    unfolding distance_stage
+    distance-told h v e = by-two (λ records ts. v ≡ distance_stage records ts)
+        (λ records a b more o. some-children
+        (λ more. OverAll s rec g.end (n - 2) records more
+        → ((after : Verdict) → or_after g.reason after ≡ geometry_verdict (sides_of records a) (sides_of records b) after)
+        → v ≡ distance_stage records (cons a (cons b more)))
+        (λ d ts rest told. e records d (first-over rest) ∙ told (bound_verdict (sides_of records d)))
+        more (omega (arith, (after-two o).row.counted)) (after-two o) (told o))
+
+    -- The options after them.
+    pub options-there : FramedAll s rec at n → Trees s g.end (n - 2)
+    options-there p = two-of (λ ts. OverAll s rec at n p.0 ts → Trees s g.end (n - 2))
+        (λ a b more o. (index_below (length p.0), more, (after-two o).row)) p.1 (omega (arith, p.2.row.counted)) p.2
+
+    pub knn-told : n ≤ 5 → (greatest : ℕ) (v : Verdict)
+        → ((c : Columns) (more : Exprs) → Row c s g.end (n - 2) more → v ≡ or_after g.reason (options_stage greatest more))
+        → OfFrameAll s rec at n (λ records ts. v ≡ knn_stage greatest records ts)
+    unfolding knn_stage
+    knn-told few greatest v e = by-two (λ records ts. v ≡ knn_stage greatest records ts)
+        (λ records a b more o.
+        rw (no-sixth more (omega (arith, (after-two o).row.counted)))
+        (e (index_below (length records)) more (after-two o).row ∙ told o (options_stage greatest more)))

@@ -1,0 +1,17 @@
+-- `other_call_verdict`: its name in small letters, else what stands below it.
+use Rattle.leaf_verdicts.proofs.StageLaws.{call-unmeant}
+use Rattle.leaf_verdicts.proofs.leaf.other_call_verdict.Goals as goal
+
+pub inside_verdict-requires : goal.inside_verdict-requires
+inside_verdict-requires c = (c.requires.0, c.requires.2, c.requires.3.row)
+
+pub returns-then-named_in_small : goal.returns-then-named_in_small
+returns-then-named_in_small c =
+    λ d name ts st.
+    rw (call-unmeant name ts, ← (rw (c.name.ensures, st.spelling) at c.named_in_small.ensures), c.if-named_in_small.true)
+
+pub returns-else-named_in_small : goal.returns-else-named_in_small
+returns-else-named_in_small c =
+    λ d name ts st.
+    rw (call-unmeant name ts, ← (rw (c.name.ensures, st.spelling) at c.named_in_small.ensures), c.if-named_in_small.false)
+    (c.inside_verdict.ensures d ts st.row)
