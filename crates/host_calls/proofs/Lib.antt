@@ -6,3 +6,4 @@ pub mod AllSmall
 pub mod TableRoom
 pub mod CoreLaws
 pub mod QueueHosting
+pub mod ExplainSmall

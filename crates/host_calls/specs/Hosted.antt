@@ -9,6 +9,7 @@ use Rattle.definitions.specs.Hosts.{hosted, hosted_walk, hosted_serve, hosted_al
 use Rattle.definitions.specs.Printed.{print}
 use Rattle.definitions.specs.Settings.{Settings}
 use Rattle.definitions.specs.QueueBytes.{PutOutcome, ServeOutcome}
+use Rattle.definitions.specs.Verdicts.{ExplainOutcome}
 
 -- The load is the definition's, whatever n the host had: answer, plan buffer and table.
 abbrev pub LoadHosted : (frame before : List ℕ) (table : List NodeRecord) (after : List ℕ) (filled : List NodeRecord) → ℤ → Type 0
@@ -49,3 +50,7 @@ ServeHosted o after out_after r = (r ≡ hosted_serve o.answer) × (after ≡ o.
 -- The call that extracts all is the definition's: answer, rounds and buffer; the frame's numbers are bytes (request 14).
 abbrev pub AllHosted : (frame : List ℕ) → AllOutcome → (after : List ℕ) → ℤ → Type 0
 AllHosted frame o after r = AllBytes frame × (r ≡ hosted_all o.rounds o.answer) × (after ≡ o.buffer)
+
+-- The call that explains is the definition's: answer and buffer; the frame's numbers are bytes. (Ours.)
+abbrev pub ExplainHosted : (frame : List ℕ) → ExplainOutcome → (after : List ℕ) → ℤ → Type 0
+ExplainHosted frame o after r = AllBytes frame × (r ≡ hosted o.answer) × (after ≡ o.buffer)

@@ -4,6 +4,7 @@
 pub mod answers;
 pub mod cores;
 pub mod exchange;
+pub mod explain;
 pub mod extract;
 pub mod extract_all;
 pub mod load;

@@ -8,3 +8,4 @@ pub mod HostsAgree
 pub mod LineLists
 pub mod QueueHosts
 pub mod AllHosts
+pub mod ExplainHosts

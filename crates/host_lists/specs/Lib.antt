@@ -6,3 +6,4 @@ pub mod HostsAgree
 pub mod LineLists
 pub mod QueueHosts
 pub mod AllHosts
+pub mod ExplainHosts

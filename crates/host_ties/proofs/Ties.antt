@@ -1,5 +1,5 @@
--- What each call of `spatialjoin_c` ensures is, as it is generated from its src/lib.rt, the relation that `HostCall`, `QueueHosted` or
--- `HostAll` has of it, and what the export of its name ensures is the same (`spatialjoin_c_c`, proofs/Exported); and so a call that met
+-- What each call of `spatialjoin_c` ensures is, as it is generated from its src/lib.rt, the relation that `HostCall`, `QueueHosted`,
+-- `HostAll` or `HostExplain` has of it, and what the export of its name ensures is the same (`spatialjoin_c_c`, proofs/Exported); and so a call that met
 -- its contract is a host's call.
 use Prim.Native.Nat.{ℕ}
 use mathlib.Core.Path.{◌≡◌, refl}
@@ -22,10 +22,11 @@ use Rattle.definitions.specs.Project.{project}
 use Rattle.definitions.specs.Machine.{extract_call, exchange_call}
 use Rattle.definitions.specs.History.{loading, making, merging, projecting}
 use Rattle.definitions.specs.QueueBytes.{put, serve}
+use Rattle.definitions.specs.Verdicts.{explain}
 use Rattle.definitions.specs.QueueLists.{put_call, serve_call, made_put, made_serve}
 use Rattle.node_table.specs.Records.{nodes_of}
 use Rattle.node_table.specs.declared.NodeRecord.{NodeRecord as TableRecord}
-use Rattle.host_calls.specs.Hosted.{LoadHosted, CallHosted, settings_by, ExtractHosted, MergeHosted, PutHosted, ServeHosted, AllHosted}
+use Rattle.host_calls.specs.Hosted.{LoadHosted, CallHosted, settings_by, ExtractHosted, MergeHosted, PutHosted, ServeHosted, AllHosted, ExplainHosted}
 use Rattle.host_lists.specs.Numbers.{answered, walk_answered, next_n}
 use Rattle.host_lists.specs.HostLists.{Host, HostCall}
 use Rattle.host_lists.specs.QueueHosts.{serve_answered, QueueHosted, put_hosted, serve_hosted}
@@ -41,6 +42,7 @@ use Rattle.spatialjoin_c.specs.contracts.spatialjoin_project as projected
 use Rattle.spatialjoin_c.specs.contracts.spatialjoin_put as putting
 use Rattle.spatialjoin_c.specs.contracts.spatialjoin_serve as serving
 use Rattle.spatialjoin_c.specs.contracts.spatialjoin_extract_all as listing
+use Rattle.spatialjoin_c.specs.contracts.spatialjoin_explain as explaining
 
 -- ---- what is ensured
 
@@ -103,6 +105,13 @@ module _ {M : Type 1} {𝓤 : Ura M} (𝓛 : Logic 𝓤) (mem : Memory → SProp
       ≡ (let S : Settings = settings_by a.1.1.0 a.1.1.1.0 a.1.1.1.1.0 in
       says (AllHosted a.0.now (extract_all_under S a.0.now a.1.0.now) e.1.0.now z))
   all-ensures κs a z e = refl
+
+  pub explain-ensures : (κs : Lfts (explaining.signature).lifetimes) (a : Args explaining.signature κs) (z : Res explaining.signature κs)
+      (e : AtExit explaining.ended κs)
+      → (explaining.clauses 𝓛 mem run κs a).ensures tt z e
+      ≡ (let S : Settings = settings_by a.1.1.0 a.1.1.1.0 a.1.1.1.1.0 in
+      says (ExplainHosted a.0.now (explain S a.0.now a.1.0.now) e.1.0.now z))
+  explain-ensures κs a z e = refl
 
   -- A line of the program: what it answers and keeps, and what it leaves in the scratch.
   pub line-ensures : (κs : Lfts (line.signature).lifetimes) (a : Args line.signature κs) (r : Res line.signature κs)

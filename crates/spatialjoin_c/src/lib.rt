@@ -10,13 +10,15 @@ ghost use Rattle.definitions.specs.Merge as merges;
 ghost use Rattle.definitions.specs.Project as projects;
 ghost use Rattle.definitions.specs.QueueBytes as queued;
 ghost use Rattle.definitions.specs.Settings as settled;
+ghost use Rattle.definitions.specs.Verdicts as explaining;
 ghost use Rattle.spatialjoin_c.specs.Version.{version};
 ghost use Rattle.node_table.specs.Records.{nodes_of};
-ghost use Rattle.host_calls.specs.Hosted.{LoadHosted, CallHosted, settings_by, ExtractHosted, MergeHosted, PrintHosted, PutHosted, ServeHosted, AllHosted};
+ghost use Rattle.host_calls.specs.Hosted.{LoadHosted, CallHosted, settings_by, ExtractHosted, MergeHosted, PrintHosted, PutHosted, ServeHosted, AllHosted, ExplainHosted};
 
 use call_extract::compared::Table;
 use host_calls::cores::taken_count;
 use host_calls::exchange::exchange_number;
+use host_calls::explain::explain_number;
 use host_calls::extract::extract_core;
 use host_calls::extract_all::all_number;
 use host_calls::load::load_core;
@@ -132,7 +134,7 @@ pub fn spatialjoin_project(
 pub fn spatialjoin_version() -> i64
     ensures { result ≡ pos version }
 {
-    0 * 65536 + 14 * 256 + 0
+    0 * 65536 + 15 * 256 + 0
 }
 
 // Adds a frame at the end of a queue of two that share a buffer; nothing looks into the frame.
@@ -162,4 +164,18 @@ pub fn spatialjoin_extract_all(
         out.old) out.new result }
 {
     all_number(frame, out, host_settings(kinds, default_k, greatest_k))
+}
+
+// Writes the verdict of each conjunct of a frame under settings: (line · 65,536 + position) · 65,536 + count.
+pub fn spatialjoin_explain(
+    frame: &[u8],
+    verdicts: &mut [u8],
+    kinds: u8,
+    default_k: u32,
+    greatest_k: u32,
+) -> i64
+    ensures { ExplainHosted frame.now (explaining.explain (settings_by kinds default_k greatest_k) frame.now
+        verdicts.old) verdicts.new result }
+{
+    explain_number(frame, verdicts, host_settings(kinds, default_k, greatest_k))
 }

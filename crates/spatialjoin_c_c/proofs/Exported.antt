@@ -32,6 +32,8 @@ use Rattle.spatialjoin_c_c.specs.contracts.spatialjoin_serve as serve_c
 use Rattle.spatialjoin_c.specs.contracts.spatialjoin_serve as serve_lib
 use Rattle.spatialjoin_c_c.specs.contracts.spatialjoin_extract_all as extract_all_c
 use Rattle.spatialjoin_c.specs.contracts.spatialjoin_extract_all as extract_all_lib
+use Rattle.spatialjoin_c_c.specs.contracts.spatialjoin_explain as explain_c
+use Rattle.spatialjoin_c.specs.contracts.spatialjoin_explain as explain_lib
 
 module _ {M : Type 1} {𝓤 : Ura M} (𝓛 : Logic 𝓤) (mem : Memory → SProp 𝓤) (run : Routine → Fun 𝓤) where
   pub load-same : (κs : Lfts (load_c.signature).lifetimes) (a : Args load_c.signature κs)
@@ -88,3 +90,8 @@ module _ {M : Type 1} {𝓤 : Ura M} (𝓛 : Logic 𝓤) (mem : Memory → SProp
       (z : Res extract_all_c.signature κs) (e : AtExit extract_all_c.ended κs)
       → (extract_all_c.clauses 𝓛 mem run κs a).ensures tt z e ≡ (extract_all_lib.clauses 𝓛 mem run κs a).ensures tt z e
   extract-all-same κs a z e = refl
+
+  pub explain-same : (κs : Lfts (explain_c.signature).lifetimes) (a : Args explain_c.signature κs)
+      (z : Res explain_c.signature κs) (e : AtExit explain_c.ended κs)
+      → (explain_c.clauses 𝓛 mem run κs a).ensures tt z e ≡ (explain_lib.clauses 𝓛 mem run κs a).ensures tt z e
+  explain-same κs a z e = refl

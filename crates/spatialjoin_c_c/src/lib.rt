@@ -10,9 +10,10 @@ ghost use Rattle.definitions.specs.Merge as merges;
 ghost use Rattle.definitions.specs.Project as projects;
 ghost use Rattle.definitions.specs.QueueBytes as queued;
 ghost use Rattle.definitions.specs.Settings as settled;
+ghost use Rattle.definitions.specs.Verdicts as explaining;
 ghost use Rattle.spatialjoin_c.specs.Version.{version};
 ghost use Rattle.node_table.specs.Records.{nodes_of};
-ghost use Rattle.host_calls.specs.Hosted.{LoadHosted, CallHosted, settings_by, ExtractHosted, MergeHosted, PrintHosted, PutHosted, ServeHosted, AllHosted};
+ghost use Rattle.host_calls.specs.Hosted.{LoadHosted, CallHosted, settings_by, ExtractHosted, MergeHosted, PrintHosted, PutHosted, ServeHosted, AllHosted, ExplainHosted};
 
 use node_table::NodeRecord;
 
@@ -142,4 +143,19 @@ pub extern "C" fn spatialjoin_extract_all(
         out.old) out.new result }
 {
     spatialjoin_c::spatialjoin_extract_all(frame, out, kinds, default_k, greatest_k)
+}
+
+// Writes the verdict of each conjunct of a frame under settings: (line · 65,536 + position) · 65,536 + count.
+#[unsafe(no_mangle)]
+pub extern "C" fn spatialjoin_explain(
+    frame: &[u8],
+    verdicts: &mut [u8],
+    kinds: u8,
+    default_k: u32,
+    greatest_k: u32,
+) -> i64
+    ensures { ExplainHosted frame.now (explaining.explain (settings_by kinds default_k greatest_k) frame.now
+        verdicts.old) verdicts.new result }
+{
+    spatialjoin_c::spatialjoin_explain(frame, verdicts, kinds, default_k, greatest_k)
 }
