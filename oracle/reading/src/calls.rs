@@ -9,6 +9,7 @@ use crate::project::{self as projection, Lists};
 use crate::queues::{MAX_QUEUED, MAX_WAITING, Queues, Served};
 use crate::refusal::Refusal;
 use crate::settings::Settings;
+use crate::verdicts::verdicts as verdicts_of;
 use crate::{decode, encode, logical as logical_half, physical, print as console, walk as walks};
 
 /// Nothing of the old plan is read: `n` is only set. Request 6 of document 02: the table is filled.
@@ -190,6 +191,36 @@ pub fn extract_all(frame: &[u8], out: &mut [u8], settings: Settings) -> Result<A
     Ok(All {
         rounds: all.taken.len(),
         length: bytes.len(),
+    })
+}
+
+/// What an accepted explain gives: the first byte and the position of what extract would take, and how
+/// many AND-leaves there are.
+#[derive(Clone, Copy, Debug, PartialEq, Eq)]
+pub struct Explained {
+    pub taken: Option<(u8, u16)>,
+    pub count: usize,
+}
+
+/// The verdict of each AND-leaf at the start of the lent buffer. 24, then 1 to 8, then 9.
+pub fn explain(
+    frame: &[u8],
+    verdicts: &mut [u8],
+    settings: Settings,
+) -> Result<Explained, Refusal> {
+    if settings.get_24() {
+        return Err(Refusal::BadSettings);
+    }
+    let frame = decode::physical(frame)?;
+    let found = verdicts_of(&frame, settings);
+    let start = verdicts.get_mut(..found.len()).ok_or(Refusal::NoRoom)?;
+    for (byte, verdict) in start.iter_mut().zip(&found) {
+        *byte = verdict.byte();
+    }
+    let extraction = physical::extract(&frame, settings);
+    Ok(Explained {
+        taken: extraction.map(|taken| (encode::first_byte(&taken.predicate), taken.position)),
+        count: found.len(),
     })
 }
 

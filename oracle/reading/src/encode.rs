@@ -65,7 +65,7 @@ fn put_frame(frame: &Frame, out: &mut Vec<u8>) {
     put_expr(&frame.expr, out);
 }
 
-fn first_byte(predicate: &Predicate) -> u8 {
+pub fn first_byte(predicate: &Predicate) -> u8 {
     match predicate {
         Predicate::Relation { .. } => RELATION,
         Predicate::Distance { .. } => DISTANCE,

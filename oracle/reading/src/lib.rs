@@ -17,4 +17,5 @@ pub mod project;
 pub mod queues;
 pub mod refusal;
 pub mod settings;
+pub mod verdicts;
 pub mod walk;

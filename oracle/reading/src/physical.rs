@@ -9,7 +9,7 @@ const COVERS: u8 = 3;
 const COVERED_BY: u8 = 4;
 
 /// The relation type of a name; names are compared byte for byte.
-fn relation_type(name: &[u8]) -> Option<u8> {
+pub(crate) fn relation_type(name: &[u8]) -> Option<u8> {
     match name {
         b"st_intersects" | b"rs_intersects" => Some(0),
         b"st_contains" | b"rs_contains" => Some(CONTAINS),
