@@ -8,7 +8,7 @@ use datafusion_common::{DFSchema, JoinSide};
 use datafusion_expr::Expr as LogicalExpr;
 use datafusion_physical_plan::joins::utils::{ColumnIndex, JoinFilter};
 use reading::decode;
-use reading::frame::{Expr, Frame, LOGICAL, PHYSICAL, Record};
+use reading::frame::{DISTANCE, Expr, Frame, KNN, LOGICAL, PHYSICAL, RELATION, Record};
 use reading::physical::exchange_frame;
 use reading::program::{hex, parse};
 use reading::refusal::Refusal;
@@ -278,6 +278,23 @@ pub fn try_refused(line: &[u8]) -> Option<Tried> {
         Some(Some(_)) => Tried::Extracts,
         Some(None) => Tried::FindsNothing,
     })
+}
+
+/// The first byte of the extraction and the position of the AND-leaf that the original takes of a good
+/// frame, as requests 5 and 8 of document 02 have it; the inner nothing where it finds none, the outer
+/// where it panics.
+pub fn taken(frame: &Frame) -> Option<Option<(u8, u16)>> {
+    let filter = join_filter(frame, Hidden::ALL);
+    let found = guarded(|| transform_join_filter(&filter))?;
+    Some(found.map(|(predicate, _)| {
+        let (first, geometry) = match &predicate {
+            SpatialPredicate::Relation(taken) => (RELATION, &taken.left),
+            SpatialPredicate::Distance(taken) => (DISTANCE, &taken.left),
+            SpatialPredicate::KNearestNeighbors(taken) => (KNN, &taken.left),
+        };
+        let leaf = taken_leaf(geometry).expect("a matched geometry has a column");
+        (first, leaf)
+    }))
 }
 
 thread_local! {

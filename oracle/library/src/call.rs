@@ -3,7 +3,7 @@
 use std::fmt;
 
 use driver::rng::Rng;
-use reading::calls::{self, All};
+use reading::calls::{self, All, Explained};
 use reading::program::hex;
 use reading::project::Lists;
 use reading::queues::Served;
@@ -14,6 +14,7 @@ use spatialjoin::{Node, numbers};
 use crate::lent::Lent;
 use crate::settings::to_library;
 use crate::tables::{of_reading, to_reading};
+use crate::verdicts::explain;
 
 #[derive(Clone, Copy, Debug, PartialEq, Eq, PartialOrd, Ord)]
 pub enum Kind {
@@ -27,14 +28,17 @@ pub enum Kind {
     Put,
     Serve,
     ExtractAll,
+    Explain,
 }
 
 impl Kind {
     /// A length, or minus a refusal's number: an extract's answer without its walk, a serve's without its
-    /// queue, that of an extract of all conjuncts without its rounds.
+    /// queue, that of an extract of all conjuncts without its rounds, an explain's without what is taken.
     pub fn without_walk(self, answer: i64) -> i64 {
         match (self, answer) {
-            (Kind::Extract | Kind::Serve | Kind::ExtractAll, 0..) => answer % 65_536,
+            (Kind::Extract | Kind::Serve | Kind::ExtractAll | Kind::Explain, 0..) => {
+                answer % 65_536
+            }
             (Kind::Extract, _) => -(-answer % 256),
             _ => answer,
         }
@@ -70,10 +74,24 @@ fn all_number(answer: Result<All, Refusal>) -> i64 {
     number(0, answer.map(|all| all.rounds * 65_536 + all.length))
 }
 
+/// Line, position and count; line and position are 0 without a match.
+fn explained_number(answer: Result<Explained, Refusal>) -> i64 {
+    let bill = |taken: Option<(u8, u16)>| {
+        taken.map_or(0, |(line, position)| {
+            usize::from(line) * 65_536 + usize::from(position)
+        })
+    };
+    number(
+        0,
+        answer.map(|explained| bill(explained.taken) * 65_536 + explained.count),
+    )
+}
+
 /// What a call is not given is empty.
 pub struct Call {
     pub kind: Kind,
-    /// Of a load, of a logical call, of a print, of a merge, of a put and of an extract of all conjuncts.
+    /// Of a load, of a logical call, of a print, of a merge, of a put, of an extract of all conjuncts and of an
+    /// explain.
     pub frame: Vec<u8>,
     pub n: usize,
     pub plan: Vec<u8>,
@@ -83,7 +101,7 @@ pub struct Call {
     pub text: Vec<u8>,
     /// Of a load, of an extract and of a merge.
     pub table: Vec<Node>,
-    /// Of an extract, and of one of all conjuncts.
+    /// Of an extract, of one of all conjuncts and of an explain.
     pub settings: Settings,
     /// Of a projection: the left one and the right one.
     pub lists: [Vec<u16>; 2],
@@ -91,7 +109,7 @@ pub struct Call {
     pub queues: Vec<u8>,
     /// Of a put.
     pub queue: u8,
-    /// Of a serve, and of an extract of all conjuncts.
+    /// Of a serve, of an extract of all conjuncts, and of an explain: the verdicts.
     pub out: Vec<u8>,
 }
 
@@ -170,14 +188,7 @@ impl Call {
                     ..Outcome::default()
                 };
             }
-            Kind::ExtractAll => {
-                let answer = calls::extract_all(&self.frame, &mut out, self.settings);
-                return Outcome {
-                    answer: all_number(answer),
-                    out,
-                    ..Outcome::default()
-                };
-            }
+            Kind::ExtractAll | Kind::Explain => return self.expected_of_frame(),
         };
         Outcome {
             answer: number(walk, answer),
@@ -190,10 +201,26 @@ impl Call {
         }
     }
 
+    /// Of a call that takes a frame, an output and settings.
+    fn expected_of_frame(&self) -> Outcome {
+        let mut out = self.out.clone();
+        let answer = match self.kind {
+            Kind::ExtractAll => {
+                all_number(calls::extract_all(&self.frame, &mut out, self.settings))
+            }
+            _ => explained_number(calls::explain(&self.frame, &mut out, self.settings)),
+        };
+        Outcome {
+            answer,
+            out,
+            ..Outcome::default()
+        }
+    }
+
     pub fn given(&self, rng: &mut Rng) -> Given {
         match self.kind {
             Kind::Put | Kind::Serve => self.given_of_queues(rng),
-            Kind::ExtractAll => self.given_of_all(rng),
+            Kind::ExtractAll | Kind::Explain => self.given_of_frame(rng),
             _ => self.given_of_plan(rng),
         }
     }
@@ -218,11 +245,15 @@ impl Call {
         }
     }
 
-    fn given_of_all(&self, rng: &mut Rng) -> Given {
+    /// Likewise.
+    fn given_of_frame(&self, rng: &mut Rng) -> Given {
         let frame = Lent::bytes(rng, &self.frame);
         let mut out = Lent::bytes(rng, &self.out);
         let settings = to_library(self.settings);
-        let answer = numbers::extract_all(frame.items(), out.items_mut(), settings);
+        let answer = match self.kind {
+            Kind::ExtractAll => numbers::extract_all(frame.items(), out.items_mut(), settings),
+            _ => explain(frame.items(), out.items_mut(), settings),
+        };
         Given {
             outcome: Outcome {
                 answer,
@@ -259,7 +290,9 @@ impl Call {
                 let [left, right] = lists.each_ref().map(Lent::items);
                 numbers::project(plan.items_mut(), n, scratch.items_mut(), left, right)
             }
-            Kind::Put | Kind::Serve | Kind::ExtractAll => unreachable!("they take no plan"),
+            Kind::Put | Kind::Serve | Kind::ExtractAll | Kind::Explain => {
+                unreachable!("they take no plan")
+            }
         };
         Given {
             outcome: Outcome {
@@ -335,7 +368,7 @@ impl fmt::Display for Call {
             writeln!(f, "  queues   {}", shown(&self.queues))?;
             return write!(f, "  output   {}", shown(&self.out));
         }
-        if let Kind::ExtractAll = self.kind {
+        if let Kind::ExtractAll | Kind::Explain = self.kind {
             writeln!(f, "{:?}\n  {:?}", self.kind, self.settings)?;
             writeln!(f, "  frame    {}", shown(&self.frame))?;
             return write!(f, "  output   {}", shown(&self.out));

@@ -31,8 +31,8 @@ pub fn run(
     Ok(())
 }
 
-/// Of a frame of its own that has many conjuncts, under settings of its own; at times it is damaged.
-pub fn run_alone(rng: &mut Rng, counts: &mut Counts) -> Result<(), String> {
+/// A frame that has many conjuncts, at times damaged, and settings for it.
+pub fn any(rng: &mut Rng) -> (Vec<u8>, Settings) {
     let (most, doubled) = match rng.below(128) {
         0 => (80, 6),
         1..=3 => (12, 4),
@@ -43,7 +43,7 @@ pub fn run_alone(rng: &mut Rng, counts: &mut Counts) -> Result<(), String> {
     if rng.one_in(8) {
         damage(rng, &mut frame);
     }
-    run(rng, &frame, settings, counts)
+    (frame, settings)
 }
 
 /// So many good frames at the most, any two of them merged until there is one, which then is joined to

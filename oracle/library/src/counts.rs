@@ -1,12 +1,14 @@
 use std::collections::BTreeMap;
 use std::fmt;
 
+use reading::frame::{DISTANCE, KNN, RELATION};
 use reading::settings::Settings;
+use reading::verdicts::REASONS;
 
 use crate::call::{Call, Kind};
 
 /// The calls, with the refusals that documents 01 and 02 give each of them.
-const ANSWERS: [(Kind, &[i64]); 10] = [
+const ANSWERS: [(Kind, &[i64]); 11] = [
     (Kind::Load, &[1, 2, 3, 4, 5, 6, 7, 8, 9, 17]),
     (Kind::Extract, &[9, 10, 11, 12, 13, 24]),
     (Kind::Exchange, &[9, 10, 11]),
@@ -20,6 +22,7 @@ const ANSWERS: [(Kind, &[i64]); 10] = [
     (Kind::Put, &[1, 10, 21, 22, 23]),
     (Kind::Serve, &[9, 10]),
     (Kind::ExtractAll, &[1, 2, 3, 4, 5, 6, 7, 8, 9, 24]),
+    (Kind::Explain, &[1, 2, 3, 4, 5, 6, 7, 8, 9, 24]),
 ];
 
 /// How many calls there were of each kind, by what they answered.
@@ -41,6 +44,11 @@ pub struct Counts {
     unrounded: u64,
     rounded: u64,
     most_rounds: i64,
+    /// How often explains said each verdict, by its byte.
+    verdicts: BTreeMap<u8, u64>,
+    /// How many frames the original extracted and the verdicts named what it took, and in how many both
+    /// found nothing.
+    named: [u64; 2],
 }
 
 impl Counts {
@@ -73,6 +81,26 @@ impl Counts {
         }
     }
 
+    pub fn count_verdicts(&mut self, said: &[u8]) {
+        for byte in said {
+            *self.verdicts.entry(*byte).or_default() += 1;
+        }
+    }
+
+    pub fn count_original(&mut self, extracted: bool) {
+        self.named[usize::from(!extracted)] += 1;
+    }
+
+    /// The verdicts that none said.
+    fn unsaid(&self) -> Vec<String> {
+        let matches = [RELATION, DISTANCE, KNN].into_iter();
+        let all = matches.chain(REASONS.map(|(reason, _)| reason.byte()));
+        let lacks = |byte: &u8| !self.verdicts.contains_key(byte);
+        all.filter(lacks)
+            .map(|byte| format!("Explain verdict {byte:02x}"))
+            .collect()
+    }
+
     /// The answers that a call may give and that none gave.
     pub fn unreached(&self) -> Vec<String> {
         let mut unreached = Vec::new();
@@ -93,7 +121,22 @@ impl Counts {
         if self.unrounded == 0 || self.rounded == 0 {
             unreached.push("ExtractAll of no round, and of several".to_owned());
         }
+        if self.named.contains(&0) {
+            unreached.push("Explain beside the original, extracted and not".to_owned());
+        }
+        unreached.extend(self.unsaid());
         unreached
+    }
+
+    fn write_verdicts(&self, f: &mut fmt::Formatter<'_>) -> fmt::Result {
+        let said = |(byte, count)| format!("{byte:02x} {count}");
+        let verdicts: Vec<String> = self.verdicts.iter().map(said).collect();
+        writeln!(f, "Explain    verdicts {}", verdicts.join(", "))?;
+        let [extracted, none] = self.named;
+        writeln!(
+            f,
+            "Explain    named what the original takes {extracted}, as it none {none}"
+        )
     }
 
     fn calls(&self) -> u64 {
@@ -138,6 +181,7 @@ impl fmt::Display for Counts {
             "ExtractAll no round {unrounded}, several {rounded}, the most {}",
             self.most_rounds
         )?;
+        self.write_verdicts(f)?;
         write!(f, "{} calls", self.calls())
     }
 }

@@ -11,12 +11,14 @@ mod queues;
 mod settings;
 mod tables;
 mod texts;
+mod verdicts;
 
 use std::env;
 use std::process::ExitCode;
 
 use driver::make::pairs::{self, Pair};
 use driver::make::{self, Case};
+use driver::original::keep_guarded_panics_quiet;
 use driver::progress::Progress;
 use driver::rng::Rng;
 use reading::frame::{LOGICAL, MAX_BYTES, PHYSICAL};
@@ -58,6 +60,7 @@ fn main() -> ExitCode {
         return ExitCode::from(2);
     }
     println!("seed {seed}, {frames} frames");
+    keep_guarded_panics_quiet();
     let mut counts = Counts::default();
     let mut progress = Progress::new("frames compared", frames);
     for number in 1..=frames {
@@ -153,9 +156,9 @@ fn next_call(
     Ok(())
 }
 
-/// All calls of a case, on one plan and under the same settings, with projections of what is held after each; then prints, merges
-/// and extracts of all conjuncts of its frames, merges of a pair, projections of an extraction that no frame need
-/// have made, and extracts of all conjuncts of a frame that has many.
+/// All calls of a case, on one plan and under the same settings, with projections of what is held after each; then prints, merges,
+/// extracts of all conjuncts and explains of its frames, merges of a pair, projections of an extraction that no frame need
+/// have made, extracts of all conjuncts and explains of a frame that has many, and explains of one whose leaves have several reasons.
 fn run(rng: &mut Rng, case: &Case, counts: &mut Counts) -> Result<(), String> {
     let asked: Vec<Asked> = case.lines.iter().map(|line| asked(rng, line)).collect();
     let settings = settings::any(rng, asked.iter().filter_map(frame_of));
@@ -173,12 +176,16 @@ fn run(rng: &mut Rng, case: &Case, counts: &mut Counts) -> Result<(), String> {
             let (held, new) = (pairs::frame(rng), frame.clone());
             merges::run(rng, &Pair { held, new }, counts)?;
             conjuncts::run(rng, frame, settings, counts)?;
+            verdicts::run(rng, frame, settings, counts)?;
         }
     }
     let pair = pairs::pair(rng);
     merges::run(rng, &pair, counts)?;
     projections::run_alone(rng, counts)?;
-    conjuncts::run_alone(rng, counts)
+    let (frame, settings) = conjuncts::any(rng);
+    conjuncts::run(rng, &frame, settings, counts)?;
+    verdicts::run(rng, &frame, settings, counts)?;
+    verdicts::run_alone(rng, counts)
 }
 
 /// The difference on a print of a filter that is part of this one, the smallest found.

@@ -10,6 +10,7 @@ mod logical;
 mod names;
 pub mod pairs;
 mod physical;
+pub mod reasons;
 
 use reading::decode;
 use reading::program::{hex, parse};
