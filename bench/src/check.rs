@@ -1,7 +1,10 @@
 //! Before anything is timed: ours, the original and the reading give the same bytes, and plain Rust
-//! where it is timed. Of print, merge, project, put, serve and extract_all, which the original has not,
+//! where it is timed. Of print, merge, project, put, serve, extract_all and explain, which the original has not,
 //! all but the original.
 
+use driver::make::damage::damage;
+use driver::make::reasons;
+use driver::rng::Rng;
 use reading::frame::{MAX_BYTES, MAX_NODES, Plan};
 use reading::project::{Lists, MAX_ITEMS};
 use reading::queues::{MAX_QUEUED, MAX_WAITING, QUEUES_BYTES};
@@ -532,6 +535,60 @@ fn all_alike(frame: &[u8], room: usize, settings: Settings) -> bool {
     let expected = answer.map(|all| (all.rounds as u32, all.length));
     numbers::extract_all(frame, &mut ours, given) == number
         && plain::extract_all(frame, &mut plain, given) == expected.map_err(Refusal::number)
+        && ours == read
+        && plain == read
+}
+
+/// Likewise explain, on the frames that are timed and on ones whose conjuncts have many reasons, some of
+/// them damaged.
+pub fn verdicts(group: &Group) -> Result<(), String> {
+    let mut frames = group.frames.clone();
+    frames.extend((0..400).map(reasoned));
+    for frame in &frames {
+        let leaves = decode::physical(frame).map_or(3, |good| good.expr.and_leaves().len());
+        let rooms = [0, leaves.saturating_sub(1), leaves, leaves + 3, MAX_NODES];
+        for (kinds, default_k, greatest_k) in SETTINGS {
+            let settings = Settings {
+                kinds,
+                default_k,
+                greatest_k,
+            };
+            let cut = &frame[..frame.len() - 1];
+            let same = rooms
+                .iter()
+                .all(|room| explained_alike(frame, *room, settings))
+                && explained_alike(cut, leaves, settings);
+            if !same {
+                return Err(format!("{}: explain differs", group.name));
+            }
+        }
+    }
+    Ok(())
+}
+
+fn reasoned(number: u64) -> Vec<u8> {
+    let mut rng = Rng::new(35, number);
+    let mut frame = reasons::frame(&mut rng);
+    if number % 16 == 0 {
+        damage(&mut rng, &mut frame);
+    }
+    frame
+}
+
+fn explained_alike(frame: &[u8], room: usize, settings: Settings) -> bool {
+    let given = to_library(settings);
+    let [mut ours, mut plain, mut read] = [(); 3].map(|()| vec![7; room]);
+    let answer = calls::explain(frame, &mut read, settings);
+    let expected = answer.map_err(Refusal::number).map(|explained| {
+        let (line, position) = explained.taken.unwrap_or_default();
+        u64::from(line) << 32 | u64::from(position) << 16 | explained.count as u64
+    });
+    let number = match expected {
+        Ok(bill) => bill as i64,
+        Err(refusal) => -i64::from(refusal),
+    };
+    ours::explain(frame, &mut ours, given) == number
+        && plain::explain(frame, &mut plain, given) == expected
         && ours == read
         && plain == read
 }

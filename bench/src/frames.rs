@@ -81,6 +81,19 @@ pub fn conjuncts() -> Vec<Group> {
     one.into_iter().chain(all).chain([most]).collect()
 }
 
+/// For explain alone: those, and names nearly ours below every conjunct, each of which is looked at.
+pub fn verdicts() -> Vec<Group> {
+    let mut groups = conjuncts();
+    groups.push(single("names nearly ours below", nearly_ours_below()));
+    groups
+}
+
+fn nearly_ours_below() -> Vec<u8> {
+    let near = || call("ST_WITHIM", Vec::new());
+    let wide = || call("f", (0..16).map(|_| near()).collect());
+    physical_frame(records(2), tree((0..56).map(|_| wide()).collect()))
+}
+
 /// Those of the goals about all conjuncts.
 pub const ALL_SHORT_ONE: &str = "64 bytes, one matches";
 pub const ALL_SHORT: &str = "64 bytes, all match";

@@ -13,6 +13,7 @@ mod plain;
 mod projections;
 mod queues;
 mod table;
+mod verdicts;
 
 use std::env;
 use std::process::ExitCode;
@@ -27,14 +28,15 @@ use spatialjoin::{Settings, numbers};
 use table::{BESIDE_EXCHANGE, BESIDE_EXTRACT, BOTH, Column, ORIGINAL, QUEUED, Table, YARDSTICK};
 
 /// How many tables a run has, of an operation each.
-const OPERATIONS: usize = 13;
+const OPERATIONS: usize = 14;
 
-const USAGE: &str = "bench [--rounds N | --repeat GROUP | --conjuncts N]";
+const USAGE: &str = "bench [--rounds N | --repeat GROUP | --conjuncts N | --verdicts N]";
 
 enum Asked {
     Tables(usize),
     Repeat(String),
     Conjuncts(usize),
+    Verdicts(usize),
 }
 
 fn main() -> ExitCode {
@@ -44,6 +46,7 @@ fn main() -> ExitCode {
         Some(Asked::Tables(rounds)) => run(rounds),
         Some(Asked::Repeat(group)) => repeat(&group),
         Some(Asked::Conjuncts(rounds)) => all_conjuncts(&mut Rounds::new(rounds, 1)).map(drop),
+        Some(Asked::Verdicts(rounds)) => explain(&mut Rounds::new(rounds, 1)).map(drop),
         None => {
             eprintln!("{USAGE}");
             return ExitCode::from(2);
@@ -73,6 +76,10 @@ fn asked(words: &[String]) -> Option<Asked> {
         [name, value] if name == "--conjuncts" => {
             let rounds = value.parse().ok().filter(|rounds| *rounds > 0)?;
             Some(Asked::Conjuncts(rounds))
+        }
+        [name, value] if name == "--verdicts" => {
+            let rounds = value.parse().ok().filter(|rounds| *rounds > 0)?;
+            Some(Asked::Verdicts(rounds))
         }
         [name, group] if name == "--repeat" => Some(Asked::Repeat(group.clone())),
         _ => None,
@@ -106,12 +113,7 @@ fn repeat(name: &str) -> Result<(), String> {
             }
         }
     }
-    let groups = frames::conjuncts().into_iter().filter(|g| g.name == name);
-    let mut out = vec![0; spatialjoin::MOST_BYTES];
-    for frame in groups.flat_map(|group| group.frames.into_iter().cycle().take(800)) {
-        numbers::extract_all(&frame, &mut out, Settings::default());
-        done += 1;
-    }
+    done += repeat_whole(name);
     for waiting in Waiting::all().iter().filter(|queues| queues.name == name) {
         waiting.repeat(800);
         done += 1;
@@ -120,6 +122,19 @@ fn repeat(name: &str) -> Result<(), String> {
         0 => Err(format!("no group {name}")),
         _ => Ok(()),
     }
+}
+
+/// Extracts all conjuncts of the frames of that name, and explains them; how often.
+fn repeat_whole(name: &str) -> usize {
+    let mut out = vec![0; spatialjoin::MOST_BYTES];
+    let mut done = 0;
+    let groups = frames::verdicts().into_iter().filter(|g| g.name == name);
+    for frame in groups.flat_map(|group| group.frames.into_iter().cycle().take(800)) {
+        numbers::extract_all(&frame, &mut out, Settings::default());
+        numbers::explain(&frame, &mut out, Settings::default());
+        done += 1;
+    }
+    done
 }
 
 fn run(rounds: usize) -> Result<(), String> {
@@ -150,6 +165,7 @@ fn run(rounds: usize) -> Result<(), String> {
     );
     tables.extend(print_queue_tables(&waiting, &mut rounds));
     tables.push(all_conjuncts(&mut rounds)?);
+    tables.push(explain(&mut rounds)?);
     assert_eq!(tables.len(), OPERATIONS, "what progress counts");
     table::print_all(&tables);
     Ok(())
@@ -162,6 +178,16 @@ fn all_conjuncts(rounds: &mut Rounds) -> Result<Table, String> {
     let tasks = groups.iter().map(conjuncts::all).collect();
     let table = shown(rounds, "All conjuncts", BESIDE_EXTRACT, tasks);
     table::print_all_goals(&table);
+    Ok(table)
+}
+
+/// The table of explain alone.
+fn explain(rounds: &mut Rounds) -> Result<Table, String> {
+    let groups = frames::verdicts();
+    groups.iter().try_for_each(check::verdicts)?;
+    let tasks = groups.iter().map(verdicts::explain).collect();
+    let table = shown(rounds, "Explain", BESIDE_EXTRACT, tasks);
+    table::print_explain_goal(&table);
     Ok(table)
 }
 

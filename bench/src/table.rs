@@ -392,6 +392,18 @@ pub fn print_all_goals(all: &Table) {
     println!();
 }
 
+/// That of explain: one load and extract at the most, whatever the frame.
+pub fn print_explain_goal(explain: &Table) {
+    println!("| goal | measured | reached |");
+    println!("|---|---|---|");
+    let times = |row: &Row| row.ratio(&[Contender::LoadAndExtract]).map(f64::recip);
+    let (times, name) = explain.extreme(times, true);
+    let measured = format!("at most {} times ({name})", number(times));
+    let goal = "Explain: at most one load and extract";
+    print_goal(goal, &measured, times <= 1.0);
+    println!();
+}
+
 fn print_speeds(load_and_extract: &Table) {
     use Contender::{RustAnswer, RustCall, RustFromBytes};
     const GOALS: [(&str, &[Contender], f64); 3] = [

@@ -3,6 +3,7 @@
 
 mod all;
 mod check;
+mod explain;
 mod extract;
 mod held;
 mod load;
@@ -14,6 +15,7 @@ mod project;
 mod queues;
 
 pub use all::extract_all;
+pub use explain::explain;
 pub use extract::extract;
 pub use held::{Plain, plans};
 pub use load::load;

@@ -276,7 +276,7 @@ fn left_first(first: Argument, second: Argument) -> [Argument; 2] {
     }
 }
 
-fn relation(name: &[u8]) -> Option<u8> {
+pub fn relation(name: &[u8]) -> Option<u8> {
     match name {
         b"st_intersects" | b"rs_intersects" => Some(0),
         b"st_contains" | b"rs_contains" => Some(1),

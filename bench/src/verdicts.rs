@@ -1,0 +1,45 @@
+//! The verdicts of a frame's conjuncts.
+
+use std::hint::black_box;
+
+use reading::frame::MAX_NODES;
+use spatialjoin::Settings;
+
+use crate::frames::Group;
+use crate::measure::{Contender, Task};
+use crate::operations::{copy, in_turn, task};
+use crate::ours::{self, Ours};
+use crate::plain;
+
+/// Ours, plain Rust, and, to compare, one load and extract of ours of the same frames.
+pub fn explain(group: &Group) -> Task<'_> {
+    let frames = &group.frames;
+    let mut verdicts = vec![0; MAX_NODES];
+    let ours = in_turn(frames.len(), move |i| {
+        let frame = black_box(&frames[i]);
+        black_box(ours::explain(frame, &mut verdicts, Settings::default()));
+        black_box(&mut verdicts);
+    });
+    let mut verdicts = vec![0; MAX_NODES];
+    let plain = in_turn(frames.len(), move |i| {
+        let settings = black_box(Settings::default());
+        let _ = black_box(plain::explain(
+            black_box(&frames[i]),
+            &mut verdicts,
+            settings,
+        ));
+        black_box(&mut verdicts);
+    });
+    let mut held = Ours::new();
+    let once = in_turn(frames.len(), move |i| {
+        held.load(black_box(&frames[i]));
+        held.extract();
+    });
+    let works = vec![
+        (Contender::Ours, Box::new(ours) as _),
+        (Contender::PlainRust, Box::new(plain) as _),
+        (Contender::LoadAndExtract, Box::new(once) as _),
+        (Contender::Copy, copy(frames)),
+    ];
+    task(group.name, frames, works)
+}
