@@ -412,6 +412,52 @@ int64_t spatialjoin_extract_all(const uint8_t *SPATIALJOIN_RESTRICT frame, size_
                                 uint8_t *SPATIALJOIN_RESTRICT out, size_t out_len,
                                 uint8_t kinds, uint32_t default_k, uint32_t greatest_k);
 
+/* What spatialjoin_explain says of a conjunct: what it is indexed by, which is the first byte of its extraction, or the first of these
+ * reasons, in this order, for which it is not. docs/PRICE-LIST.md of the repository has what to change for each. */
+enum spatialjoin_verdict {
+    SPATIALJOIN_AS_RELATION = 0x11,
+    SPATIALJOIN_AS_DISTANCE = 0x12,
+    SPATIALJOIN_AS_KNN = 0x13,
+    SPATIALJOIN_OTHER_CASE = 0x20,             /* it would be one of these with its name in small letters */
+    SPATIALJOIN_OTHER_SIDE = 0x21,             /* st_distance stands on the side of a comparison that is not looked at */
+    SPATIALJOIN_OTHER_OPERATOR = 0x22,         /* st_distance beside an operator other than <, <=, > and >= */
+    SPATIALJOIN_INSIDE_ANOTHER = 0x23,         /* directly below it (an OR, a NOT, a function) stands what could be one */
+    SPATIALJOIN_NOTHING_OF_OURS = 0x24,        /* any other expression */
+    SPATIALJOIN_KIND_LEFT_OUT = 0x30,          /* the settings leave its kind out */
+    SPATIALJOIN_FEWER_ARGUMENTS = 0x40,        /* an st_knn of fewer than two arguments */
+    SPATIALJOIN_MORE_ARGUMENTS = 0x41,         /* an st_knn of more than five */
+    SPATIALJOIN_FIRST_WITHOUT_COLUMNS = 0x50,  /* its first geometry has no column, */
+    SPATIALJOIN_FIRST_OF_BOTH = 0x51,          /* columns of both children, */
+    SPATIALJOIN_FIRST_WITH_MARK = 0x52,        /* a mark column; */
+    SPATIALJOIN_SECOND_WITHOUT_COLUMNS = 0x53, /* its second, likewise */
+    SPATIALJOIN_SECOND_OF_BOTH = 0x54,
+    SPATIALJOIN_SECOND_WITH_MARK = 0x55,
+    SPATIALJOIN_BOTH_LEFT = 0x56,              /* both geometries are of the left child, */
+    SPATIALJOIN_BOTH_RIGHT = 0x57,             /* of the right one */
+    SPATIALJOIN_BOUND_OF_BOTH = 0x60,          /* the bound of a distance has columns of both children, */
+    SPATIALJOIN_BOUND_WITH_MARK = 0x61,        /* a mark column */
+    SPATIALJOIN_K_NO_NUMBER = 0x70,            /* k is no whole-number literal, */
+    SPATIALJOIN_K_BELOW_ONE = 0x71,            /* below 1, */
+    SPATIALJOIN_K_ABOVE_GREATEST = 0x72,       /* above the greatest k of the settings */
+    SPATIALJOIN_SPHEROID_NO_FLAG = 0x73,       /* the first flag is no Boolean literal, */
+    SPATIALJOIN_TIES_NO_FLAG = 0x74            /* the second */
+};
+
+/* The parts of an accepted spatialjoin_explain's answer: how many conjuncts there are; the first byte of the extraction that extract
+ * would leave, 0 where nothing matches; and the position, from 0, of the conjunct that it would take. */
+#define SPATIALJOIN_CONJUNCTS_OF(answer) ((unsigned)((answer) % 65536))
+#define SPATIALJOIN_LINE_OF(answer) ((unsigned)((answer) / 65536 / 65536))
+#define SPATIALJOIN_TAKEN_OF(answer) ((unsigned)((answer) / 65536 % 65536))
+
+/* Says of each conjunct of a physical frame why it is indexed or is not: (line * 65536 + position) * 65536 + conjuncts, which the macros
+ * above take apart, or -24, then of the frame -1, -2, the first of -3 to -6 from left to right, -7, -8, then -9 in this order. A byte for
+ * each conjunct, one of enum spatialjoin_verdict, is written at the start of the buffer, and the bytes after them stay as they were;
+ * SPATIALJOIN_MOST_NODES bytes are always enough. -9 where it has fewer bytes than the frame conjuncts. A refusal writes nothing. It never
+ * gives -13: where nothing matches line and position are 0. */
+int64_t spatialjoin_explain(const uint8_t *SPATIALJOIN_RESTRICT frame, size_t frame_len,
+                            uint8_t *SPATIALJOIN_RESTRICT verdicts, size_t verdicts_len,
+                            uint8_t kinds, uint32_t default_k, uint32_t greatest_k);
+
 /* The archive's version: major * 65536 + minor * 256 + patch. */
 int64_t spatialjoin_version(void);
 
