@@ -41,14 +41,22 @@ fn call(name: &str, args: Vec<Expr>) -> Expr {
     Expr::Function { name, args }
 }
 
+/// Columns of both children beside a mark column.
+fn of_all(filter: &mut Filter) -> Expr {
+    let mut columns = [Side::Left, Side::Right, Side::None].map(|side| filter.column(side));
+    filter.rng.shuffle(&mut columns);
+    call("f", columns.into())
+}
+
 /// Mostly of one child: left or right, the other, mark columns, columns of several, or none.
 fn geometry(filter: &mut Filter, side: Side) -> Expr {
-    match filter.rng.below(12) {
+    match filter.rng.below(14) {
         0 => filter.columnless(),
         1 => filter.mixed(),
         2 => filter.of_side(Side::None, 2),
         3 => filter.bound_beside_marks(),
         4 => filter.of_side(side.negate(), 2),
+        5 => of_all(filter),
         _ => filter.of_side(side, 1),
     }
 }
