@@ -17,3 +17,5 @@ mod rounds;
 pub mod sample;
 pub mod scalars;
 mod shrink;
+#[cfg(test)]
+mod verdicts;
