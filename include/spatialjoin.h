@@ -21,15 +21,19 @@
  * take, each exactly once, and what is left of the filter. It is as if each remainder was loaded and extracted in turn. It takes a frame, a
  * buffer and settings, and no plan, scratch or table. hosts/c/all.c of the repository has a reader of what it writes.
  *
- * SETTINGS. spatialjoin_extract and spatialjoin_extract_all take what a site may have indexed: the kinds allowed, the k of an st_knn call
- * that has none, and the greatest k. SPATIALJOIN_DEFAULT_SETTINGS are the program's, under which every answer is what it was without
- * settings (theorem default-settings). What is proved of lists of calls supposes the same settings for all extracts of a list, and for both
- * machines (theorem all-settings). No other call takes settings, and what is held may be of any kind and have any k.
+ * VERDICTS. spatialjoin_explain says of every conjunct of a frame why it is indexed or is not, a byte each, and which one sets the line. It
+ * takes a frame, a buffer and settings, and no plan, scratch or table. hosts/c/explain.c of the repository reads its answers.
  *
- * ANSWERS. An answer of at least 0 is a length (of spatialjoin_logical: see there). A negative one is a refusal: one of
- * enum spatialjoin_refusal. That of spatialjoin_extract has the walk too, so as it stands it is neither: SPATIALJOIN_LENGTH_OF,
- * SPATIALJOIN_WALK_OF and SPATIALJOIN_REFUSAL_OF take it apart. That of spatialjoin_serve has the queue too, for SPATIALJOIN_QUEUE_OF, and
- * that of spatialjoin_extract_all the rounds, for SPATIALJOIN_ROUNDS_OF.
+ * SETTINGS. spatialjoin_extract, spatialjoin_extract_all and spatialjoin_explain take what a site may have indexed: the kinds allowed, the
+ * k of an st_knn call that has none, and the greatest k. SPATIALJOIN_DEFAULT_SETTINGS are the program's, under which every answer is what
+ * it was without settings (theorem default-settings). What is proved of lists of calls supposes the same settings for all extracts of a
+ * list, and for both machines (theorem all-settings). No other call takes settings, and what is held may be of any kind and have any k.
+ *
+ * ANSWERS. An answer of at least 0 is a length (of spatialjoin_logical: see there). A negative one is a refusal: one of enum
+ * spatialjoin_refusal. That of spatialjoin_extract has the walk too, so as it stands it is neither: SPATIALJOIN_LENGTH_OF,
+ * SPATIALJOIN_WALK_OF and SPATIALJOIN_REFUSAL_OF take it apart. That of spatialjoin_serve has the queue too, for SPATIALJOIN_QUEUE_OF, that
+ * of spatialjoin_extract_all the rounds, for SPATIALJOIN_ROUNDS_OF. An accepted spatialjoin_explain's is no length but a line, a position
+ * and a count, for SPATIALJOIN_LINE_OF, SPATIALJOIN_TAKEN_OF and SPATIALJOIN_CONJUNCTS_OF.
  *
  * BUFFERS. Each pointer is to as many bytes (of a table: records, of a list: items) as the length after it says, bytes with any
  * alignment. No buffer of a call may overlap with another of the same call: that is undefined behaviour, as `restrict` says; only the two
@@ -84,8 +88,8 @@
 #define SPATIALJOIN_MOST_QUEUED 1024
 #define SPATIALJOIN_MOST_WAITING 16
 
-/* The settings that the program gives: all kinds, and these. They are the last three arguments of spatialjoin_extract and of
- * spatialjoin_extract_all. */
+/* The settings that the program gives: all kinds, and these. They are the last three arguments of spatialjoin_extract, of
+ * spatialjoin_extract_all and of spatialjoin_explain. */
 #define SPATIALJOIN_DEFAULT_K 1
 #define SPATIALJOIN_GREATEST_K 4294967295u
 #define SPATIALJOIN_DEFAULT_SETTINGS SPATIALJOIN_ALL_KINDS, SPATIALJOIN_DEFAULT_K, SPATIALJOIN_GREATEST_K
@@ -123,7 +127,8 @@ enum spatialjoin_refusal {
     SPATIALJOIN_NO_SUCH_COLUMN = -6,     /* a column's index is not below the column count */
     SPATIALJOIN_BYTES_AFTER = -7,        /* bytes after the frame's end */
     SPATIALJOIN_TOO_FEW_ARGUMENTS = -8,  /* a conjunct lacks arguments: see docs/FRAMES.md */
-    SPATIALJOIN_TOO_SHORT = -9,          /* the plan buffer (load, merge), the scratch or the output (serve, extract_all) is too short */
+    SPATIALJOIN_TOO_SHORT = -9,          /* the plan buffer (load, merge), the scratch or the output (serve, extract_all, explain) is too
+                                            short */
     SPATIALJOIN_NO_GOOD_PLAN = -10,      /* n is over the buffer's length, its first n bytes are no good plan, or not the table's;
                                             of put and serve: the buffer holds no good queues */
     SPATIALJOIN_PLAN_EMPTY = -11,        /* n is 0 */
@@ -139,7 +144,7 @@ enum spatialjoin_refusal {
     SPATIALJOIN_QUEUED_TOO_LONG = -22,   /* the frame has over SPATIALJOIN_MOST_QUEUED bytes (put) */
     SPATIALJOIN_QUEUE_FULL = -23,        /* SPATIALJOIN_MOST_WAITING frames wait in the queue already (put) */
     SPATIALJOIN_BAD_SETTINGS = -24       /* no kind or a bit that is none, a default k of 0, or one above the greatest (extract,
-                                            extract_all) */
+                                            extract_all, explain) */
 };
 
 /* The kinds allowed, a bit for each: any of them or-ed together, but not none. */
@@ -443,11 +448,26 @@ enum spatialjoin_verdict {
     SPATIALJOIN_TIES_NO_FLAG = 0x74            /* the second */
 };
 
-/* The parts of an accepted spatialjoin_explain's answer: how many conjuncts there are; the first byte of the extraction that extract
- * would leave, 0 where nothing matches; and the position, from 0, of the conjunct that it would take. */
-#define SPATIALJOIN_CONJUNCTS_OF(answer) ((unsigned)((answer) % 65536))
-#define SPATIALJOIN_LINE_OF(answer) ((unsigned)((answer) / 65536 / 65536))
-#define SPATIALJOIN_TAKEN_OF(answer) ((unsigned)((answer) / 65536 % 65536))
+/* The parts (an unsigned each) of a spatialjoin_explain's answer, each 0 in a refused one's: how many conjuncts there are; the first byte
+ * of the extraction that extract would leave, 0 where nothing matches; and the position, from 0, of the conjunct that it would take. */
+#define SPATIALJOIN_CONJUNCTS_OF(answer) spatialjoin_conjuncts_of(answer)
+#define SPATIALJOIN_LINE_OF(answer) spatialjoin_line_of(answer)
+#define SPATIALJOIN_TAKEN_OF(answer) spatialjoin_taken_of(answer)
+
+SPATIALJOIN_INLINE unsigned spatialjoin_conjuncts_of(int64_t answer)
+{
+    return answer < 0 ? 0 : (unsigned)(answer % 65536);
+}
+
+SPATIALJOIN_INLINE unsigned spatialjoin_line_of(int64_t answer)
+{
+    return answer < 0 ? 0 : (unsigned)(answer / 65536 / 65536);
+}
+
+SPATIALJOIN_INLINE unsigned spatialjoin_taken_of(int64_t answer)
+{
+    return answer < 0 ? 0 : (unsigned)(answer / 65536 % 65536);
+}
 
 /* Says of each conjunct of a physical frame why it is indexed or is not: (line * 65536 + position) * 65536 + conjuncts, which the macros
  * above take apart, or -24, then of the frame -1, -2, the first of -3 to -6 from left to right, -7, -8, then -9 in this order. A byte for

@@ -1,5 +1,5 @@
-/* Tests of the library as a C host sees it: its version, every refusal by its constant, walks, settings, all conjuncts, the names of the
- * mask, texts, merged filters, tables of nodes, projections, queues, NULL with length 0. Ends with 1 where a call answers otherwise.
+/* Tests of the library as a C host sees it: its version, every refusal by its constant, walks, settings, all conjuncts, verdicts, the names
+ * of the mask, texts, merged filters, tables of nodes, projections, queues, NULL with length 0. Ends with 1 where a call answers otherwise.
  * `../check` builds and runs it. */
 #include <stdio.h>
 #include <string.h>
@@ -273,6 +273,68 @@ static void all_conjuncts(void)
     expect_rounds("k above the greatest", ALL_BY(RECORDS NEAREST_5, sizeof scratch, 7, 1, 4), 0, sizeof(RECORDS NEAREST_5) - 1);
     expect_rounds("the default k", ALL_BY(RECORDS NEAREST, sizeof scratch, 7, 9, 9), 1, 21);
     expect("the default k", K_OF(scratch), 9);
+}
+
+#define EXPLAIN(filter, room) \
+    spatialjoin_explain((const uint8_t *)(RECORDS filter), sizeof(RECORDS filter) - 1, scratch, room, DEFAULTS)
+#define EXPLAIN_BY(bytes, room, kinds, default_k, greatest_k) \
+    spatialjoin_explain((const uint8_t *)(bytes), sizeof(bytes) - 1, scratch, room, kinds, default_k, greatest_k)
+
+static void expect_explained(const char *what, int64_t answer, unsigned line, unsigned taken, unsigned conjuncts)
+{
+    expect(what, SPATIALJOIN_LINE_OF(answer), line);
+    expect(what, SPATIALJOIN_TAKEN_OF(answer), taken);
+    expect(what, SPATIALJOIN_CONJUNCTS_OF(answer), conjuncts);
+    expect(what, SPATIALJOIN_REFUSAL_OF(answer), 0);
+}
+
+/* A byte for each conjunct, by its constant, and the bytes after them as they were. */
+static void expect_verdict(const char *what, size_t place, enum spatialjoin_verdict verdict, size_t conjuncts)
+{
+    expect(what, scratch[place], verdict);
+    expect(what, scratch[conjuncts], 7);
+}
+
+/* Why each conjunct is indexed or is not, and which one sets the line. */
+static void verdicts(void)
+{
+    memset(scratch, 7, sizeof scratch);
+    expect_explained("one relation", EXPLAIN(WITHIN, sizeof scratch), SPATIALJOIN_RELATION, 0, 1);
+    expect_verdict("one relation", 0, SPATIALJOIN_AS_RELATION, 1);
+    expect_explained("a KNN second", EXPLAIN(AND WITHIN NEAREST, 2), SPATIALJOIN_KNN, 1, 2);
+    expect_verdict("a relation first", 0, SPATIALJOIN_AS_RELATION, 2);
+    expect_verdict("a KNN second", 1, SPATIALJOIN_AS_KNN, 2);
+    expect_explained("one of three", EXPLAIN(AND LEFT AND WITHIN LEFT, 9), SPATIALJOIN_RELATION, 1, 3);
+    expect_verdict("a column", 0, SPATIALJOIN_NOTHING_OF_OURS, 3);
+    expect_explained("no match", EXPLAIN(AND LEFT LEFT, 9), 0, 0, 2);
+    expect_explained("no relation allowed", EXPLAIN_BY(RECORDS AND WITHIN NEAREST, 9, SPATIALJOIN_KNNS, 1, 1), SPATIALJOIN_KNN, 1, 2);
+    expect_verdict("no relation allowed", 0, SPATIALJOIN_KIND_LEFT_OUT, 3);
+    expect_explained("k above the greatest", EXPLAIN_BY(RECORDS NEAREST_5, 9, 7, 1, 4), 0, 0, 1);
+    expect_verdict("k above the greatest", 0, SPATIALJOIN_K_ABOVE_GREATEST, 3);
+    expect("a KNN second", EXPLAIN(AND WITHIN NEAREST, 2), (int64_t)0x13 * 65536 * 65536 + 65536 + 2);
+}
+
+/* 24, then 1 to 8, then 9; nothing is written, and the parts are 0. */
+static void refusals_of_verdicts(void)
+{
+    static const uint32_t most = MOST_K;
+    memset(scratch, 7, sizeof scratch);
+    expect("no bytes", EXPLAIN_BY("", 99, 7, 1, most), SPATIALJOIN_FRAME_LENGTH);
+    expect("first byte", EXPLAIN_BY("\x02", 99, 7, 1, most), SPATIALJOIN_FIRST_BYTE);
+    expect("cut", EXPLAIN_BY("\x01\x00\x00\x04", 99, 7, 1, most), SPATIALJOIN_FRAME_ENDS);
+    expect("kind 5", EXPLAIN_BY("\x01\x00\x00\x05", 99, 7, 1, most), SPATIALJOIN_OUT_OF_RANGE);
+    expect("65 levels", spatialjoin_explain(frame, levels(65), scratch, 999, DEFAULTS), SPATIALJOIN_TOO_LARGE);
+    expect("no column 0", EXPLAIN_BY("\x01\x00\x00" LEFT, 99, 7, 1, most), SPATIALJOIN_NO_SUCH_COLUMN);
+    expect("a byte more", EXPLAIN_BY(GOOD "\x00", 99, 7, 1, most), SPATIALJOIN_BYTES_AFTER);
+    expect("st_within()", EXPLAIN_BY(RECORDS "\x03\x09" "st_within" "\x00", 0, 7, 1, most), SPATIALJOIN_TOO_FEW_ARGUMENTS);
+    expect("a byte short", EXPLAIN(AND WITHIN WITHIN, 1), SPATIALJOIN_TOO_SHORT);
+    expect("no buffer", EXPLAIN(WITHIN, 0), SPATIALJOIN_TOO_SHORT);
+    expect("its line", SPATIALJOIN_LINE_OF(EXPLAIN(WITHIN, 0)), 0);
+    expect("its position", SPATIALJOIN_TAKEN_OF(EXPLAIN(WITHIN, 0)), 0);
+    expect("its conjuncts", SPATIALJOIN_CONJUNCTS_OF(EXPLAIN(WITHIN, 0)), 0);
+    expect("no kinds", EXPLAIN_BY(GOOD, 99, 0, 1, most), SPATIALJOIN_BAD_SETTINGS);
+    expect("a default above the greatest", EXPLAIN_BY("", 0, 7, 2, 1), SPATIALJOIN_BAD_SETTINGS);
+    expect("nothing is written", scratch[0], 7);
 }
 
 /* 24, then 1 to 8, then 9; nothing is written, and rounds are 0. */
@@ -730,6 +792,8 @@ static void null_buffers(void)
     expect("all of NULL", spatialjoin_extract_all(NULL, 0, NULL, 0, DEFAULTS), SPATIALJOIN_FRAME_LENGTH);
     expect("all to NULL", spatialjoin_extract_all((const uint8_t *)GOOD, sizeof(GOOD) - 1, NULL, 0, DEFAULTS), SPATIALJOIN_TOO_SHORT);
     expect("all of NULL, no kinds", spatialjoin_extract_all(NULL, 0, NULL, 0, 0, 1, 1), SPATIALJOIN_BAD_SETTINGS);
+    expect("explain NULL", spatialjoin_explain(NULL, 0, NULL, 0, DEFAULTS), SPATIALJOIN_FRAME_LENGTH);
+    expect("explain to NULL", spatialjoin_explain((const uint8_t *)GOOD, sizeof(GOOD) - 1, NULL, 0, DEFAULTS), SPATIALJOIN_TOO_SHORT);
 }
 
 int main(void)
@@ -742,6 +806,8 @@ int main(void)
     refusals_of_settings();
     all_conjuncts();
     refusals_of_all();
+    verdicts();
+    refusals_of_verdicts();
     positions();
     names_of_frames();
     texts_of_frames();

@@ -33,6 +33,11 @@ HOLDS(the_greatest_k_has_32_bits, SPATIALJOIN_GREATEST_K == (uint32_t)-1);
 HOLDS(the_default_k_is_one, SPATIALJOIN_DEFAULT_K == 1 && SPATIALJOIN_DEFAULT_K <= SPATIALJOIN_GREATEST_K);
 HOLDS(the_refusal_of_settings_is_24, SPATIALJOIN_BAD_SETTINGS == -24);
 
+/* A verdict that is a match is the first byte of its extraction; reasons are above. */
+HOLDS(a_match_is_a_first_byte, SPATIALJOIN_AS_RELATION == (int)SPATIALJOIN_RELATION && SPATIALJOIN_AS_DISTANCE == (int)SPATIALJOIN_DISTANCE
+      && SPATIALJOIN_AS_KNN == (int)SPATIALJOIN_KNN);
+HOLDS(the_reasons_are_20_to_74, SPATIALJOIN_OTHER_CASE == 0x20 && SPATIALJOIN_TIES_NO_FLAG == 0x74);
+
 /* The bytes of frames and extractions, as docs/FRAMES.md has them. */
 HOLDS(the_kinds_of_nodes, SPATIALJOIN_NODE_COLUMN == 0 && SPATIALJOIN_NODE_OTHER == 4 && SPATIALJOIN_NODE_LOGICAL_COLUMN == 5);
 HOLDS(the_operators, SPATIALJOIN_OPERATOR_AND == 0 && SPATIALJOIN_OPERATOR_GT_EQ == 4 && SPATIALJOIN_OPERATOR_LAST_OTHER == 63);
@@ -55,11 +60,13 @@ int matches(void);
 int64_t extract(uint8_t *plan, size_t n, uint8_t *scratch, const spatialjoin_node *table);
 int64_t extract_some(uint8_t *plan, size_t n, uint8_t *scratch, const spatialjoin_node *table);
 int64_t extract_all(const uint8_t *frame, size_t n, uint8_t *out);
+int64_t explain(const uint8_t *frame, size_t n, uint8_t *verdicts);
 
 unsigned parts(const uint8_t *plan, int64_t answer)
 {
     return SPATIALJOIN_POSITION_OF(plan) + SPATIALJOIN_MASK_OF(answer) + SPATIALJOIN_NAMES_OF(answer) + SPATIALJOIN_SIDE_OF(answer)
-        + SPATIALJOIN_WALK_OF(answer) + SPATIALJOIN_QUEUE_OF(answer) + SPATIALJOIN_ROUNDS_OF(answer);
+        + SPATIALJOIN_WALK_OF(answer) + SPATIALJOIN_QUEUE_OF(answer) + SPATIALJOIN_ROUNDS_OF(answer) + SPATIALJOIN_LINE_OF(answer)
+        + SPATIALJOIN_TAKEN_OF(answer) + SPATIALJOIN_CONJUNCTS_OF(answer);
 }
 
 size_t length(int64_t answer)
@@ -95,4 +102,9 @@ int64_t extract_some(uint8_t *plan, size_t n, uint8_t *scratch, const spatialjoi
 int64_t extract_all(const uint8_t *frame, size_t n, uint8_t *out)
 {
     return spatialjoin_extract_all(frame, n, out, n, SPATIALJOIN_DEFAULT_SETTINGS);
+}
+
+int64_t explain(const uint8_t *frame, size_t n, uint8_t *verdicts)
+{
+    return spatialjoin_explain(frame, n, verdicts, SPATIALJOIN_MOST_NODES, SPATIALJOIN_DEFAULT_SETTINGS);
 }
