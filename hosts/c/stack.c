@@ -16,9 +16,9 @@
 #define DEFAULTS SPATIALJOIN_DEFAULT_SETTINGS
 #define STACK_SIZE (4 * SPATIALJOIN_STACK_BYTES)
 
-enum call { LOAD, EXTRACT, EXCHANGE, LOGICAL, PRINT, MERGE, PROJECT, PUT, SERVE, ALL, CALLS };
+enum call { LOAD, EXTRACT, EXCHANGE, LOGICAL, PRINT, MERGE, PROJECT, PUT, SERVE, ALL, EXPLAIN, CALLS };
 static const char *const call_names[CALLS] = {"load", "extract", "exchange", "logical", "print", "merge", "project", "put", "serve",
-                                              "extract_all"};
+                                              "extract_all", "explain"};
 
 /* How a node holds the deeper one below it. */
 enum shape { AND_LEFT, AND_RIGHT, OR_LEFT, OR_RIGHT, FUNCTION_ONE, FUNCTION_LAST, OTHER_ONE, OTHER_LAST, SHAPES };
@@ -208,6 +208,7 @@ static void make_call(void)
     case PUT: answer = spatialjoin_put(queues, sizeof queues, queue, frame, frame_len); break;
     case SERVE: answer = spatialjoin_serve(queues, sizeof queues, scratch, room); break;
     case ALL: answer = spatialjoin_extract_all(frame, frame_len, scratch, sizeof scratch, DEFAULTS); break;
+    case EXPLAIN: answer = spatialjoin_explain(frame, frame_len, scratch, sizeof scratch, DEFAULTS); break;
     case CALLS: break;
     }
 }
@@ -232,7 +233,9 @@ static void measure(enum call call)
     }
     if (answer >= 0) {
         accepted[call]++;
-        n = call == LOGICAL || call == PRINT || call == PUT || call == SERVE || call == ALL ? n : SPATIALJOIN_LENGTH_OF(answer);
+        n = call == LOGICAL || call == PRINT || call == PUT || call == SERVE || call == ALL || call == EXPLAIN
+            ? n
+            : SPATIALJOIN_LENGTH_OF(answer);
     }
 }
 
@@ -243,6 +246,7 @@ static void measure_frame(void)
     } else {
         measure(PRINT);
         measure(ALL);
+        measure(EXPLAIN);
         measure(LOAD);
         measure(EXCHANGE);
         measure(EXTRACT);
