@@ -47,8 +47,11 @@ impl Verdict {
     }
 }
 
+/// A reason, and whether it applies to a leaf, whatever others do.
+pub type Reason = (Verdict, fn(&Leaf) -> bool);
+
 /// All of them, in the order of their bytes.
-pub const REASONS: [(Verdict, fn(&Leaf) -> bool); 23] = [
+pub const REASONS: [Reason; 23] = [
     // What the leaf is.
     (Verdict::OtherCase, |leaf| {
         leaf.unmeant() && meant_in_small(leaf.expr)
