@@ -587,7 +587,7 @@ fn explained_alike(frame: &[u8], room: usize, settings: Settings) -> bool {
         Ok(bill) => bill as i64,
         Err(refusal) => -i64::from(refusal),
     };
-    ours::explain(frame, &mut ours, given) == number
+    numbers::explain(frame, &mut ours, given) == number
         && plain::explain(frame, &mut plain, given) == expected
         && ours == read
         && plain == read

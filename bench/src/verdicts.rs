@@ -3,12 +3,12 @@
 use std::hint::black_box;
 
 use reading::frame::MAX_NODES;
-use spatialjoin::Settings;
+use spatialjoin::{Settings, numbers};
 
 use crate::frames::Group;
 use crate::measure::{Contender, Task};
 use crate::operations::{copy, in_turn, task};
-use crate::ours::{self, Ours};
+use crate::ours::Ours;
 use crate::plain;
 
 /// Ours, plain Rust, and, to compare, one load and extract of ours of the same frames.
@@ -17,7 +17,7 @@ pub fn explain(group: &Group) -> Task<'_> {
     let mut verdicts = vec![0; MAX_NODES];
     let ours = in_turn(frames.len(), move |i| {
         let frame = black_box(&frames[i]);
-        black_box(ours::explain(frame, &mut verdicts, Settings::default()));
+        black_box(numbers::explain(frame, &mut verdicts, Settings::default()));
         black_box(&mut verdicts);
     });
     let mut verdicts = vec![0; MAX_NODES];

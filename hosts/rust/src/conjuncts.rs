@@ -28,6 +28,20 @@ pub enum Kind {
     Knn = 0x13,
 }
 
+impl Kind {
+    /// # Panics
+    ///
+    /// On a number that no call gives: another library was linked.
+    pub(crate) fn from_number(number: u8) -> Self {
+        match number {
+            0x11 => Kind::Relation,
+            0x12 => Kind::Distance,
+            0x13 => Kind::Knn,
+            _ => panic!("{number} is no line of the library"),
+        }
+    }
+}
+
 /// A predicate among those that [`extract_all`](crate::extract_all) wrote.
 #[derive(Clone, Copy, Debug, PartialEq, Eq)]
 pub struct Conjunct<'a> {

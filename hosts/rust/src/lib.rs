@@ -11,15 +11,18 @@
 //! fill it with the nodes of the new plan, and [`extract`] takes it as they left it. [`exchange`]
 //! moves no node.
 //!
-//! What a site may have indexed are [`Settings`], which [`extract`] and [`extract_all`] take: the kinds
-//! allowed, the k of an `st_knn` call that has none, and the greatest k. [`Settings::default`] changes no
-//! answer.
+//! What a site may have indexed are [`Settings`], which [`extract`], [`extract_all`] and [`explain`] take:
+//! the kinds allowed, the k of an `st_knn` call that has none, and the greatest k. [`Settings::default`]
+//! changes no answer.
 //!
 //! A host that has filters as a tree of its own builds a [`Frame`], by [`Records`] and [`Expression`], and
 //! has its bytes tested for every limit ([`FrameError`]); what an extract leaves, [`Extraction`] reads.
 //!
 //! [`extract_all`] writes all indexable conjuncts of a frame, for a price list for one; [`Conjuncts`]
 //! reads them. It takes no plan, no scratch and no table.
+//!
+//! [`explain`] says of every conjunct of a frame why it is indexed or is not, a byte each, which a
+//! [`Verdict`] reads, and which one sets the line. It takes neither of them too.
 //!
 //! Where jobs of two machines reach one planner, [`Queues`] holds those that wait, a queue of each
 //! machine, and gives them in turn; [`put`] and [`serve`] are the same on a buffer of the host's own.
@@ -37,6 +40,7 @@ pub mod numbers;
 mod queues;
 mod refusal;
 mod settings;
+mod verdicts;
 mod version;
 
 use std::mem::offset_of;
@@ -50,6 +54,7 @@ pub use frames::{
 pub use queues::{MOST_QUEUED, MOST_WAITING, QUEUES_BYTES, Queue, Queues, Served, put, serve};
 pub use refusal::Refusal;
 pub use settings::{DEFAULT_K, GREATEST_K, Kinds, Settings};
+pub use verdicts::{Explained, Taken, Verdict};
 pub use version::{VERSION, Version, version, version_matches};
 
 /// The most bytes of a frame or plan.
@@ -270,6 +275,22 @@ pub fn extract_all(
     settings: Settings,
 ) -> Result<AllExtracted, Refusal> {
     conjuncts::all_extracted(numbers::extract_all(frame, out, settings))
+}
+
+/// Says of each conjunct of a physical frame why it is indexed or is not: a byte each, one of [`Verdict`],
+/// is written at the buffer's start, in their order, and the bytes after them stay as they were. Gives how
+/// many there are, and the conjunct that an [`extract`] under the same settings takes, if one matches. A
+/// buffer of [`MOST_NODES`] bytes is always enough.
+///
+/// # Errors
+///
+/// Refusal 24, then 1 to 8, then 9 for a buffer of fewer bytes than there are conjuncts.
+pub fn explain(
+    frame: &[u8],
+    verdicts: &mut [u8],
+    settings: Settings,
+) -> Result<Explained, Refusal> {
+    verdicts::explained(numbers::explain(frame, verdicts, settings))
 }
 
 fn length(answer: i64) -> Result<usize, Refusal> {

@@ -1,6 +1,7 @@
 //! The calls with the answers of the C functions: a length (of [`logical`]: mask, count and side in
 //! one number), or minus the refusal's number; of [`extract`] each with the walk, of [`serve`] with the
-//! queue, of [`extract_all`] with the rounds, which the last five functions take apart.
+//! queue, of [`extract_all`] with the rounds; and of [`explain`], which has no length, line, position and
+//! conjuncts. The functions at the end take them apart.
 //! `include/spatialjoin.h` says what they do.
 
 use crate::{Node, Settings};
@@ -83,6 +84,15 @@ mod c {
             frame_len: usize,
             out: *mut u8,
             out_len: usize,
+            kinds: u8,
+            default_k: u32,
+            greatest_k: u32,
+        ) -> i64;
+        pub fn spatialjoin_explain(
+            frame: *const u8,
+            frame_len: usize,
+            verdicts: *mut u8,
+            verdicts_len: usize,
             kinds: u8,
             default_k: u32,
             greatest_k: u32,
@@ -212,12 +222,28 @@ pub fn extract_all(frame: &[u8], out: &mut [u8], settings: Settings) -> i64 {
     }
 }
 
+pub fn explain(frame: &[u8], verdicts: &mut [u8], settings: Settings) -> i64 {
+    let (frame, frame_len) = (frame.as_ptr(), frame.len());
+    let (verdicts, verdicts_len) = (verdicts.as_mut_ptr(), verdicts.len());
+    unsafe {
+        c::spatialjoin_explain(
+            frame,
+            frame_len,
+            verdicts,
+            verdicts_len,
+            settings.kinds.bits(),
+            settings.default_k,
+            settings.greatest_k,
+        )
+    }
+}
+
 /// The archive's version: major · 65,536 + minor · 256 + patch.
 pub fn version() -> i64 {
     unsafe { c::spatialjoin_version() }
 }
 
-/// The length in an answer of any call but [`logical`]; 0 where the call was refused.
+/// The length in an answer of any call but [`logical`] and [`explain`]; 0 where the call was refused.
 pub fn length_of(answer: i64) -> usize {
     match answer {
         0.. => (answer % 65_536) as usize,
@@ -226,7 +252,7 @@ pub fn length_of(answer: i64) -> usize {
 }
 
 /// The walk in an answer of [`extract`], accepted or refused; 0 in that of any other call but
-/// [`logical`], [`serve`] and [`extract_all`].
+/// [`logical`], [`serve`], [`extract_all`] and [`explain`].
 pub fn walk_of(answer: i64) -> u32 {
     match answer {
         0.. => (answer / 65_536) as u32,
@@ -254,6 +280,31 @@ pub fn queue_of(answer: i64) -> u32 {
 pub fn rounds_of(answer: i64) -> u32 {
     match answer {
         0.. => (answer / 65_536) as u32,
+        _ => 0,
+    }
+}
+
+/// How many conjuncts a frame has, in an answer of [`explain`]; 0 where it was refused.
+pub fn conjuncts_of(answer: i64) -> u32 {
+    match answer {
+        0.. => (answer % 65_536) as u32,
+        _ => 0,
+    }
+}
+
+/// The first byte of the extraction that [`extract`] would leave, in an answer of [`explain`]; 0 where
+/// nothing matches, and where it was refused.
+pub fn line_of(answer: i64) -> u8 {
+    match answer {
+        0.. => (answer / 4_294_967_296) as u8,
+        _ => 0,
+    }
+}
+
+/// The position, from 0, of the conjunct that [`extract`] would take, likewise.
+pub fn taken_of(answer: i64) -> u16 {
+    match answer {
+        0.. => (answer / 65_536 % 65_536) as u16,
         _ => 0,
     }
 }

@@ -22,7 +22,8 @@ pub enum Refusal {
     BytesAfter = 7,
     /// 8: a conjunct lacks arguments.
     TooFewArguments = 8,
-    /// 9: the plan buffer (load, merge), the scratch or the output (serve, extract_all) is too short.
+    /// 9: the plan buffer (load, merge), the scratch or the output (serve, extract_all, explain) is too
+    /// short.
     TooShort = 9,
     /// 10: `n` is over the buffer's length, or its first `n` bytes are no good plan; of an extract also:
     /// they are a frame, and the table does not begin with its nodes. Of put and serve: the buffer holds

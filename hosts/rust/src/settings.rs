@@ -6,9 +6,9 @@ pub const DEFAULT_K: u32 = 1;
 /// The greatest k under the default settings, and the greatest that there is.
 pub const GREATEST_K: u32 = u32::MAX;
 
-/// What a site may have indexed, for [`extract`](crate::extract) and
-/// [`extract_all`](crate::extract_all). [`Settings::default`] is what the program gives: under it every
-/// answer is what it was without settings.
+/// What a site may have indexed, for [`extract`](crate::extract), [`extract_all`](crate::extract_all) and
+/// [`explain`](crate::explain). [`Settings::default`] is what the program gives: under it every answer is
+/// what it was without settings.
 ///
 /// The kinds must be some, and nothing but kinds; the default k is at least 1 and at most the
 /// greatest: other settings are refused with 24.

@@ -14,7 +14,6 @@ use spatialjoin::{Node, numbers};
 use crate::lent::Lent;
 use crate::settings::to_library;
 use crate::tables::{of_reading, to_reading};
-use crate::verdicts::explain;
 
 #[derive(Clone, Copy, Debug, PartialEq, Eq, PartialOrd, Ord)]
 pub enum Kind {
@@ -252,7 +251,7 @@ impl Call {
         let settings = to_library(self.settings);
         let answer = match self.kind {
             Kind::ExtractAll => numbers::extract_all(frame.items(), out.items_mut(), settings),
-            _ => explain(frame.items(), out.items_mut(), settings),
+            _ => numbers::explain(frame.items(), out.items_mut(), settings),
         };
         Given {
             outcome: Outcome {

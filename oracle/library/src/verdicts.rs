@@ -16,40 +16,6 @@ use crate::counts::Counts;
 use crate::held::any_bytes;
 use crate::settings;
 
-mod c {
-    unsafe extern "C" {
-        pub fn spatialjoin_explain(
-            frame: *const u8,
-            frame_len: usize,
-            verdicts: *mut u8,
-            verdicts_len: usize,
-            kinds: u8,
-            default_k: u32,
-            greatest_k: u32,
-        ) -> i64;
-    }
-}
-
-/// The call with the answer of the C function, as `spatialjoin::numbers` has the others.
-pub fn explain(frame: &[u8], verdicts: &mut [u8], settings: spatialjoin::Settings) -> i64 {
-    let (frame, frame_len) = (frame.as_ptr(), frame.len());
-    let (verdicts, verdicts_len) = (verdicts.as_mut_ptr(), verdicts.len());
-    let kinds = settings.kinds.bits();
-    let (default_k, greatest_k) = (settings.default_k, settings.greatest_k);
-    // Both are memory of their lengths that is lent for the call, and the second overlaps with no other.
-    unsafe {
-        c::spatialjoin_explain(
-            frame,
-            frame_len,
-            verdicts,
-            verdicts_len,
-            kinds,
-            default_k,
-            greatest_k,
-        )
-    }
-}
-
 /// Of a frame, under these settings, at times under bad ones, and under the program's.
 pub fn run(
     rng: &mut Rng,
