@@ -5,6 +5,7 @@
 
   calls      a function for each call, on bytes and bytearrays
   plans      Plan and Queues, which keep their buffers; extract_all
+  verdicts   explain, and why a conjunct is indexed or is not, by name and in words
   frames     frames built and plans read as objects
   filters    filters in the words of SQL, over spatialjoin.words
   numbers    limits and enumerations
@@ -19,6 +20,7 @@ from .library import LibraryError
 from .numbers import Form, Kinds, Operator, Queue, RelationType, Side, Ties, Type
 from .plans import Plan, Queues, extract_all
 from .refusals import Refused
+from .verdicts import Explained, Verdict, explain
 from .version import VERSION
 
 __version__ = VERSION

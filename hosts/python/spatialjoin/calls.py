@@ -18,6 +18,7 @@ Extracted = namedtuple("Extracted", "length walk")
 Served = namedtuple("Served", "queue length")
 Logical = namedtuple("Logical", "mask names side")
 AllExtracted = namedtuple("AllExtracted", "rounds data")
+Explained = namedtuple("Explained", "line position data")
 
 
 @dataclass(frozen=True)
@@ -135,3 +136,11 @@ def extract_all(frame, settings=Settings(), most=None):
     out = bytearray(len(bytes(frame)) if most is None else most)
     answer = accepted(C.extract_all(*read(frame), *written(out), *settings.numbers()))
     return AllExtracted(answer // 65536, bytes(out[: answer % 65536]))
+
+
+def explain(frame, settings=Settings(), most=MOST_NODES):
+    """Why each conjunct of a frame is indexed or is not: the first byte that its extraction would have and the position of the conjunct
+    that would be taken, both 0 where nothing matches, and a byte for each conjunct, at most so many. Since version 0.15.0."""
+    verdicts = bytearray(most)
+    answer = accepted(C.explain(*read(frame), *written(verdicts), *settings.numbers()))
+    return Explained(answer // 65536**2, answer // 65536 % 65536, bytes(verdicts[: answer % 65536]))

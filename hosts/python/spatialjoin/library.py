@@ -46,6 +46,7 @@ ARGUMENTS = {
     "serve": WRITTEN + WRITTEN,
     "version": [],
     "extract_all": READ + WRITTEN + SETTINGS,
+    "explain": READ + WRITTEN + SETTINGS,
 }
 
 

@@ -126,6 +126,21 @@ class Refusals(unittest.TestCase):
         self.assertEqual(refusal(calls.extract_all, GOOD, Settings(), len(data) - 1), 9)
         self.assertEqual(calls.extract_all(GOOD, Settings(Kinds.KNNS)), (0, GOOD))
 
+    def test_explain(self):
+        self.assertEqual(refusal(calls.explain, b"", Settings(0)), 24)
+        few = framed(Call("st_within", [LEFT])).encode()
+        deep = Frame([], levels(65)).encode()
+        wrong = [(b"", 1), (b"\2", 2), (GOOD[:9], 3), (b"\1\0\0\5", 4), (deep, 5), (Frame([], LEFT).encode(), 6), (GOOD + b"\0", 7), (few, 8)]
+        for frame, number in wrong:
+            self.assertEqual(refusal(calls.explain, frame, Settings(), 0), number)
+        self.assertEqual(refusal(calls.explain, GOOD, Settings(), 0), 9)
+        for most in (1, 2, MOST_NODES):
+            self.assertEqual(calls.explain(GOOD, Settings(), most), (0x11, 0, b"\x11"))
+        self.assertEqual(calls.explain(GOOD, Settings(Kinds.KNNS)), (0, 0, b"\x30"))
+        three = framed(LEFT & Call("st_within", [LEFT, RIGHT]) & Call("st_knn", [LEFT, RIGHT])).encode()
+        self.assertEqual(calls.explain(three), (0x13, 2, b"\x24\x11\x13"))
+        self.assertEqual(refusal(calls.explain, three, Settings(), 2), 9)
+
     def test_words(self):
         """Each has a name and words, and the exception shows them."""
         for number, name in NAMES.items():

@@ -6,9 +6,10 @@ import unittest
 
 import spatialjoin
 from common import EXAMPLES
-from spatialjoin import numbers
+from spatialjoin import Verdict, numbers
 from spatialjoin.refusals import NAMES
 from spatialjoin.words.tables import BYTES, CHILDREN, LEVELS, NAME_BYTES, NODES, RECORDS, REFUSALS, RELATIONS, TYPE_NAMES
+from spatialjoin.words.verdicts import LINES, REASONS
 
 with open(os.path.join(EXAMPLES, "..", "include", "spatialjoin.h"), encoding="utf-8") as file:
     HEADER = file.read()
@@ -35,6 +36,12 @@ class Header(unittest.TestCase):
             self.assertEqual(numbers.Kinds[name], int(number))
         for name, number in re.findall(r"SPATIALJOIN_(CHASSIS|FIXED_UNIT) = (\d)", HEADER):
             self.assertEqual(numbers.Queue[name], int(number))
+
+    def test_verdicts(self):
+        known = re.findall(r"SPATIALJOIN_(\w+) = 0x(\w\w)", HEADER.partition("enum spatialjoin_verdict {")[2].partition("};")[0])
+        self.assertEqual([(each.name, int(each)) for each in Verdict], [(name, int(number, 16)) for name, number in known])
+        self.assertEqual([int(each) for each in Verdict if each.kind], list(LINES))
+        self.assertEqual([int(each) for each in Verdict if each.why], list(REASONS))
 
     def test_version(self):
         self.assertIn(f'#define SPATIALJOIN_VERSION "{spatialjoin.__version__}"\n', HEADER)
