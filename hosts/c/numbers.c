@@ -1,5 +1,5 @@
-/* Tests of the header's enums and limits: frames are written and extractions read by these names alone, and the library must answer by the
- * same numbers. Ends with 1 where it answers otherwise. `../check` builds and runs it. */
+/* Tests of the header's enums and limits: frames are written, and extractions and verdicts read, by these names alone, and the library must
+ * answer by the same numbers. Ends with 1 where it answers otherwise. `../check` builds and runs it. */
 #include <stdio.h>
 #include <string.h>
 
@@ -183,6 +183,114 @@ static void neighbours(void)
     nearest(SPATIALJOIN_LITERAL_UINT64, 5, SPATIALJOIN_TIES_TRUE, SPATIALJOIN_TIES_FALSE);
 }
 
+/* What explain says of the frame that was written, of one conjunct. */
+static void explain(enum spatialjoin_verdict verdict, unsigned kinds)
+{
+    int64_t answer = spatialjoin_explain(frame, end, plan, sizeof plan, (uint8_t)kinds, SPATIALJOIN_DEFAULT_K, SPATIALJOIN_GREATEST_K);
+    expect("its conjuncts", SPATIALJOIN_CONJUNCTS_OF(answer), 1);
+    expect("its verdict", plan[0], verdict);
+    expect("its line", SPATIALJOIN_LINE_OF(answer), verdict < SPATIALJOIN_OTHER_CASE ? verdict : 0);
+}
+
+/* A conjunct of two geometries: a function of two columns, a column or a literal each. */
+enum geometry { ONE_LEFT, ONE_RIGHT, OF_BOTH, ONE_MARK, NO_COLUMN };
+
+static void geometry(enum geometry which)
+{
+    static const unsigned index[] = {0, 1, 0, 2};
+    if (which == NO_COLUMN) {
+        literal(SPATIALJOIN_LITERAL_NULL, 0);
+    } else if (which == OF_BOTH) {
+        call_of_both("f", 2);
+    } else {
+        column(index[which]);
+    }
+}
+
+static void explain_geometries(enum spatialjoin_verdict verdict, enum geometry first, enum geometry second)
+{
+    begin();
+    call("st_within", 2);
+    geometry(first);
+    geometry(second);
+    explain(verdict, SPATIALJOIN_ALL_KINDS);
+}
+
+static void explain_bound(enum spatialjoin_verdict verdict, enum geometry bound)
+{
+    begin();
+    call_of_both("st_dwithin", 3);
+    geometry(bound);
+    explain(verdict, SPATIALJOIN_ALL_KINDS);
+}
+
+/* An st_knn with these literals after its geometries, each of type and value. */
+static void explain_nearest(enum spatialjoin_verdict verdict, unsigned literals, const unsigned (*options)[2])
+{
+    unsigned i;
+    begin();
+    call_of_both("st_knn", 2 + literals);
+    for (i = 0; i < literals; i++) literal(options[i][0], options[i][1]);
+    explain(verdict, SPATIALJOIN_ALL_KINDS);
+}
+
+static void explain_distance(enum spatialjoin_verdict verdict, unsigned operator)
+{
+    begin();
+    binary(operator);
+    call_of_both("st_distance", 2);
+    column(1);
+    explain(verdict, SPATIALJOIN_ALL_KINDS);
+}
+
+static void explain_call(enum spatialjoin_verdict verdict, const char *name, unsigned kinds)
+{
+    begin();
+    call_of_both(name, 2);
+    explain(verdict, kinds);
+}
+
+/* A conjunct for each verdict; calls.c has that of a k above the greatest. */
+static void verdicts(void)
+{
+    static const unsigned right[][2] = {{SPATIALJOIN_LITERAL_INT64, 1}, {SPATIALJOIN_LITERAL_BOOLEAN, 1}, {SPATIALJOIN_LITERAL_BOOLEAN, 0},
+                                        {SPATIALJOIN_LITERAL_NULL, 0}};
+    static const unsigned no_number[][2] = {{SPATIALJOIN_LITERAL_OTHER, 1}}, zero[][2] = {{SPATIALJOIN_LITERAL_UINT32, 0}};
+    static const unsigned no_flag[][2] = {{SPATIALJOIN_LITERAL_INT32, 1}, {SPATIALJOIN_LITERAL_INT32, 1}};
+    static const unsigned no_ties[][2] = {{SPATIALJOIN_LITERAL_UINT64, 1}, {SPATIALJOIN_LITERAL_BOOLEAN, 1}, {SPATIALJOIN_LITERAL_NULL, 1}};
+    explain_call(SPATIALJOIN_AS_RELATION, "st_within", SPATIALJOIN_RELATIONS);
+    explain_distance(SPATIALJOIN_AS_DISTANCE, SPATIALJOIN_OPERATOR_LT);
+    explain_nearest(SPATIALJOIN_AS_KNN, 3, right);
+    explain_call(SPATIALJOIN_OTHER_CASE, "ST_Within", SPATIALJOIN_ALL_KINDS);
+    explain_distance(SPATIALJOIN_OTHER_SIDE, SPATIALJOIN_OPERATOR_GT);
+    explain_distance(SPATIALJOIN_OTHER_OPERATOR, SPATIALJOIN_OPERATOR_FIRST_OTHER);
+    begin();
+    call("f", 1);
+    call_of_both("st_within", 2);
+    explain(SPATIALJOIN_INSIDE_ANOTHER, SPATIALJOIN_ALL_KINDS);
+    explain_call(SPATIALJOIN_NOTHING_OF_OURS, "f", SPATIALJOIN_ALL_KINDS);
+    explain_call(SPATIALJOIN_KIND_LEFT_OUT, "st_within", SPATIALJOIN_DISTANCES | SPATIALJOIN_KNNS);
+    begin();
+    call("st_knn", 1);
+    column(0);
+    explain(SPATIALJOIN_FEWER_ARGUMENTS, SPATIALJOIN_ALL_KINDS);
+    explain_nearest(SPATIALJOIN_MORE_ARGUMENTS, 4, right);
+    explain_geometries(SPATIALJOIN_FIRST_WITHOUT_COLUMNS, NO_COLUMN, ONE_RIGHT);
+    explain_geometries(SPATIALJOIN_FIRST_OF_BOTH, OF_BOTH, ONE_RIGHT);
+    explain_geometries(SPATIALJOIN_FIRST_WITH_MARK, ONE_MARK, ONE_RIGHT);
+    explain_geometries(SPATIALJOIN_SECOND_WITHOUT_COLUMNS, ONE_LEFT, NO_COLUMN);
+    explain_geometries(SPATIALJOIN_SECOND_OF_BOTH, ONE_LEFT, OF_BOTH);
+    explain_geometries(SPATIALJOIN_SECOND_WITH_MARK, ONE_LEFT, ONE_MARK);
+    explain_geometries(SPATIALJOIN_BOTH_LEFT, ONE_LEFT, ONE_LEFT);
+    explain_geometries(SPATIALJOIN_BOTH_RIGHT, ONE_RIGHT, ONE_RIGHT);
+    explain_bound(SPATIALJOIN_BOUND_OF_BOTH, OF_BOTH);
+    explain_bound(SPATIALJOIN_BOUND_WITH_MARK, ONE_MARK);
+    explain_nearest(SPATIALJOIN_K_NO_NUMBER, 1, no_number);
+    explain_nearest(SPATIALJOIN_K_BELOW_ONE, 1, zero);
+    explain_nearest(SPATIALJOIN_SPHEROID_NO_FLAG, 2, no_flag);
+    explain_nearest(SPATIALJOIN_TIES_NO_FLAG, 3, no_ties);
+}
+
 /* A node of each kind: the table that load fills has the same ones. */
 static void kinds_of_nodes(void)
 {
@@ -276,6 +384,7 @@ int main(void)
     relations();
     distances();
     neighbours();
+    verdicts();
     kinds_of_nodes();
     limits();
     printf("%d numbers of the header, %d wrong\n", tried, failed);

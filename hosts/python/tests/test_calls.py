@@ -130,7 +130,8 @@ class Refusals(unittest.TestCase):
         self.assertEqual(refusal(calls.explain, b"", Settings(0)), 24)
         few = framed(Call("st_within", [LEFT])).encode()
         deep = Frame([], levels(65)).encode()
-        wrong = [(b"", 1), (b"\2", 2), (GOOD[:9], 3), (b"\1\0\0\5", 4), (deep, 5), (Frame([], LEFT).encode(), 6), (GOOD + b"\0", 7), (few, 8)]
+        wrong = [(b"", 1), (b"\2", 2), (GOOD[:9], 3), (b"\1\0\0\5", 4), (deep, 5), (Frame([], LEFT).encode(), 6), (GOOD + b"\0", 7),
+                 (few, 8)]
         for frame, number in wrong:
             self.assertEqual(refusal(calls.explain, frame, Settings(), 0), number)
         self.assertEqual(refusal(calls.explain, GOOD, Settings(), 0), 9)
