@@ -64,7 +64,7 @@ def written(*buffers):
 
 
 def version():
-    """The library's version, as 0.14.0."""
+    """The library's version, as 0.15.0."""
     return words(C.version())
 
 
