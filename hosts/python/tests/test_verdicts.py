@@ -24,7 +24,7 @@ class Verdicts(unittest.TestCase):
         for before, reason, _, given, after, line, _ in rows:
             settings = Settings() if given == "default" else Settings(*map(int, given.split(",")))
             said = explain(spatialjoin.encode(before), settings)
-            self.assertEqual((said.line, said.taken, {f"{verdict:02x}" for verdict in said.verdicts}), (None, None, {reason}), before)
+            self.assertEqual((said.line, said.taken, {f"{int(verdict):02x}" for verdict in said.verdicts}), (None, None, {reason}), before)
             said = explain(spatialjoin.encode(after), settings)
             self.assertEqual(f"indexed, {said.line}", line, after)
             self.assertEqual(said.verdicts[said.taken].kind, said.line)
