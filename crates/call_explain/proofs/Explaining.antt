@@ -44,7 +44,8 @@ module _ (S : Settings) (good : good_settings S ≡ true) (s before : List ℕ) 
   unfolding explain
   by-frame r e = rw (good, e) refl
 
-  pub explain-refused : (number : ℕ) → frame_of s ≡ refused number → explain S s before ≡ record { answer = refused number; buffer = before }
+  pub explain-refused : (number : ℕ) → frame_of s ≡ refused number
+      → explain S s before ≡ record { answer = refused number; buffer = before }
   unfolding new_verdicts finish_explain
   explain-refused number e = by-frame (refused number) e
 

@@ -52,7 +52,8 @@ module _ (S : Settings) (good : GoodSettings S) (frame before after : List ℕ) 
   unfolding accepted
   not-refused e = false≢true (ap (λ (o : ExplainOutcome). accepted o.answer) (sym e) ∙ ap accepted given)
 
-  by-room : (F : Frame) → frame_of frame ≡ ok F → (b : Bool) → leb (length (leaves F.expr)) (length before) ≡ b → Told S F before after number
+  by-room : (F : Frame) → frame_of frame ≡ ok F → (b : Bool) → leb (length (leaves F.expr)) (length before) ≡ b
+      → Told S F before after number
   unfolding finish_explain
   by-room F e true room =
       let back = frame_back frame F is.0 e in

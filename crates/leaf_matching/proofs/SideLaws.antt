@@ -93,7 +93,8 @@ flags-by true false true = refl
 flags-by false true true = refl
 flags-by true true true = refl
 
-pub flags-seen : (xs : List Side) → flags_of (see_all nothing_seen xs) ≡ record { left = of xs left; right = of xs right; mark = of xs no_side }
+pub flags-seen : (xs : List Side)
+    → flags_of (see_all nothing_seen xs) ≡ record { left = of xs left; right = of xs right; mark = of xs no_side }
 flags-seen xs = ap (λ (n : ℕ). flags_of (record { bits = n })) (all-seen xs) ∙ flags-by (of xs left) (of xs right) (of xs no_side)
 
 -- ---- the side of them all

@@ -49,8 +49,8 @@ fn is_passed_call(called: Called) -> bool
     n != 6 && (n < 9 || 13 < n)
 }
 
-// Whether the node alone tells that a leaf matches nothing: only the first four operators can match, and functions with a name as long as one
-// of those that do. So most leaves are passed without a call of a matcher.
+// Whether the node alone tells that a leaf matches nothing: only the first four operators can match, and functions with a name as long as
+// one of those that do. So most leaves are passed without a call of a matcher.
 #[inline]
 fn is_passed(node: Node) -> bool
     ensures { PassedIs node result }

@@ -127,7 +127,8 @@ module _ {s : List ℕ} {at : ℕ} (greatest : ℕ) where
   module _ (kind : get_or s at 0 ≡ 1) where
     -- By the type and the eight bytes.
     literal-told : (w : optional.Option ℤ) → whole_number (get_or s (at + 1) 0) (long_at s (at + 2)) ≡ w
-        → (r : Option verdicts.Verdict) → ((after : Verdict) → or_after r after ≡ by-whole greatest after w) → OfTree s at (KTold greatest r)
+        → (r : Option verdicts.Verdict) → ((after : Verdict) → or_after r after ≡ by-whole greatest after w)
+        → OfTree s at (KTold greatest r)
     unfolding literal_whole
     literal-told w is r told c t st after =
         told after ∙ sym (whole-told greatest t after w (ap literal_whole (literal-is st kind).tree ∙ is))
@@ -188,7 +189,8 @@ module _ {s : List ℕ} {at n : ℕ} where
         pub flags-told : (v : Verdict) → OfTrees s (at + 10) (n - 1) (λ ts. v ≡ ties_stage ts) → OfTrees s at n (λ ts. v ≡ flags_stage ts)
         unfolding flags_stage flag_verdict
         flags-told v rest = first-and-rest (λ ts. v ≡ flags_stage ts) (λ c t ts w.
-            rest c ts (rest-stands w (at + 10) (n - 1) (flag-next c t (first-stands w)) (omega arith)) ∙ rw (missing c t ts w ∙ ap not e) refl)
+            rest c ts (rest-stands w (at + 10) (n - 1) (flag-next c t (first-stands w)) (omega arith))
+            ∙ rw (missing c t ts w ∙ ap not e) refl)
 
     module _ (greatest : ℕ) where
       pub k-wrong : (why : verdicts.Verdict) → OfTree s at (KTold greatest (Some why))

@@ -17,7 +17,8 @@ module _ (S : Settings) (records : List Record) (leaf : Expr) where
   staged : (line : PriceLine) (es : Exprs)
       → first_that (applies_by S records leaf line es) (matches_as line) reasons ≡ stage S records leaf line es
   unfolding reading first_that matches_as
-      stage no_stage relation_stage distance_stage knn_stage options_stage flags_stage ties_stage geometry_verdict bound_verdict k_verdict flag_verdict
+      stage no_stage relation_stage distance_stage knn_stage options_stage flags_stage ties_stage
+      geometry_verdict bound_verdict k_verdict flag_verdict
   staged no_line es = refl
   staged relation_line nil = if-not (has_bit 0 S.kinds) kind_left_out too_few_arguments
   staged relation_line (cons a nil) = if-not (has_bit 0 S.kinds) kind_left_out too_few_arguments

@@ -1,4 +1,4 @@
--- The verdict of a leaf in stages, one argument after the other: the form in which the code comes to it. (Ours; `Staged` proves that it is.)
+-- The verdict of a leaf in stages, one argument after the other: the form in which the code comes to it. (Ours; `Staged` proves it.)
 use Rattle.std.specs.Prelude.{ℕ, ◌&&◌, ◌||◌, List, if◌then◌else◌}
 use Rattle.definitions.specs.Expression.{Side, left, right, Expr, Exprs, nil, cons, Record}
 use Rattle.definitions.specs.Settings.{Settings, has_bit}

@@ -123,7 +123,8 @@ fn measured_verdict(asked: Asked, called: Called, bound: usize) -> Verdict
     requires framed_all { FramedAll asked.s.now asked.rec called.first called.count }
     requires framed { Framed asked.s.now asked.rec bound }
     ensures { OfFrameAll asked.entry.s.now asked.entry.rec called.first called.count (λ records ts.
-        (d : Expr) → Over asked.entry.s.now asked.entry.rec bound records d → verdict_of result ≡ distance_stage records (with_bound d ts)) }
+        (d : Expr) → Over asked.entry.s.now asked.entry.rec bound records d
+        → verdict_of result ≡ distance_stage records (with_bound d ts)) }
 {
     if called.count < 2 {
         return Verdict::TooFewArguments;
@@ -137,7 +138,8 @@ fn measured_verdict(asked: Asked, called: Called, bound: usize) -> Verdict
 // A comparison that looks at no `st_distance`.
 fn other_comparison_verdict(s: &[u8], sides: Compared, left: usize) -> Verdict
     requires pair { Pair s.now left }
-    requires of_pair { OfPair s.now left (λ c l r. (m : Expr) × (b : Expr) × Stands c s.now sides.measured m × Stands c s.now sides.bound b) }
+    requires of_pair { OfPair s.now left (λ c l r.
+        (m : Expr) × (b : Expr) × Stands c s.now sides.measured m × Stands c s.now sides.bound b) }
     ensures { OfPair s.now left (λ c l r. (m b : Expr) → Stands c s.now sides.measured m → Stands c s.now sides.bound b
         → verdict_of result ≡ other_stage m b (cons l (cons r nil))) }
 {

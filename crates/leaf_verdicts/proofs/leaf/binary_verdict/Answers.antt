@@ -83,4 +83,5 @@ returns c =
     let both = rw c.in-Some.is at (sides (goal.at.returns c).After-comparison over) in
     let arguments = c.in-Some-distance_arguments.ensures _ both.m both.stands_measured.tree in
     c.measured_verdict.ensures records arguments.all (record { entries = over.entries; row = arguments.row }) both.b both.stands_bound
-    ∙ sym (distance-told _ records c.args.operator l r both.is arguments.all arguments.is false (sym c.left_out.ensures ∙ c.if-left_out.false))
+    ∙ sym (distance-told _ records c.args.operator l r both.is arguments.all arguments.is false
+    (sym c.left_out.ensures ∙ c.if-left_out.false))

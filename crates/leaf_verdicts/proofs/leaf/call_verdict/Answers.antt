@@ -23,7 +23,8 @@ told : (c : After-left_out) {records : List Record} {name : List ℕ} {ts : Expr
     → verdict_under (settings_of c.args.asked.settings) records (call name ts)
     ≡ (if out then kind_left_out else kept (settings_of c.args.asked.settings) records (call name ts) (line_of line) ts)
 told c {records} {name} {ts} over out is line e =
-    call-told _ records name ts (line_of line) (ap line_of (sym e) ∙ (rw (c.name.ensures, over.stands.spelling) at c.line_named-line.ensures))
+    call-told _ records name ts (line_of line)
+    (ap line_of (sym e) ∙ (rw (c.name.ensures, over.stands.spelling) at c.line_named-line.ensures))
     out (ap (λ line. definitions.left_out (settings_of c.args.asked.settings) (line_of line)) (sym e) ∙ sym c.left_out.ensures ∙ is)
 
 pub name-requires : goal.name-requires

@@ -29,11 +29,21 @@ pub returns-then-is_distance_expr-2 : goal.returns-then-is_distance_expr-2
 unfolding other_stage is_distance_call
 returns-then-is_distance_expr-2 c =
     λ d l r row m b at over.
-    rw (← c.is_distance_expr.ensures d m at, c.if-is_distance_expr.false, ← c.is_distance_expr-2.ensures d b over, c.if-is_distance_expr-2.true)
+    rw (
+      ← c.is_distance_expr.ensures d m at,
+      c.if-is_distance_expr.false,
+      ← c.is_distance_expr-2.ensures d b over,
+      c.if-is_distance_expr-2.true,
+    )
 
 pub returns : goal.returns
 unfolding other_stage is_distance_call
 returns c =
     λ d l r row m b at over.
-    rw (← c.is_distance_expr.ensures d m at, c.if-is_distance_expr.false, ← c.is_distance_expr-2.ensures d b over, c.if-is_distance_expr-2.false)
+    rw (
+      ← c.is_distance_expr.ensures d m at,
+      c.if-is_distance_expr.false,
+      ← c.is_distance_expr-2.ensures d b over,
+      c.if-is_distance_expr-2.false,
+    )
     (c.inside_verdict.ensures d (cons l (cons r nil)) row)

@@ -67,4 +67,5 @@ pub returns : goal.returns
 returns t c =
     λ records u over.
     leaf-put (single-leaf c.node_at.result c.node_at.ensures over.tree c.in_default.not-And)
-    (omega (arith, c.requires.3, leaves-some c.requires.1)) _ _ (c.from.ensures ∙ ap verdict_byte (c.leaf_verdict.ensures records u over)) (c.end_node.ensures _ u over.tree)
+    (omega (arith, c.requires.3, leaves-some c.requires.1)) _ _
+    (c.from.ensures ∙ ap verdict_byte (c.leaf_verdict.ensures records u over)) (c.end_node.ensures _ u over.tree)
