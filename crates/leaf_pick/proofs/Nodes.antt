@@ -3,14 +3,14 @@ use Prim.Native.Nat.{ℕ, ◌<◌, ◌≤◌, ◌-◌}
 use native.Mathlib.Omega.{arith}
 use mathlib.Core.Path.{◌≡◌, refl, sym, ap, ◌∙◌, subst⁻¹}
 use mathlib.Core.Bool.{Bool, true, false}
-use mathlib.Core.List.{List, [], ◌∷◌}
+use mathlib.Core.List.{List}
 use lib.ListN.{length, drop}
 use mathlib.Core.Logic.{inr}
 use mathlib.Core.Option.{none}
 use borrow.Author.Tests.{ne_eqb}
 use Rattle.definitions.specs.Basics.{ascii, same_name, any}
 use Rattle.definitions.specs.Expression.{relations, Expr, binary, call, Exprs, Record}
-use Rattle.definitions.specs.Leaves.{type_named, relation_named, leaves, comparison}
+use Rattle.definitions.specs.Leaves.{type_named, relation_named, comparison}
 use Rattle.definitions.specs.Decode.{Columns}
 use Rattle.definitions.specs.Match.{Request, ask_nothing, relation_request, call_request_by, comparison_request, request_by, match_request, match_leaf_by}
 use Rattle.definitions.specs.Settings.{Settings, allowed, passing, only_if, match_under}
@@ -23,9 +23,9 @@ use Rattle.expression.specs.declared.leaves.Node.{Node}
 use Rattle.expression.specs.declared.leaves.Node.TheVariants.{And, Binary, Call, Plain}
 use Rattle.std.proofs.lemmas.List.{length-drop, length-take-le}
 use Rattle.theorems.proofs.Tools.{same-name}
-use Rattle.expression.proofs.AndLeaves.{plain-leaf}
 use Rattle.leaf_matching.specs.Matches.{is_relation, Lacks}
-use Rattle.leaf_matching.proofs.Asked.{request_kind, Only, comparison-only, only-distance}
+use Rattle.leaf_matching.proofs.AllowLaws.{passing-lacks}
+use Rattle.leaf_matching.proofs.Asked.{request_kind, Only, comparison-only, only-distance, other_name}
 
 -- A node that is neither an operator nor a function asks for nothing, and so does an operator that compares no distance.
 plain-asks : (d : ℕ) {t : Expr} → PlainNode t → request_by d t ≡ ask_nothing
@@ -108,6 +108,20 @@ node-only d c s at t (Binary operator first) other is =
     subst⁻¹ (λ (t : Expr). Only 2 (request_by d t)) is.is (comparison-only operator (comparison operator _ _))
 node-only d c s at t (Call k) other is = absurd (other k refl)
 node-only d c s at t (Plain head) other is = inr (ap request_kind (plain-asks d is.0))
+
+-- So it is no KNN match; nor is a function whose name has another length than `st_knn`.
+module _ (S : Settings) (records : List Record) where
+  pub node-no-knn : (c : Columns) (s : List ℕ) (at : ℕ) (t : Expr) (node : Node) → ((called : Called) → node ≡ Call called → ⊥)
+      → NodeIs c s at node t → Lacks is_knn (match_under S records t)
+  unfolding match_under only_if
+  node-no-knn c s at t node other is =
+      passing-lacks S is_knn _ (only-distance S.default_k records t (node-only S.default_k c s at t node other is)).0
+
+  pub call-no-knn : (name : List ℕ) {ts : Exprs} {t : Expr} → t ≡ call name ts → (length name ≡ 6 → ⊥)
+      → Lacks is_knn (match_under S records t)
+  unfolding match_under only_if ascii
+  call-no-knn name {ts} e six = rw e (passing-lacks S is_knn _
+      (other_name S.default_k records name ts (other-length name (ascii "st_knn") six (same_name name (ascii "st_knn")) refl)))
 
 module _ {c : Columns} {s : List ℕ} {at : ℕ} {t : Expr} (node : Node) (is : OfTreeIn s at (λ c t. NodeIs c s at node t))
     (stands : Stands c s at t) where

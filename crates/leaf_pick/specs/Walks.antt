@@ -7,10 +7,11 @@ use Rattle.definitions.specs.Expression.{Expr, Record}
 use Rattle.definitions.specs.Encode.{expr_bytes}
 use Rattle.definitions.specs.Decode.{Columns}
 use Rattle.definitions.specs.Extract as definition
-use Rattle.definitions.specs.Extract.{is_knn_match, pick, Matcher, matches_by}
+use Rattle.definitions.specs.Extract.{is_knn, is_knn_match, pick, Matcher, matches_by}
 use Rattle.definitions.specs.OneWalk.{reading, stopped, read_leaf, walk_length_by}
 use Rattle.definitions.specs.Settings.{Settings, match_under}
 use Rattle.expression.specs.Leaves.{NodeIs}
+use Rattle.leaf_matching.specs.Matches.{Lacks}
 use Rattle.expression.specs.Cuts.{CutAt}
 use Rattle.expression.specs.declared.leaves.Node.{Node}
 use Rattle.node_rows.specs.Numbers.{end_at}
@@ -47,6 +48,13 @@ PassedIs node r =
     r ≡ true
     → (S : Settings) (records : List Record) (c : Columns) (s : List ℕ) (at : ℕ) (t : Expr) → NodeIs c s at node t
     → match_under S records t ≡ optional.none
+
+-- A node that tells that it is no KNN match, whatever the settings.
+abbrev pub NoKnnIs : Node → Bool → Type 0
+NoKnnIs node r =
+    r ≡ true
+    → (S : Settings) (records : List Record) (c : Columns) (s : List ℕ) (at : ℕ) (t : Expr) → NodeIs c s at node t
+    → Lacks is_knn (match_under S records t)
 
 -- The leaf with its match, as it is remembered.
 abbrev pub seen_here : (numbers : List ℕ) → Leaf → SpatialPredicate → Seen

@@ -7,8 +7,10 @@ ghost use Rattle.expression.specs.Nodes.{OfTree};
 ghost use Rattle.leaf_matching.specs.Frames.{Framed, OfFrame};
 ghost use Rattle.node_rows.specs.Rows.{Tabled};
 ghost use Rattle.terms.specs.Settings.{settings_of};
+ghost use Rattle.definitions.specs.Extract.{is_knn};
+ghost use Rattle.leaf_matching.specs.Matches.{Lacks};
 ghost use Rattle.leaf_pick.specs.Picks.{LeafThere};
-ghost use Rattle.leaf_pick.specs.Walks.{PassedIs, seen_here, ReadIs, WalkIs, WalkedIs, Spotted, ParentIs};
+ghost use Rattle.leaf_pick.specs.Walks.{PassedIs, NoKnnIs, seen_here, ReadIs, WalkIs, WalkedIs, Spotted, ParentIs};
 
 use super::first_match::{Leaf, Pick, Stop, match_knn, match_other};
 use expression::cuts::Cut;
@@ -77,6 +79,35 @@ fn seen_here(rows: Rows, leaf: Leaf, predicate: SpatialPredicate) -> Seen
     }
 }
 
+// Whether the node alone tells that a leaf is no KNN match: only functions with a name as long as `st_knn` can be one.
+#[inline]
+fn is_no_knn(node: Node) -> bool
+    ensures { NoKnnIs node result }
+{
+    let Node::Call(called) = node else {
+        return true;
+    };
+    called.end.saturating_sub(called.name) != 6
+}
+
+// What a leaf that is no KNN match makes of what is remembered: it is remembered if it is the first other match.
+#[inline]
+fn read_other(filter: Filter, leaf: Leaf, memory: Option<Seen>, settings: Settings) -> Read
+    requires leaf_there { LeafThere filter.s.now filter.rows.numbers.now filter.rows.next.now filter.rec leaf }
+    requires no_knn { OfFrame filter.s.now filter.rec leaf.stop.at
+        (λ records t. Lacks is_knn (match_under (settings_of settings) records t)) }
+    ensures { OfFrame filter.entry.s.now filter.entry.rec leaf.stop.at
+        (ReadIs (match_under (settings_of settings)) filter.entry.s.now leaf memory result) }
+{
+    if let Some(known) = memory {
+        return ControlFlow::Continue(Some(known));
+    }
+    match match_other(filter, leaf, settings) {
+        Ok(predicate) => ControlFlow::Continue(Some(seen_here(filter.rows, leaf, predicate))),
+        Err(_) => ControlFlow::Continue(memory),
+    }
+}
+
 // A KNN match stops the walk, another is remembered if it is the first.
 #[inline]
 pub fn read_leaf(filter: Filter, leaf: Leaf, memory: Option<Seen>, settings: Settings) -> Read
@@ -87,17 +118,13 @@ pub fn read_leaf(filter: Filter, leaf: Leaf, memory: Option<Seen>, settings: Set
     if is_passed(leaf.node) {
         return ControlFlow::Continue(memory);
     }
+    if is_no_knn(leaf.node) {
+        return read_other(filter, leaf, memory, settings);
+    }
     match match_knn(filter, leaf, settings) {
-        Ok(predicate) => return ControlFlow::Break(seen_here(filter.rows, leaf, predicate)),
-        Err(NoMatch::Unmatched) => return ControlFlow::Continue(memory),
-        Err(NoMatch::NotAsked) => {}
-    }
-    if let Some(known) = memory {
-        return ControlFlow::Continue(Some(known));
-    }
-    match match_other(filter, leaf, settings) {
-        Ok(predicate) => ControlFlow::Continue(Some(seen_here(filter.rows, leaf, predicate))),
-        Err(_) => ControlFlow::Continue(memory),
+        Ok(predicate) => ControlFlow::Break(seen_here(filter.rows, leaf, predicate)),
+        Err(NoMatch::Unmatched) => ControlFlow::Continue(memory),
+        Err(NoMatch::NotAsked) => read_other(filter, leaf, memory, settings),
     }
 }
 
