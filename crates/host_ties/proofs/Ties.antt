@@ -1,6 +1,6 @@
 -- What each call of `spatialjoin_c` ensures is, as it is generated from its src/lib.rt, the relation that `HostCall`, `QueueHosted`,
--- `HostAll` or `HostExplain` has of it, and what the export of its name ensures is the same (`spatialjoin_c_c`, proofs/Exported); and so a call that met
--- its contract is a host's call.
+-- `HostAll` or `HostExplain` has of it, and what the export of its name ensures is the same (`spatialjoin_c_c`, proofs/Exported);
+-- and so a call that met its contract is a host's call.
 use Prim.Native.Nat.{ℕ}
 use mathlib.Core.Path.{◌≡◌, refl}
 use mathlib.Core.List.{List}
