@@ -8,10 +8,12 @@ pub returns-then-n-lt9 : goal.returns-then-n-lt9
 returns-then-n-lt9 c =
     λ e S records d s at t is.
     let long = name-length is.stands in
-    call-passed is.name (λ six. omega (arith, six, long, c.if-n-ne6.true)) (λ n same low high. omega (arith, same, low, high, long, c.if-n-lt9.true)) S records is.is
+    call-passed is.name (λ six. omega (arith, six, long, c.if-n-ne6.true))
+    (λ n same low high. omega (arith, same, low, high, long, c.if-n-lt9.true)) S records is.is
 
 pub returns-else-n-lt9 : goal.returns-else-n-lt9
 returns-else-n-lt9 c =
     λ e S records d s at t is.
     let long = name-length is.stands in
-    call-passed is.name (λ six. omega (arith, six, long, c.if-n-ne6.true)) (λ n same low high. omega (arith, same, low, high, long, ltb-true _ _ e)) S records is.is
+    call-passed is.name (λ six. omega (arith, six, long, c.if-n-ne6.true))
+    (λ n same low high. omega (arith, same, low, high, long, ltb-true _ _ e)) S records is.is
