@@ -21,7 +21,9 @@ use Rattle.terms.specs.declared.refusals.Refusal.{Refusal}
 use Rattle.terms.specs.declared.refusals.Refusal.TheVariants.{NoGoodPlan, AlreadyExtracted, BadSettings}
 use Rattle.join_filter.specs.Outcomes.{ExtractIs, unwalked}
 use Rattle.join_filter.specs.declared.answers.Extracted.{Extracted}
-use Rattle.call_extract.specs.declared.compared.Table.{Table}
+use Rattle.std.specs.Borrow.{Bor}
+use Rattle.node_table.specs.declared.NodeRecord.{NodeRecord as Lent}
+use Rattle.node_table.specs.Records.{nodes_of}
 use Rattle.call_extract.specs.Settled.{filled_under, walk_under, HeldBy, SettledBy}
 use Rattle.call_extract.proofs.Tables.{unheld, over-long, not-lent, extracted-lent}
 
@@ -33,22 +35,22 @@ not-extracted match n plan scratch fits (no_good number e) = bad-refused match n
 
 -- The same with any table or none, and where an extraction is held.
 module _ (match : Matcher) (n : ℕ) (plan scratch : List ℕ) (within : n ≤ length plan) where
-  pub not-held-by : (table : Option Table) {why : Refusal} → NotHeld (plan_of (take n plan)) why
+  pub not-held-by : (table : Option (Bor (List Lent))) {why : Refusal} → NotHeld (plan_of (take n plan)) why
       → HeldBy match n table plan scratch plan scratch (unwalked why)
-  not-held-by (Some table) not = λ lent of. not-lent match n plan scratch lent within not
+  not-held-by (Some table) not = not-lent match n plan scratch (nodes_of table.now) within not
   not-held-by None not = not-extracted match n plan scratch within not
 
-  pub extracted-by : (table : Option Table) (X : tree.Extraction) → plan_of (take n plan) ≡ ok (tree.extracted X)
+  pub extracted-by : (table : Option (Bor (List Lent))) (X : tree.Extraction) → plan_of (take n plan) ≡ ok (tree.extracted X)
       → HeldBy match n table plan scratch plan scratch (unwalked AlreadyExtracted)
-  extracted-by (Some table) X e = λ lent of. extracted-lent match n plan scratch lent within X e
+  extracted-by (Some table) X e = extracted-lent match n plan scratch (nodes_of table.now) within X e
   extracted-by None X e = extracted-refused match n plan scratch within X e
 
 -- A plan buffer shorter than n holds nothing.
-pub long-by : (match : Matcher) (n : ℕ) (plan scratch : List ℕ) → length plan < n → (table : Option Table)
+pub long-by : (match : Matcher) (n : ℕ) (plan scratch : List ℕ) → length plan < n → (table : Option (Bor (List Lent)))
     → HeldBy match n table plan scratch plan scratch (unwalked NoGoodPlan)
 unfolding table_fits
 long-by match n plan scratch long (Some table) =
-    λ lent of. unheld match n plan scratch lent (over-long n plan long) refl (long-refused match n plan scratch long)
+    unheld match n plan scratch (nodes_of table.now) (over-long n plan long) refl (long-refused match n plan scratch long)
 long-by match n plan scratch long None = long-refused match n plan scratch long
 
 module _ (S : Settings) (n : ℕ) (before scratch : List ℕ) where
@@ -62,13 +64,13 @@ module _ (S : Settings) (n : ℕ) (before scratch : List ℕ) where
       → ExtractIs (filled_under S n before scratch) (walk_under S n before scratch) n after kept r
   filled-settled g is = rw g.good is
 
-  pub by-24 : good_settings S ≡ false → (table : Option Table) → SettledBy S n table before scratch before scratch (unwalked BadSettings)
-  by-24 bad (Some table) = λ lent of. lent-24 S n before scratch lent bad
+  pub by-24 : good_settings S ≡ false → (table : Option (Bor (List Lent))) → SettledBy S n table before scratch before scratch (unwalked BadSettings)
+  by-24 bad (Some table) = lent-24 S n before scratch (nodes_of table.now) bad
   by-24 bad None = filled-24 bad
 
-  pub by-settled : GoodSettings S → (table : Option Table) (after kept : List ℕ) (r : Extracted)
+  pub by-settled : GoodSettings S → (table : Option (Bor (List Lent))) (after kept : List ℕ) (r : Extracted)
       → HeldBy (match_under S) n table before scratch after kept r → SettledBy S n table before scratch after kept r
-  by-settled g (Some table) after kept r is = λ lent of. lent-settled S n before scratch lent g (is lent of)
+  by-settled g (Some table) after kept r is = lent-settled S n before scratch (nodes_of table.now) g is
   by-settled g None after kept r is = filled-settled g is
 
   pub filled-default : S ≡ default_settings → filled_under S n before scratch ≡ extract_filled n before scratch

@@ -5,8 +5,8 @@ use native.Mathlib.Omega.{arith}
 use mathlib.Core.Path.{◌≡◌, refl, sym, ap, ◌∙◌}
 use mathlib.Core.Bool.{Bool, true, false}
 use mathlib.Core.List.{List, [], ◌∷◌, map}
-use lib.ListN.{length, take, get_or, length-take, length-map}
-use lib.Seq.{take-take, get_or-take}
+use lib.ListN.{length, take, get_or, length-take}
+use lib.Seq.{get_or-take}
 use borrow.Author.Tests.{lt-leb}
 use Rattle.definitions.specs.Basics.{Result, ok, refused}
 use Rattle.definitions.specs.Expression as tree
@@ -33,10 +33,9 @@ use Rattle.node_rows.specs.Numbers.{number}
 use Rattle.node_rows.specs.Rows.{Tabled}
 use Rattle.node_rows.specs.Stores.{SameIs}
 use Rattle.node_rows.proofs.RowLaws.{numbers-length}
-use Rattle.node_rows.proofs.TableLaws.{nodes-told, numbers-tell, same-tabled}
-use Rattle.node_rows.proofs.OneTree.{of_tree}
+use Rattle.node_rows.proofs.TableLaws.{nodes-told, numbers-tell}
 use Rattle.call_extract.specs.FrameRows.{Indexed}
-use Rattle.call_extract.specs.ExtractByTable.{lent_count, Begins, RowOf}
+use Rattle.call_extract.specs.ExtractByTable.{ExtractsWith}
 use Rattle.std.proofs.lemmas.Bool.{false_from_ne_true}
 
 numbers-taken : (k : ℕ) (table : List NodeRecord) → take k (map number table) ≡ map number (take k table)
@@ -44,41 +43,9 @@ numbers-taken zero table = refl
 numbers-taken (suc k) [] = refl
 numbers-taken (suc k) (t ∷ table) = ap (λ (l : List ℕ). number t ∷ l) (numbers-taken k table)
 
--- ---- a row of the table's numbers
-
-pub row-begins : (n count places : ℕ) (row : List ℕ) (table : List NodeRecord) → count ≤ places → count ≤ 1024 → 3 * count ≤ n
-    → RowOf n row places table → Begins count row table
-row-begins n count places row table enough few small of =
-    let m : ℕ = lent_count n places in
-    let less : count ≤ m = omega arith in
-    record {
-      long = omega (arith, of.long);
-      same =
-          sym (take-take count m row less) ∙ ap (take count) of.same ∙ numbers-taken count (take m table)
-          ∙ ap (map number) (take-take count m table less);
-    }
-
--- The row is as long as it says.
-pub row-long : (n count places : ℕ) (row : List ℕ) (table : List NodeRecord) → count ≤ places → count ≤ 1024 → 3 * count ≤ n
-    → RowOf n row places table → count ≤ length row
-row-long n count places row table enough few small of =
-    let b = row-begins n count places row table enough few small of in
-    omega (
-      arith,
-      ap length b.same,
-      length-take count row,
-      length-map (take count table) number,
-      length-take count table,
-      b.long,
-    )
-
 -- ---- no frame is held
 
--- The extract with a table, and without one; what is true of the one is true of the other.
-abbrev pub With : Matcher → (n : ℕ) (plan scratch : List ℕ) (table : List NodeRecord) (after kept : List ℕ) → Extracted → Type 0
-With match n plan scratch table after kept r =
-    ExtractIs (extract_by match n plan scratch table) (extract_walk_by match n plan scratch table) n after kept r
-
+-- The extract without a table; what is true of it is true of one with a table that fits.
 abbrev pub Without : Matcher → (n : ℕ) (plan scratch after kept : List ℕ) → Extracted → Type 0
 Without match n plan scratch after kept r =
     ExtractIs (extract_filled_by match n plan scratch) (walk_filled_by match n plan scratch) n after kept r
@@ -89,32 +56,32 @@ by-fit : (match : Matcher) (n : ℕ) (plan scratch : List ℕ) (table : List Nod
     → ExtractIs (if b then extract_filled_by match n plan scratch else finish n plan scratch (refused 10))
     (if b then walk_filled_by match n plan scratch else 0)
     n after kept r
-    → With match n plan scratch table after kept r
+    → ExtractsWith match n plan scratch table after kept r
 unfolding extract_by extract_walk_by
 by-fit match n plan scratch table b e is = rw e is
 
 -- Where no frame is held, the table does not matter.
 pub unheld : (match : Matcher) (n : ℕ) (plan scratch : List ℕ) (table : List NodeRecord) {r : Result tree.Plan} → held_plan n plan ≡ r
     → table_fits table r ≡ true → {after kept : List ℕ} {x : Extracted} → Without match n plan scratch after kept x
-    → With match n plan scratch table after kept x
+    → ExtractsWith match n plan scratch table after kept x
 unheld match n plan scratch table e fits is = by-fit match n plan scratch table true (ap (table_fits table) e ∙ fits) is
 
 -- So where what is held is no frame: it is refused as it is without a table.
 module _ (match : Matcher) (n : ℕ) (plan scratch : List ℕ) (table : List NodeRecord) (within : n ≤ length plan) where
-  bad-lent : (number : ℕ) → plan_of (take n plan) ≡ refused number → With match n plan scratch table plan scratch (unwalked NoGoodPlan)
+  bad-lent : (number : ℕ) → plan_of (take n plan) ≡ refused number → ExtractsWith match n plan scratch table plan scratch (unwalked NoGoodPlan)
   unfolding table_fits
   bad-lent number e = unheld match n plan scratch table (held-is n plan within e) refl (bad-refused match n plan scratch within number e)
 
-  empty-lent : plan_of (take n plan) ≡ ok tree.empty → With match n plan scratch table plan scratch (unwalked PlanEmpty)
+  empty-lent : plan_of (take n plan) ≡ ok tree.empty → ExtractsWith match n plan scratch table plan scratch (unwalked PlanEmpty)
   unfolding table_fits
   empty-lent e = unheld match n plan scratch table (held-is n plan within e) refl (empty-refused match n plan scratch within e)
 
   pub extracted-lent : (X : tree.Extraction) → plan_of (take n plan) ≡ ok (tree.extracted X)
-      → With match n plan scratch table plan scratch (unwalked AlreadyExtracted)
+      → ExtractsWith match n plan scratch table plan scratch (unwalked AlreadyExtracted)
   unfolding table_fits
   extracted-lent X e = unheld match n plan scratch table (held-is n plan within e) refl (extracted-refused match n plan scratch within X e)
 
-  pub not-lent : {why : Refusal} → NotHeld (plan_of (take n plan)) why → With match n plan scratch table plan scratch (unwalked why)
+  pub not-lent : {why : Refusal} → NotHeld (plan_of (take n plan)) why → ExtractsWith match n plan scratch table plan scratch (unwalked why)
   not-lent (no_bytes e) = empty-lent e
   not-lent (no_good number e) = bad-lent number e
 
@@ -143,7 +110,7 @@ module _ (n : ℕ) (plan : List ℕ) {f : Frame} (h : HoldsFrame n plan f) (byte
 
   -- A table that does not begin with its records is refused.
   refuted : (match : Matcher) (scratch : List ℕ) (table : List NodeRecord) → (node_table h.frame ≡ take f.nodes table → ⊥)
-      → With match n plan scratch table plan scratch (unwalked NoGoodPlan)
+      → ExtractsWith match n plan scratch table plan scratch (unwalked NoGoodPlan)
   unfolding finish
   refuted match scratch table never = by-fit match n plan scratch table false
       (fits_by table false
@@ -151,11 +118,10 @@ module _ (n : ℕ) (plan : List ℕ) {f : Frame} (h : HoldsFrame n plan f) (byte
       (λ e. never (sym ((begins-exactly-by (node_table h.frame) table).0 e) ∙ ap (λ (k : ℕ). take k table) counted))))
       (record { outcome = refl; carried = refl })
 
-  pub short-refused : (match : Matcher) (scratch row : List ℕ) (places : ℕ) (table : List NodeRecord) → places < f.nodes
-      → RowOf n row places table
-      → With match n plan scratch table plan scratch (unwalked NoGoodPlan)
-  short-refused match scratch row places table less of =
-      refuted match scratch table (λ e. omega (arith, ap length e, counted, length-take f.nodes table, of.long))
+  pub short-refused : (match : Matcher) (scratch : List ℕ) (table : List NodeRecord) → length table < f.nodes
+      → ExtractsWith match n plan scratch table plan scratch (unwalked NoGoodPlan)
+  short-refused match scratch table less =
+      refuted match scratch table (λ e. omega (arith, ap length e, counted, length-take f.nodes table))
 
   -- Once its own nodes are collected.
   module _ {own next : List ℕ} (indexed : Indexed n plan f own next) where
@@ -170,12 +136,12 @@ module _ (n : ℕ) (plan : List ℕ) {f : Frame} (h : HoldsFrame n plan f) (byte
         ap (λ (k : ℕ). take k own) (h.stands.sized ∙ sym (numbers-length f.root h.frame.expr))
         ∙ taken its_own.numbered ∙ sym (ap (map number) table_is)
 
-    module _ (match : Matcher) (scratch row : List ℕ) (table : List NodeRecord) (begins : Begins f.nodes row table) where
-      pub same-fits : take f.nodes own ≡ take f.nodes row → {after kept : List ℕ} {r : Extracted}
-          → Without match n plan scratch after kept r → With match n plan scratch table after kept r
+    module _ (match : Matcher) (scratch : List ℕ) (table : List NodeRecord) where
+      pub same-fits : SameIs own (map number table) f.nodes true → {after kept : List ℕ} {r : Extracted}
+          → Without match n plan scratch after kept r → ExtractsWith match n plan scratch table after kept r
       same-fits same is =
           let alike : map number (nodes_from f.root h.frame.expr) ≡ map number (take f.nodes table) =
-          ap (map number) (sym table_is) ∙ sym own-numbers ∙ same ∙ begins.same in
+          ap (map number) (sym table_is) ∙ sym own-numbers ∙ same ∙ numbers-taken f.nodes table in
           let records : nodes_from f.root h.frame.expr ≡ take f.nodes table =
           numbers-tell (nodes_from f.root h.frame.expr) (take f.nodes table)
           (nodes-told f.root h.frame.expr its_own.short) alike in
@@ -183,15 +149,11 @@ module _ (n : ℕ) (plan : List ℕ) {f : Frame} (h : HoldsFrame n plan f) (byte
           (fits_by table true
           ((begins-exactly-by (node_table h.frame) table).1 (sym (table_is ∙ records ∙ ap (λ (k : ℕ). take k table) (sym counted))))) is
 
-      pub other-refused : SameIs own row f.nodes false → With match n plan scratch table plan scratch (unwalked NoGoodPlan)
+      pub other-refused : SameIs own (map number table) f.nodes false
+          → ExtractsWith match n plan scratch table plan scratch (unwalked NoGoodPlan)
       other-refused differ = refuted match scratch table
           (λ e.
-          let same : take f.nodes own ≡ take f.nodes row = own-numbers ∙ ap (map number) e ∙ sym begins.same in
+          let same : take f.nodes own ≡ take f.nodes (map number table) =
+          own-numbers ∙ ap (map number) e ∙ sym (numbers-taken f.nodes table) in
           differ.2 (sym (get_or-take f.nodes own differ.0 0 differ.1)
-          ∙ ap (λ (l : List ℕ). get_or l differ.0 0) same ∙ get_or-take f.nodes row differ.0 0 differ.1))
-
-    -- Then the table's row is as good as its own.
-    pub row-indexed : (row : List ℕ) → take f.nodes own ≡ take f.nodes row → Indexed n plan f row next
-    row-indexed row same =
-        of_tree (Tabled row next f.root 0) (expr-stands h.stands.expr)
-        (same-tabled f.nodes (omega (arith, h.stands.sized)) same its_own)
+          ∙ ap (λ (l : List ℕ). get_or l differ.0 0) same ∙ get_or-take f.nodes (map number table) differ.0 0 differ.1))

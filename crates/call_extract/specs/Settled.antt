@@ -1,13 +1,15 @@
 -- Request 13 of document 02: the extract under settings, with a lent table of nodes or that of its own nodes. (Ours.)
 use Rattle.std.specs.Prelude.{ℕ, List, Option, Some, None, if◌then◌else◌}
+use Rattle.std.specs.Borrow.{Bor}
 use Rattle.definitions.specs.Basics.{refused}
 use Rattle.definitions.specs.Extract.{Matcher}
 use Rattle.definitions.specs.Calls.{Outcome, finish, extract_filled_by, walk_filled_by}
 use Rattle.definitions.specs.Settings.{Settings, good_settings, match_under}
 use Rattle.join_filter.specs.Outcomes.{ExtractIs}
 use Rattle.join_filter.specs.declared.answers.Extracted.{Extracted}
-use Rattle.call_extract.specs.declared.compared.Table.{Table}
-use Rattle.call_extract.specs.ExtractByTable.{RowOf, ByTableWith, ByTable}
+use Rattle.node_table.specs.declared.NodeRecord.{NodeRecord as Lent}
+use Rattle.node_table.specs.Records.{nodes_of}
+use Rattle.call_extract.specs.ExtractByTable.{ExtractsWith, ByTable}
 
 -- 24 before every other check.
 abbrev pub filled_under : Settings → (n : ℕ) → (buffer scratch : List ℕ) → Outcome
@@ -19,14 +21,14 @@ abbrev pub walk_under : Settings → (n : ℕ) → (buffer scratch : List ℕ) �
 walk_under S n buffer scratch = if good_settings S then walk_filled_by (match_under S) n buffer scratch else 0
 
 -- The extract with a matcher, with the table that is lent or, where none is, that of its own nodes.
-abbrev pub HeldBy : Matcher → (n : ℕ) → Option Table → (before scratch after kept : List ℕ) → Extracted → Type 0
+abbrev pub HeldBy : Matcher → (n : ℕ) → Option (Bor (List Lent)) → (before scratch after kept : List ℕ) → Extracted → Type 0
 HeldBy match n (Some table) before scratch after kept r =
-    ByTableWith match (RowOf n table.row.now table.places) n before scratch after kept r
+    ExtractsWith match n before scratch (nodes_of table.now) after kept r
 HeldBy match n None before scratch after kept r =
     ExtractIs (extract_filled_by match n before scratch) (walk_filled_by match n before scratch) n after kept r
 
 -- The same under settings.
-abbrev pub SettledBy : Settings → (n : ℕ) → Option Table → (before scratch after kept : List ℕ) → Extracted → Type 0
-SettledBy S n (Some table) before scratch after kept r = ByTable S (RowOf n table.row.now table.places) n before scratch after kept r
+abbrev pub SettledBy : Settings → (n : ℕ) → Option (Bor (List Lent)) → (before scratch after kept : List ℕ) → Extracted → Type 0
+SettledBy S n (Some table) before scratch after kept r = ByTable S n before scratch (nodes_of table.now) after kept r
 SettledBy S n None before scratch after kept r =
     ExtractIs (filled_under S n before scratch) (walk_under S n before scratch) n after kept r

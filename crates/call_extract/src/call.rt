@@ -7,10 +7,11 @@ ghost use Rattle.terms.specs.Settings.{settings_of};
 ghost use Rattle.join_filter.specs.Outcomes.{ExtractIs};
 ghost use Rattle.call_extract.specs.Settled.{HeldBy, SettledBy, filled_under, walk_under};
 
-use super::compared::{Table, extract_compared};
+use super::compared::extract_compared;
 use super::held_frame::{Listed, extract_frame};
 use join_filter::answers::Extracted;
 use node_rows::rows::Rows;
+use node_table::NodeRecord;
 use plan_reader::extraction_bodies::Held;
 use plan_reader::held_plans::held_plan_in;
 use terms::checked::Checked;
@@ -22,7 +23,7 @@ fn extract_held<const N: usize>(
     plan: &mut [u8],
     n: usize,
     scratch: &mut [u8],
-    table: Option<Table>,
+    table: Option<&[NodeRecord]>,
     settings: Checked,
 ) -> Extracted
     requires n_in_bounds { n ≤ length plan.old }
@@ -52,7 +53,7 @@ pub(crate) fn extract_settled(
     plan: &mut [u8],
     n: usize,
     scratch: &mut [u8],
-    table: Option<Table>,
+    table: Option<&[NodeRecord]>,
     settings: Settings,
 ) -> Extracted
     ensures { SettledBy (settings_of settings) n table.entry plan.old scratch.old plan.new scratch.new result }

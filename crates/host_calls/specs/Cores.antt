@@ -1,18 +1,15 @@
--- What a call leaves to be done with the table, and an extract from the numbers of its records. (Ours.)
-use Rattle.std.specs.Prelude.{ℕ, ◌≤◌, ◌≡◌, List, ◌++◌, ℤ, pos, neg_ℤ, length, drop, Result, Ok, Err}
+-- What a call leaves to be done with the table. (Ours.)
+use Rattle.std.specs.Prelude.{ℕ, ◌≤◌, ◌≡◌, List, ◌++◌, pos, neg_ℤ, length, drop, Result, Ok, Err}
 use Rattle.definitions.specs.Calls.{load}
 use Rattle.definitions.specs.Merge.{merge}
 use Rattle.definitions.specs.NodeTable.{NodeRecord}
 use Rattle.definitions.specs.Good.{AllBytes}
 use Rattle.definitions.specs.Hosts.{hosted}
-use Rattle.definitions.specs.Settings.{Settings, extract_under, extract_walk_under}
 use Rattle.expression.specs.Filling.{Records}
-use Rattle.call_extract.specs.ExtractByTable.{RowOf}
 use Rattle.terms.specs.Refusals.{number_of}
 use Rattle.terms.specs.declared.refusals.Refusal.{Refusal}
 use Rattle.join_filter.specs.declared.answers.Loaded as calls
 use Rattle.host_calls.specs.declared.cores.Loaded.{Loaded}
-use Rattle.host_calls.specs.Hosted.{ExtractHosted}
 
 -- ---- a call that leaves the table to be filled
 
@@ -44,15 +41,3 @@ MergeLeft frame n before scratch held after scratched r =
     → (r.answer ≡ hosted (merge frame n before scratch table).answer) × (after ≡ (merge frame n before scratch table).buffer)
     × (scratched ≡ (merge frame n before scratch table).scratch)
     × Left after r.root r.count table (merge frame n before scratch table).table)
-
--- ---- an extract from the numbers of the table's records
-
--- The row has the first numbers of some table of so many records. (Ours.)
-abbrev pub Lent : (n : ℕ) (row : List ℕ) (held : ℕ) → Type 0
-Lent n row held = (table : List NodeRecord) × RowOf n row held table
-
--- The extract is the definition's with every table of so many records whose first numbers are in the row. (Ours.)
-abbrev pub ExtractBy : Settings → (n : ℕ) (before scratch row : List ℕ) (held : ℕ) (after scratched : List ℕ) → ℤ → Type 0
-ExtractBy S n before scratch row held after scratched r =
-    (table : List NodeRecord) → RowOf n row held table
-    → ExtractHosted before (extract_under S n before scratch table) (extract_walk_under S n before scratch table) after scratched r

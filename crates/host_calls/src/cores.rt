@@ -1,7 +1,4 @@
-// What a call leaves for the table that a host lends, and how many of its records an extract takes. Public for the crates of the calls
-// with a table.
-ghost use Rattle.std.specs.Prelude.{◌≡◌};
-ghost use Rattle.call_extract.specs.ExtractByTable.{lent_count};
+// What a call leaves for the table that a host lends. Public for the crates of the calls with a table.
 ghost use Rattle.host_calls.specs.Short.{ShortLoaded};
 ghost use Rattle.host_calls.specs.Cores.{LeftBy};
 
@@ -35,11 +32,4 @@ pub(crate) fn left_by(loaded: Result<answers::Loaded, Refusal>) -> Loaded
             count: 0,
         },
     }
-}
-
-// How many of the table's records an extract takes: a frame of n bytes has at most 1,024 nodes, each of three bytes at least.
-pub fn taken_count(n: usize, held: usize) -> usize
-    ensures { result ≡ lent_count n held }
-{
-    held.min(1024).min(n / 3)
 }

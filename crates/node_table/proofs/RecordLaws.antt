@@ -1,8 +1,10 @@
 -- The structs of a lent table and the records that they are.
 use mathlib.Core.Path.{◌≡◌, sym, ◌∙◌, ap}
-use Prim.Native.Nat.{ℕ}
+use Prim.Native.Nat.{ℕ, ◌<◌}
+use native.Mathlib.Omega.{arith}
 use mathlib.Core.List.{List, ◌++◌, map, map-append, map-map}
-use lib.ListN.{take, drop}
+use lib.ListN.{length, get_or, take, drop, length-map, get_or-map}
+use Rattle.std.proofs.lemmas.List.{get_or_default}
 use Rattle.definitions.specs.NodeTable as definitions
 use Rattle.node_rows.specs.Numbers.{number}
 use Rattle.node_table.specs.Numbers.{numbered}
@@ -36,6 +38,12 @@ put_all n row xs =
 abbrev pub number_of : NodeRecord → ℕ
 number_of r = number (node_of r)
 
--- the row after the numbers of n structs were taken
-pub take_all : (n : ℕ) (xs : List NodeRecord) (row : List ℕ) → filled number_of xs row n ≡ take n (map number (nodes_of xs)) ++ drop n row
-take_all n xs row = ap (λ (l : List ℕ). take n l ++ drop n row) (sym (map-map number node_of xs))
+-- the numbers of a table, and that at a place
+pub numbers_of : (xs : List NodeRecord) → map number_of xs ≡ map number (nodes_of xs)
+numbers_of xs = sym (map-map number node_of xs)
+
+pub number_at : (xs : List NodeRecord) (k : ℕ) → k < length xs → get_or (map number (nodes_of xs)) k 0 ≡ number_of (get_or xs k blank)
+number_at xs k l =
+    ap (λ (l : List ℕ). get_or l k 0) (sym (numbers_of xs))
+    ∙ get_or_default (map number_of xs) k 0 (number_of blank) (omega (arith, length-map xs number_of))
+    ∙ get_or-map number_of xs k blank

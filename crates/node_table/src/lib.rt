@@ -1,10 +1,11 @@
-// The lent table of a frame's nodes. Only `put_nodes` writes into it and only `take_nodes` reads it; all other code works on a plain
-// row of numbers, one number a node record. Public for the crate `spatialjoin_c`.
+// The lent table of a frame's nodes. Only `put_nodes` writes into it and only `same_nodes` reads it, which holds a plain row of numbers,
+// one number a node record, against it. Public for the crates of the calls with a table.
 #![tactic(auto)]
 
 ghost use Rattle.std.specs.Prelude.{◌≡◌, map, ◌++◌, ◌<◌, ◌≤◌, length, take, drop};
 ghost use Rattle.node_rows.specs.Numbers.{number};
 ghost use Rattle.node_rows.specs.Rows.{Filling};
+ghost use Rattle.node_rows.specs.Stores.{SameIs};
 ghost use Rattle.node_table.specs.Numbers.{numbered};
 ghost use Rattle.node_table.specs.Records.{node_of, nodes_of, FilledIs};
 
@@ -84,13 +85,15 @@ pub fn fill_table(table: &mut [NodeRecord], s: &[u8], root: usize, count: usize)
     put_nodes(table, &row, count);
 }
 
-// The one function that reads a lent table: the row's first numbers become those of its records, the others stay.
-pub fn take_nodes(row: &mut [u32], table: &[NodeRecord], count: usize)
-    requires { (count ≤ length row.old) × (count ≤ length table.now) }
-    ensures { row.new
-        ≡ take count (map number (nodes_of table.now)) ++ drop count row.old }
+// The one function that reads a lent table: whether its first records are those of the row's first numbers.
+pub fn same_nodes(row: &[u32], table: &[NodeRecord], count: usize) -> bool
+    requires { (count ≤ length row.now) × (count ≤ length table.now) }
+    ensures { SameIs row.now (map number (nodes_of table.now)) count result }
 {
-    for (k, number) in row[..count].iter_mut().enumerate() {
-        *number = u32::from(table[k]);
+    for (k, number) in row[..count].iter().enumerate() {
+        if *number != u32::from(table[k]) {
+            return false;
+        }
     }
+    true
 }

@@ -1,14 +1,10 @@
 -- What a call says before the table is filled, and what the filled table is then, make the definition's outcome.
-use mathlib.Core.Path.{◌≡◌, sym, ◌∙◌, ap, subst}
+use mathlib.Core.Path.{◌≡◌, sym, ◌∙◌}
 use Prim.Native.Nat.{ℕ, ◌≤◌}
 use native.Mathlib.Omega.{arith}
 use mathlib.Core.List.{List, map, ◌++◌}
 use lib.ListN.{length, length-map, take, drop}
-use lib.Seq.{take_at, length-take-le}
 use Rattle.definitions.specs.NodeTable as nodes
-use Rattle.call_extract.specs.ExtractByTable.{lent_count, RowOf}
-use Rattle.node_rows.specs.Numbers.{number}
-use Rattle.node_table.proofs.Filling.{map-take}
 use Rattle.node_table.specs.Records.{node_of, nodes_of, FilledIs}
 use Rattle.node_table.specs.declared.NodeRecord.{NodeRecord}
 use Rattle.definitions.specs.Merge.{merge}
@@ -59,17 +55,3 @@ module _ (table put : List NodeRecord) (r : Loaded) where
     merge-is filled =
         let so = is.2 (nodes_of table) (length-map table node_of) in
         (is.0, is.1, so.0, so.1, so.2, left-done after r.root r.count (nodes_of table) _ (nodes_of put) so.3 filled)
-
--- a row that begins with the numbers of a table's first records, as many as are taken
-pub row_of : (n : ℕ) (table : List NodeRecord) (count : ℕ) (before row : List ℕ) → count ≡ lent_count n (length table)
-    → row ≡ take count (map number (nodes_of table)) ++ drop count before → RowOf n row (length table) (nodes_of table)
-row_of n table count before row e is =
-    let numbers : List ℕ = map number (nodes_of table) in
-    let first : take count row ≡ map number (take count (nodes_of table)) =
-    ap (take count) is ∙ take_at (take count numbers) (drop count before) count
-    (length-take-le count numbers (omega (arith, e, length-map (nodes_of table) number, length-map table node_of)))
-    ∙ sym (map-take number count (nodes_of table)) in
-    record {
-      long = length-map table node_of;
-      same = subst (λ (k : ℕ). take k row ≡ map number (take k (nodes_of table))) e first;
-    }

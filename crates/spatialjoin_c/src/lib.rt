@@ -15,11 +15,9 @@ ghost use Rattle.spatialjoin_c.specs.Version.{version};
 ghost use Rattle.node_table.specs.Records.{nodes_of};
 ghost use Rattle.host_calls.specs.Hosted.{LoadHosted, CallHosted, settings_by, ExtractHosted, MergeHosted, PrintHosted, PutHosted, ServeHosted, AllHosted, ExplainHosted};
 
-use call_extract::compared::Table;
-use host_calls::cores::taken_count;
 use host_calls::exchange::exchange_number;
 use host_calls::explain::explain_number;
-use host_calls::extract::extract_core;
+use host_calls::extract::extract_number;
 use host_calls::extract_all::all_number;
 use host_calls::load::load_core;
 use host_calls::logical::logical_number;
@@ -29,7 +27,7 @@ use host_calls::project::project_number;
 use host_calls::put::put_number;
 use host_calls::serve::serve_number;
 use host_calls::settings::host_settings;
-use node_table::{NodeRecord, fill_table, put_nodes, take_nodes};
+use node_table::{NodeRecord, fill_table, put_nodes};
 
 // Loads a frame as the new plan and fills the table with its nodes; reads nothing of what both held.
 pub fn spatialjoin_load(frame: &[u8], plan: &mut [u8], table: &mut [NodeRecord]) -> i64
@@ -60,20 +58,8 @@ pub fn spatialjoin_extract(
         (nodes_of table.now))
         plan.new scratch.new result }
 {
-    let count = taken_count(n, table.len());
-    let mut row = [0; 1024];
-    take_nodes(&mut row, table, count);
-    let lent = Table {
-        row: &row,
-        places: table.len(),
-    };
-    extract_core(
-        plan,
-        n,
-        scratch,
-        lent,
-        host_settings(kinds, default_k, greatest_k),
-    )
+    let settings = host_settings(kinds, default_k, greatest_k);
+    extract_number(plan, n, scratch, table, settings)
 }
 
 // Exchanges the join's children in the plan in the first n bytes.

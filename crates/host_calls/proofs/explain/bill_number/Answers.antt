@@ -1,7 +1,7 @@
 -- `bill_number`: the definition's, in 64 bits since it is of three bytes.
 use native.Mathlib.Omega.{arith}
-use mathlib.Core.Path.{◌≡◌, sym, ap, ◌∙◌}
-use Prim.Native.Nat.{ℕ, ◌+◌, ◌*◌}
+use mathlib.Core.Path.{◌≡◌}
+use Prim.Native.Nat.{◌+◌, ◌*◌}
 use Rattle.definitions.specs.Verdicts as definitions
 use Rattle.leaf_verdicts.specs.Taken.{taken_of}
 use Rattle.host_calls.proofs.explain.bill_number.Goals as goal

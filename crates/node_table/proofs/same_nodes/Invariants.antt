@@ -1,7 +1,7 @@
--- `take_nodes`: the numbers of k records are taken.
+-- `same_nodes`: k numbers are those of the records at their places.
 use Rattle.std.proofs.Common.{◌≡◌, ℕ, ◌<◌, get_or}
 use Rattle.node_table.proofs.RecordLaws.{blank, number_of}
-use Rattle.node_table.proofs.take_nodes.Given as goal
+use Rattle.node_table.proofs.same_nodes.Given as goal
 
 abbrev pub invariant-loop-k : goal.invariant-loop-k
 invariant-loop-k l =
