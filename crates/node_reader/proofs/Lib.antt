@@ -7,3 +7,4 @@ pub mod Children
 pub mod Walks
 pub mod Standing
 pub mod Storing
+pub mod OpenNodes

@@ -1,11 +1,12 @@
-// Expressions of depth at most 64, read by the walk over their nodes.
+// Expressions of depth at most 64, read by the loop over their nodes.
 ghost use Rattle.std.specs.Prelude.{◌≤◌, length};
 ghost use Rattle.node_reader.specs.Heads.{columns_of};
 ghost use Rattle.node_reader.specs.Nodes.{Lent};
 ghost use Rattle.node_reader.specs.Places.{ExpressionIs, ExpressionIn};
 
 use super::call_heads::{Columns, Source};
-use super::walk::{Walked, node};
+use super::reading_loop::read_node;
+use super::walk::Walked;
 use terms::refusals::Refusal;
 
 // An expression of depth at most 64, whose nodes go into the rows from `count` on, where these are so long.
@@ -20,14 +21,7 @@ pub fn expression_in(
     requires { (at ≤ length s.now) × Lent s.now numbers.old indexes.old }
     ensures { ExpressionIn s.now at count result (columns_of columns) numbers.new indexes.new }
 {
-    node(
-        numbers,
-        indexes,
-        Source { bytes: s, columns },
-        at,
-        64,
-        count,
-    )
+    read_node(numbers, indexes, Source { bytes: s, columns }, at, count)
 }
 
 // An expression of depth at most 64, for those who have no rows to lend.

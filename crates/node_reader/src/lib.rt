@@ -5,4 +5,5 @@ pub mod call_heads;
 pub mod expressions;
 pub mod field_readers;
 pub mod head_readers;
+pub mod reading_loop;
 pub mod walk;
