@@ -23,7 +23,7 @@ alone e one (cons x es) none = absurd (omega arith)
 pub childless : (s : List ℕ) (at : ℕ) {first : ℕ} (reader : Reader Expr) (e : Expr) → children_of e ≡ nil → first ≤ length s
     → ReadsAt s at first e reader → HeadIs s at (Ok (record { next = first; children = 0 })) (λ child. reader)
 unfolding repeat_exprs
-childless s at reader e one place reads = (place, (λ es. e), (λ child n. reads n), alone e one)
+childless s at reader e one place reads = (place, (λ es. e), (λ child n. reads n), alone e one, omega arith)
 
 -- Two children, one after the other, are a list of two.
 of_two : (Expr → Expr → Expr) → Exprs → Expr
@@ -63,6 +63,7 @@ two s at end operator w h = (
   of_two (binary_expr operator),
   (λ child n. after _ (h n) ∙ first (binary_expr operator) child (child n (drop end s))),
   above-two operator,
+  omega arith,
 )
 
 -- A kind that is none of 1 to 4 is a column's.

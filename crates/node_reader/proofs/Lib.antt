@@ -8,3 +8,4 @@ pub mod Walks
 pub mod Standing
 pub mod Storing
 pub mod OpenNodes
+pub mod Looping

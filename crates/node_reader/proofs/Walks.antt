@@ -68,6 +68,7 @@ below-limits c s at fields kind levels n e z few (Ok head) h = (
   h.3,
   omega arith,
   few,
+  h.4,
 )
 below-limits c s at fields kind levels n e z few (Err why) h =
     inside c n (drop at s) kind (drop fields s) e levels z few ∙ h (node c (levels - 1)) (n + 1)

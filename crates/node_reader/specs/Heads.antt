@@ -1,5 +1,6 @@
 -- What the answers about a node's head say of the definitions' readers.
 use Rattle.std.specs.Prelude.{ℕ, suc, ◌≤◌, ◌≡◌, List, length, drop, Result, Ok, Err}
+use Rattle.definitions.specs.Limits.{most_children}
 use Rattle.definitions.specs.Expression.{Expr, Exprs, count}
 use Rattle.definitions.specs.Readers.{stopped, Reader, continue, give}
 use Rattle.definitions.specs.Decode as decode
@@ -26,5 +27,5 @@ HeadIs s at (Ok head) reader =
     × ((child : Reader Expr) (n : ℕ)
     → reader child n (drop at s)
     ≡ continue (decode.repeat_exprs head.children child n (drop head.next s)) (λ es. give (build es)))
-    × ((es : Exprs) → count es ≡ head.children → children_of (build es) ≡ es)
+    × ((es : Exprs) → count es ≡ head.children → children_of (build es) ≡ es) × (head.children ≤ most_children)
 HeadIs s at (Err why) reader = (child : Reader Expr) (n : ℕ) → reader child n (drop at s) ≡ stopped (number_of why)

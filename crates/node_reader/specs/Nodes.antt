@@ -1,5 +1,6 @@
 -- What the answers about walks over nodes say of the definitions' readers.
 use Rattle.std.specs.Prelude.{ℕ, ◌+◌, ◌-◌, ◌≤◌, ◌<◌, ◌≡◌, List, length, drop, Result, Ok, Err}
+use Rattle.definitions.specs.Limits.{most_children}
 use Rattle.definitions.specs.Expression as tree
 use Rattle.definitions.specs.Expression.{Expr, Exprs}
 use Rattle.definitions.specs.Readers.{read, stopped, Reader, continue, give}
@@ -23,6 +24,7 @@ NodeHead s at levels count c (Ok head) =
     × (node c levels count (drop at s)
     ≡ continue (repeat_exprs head.children (node c (levels - 1)) (count + 1) (drop head.next s)) (λ es. give (build es)))
     × ((es : Exprs) → tree.count es ≡ head.children → children_of (build es) ≡ es) × (0 < levels) × (count < 1024)
+    × (head.children ≤ most_children)
 NodeHead s at levels count c (Err why) = node c levels count (drop at s) ≡ stopped (number_of why)
 
 -- Nodes were walked, `before` of them counted up to this place; what was read has so many levels, and if rows had room for it, it is in

@@ -3,6 +3,7 @@ use mathlib.Core.Path.{refl, ◌∙◌}
 use Rattle.definitions.specs.Expression.{other}
 use Rattle.expression.specs.Nodes.{children_of}
 use Rattle.definitions.specs.Decode.{other_node}
+use Rattle.theorems.proofs.Inverse.{byte-up-to-back}
 use Rattle.theorems.proofs.ReaderLaws.{after}
 use Rattle.node_reader.proofs.head_readers.other_head.Goals as goal
 
@@ -10,4 +11,4 @@ pub returns : goal.returns
 unfolding other_node children_of
 returns c =
     let many = c.in_ok-children.ensures in
-    (many.0, other _, (λ child n. after _ (c.in_ok-many.ensures.1 n) ∙ after _ (many.1 n)), λ es as-many. refl)
+    (many.0, other _, (λ child n. after _ (c.in_ok-many.ensures.1 n) ∙ after _ (many.1 n)), λ es as-many. refl, (byte-up-to-back 16 0 0 _ _ _ (many.1 0)).1)

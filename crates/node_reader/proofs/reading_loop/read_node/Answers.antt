@@ -1,10 +1,9 @@
--- What is right for the children that are still to come is right for each open node, and so for the whole; a closed node is a child of the
--- node above it.
+-- Of each open node the loop keeps what the walk over its children would: a leaf or a closed node is one more child of the node above it.
 use mathlib.Core.Path.{refl}
 use Rattle.node_reader.proofs.Reading.{kept}
 use Rattle.node_reader.proofs.Standing.{all-bytes}
 use Rattle.node_reader.proofs.Storing.{has-kind, storable}
-use Rattle.node_reader.proofs.OpenNodes.{begins, refused, goes-down, leaf-here, leaf-read, closing-here, closed}
+use Rattle.node_reader.proofs.Looping.{begins, refused, goes-down, leaf-here, leaf-read, closing-here, closed}
 use Rattle.node_reader.proofs.reading_loop.read_node.Goals as goal
 use Rattle.node_reader.proofs.reading_loop.read_node.Goals.{then-head-eq0, else-head-eq0}
 
@@ -15,17 +14,17 @@ loop-more-init c =
 pub bounds-s-start : goal.bounds-s-start
 bounds-s-start c =
     let bytes = all-bytes c.args.source.bytes.now c.type_inv.s in
-    has-kind (closing-here c.loop-more.invariant bytes c.if-more-level-eq0.true c.if-level-eq0.false c.from.result c.from.ensures)
+    has-kind (closing-here c.loop-more.invariant bytes c.if-more-level-eq0.true c.if-level-eq0.false c.from-own.result c.from-own.ensures)
 
 pub put_node-requires : goal.put_node-requires
 put_node-requires c =
     let bytes = all-bytes c.args.source.bytes.now c.type_inv.s in
-    storable (closing-here c.loop-more.invariant bytes c.if-more-level-eq0.true c.if-level-eq0.false c.from.result c.from.ensures)
+    storable (closing-here c.loop-more.invariant bytes c.if-more-level-eq0.true c.if-level-eq0.false c.from-own.result c.from-own.ensures)
 
 pub loop-more-preserved-then-more-level-eq0 : goal.loop-more-preserved-then-more-level-eq0
 loop-more-preserved-then-more-level-eq0 c =
     let bytes = all-bytes c.args.source.bytes.now c.type_inv.s in
-    closed c.loop-more.invariant bytes c.if-more-level-eq0.true c.if-level-eq0.false c.from.result c.from.ensures _ _
+    closed c.loop-more.invariant bytes c.if-more-level-eq0.true c.if-level-eq0.false c.from-own.result c.from-own.ensures _ _
     c.put_node.auto.numbers c.put_node.auto.next c.put_node.ensures
 
 pub returns-in_err-head-clause-read : goal.returns-in_err-head-clause-read
@@ -37,8 +36,8 @@ bounds-s-next c =
     let bytes = all-bytes c.args.source.bytes.now c.type_inv.s in
     has-kind (leaf-here c.loop-more.invariant c.if-more-level-eq0.false c.requires.1 _ c.in_ok-head.ensures bytes c.if-head-eq0.true)
 
-pub put_node-requires-then-head-eq0 : goal.put_node-requires-then-head-eq0
-put_node-requires-then-head-eq0 c =
+pub put_leaf-requires : goal.put_leaf-requires
+put_leaf-requires c =
     let bytes = all-bytes c.args.source.bytes.now c.type_inv.s in
     storable (leaf-here c.loop-more.invariant c.if-more-level-eq0.false c.requires.1 _ c.in_ok-head.ensures bytes c.if-head-eq0.true)
 
@@ -47,12 +46,12 @@ loop-more-preserved c =
     elim c.if-head-eq0.branch [
       | then-head-eq0 w ↦
           let bytes = all-bytes c.args.source.bytes.now w.shared_slice_known-then-head-eq0-1.given in
-          let put = w.put_node-then-head-eq0 in
-          rw (w.numbers-is, w.indexes-is, w.more-is, w.index-is, w.place-is, w.level-is, w.deepest-is)
+          let put = w.put_leaf in
+          rw (w.numbers-is, w.indexes-is, w.more-is, w.index-is, w.place-is, w.level-is, w.depth-is)
           (leaf-read c.loop-more.invariant c.if-more-level-eq0.false c.requires.1 c.in_ok-head.head c.in_ok-head.ensures bytes
-          w.if-head-eq0.true _ _ put.auto.numbers put.auto.next put.ensures)
+          w.if-head-eq0.true _ _ put.auto.numbers put.auto.indexes put.ensures)
       | else-head-eq0 w ↦
-          rw (w.numbers-is, w.indexes-is, w.more-is, w.index-is, w.place-is, w.level-is, w.deepest-is)
+          rw (w.numbers-is, w.indexes-is, w.more-is, w.index-is, w.place-is, w.level-is, w.depth-is)
           (goes-down c.loop-more.invariant c.if-more-level-eq0.false c.requires.1 c.in_ok-head.head c.in_ok-head.ensures w.if-head-eq0.false
-          w.max-deepest.result w.max-deepest.ensures)
+          w.max-depth.result w.max-depth.ensures)
     ]

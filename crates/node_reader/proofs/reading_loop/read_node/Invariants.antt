@@ -1,8 +1,8 @@
--- What is right for the children that are still to come is right for each open node, and so for the whole; a closed node is a child of the
--- node above it.
+-- Of each open node the loop keeps what the walk over its children would: a leaf or a closed node is one more child of the node above it.
 use Prim.Native.Nat.{◌+◌, ◌-◌, ◌*◌}
 use Rattle.node_reader.specs.Heads.{columns_of}
-use Rattle.node_reader.proofs.OpenNodes.{Begun, Reading}
+use Rattle.node_reader.proofs.OpenNodes.{Begun}
+use Rattle.node_reader.proofs.Looping.{InLoop}
 use Rattle.node_reader.proofs.reading_loop.read_node.Given as goal
 
 abbrev pub invariant-loop-more : goal.invariant-loop-more
@@ -15,7 +15,7 @@ invariant-loop-more l =
       numbers = l.initial.numbers;
       indexes = l.initial.indexes;
     } in
-    Reading b l.more l.index l.place l.level l.next l.i l.deepest l.numbers l.indexes
+    InLoop b l.more l.index l.place l.level l.next l.count l.depth l.numbers l.indexes
 
 abbrev pub decreases-loop-more : goal.decreases-loop-more
-decreases-loop-more l = 2 * (1024 - l.i) + l.level
+decreases-loop-more l = 2 * (1024 - l.count) + l.level
