@@ -1,6 +1,6 @@
 -- What a print is, once the frame's answer, the text's length and what was written are known.
-use Rattle.std.specs.Prelude.{if◌then◌else◌}
-use Prim.Native.Nat.{ℕ, ◌≤◌, ◌<◌}
+use Rattle.std.specs.Prelude.{if◌then◌else◌, IsTrue, ◌↔◌}
+use Prim.Native.Nat.{ℕ, ◌≤◌}
 use native.Mathlib.Omega.{arith}
 use mathlib.Core.Path.{◌≡◌, sym, ap, ap₂, ◌∙◌}
 use mathlib.Core.Bool.{Bool, true, false}
@@ -50,31 +50,38 @@ module _ (frame before : List ℕ) where
     node_at : PhysicalAt frame f.root F.expr
     node_at = record { bound = length F.records; stands = expr-stands at.expr }
 
+    text-few : AllBytes frame → length (printed F.expr) ≤ 26620
+    text-few bytes = (text-short F (frame_back frame F bytes is).1).1
+
     pub text-there : AllBytes frame → TextThere frame f.root
-    text-there bytes = (F.expr, text_at, (text-short F (frame_back frame F bytes is).1).1)
+    text-there bytes = (F.expr, text_at, text-few bytes)
 
-    module _ (n : ℕ) (size : OfText frame f.root (λ t. n ≡ length (printed t))) where
-      n-is : n ≡ length (printed F.expr)
-      n-is = size F.expr text_at
+    by-room : (b : Bool) → leb (length (printed F.expr)) (length before) ≡ b
+        → print frame before ≡ finish_print before (if b then ok (printed F.expr) else refused 15)
+    unfolding print text_of
+    by-room b t =
+        ap (λ (r : Result Frame). finish_print before (text_of (length before) r)) is
+        ∙ ap (λ (x : Bool). finish_print before (if x then ok (printed F.expr) else refused 15)) t
 
-      by-room : (b : Bool) → leb (length (printed F.expr)) (length before) ≡ b
-          → print frame before ≡ finish_print before (if b then ok (printed F.expr) else refused 15)
-      unfolding print text_of
-      by-room b t =
-          ap (λ (r : Result Frame). finish_print before (text_of (length before) r)) is
-          ∙ ap (λ (x : Bool). finish_print before (if x then ok (printed F.expr) else refused 15)) t
+    module _ (bytes : AllBytes frame) (b : Bool)
+        (fits : OfText frame f.root (λ t. length (printed t) ≤ 26620 → IsTrue b ↔ (length (printed t) ≤ length before))) where
+      room-is : IsTrue b ↔ (length (printed F.expr) ≤ length before)
+      room-is = fits F.expr text_at (text-few bytes)
 
-      pub print-short : length before < n → print frame before ≡ record { answer = refused 15; buffer = before }
+      pub print-short : b ≡ false → print frame before ≡ record { answer = refused 15; buffer = before }
       unfolding finish_print
-      print-short short = by-room false (lt-leb (length (printed F.expr)) (length before) (omega (arith, n-is)))
+      print-short short =
+          let no : length (printed F.expr) ≤ length before → ⊥ = λ le. let both : b ≡ true = room-is.1 le in cc in
+          by-room false (lt-leb (length (printed F.expr)) (length before) (omega (arith, no)))
 
-      pub text-room : n ≤ length before → Room (PhysicalAt frame f.root) printed 0 before
-      text-room room = record { it = F.expr; stands = node_at; room = omega (arith, n-is) }
+      pub text-room : b ≡ true → Room (PhysicalAt frame f.root) printed 0 before
+      text-room room = record { it = F.expr; stands = node_at; room = omega (arith, room-is.0 room) }
 
-      pub print-writes : n ≤ length before → (after : List ℕ) (r : Printed) → NodePrinted frame f.root 0 before after r
-          → print frame before ≡ record { answer = ok n; buffer = after }
+      pub print-writes : b ≡ true → (after : List ℕ) (r : Printed) → NodePrinted frame f.root 0 before after r
+          → print frame before ≡ record { answer = ok r.wrote; buffer = after }
       unfolding finish_print written_over
       print-writes room after r put =
-          let text : after ≡ printed F.expr ++ drop (length (printed F.expr)) before = (to_start (put F.expr node_at).out).1 in
-          by-room true (le-leb (length (printed F.expr)) (length before) (omega (arith, n-is)))
-          ∙ ap₂ (λ (k : ℕ) (x : List ℕ). record { answer = ok k; buffer = x }) (sym n-is) (sym text)
+          let wrote = to_start (put F.expr node_at).out in
+          let text : after ≡ printed F.expr ++ drop (length (printed F.expr)) before = wrote.1 in
+          by-room true (le-leb (length (printed F.expr)) (length before) (room-is.0 room))
+          ∙ ap₂ (λ (k : ℕ) (x : List ℕ). record { answer = ok k; buffer = x }) (sym wrote.0) (sym text)
