@@ -29,10 +29,10 @@ fn project_held(
         return Err(Refusal::BufferTooShort);
     }
     // A child index comes with five bytes, so a short plan needs no long row cleared.
-    if n <= 320 {
-        project_by::<64>(plan, n, scratch, x, left, right)
-    } else {
-        project_by::<3277>(plan, n, scratch, x, left, right)
+    match n {
+        0..=320 => project_by::<64>(plan, n, scratch, x, left, right),
+        321..=1280 => project_by::<256>(plan, n, scratch, x, left, right),
+        _ => project_by::<3277>(plan, n, scratch, x, left, right),
     }
 }
 

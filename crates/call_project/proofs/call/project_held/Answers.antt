@@ -1,6 +1,5 @@
--- `project_held`: lists, then scratch, then the child indexes; a row of 64 entries has room for those of 320 bytes.
-use native.Mathlib.Omega.{arith}
-use Rattle.call_project.proofs.ProjectCall.{list-long, scratch-short, held-short}
+-- `project_held`: lists, then scratch, then the child indexes; a row has an entry for each five bytes.
+use Rattle.call_project.proofs.ProjectCall.{list-long, scratch-short}
 use Rattle.call_project.proofs.call.project_held.Goals as goal
 
 pub returns-then-left-gt4096 : goal.returns-then-left-gt4096
