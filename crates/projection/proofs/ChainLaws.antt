@@ -12,7 +12,7 @@ use lib.Dec.{eqb}
 use borrow.Author.Tests.{eqb-true, eqb-false}
 use Rattle.definitions.specs.Limits.{most_items}
 use Rattle.definitions.specs.Project.{place_in}
-use Rattle.projection.specs.Chains.{link_of, Walk, ends, here, further, Chain, Chained, Unfilled}
+use Rattle.projection.specs.Chains.{link_of, Walk, ends, here, further, Chain, MaySeek, Chained, Unfilled}
 use Rattle.projection.proofs.PlaceLaws.{place-passed, place-stays, place-new}
 
 -- ---- a step
@@ -81,18 +81,19 @@ either_way {P} a b same other = told (eqb a b) refl
     told true e = same (eqb-true a b e)
     told false e = other (eqb-false a b e)
 
-pub chained-none : {items heads nexts : List ℕ} → Unfilled items heads nexts → Chained items heads nexts 0
+pub chained-none : {items heads nexts : List ℕ} {sought : List Bool} → Unfilled items heads nexts → Chained items heads nexts sought 0
 unfolding place_in
 chained-none {items} {heads} {nexts} u = record {
   chains = u.chains;
   room = u.room;
   low = λ chain. omega (arith, u.none chain);
-  walks = λ item. subst (λ (link : ℕ). Walk items nexts item link none) (sym (u.none (item % 1024))) ends;
+  walks = λ item may. subst (λ (link : ℕ). Walk items nexts item link none) (sym (u.none (item % 1024))) ends;
 }
 
-pub chain-of : {items heads nexts : List ℕ} {count : ℕ} → Chained items heads nexts count → (item : ℕ) → Chain items heads nexts item
-chain-of {items} {heads} {nexts} {count} c item =
-    record { chains = c.chains; room = c.room; place = place_in (take count items) item; walk = c.walks item }
+pub chain-of : {items heads nexts : List ℕ} {sought : List Bool} {count : ℕ} → Chained items heads nexts sought count → (item : ℕ)
+    → MaySeek sought item → Chain items heads nexts item
+chain-of {items} {heads} {nexts} {sought} {count} c item may =
+    record { chains = c.chains; room = c.room; place = place_in (take count items) item; walk = c.walks item may }
 
 -- What a store past its links keeps of a chain.
 kept-past : {items nexts : List ℕ} {item link : ℕ} {place : Option ℕ} (k w : ℕ) → Walk items nexts item link place → link ≤ k
@@ -104,8 +105,21 @@ kept-past {items} {nexts} {item} k w (further {k = j} {place} inside other falls
     further inside other (omega arith)
     (subst (λ (link : ℕ). Walk items (set nexts k w) item link place) (sym same) (kept-past k w rest (omega arith)))
 
-module _ {items heads nexts : List ℕ} {k : ℕ} (c : Chained items heads nexts k) (inside : k < length items) (x : ℕ)
-    (is : get_or items k 0 ≡ x) where
+module _ {items heads nexts : List ℕ} {sought : List Bool} {k : ℕ} (c : Chained items heads nexts sought k) (inside : k < length items)
+    (x : ℕ) (is : get_or items k 0 ≡ x) where
+  -- Nothing like it may be sought: the chains stay.
+  pub chained-skips : get_or sought (x % 4096) false ≡ false → Chained items heads nexts sought (k + 1)
+  chained-skips unsought = record {
+    chains = c.chains;
+    room = c.room;
+    low = λ chain. omega (arith, c.low chain);
+    walks = λ item may.
+        let other : get_or items k 0 ≡ item → ⊥ = λ h.
+        let same : get_or sought (x % 4096) false ≡ true = ap (λ (n : ℕ). get_or sought (n % 4096) false) (sym is ∙ h) ∙ may in
+        cc in
+        subst (Walk items nexts item (link_of heads item)) (sym (place-passed items k item inside other)) (c.walks item may);
+  }
+
   -- It is found: the chains stay.
   module _ (place : ℕ) (e : some place ≡ place_in (take k items) x) where
     same_place : (item : ℕ) → place_in (take (k + 1) items) item ≡ place_in (take k items) item
@@ -113,12 +127,12 @@ module _ {items heads nexts : List ℕ} {k : ℕ} (c : Chained items heads nexts
         (λ h. place-stays items k item inside place (ap (place_in (take k items)) (sym h ∙ is) ∙ sym e))
         (λ other. place-passed items k item inside other)
 
-    pub chained-stays : Chained items heads nexts (k + 1)
+    pub chained-stays : Chained items heads nexts sought (k + 1)
     chained-stays = record {
       chains = c.chains;
       room = c.room;
       low = λ chain. omega (arith, c.low chain);
-      walks = λ item. subst (Walk items nexts item (link_of heads item)) (sym (same_place item)) (c.walks item);
+      walks = λ item may. subst (Walk items nexts item (link_of heads item)) (sym (same_place item)) (c.walks item may);
     }
 
   -- It is not: it is put before its chain.
@@ -139,31 +153,32 @@ module _ {items heads nexts : List ℕ} {k : ℕ} (c : Chained items heads nexts
     next-new = get_or-set_same nexts k (link_of heads x) 0 (omega (arith, c.room))
 
     -- Another item's chain from its old link on.
-    old : (item : ℕ) → (get_or items k 0 ≡ item → ⊥) → Walk items nexts' item (link_of heads item) (place_in (take (k + 1) items) item)
-    old item other =
+    old : (item : ℕ) → MaySeek sought item → (get_or items k 0 ≡ item → ⊥)
+        → Walk items nexts' item (link_of heads item) (place_in (take (k + 1) items) item)
+    old item may other =
         subst (Walk items nexts' item (link_of heads item)) (sym (place-passed items k item inside other))
-        (kept-past k (link_of heads x) (c.walks item) (c.low (item % 1024)))
+        (kept-past k (link_of heads x) (c.walks item may) (c.low (item % 1024)))
 
     -- In the same chain the new item stands before it.
-    behind : (item : ℕ) → (get_or items k 0 ≡ item → ⊥) → item % 1024 ≡ x % 1024
+    behind : (item : ℕ) → MaySeek sought item → (get_or items k 0 ≡ item → ⊥) → item % 1024 ≡ x % 1024
         → Walk items nexts' item (suc k) (place_in (take (k + 1) items) item)
-    behind item other h =
+    behind item may other h =
         let link : get_or nexts' k 0 ≡ link_of heads item = next-new ∙ ap (λ (n : ℕ). get_or heads n 0) (sym h) in
         further inside other (omega (arith, c.low (item % 1024)))
-        (subst (λ (n : ℕ). Walk items nexts' item n (place_in (take (k + 1) items) item)) (sym link) (old item other))
+        (subst (λ (n : ℕ). Walk items nexts' item n (place_in (take (k + 1) items) item)) (sym link) (old item may other))
 
-    walk-new : (item : ℕ) → Walk items nexts' item (link_of heads' item) (place_in (take (k + 1) items) item)
-    walk-new item = either_way (get_or items k 0) item
+    walk-new : (item : ℕ) → MaySeek sought item → Walk items nexts' item (link_of heads' item) (place_in (take (k + 1) items) item)
+    walk-new item may = either_way (get_or items k 0) item
         (λ h.
         let new : place_in (take (k + 1) items) item ≡ some k =
         place-new items k item inside (ap (place_in (take k items)) (sym h ∙ is) ∙ sym e) h in
         let first : link_of heads' item ≡ suc k = head-new (item % 1024) (ap (λ (n : ℕ). n % 1024) (sym h ∙ is)) ∙ add-one k in
         rw (first, new) (here inside h))
         (λ other. either_way (item % 1024) (x % 1024)
-        (λ h. rw (head-new (item % 1024) h ∙ add-one k) (behind item other h))
-        (λ h. rw (head-other (item % 1024) h) (old item other)))
+        (λ h. rw (head-new (item % 1024) h ∙ add-one k) (behind item may other h))
+        (λ h. rw (head-other (item % 1024) h) (old item may other)))
 
-    pub chained-new : Chained items heads' nexts' (k + 1)
+    pub chained-new : Chained items heads' nexts' sought (k + 1)
     chained-new = record {
       chains = simp length-set c.chains;
       room = simp length-set c.room;

@@ -1,5 +1,5 @@
 -- Request 7 of document 02: chains of the places of a list's items. (Ours.)
-use Rattle.std.specs.Prelude.{ℕ, suc, ◌%◌, ◌≤◌, ◌<◌, ◌≡◌, List, length, take, get_or, Option, Some, None, ⊤}
+use Rattle.std.specs.Prelude.{ℕ, suc, ◌%◌, ◌≤◌, ◌<◌, ◌≡◌, List, length, take, get_or, Bool, true, false, Option, Some, None, ⊤}
 use Rattle.std.proofs.Math.Option as optional
 use Rattle.std.proofs.Math.Option.{none, some}
 use Rattle.definitions.specs.Limits.{most_items}
@@ -29,12 +29,16 @@ pub record Chain (items heads nexts : List ℕ) (item : ℕ) : Type 0 where
   pub place : optional.Option ℕ
   pub walk : Walk items nexts item (link_of heads item) place
 
--- The chains have the first `count` items: every number is found where it stands first among these.
-pub record Chained (items heads nexts : List ℕ) (count : ℕ) : Type 0 where
+-- A number may be sought: its last twelve bits have a flag.
+abbrev pub MaySeek : (sought : List Bool) (item : ℕ) → Type 0
+MaySeek sought item = get_or sought (item % 4096) false ≡ true
+
+-- The chains have the first `count` items: every number that may be sought is found where it stands first among these.
+pub record Chained (items heads nexts : List ℕ) (sought : List Bool) (count : ℕ) : Type 0 where
   pub chains : length heads ≡ 1024
   pub room : length items ≤ length nexts
   pub low : (chain : ℕ) → get_or heads chain 0 ≤ count
-  pub walks : (item : ℕ) → Walk items nexts item (link_of heads item) (place_in (take count items) item)
+  pub walks : (item : ℕ) → MaySeek sought item → Walk items nexts item (link_of heads item) (place_in (take count items) item)
 
 -- Chains that have nothing yet, and room for the list.
 pub record Unfilled (items heads nexts : List ℕ) : Type 0 where
@@ -43,7 +47,12 @@ pub record Unfilled (items heads nexts : List ℕ) : Type 0 where
   pub few : length items ≤ most_items
   pub none : (chain : ℕ) → get_or heads chain 0 ≡ 0
 
--- The chains have the whole list, if there are any.
-abbrev pub Sought : (items : List ℕ) → Option Chains → Type 0
-Sought items (Some chains) = Chained items chains.heads.now chains.nexts.now (length items)
-Sought items None = ⊤
+-- The chains, if there are any, have an item where it stands first in the list.
+pub record InChains (items heads nexts : List ℕ) (item : ℕ) : Type 0 where
+  pub chains : length heads ≡ 1024
+  pub room : length items ≤ length nexts
+  pub walk : Walk items nexts item (link_of heads item) (place_in items item)
+
+abbrev pub Sought : (items : List ℕ) → Option Chains → (item : ℕ) → Type 0
+Sought items (Some chains) item = InChains items chains.heads.now chains.nexts.now item
+Sought items None item = ⊤

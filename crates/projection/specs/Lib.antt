@@ -3,6 +3,7 @@ pub mod Chains
 pub mod Spots
 pub mod Rows
 pub mod Placing
+pub mod Seeking
 pub mod PlanSpots
 pub mod Arguments
 pub mod Extractions

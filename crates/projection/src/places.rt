@@ -1,7 +1,7 @@
 // The place of a child index in a list: by a search of the list, or of a chain of the places whose items have its last ten bits.
 // `heads` has for each of 1,024 such chains the place and one of its last item, `nexts` for each item that of the one before it, 0
 // standing for none, since memory is fixed and an `Option` takes twice as much. Only the first of equal items is in a chain, so none has
-// over 64.
+// over 64, and only an item that may be sought is: `sought` has a flag for each twelve last bits.
 ghost use Rattle.std.specs.Prelude.{◌≡◌, ◌==◌, ℕ, length, position};
 ghost use Rattle.std.proofs.Math.Option.{Option};
 ghost use Rattle.definitions.specs.Project.{place_in};
@@ -37,13 +37,16 @@ fn chain_place(items: &[u16], chains: Chains, index: u16) -> Option<usize>
     None
 }
 
-// Fills the chains with a list: two rows, which are no `Chains` until they are filled.
-pub fn fill_places(heads: &mut [u16], nexts: &mut [u16], items: &[u16])
-    requires { Unfilled items.now heads.old nexts.old }
-    ensures { Chained items.now heads.new nexts.new (length items.now) }
+// Fills the chains with what may be sought of a list: two rows, which are no `Chains` until they are filled.
+pub fn fill_places(heads: &mut [u16], nexts: &mut [u16], sought: &[bool], items: &[u16])
+    requires unfilled { Unfilled items.now heads.old nexts.old }
+    requires flags { length sought.now ≡ 4096 }
+    ensures { Chained items.now heads.new nexts.new sought.now (length items.now) }
 {
     for (k, index) in items.iter().enumerate() {
-        if chain_place(items, Chains { heads, nexts }, *index).is_none() {
+        if sought[usize::from(*index) % 4096]
+            && chain_place(items, Chains { heads, nexts }, *index).is_none()
+        {
             let chain = usize::from(*index) % 1024;
             nexts[k] = heads[chain];
             heads[chain] = (k + 1) as u16;
@@ -53,7 +56,7 @@ pub fn fill_places(heads: &mut [u16], nexts: &mut [u16], items: &[u16])
 
 // By the chains, or where there are none of the list itself. (As a closure that its callers take, the clause would be said at each.)
 pub fn place_in(items: &[u16], chains: Option<Chains>, index: u16) -> Option<usize>
-    requires { Sought items.now chains }
+    requires { Sought items.now chains index }
     ensures { place_of result ≡ place_in items.now index }
 {
     match chains {

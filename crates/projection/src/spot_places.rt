@@ -1,10 +1,10 @@
 // Each child index of a side becomes its place in the list of that side.
-ghost use Rattle.std.specs.Prelude.{◌≤◌, length};
+ghost use Rattle.std.specs.Prelude.{◌≤◌, ◌≡◌, length};
 ghost use Rattle.definitions.specs.Limits.{most_items};
 ghost use Rattle.definitions.specs.Encode.{side_number};
 ghost use Rattle.terms.specs.Sides.{join_side};
-ghost use Rattle.projection.specs.Chains.{Sought};
 ghost use Rattle.projection.specs.Placing.{PlacedIs};
+ghost use Rattle.projection.specs.Seeking.{AllMarked, AllSought};
 
 use super::places::{Chains, fill_places, place_in};
 use terms::sides::JoinSide;
@@ -14,7 +14,7 @@ use terms::sides::JoinSide;
 #[inline(always)]
 fn put_places(row: &mut [u32], side: JoinSide, items: &[u16], chains: Option<Chains>) -> bool
     requires items_bound { length items.now ≤ most_items }
-    requires sought { Sought items.now chains }
+    requires sought { AllSought (side_number (join_side side)) items.now row.old chains }
     ensures { PlacedIs (side_number (join_side side)) items.now row.old row.new result }
 {
     let wanted = u32::from(u8::from(side));
@@ -32,7 +32,20 @@ fn put_places(row: &mut [u32], side: JoinSide, items: &[u16], chains: Option<Cha
     true
 }
 
-// Where few places are sought or the list is short, the list is searched for each; else its chains are filled first.
+// Marks the last twelve bits of the child index of each of the row's numbers that is of the side.
+fn mark_sought(sought: &mut [bool], row: &[u32], side: JoinSide)
+    requires { length sought.old ≡ 4096 }
+    ensures { AllMarked (side_number (join_side side)) row.now sought.new }
+{
+    let wanted = u32::from(u8::from(side));
+    for number in row {
+        if *number / 65536 % 4 == wanted {
+            sought[(*number % 4096) as usize] = true;
+        }
+    }
+}
+
+// Where few places are sought or the list is short, the list is searched for each; else its chains are filled first with what is sought.
 pub fn find_places(row: &mut [u32], side: JoinSide, items: &[u16]) -> bool
     requires { length items.now ≤ most_items }
     ensures { PlacedIs (side_number (join_side side)) items.now row.old row.new result }
@@ -42,7 +55,9 @@ pub fn find_places(row: &mut [u32], side: JoinSide, items: &[u16]) -> bool
     }
     let mut heads = [0u16; 1024];
     let mut nexts = [0u16; 4096];
-    fill_places(&mut heads, &mut nexts, items);
+    let mut sought = [false; 4096];
+    mark_sought(&mut sought, row, side);
+    fill_places(&mut heads, &mut nexts, &sought, items);
     let chains = Chains {
         heads: &heads,
         nexts: &nexts,

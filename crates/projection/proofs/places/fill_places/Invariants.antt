@@ -4,4 +4,4 @@ use Rattle.projection.proofs.places.fill_places.Given as goal
 
 abbrev pub invariant-loop-k : goal.invariant-loop-k
 invariant-loop-k l =
-    Chained l.items l.heads l.nexts l.k
+    Chained l.items l.heads l.nexts l.sought l.k

@@ -1,11 +1,11 @@
--- `place_in`: the chains have the whole list.
+-- `place_in`: the chains have the index where it stands first in the list.
 use Rattle.projection.proofs.PlaceLaws.{position-is}
-use Rattle.projection.proofs.ChainLaws.{chain-of}
 use Rattle.projection.proofs.places.place_in.Goals as goal
 
 pub chain_place-requires : goal.chain_place-requires
 chain_place-requires c =
-    chain-of (rw c.in-Some.is at c.requires) c.args.index
+    let there = rw c.in-Some.is at c.requires in
+    record { chains = there.chains; room = there.room; place = _; walk = there.walk }
 
 pub returns-in-None : goal.returns-in-None
 returns-in-None c =

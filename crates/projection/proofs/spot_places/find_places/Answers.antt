@@ -3,6 +3,6 @@ use mathlib.Core.Path.{refl}
 use Rattle.projection.proofs.ChainLaws.{zeros-unfilled}
 use Rattle.projection.proofs.spot_places.find_places.Goals as goal
 
-pub fill_places-requires : goal.fill_places-requires
-fill_places-requires c =
+pub fill_places-requires-clause-unfilled : goal.fill_places-requires-clause-unfilled
+fill_places-requires-clause-unfilled c =
     zeros-unfilled c.args.items.now 1024 4096 refl c.requires c.requires
