@@ -1,12 +1,14 @@
 -- An expression at a place, with the records of its columns at another.
-use Rattle.std.specs.Prelude.{ℕ, ◌+◌, List, length}
+use Rattle.std.specs.Prelude.{ℕ, ◌+◌, ◌≡◌, List, length}
 use Rattle.definitions.specs.Expression.{Expr, Exprs, Record}
 use Rattle.definitions.specs.Encode.{expr_bytes, records_bytes}
 use Rattle.definitions.specs.Decode.{index_below}
+use Rattle.definitions.specs.Good.{nodes}
 use Rattle.expression.specs.Places.{Holds}
 use Rattle.expression.specs.Nodes.{Stands, Row}
 use Rattle.expression.specs.Leaves.{CallStands}
 use Rattle.expression.specs.declared.leaves.Called.{Called}
+use Rattle.node_rows.specs.Rows.{Tabled}
 
 -- t stands at a place, and the records of its columns at theirs.
 pub record Over (s : List ℕ) (rec at : ℕ) (records : List Record) (t : Expr) : Type 0 where
@@ -41,6 +43,20 @@ FramedTwo s rec at = (records : List Record) × (a : Expr) × (b : Expr) × Over
 
 abbrev pub OfFrameTwo : List ℕ → ℕ → ℕ → (List Record → Expr → Expr → Type 0) → Type 0
 OfFrameTwo s rec at P = (records : List Record) (a b : Expr) → OverTwo s rec at records a b → P records a b
+
+-- An argument over the records of its columns, its nodes in the rows from one index up to another.
+pub record ArgumentAt (s : List ℕ) (rec : ℕ) (numbers next : List ℕ) (first end : ℕ) (records : List Record) (t : Expr) : Type 0 where
+  pub at : ℕ
+  pub over : Over s rec at records t
+  pub tabled : Tabled numbers next at first t
+  pub ends : end ≡ first + nodes t
+
+abbrev pub Argued : (s : List ℕ) (rec : ℕ) (numbers next : List ℕ) (first end : ℕ) → Type 0
+Argued s rec numbers next first end = (records : List Record) × (t : Expr) × ArgumentAt s rec numbers next first end records t
+
+abbrev pub OfArgument : (s : List ℕ) (rec : ℕ) (numbers next : List ℕ) (first end : ℕ) → (List Record → Expr → Type 0) → Type 0
+OfArgument s rec numbers next first end P =
+    (records : List Record) (t : Expr) → ArgumentAt s rec numbers next first end records t → P records t
 
 -- The name and arguments of a function, and the records of their columns.
 pub record CallOver (s : List ℕ) (rec : ℕ) (k : Called) (records : List Record) (name : List ℕ) (arguments : Exprs) : Type 0 where

@@ -2,10 +2,10 @@
 // A port of `collect_column_references`, `side_of_column_references` and `resolve_column_reference_sides` of
 // rust/sedona-query-planner/src/spatial_expr_utils.rs.
 ghost use Rattle.std.specs.Prelude.{◌≡◌};
-ghost use Rattle.definitions.specs.Match.{order_of};
+ghost use Rattle.definitions.specs.Match.{side_of, order_of};
 ghost use Rattle.terms.specs.Sides.{join_side};
 ghost use Rattle.node_rows.specs.Rows.{Begin};
-ghost use Rattle.leaf_matching.specs.Frames.{Framed, OfFrame, FramedAll, OfFrameAll, FramedTwo, OfFrameTwo};
+ghost use Rattle.leaf_matching.specs.Frames.{Framed, OfFrame, FramedAll, OfFrameAll, FramedTwo, OfFrameTwo, Argued, OfArgument};
 ghost use Rattle.leaf_matching.specs.Sides.{argument_side, order, see, nothing_seen, sides_seen, flags_of, SideIs, SidesAre, ArgumentIs, GeometriesAre};
 
 use super::filter::Filter;
@@ -167,7 +167,25 @@ pub fn resolve_column_reference_sides(first: Sides, second: Sides) -> Option<Ord
     }
 }
 
-// The geometries at a place and after it, the first of which has index i. Where they end is read from the rows.
+// The side of the columns of an argument that has the nodes from one index up to another: its columns are those of the row.
+fn side_by_rows(filter: Filter, first: usize, end: usize) -> Sides
+    requires { Argued filter.s.now filter.rec filter.rows.numbers.now filter.rows.next.now first end }
+    ensures { OfArgument filter.entry.s.now filter.entry.rec filter.entry.rows.numbers.now filter.entry.rows.next.now first end
+        (λ records t. argument_side result ≡ side_of records t) }
+{
+    let mut seen = Seen { bits: 0 };
+    for i in first..end {
+        let number = filter.rows.numbers[i];
+        if number < 536870912 {
+            let index = short_at(filter.s, number as usize / 32768 + 1);
+            let side = JoinSide::from(u64::from(filter.s[filter.rec + 5 * index]));
+            seen = seen.with(side);
+        }
+    }
+    seen.sides()
+}
+
+// The geometries at a place and after it, the first of which has index i. Where they end, and their columns, are read from the rows.
 pub fn resolve_geometries(filter: Filter, at: usize, i: usize) -> Geometries
     requires framed_two { FramedTwo filter.s.now filter.rec at }
     requires of_frame_two { OfFrameTwo filter.s.now filter.rec at
@@ -175,11 +193,12 @@ pub fn resolve_geometries(filter: Filter, at: usize, i: usize) -> Geometries
     ensures { OfFrameTwo filter.entry.s.now filter.entry.rec at (GeometriesAre at result) }
 {
     let two = filter.rows.two(i);
-    let first = side_of_column_references(filter.s, filter.rec, at);
-    let second = side_of_column_references(filter.s, filter.rec, two.middle);
+    let middle = filter.rows.after(i);
+    let first = side_by_rows(filter, i, middle);
+    let second = side_by_rows(filter, middle, two.after);
     Geometries {
         second: two.middle,
         end: two.end,
-        order: resolve_column_reference_sides(first.side, second.side),
+        order: resolve_column_reference_sides(first, second),
     }
 }

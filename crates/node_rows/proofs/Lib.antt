@@ -7,3 +7,4 @@ pub mod FillLaws
 pub mod TableLaws
 pub mod OneTree
 pub mod NodeBytes
+pub mod ColumnRows

@@ -1,0 +1,290 @@
+-- The column nodes of an expression are the columns in its row: a loop over the row that does something at each column is a fold over them.
+use Rattle.std.specs.Prelude.{if◌then◌else◌, fold}
+use Prim.Native.Nat.{ℕ, suc, ◌+◌, ◌*◌, ◌-◌, ◌/◌, ◌≤◌, ◌<◌}
+use native.Mathlib.Omega.{arith}
+use native.Mathlib.Numerals.{add-one}
+use mathlib.Core.Path.{◌≡◌, refl, sym, ap, ap₂, ◌∙◌, subst}
+use mathlib.Core.Bool.{Bool, true, false}
+use mathlib.Core.List.{List, [], ◌∷◌, ◌++◌, map, map-append}
+use lib.ListN.{length, take, drop, get_or, length-append}
+use lib.Seq.{drop-cons}
+use lib.Dec.{ltb}
+use borrow.Author.Tests.{lt-ltb, le-ltb}
+use Rattle.definitions.specs.Basics.{big_endian}
+use Rattle.definitions.specs.Expression.{Expr, column, literal, and, binary, call, other, field, Exprs, nil, cons, count}
+use Rattle.definitions.specs.Encode.{expr_bytes, exprs_bytes}
+use Rattle.definitions.specs.Decode.{Columns, index_below, fields}
+use Rattle.definitions.specs.References.{columns_of, columns_of_all}
+use Rattle.definitions.specs.Good.{All, Short, ColumnInRange, nodes}
+use Rattle.definitions.specs.NodeTable.{NodeRecord, kind_byte, record_of, nodes_from, row_from}
+use Rattle.theorems.proofs.Columns.{all_append}
+use Rattle.expression.specs.Places.{short_at}
+use Rattle.expression.specs.Nodes.{head_bytes, children_of, Stands, Row}
+use Rattle.expression.proofs.Placed.{fits, front, next}
+use Rattle.expression.proofs.Records.{short-is}
+use Rattle.expression.proofs.Standing.{head-stands, children-stand, first-stands, rest-stands, some_bytes}
+use Rattle.writing.proofs.Written.{taken}
+use Rattle.node_rows.specs.Numbers.{number, numbers_from, row_numbers}
+use Rattle.node_rows.specs.Rows.{Tabled}
+use Rattle.node_rows.proofs.NumberLaws.{Told, number-told}
+use Rattle.node_rows.proofs.RowLaws.{node-told, numbers-length}
+
+-- ---- where the columns stand
+
+unfoldable mutual
+  -- The places of the column nodes of an expression that starts at a place, in prefix order.
+  pub columns_at : (at : ℕ) → Expr → List ℕ
+  columns_at at (column index tag) = at ∷ []
+  columns_at at (literal type bytes) = []
+  columns_at at (and l r) = columns_at (at + 2) l ++ columns_at (at + 2 + length (expr_bytes l)) r
+  columns_at at (binary operator l r) = columns_at (at + 2) l ++ columns_at (at + 2 + length (expr_bytes l)) r
+  columns_at at (call name arguments) = row_columns_at (at + (3 + length name)) arguments
+  columns_at at (other tag children) = row_columns_at (at + 4) children
+  columns_at at (field bits tag) = []
+
+  -- Those of several expressions, each where the one before ends.
+  pub row_columns_at : (at : ℕ) → Exprs → List ℕ
+  row_columns_at at nil = []
+  row_columns_at at (cons e es) = columns_at at e ++ row_columns_at (at + length (expr_bytes e)) es
+
+-- The index that a column at a place has.
+abbrev pub index_in : (s : List ℕ) (at : ℕ) → ℕ
+index_in s at = short_at s (at + 1)
+
+-- ---- each of them is a column
+
+both-read : (s x y u v : List ℕ) → map (index_in s) x ≡ u → map (index_in s) y ≡ v → map (index_in s) (x ++ y) ≡ u ++ v
+both-read s x y u v e f = map-append (index_in s) x y ∙ ap₂ ◌++◌ e f
+
+index-short : (c : Columns) (i g : ℕ) → ColumnInRange c i g → Short i
+index-short (index_below bound) i g h = h.1
+index-short fields i g h = absurd h
+
+module _ {c : Columns} {s : List ℕ} where
+  -- Both sides of a node stand where their columns are looked for.
+  sides-row : {at : ℕ} {t l r : Expr} → Stands c s at t → length (head_bytes t) ≡ 2 → children_of t ≡ cons l (cons r nil)
+      → Row c s (at + 2) 2 (cons l (cons r nil))
+  unfolding count
+  sides-row {at} {t} {l} {r} h two is =
+      subst (Row c s (at + 2) 2) is (children-stand h (at + 2) 2 (omega arith) (sym (ap count is)))
+
+  second : (at : ℕ) {l r : Expr} → Row c s (at + 2) 2 (cons l (cons r nil)) → Stands c s (at + 2 + length (expr_bytes l)) r
+  second at {l} row = first-stands (rest-stands row (at + 2 + length (expr_bytes l)) 1 refl refl)
+
+  and-row : {at : ℕ} (l r : Expr) → Stands c s at (and l r) → Row c s (at + 2) 2 (cons l (cons r nil))
+  unfolding head_bytes children_of
+  and-row l r h = sides-row h refl refl
+
+  binary-row : {at : ℕ} (o : ℕ) (l r : Expr) → Stands c s at (binary o l r) → Row c s (at + 2) 2 (cons l (cons r nil))
+  unfolding head_bytes children_of
+  binary-row o l r h = sides-row h refl refl
+
+  call-row : {at : ℕ} (name : List ℕ) (ts : Exprs) → Stands c s at (call name ts) → Row c s (at + (3 + length name)) (count ts) ts
+  unfolding head_bytes children_of
+  call-row {at} name ts h = children-stand h (at + (3 + length name)) (count ts) (simp length-append (omega arith)) refl
+
+  other-row : {at : ℕ} (g : ℕ) (ts : Exprs) → Stands c s at (other g ts) → Row c s (at + 4) (count ts) ts
+  unfolding head_bytes children_of big_endian
+  other-row {at} g ts h = children-stand h (at + 4) (count ts) refl refl
+
+  rest-row : {at n : ℕ} {t : Expr} {ts : Exprs} → Row c s at n (cons t ts) → Row c s (at + length (expr_bytes t)) (count ts) ts
+  unfolding count
+  rest-row {at} {n} {t} {ts} h = rest-stands h (at + length (expr_bytes t)) (count ts) refl h.counted
+
+  -- What holds of each column that stands there holds of each column of an expression, by its place.
+  module _ (P : ℕ → Type 0) (f : (at index tag : ℕ) → Stands c s at (column index tag) → P at) where
+    mutual
+      unfolding columns_at row_columns_at
+
+      pub each-column : (at : ℕ) (t : Expr) → Stands c s at t → All P (columns_at at t)
+      each-column at (column i g) h = (f at i g h, tt)
+      each-column at (literal y v) h = tt
+      each-column at (and l r) h =
+          let row = and-row l r h in
+          all_append P (columns_at (at + 2) l) (columns_at (at + 2 + length (expr_bytes l)) r)
+          (each-column (at + 2) l (first-stands row)) (each-column (at + 2 + length (expr_bytes l)) r (second at row))
+      each-column at (binary o l r) h =
+          let row = binary-row o l r h in
+          all_append P (columns_at (at + 2) l) (columns_at (at + 2 + length (expr_bytes l)) r)
+          (each-column (at + 2) l (first-stands row)) (each-column (at + 2 + length (expr_bytes l)) r (second at row))
+      each-column at (call name ts) h = each_in_row (at + (3 + length name)) (count ts) ts (call-row name ts h)
+      each-column at (other g ts) h = each_in_row (at + 4) (count ts) ts (other-row g ts h)
+      each-column at (field b g) h = tt
+
+      each_in_row : (at n : ℕ) (ts : Exprs) → Row c s at n ts → All P (row_columns_at at ts)
+      each_in_row at n nil h = tt
+      each_in_row at n (cons t ts) h =
+          all_append P (columns_at at t) (row_columns_at (at + length (expr_bytes t)) ts)
+          (each-column at t (first-stands h)) (each_in_row (at + length (expr_bytes t)) (count ts) ts (rest-row h))
+
+  -- Their indexes are the expression's.
+  column-index : {at : ℕ} (i g : ℕ) → Stands c s at (column i g) → index_in s at ≡ i
+  unfolding head_bytes
+  column-index {at} i g h = short-is (front (big_endian 2 i) (big_endian 2 g) (next (head-stands h) (at + 1) refl)) (index-short c i g h.in_range)
+
+  mutual
+    unfolding columns_at row_columns_at columns_of columns_of_all
+
+    pub columns-read : (at : ℕ) (t : Expr) → Stands c s at t → map (index_in s) (columns_at at t) ≡ columns_of t
+    columns-read at (column i g) h = ap (λ (k : ℕ). k ∷ []) (column-index i g h)
+    columns-read at (literal y v) h = refl
+    columns-read at (and l r) h =
+        let row = and-row l r h in
+        both-read s (columns_at (at + 2) l) (columns_at (at + 2 + length (expr_bytes l)) r) (columns_of l) (columns_of r)
+        (columns-read (at + 2) l (first-stands row)) (columns-read (at + 2 + length (expr_bytes l)) r (second at row))
+    columns-read at (binary o l r) h =
+        let row = binary-row o l r h in
+        both-read s (columns_at (at + 2) l) (columns_at (at + 2 + length (expr_bytes l)) r) (columns_of l) (columns_of r)
+        (columns-read (at + 2) l (first-stands row)) (columns-read (at + 2 + length (expr_bytes l)) r (second at row))
+    columns-read at (call name ts) h = row_read (at + (3 + length name)) (count ts) ts (call-row name ts h)
+    columns-read at (other g ts) h = row_read (at + 4) (count ts) ts (other-row g ts h)
+    columns-read at (field b g) h = refl
+
+    row_read : (at n : ℕ) (ts : Exprs) → Row c s at n ts → map (index_in s) (row_columns_at at ts) ≡ columns_of_all ts
+    row_read at n nil h = refl
+    row_read at n (cons t ts) h =
+        both-read s (columns_at at t) (row_columns_at (at + length (expr_bytes t)) ts) (columns_of t) (columns_of_all ts)
+        (columns-read at t (first-stands h)) (row_read (at + length (expr_bytes t)) (count ts) ts (rest-row h))
+
+-- ---- the columns of a row
+
+-- The starts of those of these numbers that are a column's: its kind is 0.
+unfoldable pub column_starts : (numbers : List ℕ) → List ℕ
+column_starts [] = []
+column_starts (n ∷ ns) = if ltb n 536870912 then n / 32768 ∷ column_starts ns else column_starts ns
+
+column-first : (n : ℕ) (ns : List ℕ) → n < 536870912 → column_starts (n ∷ ns) ≡ n / 32768 ∷ column_starts ns
+unfolding column_starts
+column-first n ns h = rw (lt-ltb n 536870912 h)
+
+other-first : (n : ℕ) (ns : List ℕ) → 536870912 ≤ n → column_starts (n ∷ ns) ≡ column_starts ns
+unfolding column_starts
+other-first n ns h = rw (le-ltb n 536870912 h)
+
+starts-more : (n : ℕ) (x y : List ℕ) (small : Bool) → column_starts (x ++ y) ≡ column_starts x ++ column_starts y
+    → (if small then n / 32768 ∷ column_starts (x ++ y) else column_starts (x ++ y))
+    ≡ (if small then n / 32768 ∷ column_starts x else column_starts x) ++ column_starts y
+starts-more n x y true e = ap (λ (l : List ℕ). n / 32768 ∷ l) e
+starts-more n x y false e = e
+
+starts-append : (x y : List ℕ) → column_starts (x ++ y) ≡ column_starts x ++ column_starts y
+unfolding column_starts
+starts-append [] y = refl
+starts-append (n ∷ x) y = starts-more n x y (ltb n 536870912) (starts-append x y)
+
+-- A column's number is below every other node's.
+node-starts : (at : ℕ) (t : Expr) (more : List ℕ) → at + length (expr_bytes t) ≤ 16384 → kind_byte t ≡ 0
+    → column_starts (number (record_of at t) ∷ more) ≡ at ∷ column_starts more
+unfolding record_of
+node-starts at t more h e =
+    let told = number-told (record_of at t) (node-told at t h) in
+    column-first (number (record_of at t)) more (omega (arith, told, h, some_bytes t))
+    ∙ ap (λ (n : ℕ). n ∷ column_starts more) (omega (arith, told, h, some_bytes t))
+
+no-start : (at : ℕ) (t : Expr) (more : List ℕ) → at + length (expr_bytes t) ≤ 16384 → 0 < kind_byte t
+    → column_starts (number (record_of at t) ∷ more) ≡ column_starts more
+unfolding record_of
+no-start at t more h some =
+    let told = number-told (record_of at t) (node-told at t h) in
+    other-first (number (record_of at t)) more (omega (arith, told))
+
+both-starts : (x y : List NodeRecord) (u v : List ℕ) → column_starts (map number x) ≡ u → column_starts (map number y) ≡ v
+    → column_starts (map number (x ++ y)) ≡ u ++ v
+both-starts x y u v e f = ap column_starts (map-append number x y) ∙ starts-append (map number x) (map number y) ∙ ap₂ ◌++◌ e f
+
+mutual
+  unfolding columns_at row_columns_at column_starts nodes_from row_from kind_byte expr_bytes exprs_bytes big_endian
+
+  -- The law: the columns in the row of an expression are its columns.
+  pub starts-are : (at : ℕ) (t : Expr) → at + length (expr_bytes t) ≤ 16384 → column_starts (numbers_from at t) ≡ columns_at at t
+  starts-are at (column i g) h = node-starts at (column i g) [] h refl
+  starts-are at (literal y v) h = no-start at (literal y v) [] h (omega arith)
+  starts-are at (and l r) h =
+      let k = simp length-append at h in
+      no-start at (and l r) (map number (nodes_from (at + 2) l ++ nodes_from (at + 2 + length (expr_bytes l)) r)) h (omega arith)
+      ∙ both-starts (nodes_from (at + 2) l) (nodes_from (at + 2 + length (expr_bytes l)) r) (columns_at (at + 2) l)
+      (columns_at (at + 2 + length (expr_bytes l)) r) (starts-are (at + 2) l (omega (arith, k)))
+      (starts-are (at + 2 + length (expr_bytes l)) r (omega (arith, k)))
+  starts-are at (binary o l r) h =
+      let k = simp length-append at h in
+      no-start at (binary o l r) (map number (nodes_from (at + 2) l ++ nodes_from (at + 2 + length (expr_bytes l)) r)) h (omega arith)
+      ∙ both-starts (nodes_from (at + 2) l) (nodes_from (at + 2 + length (expr_bytes l)) r) (columns_at (at + 2) l)
+      (columns_at (at + 2 + length (expr_bytes l)) r) (starts-are (at + 2) l (omega (arith, k)))
+      (starts-are (at + 2 + length (expr_bytes l)) r (omega (arith, k)))
+  starts-are at (call name ts) h =
+      no-start at (call name ts) (row_numbers (at + (3 + length name)) ts) h (omega arith) ∙ row-starts (at + (3 + length name)) ts (omega (arith, simp length-append at h))
+  starts-are at (other g ts) h =
+      no-start at (other g ts) (row_numbers (at + 4) ts) h (omega arith) ∙ row-starts (at + 4) ts (omega (arith, simp length-append at h))
+  starts-are at (field b g) h = no-start at (field b g) [] h (omega arith)
+
+  row-starts : (at : ℕ) (ts : Exprs) → at + length (exprs_bytes ts) ≤ 16384 → column_starts (row_numbers at ts) ≡ row_columns_at at ts
+  row-starts at nil h = refl
+  row-starts at (cons t ts) h =
+      let k = simp length-append at h in
+      both-starts (nodes_from at t) (row_from (at + length (expr_bytes t)) ts) (columns_at at t)
+      (row_columns_at (at + length (expr_bytes t)) ts) (starts-are at t (omega (arith, k)))
+      (row-starts (at + length (expr_bytes t)) ts (omega (arith, k)))
+
+-- ---- a loop over a row
+
+-- Those of the numbers of the indexes from one up to another.
+abbrev pub starts_between : (numbers : List ℕ) (first end : ℕ) → List ℕ
+starts_between numbers first end = column_starts (take (end - first) (drop first numbers))
+
+module _ (numbers : List ℕ) {first end : ℕ} where
+  one-more : first < end → end ≤ length numbers
+      → take (end - first) (drop first numbers) ≡ get_or numbers first 0 ∷ take (end - (first + 1)) (drop (first + 1) numbers)
+  one-more lt room =
+      let less : end - first ≡ suc (end - (first + 1)) = omega arith in
+      ap₂ take less (drop-cons numbers first 0 (omega arith))
+      ∙ ap (λ (k : ℕ). get_or numbers first 0 ∷ take (end - (first + 1)) (drop k numbers)) (sym (add-one first))
+
+  none-between : end ≤ first → starts_between numbers first end ≡ []
+  unfolding column_starts
+  none-between h =
+      let none : end - first ≡ 0 = omega arith in
+      ap (λ (k : ℕ). column_starts (take k (drop first numbers))) none
+
+-- What a loop keeps that makes a value of a value at each column, from index i up to `end`: what it makes of the columns that are left is
+-- the goal, and something holds of each of these.
+pub record Looping {A : Type 0} (P : ℕ → Type 0) (f : A → ℕ → A) (numbers : List ℕ) (end : ℕ) (goal : A) (i : ℕ) (now : A) : Type 0 where
+  pub each : All P (starts_between numbers i end)
+  pub rest : fold f now (starts_between numbers i end) ≡ goal
+  pub within : end ≤ length numbers
+
+-- It begins at the first index of an expression with its columns.
+pub loop-begins : {A : Type 0} {P : ℕ → Type 0} (f : A → ℕ → A) {numbers next : List ℕ} {at i end : ℕ} {t : Expr} (before : A)
+    → Tabled numbers next at i t → end ≡ i + nodes t → All P (columns_at at t)
+    → Looping P f numbers end (fold f before (columns_at at t)) i before
+loop-begins {P = P} f {numbers} {at = at} {i = i} {end = end} {t = t} before h is each =
+    let size : end - i ≡ length (numbers_from at t) = omega (arith, numbers-length at t) in
+    let all : starts_between numbers i end ≡ columns_at at t =
+    ap (λ (k : ℕ). column_starts (take k (drop i numbers))) size ∙ ap column_starts (taken h.numbered) ∙ starts-are at t h.short in
+    record {
+      each = subst (All P) (sym all) each;
+      rest = ap (fold f before) all;
+      within = omega (arith, fits h.numbered, numbers-length at t);
+    }
+
+module _ {A : Type 0} {P : ℕ → Type 0} {f : A → ℕ → A} {numbers : List ℕ} {end i : ℕ} {goal now : A}
+    (inv : Looping P f numbers end goal i now) where
+  -- A column: its start has the property, and the value is changed.
+  module _ (lt : i < end) (small : get_or numbers i 0 < 536870912) where
+    this : starts_between numbers i end ≡ get_or numbers i 0 / 32768 ∷ starts_between numbers (i + 1) end
+    this = ap column_starts (one-more numbers lt inv.within) ∙ column-first (get_or numbers i 0) _ small
+
+    pub loop-column : P (get_or numbers i 0 / 32768)
+    loop-column = (subst (All P) this inv.each).0
+
+    pub loop-after : Looping P f numbers end goal (i + 1) (f now (get_or numbers i 0 / 32768))
+    loop-after = record { each = (subst (All P) this inv.each).1; rest = sym (ap (fold f now) this) ∙ inv.rest; within = inv.within }
+
+  -- Another node: it is not.
+  pub loop-past : i < end → 536870912 ≤ get_or numbers i 0 → Looping P f numbers end goal (i + 1) now
+  loop-past lt large =
+      let this : starts_between numbers i end ≡ starts_between numbers (i + 1) end =
+      ap column_starts (one-more numbers lt inv.within) ∙ other-first (get_or numbers i 0) _ large in
+      record { each = subst (All P) this inv.each; rest = sym (ap (fold f now) this) ∙ inv.rest; within = inv.within }
+
+  pub loop-ends : end ≤ i → now ≡ goal
+  loop-ends h = sym (ap (fold f now) (none-between numbers h)) ∙ inv.rest
