@@ -1,4 +1,4 @@
-//! Before anything is timed: ours, the original and the reading give the same bytes, and plain Rust
+//! Before anything is timed: ours, plain C, the original and the reading give the same bytes, and plain Rust
 //! where it is timed. Of print, merge, project, put, serve, extract_all and explain, which the original has not,
 //! all but the original.
 
@@ -11,13 +11,14 @@ use reading::queues::{MAX_QUEUED, MAX_WAITING, QUEUES_BYTES};
 use reading::refusal::Refusal;
 use reading::settings::Settings;
 use reading::{calls, decode, encode, nodes, walk};
-use spatialjoin::{Kinds, MOST_TEXT, Node, numbers};
+use spatialjoin::{Kinds, MOST_TEXT, Node};
 
+use crate::calls::{Calls, Library, PlainC};
 use crate::frames::Group;
 use crate::operations::{
     Logical, Merges, Physical, exchange_extraction_bytes, exchange_frame_bytes, extract_from_bytes,
 };
-use crate::ours::{self, Console, Ours};
+use crate::ours::{self, Console, Lent};
 use crate::plain;
 use crate::projections::Projections;
 use crate::queues::Waiting;
@@ -27,21 +28,30 @@ fn without_position(plan: &[u8]) -> Vec<u8> {
     [&plan[..1], &plan[3..]].concat()
 }
 
-/// Ours is the reading's extraction; the original's is, but for the position.
-fn same_extraction(what: &str, ours: &[u8], original: &[u8], reading: &[u8]) -> Result<(), String> {
-    same(what, ours, reading, reading)?;
+/// The extraction is the reading's; the original's is, but for the position.
+fn same_extraction<C: Calls>(
+    what: &str,
+    given: &[u8],
+    original: &[u8],
+    reading: &[u8],
+) -> Result<(), String> {
+    same::<C>(what, given, reading, reading)?;
     let rest = without_position(reading);
-    same(what, &rest, original, &rest)
+    same::<C>(what, &rest, original, &rest)
 }
 
-fn same(what: &str, ours: &[u8], original: &[u8], reading: &[u8]) -> Result<(), String> {
-    if ours != reading {
-        return Err(format!("{what}: ours differs from the reading"));
+fn same<C: Calls>(what: &str, given: &[u8], original: &[u8], reading: &[u8]) -> Result<(), String> {
+    if given != reading {
+        return Err(differs::<C>(what));
     }
     if original != reading {
         return Err(format!("{what}: the original differs from the reading"));
     }
     Ok(())
+}
+
+fn differs<C: Calls>(what: &str) -> String {
+    format!("{what}: {} differs from the reading", C::WHO)
 }
 
 /// What the reading holds after a list of calls.
@@ -64,33 +74,38 @@ fn read(frame: &[u8], list: &[&str]) -> Vec<u8> {
 }
 
 pub fn physical(physical: &Physical) -> Result<(), String> {
+    physical_by::<Library>(physical)?;
+    physical_by::<PlainC>(physical)
+}
+
+fn physical_by<C: Calls>(physical: &Physical) -> Result<(), String> {
     let functions = &physical.functions;
     for (frame, extraction) in physical.group.frames.iter().zip(&physical.extractions) {
         let name = physical.group.name;
         let mut out = Vec::new();
-        let mut ours = Ours::new();
-        ours.load(frame);
-        if !ours.table().starts_with(&of_reading(&nodes_of(frame))) {
-            return Err(format!("{name}: our table differs from the reading's"));
+        let mut lent = Lent::<C>::new();
+        lent.load(frame);
+        if !lent.table().starts_with(&of_reading(&nodes_of(frame))) {
+            return Err(format!("{}, in the table", differs::<C>(name)));
         }
-        ours.extract_and_return();
-        same(name, ours.plan(), frame, &read(frame, &[]))?;
-        ours.exchange();
+        lent.extract_and_return();
+        same::<C>(name, lent.plan(), frame, &read(frame, &[]))?;
+        lent.exchange();
         exchange_frame_bytes(frame, functions, &mut out);
-        same(name, ours.plan(), &out, &read(frame, &["exchange"]))?;
-        ours.load(frame);
-        ours.extract();
+        same::<C>(name, lent.plan(), &out, &read(frame, &["exchange"]))?;
+        lent.load(frame);
+        lent.extract();
         out.clear();
         extract_from_bytes(frame, functions, &mut out);
-        same_extraction(name, ours.plan(), &out, &read(frame, &["extract"]))?;
-        if ours.walk() as usize != walk_of(frame) {
-            return Err(format!("{name}: our walk differs from the reading's"));
+        same_extraction::<C>(name, lent.plan(), &out, &read(frame, &["extract"]))?;
+        if lent.walk() as usize != walk_of(frame) {
+            return Err(format!("{}, in the walk", differs::<C>(name)));
         }
-        ours.exchange();
+        lent.exchange();
         out.clear();
         exchange_extraction_bytes(extraction, functions, &mut out);
         let expected = read(frame, &["extract", "exchange"]);
-        same_extraction(name, ours.plan(), &out, &expected)?;
+        same_extraction::<C>(name, lent.plan(), &out, &expected)?;
     }
     Ok(())
 }
@@ -242,13 +257,19 @@ pub fn print(physical: &Physical) -> Result<(), String> {
         if plain::print(frame, &mut plain) != Ok(length) || plain != text {
             return Err(format!("{name}: plain Rust differs from the reading"));
         }
-        let mut console = Console::new();
-        console.print(frame);
-        if console.text() != &text[..length] {
-            return Err(format!("{name}: ours differs from the reading"));
-        }
+        printed_by::<Library>(name, frame, &text[..length])?;
+        printed_by::<PlainC>(name, frame, &text[..length])?;
     }
     Ok(())
+}
+
+fn printed_by<C: Calls>(name: &str, frame: &[u8], text: &[u8]) -> Result<(), String> {
+    let mut console = Console::<C>::new();
+    console.print(frame);
+    match console.text() == text {
+        true => Ok(()),
+        false => Err(differs::<C>(name)),
+    }
 }
 
 /// A merge by plain Rust and by the reading, on the same buffers and tables, one of which lacks a
@@ -295,27 +316,37 @@ fn plain_merge(held: &[u8], new: &[u8], extraction: &[u8]) -> bool {
     .all(|alike| alike)
 }
 
-/// Ours and plain Rust's, whose refusals are tried too: ours are `oracle/compare-library`'s to try.
+/// Ours, plain C's and plain Rust's, whose refusals are tried too: those of the others are
+/// `oracle/compare-library`'s to try.
 pub fn merge(merges: &Merges) -> Result<(), String> {
     let name = merges.pairs.name;
     for (held, new) in merges.pairs.held.iter().zip(&merges.pairs.new) {
         if !plain_merge(held, new, &read(held, &["extract"])) {
             return Err(format!("{name}: plain Rust differs from the reading"));
         }
-        let mut ours = Ours::new();
-        ours.load(held);
-        ours.merge(new);
-        let merged = read_merged(held, new);
-        if ours.plan() != merged || !ours.table().starts_with(&of_reading(&nodes_of(&merged))) {
-            return Err(format!("{name}: ours differs from the reading"));
-        }
-        ours.load(held);
-        ours.merge_and_return(new);
-        if ours.plan() != held {
-            return Err(format!("{name}: the held frame is not in the scratch"));
-        }
+        merged_by::<Library>(name, held, new)?;
+        merged_by::<PlainC>(name, held, new)?;
     }
     Ok(())
+}
+
+fn merged_by<C: Calls>(name: &str, held: &[u8], new: &[u8]) -> Result<(), String> {
+    let mut lent = Lent::<C>::new();
+    lent.load(held);
+    lent.merge(new);
+    let merged = read_merged(held, new);
+    if lent.plan() != merged || !lent.table().starts_with(&of_reading(&nodes_of(&merged))) {
+        return Err(differs::<C>(name));
+    }
+    lent.load(held);
+    lent.merge_and_return(new);
+    match lent.plan() == held {
+        true => Ok(()),
+        false => Err(format!(
+            "{}: the held frame is not in the scratch",
+            differs::<C>(name)
+        )),
+    }
 }
 
 fn read_merged(held: &[u8], new: &[u8]) -> Vec<u8> {
@@ -363,7 +394,7 @@ fn plain_project(plan: &[u8], [left, right]: &[Vec<u16>; 2]) -> bool {
     .all(|alike| alike)
 }
 
-/// Ours and plain Rust's, whose refusals are tried too.
+/// Ours, plain C's and plain Rust's, whose refusals are tried too.
 pub fn project(projections: &Projections) -> Result<(), String> {
     let name = projections.name;
     for (plan, lists) in projections.plans.iter().zip(&projections.lists) {
@@ -379,39 +410,56 @@ pub fn project(projections: &Projections) -> Result<(), String> {
             Lists { left, right },
         );
         answer.expect("the lists have all columns");
-        let mut ours = Ours::new();
-        ours.hold(plan);
-        ours.project(lists);
-        if ours.plan() != read {
-            return Err(format!("{name}: ours differs from the reading"));
-        }
-        ours.hold(plan);
-        ours.project_and_return(lists);
-        if ours.plan() != plan {
-            return Err(format!("{name}: the extraction is not in the scratch"));
-        }
+        projected_by::<Library>(name, plan, lists, &read)?;
+        projected_by::<PlainC>(name, plan, lists, &read)?;
     }
     Ok(())
 }
 
-/// A put by ours, by plain Rust and by the reading, into copies of one buffer: all leave the same. The
-/// buffer is what they leave.
+fn projected_by<C: Calls>(
+    name: &str,
+    plan: &[u8],
+    lists: &[Vec<u16>; 2],
+    read: &[u8],
+) -> Result<(), String> {
+    let mut lent = Lent::<C>::new();
+    lent.hold(plan);
+    lent.project(lists);
+    if lent.plan() != read {
+        return Err(differs::<C>(name));
+    }
+    lent.hold(plan);
+    lent.project_and_return(lists);
+    match lent.plan() == plan {
+        true => Ok(()),
+        false => Err(format!(
+            "{}: the extraction is not in the scratch",
+            differs::<C>(name)
+        )),
+    }
+}
+
+/// A put by ours, by plain C, by plain Rust and by the reading, into copies of one buffer: all leave the same.
+/// The buffer is what they leave.
 fn added_alike(buffer: &mut Vec<u8>, queue: u8, frame: &[u8]) -> bool {
-    let (mut plain, mut read) = (buffer.clone(), buffer.clone());
+    let [mut plain, mut plain_c, mut read] = [(); 3].map(|()| buffer.clone());
     let expected = calls::put(&mut read, queue, frame).map_err(Refusal::number);
     let answer = plain::put(&mut plain, queue, frame);
     let number = match expected {
         Ok(length) => length as i64,
         Err(number) => -i64::from(number),
     };
-    let ours = numbers::put(buffer, queue, frame);
-    answer == expected && ours == number && plain == read && *buffer == read
+    let numbers = [
+        Library::put(buffer, queue, frame),
+        PlainC::put(&mut plain_c, queue, frame),
+    ];
+    answer == expected && numbers == [number; 2] && [&plain, &plain_c, &*buffer] == [&read; 3]
 }
 
 /// Likewise a serve into an output of this length.
 fn served_alike(buffer: &mut Vec<u8>, room: usize) -> bool {
     let mut plain = (buffer.clone(), vec![7; room]);
-    let (mut read, mut out) = (plain.clone(), vec![7; room]);
+    let (mut read, mut plain_c, mut out) = (plain.clone(), plain.clone(), vec![7; room]);
     let expected = calls::serve(&mut read.0, &mut read.1).map_err(Refusal::number);
     let expected = expected.map(|served| served.map(|served| (served.queue, served.length)));
     let answer = plain::serve(&mut plain.0, &mut plain.1);
@@ -420,8 +468,14 @@ fn served_alike(buffer: &mut Vec<u8>, room: usize) -> bool {
         Ok(None) => 0,
         Err(number) => -i64::from(number),
     };
-    let ours = numbers::serve(buffer, &mut out);
-    answer == expected && ours == number && plain == read && (&*buffer, &out) == (&read.0, &read.1)
+    let numbers = [
+        Library::serve(buffer, &mut out),
+        PlainC::serve(&mut plain_c.0, &mut plain_c.1),
+    ];
+    answer == expected
+        && numbers == [number; 2]
+        && [&plain, &plain_c] == [&read; 2]
+        && (&*buffer, &out) == (&read.0, &read.1)
 }
 
 /// The buffer with other bytes at some places.
@@ -466,7 +520,7 @@ fn queued_alike(waiting: &Waiting) -> bool {
     alike
 }
 
-/// Ours, plain Rust's and the reading's, refusals too.
+/// Ours, plain C's, plain Rust's and the reading's, refusals too.
 pub fn queues(waiting: &Waiting) -> Result<(), String> {
     match queued_alike(waiting) {
         true => Ok(()),
@@ -479,12 +533,13 @@ pub fn logical(logical: &Logical) -> Result<(), String> {
         let reading = calls::logical(frame).expect("the frames are good");
         let original = logical.names_from_bytes(i);
         let name = logical.group.name;
-        same(name, &ours::logical(frame), &original, &reading)?;
+        same::<Library>(name, &ours::logical::<Library>(frame), &original, &reading)?;
+        same::<PlainC>(name, &ours::logical::<PlainC>(frame), &original, &reading)?;
     }
     Ok(())
 }
 
-/// Ours, plain Rust and the reading, under the program's settings and others, with outputs that are long
+/// Ours, plain C, plain Rust and the reading, under the program's settings and others, with outputs that are long
 /// enough and one byte short, and of a frame that is refused.
 pub fn conjuncts(group: &Group) -> Result<(), String> {
     let mut given = vec![Settings::OF_THE_PROGRAM];
@@ -526,17 +581,17 @@ fn all_alike(frame: &[u8], room: usize, settings: Settings) -> bool {
         default_k: settings.default_k,
         greatest_k: settings.greatest_k,
     };
-    let [mut ours, mut plain, mut read] = [(); 3].map(|()| vec![7; room]);
+    let [mut ours, mut plain, mut plain_c, mut read] = [(); 4].map(|()| vec![7; room]);
     let answer = calls::extract_all(frame, &mut read, settings);
     let number = match answer {
         Ok(all) => (all.rounds * 65_536 + all.length) as i64,
         Err(refusal) => -i64::from(refusal.number()),
     };
     let expected = answer.map(|all| (all.rounds as u32, all.length));
-    numbers::extract_all(frame, &mut ours, given) == number
+    Library::extract_all(frame, &mut ours, given) == number
+        && PlainC::extract_all(frame, &mut plain_c, given) == number
         && plain::extract_all(frame, &mut plain, given) == expected.map_err(Refusal::number)
-        && ours == read
-        && plain == read
+        && [ours, plain, plain_c].iter().all(|out| *out == read)
 }
 
 /// Likewise explain, on the frames that are timed and on ones whose conjuncts have many reasons, some of
@@ -577,7 +632,7 @@ fn reasoned(number: u64) -> Vec<u8> {
 
 fn explained_alike(frame: &[u8], room: usize, settings: Settings) -> bool {
     let given = to_library(settings);
-    let [mut ours, mut plain, mut read] = [(); 3].map(|()| vec![7; room]);
+    let [mut ours, mut plain, mut plain_c, mut read] = [(); 4].map(|()| vec![7; room]);
     let answer = calls::explain(frame, &mut read, settings);
     let expected = answer.map_err(Refusal::number).map(|explained| {
         let (line, position) = explained.taken.unwrap_or_default();
@@ -587,8 +642,10 @@ fn explained_alike(frame: &[u8], room: usize, settings: Settings) -> bool {
         Ok(bill) => bill as i64,
         Err(refusal) => -i64::from(refusal),
     };
-    numbers::explain(frame, &mut ours, given) == number
+    Library::explain(frame, &mut ours, given) == number
+        && PlainC::explain(frame, &mut plain_c, given) == number
         && plain::explain(frame, &mut plain, given) == expected
-        && ours == read
-        && plain == read
+        && [ours, plain, plain_c]
+            .iter()
+            .all(|verdicts| *verdicts == read)
 }

@@ -61,6 +61,10 @@ pub fn physical() -> Vec<Group> {
     groups.push(single(NONE_STAYS, no_record_stays()));
     groups.push(single(HALF_STAY, half_of_records_stay()));
     groups.push(group("1,024 nodes", many_nodes));
+    groups.push(group("64 levels", deepest));
+    groups.push(group("511 conjuncts", many_conjuncts));
+    groups.push(group("functions of 16 columns", wide_functions));
+    groups.push(group("near misses", near_misses));
     groups.push(single("worst for the Rust", worst_for_rust()));
     groups.push(single("worst for ours", worst_for_ours()));
     groups
@@ -71,7 +75,7 @@ pub fn conjuncts() -> Vec<Group> {
     const SIZES: [(&str, &str, usize); 4] = [
         (ALL_SHORT_ONE, ALL_SHORT, 64),
         ("256 bytes, one matches", "256 bytes, all match", 256),
-        ("1,024 bytes, one matches", "1,024 bytes, all match", 1_024),
+        (ALL_MIDDLE_ONE, ALL_MIDDLE, 1_024),
         (ALL_LONG_ONE, ALL_LONG, 16_384),
     ];
     let one = SIZES.map(|(name, _, size)| group(name, move |variant| sized(size, variant)));
@@ -97,6 +101,8 @@ fn nearly_ours_below() -> Vec<u8> {
 /// Those of the goals about all conjuncts.
 pub const ALL_SHORT_ONE: &str = "64 bytes, one matches";
 pub const ALL_SHORT: &str = "64 bytes, all match";
+pub const ALL_MIDDLE_ONE: &str = "1,024 bytes, one matches";
+pub const ALL_MIDDLE: &str = "1,024 bytes, all match";
 pub const ALL_LONG_ONE: &str = "16,384 bytes, one matches";
 pub const ALL_LONG: &str = "16,384 bytes, all match";
 
@@ -269,6 +275,80 @@ fn many_nodes(variant: usize) -> Vec<u8> {
 fn records_and_nodes(count: usize, nodes: usize, variant: usize) -> Vec<u8> {
     let others = conjuncts_of_nodes(nodes - 3, variant, &|number| column(number % count));
     physical_frame(records(count), with_match(others, matching(), variant))
+}
+
+/// As many levels as there may be: arguments in chains of calls, of operators or of other nodes; and combs of
+/// Ands to either side, with the match at the bottom or at the top.
+fn deepest(variant: usize) -> Vec<u8> {
+    const LINKS: usize = 62;
+    let link = |expr: Expr| match variant {
+        0 => call("f", vec![expr]),
+        1 => binary(9, expr, number(1)),
+        _ => Expr::Other {
+            tag: 1,
+            children: vec![expr],
+        },
+    };
+    let chain = |end: Expr| (0..LINKS).fold(end, |expr, _| link(expr));
+    let other = || call("st_isvalid", vec![column(variant % 2)]);
+    let others = vec![other(); LINKS];
+    let expr = match variant {
+        0..=2 => call("st_within", vec![chain(column(1)), chain(column(0))]),
+        3 | 4 => comb(matching(), others),
+        5 | 6 => right_comb(others, matching()),
+        _ => right_comb([&[matching()], &others[1..]].concat(), other()),
+    };
+    physical_frame(records(2), expr)
+}
+
+/// The And of these conjuncts and a last one, each And the right child of the one before.
+fn right_comb(conjuncts: Vec<Expr>, last: Expr) -> Expr {
+    let and = |right, left| binary(operator::AND, left, right);
+    conjuncts.into_iter().rev().fold(last, and)
+}
+
+/// As many conjuncts as fit in 1,024 nodes with a match: calls without arguments, columns and numbers in turn.
+fn many_conjuncts(variant: usize) -> Vec<u8> {
+    let other = |place: usize| match (place + variant) % 4 {
+        0 => call("is_open", Vec::new()),
+        1 => column(place % 8),
+        2 => number(place as u64),
+        _ => call("st_isvalid", Vec::new()),
+    };
+    let others = (0..510).map(other).collect();
+    physical_frame(records(8), with_match(others, matching(), variant))
+}
+
+/// Calls over as many columns as they may have.
+fn wide_functions(variant: usize) -> Vec<u8> {
+    let columns = |first: usize| {
+        (first..first + 16)
+            .map(|number| column(number % 64))
+            .collect()
+    };
+    let others = (0..56).map(|place| call("coalesce", columns(16 * place + variant)));
+    physical_frame(
+        records(64),
+        with_match(others.collect(), matching(), variant),
+    )
+}
+
+/// Relations, distances and KNN calls that do not match, since both geometries are of one child.
+fn near_misses(variant: usize) -> Vec<u8> {
+    let other = |place: usize| match (place + variant) % 4 {
+        0 => call("st_intersects", vec![column(0), column(2)]),
+        1 => {
+            let distance = call("st_distance", vec![column(1), column(3)]);
+            binary(operator::LT, distance, number(5))
+        }
+        2 => call("st_knn", vec![column(0), column(2), number(place as u64)]),
+        _ => call(
+            "st_dwithin",
+            vec![column(1), column(3), number(place as u64)],
+        ),
+    };
+    let others = (0..170).map(other).collect();
+    physical_frame(records(4), with_match(others, matching(), variant))
 }
 
 /// KNN calls that do not match, each of which makes the original build a map of all left columns;

@@ -1,5 +1,6 @@
 //! Times the library and the original Rust on the same frames and prints tables in Markdown.
 
+mod calls;
 mod check;
 mod clock;
 mod conjuncts;
@@ -10,6 +11,7 @@ mod original;
 mod ours;
 mod parts;
 mod plain;
+mod plain_c;
 mod projections;
 mod queues;
 mod table;
@@ -18,6 +20,7 @@ mod verdicts;
 use std::env;
 use std::process::ExitCode;
 
+use calls::Library;
 use frames::Group;
 use measure::{Rounds, Task};
 use operations::{Logical, Merges, Physical};
@@ -92,7 +95,7 @@ fn asked(words: &[String]) -> Option<Asked> {
 fn repeat(name: &str) -> Result<(), String> {
     let groups = frames::physical().into_iter().filter(|g| g.name == name);
     let pairs = frames::merges().into_iter().filter(|p| p.name == name);
-    let (mut ours, mut console, mut done) = (Ours::new(), Console::new(), 0);
+    let (mut ours, mut console, mut done) = (Ours::new(), Console::<Library>::new(), 0);
     for frame in groups.flat_map(|group| group.frames.into_iter().cycle().take(800)) {
         ours.load(&frame);
         ours.extract();
@@ -168,6 +171,8 @@ fn run(rounds: usize) -> Result<(), String> {
     tables.push(explain(&mut rounds)?);
     assert_eq!(tables.len(), OPERATIONS, "what progress counts");
     table::print_all(&tables);
+    table::print_c_goals(&tables);
+    table::print_linear(&tables);
     Ok(())
 }
 

@@ -17,6 +17,8 @@ pub enum Contender {
     RustAnswer,
     /// The same call as ours, in plain Rust.
     PlainRust,
+    /// Likewise in plain C.
+    PlainC,
     /// Ours, beside our print or merge.
     Load,
     /// Ours, beside our projection.

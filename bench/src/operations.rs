@@ -11,10 +11,11 @@ use reading::merge::merged;
 use reading::{decode, encode};
 use spatialjoin::MOST_TEXT;
 
+use crate::calls::{Calls, Library, PlainC};
 use crate::frames::{Group, Pairs};
 use crate::measure::{Contender, Task, Work, Works};
 use crate::original::{self, Functions};
-use crate::ours::{self, Console, Ours};
+use crate::ours::{self, Console, Lent, Ours};
 use crate::plain::{self, Plain, plans};
 
 /// Does the work on one frame after the other, from the first again after the last.
@@ -84,15 +85,15 @@ impl Physical {
         in_turn(self.group.frames.len(), one)
     }
 
-    /// Buffers of ours that hold each frame, extracted or not.
-    fn held(&self, extracted: bool) -> Vec<Ours> {
+    /// Buffers that hold each frame, extracted or not.
+    fn held<C: Calls>(&self, extracted: bool) -> Vec<Lent<C>> {
         let held = |frame: &Vec<u8>| {
-            let mut ours = Ours::new();
-            ours.load(frame);
+            let mut lent = Lent::new();
+            lent.load(frame);
             if extracted {
-                ours.extract();
+                lent.extract();
             }
-            ours
+            lent
         };
         self.group.frames.iter().map(held).collect()
     }
@@ -101,10 +102,14 @@ impl Physical {
         self.filters.iter().map(original::extract).collect()
     }
 
+    fn loading<C: Calls>(&self) -> Work<'_> {
+        let frames = &self.group.frames;
+        let mut lent = Lent::<C>::new();
+        self.each(move |i| lent.load(black_box(&frames[i])))
+    }
+
     pub fn load(&self) -> Task<'_> {
         let frames = &self.group.frames;
-        let mut ours = Ours::new();
-        let ours = self.each(move |i| ours.load(black_box(&frames[i])));
         let from_bytes = self.each(|i| {
             black_box(original::join_filter(
                 black_box(&frames[i]),
@@ -117,68 +122,89 @@ impl Physical {
             black_box(&mut held);
         });
         let works = vec![
-            (Contender::Ours, ours),
+            (Contender::Ours, self.loading::<Library>()),
             (Contender::RustFromBytes, from_bytes),
             (Contender::PlainRust, plain),
+            (Contender::PlainC, self.loading::<PlainC>()),
             (Contender::Copy, copy(frames)),
         ];
         task(self.group.name, &self.group.frames, works)
     }
 
+    fn printing<C: Calls>(&self) -> Work<'_> {
+        let frames = &self.group.frames;
+        let mut console = Console::<C>::new();
+        self.each(move |i| {
+            console.print(black_box(&frames[i]));
+            black_box(console.text());
+        })
+    }
+
     /// From the same bytes: our print, plain Rust's and, to compare, our load.
     pub fn print(&self) -> Task<'_> {
         let frames = &self.group.frames;
-        let mut console = Console::new();
-        let ours = self.each(move |i| {
-            console.print(black_box(&frames[i]));
-            black_box(&mut console);
-        });
         let mut text = vec![0; MOST_TEXT];
         let plain = self.each(move |i| {
             let _ = black_box(plain::print(black_box(&frames[i]), &mut text));
             black_box(&mut text);
         });
-        let mut loading = Ours::new();
-        let load = self.each(move |i| loading.load(black_box(&frames[i])));
         let works = vec![
-            (Contender::Ours, ours),
+            (Contender::Ours, self.printing::<Library>()),
             (Contender::PlainRust, plain),
-            (Contender::Load, load),
+            (Contender::PlainC, self.printing::<PlainC>()),
+            (Contender::Load, self.loading::<Library>()),
             (Contender::Copy, copy(frames)),
         ];
         task(self.group.name, frames, works)
     }
 
+    fn loading_and_extracting<C: Calls>(&self) -> Work<'_> {
+        let frames = &self.group.frames;
+        let mut lent = Lent::<C>::new();
+        self.each(move |i| {
+            lent.load(black_box(&frames[i]));
+            lent.extract();
+        })
+    }
+
     pub fn load_and_extract(&self) -> Task<'_> {
         let frames = &self.group.frames;
-        let mut ours = Ours::new();
-        let ours = self.each(move |i| {
-            ours.load(black_box(&frames[i]));
-            ours.extract();
-        });
         let mut held = Plain::new();
         let plain = self.each(move |i| {
             held.load(black_box(&frames[i]));
             black_box(&mut held).extract();
             black_box(&mut held);
         });
-        self.against_extraction(ours, plain)
+        self.against_extraction(
+            self.loading_and_extracting::<Library>(),
+            self.loading_and_extracting::<PlainC>(),
+            plain,
+        )
+    }
+
+    fn extracting<C: Calls>(&self) -> Work<'_> {
+        let mut held = self.held::<C>(false);
+        self.each(move |i| held[i].extract_and_return())
     }
 
     pub fn extract(&self) -> Task<'_> {
-        let mut held = self.held(false);
-        let ours = self.each(move |i| held[i].extract_and_return());
         let mut held = plans(&self.group.frames);
         let plain = self.each(move |i| {
             held[i].extract();
             held[i].go_back();
             black_box(&mut held);
         });
-        self.against_extraction(ours, plain)
+        let [ours, plain_c] = [self.extracting::<Library>(), self.extracting::<PlainC>()];
+        self.against_extraction(ours, plain_c, plain)
     }
 
-    /// Ours and plain Rust, and what the original does for an extraction.
-    fn against_extraction<'a>(&'a self, ours: Work<'a>, plain: Work<'a>) -> Task<'a> {
+    /// Ours, plain C and plain Rust, and what the original does for an extraction.
+    fn against_extraction<'a>(
+        &'a self,
+        ours: Work<'a>,
+        plain_c: Work<'a>,
+        plain: Work<'a>,
+    ) -> Task<'a> {
         let frames = &self.group.frames;
         let from_bytes =
             self.writing(|i, out| extract_from_bytes(black_box(&frames[i]), &self.functions, out));
@@ -187,28 +213,33 @@ impl Physical {
         });
         let extracted = self.extracted();
         let answer = self.writing(move |i, out| black_box(&extracted[i]).put(out));
-        let mut task = self.task_of_all(frames, [ours, from_bytes, call, answer]);
+        let mut task = self.task_of_all(frames, [ours, plain_c, from_bytes, call, answer]);
         task.works.push((Contender::PlainRust, plain));
         task
     }
 
+    fn exchanging<C: Calls>(&self, extracted: bool) -> Work<'_> {
+        let mut held = self.held::<C>(extracted);
+        self.each(move |i| held[i].exchange())
+    }
+
     pub fn exchange_frame(&self) -> Task<'_> {
         let frames = &self.group.frames;
-        let mut held = self.held(false);
-        let ours = self.each(move |i| held[i].exchange());
+        let ours = self.exchanging::<Library>(false);
+        let plain_c = self.exchanging::<PlainC>(false);
         let from_bytes = self
             .writing(|i, out| exchange_frame_bytes(black_box(&frames[i]), &self.functions, out));
         let call = self.each(|i| {
             black_box(exchange_filter(black_box(&self.filters[i])));
         });
         let answer = self.writing(|i, out| put_filter(black_box(&self.filters[i]), out));
-        self.task_of_all(frames, [ours, from_bytes, call, answer])
+        self.task_of_all(frames, [ours, plain_c, from_bytes, call, answer])
     }
 
     pub fn exchange_extraction(&self) -> Task<'_> {
         let plans = &self.extractions;
-        let mut held = self.held(true);
-        let ours = self.each(move |i| held[i].exchange());
+        let ours = self.exchanging::<Library>(true);
+        let plain_c = self.exchanging::<PlainC>(true);
         let from_bytes = self.writing(|i, out| {
             exchange_extraction_bytes(black_box(&plans[i]), &self.functions, out)
         });
@@ -216,7 +247,7 @@ impl Physical {
         let call = self.each(move |i| black_box(&mut extracted[i]).exchange());
         let extracted = self.extracted();
         let answer = self.writing(move |i, out| black_box(&extracted[i]).put(out));
-        self.task_of_all(plans, [ours, from_bytes, call, answer])
+        self.task_of_all(plans, [ours, plain_c, from_bytes, call, answer])
     }
 
     /// Writes each answer over the one before.
@@ -229,9 +260,10 @@ impl Physical {
         })
     }
 
-    fn task_of_all<'a>(&self, bytes: &'a [Vec<u8>], works: [Work<'a>; 4]) -> Task<'a> {
+    fn task_of_all<'a>(&self, bytes: &'a [Vec<u8>], works: [Work<'a>; 5]) -> Task<'a> {
         let contenders = [
             Contender::Ours,
+            Contender::PlainC,
             Contender::RustFromBytes,
             Contender::RustCall,
             Contender::RustAnswer,
@@ -277,14 +309,18 @@ impl Merges {
         }
     }
 
-    /// Our merge and plain Rust's, a frame held, and, to compare, our load of the merged frame.
+    fn merging<C: Calls>(&self) -> Work<'_> {
+        let frames = &self.pairs.new;
+        let mut held = self.held::<C>();
+        in_turn(frames.len(), move |i| {
+            held[i].merge_and_return(black_box(&frames[i]));
+            black_box(&held[i]);
+        })
+    }
+
+    /// Our merge, plain Rust's and plain C's, a frame held, and, to compare, our load of the merged frame.
     pub fn merge(&self) -> Task<'_> {
         let (frames, merged) = (&self.pairs.new, &self.merged);
-        let mut held = self.held();
-        let ours = in_turn(frames.len(), move |i| {
-            held[i].merge_and_return(black_box(&frames[i]));
-            black_box(&mut held);
-        });
         let mut held = plans(&self.pairs.held);
         let plain = in_turn(frames.len(), move |i| {
             held[i].merge(black_box(&frames[i]));
@@ -294,20 +330,21 @@ impl Merges {
         let mut loading = Ours::new();
         let load = in_turn(frames.len(), move |i| loading.load(black_box(&merged[i])));
         let works = vec![
-            (Contender::Ours, ours),
+            (Contender::Ours, self.merging::<Library>()),
             (Contender::PlainRust, plain),
+            (Contender::PlainC, self.merging::<PlainC>()),
             (Contender::Load, load),
             (Contender::Copy, copy(merged)),
         ];
         task(self.pairs.name, merged, works)
     }
 
-    /// Buffers of ours that hold each frame.
-    fn held(&self) -> Vec<Ours> {
+    /// Buffers that hold each frame.
+    fn held<C: Calls>(&self) -> Vec<Lent<C>> {
         let held = |frame: &Vec<u8>| {
-            let mut ours = Ours::new();
-            ours.load(frame);
-            ours
+            let mut lent = Lent::new();
+            lent.load(frame);
+            lent
         };
         self.pairs.held.iter().map(held).collect()
     }
@@ -338,11 +375,15 @@ impl Logical {
         names_and_side(&filter, &self.joins[i].left, &self.joins[i].right)
     }
 
+    fn naming<C: Calls>(&self) -> Work<'_> {
+        let frames = &self.group.frames;
+        in_turn(frames.len(), |i| {
+            black_box(ours::logical::<C>(black_box(&frames[i])));
+        })
+    }
+
     pub fn logical(&self) -> Task<'_> {
         let (frames, joins) = (&self.group.frames, &self.joins);
-        let ours = in_turn(frames.len(), |i| {
-            black_box(ours::logical(black_box(&frames[i])));
-        });
         let from_bytes = in_turn(frames.len(), |i| {
             black_box(self.names_from_bytes(i));
         });
@@ -351,7 +392,8 @@ impl Logical {
             black_box(names_and_side(&join.filter, &join.left, &join.right));
         });
         let works = vec![
-            (Contender::Ours, ours),
+            (Contender::Ours, self.naming::<Library>()),
+            (Contender::PlainC, self.naming::<PlainC>()),
             (Contender::RustFromBytes, from_bytes),
             (Contender::RustCall, call),
             (Contender::Copy, copy(frames)),

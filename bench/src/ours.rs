@@ -1,10 +1,18 @@
-//! The library on buffers of a host.
+//! The library on buffers of a host, and plain C likewise.
+
+use std::marker::PhantomData;
 
 use reading::frame::MAX_BYTES;
 use spatialjoin::{MOST_NODES, MOST_TEXT, Node, Settings, numbers};
 
+use crate::calls::{Calls, Library};
+
+/// The library's.
+pub type Ours = Lent<Library>;
+
 /// Both buffers as long as the longest frame, and the table too; they are never cleared.
-pub struct Ours {
+pub struct Lent<C> {
+    calls: PhantomData<C>,
     plan: Vec<u8>,
     scratch: Vec<u8>,
     table: Vec<Node>,
@@ -13,9 +21,10 @@ pub struct Ours {
     walk: u32,
 }
 
-impl Ours {
+impl<C: Calls> Lent<C> {
     pub fn new() -> Self {
-        Ours {
+        Lent {
+            calls: PhantomData,
             plan: vec![0; MAX_BYTES],
             scratch: vec![0; MAX_BYTES],
             table: vec![Node::default(); MOST_NODES],
@@ -25,13 +34,13 @@ impl Ours {
     }
 
     pub fn load(&mut self, frame: &[u8]) {
-        let answer = numbers::load(frame, &mut self.plan, &mut self.table);
+        let answer = C::load(frame, &mut self.plan, &mut self.table);
         self.keep(answer);
     }
 
     pub fn extract(&mut self) {
         let (plan, scratch) = (&mut self.plan, &mut self.scratch);
-        let answer = numbers::extract(plan, self.n, scratch, &self.table, Settings::default());
+        let answer = C::extract(plan, self.n, scratch, &self.table, Settings::default());
         self.walk = numbers::walk_of(answer);
         if answer >= 0 {
             self.n = numbers::length_of(answer);
@@ -42,20 +51,20 @@ impl Ours {
     /// change places and nothing is copied.
     pub fn extract_and_return(&mut self) {
         let (plan, scratch) = (&mut self.plan, &mut self.scratch);
-        numbers::extract(plan, self.n, scratch, &self.table, Settings::default());
+        C::extract(plan, self.n, scratch, &self.table, Settings::default());
         std::mem::swap(&mut self.plan, &mut self.scratch);
     }
 
     pub fn merge(&mut self, frame: &[u8]) {
         let (plan, scratch) = (&mut self.plan, &mut self.scratch);
-        let answer = numbers::merge(frame, plan, self.n, scratch, &mut self.table);
+        let answer = C::merge(frame, plan, self.n, scratch, &mut self.table);
         self.keep(answer);
     }
 
     /// Likewise.
     pub fn merge_and_return(&mut self, frame: &[u8]) {
         let (plan, scratch) = (&mut self.plan, &mut self.scratch);
-        numbers::merge(frame, plan, self.n, scratch, &mut self.table);
+        C::merge(frame, plan, self.n, scratch, &mut self.table);
         std::mem::swap(&mut self.plan, &mut self.scratch);
     }
 
@@ -67,18 +76,18 @@ impl Ours {
 
     pub fn project(&mut self, [left, right]: &[Vec<u16>; 2]) {
         let (plan, scratch) = (&mut self.plan, &mut self.scratch);
-        let answer = numbers::project(plan, self.n, scratch, left, right);
+        let answer = C::project(plan, self.n, scratch, left, right);
         self.keep(answer);
     }
 
     /// Likewise.
     pub fn project_and_return(&mut self, [left, right]: &[Vec<u16>; 2]) {
-        numbers::project(&mut self.plan, self.n, &mut self.scratch, left, right);
+        C::project(&mut self.plan, self.n, &mut self.scratch, left, right);
         std::mem::swap(&mut self.plan, &mut self.scratch);
     }
 
     pub fn exchange(&mut self) {
-        let answer = numbers::exchange(&mut self.plan, self.n, &mut self.scratch);
+        let answer = C::exchange(&mut self.plan, self.n, &mut self.scratch);
         self.keep(answer);
     }
 
@@ -101,14 +110,16 @@ impl Ours {
 }
 
 /// A text buffer that is long enough for every frame; it is never cleared.
-pub struct Console {
+pub struct Console<C> {
+    calls: PhantomData<C>,
     text: Vec<u8>,
     length: usize,
 }
 
-impl Console {
+impl<C: Calls> Console<C> {
     pub fn new() -> Self {
         Console {
+            calls: PhantomData,
             text: vec![0; MOST_TEXT],
             length: 0,
         }
@@ -116,7 +127,7 @@ impl Console {
 
     /// A refused call shows in the text, which is checked before anything is timed.
     pub fn print(&mut self, frame: &[u8]) {
-        self.length = usize::try_from(numbers::print(frame, &mut self.text)).unwrap_or(0);
+        self.length = usize::try_from(C::print(frame, &mut self.text)).unwrap_or(0);
     }
 
     pub fn text(&self) -> &[u8] {
@@ -125,6 +136,6 @@ impl Console {
 }
 
 /// Four bytes as the program writes them: mask, count, query side.
-pub fn logical(frame: &[u8]) -> [u8; 4] {
-    (numbers::logical(frame) as u32).to_be_bytes()
+pub fn logical<C: Calls>(frame: &[u8]) -> [u8; 4] {
+    (C::logical(frame) as u32).to_be_bytes()
 }

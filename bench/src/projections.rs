@@ -7,10 +7,11 @@ use reading::project::MAX_ITEMS;
 use reading::settings::Settings;
 use reading::{decode, encode, physical};
 
+use crate::calls::{Calls, Library, PlainC};
 use crate::frames::{self, Group};
-use crate::measure::{Contender, Task};
+use crate::measure::{Contender, Task, Work};
 use crate::operations::{copy, in_turn, task};
-use crate::ours::Ours;
+use crate::ours::{Lent, Ours};
 use crate::plain::Plain;
 
 pub struct Projections {
@@ -40,37 +41,42 @@ impl Projections {
         frames::physical().into_iter().map(of_group).collect()
     }
 
-    /// Our projection and plain Rust's, an extraction held, and, to compare, our exchange of it.
+    fn projecting<C: Calls>(&self) -> Work<'_> {
+        let lists = &self.lists;
+        let mut held = self.held::<C>();
+        in_turn(self.plans.len(), move |i| {
+            held[i].project_and_return(black_box(&lists[i]));
+            black_box(&held[i]);
+        })
+    }
+
+    /// Our projection, plain Rust's and plain C's, an extraction held, and, to compare, our exchange of it.
     pub fn project(&self) -> Task<'_> {
         let (plans, lists) = (&self.plans, &self.lists);
-        let mut held = self.held();
-        let ours = in_turn(plans.len(), move |i| {
-            held[i].project_and_return(black_box(&lists[i]));
-            black_box(&mut held);
-        });
         let mut held: Vec<Plain> = plans.iter().map(|plan| Plain::holding(plan)).collect();
         let plain = in_turn(plans.len(), move |i| {
             held[i].project(black_box(&lists[i]));
             held[i].go_back();
             black_box(&mut held);
         });
-        let mut held = self.held();
+        let mut held: Vec<Ours> = self.held();
         let exchange = in_turn(plans.len(), move |i| held[i].exchange());
         let works = vec![
-            (Contender::Ours, ours),
+            (Contender::Ours, self.projecting::<Library>()),
             (Contender::PlainRust, plain),
+            (Contender::PlainC, self.projecting::<PlainC>()),
             (Contender::Exchange, exchange),
             (Contender::Copy, copy(plans)),
         ];
         task(self.name, plans, works)
     }
 
-    /// Buffers of ours that hold each extraction.
-    fn held(&self) -> Vec<Ours> {
+    /// Buffers that hold each extraction.
+    fn held<C: Calls>(&self) -> Vec<Lent<C>> {
         let held = |plan: &Vec<u8>| {
-            let mut ours = Ours::new();
-            ours.hold(plan);
-            ours
+            let mut lent = Lent::new();
+            lent.hold(plan);
+            lent
         };
         self.plans.iter().map(held).collect()
     }

@@ -5,12 +5,17 @@ use std::hint::black_box;
 use reading::queues::{MAX_QUEUED, MAX_WAITING, QUEUES_BYTES, Queues};
 use spatialjoin::numbers;
 
+use crate::calls::{Calls, PlainC};
 use crate::measure::{Contender, Task, Work};
 use crate::operations::copy;
 use crate::plain;
 
 /// Where each queue's count stands.
 const COUNTS: [usize; 2] = [1, 1 + (QUEUES_BYTES - 1) / 2];
+
+/// The names of the rows whose cost per byte is compared.
+pub const QUEUED_SHORT: &str = "16 frames of 64 bytes";
+pub const QUEUED_LONG: &str = "16 frames of 1,024 bytes";
 
 /// Queue 0, or both, with so many frames of this length: the frame that is put is the last of them, the
 /// one that is served the first.
@@ -35,8 +40,8 @@ impl Waiting {
         vec![
             waiting("a frame of 64 bytes", 1, 64, false),
             waiting("a frame of 1,024 bytes", 1, MAX_QUEUED, false),
-            waiting("16 frames of 64 bytes", MAX_WAITING, 64, false),
-            waiting("16 frames of 1,024 bytes", MAX_WAITING, MAX_QUEUED, false),
+            waiting(QUEUED_SHORT, MAX_WAITING, 64, false),
+            waiting(QUEUED_LONG, MAX_WAITING, MAX_QUEUED, false),
             waiting("16 of 1,024 in each queue", MAX_WAITING, MAX_QUEUED, true),
         ]
     }
@@ -83,8 +88,11 @@ impl Waiting {
         let plain = work(|queues, frame| {
             let _ = black_box(plain::put(queues, 0, frame));
         });
+        let plain_c = work(|queues, frame| {
+            black_box(PlainC::put(queues, 0, frame));
+        });
         let copying = work(|queues, frame| queues[34..34 + frame.len()].copy_from_slice(frame));
-        self.task(self.length, ours, plain, copying)
+        self.task(self.length, [ours, plain, plain_c], copying)
     }
 
     pub fn serve(&self) -> Task<'_> {
@@ -104,15 +112,17 @@ impl Waiting {
         let plain = work(|queues, out| {
             let _ = black_box(plain::serve(queues, out));
         });
+        let plain_c = work(|queues, out| {
+            black_box(PlainC::serve(queues, out));
+        });
         let bytes = self.count * self.length;
-        self.task(bytes, ours, plain, copy(&self.copied))
+        self.task(bytes, [ours, plain, plain_c], copy(&self.copied))
     }
 
     fn task<'a>(
         &'a self,
         bytes: usize,
-        ours: Work<'a>,
-        plain: Work<'a>,
+        [ours, plain, plain_c]: [Work<'a>; 3],
         copy: Work<'a>,
     ) -> Task<'a> {
         Task {
@@ -121,6 +131,7 @@ impl Waiting {
             works: vec![
                 (Contender::Ours, ours),
                 (Contender::PlainRust, plain),
+                (Contender::PlainC, plain_c),
                 (Contender::Copy, copy),
             ],
         }

@@ -1,10 +1,11 @@
 //! Tables in Markdown.
 
 use crate::frames::{
-    ALL_LONG, ALL_LONG_ONE, ALL_SHORT, ALL_SHORT_ONE, HALF_STAY, MANY_RECORDS, NONE_STAYS, ONE_KIB,
-    SIXTEEN_KIB,
+    ALL_LONG, ALL_LONG_ONE, ALL_MIDDLE, ALL_MIDDLE_ONE, ALL_SHORT, ALL_SHORT_ONE, HALF_STAY,
+    MANY_RECORDS, NONE_STAYS, ONE_KIB, SIXTEEN_KIB,
 };
 use crate::measure::{Contender, Row};
+use crate::queues::{QUEUED_LONG, QUEUED_SHORT};
 
 pub struct Table {
     pub title: &'static str,
@@ -61,6 +62,11 @@ impl Row {
         Some(median_ratio(&total, ours))
     }
 
+    /// How many times as long as plain C ours takes.
+    fn ours_to_c(&self) -> Option<f64> {
+        self.ratio(&[Contender::PlainC]).map(f64::recip)
+    }
+
     /// Median and spread.
     fn time(&self, contender: Contender) -> String {
         let Some(readings) = self.readings.get(&contender) else {
@@ -106,25 +112,29 @@ const PLAIN_TO_OURS: Column = ("plain Rust / ours", |row| {
     shown(row.ratio(&[Contender::PlainRust]))
 });
 const PLAIN: Column = ("plain Rust", |row| row.time(Contender::PlainRust));
+const OURS_TO_C: Column = ("ours / plain C", |row| shown(row.ours_to_c()));
+const PLAIN_C: Column = ("plain C", |row| row.time(Contender::PlainC));
 
-/// Beside the original.
+/// Beside the original and plain C.
 pub const ORIGINAL: &[Column] = &[
     FRAMES,
     BYTES,
     FROM_BYTES_TO_OURS,
     CALL_AND_ANSWER_TO_OURS,
     CALL_TO_OURS,
+    OURS_TO_C,
     OURS,
     OURS_A_BYTE,
     FROM_BYTES,
     FROM_BYTES_A_BYTE,
     CALL,
     ANSWER,
+    PLAIN_C,
     COPY,
     OURS_TO_COPY,
 ];
 
-/// Beside the original and plain Rust.
+/// Beside the original, plain Rust and plain C.
 pub const BOTH: &[Column] = &[
     FRAMES,
     BYTES,
@@ -132,6 +142,7 @@ pub const BOTH: &[Column] = &[
     CALL_AND_ANSWER_TO_OURS,
     CALL_TO_OURS,
     PLAIN_TO_OURS,
+    OURS_TO_C,
     OURS,
     OURS_A_BYTE,
     FROM_BYTES,
@@ -139,21 +150,24 @@ pub const BOTH: &[Column] = &[
     CALL,
     ANSWER,
     PLAIN,
+    PLAIN_C,
     COPY,
     OURS_TO_COPY,
 ];
 
-/// Beside plain Rust and our load, where the original has no such call.
+/// Beside plain Rust, plain C and our load, where the original has no such call.
 pub const YARDSTICK: &[Column] = &[
     FRAMES,
     BYTES,
     PLAIN_TO_OURS,
+    OURS_TO_C,
     ("ours / our load", |row| {
         shown(row.ratio(&[Contender::Load]).map(f64::recip))
     }),
     OURS,
     OURS_A_BYTE,
     PLAIN,
+    PLAIN_C,
     ("plain Rust, a byte", |row| {
         shown(row.per_byte(Contender::PlainRust))
     }),
@@ -165,17 +179,19 @@ pub const YARDSTICK: &[Column] = &[
     OURS_TO_COPY,
 ];
 
-/// Beside plain Rust and our exchange of the same plan, where the original has no such call.
+/// Beside plain Rust, plain C and our exchange of the same plan, where the original has no such call.
 pub const BESIDE_EXCHANGE: &[Column] = &[
     FRAMES,
     BYTES,
     PLAIN_TO_OURS,
+    OURS_TO_C,
     ("ours / our exchange", |row| {
         shown(row.ratio(&[Contender::Exchange]).map(f64::recip))
     }),
     OURS,
     OURS_A_BYTE,
     PLAIN,
+    PLAIN_C,
     ("plain Rust, a byte", |row| {
         shown(row.per_byte(Contender::PlainRust))
     }),
@@ -184,17 +200,19 @@ pub const BESIDE_EXCHANGE: &[Column] = &[
     OURS_TO_COPY,
 ];
 
-/// Beside plain Rust and one load and extract of ours, where the original has no such call.
+/// Beside plain Rust, plain C and one load and extract of ours, where the original has no such call.
 pub const BESIDE_EXTRACT: &[Column] = &[
     FRAMES,
     BYTES,
     PLAIN_TO_OURS,
+    OURS_TO_C,
     ("ours / our load and extract", |row| {
         shown(row.ratio(&[Contender::LoadAndExtract]).map(f64::recip))
     }),
     OURS,
     OURS_A_BYTE,
     PLAIN,
+    PLAIN_C,
     ("our load and extract", |row| {
         row.time(Contender::LoadAndExtract)
     }),
@@ -202,20 +220,23 @@ pub const BESIDE_EXTRACT: &[Column] = &[
     OURS_TO_COPY,
 ];
 
-/// Beside plain Rust, of calls that take no plan; the bytes are those that the call copies.
+/// Beside plain Rust and plain C, of calls that take no plan; the bytes are those that the call copies.
 pub const QUEUED: &[Column] = &[
     ("waiting", |row| row.name.to_owned()),
     ("bytes copied", |row| number(row.bytes)),
     PLAIN_TO_OURS,
+    OURS_TO_C,
     OURS,
     OURS_A_BYTE,
     PLAIN,
+    PLAIN_C,
     COPY,
     OURS_TO_COPY,
 ];
 
 const NONE: &str = "–";
 
+/// A number, or that there is none.
 fn shown(value: Option<f64>) -> String {
     value.map_or(NONE.to_owned(), number)
 }
@@ -266,7 +287,12 @@ impl Table {
 
     /// Cost per byte of the longest frames against that of 1 KiB.
     fn growth(&self, contender: Contender) -> Option<f64> {
-        let (short, long) = (self.row(ONE_KIB)?, self.row(SIXTEEN_KIB)?);
+        self.growth_between(ONE_KIB, SIXTEEN_KIB, contender)
+    }
+
+    /// Cost per byte of one group's frames against that of another's.
+    fn growth_between(&self, short: &str, long: &str, contender: Contender) -> Option<f64> {
+        let (short, long) = (self.row(short)?, self.row(long)?);
         let times = median_ratio(
             long.readings.get(&contender)?,
             short.readings.get(&contender)?,
@@ -299,6 +325,33 @@ impl Table {
     }
 }
 
+/// Groups of short and of long frames of one make, which have the same name in several tables.
+const GROWTH: [(&str, &str); 4] = [
+    (ONE_KIB, SIXTEEN_KIB),
+    (ALL_MIDDLE_ONE, ALL_LONG_ONE),
+    (ALL_MIDDLE, ALL_LONG),
+    (QUEUED_SHORT, QUEUED_LONG),
+];
+
+/// Whether a call's time grows as its frames do: that of a byte from 1 KiB to 16 KiB. The frame of a put has
+/// at most 1 KiB, so it is from 64 bytes there.
+pub fn print_linear(tables: &[Table]) {
+    const MOST: f64 = 1.5;
+    println!("## Growth of every call\n");
+    println!("| call | from | to | a byte of the second over one of the first | at most {MOST} |");
+    println!("|---|---|---|--:|---|");
+    for table in tables {
+        for (short, long) in GROWTH {
+            let Some(times) = table.growth_between(short, long, Contender::Ours) else {
+                continue;
+            };
+            let (title, times, linear) = (table.title, number(times), yes(times <= MOST));
+            println!("| {title} | {short} | {long} | {times} | {linear} |");
+        }
+    }
+    println!();
+}
+
 /// The columns of the table of all calls, after the call's.
 const ALL: &[Column] = &[
     FRAMES,
@@ -308,6 +361,7 @@ const ALL: &[Column] = &[
     CALL_AND_ANSWER_TO_OURS,
     CALL_TO_OURS,
     PLAIN_TO_OURS,
+    OURS_TO_C,
     OURS_TO_COPY,
 ];
 
@@ -432,8 +486,87 @@ fn print_speeds(load_and_extract: &Table) {
 }
 
 fn print_goal(goal: &str, measured: &str, reached: bool) {
-    let reached = if reached { "yes" } else { "no" };
-    println!("| {goal} | {measured} | {reached} |");
+    println!("| {goal} | {measured} | {} |", yes(reached));
+}
+
+fn yes(reached: bool) -> &'static str {
+    if reached { "yes" } else { "no" }
+}
+
+/// How many times as long as plain C ours may take: in the median of a call's groups, if there is a goal for
+/// that, and on the worst of them.
+const C_GOALS: [(&str, Option<f64>, f64); 14] = [
+    ("Load", Some(1.3), 1.6),
+    ("Load and extract", Some(1.35), 1.6),
+    ("Extract, a frame held", Some(1.45), 1.65),
+    ("Exchange, a frame held", Some(1.45), 1.8),
+    ("Exchange, an extraction held", Some(1.4), 2.0),
+    ("Logical", Some(1.65), 2.0),
+    ("Print", Some(1.3), 1.55),
+    ("Merge, a frame held", Some(1.45), 1.85),
+    ("Project by lists of the plan's own columns", Some(1.5), 2.0),
+    ("Project by lists of 4,096 columns", Some(1.0), 1.4),
+    ("Put, the last of these frames", None, 1.6),
+    ("Serve, the first of these frames", None, 1.6),
+    ("All conjuncts", None, 1.6),
+    ("Explain", None, 1.6),
+];
+
+/// Ours over plain C, call by call, and the original over ours.
+pub fn print_c_goals(tables: &[Table]) {
+    println!("## Goals beside plain C\n");
+    println!("| call | median | at most | reached | worst | at most | reached | on |");
+    println!("|---|--:|--:|---|--:|--:|---|---|");
+    for table in tables {
+        let goal = C_GOALS.iter().find(|(title, ..)| *title == table.title);
+        let Some((title, most, worst_most)) = goal else {
+            continue;
+        };
+        let ratios: Vec<f64> = table.rows.iter().filter_map(Row::ours_to_c).collect();
+        let (worst, name) = table.extreme(Row::ours_to_c, true);
+        let median = median(&ratios);
+        let reached = most.map_or(NONE, |most| yes(median <= most));
+        let (most, worst_reached) = (shown(*most), yes(worst <= *worst_most));
+        println!(
+            "| {title} | {} | {most} | {reached} | {} | {} | {worst_reached} | {name} |",
+            number(median),
+            number(worst),
+            number(*worst_most),
+        );
+    }
+    println!();
+    println!("| goal | measured | reached |");
+    println!("|---|---|---|");
+    for table in tables
+        .iter()
+        .filter(|table| table.title == "Load and extract")
+    {
+        print_original_goal(table);
+    }
+    println!();
+}
+
+/// On every group, and which of them miss it.
+fn print_original_goal(load_and_extract: &Table) {
+    const LEAST: f64 = 5.0;
+    let ratio = |row: &Row| row.ratio(&[Contender::RustFromBytes]);
+    let (least, name) = load_and_extract.extreme(ratio, false);
+    let rows = load_and_extract.rows.iter();
+    let missed = rows.filter(|row| ratio(row).is_some_and(|times| times < LEAST));
+    let missed: Vec<&str> = missed.map(|row| row.name).collect();
+    let measured = match missed.is_empty() {
+        true => format!("at least {} times ({name})", number(least)),
+        false => format!(
+            "at least {} times ({name}); less on {}",
+            number(least),
+            missed.join("; ")
+        ),
+    };
+    let title = load_and_extract.title;
+    let goal = format!(
+        "{title}: the Rust from bytes takes at least {LEAST} times as long, on every group"
+    );
+    print_goal(&goal, &measured, least >= LEAST);
 }
 
 #[cfg(test)]

@@ -3,23 +3,28 @@
 use std::hint::black_box;
 
 use reading::frame::MAX_NODES;
-use spatialjoin::{Settings, numbers};
+use spatialjoin::Settings;
 
+use crate::calls::{Calls, Library, PlainC};
 use crate::frames::Group;
-use crate::measure::{Contender, Task};
+use crate::measure::{Contender, Task, Work};
 use crate::operations::{copy, in_turn, task};
 use crate::ours::Ours;
 use crate::plain;
 
-/// Ours, plain Rust, and, to compare, one load and extract of ours of the same frames.
+/// The call on each frame in turn.
+fn work<C: Calls>(frames: &[Vec<u8>]) -> Work<'_> {
+    let mut verdicts = vec![0; MAX_NODES];
+    in_turn(frames.len(), move |i| {
+        let frame = black_box(&frames[i]);
+        black_box(C::explain(frame, &mut verdicts, Settings::default()));
+        black_box(&mut verdicts);
+    })
+}
+
+/// Ours, plain Rust, plain C, and, to compare, one load and extract of ours of the same frames.
 pub fn explain(group: &Group) -> Task<'_> {
     let frames = &group.frames;
-    let mut verdicts = vec![0; MAX_NODES];
-    let ours = in_turn(frames.len(), move |i| {
-        let frame = black_box(&frames[i]);
-        black_box(numbers::explain(frame, &mut verdicts, Settings::default()));
-        black_box(&mut verdicts);
-    });
     let mut verdicts = vec![0; MAX_NODES];
     let plain = in_turn(frames.len(), move |i| {
         let settings = black_box(Settings::default());
@@ -36,9 +41,10 @@ pub fn explain(group: &Group) -> Task<'_> {
         held.extract();
     });
     let works = vec![
-        (Contender::Ours, Box::new(ours) as _),
-        (Contender::PlainRust, Box::new(plain) as _),
-        (Contender::LoadAndExtract, Box::new(once) as _),
+        (Contender::Ours, work::<Library>(frames)),
+        (Contender::PlainRust, plain),
+        (Contender::PlainC, work::<PlainC>(frames)),
+        (Contender::LoadAndExtract, once),
         (Contender::Copy, copy(frames)),
     ];
     task(group.name, frames, works)
