@@ -6,12 +6,12 @@
 
 #include "plain.h"
 
-/* A template is compiled anew wherever it stands, for the constants that it is given there; what is compiled once is a call. */
+/* A template is compiled anew wherever it stands, for the constants that it is given there; what is compiled once is called. */
 #define TEMPLATE static inline __attribute__((always_inline))
 #define ONCE static __attribute__((noinline))
 #define RARE(condition) __builtin_expect(!!(condition), 0)
 
-/* Kinds of nodes, operators and types of literals are the header's. */
+/* The header's, in words of their own; kinds of nodes, operators, types and refusals go by the header's. */
 enum { MOST_BYTES = SPATIALJOIN_MOST_BYTES, MOST_NODES = SPATIALJOIN_MOST_NODES, MOST_LEVELS = SPATIALJOIN_MOST_LEVELS };
 
 /* In the machine's own order: to compare bytes with bytes. */

@@ -15,57 +15,57 @@ enum {
 
 enum { ALLOWS_RELATIONS = SPATIALJOIN_RELATIONS, ALLOWS_DISTANCES = SPATIALJOIN_DISTANCES, ALLOWS_KNNS = SPATIALJOIN_KNNS };
 
-typedef struct {
+struct settings {
     uint32_t kinds, default_k, greatest_k;
-} settings;
+};
 
-TEMPLATE int are_good(settings set)
+TEMPLATE int are_good(struct settings set)
 {
     return set.kinds - 1 < SPATIALJOIN_ALL_KINDS && set.default_k > 0 && set.default_k <= set.greatest_k;
 }
 
 /* An argument, from its first byte to past its last, and its columns among those that were noted. */
-typedef struct {
+struct argument {
     uint16_t from, to, column, column_end;
-} argument;
+};
 
 /* A conjunct whose name is looked for: two geometries, then the bound of a distance; the sides of their columns; and what follows the
  * geometries of a KNN. */
-typedef struct {
+struct candidate {
     uint32_t name, form, arguments;
-    argument of[3];
+    struct argument of[3];
     uint32_t sides[3];
     const uint8_t *flags;
-} candidate;
+};
 
 /* A conjunct that matches: what its extraction has, and where it stands. */
-typedef struct {
+struct match {
     uint8_t first, type, side, spheroid, ties;
     uint32_t k;
     uint16_t position, leaf, leaf_end, parent;
-    argument of[3];
-} match;
+    struct argument of[3];
+};
 
 /* A part of the filter that does not stay. */
-typedef struct {
+struct gap {
     uint16_t from, to;
-} gap;
+};
 
 /* All that a walk finds. */
-typedef struct {
-    notes notes;
-    settings set;
-    uint32_t leaves;       /* conjuncts so far */
-    uint32_t walk;         /* PICK: And nodes and conjuncts up to the first KNN match */
-    uint32_t matches;      /* PICK: 0 or 1, and whether that is a KNN; ALL: so many */
-    uint32_t is_knn;
-    uint32_t gaps;         /* ALL */
-    uint32_t lacks;        /* some conjunct has too few arguments */
-    uint32_t names, side;  /* NAMES: the mask, and the query side */
-    match match[MOST_NODES / 4 + 1]; /* one that matches has three nodes and an And above it, but for one */
-    gap gap[MOST_NODES];
+struct walk {
+    struct notes notes;
+    struct settings set;
+    uint32_t leaves;      /* conjuncts so far */
+    uint32_t lacks;       /* some conjunct has too few arguments */
+    uint32_t effort;      /* PICK: And nodes and conjuncts up to the first KNN match */
+    uint32_t matches;     /* PICK: 0 or 1; ALL: so many */
+    uint32_t is_knn;      /* PICK: whether that one is a KNN */
+    uint32_t gaps;        /* ALL: one for each And, which may be empty, and one for each match */
+    uint32_t names, side; /* NAMES: the mask, and the query side */
+    struct match match[MOST_NODES / 4 + 1]; /* one that matches has three nodes and an And above it, but for one */
+    struct gap gap[MOST_NODES];
     uint8_t verdict[MOST_NODES];
-} walk;
+};
 
 /* ---- whether a candidate matches */
 
@@ -86,7 +86,7 @@ TEMPLATE int is_flag(const uint8_t *at)
 }
 
 /* k and flags of a KNN: a literal has ten bytes, so after one that is good the next argument starts ten bytes on. */
-static int knn_matches(const candidate *leaf, settings set, match *found)
+static int knn_matches(const struct candidate *leaf, struct settings set, struct match *found)
 {
     const uint8_t *flags = leaf->flags;
     uint64_t k = set.default_k; /* a negative one is above the greatest too */
@@ -113,7 +113,7 @@ TEMPLATE int side_of_bits(uint32_t sides)
 }
 
 /* Whether it does; then what stands in its extraction. */
-static inline int leaf_matches(const candidate *leaf, settings set, match *found)
+static inline int leaf_matches(const struct candidate *leaf, struct settings set, struct match *found)
 {
     const int in_order = leaf->sides[0] == LEFT_BIT && leaf->sides[1] == RIGHT_BIT;
     int first = in_order ? 0 : 1;
@@ -154,7 +154,7 @@ TEMPLATE int geometry_verdict(uint32_t sides, int first_reason)
     return sides == 0 ? first_reason : (sides & 3) == 3 ? first_reason + 1 : sides & MARK_BIT ? first_reason + 2 : 0;
 }
 
-static int geometries_verdict(const candidate *leaf)
+static int geometries_verdict(const struct candidate *leaf)
 {
     int verdict = geometry_verdict(leaf->sides[0], SPATIALJOIN_FIRST_WITHOUT_COLUMNS);
     if (verdict == 0) {
@@ -179,7 +179,7 @@ static int k_verdict(const uint8_t *at, uint32_t greatest_k)
     return k > greatest_k ? SPATIALJOIN_K_ABOVE_GREATEST : 0;
 }
 
-static int knn_verdict(const candidate *leaf, uint32_t greatest_k)
+static int knn_verdict(const struct candidate *leaf, uint32_t greatest_k)
 {
     int verdict = geometries_verdict(leaf);
     if (verdict == 0 && leaf->arguments > 2) {
@@ -194,7 +194,7 @@ static int knn_verdict(const candidate *leaf, uint32_t greatest_k)
     return verdict ? verdict : SPATIALJOIN_AS_KNN;
 }
 
-static int distance_verdict(const candidate *leaf)
+static int distance_verdict(const struct candidate *leaf)
 {
     const int verdict = geometries_verdict(leaf);
     if (verdict) {
@@ -207,7 +207,7 @@ static int distance_verdict(const candidate *leaf)
 }
 
 /* Of one that has enough arguments, and not too many. */
-static int candidate_verdict(const candidate *leaf, settings set)
+static int candidate_verdict(const struct candidate *leaf, struct settings set)
 {
     int verdict;
     if (leaf->name == KNN) {
@@ -291,7 +291,7 @@ static int binary_verdict(uint32_t operator, const uint8_t *const *child)
 }
 
 /* Of a call that is no candidate: it is not meant for a line, or is a KNN of too few or too many arguments. */
-static int call_verdict(const uint8_t *at, const uint8_t *const *child, uint32_t arguments, uint32_t name, settings set)
+static int call_verdict(const uint8_t *at, const uint8_t *const *child, uint32_t arguments, uint32_t name, struct settings set)
 {
     if (name == KNN) {
         return !(set.kinds & ALLOWS_KNNS) ? SPATIALJOIN_KIND_LEFT_OUT
@@ -304,9 +304,9 @@ static int call_verdict(const uint8_t *at, const uint8_t *const *child, uint32_t
 /* ---- a conjunct */
 
 /* A node that the walk reads itself, and not the pass: whether the table has it, but for its end. */
-TEMPLATE int open_node(walk *walk, long node, const uint8_t *at, const int what)
+TEMPLATE int open_node(struct walk *walk, long node, const uint8_t *at, const int what)
 {
-    notes *notes = &walk->notes;
+    struct notes *notes = &walk->notes;
     if (what & ROWS) {
         notes->row[node].start = (uint16_t)offset(notes, at);
     }
@@ -314,9 +314,9 @@ TEMPLATE int open_node(walk *walk, long node, const uint8_t *at, const int what)
 }
 
 /* And whether it has the end. */
-TEMPLATE int close_node(walk *walk, long node, const uint8_t *after, const int what)
+TEMPLATE int close_node(struct walk *walk, long node, const uint8_t *after, const int what)
 {
-    notes *notes = &walk->notes;
+    struct notes *notes = &walk->notes;
     if (what & ROWS) {
         notes->row[node].end = (uint16_t)offset(notes, after);
     }
@@ -324,23 +324,24 @@ TEMPLATE int close_node(walk *walk, long node, const uint8_t *after, const int w
 }
 
 /* What one walk has in common for all of its conjuncts, and where this one is. */
-typedef struct {
-    walk *walk;
+struct site {
+    struct walk *walk;
     const uint8_t *end;
     uint32_t bound, level;
     const uint8_t *parent;
-} site;
+};
 
 /* Further expressions below a node of this level. */
-TEMPLATE place below(place from, const site *site, uint32_t level, uint32_t many, const int what)
+TEMPLATE struct place below(struct place from, const struct site *site, uint32_t level, uint32_t many, const int what)
 {
     return exprs(from, site->end, level + 1, many, site->bound, &site->walk->notes, what);
 }
 
 /* The next argument of a candidate, below a node of this level. */
-TEMPLATE place next_argument(place from, const site *site, uint32_t level, candidate *leaf, uint32_t which, const int what)
+TEMPLATE struct place next_argument(struct place from, const struct site *site, uint32_t level, struct candidate *leaf, uint32_t which,
+                                    const int what)
 {
-    notes *notes = &site->walk->notes;
+    struct notes *notes = &site->walk->notes;
     leaf->of[which].from = (uint16_t)offset(notes, from.at);
     leaf->of[which].column = (uint16_t)notes->columns;
     from = below(from, site, level, 1, what);
@@ -351,10 +352,10 @@ TEMPLATE place next_argument(place from, const site *site, uint32_t level, candi
 }
 
 /* A candidate that was read: one that matches is noted. */
-TEMPLATE int take(const site *site, const candidate *leaf, const uint8_t *at, const uint8_t *after, const int what)
+TEMPLATE int take(const struct site *site, const struct candidate *leaf, const uint8_t *at, const uint8_t *after, const int what)
 {
-    walk *walk = site->walk;
-    match *found = walk->match + (what & ALL ? walk->matches : 0);
+    struct walk *walk = site->walk;
+    struct match *found = walk->match + (what & ALL ? walk->matches : 0);
     if (!leaf_matches(leaf, walk->set, found)) {
         return 0;
     }
@@ -365,13 +366,13 @@ TEMPLATE int take(const site *site, const candidate *leaf, const uint8_t *at, co
     walk->matches = what & ALL ? walk->matches + 1 : 1;
     if (what & PICK && leaf->name == KNN) {
         walk->is_knn = 1;
-        walk->walk++;
+        walk->effort++;
     }
     return 1;
 }
 
 /* Whether a conjunct of this name could still be what is looked for. */
-TEMPLATE int is_wanted(const walk *walk, uint32_t name, uint32_t arguments, const int what)
+TEMPLATE int is_wanted(const struct walk *walk, uint32_t name, uint32_t arguments, const int what)
 {
     if (name == NO_NAME || arguments < 2 || arguments < arguments_needed(name) || (name == KNN && arguments > 5)) {
         return 0;
@@ -380,9 +381,9 @@ TEMPLATE int is_wanted(const walk *walk, uint32_t name, uint32_t arguments, cons
 }
 
 /* What becomes of a conjunct: of ALL, a part that does not stay; of WHY, a verdict. */
-TEMPLATE void judged(const site *site, const candidate *leaf, const uint8_t *at, const uint8_t *after, const int what)
+TEMPLATE void judged(const struct site *site, const struct candidate *leaf, const uint8_t *at, const uint8_t *after, const int what)
 {
-    walk *walk = site->walk;
+    struct walk *walk = site->walk;
     if (what & WHY) {
         walk->verdict[walk->leaves] = (uint8_t)candidate_verdict(leaf, walk->set);
     }
@@ -393,9 +394,10 @@ TEMPLATE void judged(const site *site, const candidate *leaf, const uint8_t *at,
 }
 
 /* The arguments of a call that is wanted. */
-TEMPLATE place read_candidate(place from, const site *site, uint32_t name, uint32_t arguments, const uint8_t *at, const int what)
+TEMPLATE struct place read_candidate(struct place from, const struct site *site, uint32_t name, uint32_t arguments, const uint8_t *at,
+                                     const int what)
 {
-    candidate leaf;
+    struct candidate leaf;
     uint32_t left = arguments - 2;
     leaf.name = name;
     leaf.form = SPATIALJOIN_FORM_DWITHIN;
@@ -424,9 +426,9 @@ TEMPLATE place read_candidate(place from, const site *site, uint32_t name, uint3
 }
 
 /* Of a logical frame: the bit of a name, and of the first KNN the schema that has all columns of its first argument. */
-TEMPLATE place read_named(place from, const site *site, uint32_t name, uint32_t arguments)
+TEMPLATE struct place read_named(struct place from, const struct site *site, uint32_t name, uint32_t arguments)
 {
-    walk *walk = site->walk;
+    struct walk *walk = site->walk;
     const uint32_t seen = walk->names;
     walk->names |= name == NO_NAME ? 0 : 1u << name;
     if (name == KNN && !(seen >> KNN & 1) && arguments > 0) {
@@ -437,9 +439,9 @@ TEMPLATE place read_named(place from, const site *site, uint32_t name, uint32_t 
     return from.at && arguments > 0 ? below(from, site, site->level, arguments, LOGICAL) : from;
 }
 
-TEMPLATE place read_call(place from, const site *site, const int what)
+TEMPLATE struct place read_call(struct place from, const struct site *site, const int what)
 {
-    walk *walk = site->walk;
+    struct walk *walk = site->walk;
     const uint8_t *at = from.at;
     const int refusal = function_refusal(at, (size_t)(site->end - at));
     uint32_t name, arguments;
@@ -467,9 +469,9 @@ TEMPLATE place read_call(place from, const site *site, const int what)
 }
 
 /* The side of a comparison that is looked at, where a call of st_distance stands there: its geometries. */
-TEMPLATE place read_distance(place from, const site *site, candidate *leaf, const int what)
+TEMPLATE struct place read_distance(struct place from, const struct site *site, struct candidate *leaf, const int what)
 {
-    walk *walk = site->walk;
+    struct walk *walk = site->walk;
     const uint8_t *at = from.at;
     const long node = from.nodes;
     leaf->arguments = at[13];
@@ -499,11 +501,11 @@ TEMPLATE place read_distance(place from, const site *site, candidate *leaf, cons
 }
 
 /* A comparison that could be looked for: its sides, of which one may be a distance and the other its bound. */
-TEMPLATE place read_comparison(place from, const site *site, uint32_t operator, const int what)
+TEMPLATE struct place read_comparison(struct place from, const struct site *site, uint32_t operator, const int what)
 {
     const uint8_t *at = from.at - 2, *child[2];
     const uint32_t looked_at = operator > SPATIALJOIN_OPERATOR_LT_EQ;
-    candidate leaf;
+    struct candidate leaf;
     uint32_t side;
     leaf.name = NO_NAME;
     leaf.form = operator;
@@ -530,23 +532,23 @@ TEMPLATE place read_comparison(place from, const site *site, uint32_t operator, 
     return from;
 }
 
-ONCE place pick_comparison(place from, const site *site, uint32_t operator)
+ONCE struct place pick_comparison(struct place from, const struct site *site, uint32_t operator)
 {
     return read_comparison(from, site, operator, PICK | TABLED | COLUMNS | SIDES);
 }
 
-ONCE place all_comparison(place from, const site *site, uint32_t operator)
+ONCE struct place all_comparison(struct place from, const struct site *site, uint32_t operator)
 {
     return read_comparison(from, site, operator, ALL | COLUMNS | SIDES);
 }
 
-ONCE place why_comparison(place from, const site *site, uint32_t operator)
+ONCE struct place why_comparison(struct place from, const struct site *site, uint32_t operator)
 {
     return read_comparison(from, site, operator, WHY | SIDES);
 }
 
 /* A comparison in which nothing is looked for but a distance that lacks arguments, or in a logical frame one. */
-TEMPLATE place pass_comparison(place from, const site *site, uint32_t operator, const int what)
+TEMPLATE struct place pass_comparison(struct place from, const struct site *site, uint32_t operator, const int what)
 {
     const uint8_t *looked_at = from.at;
     from = below(from, site, site->level, 1, what);
@@ -569,9 +571,9 @@ TEMPLATE place pass_comparison(place from, const site *site, uint32_t operator, 
 }
 
 /* Of an operator other than And. */
-TEMPLATE place read_binary(place from, const site *site, const int what)
+TEMPLATE struct place read_binary(struct place from, const struct site *site, const int what)
 {
-    walk *walk = site->walk;
+    struct walk *walk = site->walk;
     const uint32_t operator = from.at[1];
     from.at += 2;
     from.nodes++;
@@ -592,9 +594,9 @@ TEMPLATE place read_binary(place from, const site *site, const int what)
 }
 
 /* A column, a literal or another node. */
-TEMPLATE place read_other(place from, const site *site, const int what)
+TEMPLATE struct place read_other(struct place from, const struct site *site, const int what)
 {
-    walk *walk = site->walk;
+    struct walk *walk = site->walk;
     const uint8_t *at = from.at;
     const uint32_t children = what & WHY && at[0] == SPATIALJOIN_NODE_OTHER && site->end - at >= 4 ? at[3] : 0;
     if (children > 0 && children <= SPATIALJOIN_MOST_ARGUMENTS) {
@@ -610,7 +612,7 @@ TEMPLATE place read_other(place from, const site *site, const int what)
     return from;
 }
 
-TEMPLATE place read_conjunct(place from, const site *site, const int what)
+TEMPLATE struct place read_conjunct(struct place from, const struct site *site, const int what)
 {
     const uint8_t *at = from.at;
     const long node = from.nodes;
@@ -627,15 +629,15 @@ TEMPLATE place read_conjunct(place from, const site *site, const int what)
 /* ---- the walk */
 
 /* An And node that is open. */
-typedef struct {
+struct open_and {
     const uint8_t *at;
     uint32_t node, gap;
     uint16_t level;
     uint8_t is_right, stays; /* which child is read; whether of ALL the left one stays */
-} open_and;
+};
 
-/* Before anything of a node is read but its kind. */
-TEMPLATE int node_refusal(place from, const site *site, const int what)
+/* Before anything of a node is read but its kind, and of a binary one its operator. */
+TEMPLATE int node_refusal(struct place from, const struct site *site, const int what)
 {
     if (RARE(from.at >= site->end)) {
         return 3;
@@ -643,17 +645,20 @@ TEMPLATE int node_refusal(place from, const site *site, const int what)
     if (RARE(!is_kind(*from.at, what))) {
         return 4;
     }
-    return RARE(from.nodes >= MOST_NODES || site->level > MOST_LEVELS) ? 5 : 0;
+    if (RARE(from.nodes >= MOST_NODES || site->level > MOST_LEVELS)) {
+        return 5;
+    }
+    return *from.at == SPATIALJOIN_NODE_BINARY ? binary_refusal(from.at, (size_t)(site->end - from.at)) : 0;
 }
 
-TEMPLATE int start_and(walk *walk, open_and *and, place from, uint32_t level, const int what)
+TEMPLATE int start_and(struct walk *walk, struct open_and *and, struct place from, uint32_t level, const int what)
 {
     and->at = from.at;
     and->node = (uint32_t)from.nodes;
     and->level = (uint16_t)level;
     and->is_right = 0;
     if (what & PICK) {
-        walk->walk += !walk->is_knn;
+        walk->effort += !walk->is_knn;
     }
     if (what & ALL) {
         and->gap = walk->gaps++;
@@ -665,8 +670,8 @@ TEMPLATE int start_and(walk *walk, open_and *and, place from, uint32_t level, co
     return open_node(walk, (long)and->node, from.at, what);
 }
 
-/* Both children were read. Of ALL an And goes unless both stay; it stays in the sense of its parent if one does. */
-TEMPLATE int finish_and(walk *walk, const open_and *and, const uint8_t *after, uint32_t *stays, const int what)
+/* Both children were read. Of ALL an And goes unless both stay; and something of it stays if one of them does. */
+TEMPLATE int finish_and(struct walk *walk, const struct open_and *and, const uint8_t *after, uint32_t *stays, const int what)
 {
     if (what & ALL) {
         walk->gap[and->gap].to = (uint16_t)(walk->gap[and->gap].to + (*stays & and->stays ? 0 : 2));
@@ -676,46 +681,36 @@ TEMPLATE int finish_and(walk *walk, const open_and *and, const uint8_t *after, u
 }
 
 /* The filter that starts here, up to the frame's end. */
-TEMPLATE place read_filter(place from, const uint8_t *end, uint32_t bound, walk *walk, const int what)
+TEMPLATE struct place read_filter(struct place from, const uint8_t *end, uint32_t bound, struct walk *walk, const int what)
 {
-    open_and and[MOST_LEVELS + 2];
-    uint32_t open = 0, stays = 1;
-    site site = {walk, end, bound, 1, from.at};
+    struct open_and and[MOST_LEVELS + 2];
+    uint32_t open = 0, stays;
+    struct site site = {walk, end, bound, 1, from.at};
     for (;;) {
         const int refusal = node_refusal(from, &site, what);
         if (RARE(refusal)) {
             return refused(refusal);
         }
-        if (*from.at == SPATIALJOIN_NODE_BINARY) {
-            const int binary = binary_refusal(from.at, (size_t)(end - from.at));
-            if (RARE(binary)) {
-                return refused(binary);
+        if (*from.at == SPATIALJOIN_NODE_BINARY && from.at[1] == SPATIALJOIN_OPERATOR_AND) {
+            if (RARE(!start_and(walk, and + open, from, site.level, what))) {
+                return refused(10);
             }
-            if (from.at[1] == SPATIALJOIN_OPERATOR_AND) {
-                if (RARE(!start_and(walk, and + open, from, site.level, what))) {
-                    return refused(10);
-                }
-                open++;
-                site.parent = from.at;
-                site.level++;
-                from.at += 2;
-                from.nodes++;
-                continue;
-            }
+            open++;
+            site.parent = from.at;
+            site.level++;
+            from.at += 2;
+            from.nodes++;
+            continue;
         }
-        if (what & ALL) {
-            stays = walk->matches;
-        }
+        stays = walk->matches;
         from = read_conjunct(from, &site, what);
         if (RARE(!from.at)) {
             return from;
         }
+        stays = stays == walk->matches;
         walk->leaves++;
         if (what & PICK) {
-            walk->walk += !walk->is_knn;
-        }
-        if (what & ALL) {
-            stays = stays == walk->matches;
+            walk->effort += !walk->is_knn;
         }
         while (open > 0 && and[open - 1].is_right) {
             open--;

@@ -16,7 +16,7 @@ static inline void exchange_records(uint8_t *records, uint32_t count)
 }
 
 /* A relation's or a distance's geometries change places, of which the old ones stand in the scratch. */
-static inline void exchange_geometries(uint8_t *restrict plan, const uint8_t *restrict old, const extraction *held)
+static inline void exchange_geometries(uint8_t *restrict plan, const uint8_t *restrict old, const struct extraction *held)
 {
     const size_t first = (size_t)(held->argument[0] - plan), second = (size_t)(held->argument[1] - plan);
     const size_t end = (size_t)(held->argument[2] - plan);
@@ -26,8 +26,8 @@ static inline void exchange_geometries(uint8_t *restrict plan, const uint8_t *re
 
 static int64_t exchange_extraction(uint8_t *restrict plan, size_t n, uint8_t *restrict scratch, size_t scratch_len)
 {
-    extraction held;
-    walk walk;
+    struct extraction held;
+    struct walk walk;
     if (RARE(!is_extraction(plan, n, &held, &walk))) {
         return SPATIALJOIN_NO_GOOD_PLAN;
     }
@@ -53,8 +53,8 @@ static int64_t exchange_extraction(uint8_t *restrict plan, size_t n, uint8_t *re
 
 int64_t plain_exchange(uint8_t *restrict plan, size_t plan_len, size_t n, uint8_t *restrict scratch, size_t scratch_len)
 {
-    frame frame;
-    walk walk;
+    struct frame frame;
+    struct walk walk;
     const int refusal = held_refusal(plan_len, n);
     if (RARE(refusal)) {
         return -refusal;
@@ -79,18 +79,19 @@ int64_t plain_exchange(uint8_t *restrict plan, size_t plan_len, size_t n, uint8_
  * and that of a record alike. */
 enum { MOST_SOUGHT = MOST_NODES + SPATIALJOIN_MOST_RECORDS };
 
-typedef struct {
+struct sought {
     uint32_t count;
     uint16_t at[MOST_SOUGHT], index[MOST_SOUGHT], place[MOST_SOUGHT];
-} sought;
+};
 
-TEMPLATE void seek(sought *sought, const uint8_t *plan, uint32_t at)
+TEMPLATE void seek(struct sought *sought, const uint8_t *plan, uint32_t at)
 {
     sought->at[sought->count] = (uint16_t)at;
     sought->index[sought->count++] = (uint16_t)number_of_two(plan + at);
 }
 
-static inline void seek_argument(sought *sought, const uint8_t *plan, const walk *walk, const extraction *held, uint32_t which)
+static inline void seek_argument(struct sought *sought, const uint8_t *plan, const struct walk *walk, const struct extraction *held,
+                                 uint32_t which)
 {
     uint32_t c;
     for (c = held->column[which]; c < held->column[which + 1]; c++) {
@@ -99,7 +100,7 @@ static inline void seek_argument(sought *sought, const uint8_t *plan, const walk
 }
 
 /* By side: those of the geometries, of the bound, and of the remainder's records. */
-static inline void seek_all(sought *sides, const uint8_t *plan, const walk *walk, const extraction *held)
+static inline void seek_all(struct sought *sides, const uint8_t *plan, const struct walk *walk, const struct extraction *held)
 {
     const uint32_t first = plan[0] == SPATIALJOIN_KNN ? plan[8] : SPATIALJOIN_LEFT;
     uint32_t i;
@@ -134,7 +135,7 @@ static inline uint32_t first_equal(const uint16_t *list, uint32_t length, uint16
     return i;
 }
 
-static inline int find_one_by_one(sought *sought, const uint16_t *list, uint32_t length)
+static inline int find_one_by_one(struct sought *sought, const uint16_t *list, uint32_t length)
 {
     uint32_t i;
     for (i = 0; i < sought->count; i++) {
@@ -150,13 +151,13 @@ static inline int find_one_by_one(sought *sought, const uint16_t *list, uint32_t
 /* What is sought, each once, in open addresses: the child index and one more, and its place, or NOWHERE. */
 enum { NOWHERE = 0xffff, ADDRESSES = 4096 };
 
-typedef struct {
+struct addresses {
     uint32_t mask, shift, left;
     uint32_t key[ADDRESSES];
     uint16_t place[ADDRESSES];
-} addresses;
+};
 
-TEMPLATE uint32_t address_of(const addresses *table, uint32_t key)
+TEMPLATE uint32_t address_of(const struct addresses *table, uint32_t key)
 {
     uint32_t at = (key * 2654435769u) >> table->shift;
     while (table->key[at] && table->key[at] != key) {
@@ -165,7 +166,7 @@ TEMPLATE uint32_t address_of(const addresses *table, uint32_t key)
     return at;
 }
 
-static inline void fill_addresses(addresses *table, const sought *sought)
+static inline void fill_addresses(struct addresses *table, const struct sought *sought)
 {
     uint32_t i, bits = 4;
     while (1u << bits < 2 * sought->count) {
@@ -186,9 +187,9 @@ static inline void fill_addresses(addresses *table, const sought *sought)
 }
 
 /* Goes through the list once, until all are found. */
-static int find_all(sought *sought, const uint16_t *list, uint32_t length)
+static int find_all(struct sought *sought, const uint16_t *list, uint32_t length)
 {
-    addresses table;
+    struct addresses table;
     uint32_t i;
     fill_addresses(&table, sought);
     for (i = 0; i < length && table.left > 0; i++) {
@@ -205,12 +206,12 @@ static int find_all(sought *sought, const uint16_t *list, uint32_t length)
 }
 
 /* Whether the list has all of them. */
-static inline int find_places(sought *sought, const uint16_t *list, size_t length)
+static inline int find_places(struct sought *sought, const uint16_t *list, size_t length)
 {
     return sought->count <= 8 || length <= 16 ? find_one_by_one(sought, list, (uint32_t)length) : find_all(sought, list, (uint32_t)length);
 }
 
-static inline void put_places(uint8_t *plan, const sought *sought)
+static inline void put_places(uint8_t *plan, const struct sought *sought)
 {
     uint32_t i;
     for (i = 0; i < sought->count; i++) {
@@ -221,10 +222,10 @@ static inline void put_places(uint8_t *plan, const sought *sought)
 int64_t plain_project(uint8_t *restrict plan, size_t plan_len, size_t n, uint8_t *restrict scratch, size_t scratch_len,
                       const uint16_t *restrict left, size_t left_len, const uint16_t *restrict right, size_t right_len)
 {
-    frame frame;
-    extraction held;
-    walk walk;
-    sought sides[2];
+    struct frame frame;
+    struct extraction held;
+    struct walk walk;
+    struct sought sides[2];
     const int refusal = held_refusal(plan_len, n);
     if (RARE(refusal)) {
         return -refusal;

@@ -19,7 +19,7 @@ enum {
 enum { LEFT_BIT = 1, RIGHT_BIT = 2, MARK_BIT = 4 };
 
 /* What is noted. Nothing of it is cleared before. */
-typedef struct {
+struct notes {
     const uint8_t *base; /* places are counted from here */
     uint32_t levels;     /* ROWS */
     uint32_t columns;    /* COLUMNS: how many so far */
@@ -32,21 +32,21 @@ typedef struct {
     struct {
         uint16_t start, end;
     } row[MOST_NODES];
-} notes;
+};
 
 /* How far a pass came: past what was read, and how many nodes were read so far; or null and the refusal. */
-typedef struct {
+struct place {
     const uint8_t *at;
     long nodes;
-} place;
+};
 
-TEMPLATE place refused(int number)
+TEMPLATE struct place refused(int number)
 {
-    place none = {NULL, number};
+    struct place none = {NULL, number};
     return none;
 }
 
-TEMPLATE uint32_t offset(const notes *notes, const uint8_t *at)
+TEMPLATE uint32_t offset(const struct notes *notes, const uint8_t *at)
 {
     return (uint32_t)(at - notes->base);
 }
@@ -126,14 +126,14 @@ TEMPLATE int is_kind(uint32_t kind, const int what)
 }
 
 /* A node's own bytes: past them, and how many children follow; or null and the refusal. */
-typedef struct {
+struct own_bytes {
     const uint8_t *after;
     uint32_t children;
-} own_bytes;
+};
 
-TEMPLATE own_bytes read_own(const uint8_t *at, size_t left, uint32_t bound)
+TEMPLATE struct own_bytes read_own(const uint8_t *at, size_t left, uint32_t bound)
 {
-    own_bytes own = {NULL, 0};
+    struct own_bytes own = {NULL, 0};
     int refusal;
     switch (*at) {
     case SPATIALJOIN_NODE_COLUMN:
@@ -176,12 +176,12 @@ TEMPLATE own_bytes read_own(const uint8_t *at, size_t left, uint32_t bound)
 /* ---- the loop */
 
 /* What a pass has gathered so far. */
-typedef struct {
+struct gathered {
     uint32_t sides, columns, levels, children;
-} gathered;
+};
 
-/* Whether the table has this node, but for its end; if it is a node's turn to be noted, it is. */
-TEMPLATE int note_node(notes *notes, gathered *so_far, long node, const uint8_t *at, const uint8_t *after, const int what)
+/* Notes what there is to note of a node; whether the table has it, but for its end. */
+TEMPLATE int note_node(struct notes *notes, struct gathered *so_far, long node, const uint8_t *at, const uint8_t *after, const int what)
 {
     if (what & SIDES && *at == SPATIALJOIN_NODE_COLUMN) {
         so_far->sides |= notes->side_bit[number_of_two(at + 1)];
@@ -199,17 +199,32 @@ TEMPLATE int note_node(notes *notes, gathered *so_far, long node, const uint8_t 
     return !(what & TABLED) || (notes->table[node].kind == *at && notes->table[node].start == offset(notes, at));
 }
 
-/* Reads so many expressions that stand one after another, at this level. */
-TEMPLATE place read_exprs(place from, const uint8_t *end, uint32_t level, uint32_t many, uint32_t bound, notes *notes, const int what)
+/* Hands over what a pass has gathered. */
+TEMPLATE void finish_pass(struct notes *notes, const struct gathered *all, const int what)
+{
+    if (what & (SIDES | LOGICAL)) {
+        notes->sides = all->sides;
+    }
+    if (what & COLUMNS) {
+        notes->columns = all->columns;
+    }
+    if (what & ROWS && all->levels > notes->levels) {
+        notes->levels = all->levels;
+    }
+}
+
+/* Reads so many expressions that stand one after another, at this level. The loop keeps how many are to come below each open node. */
+TEMPLATE struct place read_exprs(struct place from, const uint8_t *end, uint32_t level, uint32_t many, uint32_t bound, struct notes *notes,
+                                 const int what)
 {
     uint8_t to_come[MOST_LEVELS + 2]; /* children of the open nodes, by their levels */
     uint32_t open[MOST_LEVELS + 2];   /* ROWS: which node is open; TABLED: where it ends by the table */
     const uint32_t first = level;
     const uint8_t *at = from.at;
     long nodes = from.nodes, most = level > MOST_LEVELS ? nodes : what & TABLED ? notes->most : MOST_NODES;
-    gathered so_far = {what & LOGICAL ? LEFT_BIT | RIGHT_BIT : 0, what & COLUMNS ? notes->columns : 0, level, 0};
+    struct gathered so_far = {what & LOGICAL ? LEFT_BIT | RIGHT_BIT : 0, what & COLUMNS ? notes->columns : 0, level, 0};
     while (many > 0) {
-        own_bytes own;
+        struct own_bytes own;
         uint32_t tabled_end = 0;
         many--;
         if (RARE(at >= end)) {
@@ -263,15 +278,7 @@ TEMPLATE place read_exprs(place from, const uint8_t *end, uint32_t level, uint32
             }
         }
     }
-    if (what & (SIDES | LOGICAL)) {
-        notes->sides = so_far.sides;
-    }
-    if (what & COLUMNS) {
-        notes->columns = so_far.columns;
-    }
-    if (what & ROWS && so_far.levels > notes->levels) {
-        notes->levels = so_far.levels;
-    }
+    finish_pass(notes, &so_far, what);
     from.at = at;
     from.nodes = nodes;
     return from;
@@ -279,10 +286,10 @@ TEMPLATE place read_exprs(place from, const uint8_t *end, uint32_t level, uint32
 
 /* ---- its copies, of which one is compiled for each call that needs it */
 
-#define PASS(name, what)                                                                                                             \
-    ONCE place name(place from, const uint8_t *end, uint32_t level, uint32_t many, uint32_t bound, notes *notes)                     \
-    {                                                                                                                                \
-        return read_exprs(from, end, level, many, bound, notes, what);                                                               \
+#define PASS(name, what)                                                                                                                  \
+    ONCE struct place name(struct place from, const uint8_t *end, uint32_t level, uint32_t many, uint32_t bound, struct notes *notes)     \
+    {                                                                                                                                     \
+        return read_exprs(from, end, level, many, bound, notes, what);                                                                    \
     }
 
 PASS(check_exprs, CHECK)
@@ -297,7 +304,8 @@ PASS(logical_exprs, LOGICAL)
 #undef PASS
 
 /* That of these notes. */
-TEMPLATE place exprs(place from, const uint8_t *end, uint32_t level, uint32_t many, uint32_t bound, notes *notes, const int what)
+TEMPLATE struct place exprs(struct place from, const uint8_t *end, uint32_t level, uint32_t many, uint32_t bound, struct notes *notes,
+                            const int what)
 {
     switch (what & (ROWS | TABLED | COLUMNS | SIDES | CHILDREN | LOGICAL)) {
     case ROWS: return row_exprs(from, end, level, many, bound, notes);

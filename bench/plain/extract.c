@@ -2,18 +2,19 @@
 #include "remainder.h"
 
 /* The one walk holds each node to the lent table. */
-ONCE int pick_frame(const uint8_t *plan, size_t n, frame *frame, walk *walk)
+ONCE int pick_frame(const uint8_t *plan, size_t n, struct frame *frame, struct walk *walk)
 {
     return read_whole_frame(plan, n, frame, walk, PICK | TABLED | COLUMNS | SIDES);
 }
 
 /* The extraction of the conjunct that was picked, from the old plan in the scratch: its length. */
-static inline int64_t write_extraction(uint8_t *restrict plan, const uint8_t *restrict old, size_t n, const frame *frame, const walk *walk)
+static inline int64_t write_extraction(uint8_t *restrict plan, const uint8_t *restrict old, size_t n, const struct frame *frame,
+                                       const struct walk *walk)
 {
-    const match *taken = walk->match;
+    const struct match *taken = walk->match;
     const uint32_t filter = 3 + RECORD * frame->count;
-    const gap gaps[2] = {{taken->parent, (uint16_t)(taken->parent + 2)}, {taken->leaf, taken->leaf_end}};
-    const leftover rest = {old, (uint32_t)n, filter, frame->count, &walk->notes, gaps, 2};
+    const struct gap gaps[2] = {{taken->parent, (uint16_t)(taken->parent + 2)}, {taken->leaf, taken->leaf_end}};
+    const struct leftover rest = {old, (uint32_t)n, filter, frame->count, &walk->notes, gaps, 2};
     uint8_t *to = write_predicate(plan, old, &walk->notes, taken);
     if (taken->leaf == filter) {
         *to++ = 0;
@@ -26,8 +27,8 @@ static inline int64_t write_extraction(uint8_t *restrict plan, const uint8_t *re
 int64_t plain_extract(uint8_t *restrict plan, size_t plan_len, size_t n, uint8_t *restrict scratch, size_t scratch_len,
                       const spatialjoin_node *restrict table, size_t table_len, uint8_t kinds, uint32_t default_k, uint32_t greatest_k)
 {
-    frame frame;
-    walk walk;
+    struct frame frame;
+    struct walk walk;
     int refusal;
     walk.set.kinds = kinds;
     walk.set.default_k = default_k;
@@ -40,7 +41,7 @@ int64_t plain_extract(uint8_t *restrict plan, size_t plan_len, size_t n, uint8_t
         return -refusal;
     }
     if (RARE(plan[0] != SPATIALJOIN_FRAME)) {
-        extraction held;
+        struct extraction held;
         return is_extraction(plan, n, &held, &walk) ? SPATIALJOIN_ALREADY_EXTRACTED : SPATIALJOIN_NO_GOOD_PLAN;
     }
     walk.notes.table = table;
@@ -52,21 +53,21 @@ int64_t plain_extract(uint8_t *restrict plan, size_t plan_len, size_t n, uint8_t
         return SPATIALJOIN_TOO_SHORT;
     }
     if (RARE(walk.matches == 0)) {
-        return SPATIALJOIN_NO_MATCH - (int64_t)walk.walk * 256;
+        return SPATIALJOIN_NO_MATCH - (int64_t)walk.effort * 256;
     }
     memcpy(scratch, plan, n);
-    return (int64_t)walk.walk * 65536 + write_extraction(plan, scratch, n, &frame, &walk);
+    return (int64_t)walk.effort * 65536 + write_extraction(plan, scratch, n, &frame, &walk);
 }
 
 /* ---- all conjuncts */
 
-ONCE int all_frame(const uint8_t *bytes, size_t length, frame *frame, walk *walk)
+ONCE int all_frame(const uint8_t *bytes, size_t length, struct frame *frame, struct walk *walk)
 {
     return read_whole_frame(bytes, length, frame, walk, ALL | COLUMNS | SIDES);
 }
 
 /* The predicates of KNN or of other conjuncts, in their order. */
-static inline uint8_t *write_predicates(uint8_t *to, const uint8_t *bytes, const walk *walk, int of_knn)
+static inline uint8_t *write_predicates(uint8_t *to, const uint8_t *bytes, const struct walk *walk, int of_knn)
 {
     uint32_t i;
     for (i = 0; i < walk->matches; i++) {
@@ -77,11 +78,11 @@ static inline uint8_t *write_predicates(uint8_t *to, const uint8_t *bytes, const
     return to;
 }
 
-/* Into an output that is as long as the frame: the length. Where every conjunct is taken there is one gap more than half of the nodes
- * that are And or conjunct: all of them. */
-static size_t write_all(uint8_t *restrict out, const uint8_t *restrict bytes, size_t length, const frame *frame, const walk *walk)
+/* Into an output that is as long as the frame: the length. */
+static size_t write_all(uint8_t *restrict out, const uint8_t *restrict bytes, size_t length, const struct frame *frame,
+                        const struct walk *walk)
 {
-    const leftover rest = {bytes, (uint32_t)length, 3 + RECORD * frame->count, frame->count, &walk->notes, walk->gap, walk->gaps};
+    const struct leftover rest = {bytes, (uint32_t)length, 3 + RECORD * frame->count, frame->count, &walk->notes, walk->gap, walk->gaps};
     uint8_t *to = out;
     if (walk->matches == 0) {
         memcpy(out, bytes, length);
@@ -98,8 +99,8 @@ static size_t write_all(uint8_t *restrict out, const uint8_t *restrict bytes, si
 }
 
 /* Into one that is shorter, by way of a buffer of its own. */
-ONCE int64_t write_short(uint8_t *restrict out, size_t out_len, const uint8_t *restrict bytes, size_t length, const frame *frame,
-                         const walk *walk)
+ONCE int64_t write_short(uint8_t *restrict out, size_t out_len, const uint8_t *restrict bytes, size_t length, const struct frame *frame,
+                         const struct walk *walk)
 {
     uint8_t whole[MOST_BYTES];
     const size_t written = write_all(whole, bytes, length, frame, walk);
@@ -113,8 +114,8 @@ ONCE int64_t write_short(uint8_t *restrict out, size_t out_len, const uint8_t *r
 int64_t plain_extract_all(const uint8_t *restrict bytes, size_t length, uint8_t *restrict out, size_t out_len, uint8_t kinds,
                           uint32_t default_k, uint32_t greatest_k)
 {
-    frame frame;
-    walk walk;
+    struct frame frame;
+    struct walk walk;
     int refusal;
     walk.set.kinds = kinds;
     walk.set.default_k = default_k;
@@ -134,13 +135,13 @@ int64_t plain_extract_all(const uint8_t *restrict bytes, size_t length, uint8_t 
 
 /* ---- verdicts */
 
-ONCE int why_frame(const uint8_t *bytes, size_t length, frame *frame, walk *walk)
+ONCE int why_frame(const uint8_t *bytes, size_t length, struct frame *frame, struct walk *walk)
 {
     return read_whole_frame(bytes, length, frame, walk, WHY | SIDES);
 }
 
 /* Line and position: of the first KNN that matches, else of the first match. */
-static inline int64_t bill_of(const walk *walk)
+static inline int64_t bill_of(const struct walk *walk)
 {
     int64_t bill = 0;
     uint32_t i;
@@ -159,8 +160,8 @@ static inline int64_t bill_of(const walk *walk)
 int64_t plain_explain(const uint8_t *restrict bytes, size_t length, uint8_t *restrict verdicts, size_t verdicts_len, uint8_t kinds,
                       uint32_t default_k, uint32_t greatest_k)
 {
-    frame frame;
-    walk walk;
+    struct frame frame;
+    struct walk walk;
     int refusal;
     walk.set.kinds = kinds;
     walk.set.default_k = default_k;

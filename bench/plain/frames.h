@@ -5,15 +5,15 @@
 #include "conjuncts.h"
 
 /* Where the parts of a good physical frame stand. */
-typedef struct {
+struct frame {
     const uint8_t *records, *filter;
     uint32_t count, nodes;
-} frame;
+};
 
 enum { RECORD = 5 }; /* bytes: side, child index (two), field tag (two) */
 
 /* The column count, which starts here, and the records: 0 or the refusal. */
-static inline int read_records(const uint8_t *at, const uint8_t *end, frame *frame)
+static inline int read_records(const uint8_t *at, const uint8_t *end, struct frame *frame)
 {
     uint32_t i, count, whole;
     int bad = 0;
@@ -44,7 +44,7 @@ static inline int read_records(const uint8_t *at, const uint8_t *end, frame *fra
 }
 
 /* The sides of the records as bits. */
-static inline void note_sides(const frame *frame, notes *notes)
+static inline void note_sides(const struct frame *frame, struct notes *notes)
 {
     static const uint8_t bits[3] = {LEFT_BIT, RIGHT_BIT, MARK_BIT};
     uint32_t i;
@@ -54,9 +54,9 @@ static inline void note_sides(const frame *frame, notes *notes)
 }
 
 /* A physical frame from its column count on, after so many nodes: 0, or a refusal of 3 to 8. */
-TEMPLATE int read_frame(const uint8_t *at, const uint8_t *end, long nodes, frame *frame, walk *walk, const int what)
+TEMPLATE int read_frame(const uint8_t *at, const uint8_t *end, long nodes, struct frame *frame, struct walk *walk, const int what)
 {
-    place from;
+    struct place from;
     const int refusal = read_records(at, end, frame);
     if (RARE(refusal)) {
         return refusal;
@@ -66,7 +66,7 @@ TEMPLATE int read_frame(const uint8_t *at, const uint8_t *end, long nodes, frame
     }
     walk->notes.columns = 0;
     walk->notes.levels = 1;
-    walk->leaves = walk->walk = walk->matches = walk->is_knn = walk->gaps = walk->lacks = 0;
+    walk->leaves = walk->effort = walk->matches = walk->is_knn = walk->gaps = walk->lacks = 0;
     from.at = frame->filter;
     from.nodes = nodes;
     from = read_filter(from, end, frame->count, walk, what);
@@ -81,7 +81,7 @@ TEMPLATE int read_frame(const uint8_t *at, const uint8_t *end, long nodes, frame
 }
 
 /* The bytes of a physical frame: 0, or a refusal of 1 to 8. */
-TEMPLATE int read_whole_frame(const uint8_t *bytes, size_t length, frame *frame, walk *walk, const int what)
+TEMPLATE int read_whole_frame(const uint8_t *bytes, size_t length, struct frame *frame, struct walk *walk, const int what)
 {
     if (RARE(length - 1 >= MOST_BYTES)) {
         return 1;
@@ -93,13 +93,13 @@ TEMPLATE int read_whole_frame(const uint8_t *bytes, size_t length, frame *frame,
     return read_frame(bytes + 1, bytes + length, 0, frame, walk, what);
 }
 
-ONCE int check_frame(const uint8_t *bytes, size_t length, frame *frame, walk *walk)
+ONCE int check_frame(const uint8_t *bytes, size_t length, struct frame *frame, struct walk *walk)
 {
     return read_whole_frame(bytes, length, frame, walk, CHECK);
 }
 
 /* With the start and the end of each node, and the levels. */
-ONCE int row_frame(const uint8_t *bytes, size_t length, frame *frame, walk *walk)
+ONCE int row_frame(const uint8_t *bytes, size_t length, struct frame *frame, struct walk *walk)
 {
     return read_whole_frame(bytes, length, frame, walk, ROWS);
 }
@@ -113,11 +113,11 @@ TEMPLATE int held_refusal(size_t plan_len, size_t n)
 }
 
 /* Where the parts of a good extraction stand, and the columns of its arguments among those that were noted. */
-typedef struct {
+struct extraction {
     const uint8_t *argument[4]; /* two geometries, a bound or nothing, and where they end */
     uint32_t column[4];
-    frame remainder; /* without one, of no records */
-} extraction;
+    struct frame remainder; /* without one, of no records */
+};
 
 /* Where the arguments of an extraction start; null where its fields are out of range. */
 static inline const uint8_t *read_fields(const uint8_t *plan, size_t n)
@@ -135,11 +135,11 @@ static inline const uint8_t *read_fields(const uint8_t *plan, size_t n)
 }
 
 /* Whether it is a good extraction. */
-TEMPLATE int read_extraction(const uint8_t *plan, size_t n, extraction *held, walk *walk, const int what)
+TEMPLATE int read_extraction(const uint8_t *plan, size_t n, struct extraction *held, struct walk *walk, const int what)
 {
     const uint8_t *end = plan + n;
     const uint32_t arguments = plan[0] == SPATIALJOIN_DISTANCE ? 3 : 2;
-    place from = {read_fields(plan, n), 0};
+    struct place from = {read_fields(plan, n), 0};
     uint32_t i;
     if (!from.at) {
         return 0;
@@ -168,13 +168,13 @@ TEMPLATE int read_extraction(const uint8_t *plan, size_t n, extraction *held, wa
     return read_frame(from.at + 1, end, from.nodes, &held->remainder, walk, CHECK) == 0;
 }
 
-ONCE int is_extraction(const uint8_t *plan, size_t n, extraction *held, walk *walk)
+ONCE int is_extraction(const uint8_t *plan, size_t n, struct extraction *held, struct walk *walk)
 {
     return read_extraction(plan, n, held, walk, CHECK);
 }
 
 /* With the columns of its arguments. */
-ONCE int is_extraction_with_columns(const uint8_t *plan, size_t n, extraction *held, walk *walk)
+ONCE int is_extraction_with_columns(const uint8_t *plan, size_t n, struct extraction *held, struct walk *walk)
 {
     return read_extraction(plan, n, held, walk, COLUMNS);
 }

@@ -3,8 +3,9 @@
  * yardstick for what the proved library costs, and nobody's product; ../README.md says how it was checked.
  *
  * A call makes one pass over its frame or plan, which checks it and notes only what this call needs (exprs.h, conjuncts.h): load and merge
- * where each node starts and ends; extract, that the lent table has each node, where columns stand and which conjunct is taken. What is
- * written is then copied in spans, and the columns in them are patched (remainder.h).
+ * where each node starts and ends; extract, that the lent table has each node, where columns stand and which conjunct is taken; extract_all
+ * which conjuncts match; explain a verdict for each. What is written is then copied in spans, and the columns in them are patched
+ * (remainder.h).
  *
  * All parts are compiled as one file, so that only the calls are seen outside.
  */

@@ -3,8 +3,8 @@
 
 int64_t plain_logical(const uint8_t *bytes, size_t length)
 {
-    walk walk;
-    place from;
+    struct walk walk;
+    struct place from;
     uint32_t names, count = 0;
     if (RARE(length - 1 >= MOST_BYTES)) {
         return SPATIALJOIN_FRAME_LENGTH;
@@ -12,7 +12,7 @@ int64_t plain_logical(const uint8_t *bytes, size_t length)
     if (RARE(bytes[0] != 2)) {
         return SPATIALJOIN_FIRST_BYTE;
     }
-    walk.names = walk.leaves = 0;
+    walk.names = walk.leaves = walk.matches = 0;
     walk.side = SPATIALJOIN_NO_SIDE;
     from.at = bytes + 1;
     from.nodes = 0;
@@ -86,9 +86,9 @@ ONCE uint32_t text_length(const uint8_t *at, const uint8_t *end)
 }
 
 /* An expression that is open: its children to come, and its operator, or LISTS for one with commas. */
-typedef struct {
+struct open_text {
     uint8_t children, operator;
-} open_text;
+};
 
 enum { LISTS = SPATIALJOIN_OPERATOR_LAST_OTHER + 1 };
 
@@ -148,7 +148,7 @@ TEMPLATE uint8_t *put_between(uint8_t *to, uint32_t operator)
 }
 
 /* A node's own text; of one that has children, what is open then. */
-TEMPLATE uint8_t *put_node(uint8_t *to, const uint8_t **from, open_text *opened)
+TEMPLATE uint8_t *put_node(uint8_t *to, const uint8_t **from, struct open_text *opened)
 {
     const uint8_t *at = *from;
     opened->children = 0;
@@ -185,7 +185,7 @@ TEMPLATE uint8_t *put_node(uint8_t *to, const uint8_t **from, open_text *opened)
 /* The text of a good filter; gives where it ends. */
 static inline uint8_t *put_text(uint8_t *to, const uint8_t *at, const uint8_t *end)
 {
-    open_text open[MOST_LEVELS + 2];
+    struct open_text open[MOST_LEVELS + 2];
     uint32_t level = 0;
     while (at < end) {
         to = put_node(to, &at, open + level);
@@ -205,8 +205,8 @@ static inline uint8_t *put_text(uint8_t *to, const uint8_t *at, const uint8_t *e
 
 int64_t plain_print(const uint8_t *restrict bytes, size_t length, uint8_t *restrict text, size_t text_len)
 {
-    frame frame;
-    walk walk;
+    struct frame frame;
+    struct walk walk;
     const int refusal = check_frame(bytes, length, &frame, &walk);
     if (RARE(refusal)) {
         return -refusal;

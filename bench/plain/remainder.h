@@ -7,7 +7,7 @@
 /* ---- a predicate */
 
 /* An argument with the child indexes of its columns: all of a frame's bytes are read from `old`. */
-static inline uint8_t *write_argument(uint8_t *to, const uint8_t *old, const notes *notes, const argument *argument)
+static inline uint8_t *write_argument(uint8_t *to, const uint8_t *old, const struct notes *notes, const struct argument *argument)
 {
     const uint8_t *records = old + 3;
     const uint32_t length = (uint32_t)argument->to - argument->from;
@@ -20,7 +20,7 @@ static inline uint8_t *write_argument(uint8_t *to, const uint8_t *old, const not
     return to + length;
 }
 
-static inline uint8_t *write_predicate(uint8_t *to, const uint8_t *old, const notes *notes, const match *taken)
+static inline uint8_t *write_predicate(uint8_t *to, const uint8_t *old, const struct notes *notes, const struct match *taken)
 {
     to[0] = taken->first;
     put_two(to + 1, taken->position);
@@ -45,22 +45,22 @@ static inline uint8_t *write_predicate(uint8_t *to, const uint8_t *old, const no
 /* ---- records */
 
 /* Which records stay, and which number each that stays gets. */
-typedef struct {
+struct pruning {
     const uint8_t *records;
     uint32_t count, referenced;
     uint8_t is_referenced[SPATIALJOIN_MOST_RECORDS];
     uint8_t number[SPATIALJOIN_MOST_RECORDS];
-} pruning;
+};
 
 /* Side and child index of a record as one number; never 0. */
-TEMPLATE uint32_t record_key(const pruning *pruning, uint32_t i)
+TEMPLATE uint32_t record_key(const struct pruning *pruning, uint32_t i)
 {
     const uint8_t *record = pruning->records + RECORD * i;
     return 1 + ((uint32_t)record[0] << 16 | number_of_two(record + 1));
 }
 
 /* Puts a record that stays after those before it. */
-TEMPLATE uint32_t keep_record(pruning *pruning, uint32_t i, uint8_t *to, uint32_t kept, int stays)
+TEMPLATE uint32_t keep_record(struct pruning *pruning, uint32_t i, uint8_t *to, uint32_t kept, int stays)
 {
     pruning->number[i] = (uint8_t)kept;
     if (stays) {
@@ -73,7 +73,7 @@ TEMPLATE uint32_t keep_record(pruning *pruning, uint32_t i, uint8_t *to, uint32_
 /* At most so many records are compared with all that are referenced. */
 enum { FEW_RECORDS = 16 };
 
-static inline uint32_t prune_few(pruning *pruning, uint8_t *to)
+static inline uint32_t prune_few(struct pruning *pruning, uint8_t *to)
 {
     uint32_t key[FEW_RECORDS], keys = 0, i, k, kept = 0;
     for (i = 0; i < pruning->count; i++) {
@@ -92,13 +92,13 @@ static inline uint32_t prune_few(pruning *pruning, uint8_t *to)
 }
 
 /* The keys of the referenced records, in open addresses. */
-typedef struct {
+struct key_set {
     uint32_t mask, shift;
     uint32_t key[4 * SPATIALJOIN_MOST_RECORDS];
-} key_set;
+};
 
 /* Where a key is, or would be. */
-TEMPLATE uint32_t key_place(const key_set *set, uint32_t key)
+TEMPLATE uint32_t key_place(const struct key_set *set, uint32_t key)
 {
     uint32_t place = (key * 2654435769u) >> set->shift;
     while (set->key[place] && set->key[place] != key) {
@@ -107,7 +107,7 @@ TEMPLATE uint32_t key_place(const key_set *set, uint32_t key)
     return place;
 }
 
-static void fill_keys(key_set *set, const pruning *pruning)
+static void fill_keys(struct key_set *set, const struct pruning *pruning)
 {
     uint32_t i, bits = 4;
     while (1u << bits < 2 * pruning->referenced + 2) {
@@ -125,9 +125,9 @@ static void fill_keys(key_set *set, const pruning *pruning)
 }
 
 /* Most records that are not referenced differ from all that are in the last byte of their child index: only the others are looked for. */
-static uint32_t prune_many(pruning *pruning, uint8_t *to)
+static uint32_t prune_many(struct pruning *pruning, uint8_t *to)
 {
-    key_set set;
+    struct key_set set;
     uint8_t last_byte[256];
     uint32_t i, kept = 0;
     int filled = 0;
@@ -150,7 +150,7 @@ static uint32_t prune_many(pruning *pruning, uint8_t *to)
 }
 
 /* Writes the records that stay, and gives how many they are. */
-static inline uint32_t prune(pruning *pruning, uint8_t *to)
+static inline uint32_t prune(struct pruning *pruning, uint8_t *to)
 {
     if (pruning->referenced == pruning->count) {
         memcpy(to, pruning->records, RECORD * pruning->count);
@@ -162,21 +162,21 @@ static inline uint32_t prune(pruning *pruning, uint8_t *to)
 /* ---- the remainder */
 
 /* What it is written from: a frame's bytes, and the parts of its filter that do not stay, from left to right. */
-typedef struct {
+struct leftover {
     const uint8_t *old;
     uint32_t length, filter, count;
-    const notes *notes;
-    const gap *gap;
+    const struct notes *notes;
+    const struct gap *gap;
     uint32_t gaps;
-} leftover;
+};
 
-TEMPLATE uint32_t index_of_column(const leftover *rest, uint32_t c)
+TEMPLATE uint32_t index_of_column(const struct leftover *rest, uint32_t c)
 {
     return number_of_two(rest->old + rest->notes->column[c] + 1);
 }
 
 /* Past the columns before this place. */
-TEMPLATE uint32_t columns_before(const leftover *rest, uint32_t c, uint32_t place)
+TEMPLATE uint32_t columns_before(const struct leftover *rest, uint32_t c, uint32_t place)
 {
     while (c < rest->notes->columns && rest->notes->column[c] < place) {
         c++;
@@ -185,7 +185,7 @@ TEMPLATE uint32_t columns_before(const leftover *rest, uint32_t c, uint32_t plac
 }
 
 /* Which records the columns that stay reference. */
-static inline void mark_referenced(const leftover *rest, pruning *pruning)
+static inline void mark_referenced(const struct leftover *rest, struct pruning *pruning)
 {
     uint32_t g, i, c = 0;
     pruning->records = rest->old + 3;
@@ -207,7 +207,7 @@ static inline void mark_referenced(const leftover *rest, pruning *pruning)
 }
 
 /* The filter without its gaps, its columns by their new numbers if some records went. */
-static inline uint8_t *write_filter(uint8_t *to, const leftover *rest, const pruning *pruning, int renumbers)
+static inline uint8_t *write_filter(uint8_t *to, const struct leftover *rest, const struct pruning *pruning, int renumbers)
 {
     uint32_t g, c = 0, from = rest->filter;
     for (g = 0; g <= rest->gaps; g++) {
@@ -229,9 +229,9 @@ static inline uint8_t *write_filter(uint8_t *to, const leftover *rest, const pru
 }
 
 /* A physical frame; gives where it ends. */
-static uint8_t *write_remainder(uint8_t *to, const leftover *rest)
+static uint8_t *write_remainder(uint8_t *to, const struct leftover *rest)
 {
-    pruning pruning;
+    struct pruning pruning;
     uint32_t kept;
     mark_referenced(rest, &pruning);
     kept = prune(&pruning, to + 3);
