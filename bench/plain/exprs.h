@@ -111,13 +111,10 @@ TEMPLATE int other_refusal(const uint8_t *at, size_t left)
 
 TEMPLATE int logical_column_refusal(const uint8_t *at, size_t left)
 {
-    if (RARE(left < 2)) {
-        return 3;
+    if (RARE(left < 4)) {
+        return left >= 2 && at[1] > (LEFT_BIT | RIGHT_BIT) ? 4 : 3;
     }
-    if (RARE(at[1] > (LEFT_BIT | RIGHT_BIT))) {
-        return 4;
-    }
-    return RARE(left < 4) ? 3 : 0;
+    return RARE(at[1] > (LEFT_BIT | RIGHT_BIT)) ? 4 : 0;
 }
 
 TEMPLATE int is_kind(uint32_t kind, const int what)

@@ -23,12 +23,14 @@ static inline int read_rows(struct rows *rows, const uint8_t *bytes, size_t leng
 }
 
 /* The table's records of a frame's nodes, which stand so many bytes further on by now. */
-static inline void fill_table(spatialjoin_node *table, const struct rows *rows, uint32_t moved)
+ONCE void fill_table(spatialjoin_node *table, const struct rows *rows, uint32_t moved)
 {
+    const uint8_t *bytes = rows->bytes;
+    const uint32_t nodes = rows->frame.nodes;
     uint32_t i;
-    for (i = 0; i < rows->frame.nodes; i++) {
+    for (i = 0; i < nodes; i++) {
         const uint32_t start = rows->walk.notes.row[i].start;
-        table[i].kind = rows->bytes[start];
+        table[i].kind = bytes[start];
         table[i].start = (uint16_t)(start + moved);
         table[i].end = (uint16_t)(rows->walk.notes.row[i].end + moved);
     }
@@ -58,11 +60,13 @@ int64_t plain_load(const uint8_t *restrict bytes, size_t length, uint8_t *restri
 /* The columns of the new filter, so many bytes further on, are those after the held ones. */
 static inline void raise_columns(uint8_t *plan, const struct rows *new, uint32_t moved, uint32_t by)
 {
+    const uint8_t *bytes = new->bytes;
+    const uint32_t nodes = new->frame.nodes;
     uint32_t i;
-    for (i = 0; i < new->frame.nodes; i++) {
+    for (i = 0; i < nodes; i++) {
         const uint32_t at = new->walk.notes.row[i].start;
-        if (new->bytes[at] == SPATIALJOIN_NODE_COLUMN) {
-            put_two(plan + at + moved + 1, number_of_two(new->bytes + at + 1) + by);
+        if (bytes[at] == SPATIALJOIN_NODE_COLUMN) {
+            put_two(plan + at + moved + 1, number_of_two(bytes + at + 1) + by);
         }
     }
 }
