@@ -1,4 +1,4 @@
-//! Times the library and the original Rust on the same frames and prints tables in Markdown.
+//! Times the library, the original Rust, plain Rust and plain C on the same frames and prints tables in Markdown.
 
 mod calls;
 mod check;
