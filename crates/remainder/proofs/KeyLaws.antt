@@ -1,13 +1,14 @@
--- A row of keys that is filled key by key.
-use Prim.Native.Nat.{ℕ, ◌+◌, ◌*◌, ◌≤◌, ◌<◌}
+-- A row of keys that is filled key by key, and the flags of their last bytes.
+use Prim.Native.Nat.{ℕ, ◌+◌, ◌*◌, ◌%◌, ◌≤◌, ◌<◌}
 use native.Mathlib.Omega.{arith}
-use mathlib.Core.Path.{◌≡◌, ◌∙◌}
+use mathlib.Core.Path.{◌≡◌, sym, ap, ◌∙◌}
 use mathlib.Core.Bool.{Bool, true, false}
 use mathlib.Core.List.{List}
 use lib.ListN.{length, take, get_or, set, length-set}
 use lib.Seq.{get_or-set_same, get_or-set_other, length-take-le, get_or-take}
 use borrow.Author.Count.{below_more}
-use Rattle.remainder.specs.Keys.{key_at, MarkedKey, Among, KeyRow}
+use Rattle.std.proofs.lemmas.Grind.{common_steps}
+use Rattle.remainder.specs.Keys.{key_at, MarkedKey, Among, AmongIs, Ended, KeyRow}
 
 -- The keys of the marked ones among the first `i` records are in the row.
 pub record Filled (s : List ℕ) (rec count : ℕ) (flags : List Bool) (keys : List ℕ) (n i : ℕ) (long : ℕ) : Type 0 where
@@ -65,3 +66,31 @@ keys-alone {keys = keys} {n = n} row =
       each = λ i b. rw (get_or-take n keys i 0 b) (row.each i b);
       all = λ i b m. let one = row.all i b m in (one.0, one.1, get_or-take n keys one.0 0 one.1 ∙ one.2);
     })
+
+-- ---- the flags of their last bytes
+
+set-stays : (flags : List Bool) (i k : ℕ) → i < length flags → get_or flags k false ≡ true → get_or (set flags i true) k false ≡ true
+set-stays flags i k inside is = grind (arith, common_steps)
+
+module _ {keys : List ℕ} {n : ℕ} {ends : List Bool} (e : Ended keys n ends) where
+  -- One key more.
+  pub ended-more : (key : ℕ) → n < length keys → Ended (set keys n key) (n + 1) (set ends (key % 256) true)
+  ended-more key room = record {
+    wide = simp length-set e.wide;
+    each = below_more (λ i. get_or (set ends (key % 256) true) (get_or (set keys n key) i 0 % 256) false ≡ true) n
+        (λ i b. rw (get_or-set_other keys n i key 0 (λ q. omega (arith, q)))
+        (set-stays ends (key % 256) (get_or keys i 0 % 256) (omega (arith, e.wide)) (e.each i b)))
+        (rw (get_or-set_same keys n key 0 room) (get_or-set_same ends (key % 256) true false (omega (arith, e.wide))));
+  }
+
+  -- The row without what comes after them.
+  pub ends-alone : n ≤ length keys → Ended (take n keys) (length (take n keys)) ends
+  ends-alone room = record {
+    wide = e.wide;
+    each = λ i b. let inside : i < n = omega (arith, b, length-take-le n keys room) in rw (get_or-take n keys i 0 inside) (e.each i inside);
+  }
+
+  -- A key whose last byte has no flag is not in the row.
+  pub end-apart : (key : ℕ) → get_or ends (key % 256) false ≡ false → AmongIs keys n key false
+  end-apart key unmarked = λ i b same.
+      let marked : get_or ends (key % 256) false ≡ true = ap (λ (k : ℕ). get_or ends (k % 256) false) (sym same) ∙ e.each i b in cc

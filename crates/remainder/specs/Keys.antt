@@ -1,5 +1,5 @@
 -- The keys of the marked columns' records, in a row.
-use Rattle.std.specs.Prelude.{ℕ, ◌+◌, ◌*◌, ◌≤◌, ◌<◌, ◌≡◌, Bool, true, false, List, length, get_or}
+use Rattle.std.specs.Prelude.{ℕ, ◌+◌, ◌*◌, ◌%◌, ◌≤◌, ◌<◌, ◌≡◌, Bool, true, false, List, length, get_or}
 use Rattle.expression.specs.Places.{short_at}
 
 -- The side and child index of the record at a place, as one number.
@@ -21,6 +21,11 @@ Among keys n key = (i : ℕ) × (i < n) × (get_or keys i 0 ≡ key)
 abbrev pub AmongIs : (keys : List ℕ) (n key : ℕ) → Bool → Type 0
 AmongIs keys n key true = Among keys n key
 AmongIs keys n key false = (i : ℕ) → i < n → get_or keys i 0 ≡ key → ⊥
+
+-- The last bytes of the first n of a row have flags.
+pub record Ended (keys : List ℕ) (n : ℕ) (ends : List Bool) : Type 0 where
+  pub wide : length ends ≡ 256
+  pub each : (i : ℕ) → i < n → get_or ends (get_or keys i 0 % 256) false ≡ true
 
 -- The first n of a row are the keys of the marked columns' records, of all and of no other.
 pub record KeyRow (s : List ℕ) (rec count : ℕ) (flags : List Bool) (keys : List ℕ) (n : ℕ) : Type 0 where

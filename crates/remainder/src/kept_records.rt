@@ -1,5 +1,5 @@
 // The records of the columns that stay, and the columns' new indexes. A record whose own column is marked stays at once; any other is
-// looked for by its key, which is in a row with those of all marked records.
+// looked for by its key, which is in a row with those of all marked records, if its last byte is that of one of them.
 ghost use Rattle.std.specs.Prelude.{◌≤◌, ◌<◌, length};
 ghost use Rattle.remainder.specs.Records.{Referenced, OneFits, OneKept, AllFit, RowsFit, RecordsKept, RecordsPut};
 
@@ -13,7 +13,11 @@ fn is_referenced(keyed: Keyed, j: usize) -> bool
     ensures { Referenced keyed.entry.marked.records.src.now keyed.entry.marked.records.rec keyed.entry.marked.records.count
         keyed.entry.marked.used.now j result }
 {
-    keyed.marked.used[j] || among(keyed.keys, record_key(keyed.marked.records, j))
+    if keyed.marked.used[j] {
+        return true;
+    }
+    let key = record_key(keyed.marked.records, j);
+    keyed.ends[(key % 256) as usize] && among(keyed.keys, key)
 }
 
 // Writes the record j if it stays, after those kept before it; answers how many are kept then.
@@ -55,10 +59,12 @@ fn keep_records(out: &mut [u8], to: &mut [u16], keys: &mut [u32], marked: Marked
     ensures { RecordsKept marked.entry.records.src.now marked.entry.records.rec marked.entry.records.count marked.entry.used.now
         out.old out.new to.new result }
 {
-    let n = marked_keys(keys, marked);
+    let mut ends = [false; 256];
+    let n = marked_keys(keys, &mut ends, marked);
     let keyed = Keyed {
         marked,
         keys: &keys[..n],
+        ends: &ends,
     };
     keep_each(out, to, keyed)
 }

@@ -1,6 +1,6 @@
 // The keys of records: side and child index as one number, those of marked columns in a row.
 ghost use Rattle.std.specs.Prelude.{◌≡◌, ◌+◌, ◌*◌, ◌≤◌, ◌<◌, length};
-ghost use Rattle.remainder.specs.Keys.{key_at, KeyRow, AmongIs};
+ghost use Rattle.remainder.specs.Keys.{key_at, Ended, KeyRow, AmongIs};
 
 use plan_writer::records::Records;
 
@@ -12,14 +12,16 @@ pub struct Marked<'a> {
     pub ghost flagged: { records.count ≤ length used.now },
 }
 
-// The same with the keys of the marked columns' records in a row. Several records may have one key, and a ghost field takes what has one
-// proof, so it keeps that there is a proof, not which record has which key.
+// The same with the keys of the marked columns' records in a row, and a flag for the last byte of each. Several records may have one key,
+// and a ghost field takes what has one proof, so it keeps that there is a proof, not which record has which key.
 #[derive(Clone, Copy)]
 pub struct Keyed<'a> {
     pub marked: Marked<'a>,
     pub keys: &'a [u32],
+    pub ends: &'a [bool],
     pub ghost row: { ∥ KeyRow marked.records.src.now marked.records.rec marked.records.count marked.used.now
         keys.now (length keys.now) ∥₁ },
+    pub ghost ended: { Ended keys.now (length keys.now) ends.now },
 }
 
 // The side and child index of the record j, as one number.
@@ -30,16 +32,20 @@ pub(crate) fn record_key(records: Records, j: usize) -> u32
     u32::from(records.side(j)) * 65536 + u32::from(records.child(j))
 }
 
-// Writes the keys of the marked columns' records in a row; answers how many there are.
-pub fn marked_keys(keys: &mut [u32], marked: Marked) -> usize
-    requires { marked.records.count ≤ length keys.old }
-    ensures { KeyRow marked.entry.records.src.now marked.entry.records.rec marked.entry.records.count marked.entry.used.now
+// Writes the keys of the marked columns' records in a row, and sets the flags of their last bytes; answers how many keys there are.
+pub fn marked_keys(keys: &mut [u32], ends: &mut [bool], marked: Marked) -> usize
+    requires room { marked.records.count ≤ length keys.old }
+    requires flags { length ends.old ≡ 256 }
+    ensures row { KeyRow marked.entry.records.src.now marked.entry.records.rec marked.entry.records.count marked.entry.used.now
         keys.new result }
+    ensures ended { Ended keys.new result ends.new }
 {
     let mut n = 0;
     for i in 0..marked.records.count {
         if marked.used[i] {
-            keys[n] = record_key(marked.records, i);
+            let key = record_key(marked.records, i);
+            keys[n] = key;
+            ends[(key % 256) as usize] = true;
             n += 1;
         }
     }

@@ -1,17 +1,25 @@
--- `marked_keys`: the keys of the marked ones among the records passed are in the row.
+-- `marked_keys`: the keys of the marked ones among the records passed are in the row, and their last bytes have flags.
+use Prim.Native.Nat.{◌<◌}
 use native.Mathlib.Omega.{arith}
-use Rattle.remainder.proofs.KeyLaws.{filled-marked, filled-passed}
+use lib.ListN.{length}
+use Rattle.remainder.proofs.KeyLaws.{filled-marked, filled-passed, ended-more}
 use Rattle.remainder.proofs.record_keys.marked_keys.Goals as goal
 use Rattle.remainder.proofs.record_keys.marked_keys.Goals.{then-marked-i, else-marked-i}
 
 pub loop-i-preserved : goal.loop-i-preserved
 loop-i-preserved c =
-    let loop = c.loop-i in
+    let inv = c.loop-i.invariant in
     let less = c.loop-i-test.true in
-    let row = loop.invariant.row in
     elim c.if-marked-i.branch [
       | then-marked-i w ↦
-          rw (w.keys-is, w.n-is) (filled-marked loop.invariant less w.if-marked-i.true
-          (omega (arith, row.few, loop.invariant.same, c.requires)) w.record_key.result w.record_key.ensures)
-      | else-marked-i w ↦ rw (w.keys-is, w.n-is) (filled-passed loop.invariant less w.if-marked-i.false)
+          let room : c.loop-i.n < length c.loop-i.keys = omega (arith, inv.filled.row.few, inv.filled.same, c.requires.room) in
+          let key = w.record_key-key in
+          rw (w.keys-is, w.ends-is, w.n-is) (record {
+            filled = filled-marked inv.filled less w.if-marked-i.true room key.result key.ensures;
+            ended = ended-more inv.ended key.result room;
+          })
+      | else-marked-i w ↦ rw (w.keys-is, w.ends-is, w.n-is) (record {
+        filled = filled-passed inv.filled less w.if-marked-i.false;
+        ended = inv.ended;
+      })
     ]
