@@ -69,7 +69,7 @@ struct walk {
 
 /* ---- whether a candidate matches */
 
-/* Of a literal: its type and its value; type 0 of anything else. */
+/* The type of a literal; of anything else that of a null, which is no number and no flag either. */
 TEMPLATE uint32_t literal_type(const uint8_t *at)
 {
     return at[0] == SPATIALJOIN_NODE_LITERAL ? at[1] : SPATIALJOIN_LITERAL_NULL;
@@ -168,12 +168,12 @@ static int geometries_verdict(const struct candidate *leaf)
 
 static int k_verdict(const uint8_t *at, uint32_t greatest_k)
 {
-    const uint64_t k = number_of_eight(at + 2);
-    const int is_negative = literal_type(at) <= SPATIALJOIN_LITERAL_INT64 && k >> 63 == 1;
+    uint64_t k;
     if (!is_number(at)) {
         return SPATIALJOIN_K_NO_NUMBER;
     }
-    if (k == 0 || is_negative) {
+    k = number_of_eight(at + 2);
+    if (k == 0 || (literal_type(at) <= SPATIALJOIN_LITERAL_INT64 && k >> 63 == 1)) {
         return SPATIALJOIN_K_BELOW_ONE;
     }
     return k > greatest_k ? SPATIALJOIN_K_ABOVE_GREATEST : 0;
@@ -345,9 +345,11 @@ TEMPLATE struct place next_argument(struct place from, const struct site *site, 
     leaf->of[which].from = (uint16_t)offset(notes, from.at);
     leaf->of[which].column = (uint16_t)notes->columns;
     from = below(from, site, level, 1, what);
-    leaf->sides[which] = notes->sides;
-    leaf->of[which].to = (uint16_t)offset(notes, from.at);
-    leaf->of[which].column_end = (uint16_t)notes->columns;
+    if (from.at) {
+        leaf->sides[which] = notes->sides;
+        leaf->of[which].to = (uint16_t)offset(notes, from.at);
+        leaf->of[which].column_end = (uint16_t)notes->columns;
+    }
     return from;
 }
 
