@@ -32,7 +32,8 @@ pub struct Listed {
     pub rounds: usize,
 }
 
-// A node that is no And.
+// A node that is no And. A function of its own once compiled too: inlined, it would give each level of the walk its room on the stack.
+#[inline(never)]
 fn list_leaf(
     knns: &mut [u8],
     others: &mut [u8],
