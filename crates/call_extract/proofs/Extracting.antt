@@ -22,6 +22,9 @@ use Rattle.theorems.proofs.ExtractGood.{GoodExtraction, good-by}
 use Rattle.frame_reader.specs.declared.frame_bodies.Frame as places
 use Rattle.plan_reader.specs.Plans.{HoldsFrame}
 use Rattle.leaf_matching.specs.Frames.{Over}
+use Rattle.expression.specs.Nodes.{OfTree}
+use Rattle.node_rows.specs.Rows.{Tabled}
+use Rattle.call_extract.specs.FrameRows.{Indexed}
 use Rattle.leaf_pick.specs.Picks.{TakenIs}
 use Rattle.leaf_pick.specs.declared.first_match.Pick as picks
 use Rattle.call_extract.specs.Extractions.{Taking, takes, ExtractionFits, ExtractionPut}
@@ -71,6 +74,12 @@ module _ (match : Matcher) (n : ℕ) (before scratch : List ℕ) {f : places.Fra
   -- The frame's expression over its records, where the pick looks.
   pub over : Over (take n before) f.records f.root F.records F.expr
   over = record { entries = between-holds h.stands.records; tree = expr-stands h.stands.expr }
+
+  -- The copy's nodes are in the rows too.
+  pub indexed-kept : {numbers next : List ℕ} → Indexed n before f numbers next → (after : List ℕ)
+      → after ≡ take n (drop 0 before) ++ drop n scratch → Indexed n after f numbers next
+  indexed-kept {numbers} {next} indexed after copied =
+      subst (λ (s : List ℕ). OfTree s f.root (Tabled numbers next f.root 0)) (sym (kept n before h.fits scratch after copied)) indexed
 
   module _ {Asks : Meaning → Type 0} (laws : Lawful match Asks) (bytes : AllBytes before) (p : picks.Pick)
       (t : TakenIs match (take n before) f.records f.root p F.records F.expr) where

@@ -54,7 +54,7 @@ pub fn extract_frame(
         },
         Some(pick) => {
             copy_bytes(scratch, plan, 0, n);
-            let length = put_extraction(plan, &scratch[..n], held.frame, pick);
+            let length = put_extraction(plan, &scratch[..n], held.frame, held.rows, pick);
             Extracted {
                 answer: Ok(length),
                 walk,

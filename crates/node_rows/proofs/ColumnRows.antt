@@ -1,11 +1,11 @@
 -- The column nodes of an expression are the columns in its row: a loop over the row that does something at each column is a fold over them.
 use Rattle.std.specs.Prelude.{if◌then◌else◌, fold}
-use Prim.Native.Nat.{ℕ, suc, ◌+◌, ◌*◌, ◌-◌, ◌/◌, ◌≤◌, ◌<◌}
+use Prim.Native.Nat.{ℕ, suc, ◌+◌, ◌-◌, ◌/◌, ◌≤◌, ◌<◌}
 use native.Mathlib.Omega.{arith}
 use native.Mathlib.Numerals.{add-one}
 use mathlib.Core.Path.{◌≡◌, refl, sym, ap, ap₂, ◌∙◌, subst}
 use mathlib.Core.Bool.{Bool, true, false}
-use mathlib.Core.List.{List, [], ◌∷◌, ◌++◌, map, map-append}
+use mathlib.Core.List.{List, [], ◌∷◌, ◌++◌, map, map-append, append-nil}
 use lib.ListN.{length, take, drop, get_or, length-append}
 use lib.Seq.{drop-cons}
 use lib.Dec.{ltb}
@@ -19,14 +19,14 @@ use Rattle.definitions.specs.Good.{All, Short, ColumnInRange, nodes}
 use Rattle.definitions.specs.NodeTable.{NodeRecord, kind_byte, record_of, nodes_from, row_from}
 use Rattle.theorems.proofs.Columns.{all_append}
 use Rattle.expression.specs.Places.{short_at}
-use Rattle.expression.specs.Nodes.{head_bytes, children_of, Stands, Row}
+use Rattle.expression.specs.Nodes.{head_bytes, children_of, kind_of, Stands, Row}
 use Rattle.expression.proofs.Placed.{fits, front, next}
 use Rattle.expression.proofs.Records.{short-is}
 use Rattle.expression.proofs.Standing.{head-stands, children-stand, first-stands, rest-stands, some_bytes}
 use Rattle.writing.proofs.Written.{taken}
 use Rattle.node_rows.specs.Numbers.{number, numbers_from, row_numbers}
 use Rattle.node_rows.specs.Rows.{Tabled}
-use Rattle.node_rows.proofs.NumberLaws.{Told, number-told}
+use Rattle.node_rows.proofs.NumberLaws.{number-told}
 use Rattle.node_rows.proofs.RowLaws.{node-told, numbers-length}
 
 -- ---- where the columns stand
@@ -68,10 +68,10 @@ module _ {c : Columns} {s : List ℕ} where
   sides-row {at} {t} {l} {r} h two is =
       subst (Row c s (at + 2) 2) is (children-stand h (at + 2) 2 (omega arith) (sym (ap count is)))
 
-  second : (at : ℕ) {l r : Expr} → Row c s (at + 2) 2 (cons l (cons r nil)) → Stands c s (at + 2 + length (expr_bytes l)) r
+  pub second : (at : ℕ) {l r : Expr} → Row c s (at + 2) 2 (cons l (cons r nil)) → Stands c s (at + 2 + length (expr_bytes l)) r
   second at {l} row = first-stands (rest-stands row (at + 2 + length (expr_bytes l)) 1 refl refl)
 
-  and-row : {at : ℕ} (l r : Expr) → Stands c s at (and l r) → Row c s (at + 2) 2 (cons l (cons r nil))
+  pub and-row : {at : ℕ} (l r : Expr) → Stands c s at (and l r) → Row c s (at + 2) 2 (cons l (cons r nil))
   unfolding head_bytes children_of
   and-row l r h = sides-row h refl refl
 
@@ -118,7 +118,7 @@ module _ {c : Columns} {s : List ℕ} where
           (each-column at t (first-stands h)) (each_in_row (at + length (expr_bytes t)) (count ts) ts (rest-row h))
 
   -- Their indexes are the expression's.
-  column-index : {at : ℕ} (i g : ℕ) → Stands c s at (column i g) → index_in s at ≡ i
+  pub column-index : {at : ℕ} (i g : ℕ) → Stands c s at (column i g) → index_in s at ≡ i
   unfolding head_bytes
   column-index {at} i g h = short-is (front (big_endian 2 i) (big_endian 2 g) (next (head-stands h) (at + 1) refl)) (index-short c i g h.in_range)
 
@@ -145,6 +145,124 @@ module _ {c : Columns} {s : List ℕ} where
     row_read at n (cons t ts) h =
         both-read s (columns_at at t) (row_columns_at (at + length (expr_bytes t)) ts) (columns_of t) (columns_of_all ts)
         (columns-read at t (first-stands h)) (row_read (at + length (expr_bytes t)) (count ts) ts (rest-row h))
+
+-- ---- where they stand in the expression's bytes
+
+mutual
+  unfolding columns_at row_columns_at expr_bytes exprs_bytes big_endian
+
+  -- Each has its five bytes there.
+  pub columns-within : (low high at : ℕ) (t : Expr) → low ≤ at → at + length (expr_bytes t) ≤ high
+      → All (λ p. (low ≤ p) × (p + 5 ≤ high)) (columns_at at t)
+  columns-within low high at (column i g) a b = ((a, omega arith), tt)
+  columns-within low high at (literal y v) a b = tt
+  columns-within low high at (and l r) a b =
+      let k = simp length-append at b in
+      all_append (λ p. (low ≤ p) × (p + 5 ≤ high)) (columns_at (at + 2) l) (columns_at (at + 2 + length (expr_bytes l)) r)
+      (columns-within low high (at + 2) l (omega arith) (omega (arith, k)))
+      (columns-within low high (at + 2 + length (expr_bytes l)) r (omega arith) (omega (arith, k)))
+  columns-within low high at (binary o l r) a b =
+      let k = simp length-append at b in
+      all_append (λ p. (low ≤ p) × (p + 5 ≤ high)) (columns_at (at + 2) l) (columns_at (at + 2 + length (expr_bytes l)) r)
+      (columns-within low high (at + 2) l (omega arith) (omega (arith, k)))
+      (columns-within low high (at + 2 + length (expr_bytes l)) r (omega arith) (omega (arith, k)))
+  columns-within low high at (call name ts) a b =
+      row-within low high (at + (3 + length name)) ts (omega arith) (omega (arith, simp length-append at b))
+  columns-within low high at (other g ts) a b = row-within low high (at + 4) ts (omega arith) (omega (arith, simp length-append at b))
+  columns-within low high at (field x g) a b = tt
+
+  row-within : (low high at : ℕ) (ts : Exprs) → low ≤ at → at + length (exprs_bytes ts) ≤ high
+      → All (λ p. (low ≤ p) × (p + 5 ≤ high)) (row_columns_at at ts)
+  row-within low high at nil a b = tt
+  row-within low high at (cons t ts) a b =
+      let k = simp length-append at b in
+      all_append (λ p. (low ≤ p) × (p + 5 ≤ high)) (columns_at at t) (row_columns_at (at + length (expr_bytes t)) ts)
+      (columns-within low high at t a (omega (arith, k)))
+      (row-within low high (at + length (expr_bytes t)) ts (omega arith) (omega (arith, k)))
+
+-- Elsewhere they stand alike: f moves what stands from `at` on for n bytes to o.
+abbrev pub Moves : (f : ℕ → ℕ) (at o n : ℕ) → Type 0
+Moves f at o n = (p : ℕ) → at ≤ p → p < at + n → f p + at ≡ p + o
+
+module _ (f : ℕ → ℕ) where
+  both-moved : (x y u v : List ℕ) → map f x ≡ u → map f y ≡ v → map f (x ++ y) ≡ u ++ v
+  both-moved x y u v e k = map-append f x y ∙ ap₂ ◌++◌ e k
+
+  mutual
+    unfolding columns_at row_columns_at expr_bytes exprs_bytes big_endian
+
+    pub columns-moved : (at o : ℕ) (t : Expr) → Moves f at o (length (expr_bytes t)) → map f (columns_at at t) ≡ columns_at o t
+    columns-moved at o (column i g) m = ap (λ (k : ℕ). k ∷ []) (omega (arith, m at (omega arith) (omega arith)))
+    columns-moved at o (literal y v) m = refl
+    columns-moved at o (and l r) m =
+        let size : length (expr_bytes l ++ expr_bytes r) ≡ length (expr_bytes l) + length (expr_bytes r) =
+        length-append (expr_bytes l) (expr_bytes r) in
+        both-moved (columns_at (at + 2) l) (columns_at (at + 2 + length (expr_bytes l)) r) (columns_at (o + 2) l)
+        (columns_at (o + 2 + length (expr_bytes l)) r)
+        (columns-moved (at + 2) (o + 2) l (λ p a b. omega (arith, m p (omega arith) (omega (arith, size)))))
+        (columns-moved (at + 2 + length (expr_bytes l)) (o + 2 + length (expr_bytes l)) r
+        (λ p a b. omega (arith, m p (omega arith) (omega (arith, size)))))
+    columns-moved at o (binary q l r) m =
+        let size : length (expr_bytes l ++ expr_bytes r) ≡ length (expr_bytes l) + length (expr_bytes r) =
+        length-append (expr_bytes l) (expr_bytes r) in
+        both-moved (columns_at (at + 2) l) (columns_at (at + 2 + length (expr_bytes l)) r) (columns_at (o + 2) l)
+        (columns_at (o + 2 + length (expr_bytes l)) r)
+        (columns-moved (at + 2) (o + 2) l (λ p a b. omega (arith, m p (omega arith) (omega (arith, size)))))
+        (columns-moved (at + 2 + length (expr_bytes l)) (o + 2 + length (expr_bytes l)) r
+        (λ p a b. omega (arith, m p (omega arith) (omega (arith, size)))))
+    columns-moved at o (call name ts) m =
+        let size : length (expr_bytes (call name ts)) ≡ 3 + length name + length (exprs_bytes ts) = simp length-append (omega arith) in
+        row-moved (at + (3 + length name)) (o + (3 + length name)) ts
+        (λ p a b. omega (arith, m p (omega arith) (omega (arith, size))))
+    columns-moved at o (other g ts) m =
+        let size : length (expr_bytes (other g ts)) ≡ 4 + length (exprs_bytes ts) = omega arith in
+        row-moved (at + 4) (o + 4) ts (λ p a b. omega (arith, m p (omega arith) (omega (arith, size))))
+    columns-moved at o (field x g) m = refl
+
+    row-moved : (at o : ℕ) (ts : Exprs) → Moves f at o (length (exprs_bytes ts)) → map f (row_columns_at at ts) ≡ row_columns_at o ts
+    row-moved at o nil m = refl
+    row-moved at o (cons t ts) m =
+        let size : length (expr_bytes t ++ exprs_bytes ts) ≡ length (expr_bytes t) + length (exprs_bytes ts) =
+        length-append (expr_bytes t) (exprs_bytes ts) in
+        both-moved (columns_at at t) (row_columns_at (at + length (expr_bytes t)) ts) (columns_at o t)
+        (row_columns_at (o + length (expr_bytes t)) ts)
+        (columns-moved at o t (λ p a b. m p a (omega (arith, size))))
+        (row-moved (at + length (expr_bytes t)) (o + length (expr_bytes t)) ts
+        (λ p a b. omega (arith, m p (omega arith) (omega (arith, size)))))
+
+-- There are as many as indexes.
+mutual
+  unfolding columns_at row_columns_at columns_of columns_of_all
+
+  pub columns-count : (at : ℕ) (t : Expr) → length (columns_at at t) ≡ length (columns_of t)
+  columns-count at (column i g) = refl
+  columns-count at (literal y v) = refl
+  columns-count at (and l r) =
+      simp length-append (ap₂ ◌+◌ (columns-count (at + 2) l) (columns-count (at + 2 + length (expr_bytes l)) r))
+  columns-count at (binary o l r) =
+      simp length-append (ap₂ ◌+◌ (columns-count (at + 2) l) (columns-count (at + 2 + length (expr_bytes l)) r))
+  columns-count at (call name ts) = row-columns-count (at + (3 + length name)) ts
+  columns-count at (other g ts) = row-columns-count (at + 4) ts
+  columns-count at (field b g) = refl
+
+  row-columns-count : (at : ℕ) (ts : Exprs) → length (row_columns_at at ts) ≡ length (columns_of_all ts)
+  row-columns-count at nil = refl
+  row-columns-count at (cons t ts) =
+      simp length-append (ap₂ ◌+◌ (columns-count at t) (row-columns-count (at + length (expr_bytes t)) ts))
+
+-- A node that is no column has those of its children, after its head.
+pub columns-below : (at : ℕ) (t : Expr) → (kind_of t ≡ 0 → ⊥)
+    → columns_at at t ≡ row_columns_at (at + length (head_bytes t)) (children_of t)
+unfolding columns_at row_columns_at kind_of head_bytes children_of big_endian
+columns-below at (column i g) n = absurd (n refl)
+columns-below at (literal y v) n = refl
+columns-below at (and l r) n =
+    sym (ap (λ (x : List ℕ). columns_at (at + 2) l ++ x) (append-nil (columns_at (at + 2 + length (expr_bytes l)) r)))
+columns-below at (binary o l r) n =
+    sym (ap (λ (x : List ℕ). columns_at (at + 2) l ++ x) (append-nil (columns_at (at + 2 + length (expr_bytes l)) r)))
+columns-below at (call name ts) n = ap (λ (p : ℕ). row_columns_at p ts) (simp length-append (omega arith))
+columns-below at (other g ts) n = refl
+columns-below at (field b g) n = refl
 
 -- ---- the columns of a row
 

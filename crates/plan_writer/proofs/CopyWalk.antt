@@ -25,7 +25,7 @@ use Rattle.plan_writer.proofs.Fields.{column-is, column-size}
 -- ---- what is written for a node
 
 -- Its head, and its children with their indexes changed.
-map-node : (f : ℕ → ℕ) (t : Expr) → (kind_of t ≡ 0 → ⊥)
+pub map-node : (f : ℕ → ℕ) (t : Expr) → (kind_of t ≡ 0 → ⊥)
     → expr_bytes (map_columns f t) ≡ head_bytes t ++ exprs_bytes (map_columns_all f (children_of t))
 unfolding kind_of expr_bytes head_bytes children_of map_columns
 map-node f (column i g) n = absurd (n refl)

@@ -1,10 +1,10 @@
--- What a cut leaves: where it lies, which expression is left, and what a walk over the And nodes makes of it.
-use Rattle.std.specs.Prelude.{if◌then◌else◌}
+-- What is left of an expression without one of its AND-leaves: which node goes, and the bytes before, between and behind what goes.
 use Prim.Native.Nat.{ℕ, ◌+◌, ◌-◌, ◌≤◌, ◌<◌}
 use native.Mathlib.Omega.{arith}
-use mathlib.Core.Path.{◌≡◌, refl, sym, ap, ap₂, ◌∙◌, subst}
+use mathlib.Core.Path.{◌≡◌, refl, sym, ap, ◌∙◌, subst}
 use mathlib.Core.Bool.{Bool}
-use mathlib.Core.List.{List, [], ◌∷◌, ◌++◌, append-nil}
+use Rattle.std.specs.Prelude.{if◌then◌else◌}
+use mathlib.Core.List.{List, [], ◌∷◌, ◌++◌, append_assoc, append-nil}
 use mathlib.Core.Option.{Option, none, some}
 use lib.ListN.{length, length-append}
 use borrow.Author.Tests.{lt-ltb, le-ltb}
@@ -14,38 +14,31 @@ use Rattle.definitions.specs.Leaves.{leaves}
 use Rattle.definitions.specs.Decode.{Columns}
 use Rattle.definitions.specs.Extract.{without, and_left, and_right}
 use Rattle.definitions.specs.Good.{InRange}
-use Rattle.theorems.proofs.Taken.{Taken, RestIs, rest-in-range}
 use Rattle.expression.specs.Nodes.{left_of, right_of}
-use Rattle.expression.proofs.Standing.{some_bytes}
-use Rattle.remainder.specs.Around.{inside, around, EndsInside, Ends}
 use Rattle.expression.specs.Cuts.{CutAt, here, in_left, in_right}
 use Rattle.expression.specs.declared.cuts.Cut.{Cut}
 use Rattle.expression.proofs.AndLeaves.{no-and, position-below}
-use Rattle.remainder.proofs.AroundLaws.{at_leaf, not-leaf, lone-around}
 
 -- An And has the bytes of its sides and two more.
-size-and : (l r : Expr) → length (expr_bytes (and l r)) ≡ 2 + length (expr_bytes l) + length (expr_bytes r)
+pub size-and : (l r : Expr) → length (expr_bytes (and l r)) ≡ 2 + length (expr_bytes l) + length (expr_bytes r)
 unfolding expr_bytes
 size-and l r = simp length-append (omega arith)
 
--- ---- what is left
+-- ---- which node goes
+
+-- e is left of the expression t at a place: one side of the And above the leaf, with the And nodes above that.
+pub data LeftOf (cut : Cut) : (at : ℕ) (t e : Expr) → Type 0 where
+  first_goes : {at : ℕ} {l r : Expr} → cut.parent ≡ at → cut.leaf ≡ left_of at → cut.end ≡ right_of at l → LeftOf cut at (and l r) r
+  second_goes : {at : ℕ} {l r : Expr} → cut.parent ≡ at → cut.leaf ≡ right_of at l → cut.end ≡ right_of at l + length (expr_bytes r)
+      → LeftOf cut at (and l r) l
+  in_first : {at : ℕ} {l r e : Expr} → LeftOf cut (left_of at) l e → LeftOf cut at (and l r) (and e r)
+  in_second : {at : ℕ} {l r e : Expr} → LeftOf cut (right_of at l) r e → LeftOf cut at (and l r) (and l e)
 
 -- The other AND-leaves, as they were joined.
 rest : {cut : Cut} {up : ℕ} {t : Expr} {at position : ℕ} → CutAt cut up t at position → Option Expr
 rest (here lone leaf end parent) = none
 rest (in_left {r = r} c) = some (and_left (rest c) r)
 rest (in_right {l = l} c) = some (and_right l (rest c))
-
-taken-leaf : {cut : Cut} {up : ℕ} {t : Expr} {at position : ℕ} → CutAt cut up t at position → Expr
-taken-leaf (here {t = t} lone leaf end parent) = t
-taken-leaf (in_left c) = taken-leaf c
-taken-leaf (in_right c) = taken-leaf c
-
-cut-taken : {cut : Cut} {up : ℕ} {t : Expr} {at position : ℕ} (c : CutAt cut up t at position) → Taken t (taken-leaf c) (rest c)
-unfolding rest taken-leaf
-cut-taken (here lone leaf end parent) = Taken.here
-cut-taken (in_left {r = r} c) = Taken.in_left r (cut-taken c)
-cut-taken (in_right {l = l} c) = Taken.in_right l (cut-taken c)
 
 lone-without : (t : Expr) → leaves t ≡ t ∷ [] → (i : ℕ) → without i t ≡ none
 unfolding without
@@ -80,210 +73,158 @@ rest-without (in_left {l = l} {r = r} {position = i} c) =
 rest-without (in_right {l = l} {r = r} {position = i} c) =
     without-right i (length (leaves l) + i) l r refl ∙ ap (λ (o : Option Expr). some (and_right l o)) (rest-without c)
 
--- ---- where it lies
+-- Either the leaf is the whole expression, or something is left.
+data Cutting (cut : Cut) (up : ℕ) (t : Expr) (at : ℕ) : Option Expr → Type 0 where
+  whole : cut.leaf ≡ at → cut.end ≡ at + length (expr_bytes t) → cut.parent ≡ up → Cutting cut up t at none
+  partly : {e : Expr} → LeftOf cut at t e → Cutting cut up t at (some e)
 
--- Below the And above; its parent is that And, or lies in the expression.
-record Spans (cut : Cut) (up : ℕ) (t : Expr) (at : ℕ) : Type 0 where
-  low : up ≤ cut.parent
-  gap : up < cut.parent → cut.parent < at → ⊥
-  parent : cut.parent < cut.leaf
-  leaf : at ≤ cut.leaf
-  some : cut.leaf < cut.end
-  end : cut.end ≤ at + length (expr_bytes t)
+from-left : {cut : Cut} {up at : ℕ} {l r : Expr} {o : Option Expr} → Cutting cut at l (left_of at) o
+    → Cutting cut up (and l r) at (some (and_left o r))
+unfolding and_left
+from-left (whole leaf end parent) = partly (first_goes parent leaf end)
+from-left (partly e) = partly (in_first e)
 
--- What lies so in a side lies so in the And.
-above : {cut : Cut} {up at place : ℕ} {t side : Expr} → up < at → at < place → place + length (expr_bytes side) ≤ at + length (expr_bytes t)
-    → Spans cut at side place → Spans cut up t at
-above lt further within s =
+from-right : {cut : Cut} {up at : ℕ} {l r : Expr} {o : Option Expr} → Cutting cut at r (right_of at l) o
+    → Cutting cut up (and l r) at (some (and_right l o))
+unfolding and_right
+from-right (whole leaf end parent) = partly (second_goes parent leaf end)
+from-right (partly e) = partly (in_second e)
+
+cutting-of : {cut : Cut} {up : ℕ} {t : Expr} {at position : ℕ} (c : CutAt cut up t at position) → Cutting cut up t at (rest c)
+unfolding rest
+cutting-of (here lone leaf end parent) = whole leaf end parent
+cutting-of (in_left c) = from-left (cutting-of c)
+cutting-of (in_right c) = from-right (cutting-of c)
+
+parted : {cut : Cut} {up : ℕ} {t e : Expr} {at : ℕ} {o : Option Expr} → Cutting cut up t at o → o ≡ some e → LeftOf cut at t e
+parted (whole leaf end parent) is = absurd (cc)
+parted {cut} {up} {t} {e} {at} (partly {e = k} left) is = let same : k ≡ e = cc in subst (LeftOf cut at t) same left
+
+pub left-of : {cut : Cut} {up : ℕ} {t e : Expr} {at position : ℕ} → CutAt cut up t at position → without position t ≡ some e
+    → LeftOf cut at t e
+left-of c is = parted (cutting-of c) (sym (rest-without c) ∙ is)
+
+-- ---- where the cut lies
+
+pub record Spans (cut : Cut) (t : Expr) (at : ℕ) : Type 0 where
+  pub parent : at ≤ cut.parent
+  pub leaf : cut.parent + 2 ≤ cut.leaf
+  pub some : cut.leaf ≤ cut.end
+  pub end : cut.end ≤ at + length (expr_bytes t)
+
+pub left-spans : {cut : Cut} {at : ℕ} {t e : Expr} → LeftOf cut at t e → Spans cut t at
+left-spans (first_goes {l = l} {r = r} parent leaf end) =
+    record { parent = omega arith; leaf = omega arith; some = omega arith; end = omega (arith, size-and l r) }
+left-spans (second_goes {l = l} {r = r} parent leaf end) =
+    record { parent = omega arith; leaf = omega arith; some = omega arith; end = omega (arith, size-and l r) }
+left-spans (in_first {l = l} {r = r} k) =
+    let s = left-spans k in
+    record { parent = omega (arith, s.parent); leaf = s.leaf; some = s.some; end = omega (arith, s.end, size-and l r) }
+left-spans (in_second {l = l} {r = r} k) =
+    let s = left-spans k in
+    record { parent = omega (arith, s.parent); leaf = s.leaf; some = s.some; end = omega (arith, s.end, size-and l r) }
+
+-- What is left has so many bytes.
+pub left-size : {cut : Cut} {at : ℕ} {t e : Expr} → LeftOf cut at t e
+    → length (expr_bytes e) + 2 + (cut.end - cut.leaf) ≡ length (expr_bytes t)
+left-size (first_goes {l = l} {r = r} parent leaf end) = omega (arith, size-and l r)
+left-size (second_goes {l = l} {r = r} parent leaf end) = omega (arith, size-and l r)
+left-size (in_first {l = l} {r = r} {e = e} k) = omega (arith, left-size k, size-and l r, size-and e r)
+left-size (in_second {l = l} {r = r} {e = e} k) = omega (arith, left-size k, size-and l r, size-and l e)
+
+pub left-range : {cut : Cut} {at : ℕ} {t e : Expr} → LeftOf cut at t e → (d : Columns) → InRange d t → InRange d e
+left-range (first_goes parent leaf end) d h = h.1
+left-range (second_goes parent leaf end) d h = h.0
+left-range (in_first k) d h = (left-range k d h.0, h.1)
+left-range (in_second k) d h = (h.0, left-range k d h.1)
+
+-- ---- the three spans of bytes
+
+pub record Pieces (cut : Cut) (at : ℕ) (t e : Expr) : Type 0 where
+  pub before : List ℕ
+  pub between : List ℕ
+  pub gone : List ℕ
+  pub behind : List ℕ
+  pub of_all : expr_bytes t ≡ before ++ ((2 ∷ 0 ∷ []) ++ (between ++ (gone ++ behind)))
+  pub of_left : expr_bytes e ≡ before ++ (between ++ behind)
+  pub parent : at + length before ≡ cut.parent
+  pub leaf : cut.parent + 2 + length between ≡ cut.leaf
+  pub end : cut.leaf + length gone ≡ cut.end
+
+pub pieces : {cut : Cut} {at : ℕ} {t e : Expr} → LeftOf cut at t e → Pieces cut at t e
+unfolding expr_bytes
+pieces (first_goes {l = l} {r = r} parent leaf end) = record {
+  before = [];
+  between = [];
+  gone = expr_bytes l;
+  behind = expr_bytes r;
+  of_all = refl;
+  of_left = refl;
+  parent = omega arith;
+  leaf = omega arith;
+  end = omega arith;
+}
+pieces (second_goes {l = l} {r = r} parent leaf end) = record {
+  before = [];
+  between = expr_bytes l;
+  gone = expr_bytes r;
+  behind = [];
+  of_all = ap (λ (x : List ℕ). 2 ∷ 0 ∷ (expr_bytes l ++ x)) (sym (append-nil (expr_bytes r)));
+  of_left = sym (append-nil (expr_bytes l));
+  parent = omega arith;
+  leaf = omega arith;
+  end = omega arith;
+}
+pieces (in_first {l = l} {r = r} {e = e} k) =
+    let p = pieces k in
     record {
-      low = omega (arith, s.low);
-      gap = λ a b. omega (arith, s.low);
-      parent = s.parent;
-      leaf = omega (arith, s.leaf);
-      some = s.some;
-      end = omega (arith, s.end);
+      before = 2 ∷ 0 ∷ p.before;
+      between = p.between;
+      gone = p.gone;
+      behind = p.behind ++ expr_bytes r;
+      of_all = rw p.of_all (simp append_assoc);
+      of_left = rw p.of_left (simp append_assoc);
+      parent = omega (arith, p.parent);
+      leaf = p.leaf;
+      end = p.end;
     }
-
-spans : {cut : Cut} {up : ℕ} {t : Expr} {at position : ℕ} → up < at → CutAt cut up t at position → Spans cut up t at
-spans lt (here {t = t} lone leaf end parent) =
+pieces (in_second {l = l} {r = r} {e = e} k) =
+    let p = pieces k in
     record {
-      low = omega arith;
-      gap = λ a b. omega arith;
-      parent = omega arith;
-      leaf = omega arith;
-      some = omega (arith, some_bytes t);
-      end = omega arith;
+      before = 2 ∷ 0 ∷ (expr_bytes l ++ p.before);
+      between = p.between;
+      gone = p.gone;
+      behind = p.behind;
+      of_all = rw p.of_all (simp append_assoc);
+      of_left = rw p.of_left (simp append_assoc);
+      parent = omega (arith, p.parent, length-append (expr_bytes l) p.before);
+      leaf = p.leaf;
+      end = p.end;
     }
-spans {at = at} lt (in_left {l = l} {r = r} c) =
-    above lt (omega arith) (omega (arith, size-and l r)) (spans {at = left_of at} (omega arith) c)
-spans {at = at} lt (in_right {l = l} {r = r} c) =
-    above lt (omega arith) (omega (arith, size-and l r)) (spans {at = right_of at l} (omega arith) c)
-
--- ---- what a walk over the And nodes makes of it
-
--- A place is not one of these n.
-abbrev Away : (p at n : ℕ) → Type 0
-Away p at n = at ≤ p → p < at + n → ⊥
-
-module _ {p at : ℕ} (l r : Expr) (far : Away p at (length (expr_bytes (and l r)))) where
-  away-left : Away p (left_of at) (length (expr_bytes l))
-  away-left a b = far (omega arith) (omega (arith, size-and l r))
-
-  away-right : Away p (right_of at l) (length (expr_bytes r))
-  away-right a b = far (omega arith) (omega (arith, size-and l r))
-
-away-here : {p at : ℕ} (t : Expr) → Away p at (length (expr_bytes t)) → at ≡ p → ⊥
-away-here t far e = far (omega arith) (omega (arith, some_bytes t))
-
--- `head` is h but at the leaf's parent, where it is empty, and `one` is made of an And as of its sides.
-pub record Joins (cut : Cut) (head : ℕ → List ℕ) (one : Expr → List ℕ) (h : List ℕ) : Type 0 where
-  pub none-there : head cut.parent ≡ []
-  pub elsewhere : (place : ℕ) → (place ≡ cut.parent → ⊥) → head place ≡ h
-  pub joined : (l r : Expr) → h ++ (one l ++ one r) ≡ one (and l r)
-
-module _ {cut : Cut} {head : ℕ → List ℕ} {one : Expr → List ℕ} {h : List ℕ} (j : Joins cut head one h) where
-  made : ℕ → Expr → List ℕ
-  made at t = around cut.leaf head one at t
-
-  -- An And by its sides.
-  by-sides : {at : ℕ} (l r : Expr) (x : List ℕ) {y z : List ℕ} → (at ≡ cut.leaf → ⊥) → head at ≡ x → made (left_of at) l ≡ y
-      → made (right_of at l) r ≡ z
-      → made at (and l r) ≡ x ++ (y ++ z)
-  unfolding made inside
-  by-sides {at} l r x {y} {z} n e f g = not-leaf (inside cut.leaf head one at (and l r)) n ∙ ap₂ ◌++◌ e (ap₂ ◌++◌ f g)
-
-  -- Away from the leaf and its parent, all of it.
-  outside : (t : Expr) (at : ℕ) → Away cut.leaf at (length (expr_bytes t)) → Away cut.parent at (length (expr_bytes t))
-      → made at t ≡ one t
-  unfolding made leaves
-  outside (column i g) at a b = lone-around head one (away-here (column i g) a) refl
-  outside (literal y v) at a b = lone-around head one (away-here (literal y v) a) refl
-  outside (and l r) at a b =
-      by-sides l r h (away-here (and l r) a) (j.elsewhere at (away-here (and l r) b))
-      (outside l (left_of at) (away-left l r a) (away-left l r b))
-      (outside r (right_of at l) (away-right l r a) (away-right l r b)) ∙ j.joined l r
-  outside (binary o l r) at a b = lone-around head one (away-here (binary o l r) a) refl
-  outside (call name ts) at a b = lone-around head one (away-here (call name ts) a) refl
-  outside (other g ts) at a b = lone-around head one (away-here (other g ts) a) refl
-  outside (field bits g) at a b = lone-around head one (away-here (field bits g) a) refl
-
-  -- With the cut in it, what is left.
-  left-made : Option Expr → List ℕ
-  left-made none = []
-  left-made (some e) = one e
-
-  -- At the And above, whose head is there unless it is the parent.
-  made-left : {up : ℕ} {t : Expr} {at position : ℕ} → up < at → (c : CutAt cut up t at position) → (r : Expr)
-      → head up ++ (left-made (rest c) ++ one r) ≡ one (and_left (rest c) r)
-  unfolding rest left-made and_left
-  made-left lt (here lone leaf end parent) r = ap (λ (x : List ℕ). x ++ one r) (ap head (sym parent) ∙ j.none-there)
-  made-left {up} {at = at} lt (in_left {r = k} c) r =
-      let s = spans {at = left_of at} (omega arith) c in
-      ap (λ (x : List ℕ). x ++ (one (and_left (rest c) k) ++ one r)) (j.elsewhere up (λ e. omega (arith, s.low)))
-      ∙ j.joined (and_left (rest c) k) r
-  made-left {up} {at = at} lt (in_right {l = l} c) r =
-      let s = spans {at = right_of at l} (omega arith) c in
-      ap (λ (x : List ℕ). x ++ (one (and_right l (rest c)) ++ one r)) (j.elsewhere up (λ e. omega (arith, s.low)))
-      ∙ j.joined (and_right l (rest c)) r
-
-  made-right : {up : ℕ} {t : Expr} {at position : ℕ} → up < at → (c : CutAt cut up t at position) → (l : Expr)
-      → head up ++ (one l ++ left-made (rest c)) ≡ one (and_right l (rest c))
-  unfolding rest left-made and_right
-  made-right lt (here lone leaf end parent) l =
-      ap (λ (x : List ℕ). x ++ (one l ++ [])) (ap head (sym parent) ∙ j.none-there) ∙ append-nil (one l)
-  made-right {up} {at = at} lt (in_left {r = r} c) l =
-      let s = spans {at = left_of at} (omega arith) c in
-      ap (λ (x : List ℕ). x ++ (one l ++ one (and_left (rest c) r))) (j.elsewhere up (λ e. omega (arith, s.low)))
-      ∙ j.joined l (and_left (rest c) r)
-  made-right {up} {at = at} lt (in_right {l = k} c) l =
-      let s = spans {at = right_of at k} (omega arith) c in
-      ap (λ (x : List ℕ). x ++ (one l ++ one (and_right k (rest c)))) (j.elsewhere up (λ e. omega (arith, s.low)))
-      ∙ j.joined l (and_right k (rest c))
-
-  around-rest : {up : ℕ} {t : Expr} {at position : ℕ} (c : CutAt cut up t at position) → made at t ≡ left-made (rest c)
-  unfolding rest made left-made
-  around-rest {at = at} (here {t = t} lone leaf end parent) = at_leaf (inside cut.leaf head one at t) (sym leaf)
-  around-rest {at = at} (in_left {l = l} {r = r} c) =
-      let s = spans {at = left_of at} (omega arith) c in
-      by-sides l r (head at) (λ e. omega (arith, s.leaf)) refl (around-rest c)
-      (outside r (right_of at l) (λ a b. omega (arith, s.some, s.end)) (λ a b. omega (arith, s.parent, s.some, s.end)))
-      ∙ made-left (omega arith) c r
-  around-rest {at = at} (in_right {l = l} {r = r} c) =
-      let s = spans {at = right_of at l} (omega arith) c in
-      by-sides l r (head at) (λ e. omega (arith, s.leaf)) refl
-      (outside l (left_of at) (λ a b. omega (arith, s.leaf)) (λ a b. s.gap (omega arith) (omega arith))) (around-rest c)
-      ∙ made-right (omega arith) c l
-
--- ---- the leaf ends where the cut says
-
-module _ (cut : Cut) where
-  -- Nothing below the leaf's place, or away from it, is the leaf.
-  ends-inside : (t : Expr) (at : ℕ) → (at < cut.leaf → cut.leaf < at + length (expr_bytes t) → ⊥) → EndsInside cut at t
-  ends-inside (column i g) at far = tt
-  ends-inside (literal y v) at far = tt
-  ends-inside (and l r) at far = (
-    (
-      λ e. absurd (far (omega arith) (omega (arith, size-and l r, some_bytes l))),
-      ends-inside l (left_of at) (λ a b. far (omega arith) (omega (arith, size-and l r))),
-    ),
-    (
-      λ e. absurd (far (omega arith) (omega (arith, size-and l r, some_bytes r))),
-      ends-inside r (right_of at l) (λ a b. far (omega arith) (omega (arith, size-and l r))),
-    ),
-  )
-  ends-inside (binary o l r) at far = tt
-  ends-inside (call name ts) at far = tt
-  ends-inside (other g ts) at far = tt
-  ends-inside (field bits g) at far = tt
-
-  ends-away : (t : Expr) (at : ℕ) → Away cut.leaf at (length (expr_bytes t)) → Ends cut at t
-  ends-away t at far = (λ e. absurd (away-here t far e), ends-inside t at (λ a b. far (omega arith) b))
-
-  ends-leaf : (t : Expr) (at : ℕ) → cut.leaf ≡ at → cut.end ≡ at + length (expr_bytes t) → Ends cut at t
-  ends-leaf t at e f = (λ k. f, ends-inside t at (λ a b. omega arith))
-
-pub cut-ends : (cut : Cut) {up : ℕ} {t : Expr} {at position : ℕ} → CutAt cut up t at position → Ends cut at t
-cut-ends cut {at = at} (here {t = t} lone leaf end parent) = ends-leaf cut t at leaf end
-cut-ends cut {at = at} (in_left {l = l} {r = r} c) =
-    let s = spans {at = left_of at} (omega arith) c in
-    (λ e. absurd (omega (arith, s.leaf)), (cut-ends cut c, ends-away cut r (right_of at l) (λ a b. omega (arith, s.some, s.end))))
-cut-ends cut {at = at} (in_right {l = l} {r = r} c) =
-    let s = spans {at = right_of at l} (omega arith) c in
-    (λ e. absurd (omega (arith, s.leaf)), (ends-away cut l (left_of at) (λ a b. omega (arith, s.leaf)), cut-ends cut c))
 
 -- ---- all of it
 
 -- The expression e is left.
 pub record Remains (cut : Cut) (t : Expr) (at position : ℕ) (e : Expr) : Type 0 where
   pub without-leaf : without position t ≡ some e
-  pub ends : Ends cut at t
   pub in_range : (d : Columns) → InRange d t → InRange d e
-  pub walked : {head : ℕ → List ℕ} {one : Expr → List ℕ} {h : List ℕ} → Joins cut head one h → around cut.leaf head one at t ≡ one e
 
 -- Nothing is left where the leaf is the whole expression, and something where it is not.
+nothing-there : {cut : Cut} {up : ℕ} {t : Expr} {at : ℕ} {o : Option Expr} → Cutting cut up t at o → at ≡ cut.leaf → o ≡ none
+nothing-there (whole leaf end parent) is = refl
+nothing-there (partly left) is = let s = left-spans left in absurd (omega (arith, s.parent, s.leaf))
+
 pub nothing_left : {cut : Cut} {up : ℕ} {t : Expr} {at position : ℕ} → CutAt cut up t at position → at ≡ cut.leaf
     → without position t ≡ none
-nothing_left (here {t = t} lone leaf end parent) e = lone-without t lone 0
-nothing_left {at = at} (in_left c) e = absurd (omega (arith, (spans {at = left_of at} (omega arith) c).leaf))
-nothing_left {at = at} (in_right {l = l} c) e = absurd (omega (arith, (spans {at = right_of at l} (omega arith) c).leaf))
+nothing_left c e = rest-without c ∙ nothing-there (cutting-of c) e
 
-remaining : {cut : Cut} {up : ℕ} {t : Expr} {at position : ℕ} (c : CutAt cut up t at position) {e : Expr} → rest c ≡ some e
-    → Remains cut t at position e
-unfolding left-made made
-remaining {cut} c {e} is = record {
-  without-leaf = rest-without c ∙ is;
-  ends = cut-ends cut c;
-  in_range = λ d h. subst (RestIs (InRange d)) is (rest-in-range d (cut-taken c) h);
-  walked = λ j. around-rest j c ∙ ap (left-made j) is;
-}
-
-pub what-is-left : {cut : Cut} {up : ℕ} {t : Expr} {at position : ℕ} → CutAt cut up t at position → {e : Expr} → without position t ≡ some e
-    → Remains cut t at position e
-what-is-left c is = remaining c (sym (rest-without c) ∙ is)
+something-there : {cut : Cut} {up : ℕ} {t : Expr} {at : ℕ} {o : Option Expr} → Cutting cut up t at o → (at ≡ cut.leaf → ⊥)
+    → (e : Expr) × (o ≡ some e) × LeftOf cut at t e
+something-there (whole leaf end parent) n = absurd (n (sym leaf))
+something-there (partly {e = e} left) n = (e, refl, left)
 
 pub something-left : {cut : Cut} {up : ℕ} {t : Expr} {at position : ℕ} → CutAt cut up t at position → (at ≡ cut.leaf → ⊥)
     → (e : Expr) × Remains cut t at position e
-unfolding rest
-something-left (here lone leaf end parent) n = absurd (n (sym leaf))
-something-left {up = up} (in_left {r = r} c) n = (and_left (rest c) r, remaining (in_left {up = up} c) refl)
-something-left {up = up} (in_right {l = l} c) n = (and_right l (rest c), remaining (in_right {up = up} c) refl)
+something-left c n =
+    let some-left = something-there (cutting-of c) n in
+    (some-left.0, record { without-leaf = rest-without c ∙ some-left.1; in_range = left-range some-left.2 })

@@ -1,13 +1,14 @@
 -- Laws that the proofs use: remainders and the records that stay.
 pub mod KeyLaws
 pub mod RecordLaws
-pub mod AroundLaws
 pub mod ReferenceWalk
-pub mod RemainderWalk
 pub mod RestLaws
 pub mod RestWalk
 pub mod FlagLaws
 pub mod CutLaws
+pub mod LeftColumns
+pub mod PatchLaws
+pub mod LeftCopies
 pub mod RemainderLaws
 pub mod PrunedLaws
 pub mod LastLaws

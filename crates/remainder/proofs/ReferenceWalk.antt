@@ -5,25 +5,20 @@ use mathlib.Core.Path.{◌≡◌, refl, sym, ap, ◌∙◌}
 use mathlib.Core.Bool.{Bool, true}
 use mathlib.Core.List.{List, [], ◌∷◌, ◌++◌}
 use lib.ListN.{length, get_or, set, length-append}
-use Rattle.definitions.specs.Expression.{Expr, and, Exprs}
+use Rattle.definitions.specs.Expression.{Expr, Exprs}
 use Rattle.definitions.specs.Encode.{expr_bytes, exprs_bytes}
 use Rattle.definitions.specs.Decode.{index_below}
 use Rattle.definitions.specs.Match.{columns_of, columns_of_all}
-use Rattle.definitions.specs.Leaves.{leaves}
 use Rattle.expression.proofs.OfKind.{no-own-columns}
 use Rattle.expression.specs.Places.{short_at}
 use Rattle.expression.specs.Nodes.{children_of, Stands, Row, Tree, OfTree}
 use Rattle.expression.specs.Heads.{HeadIs}
-use Rattle.expression.specs.Leaves.{Both}
 use Rattle.expression.specs.declared.heads.Head.{Head}
 use Rattle.expression.proofs.Placed.{fits}
 use Rattle.expression.proofs.Standing.{tree-length, kind-is, children-stand, first-stands, rest-stands, some-children, no-children, after-node}
-use Rattle.remainder.specs.References.{marked, Collected, Flagged, NodeCollected, FlaggedAll, RowCollected, columns_around, FlaggedAround, RestCollected}
-use Rattle.remainder.specs.Around.{inside, Ends}
-use Rattle.expression.specs.declared.cuts.Cut.{Cut}
-use Rattle.remainder.proofs.AroundLaws.{at_leaf, lone-around, left-ends, right_there, right-ends, and-size, and_around}
+use Rattle.remainder.specs.References.{marked, Collected, Flagged, NodeCollected, FlaggedAll, RowCollected}
 use Rattle.plan_writer.proofs.Fields.{column-is, column-size}
-use Rattle.plan_writer.proofs.Ranges.{wider-stands, wider-row}
+use Rattle.plan_writer.proofs.Ranges.{wider-row}
 
 -- ---- flags
 
@@ -148,37 +143,3 @@ module _ {s : List ℕ} {at n : ℕ} (before : List Bool) where
 
     pub collecting-ends : left ≤ 0 → RowCollected s at n before used next
     collecting-ends none = inv.rest used next (λ ts row. collects-none used ts row (omega arith))
-
--- ---- without an AND-leaf
-
-module _ {at : ℕ} (cut : Cut) (before : List Bool) where
-  pub rest-leaf : (t : Expr) → at ≡ cut.leaf → Ends cut at t
-      → Collected at (length (expr_bytes t)) (columns_around cut at t) before before cut.end
-  unfolding marked
-  rest-leaf t e ends = rw (at_leaf (inside cut.leaf (λ place. []) columns_of at t) e) (record { ends = ends.0 e; flags = refl })
-
-  pub rest-lone : (after : List Bool) (t : Expr) → (at ≡ cut.leaf → ⊥) → leaves t ≡ t ∷ [] → (r : ℕ)
-      → Collected at (length (expr_bytes t)) (columns_of t) before after r
-      → Collected at (length (expr_bytes t)) (columns_around cut at t) before after r
-  rest-lone after t n lone r is = rw (lone-around (λ place. []) columns_of n lone) is
-
-  module _ {s : List ℕ} {first : ℕ} (middle : List Bool) (same : length middle ≡ length before) (p : ℕ)
-      (one : RestCollected s first cut before middle p) where
-    module _ {t : Expr} (b : Both and (index_below (length before)) s at first t) (ends : Ends cut at t) where
-      left-collected : Collected first (length (expr_bytes b.l)) (columns_around cut first b.l) before middle p
-      left-collected = one b.l (first-stands b.row) (left-ends b cut ends)
-
-      pub right-flagged : FlaggedAround s p cut middle
-      right-flagged =
-          (b.r, wider-stands (omega arith) (right_there b p left-collected.ends), right-ends b p left-collected.ends cut ends)
-
-      pub rest-and : (after : List Bool) → (at ≡ cut.leaf → ⊥) → (r : ℕ) → RestCollected s p cut middle after r
-          → Collected at (length (expr_bytes t)) (columns_around cut at t) before after r
-      unfolding right-flagged
-      rest-and after n r two =
-          let p-is : p ≡ first + length (expr_bytes b.l) = left-collected.ends in
-          let all = collected-both left-collected (two b.r right-flagged.1 right-flagged.2) in
-          record {
-            ends = all.ends ∙ and-size b p p-is;
-            flags = all.flags ∙ ap (λ (x : List ℕ). marked x before) (sym (and_around b p p-is (λ place. []) columns_of n));
-          }

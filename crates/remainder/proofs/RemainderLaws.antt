@@ -1,7 +1,7 @@
--- A whole remainder: its columns are collected, the records that stay and the renumbered expression make its frame.
+-- A whole remainder: its columns are marked, the records that stay and the renumbered expression make its frame.
 use Prim.Native.Nat.{ℕ, ◌+◌, ◌≤◌, ◌<◌}
 use native.Mathlib.Omega.{arith}
-use mathlib.Core.Path.{◌≡◌, refl, sym, ap, ◌∙◌, subst}
+use mathlib.Core.Path.{◌≡◌, sym, ap, ◌∙◌, subst}
 use mathlib.Core.Bool.{Bool, false}
 use mathlib.Core.List.{List, [], ◌∷◌, ◌++◌, append_assoc}
 use mathlib.Core.Option.{Option, map}
@@ -16,48 +16,20 @@ use Rattle.theorems.proofs.Columns.{columns-below}
 use Rattle.writing.specs.Written.{Wrote, WroteAt}
 use Rattle.plan_writer.specs.Copies.{copy_of}
 use Rattle.expression.specs.Cuts.{CutAt}
-use Rattle.remainder.specs.References.{marked, FlaggedAround, RestCollected}
+use Rattle.expression.specs.Nodes.{OfTree}
+use Rattle.node_rows.specs.Rows.{Tabled}
+use Rattle.remainder.specs.Around.{LeftAt}
 use Rattle.remainder.specs.Records.{stays, MarkedBy, kept_all, AllFit, columns_part, RecordsPut, RowsFit}
-use Rattle.remainder.specs.HeldIndexes.{Unmarked, Marks, Unheld, HeldMarked}
-use Rattle.remainder.specs.Remainders.{and_head, copy_around, RestFits, RestCopied, FrameAt, remainder_of}
+use Rattle.remainder.specs.HeldIndexes.{Unmarked, Unheld, HeldMarked}
+use Rattle.remainder.specs.Remainders.{RestFits, RestCopied, FrameAt, remainder_of}
 use Rattle.expression.specs.declared.cuts.Cut.{Cut}
-use Rattle.plan_writer.specs.declared.arguments.Copied.{Copied}
 use Rattle.writing.proofs.Written.{behind, together, behind-length, part-wrote, to_start, chain, store}
 use Rattle.plan_writer.proofs.Ranges.{wider-stands}
 use Rattle.plan_writer.proofs.TableLaws.{table-copies}
-use Rattle.remainder.proofs.AroundLaws.{at_leaf, not-leaf}
-use Rattle.remainder.proofs.CutLaws.{Joins, Remains, cut-ends, what-is-left, nothing_left}
-use Rattle.remainder.proofs.FlagLaws.{held-marks, held-flags, no_flag}
-
--- ---- the two walks see what is left
-
-columns-join : (cut : Cut) → Joins cut (λ place. []) columns_of []
-unfolding columns_of
-columns-join cut = record { none-there = refl; elsewhere = λ place n. refl; joined = λ l r. refl }
-
-copies-join : (to : List ℕ) (cut : Cut) → Joins cut (and_head cut) (copy_of to) (2 ∷ 0 ∷ [])
-unfolding expr_bytes map_columns
-copies-join to cut =
-    record {
-      none-there = at_leaf {at = cut.parent} (2 ∷ 0 ∷ []) refl;
-      elsewhere = λ place n. not-leaf
-          (2 ∷ 0 ∷ []) n;
-      joined = λ l r. refl;
-    }
+use Rattle.remainder.proofs.CutLaws.{Remains, nothing_left}
+use Rattle.remainder.proofs.FlagLaws.{held-flags, no_flag}
 
 -- ---- what is collected
-
-pub unheld-flagged : {s : List ℕ} {at : ℕ} {cut : Cut} {flags : List Bool} → Unheld s at cut flags → FlaggedAround s at cut flags
-unheld-flagged {cut = cut} p = (p.tree, p.stands, cut-ends cut p.cutting)
-
-pub held-collected : {s : List ℕ} {at : ℕ} {cut : Cut} (before after : List Bool) {r : ℕ} → Unmarked before
-    → RestCollected s at cut before after r
-    → HeldMarked s at cut before after
-held-collected {cut = cut} before after clear is t up position stands cutting e rest =
-    let left = what-is-left cutting rest in
-    subst (Marks e)
-    (sym ((is t stands left.ends).flags ∙ ap (λ (x : List ℕ). marked x before) (left.walked (columns-join cut))))
-    (held-marks e before clear)
 
 -- Rows as they are made, for so many records, and once the flags were set.
 pub clear-rows : (n count : ℕ) → count ≤ n
@@ -79,9 +51,8 @@ frame-parts records e =
     (sym (append_assoc (big_endian 2 (length kept)) (records_bytes kept)
     (expr_bytes (map_columns (new_index (stays records (columns_of e)) records) e))))
 
-module _ {s : List ℕ} {rec count at : ℕ} {cut : Cut} {records : List Record} {t : Expr} {position : ℕ} {e : Expr}
-    (f : FrameAt s rec count at records t)
-    (left : Remains cut t at position e) where
+module _ {s numbers next : List ℕ} {rec count at : ℕ} {cut : Cut} {records : List Record} {t : Expr} {position : ℕ} {e : Expr}
+    (f : FrameAt s rec count at records t) (tabled : OfTree s at (Tabled numbers next at 0)) (left : Remains cut t at position e) where
   abbrev new : ℕ → ℕ
   new = new_index (stays records (columns_of e)) records
 
@@ -94,18 +65,28 @@ module _ {s : List ℕ} {rec count at : ℕ} {cut : Cut} {records : List Record}
   unfolding big_endian
   size = ap length parts ∙ simp length-append (omega arith)
 
+  -- It is in the rows, with as many indexes as there are records or more.
+  in-rows : {n up : ℕ} → count ≤ n → CutAt cut up t at position → LeftAt (index_below n) s numbers next cut at t e
+  in-rows {n} {up} room cutting = record {
+    up = up;
+    position = position;
+    stands = wider-stands room f.tree;
+    tabled = tabled (index_below count) t f.tree;
+    cutting = cutting;
+    left = left.without-leaf;
+  }
+
   pub still-unheld : {up : ℕ} (flags : List Bool) → CutAt cut up t at position → count ≤ length flags → Unmarked flags
-      → Unheld s at cut flags
-  still-unheld {up} flags cutting room clear =
-      record { tree = t; up = up; position = position; stands = wider-stands room f.tree; cutting = cutting; clear = clear }
+      → Unheld s numbers next cut flags
+  still-unheld flags cutting room clear = (at, t, e, in-rows room cutting, clear)
 
   module _ (flags used : List Bool) {up : ℕ} (cutting : CutAt cut up t at position) (room : count ≤ length flags)
-      (same : length used ≡ length flags) (is : HeldMarked s at cut flags used) where
+      (same : length used ≡ length flags) (is : HeldMarked s numbers next cut flags used) where
     -- The flags mark the columns of what is left.
     rest-marked : MarkedBy s rec count used records (columns_of e)
     rest-marked = record {
       entries = f.entries;
-      flagged = held-flags e used count (is t up position (wider-stands room f.tree) cutting e left.without-leaf) (omega arith)
+      flagged = held-flags e used count (is at t e (in-rows room cutting)) (omega arith)
           (columns-below count e (left.in_range (index_below count) f.tree.in_range));
     }
 
@@ -116,9 +97,8 @@ module _ {s : List ℕ} {rec count at : ℕ} {cut : Cut} {records : List Record}
       written : WroteAt 0 (columns_part (kept_all records (columns_of e))) before middle w
       written = (put records (columns_of e) rest-marked).out
 
-      copied : copy_around to cut at t ≡ expr_bytes (map_columns new e)
-      copied = left.walked (copies-join to cut)
-          ∙ table-copies (put records (columns_of e) rest-marked).table e (left.in_range (index_below count) f.tree.in_range)
+      copied : copy_of to e ≡ expr_bytes (map_columns new e)
+      copied = table-copies (put records (columns_of e) rest-marked).table e (left.in_range (index_below count) f.tree.in_range)
 
       pub records-end : length (remainder_of records t position) ≤ length before
           → w + length (expr_bytes (map_columns new e)) ≤ length before
@@ -127,22 +107,18 @@ module _ {s : List ℕ} {rec count at : ℕ} {cut : Cut} {records : List Record}
           omega (arith, written.ends, ap length parts, both)
 
       pub expr-fits : count ≤ length to → length middle ≡ length before → length (remainder_of records t position) ≤ length before
-          → RestFits s at to cut (behind w middle)
-      expr-fits long as_long fits = record {
-        tree = t;
-        stands = wider-stands long f.tree;
-        ends = left.ends;
-        room = omega (arith, ap length copied, records-end fits, behind-length w middle);
-      }
+          → RestFits s numbers next to cut (behind w middle)
+      expr-fits long as_long fits =
+          (at, t, e, in-rows long cutting, omega (arith, ap length copied, records-end fits, behind-length w middle))
 
-      pub frame-put : (part : List ℕ) (q : Copied) → count ≤ length to → RestCopied s at to cut (behind w middle) part q
-          → (w + q.wrote ≡ length (remainder_of records t position))
+      pub frame-put : (part : List ℕ) (wrote : ℕ) → count ≤ length to → RestCopied s numbers next to cut (behind w middle) part wrote
+          → (w + wrote ≡ length (remainder_of records t position))
           × Wrote (remainder_of records t position) before (together w middle part)
-      frame-put part q long copy =
-          let expr = copy t (wider-stands long f.tree) left.ends in
-          subst (λ (x : List ℕ). (w + q.wrote ≡ length x) × Wrote x before (together w middle part))
+      frame-put part wrote long copy =
+          let expr = copy at t e (in-rows long cutting) in
+          subst (λ (x : List ℕ). (w + wrote ≡ length x) × Wrote x before (together w middle part))
           (ap (λ (y : List ℕ). columns_part (kept_all records (columns_of e)) ++ y) copied ∙ sym parts)
-          (to_start (chain (omega arith) written (part-wrote (copy_around to cut at t) middle part w expr.out q.wrote expr.wrote)))
+          (to_start (chain (omega arith) written (part-wrote (copy_of to e) middle part w expr.1 wrote expr.0)))
 
 -- ---- the whole expression was the leaf
 

@@ -1,44 +1,47 @@
--- An expression at a place without one of its AND-leaves.
-use Rattle.std.specs.Prelude.{ℕ, ◌+◌, ◌≡◌, List, [], ◌++◌, length, eqb, if◌then◌else◌}
-use Rattle.definitions.specs.Expression.{Expr, column, literal, and, binary, call, other, field}
-use Rattle.definitions.specs.Encode.{expr_bytes}
-use Rattle.expression.specs.Nodes.{left_of, right_of}
+-- An expression without one of its AND-leaves: what is left of it stands in three spans, before the head of the leaf's parent, between that
+-- and the leaf, and behind the leaf. (Ours.)
+use Rattle.std.specs.Prelude.{ℕ, ◌+◌, ◌-◌, ◌≤◌, ◌≡◌, Bool, List, ltb, leb, if◌then◌else◌}
+use Rattle.std.proofs.Math.Bool.{◌||◌}
+use Rattle.std.proofs.Math.Option.{some}
+use Rattle.definitions.specs.Expression.{Expr}
+use Rattle.definitions.specs.Decode.{Columns}
+use Rattle.definitions.specs.Extract.{without}
+use Rattle.expression.specs.Nodes.{Stands}
+use Rattle.expression.specs.Cuts.{CutAt}
 use Rattle.expression.specs.declared.cuts.Cut.{Cut}
+use Rattle.node_rows.specs.Rows.{Tabled}
 
--- ---- what a walk over the And nodes makes of it
+-- Whether a place does not lie in the leaf.
+abbrev pub outside : Cut → (place : ℕ) → Bool
+outside cut place = ltb place cut.leaf || leb cut.end place
 
--- Nothing at the leaf.
-abbrev pub unless : (at leaf : ℕ) → List ℕ → List ℕ
-unless at leaf x = if eqb at leaf then [] else x
+-- Where what stands at a place of the spans is copied to, counted from where the expression is, which starts at `at`.
+abbrev pub moved : Cut → (at place : ℕ) → ℕ
+moved cut at place =
+    if ltb place (cut.parent + 2) then place - at else
+    if ltb place cut.leaf then place - at - 2 else
+    place - at - 2 - (cut.end - cut.leaf)
 
--- Of each AND-leaf `one`, before those of an And its `head`.
-unfoldable pub inside : (leaf : ℕ) → (head : ℕ → List ℕ) → (one : Expr → List ℕ) → (at : ℕ) → Expr → List ℕ
-inside leaf head one at (and l r) =
-    head at ++ (unless (left_of at) leaf (inside leaf head one (left_of at) l) ++ unless (right_of at l) leaf
-    (inside leaf head one (right_of at l) r))
-inside leaf head one at (column index tag) = one (column index tag)
-inside leaf head one at (literal type value) = one (literal type value)
-inside leaf head one at (binary operator l r) = one (binary operator l r)
-inside leaf head one at (call name arguments) = one (call name arguments)
-inside leaf head one at (other tag children) = one (other tag children)
-inside leaf head one at (field bits tag) = one (field bits tag)
+-- The place is not in the leaf, and the cut lies behind `at`.
+pub record Movable (cut : Cut) (at place : ℕ) : Type 0 where
+  pub parent : at ≤ cut.parent
+  pub leaf : cut.parent + 2 ≤ cut.leaf
+  pub end : cut.leaf ≤ cut.end
+  pub low : at ≤ place
+  pub high : cut.leaf ≤ place → cut.end ≤ place
 
-abbrev pub around : (leaf : ℕ) → (head : ℕ → List ℕ) → (one : Expr → List ℕ) → (at : ℕ) → Expr → List ℕ
-around leaf head one at t = unless at leaf (inside leaf head one at t)
+-- The rows hold the expression t that stands at a place, and e is left of it without the AND-leaf that is cut out.
+pub record LeftAt (c : Columns) (s numbers next : List ℕ) (cut : Cut) (at : ℕ) (t e : Expr) : Type 0 where
+  pub up : ℕ
+  pub position : ℕ
+  pub stands : Stands c s at t
+  pub tabled : Tabled numbers next at 0 t
+  pub cutting : CutAt cut up t at position
+  pub left : without position t ≡ some e
 
--- Where such a walk meets the leaf, the cut says where the leaf ends.
-abbrev pub EndsThere : Cut → (at : ℕ) → Expr → Type 0
-EndsThere cut at t = at ≡ cut.leaf → cut.end ≡ at + length (expr_bytes t)
+-- There are such; what is claimed of what is left.
+abbrev pub SomeLeft : Columns → (s numbers next : List ℕ) → Cut → (Expr → Type 0) → Type 0
+SomeLeft c s numbers next cut P = (at : ℕ) × (t : Expr) × (e : Expr) × LeftAt c s numbers next cut at t e × P e
 
-abbrev pub EndsInside : Cut → (at : ℕ) → Expr → Type 0
-EndsInside cut at (and l r) =
-    (EndsThere cut (left_of at) l × EndsInside cut (left_of at) l) × (EndsThere cut (right_of at l) r × EndsInside cut (right_of at l) r)
-EndsInside cut at (column index tag) = Unit {0}
-EndsInside cut at (literal type value) = Unit {0}
-EndsInside cut at (binary operator l r) = Unit {0}
-EndsInside cut at (call name arguments) = Unit {0}
-EndsInside cut at (other tag children) = Unit {0}
-EndsInside cut at (field bits tag) = Unit {0}
-
-abbrev pub Ends : Cut → (at : ℕ) → Expr → Type 0
-Ends cut at t = EndsThere cut at t × EndsInside cut at t
+abbrev pub OfLeft : Columns → (s numbers next : List ℕ) → Cut → (Expr → Type 0) → Type 0
+OfLeft c s numbers next cut P = (at : ℕ) (t e : Expr) → LeftAt c s numbers next cut at t e → P e

@@ -5,8 +5,6 @@ use Rattle.definitions.specs.Encode.{expr_bytes, exprs_bytes}
 use Rattle.definitions.specs.Decode.{index_below}
 use Rattle.definitions.specs.Match.{columns_of, columns_of_all}
 use Rattle.expression.specs.Nodes.{Stands, Row}
-use Rattle.remainder.specs.Around.{around, Ends}
-use Rattle.expression.specs.declared.cuts.Cut.{Cut}
 
 -- The flags once these columns are marked.
 unfoldable pub marked : (columns : List ℕ) → (flags : List Bool) → List Bool
@@ -33,15 +31,3 @@ FlaggedAll s at n flags = (ts : Exprs) × Row (index_below (length flags)) s at 
 abbrev pub RowCollected : (s : List ℕ) (at n : ℕ) (before after : List Bool) (end : ℕ) → Type 0
 RowCollected s at n before after end =
     (ts : Exprs) → Row (index_below (length before)) s at n ts → Collected at (length (exprs_bytes ts)) (columns_of_all ts) before after end
-
--- The same of an expression without an AND-leaf.
-abbrev pub columns_around : Cut → (at : ℕ) → Expr → List ℕ
-columns_around cut at t = around cut.leaf (λ place. []) columns_of at t
-
-abbrev pub FlaggedAround : (s : List ℕ) (at : ℕ) → Cut → (flags : List Bool) → Type 0
-FlaggedAround s at cut flags = (t : Expr) × Stands (index_below (length flags)) s at t × Ends cut at t
-
-abbrev pub RestCollected : (s : List ℕ) (at : ℕ) → Cut → (before after : List Bool) (end : ℕ) → Type 0
-RestCollected s at cut before after end =
-    (t : Expr) → Stands (index_below (length before)) s at t → Ends cut at t
-    → Collected at (length (expr_bytes t)) (columns_around cut at t) before after end

@@ -1,12 +1,10 @@
 // Which columns an expression references.
 // A port of `collect_column_references` of
 // rust/sedona-query-planner/src/spatial_expr_utils.rs.
-ghost use Rattle.remainder.specs.References.{Flagged, NodeCollected, FlaggedAll, RowCollected, FlaggedAround, RestCollected};
+ghost use Rattle.remainder.specs.References.{Flagged, NodeCollected, FlaggedAll, RowCollected};
 
-use expression::cuts::Cut;
 use expression::fields::short_at;
 use expression::heads::head_at;
-use expression::leaves::{Node, node_at};
 
 // Marks the columns of the expression at a place; answers where it ends.
 #[cycle(collect_children_collect_column_references)]
@@ -36,19 +34,4 @@ fn collect_children(used: &mut [bool], src: &[u8], at: usize, n: usize) -> usize
         next = collect_column_references(used, src, next);
     }
     next
-}
-
-// The same for an expression without an AND-leaf.
-pub fn collect_remainder(used: &mut [bool], src: &[u8], at: usize, cut: Cut) -> usize
-    requires { FlaggedAround src.now at cut used.old }
-    ensures { RestCollected src.now at cut used.old used.new result }
-{
-    if at == cut.leaf {
-        return cut.end;
-    }
-    let Node::And(left) = node_at(src, at) else {
-        return collect_column_references(used, src, at);
-    };
-    let right = collect_remainder(used, src, left, cut);
-    collect_remainder(used, src, right, cut)
 }

@@ -1,49 +1,63 @@
-// The filter without one AND-leaf: the node above the leaf gives its place to the leaf's other side.
-ghost use Rattle.remainder.specs.Remainders.{RestFits, RestCopied, SidesFit, SidesCopied};
+// The filter without one AND-leaf, its columns renumbered: the bytes that are left are copied in three spans, around the head of the leaf's
+// parent and around the leaf, and the columns among them are found in the row.
+ghost use Rattle.std.specs.Prelude.{◌≡◌};
+ghost use Rattle.remainder.specs.Around.{outside, moved, Movable};
+ghost use Rattle.remainder.specs.Remainders.{PatchFits, Patched, RestFits, RestCopied};
 
 use expression::cuts::Cut;
-use expression::leaves::{Node, node_at};
-use plan_writer::arguments::{Copied, reproject_column_references};
+use expression::fields::short_at;
+use node_rows::rows::Rows;
+use writing::copies::copy_at;
+use writing::numbers::put_number;
 
-// Writes the expression at a place without the leaf and its parent's head, its columns renumbered.
-#[cycle(reproject_remainder_reproject_sides)]
-pub fn reproject_remainder(out: &mut [u8], src: &[u8], at: usize, to: &[u16], cut: Cut) -> Copied
-    requires { RestFits src.now at to.now cut out.old }
-    ensures { RestCopied src.now at to.now cut out.old out.new result }
+// Whether a place does not lie in the leaf.
+pub fn is_outside(cut: Cut, start: usize) -> bool
+    ensures { result ≡ outside cut start }
 {
-    if at == cut.leaf {
-        return Copied {
-            read: cut.end,
-            wrote: 0,
-        };
+    start < cut.leaf || cut.end <= start
+}
+
+// Where a node that starts at a place is copied to, counted from where the expression is; that starts at `at`.
+fn moved(cut: Cut, at: usize, start: usize) -> usize
+    requires { Movable cut at start }
+    ensures { result ≡ moved cut at start }
+{
+    if start < cut.parent + 2 {
+        return start - at;
     }
-    let Node::And(left) = node_at(src, at) else {
-        return reproject_column_references(out, src, at, to);
-    };
-    if at == cut.parent {
-        return reproject_sides(out, src, left, to, cut);
+    if start < cut.leaf {
+        return start - at - 2;
     }
-    out[0] = 2;
-    out[1] = 0;
-    let sides = reproject_sides(&mut out[2..], src, left, to, cut);
-    Copied {
-        read: sides.read,
-        wrote: 2 + sides.wrote,
+    start - at - 2 - (cut.end - cut.leaf)
+}
+
+// Puts the new index of each column that is left at its place in the copy.
+fn patch_columns(out: &mut [u8], src: &[u8], rows: Rows, to: &[u16], cut: Cut)
+    requires { PatchFits src.now rows.numbers.now rows.next.now to.now cut out.old }
+    ensures { Patched src.now rows.entry.numbers.now rows.entry.next.now to.now cut out.old out.new }
+{
+    let at = rows.start(0);
+    let count = rows.after(0);
+    for i in 0..count {
+        let number = rows.numbers[i];
+        if number < 536870912 {
+            let start = number as usize / 32768;
+            if is_outside(cut, start) {
+                let index = to[short_at(src, start + 1)];
+                put_number(out, moved(cut, at, start) + 1, 2, usize::from(index));
+            }
+        }
     }
 }
 
-// The same for both sides of an And.
-#[cycle(reproject_remainder_reproject_sides)]
-pub fn reproject_sides(out: &mut [u8], src: &[u8], at: usize, to: &[u16], cut: Cut) -> Copied
-    requires { SidesFit src.now at to.now cut out.old }
-    ensures { SidesCopied src.now at to.now cut out.old out.new result }
+// Writes the expression whose nodes are in the rows without the leaf and its parent's head, its columns renumbered; answers its length.
+pub fn reproject_remainder(out: &mut [u8], src: &[u8], rows: Rows, to: &[u16], cut: Cut) -> usize
+    requires { RestFits src.now rows.numbers.now rows.next.now to.now cut out.old }
+    ensures { RestCopied src.now rows.entry.numbers.now rows.entry.next.now to.now cut out.old out.new result }
 {
-    let left = reproject_remainder(out, src, at, to, cut);
-    let next = left.read;
-    let w = left.wrote;
-    let right = reproject_remainder(&mut out[w..], src, next, to, cut);
-    Copied {
-        read: right.read,
-        wrote: w + right.wrote,
-    }
+    let parent = copy_at(out, 0, src, rows.start(0), cut.parent);
+    let leaf = copy_at(out, parent, src, cut.parent + 2, cut.leaf);
+    let length = copy_at(out, leaf, src, cut.end, rows.end(0));
+    patch_columns(out, src, rows, to, cut);
+    length
 }

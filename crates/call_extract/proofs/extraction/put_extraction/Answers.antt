@@ -13,17 +13,17 @@ wide c = omega (arith, c.child_indexes.auto.to)
 
 pub invariant_of-records : goal.invariant_of-records
 invariant_of-records c =
-    record { within = records-within c.requires.taking.entries }
+    record { within = records-within c.requires.extraction_fits.taking.entries }
 
 pub put_predicate-w-requires : goal.put_predicate-w-requires
 put_predicate-w-requires c =
-    predicate-fits c.requires c.child_indexes.new.to (wide (goal.at.put_predicate-w-requires c).After-child_indexes)
+    predicate-fits c.requires.extraction_fits c.child_indexes.new.to (wide (goal.at.put_predicate-w-requires c).After-child_indexes)
     c.child_indexes.ensures.child_table
 
 pub slice_bounds-put_remainder-count : goal.slice_bounds-put_remainder-count
 slice_bounds-put_remainder-count c =
     let put = c.put_predicate-w in
-    predicate-ends c.requires c.child_indexes.new.to (wide (goal.at.slice_bounds-put_remainder-count c).After-child_indexes)
+    predicate-ends c.requires.extraction_fits c.child_indexes.new.to (wide (goal.at.slice_bounds-put_remainder-count c).After-child_indexes)
     c.child_indexes.ensures.child_table
     put.new.out put.result put.auto.out put.ensures
 
@@ -32,15 +32,17 @@ slice_bounds-put_remainder-start c =
     omega (
       arith,
       (let put = c.put_predicate-w in
-          predicate-ends c.requires c.child_indexes.new.to (wide (goal.at.slice_bounds-put_remainder-start c).After-child_indexes)
+          predicate-ends c.requires.extraction_fits c.child_indexes.new.to
+          (wide (goal.at.slice_bounds-put_remainder-start c).After-child_indexes)
           c.child_indexes.ensures.child_table
           put.new.out put.result put.auto.out put.ensures),
     )
 
-pub put_remainder-requires : goal.put_remainder-requires
-put_remainder-requires c =
+pub put_remainder-requires-clause-remainder_fits : goal.put_remainder-requires-clause-remainder_fits
+put_remainder-requires-clause-remainder_fits c =
     let put = c.put_predicate-w in
-    remainder-fits c.requires c.child_indexes.new.to (wide (goal.at.put_remainder-requires c).After-child_indexes)
+    remainder-fits c.requires.extraction_fits c.child_indexes.new.to
+    (wide (goal.at.put_remainder-requires-clause-remainder_fits c).After-child_indexes)
     c.child_indexes.ensures.child_table
     put.new.out put.result put.auto.out put.ensures
 
@@ -53,7 +55,7 @@ overflow_add-result c =
           let put = c.put_predicate-w in
           extraction-is c.child_indexes.new.to
           (wide (goal.at.overflow_add-result c).After-child_indexes) c.child_indexes.ensures.child_table
-          c.args.out.now put.new.out rest.new.out put.result rest.result put.ensures rest.ensures)) c.requires,
+          c.args.out.now put.new.out rest.new.out put.result rest.result put.ensures rest.ensures)) c.requires.extraction_fits,
     )
 
 pub returns : goal.returns

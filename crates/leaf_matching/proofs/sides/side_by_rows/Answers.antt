@@ -41,11 +41,21 @@ short_at-index-requires c =
 
 pub overflow_mul-index : goal.overflow_mul-index
 overflow_mul-index c =
-    omega (arith, c.short_at-index.ensures, c.ranges.filter, over-entry (here (goal.at.overflow_mul-index c).In-loop-i c.if-number-lt536870912.true))
+    omega (
+      arith,
+      c.short_at-index.ensures,
+      c.ranges.filter,
+      over-entry (here (goal.at.overflow_mul-index c).In-loop-i c.if-number-lt536870912.true),
+    )
 
 pub overflow_add-filter : goal.overflow_add-filter
 overflow_add-filter c =
-    omega (arith, c.short_at-index.ensures, c.ranges.filter, over-entry (here (goal.at.overflow_add-filter c).In-loop-i c.if-number-lt536870912.true))
+    omega (
+      arith,
+      c.short_at-index.ensures,
+      c.ranges.filter,
+      over-entry (here (goal.at.overflow_add-filter c).In-loop-i c.if-number-lt536870912.true),
+    )
 
 pub bounds-filter-filter : goal.bounds-filter-filter
 bounds-filter-filter c =

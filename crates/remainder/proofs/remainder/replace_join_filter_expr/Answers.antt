@@ -19,7 +19,7 @@ ended g c =
     omega (
       arith,
       c.put_records-w.auto.out,
-      records-end p.frame left (replicate g.row.N false) flags.new.used p.cutting clear.0 flags.auto.used
+      records-end p.frame c.requires.of_tree left (replicate g.row.N false) flags.new.used p.cutting clear.0 flags.auto.used
           flags.ensures c.put_records-w.ensures p.room,
     )
 
@@ -29,7 +29,8 @@ pub collect_held-requires : goal.collect_held-requires
 collect_held-requires g c =
     let p = c.requires.remainder_fits in
     let left = (something-left p.cutting c.requires.leaf_elsewhere).1 in
-    still-unheld p.frame left (replicate g.row.N false) p.cutting (clear-rows g.row.N c.args.records.count c.requires.count_bound.0).0
+    still-unheld p.frame c.requires.of_tree left (replicate g.row.N false) p.cutting
+    (clear-rows g.row.N c.args.records.count c.requires.count_bound.0).0
     (clear-rows g.row.N c.args.records.count c.requires.count_bound.0).2
 
 pub invariant_of-marked : goal.invariant_of-marked
@@ -43,7 +44,7 @@ put_records-w-requires g c =
     let left = (something-left p.cutting c.requires.leaf_elsewhere).1 in
     let used = (replicate g.row.N false) in
     let clear = clear-rows g.row.N c.args.records.count c.requires.count_bound.0 in record {
-      all_fit = records-fit p.frame left used flags.new.used p.cutting clear.0 flags.auto.used flags.ensures
+      all_fit = records-fit p.frame c.requires.of_tree left used flags.new.used p.cutting clear.0 flags.auto.used flags.ensures
           c.args.out.now p.room;
       rows_fit = clear.1;
     }
@@ -56,14 +57,14 @@ pub slice_bounds-reproject_remainder-start : goal.slice_bounds-reproject_remaind
 slice_bounds-reproject_remainder-start g c =
     ended g (goal.at.slice_bounds-reproject_remainder-start g c).After-put_records-w
 
-pub reproject_remainder-copied-requires : goal.reproject_remainder-copied-requires
-reproject_remainder-copied-requires g c =
+pub reproject_remainder-requires : goal.reproject_remainder-requires
+reproject_remainder-requires g c =
     let flags = c.collect_held in
     let p = c.requires.remainder_fits in
     let left = (something-left p.cutting c.requires.leaf_elsewhere).1 in
     let put = c.put_records-w in
     let clear = clear-rows g.row.N c.args.records.count c.requires.count_bound.0 in
-    expr-fits p.frame left (replicate g.row.N false) flags.new.used p.cutting clear.0 flags.auto.used flags.ensures
+    expr-fits p.frame c.requires.of_tree left (replicate g.row.N false) flags.new.used p.cutting clear.0 flags.auto.used flags.ensures
     put.ensures (omega (arith, put.auto.to, clear.1.numbered)) put.auto.out p.room
 
 pub overflow_add-result : goal.overflow_add-result
@@ -76,9 +77,10 @@ overflow_add-result g c =
       ((let flags = c.collect_held in
           let left = (something-left p.cutting c.requires.leaf_elsewhere).1 in
           let put = c.put_records-w in
-          let expr = c.reproject_remainder-copied in
+          let expr = c.reproject_remainder in
           let clear = clear-rows g.row.N c.args.records.count c.requires.count_bound.0 in
-          frame-put p.frame left (replicate g.row.N false) flags.new.used p.cutting clear.0 flags.auto.used flags.ensures put.ensures
+          frame-put p.frame c.requires.of_tree left (replicate g.row.N false) flags.new.used p.cutting clear.0 flags.auto.used flags.ensures
+          put.ensures
           expr.new.out expr.result (omega (arith, put.auto.to, clear.1.numbered)) expr.ensures)).0,
     )
 
@@ -88,7 +90,8 @@ returns g c =
     let flags = c.collect_held in
     let left = (something-left cutting c.requires.leaf_elsewhere).1 in
     let put = c.put_records-w in
-    let expr = c.reproject_remainder-copied in
+    let expr = c.reproject_remainder in
     let clear = clear-rows g.row.N c.args.records.count c.requires.count_bound.0 in
-    frame-put frame left (replicate g.row.N false) flags.new.used cutting clear.0 flags.auto.used flags.ensures put.ensures
+    frame-put frame c.requires.of_tree left (replicate g.row.N false) flags.new.used cutting clear.0 flags.auto.used flags.ensures
+    put.ensures
     expr.new.out expr.result (omega (arith, put.auto.to, clear.1.numbered)) expr.ensures
