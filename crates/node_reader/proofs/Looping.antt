@@ -14,7 +14,8 @@ use Rattle.expression.specs.declared.heads.Head.{Head}
 use Rattle.node_rows.specs.Stores.{Stored}
 use Rattle.node_reader.specs.Nodes.{NodeHead, Lent}
 use Rattle.node_reader.proofs.Storing.{Below, leaf, node-filled, lent_again}
-use Rattle.node_reader.proofs.OpenNodes.{Begun, Opened, root, unread, Closing, noted_again, child-read, pushed, stops, closing}
+use Rattle.node_reader.proofs.OpenNodes.{Begun, Opened, root, unread, Noted, Closing}
+use Rattle.node_reader.proofs.OpenNodes.{noted_again, child-read, opened-below, pushed, stops, closing}
 
 -- The nodes that are open, and what else stays.
 pub record InLoop (b : Begun) (more own place : List ℕ) (level next i depth : ℕ) (numbered indexed : List ℕ) : Type 0 where
@@ -30,20 +31,23 @@ pub record InLoop (b : Begun) (more own place : List ℕ) (level next i depth : 
   pub opened : Opened b more own place 0 level next i reach numbered indexed
   pub reached : max reach (level + 1) ≡ depth
 
--- Nothing is read yet.
-pub begins : (b : Begun) (more own place : List ℕ) → get_or more 0 0 ≡ 1 → length more ≡ 65 → length own ≡ 65 → length place ≡ 65
-    → b.at ≤ length b.bytes → InLoop b more own place 0 b.at b.count 1 b.numbers b.indexes
-begins b more own place one wide owns places within = record {
+-- The node of the beginning is open.
+pub begins : (b : Begun) (more own place : List ℕ) (head : Head) → NodeHead b.bytes b.at 64 b.count b.columns (Ok head) → 0 < head.children
+    → Lent b.bytes b.numbers b.indexes → b.at ≤ length b.bytes → Noted more own place 1 head.children b.count b.at
+    → length more ≡ 65 → length own ≡ 65 → length place ≡ 65
+    → InLoop b more own place 1 head.next (b.count + 1) 2 b.numbers b.indexes
+begins b more own place head above some lent within noted wide owns places = record {
   high = omega arith;
   low = omega arith;
   wide = wide;
   owns_wide = owns;
   places_wide = places;
-  within = within;
+  within = above.0;
   same = refl;
   alike = refl;
-  reach = 0;
-  opened = root one (unread refl (record { begins = refl; shallow = refl; rest = λ numbers indexes r h. h }));
+  reach = max 0 1;
+  opened = opened-below head above some within lent noted
+      (root (unread refl (record { begins = refl; shallow = refl; rest = λ numbers indexes r h. h })));
   reached = omega arith;
 }
 
@@ -52,14 +56,14 @@ module _ {b : Begun} {more own place : List ℕ} {level next i depth : ℕ} {num
   lent-now : Lent b.bytes b.numbers b.indexes → Lent b.bytes numbers indexes
   lent-now lent = lent_again r.same r.alike lent
 
-  -- A child of the last open node is read, or the node itself.
-  module _ (some : get_or more level 0 ≡ 0 → ⊥) where
+  -- A child of the last open node is read.
+  module _ (inside : level ≡ 0 → ⊥) (some : get_or more level 0 ≡ 0 → ⊥) where
     fewer : List ℕ
     fewer = set more level (get_or more level 0 - 1)
 
     taken : Opened b fewer own place 1 level next i r.reach numbers indexes
     unfolding fewer
-    taken = noted_again 1 (get_or more level 0 - 1) (omega arith) (omega (arith, r.high, r.wide)) r.opened
+    taken = noted_again 1 (get_or more level 0 - 1) inside (omega arith) (omega (arith, r.high, r.wide)) r.opened
 
     pub refused : (why : Refusal) → node b.columns (64 - level) i (drop next b.bytes) ≡ stopped (number_of why)
         → node b.columns 64 b.count (drop b.at b.bytes) ≡ stopped (number_of why)
@@ -71,7 +75,7 @@ module _ {b : Begun} {more own place : List ℕ} {level next i depth : ℕ} {num
           → InLoop b (set (set more level (get_or more level 0 - 1)) (level + 1) head.children) (set own (level + 1) i)
           (set place (level + 1) next) (level + 1) head.next (i + 1) deeper numbers indexes
       unfolding fewer
-      goes-down inner deeper larger =
+      goes-down parent deeper larger =
           let up : suc level ≡ level + 1 = omega arith in
           let room : suc level < 65 = omega (arith, above.4) in
           record {
@@ -116,18 +120,17 @@ module _ {b : Begun} {more own place : List ℕ} {level next i depth : ℕ} {num
         }
 
   -- All children of the last open node were read.
-  module _ (bytes : AllBytes b.bytes) (full : get_or more level 0 ≡ 0) (inside : level ≡ 0 → ⊥) (mine : ℕ)
-      (is : mine ≡ get_or own level 0) where
-    pub closing-now : Closing b more own place (level - 1) (get_or place level 0) mine next i r.reach numbers indexes
-    closing-now = rw is (closing bytes inside full r.opened)
+  module _ (inside : level ≡ 0 → ⊥) (bytes : AllBytes b.bytes) (full : get_or more level 0 ≡ 0) {mine start : ℕ}
+      (own_is : mine ≡ get_or own level 0) (place_is : start ≡ get_or place level 0) where
+    pub closing-now : Closing b more own place (level - 1) start mine next i r.reach numbers indexes
+    closing-now = rw (own_is, place_is) (closing bytes inside full r.opened)
 
-    pub closing-here : Below b.columns b.bytes (get_or place level 0) (64 - (level - 1)) mine closing-now.v.head closing-now.v.numbers
+    pub closing-here : Below b.columns b.bytes start (64 - (level - 1)) mine closing-now.v.head closing-now.v.numbers
         closing-now.v.indexes numbers indexes (record { next = next; count = i; depth = closing-now.v.deepest + 1 })
     closing-here = closing-now.below
 
     pub closed : (numbered indexed : List ℕ) → length numbered ≡ length numbers → length indexed ≡ length indexes
-        → Stored numbers indexes mine (record { kind = get_or b.bytes (get_or place level 0) 0; start = get_or place level 0; end = next }) i
-        numbered indexed
+        → Stored numbers indexes mine (record { kind = get_or b.bytes start 0; start = start; end = next }) i numbered indexed
         → InLoop b more own place (level - 1) next i depth numbered indexed
     closed numbered indexed same alike stored =
         let k = closing-now in

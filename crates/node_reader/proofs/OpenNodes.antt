@@ -49,10 +49,10 @@ pub record Whole (b : Begun) (next i reach : ℕ) (numbered indexed : List ℕ) 
   pub read : NodeWalked b 64 b.at b.count b.numbers b.indexes (Ok (record { next = next; count = i; depth = reach })) numbered indexed
   pub counted : Counted b.count 0 (Ok (record { next = next; count = i; depth = reach }))
 
--- The node of the beginning is still to come, or was read.
-pub data Root (b : Begun) (to_come next i reach : ℕ) (numbered indexed : List ℕ) : Type 0 where
-  unread : to_come ≡ 1 → Unread b next i reach numbered indexed → Root b to_come next i reach numbered indexed
-  whole : to_come ≡ 0 → Whole b next i reach numbered indexed → Root b to_come next i reach numbered indexed
+-- The node of the beginning is being read, or was.
+pub data Root (b : Begun) (taken next i reach : ℕ) (numbered indexed : List ℕ) : Type 0 where
+  unread : taken ≡ 1 → Unread b next i reach numbered indexed → Root b taken next i reach numbered indexed
+  whole : taken ≡ 0 → Whole b next i reach numbered indexed → Root b taken next i reach numbered indexed
 
 -- An open node: its head, the rows when its children began, how many of these were read and how deep, and how deep what was read before.
 pub record Level : Type 0 where
@@ -83,8 +83,8 @@ pub record Noted (more own place : List ℕ) (k to_come index at : ℕ) : Type 0
 
 -- The nodes that are open, the last of them at this level, and `taken` of its children being read: 1 of each that has an open one below.
 pub data Opened (b : Begun) (more own place : List ℕ) : (taken level next i reach : ℕ) → (numbered indexed : List ℕ) → Type 0 where
-  root : {taken next i reach to_come : ℕ} {numbered indexed : List ℕ} → get_or more 0 0 ≡ to_come
-      → Root b (to_come + taken) next i reach numbered indexed → Opened b more own place taken zero next i reach numbered indexed
+  root : {taken next i reach : ℕ} {numbered indexed : List ℕ} → Root b taken next i reach numbered indexed
+      → Opened b more own place taken zero next i reach numbered indexed
   open_node : {taken l next i reach to_come index at : ℕ} {numbered indexed : List ℕ} {v : Level}
       → Noted more own place (suc l) to_come index at → OpenNode b v l at index (to_come + taken) next i reach numbered indexed
       → Opened b more own place 1 l at index v.before v.numbers v.indexes
@@ -109,7 +109,7 @@ lower h = record { each = λ k low. h.each k (omega arith) }
 kept : {b : Begun} {more more₁ own own₁ place place₁ : List ℕ} {taken l next i reach : ℕ} {numbered indexed : List ℕ}
     → SameUpTo l more more₁ → SameUpTo l own own₁ → SameUpTo l place place₁
     → Opened b more own place taken l next i reach numbered indexed → Opened b more₁ own₁ place₁ taken l next i reach numbered indexed
-kept m o p (root e r) = root (m.each 0 (omega arith) ∙ e) r
+kept m o p (root r) = root r
 kept m o p (open_node {l = l} noted node rest) =
     open_node (record {
       more_is = m.each (suc l) (omega arith) ∙ noted.more_is;
@@ -119,11 +119,11 @@ kept m o p (open_node {l = l} noted node rest) =
 
 -- Another number of children to come, and of those that are being read; the sum is as it was.
 pub noted_again : {b : Begun} {more own place : List ℕ} {taken level next i reach : ℕ} {numbered indexed : List ℕ} (t x : ℕ)
-    → x + t ≡ get_or more level 0 + taken → level < length more → Opened b more own place taken level next i reach numbered indexed
+    → (level ≡ 0 → ⊥) → x + t ≡ get_or more level 0 + taken → level < length more
+    → Opened b more own place taken level next i reach numbered indexed
     → Opened b (set more level x) own place t level next i reach numbered indexed
-noted_again {b} {more} {next = next} {i} {reach} {numbered} {indexed} t x h fits (root e r) =
-    root (get_or-set_same more 0 x 0 fits) (subst (λ (k : ℕ). Root b k next i reach numbered indexed) (omega (arith, h, e)) r)
-noted_again {b} {more} {own} {place} {next = next} {i} {reach} {numbered} {indexed} t x h fits
+noted_again t x inside h fits (root r) = absurd (inside refl)
+noted_again {b} {more} {own} {place} {next = next} {i} {reach} {numbered} {indexed} t x inside h fits
     (open_node {l = l} {index = index} {at = at} {v = v} noted node rest) =
     open_node (record {
       more_is = get_or-set_same more (suc l) x 0 fits;
@@ -141,14 +141,14 @@ pub child-read : {b : Begun} {more own place : List ℕ} {l at index reach : ℕ
     → length numbered ≡ length numbers → length indexed ≡ length indexes
     → Opened b more own place 1 l at index reach numbers indexes
     → Opened b more own place 0 l first.next first.count (max reach (l + first.depth)) numbered indexed
-child-read {reach = reach} {numbered = numbered} {indexed} first read counted deep same alike (root e (unread one u)) =
+child-read {reach = reach} {numbered = numbered} {indexed} first read counted deep same alike (root (unread one u)) =
     let depth_is : max reach (0 + first.depth) ≡ first.depth = omega (arith, u.shallow) in
-    root e (whole (omega (arith, one)) (record {
+    root (whole refl (record {
       deep = omega arith;
       read = rw depth_is (u.rest numbered indexed (Ok first) read);
       counted = rw depth_is (omega (arith, counted.0, u.begins), counted.1);
     }))
-child-read first read counted deep same alike (root e (whole none w)) = absurd (omega (arith, none))
+child-read first read counted deep same alike (root (whole none w)) = absurd (omega (arith, none))
 child-read first read counted deep same alike (open_node {v = v} noted node rest) =
     open_node {v = record {
       head = v.head;
@@ -168,19 +168,13 @@ child-read first read counted deep same alike (open_node {v = v} noted node rest
       reaches = omega (arith, node.reaches);
     }) rest
 
--- A node with children is open.
-pub pushed : {b : Begun} {more own place : List ℕ} {l next i reach : ℕ} {numbered indexed : List ℕ} (head : Head)
+-- A node with children is open once it is noted.
+pub opened-below : {b : Begun} {more own place : List ℕ} {l next i reach : ℕ} {numbered indexed : List ℕ} (head : Head)
     → NodeHead b.bytes next (64 - l) i b.columns (Ok head) → 0 < head.children → next ≤ length b.bytes → Lent b.bytes numbered indexed
-    → suc l < length more → suc l < length own → suc l < length place → Opened b more own place 1 l next i reach numbered indexed
-    → Opened b (set more (suc l) head.children) (set own (suc l) i) (set place (suc l) next) 0 (suc l) head.next (i + 1)
-    (max reach (suc l)) numbered indexed
-pushed {b} {more} {own} {place} {l} {next} {i} {reach} {numbered} {indexed} head above some within lent m o p opened =
-    open_node {v = record { head = head; numbers = numbered; indexes = indexed; done = 0; deepest = 0; before = reach }}
-    (record {
-      more_is = get_or-set_same more (suc l) head.children 0 m;
-      own_is = get_or-set_same own (suc l) i 0 o;
-      place_is = get_or-set_same place (suc l) next 0 p;
-    })
+    → Noted more own place (suc l) head.children i next → Opened b more own place 1 l next i reach numbered indexed
+    → Opened b more own place 0 (suc l) head.next (i + 1) (max reach (suc l)) numbered indexed
+opened-below {b} {l = l} {i = i} {reach} {numbered} {indexed} head above some within lent noted rest =
+    open_node {v = record { head = head; numbers = numbered; indexes = indexed; done = 0; deepest = 0; before = reach }} noted
     (record {
       within = within;
       lent = lent;
@@ -191,6 +185,19 @@ pushed {b} {more} {own} {place} {l} {next} {i} {reach} {numbered} {indexed} head
       some = some;
       deep = λ h. absurd (omega arith);
       reaches = omega arith;
+    }) rest
+
+pub pushed : {b : Begun} {more own place : List ℕ} {l next i reach : ℕ} {numbered indexed : List ℕ} (head : Head)
+    → NodeHead b.bytes next (64 - l) i b.columns (Ok head) → 0 < head.children → next ≤ length b.bytes → Lent b.bytes numbered indexed
+    → suc l < length more → suc l < length own → suc l < length place → Opened b more own place 1 l next i reach numbered indexed
+    → Opened b (set more (suc l) head.children) (set own (suc l) i) (set place (suc l) next) 0 (suc l) head.next (i + 1)
+    (max reach (suc l)) numbered indexed
+pushed {more = more} {own} {place} {l} {next} {i} head above some within lent m o p opened =
+    opened-below head above some within lent
+    (record {
+      more_is = get_or-set_same more (suc l) head.children 0 m;
+      own_is = get_or-set_same own (suc l) i 0 o;
+      place_is = get_or-set_same place (suc l) next 0 p;
     })
     (kept (stored-above more l (suc l) head.children (omega arith)) (stored-above own l (suc l) i (omega arith))
     (stored-above place l (suc l) next (omega arith)) opened)
@@ -200,10 +207,11 @@ pub stops : {b : Begun} {more own place : List ℕ} {l at index reach : ℕ} {nu
     → node b.columns (64 - l) index (drop at b.bytes) ≡ stopped (number_of why)
     → Opened b more own place 1 l at index reach numbered indexed
     → node b.columns 64 b.count (drop b.at b.bytes) ≡ stopped (number_of why)
-stops {numbered = numbered} {indexed} why h (root e (unread one u)) = u.rest numbered indexed (Err why) h
-stops why h (root e (whole none w)) = absurd (omega (arith, none))
+stops {numbered = numbered} {indexed} why h (root (unread one u)) = u.rest numbered indexed (Err why) h
+stops why h (root (whole none w)) = absurd (omega (arith, none))
 stops {b} why h (open_node {l = l} {index = index} {v = v} noted above rest) =
-    let below : repeat_exprs v.head.children (node b.columns (64 - suc l)) (index + 1) (drop v.head.next b.bytes) ≡ stopped (number_of why) =
+    let below : repeat_exprs v.head.children (node b.columns (64 - suc l)) (index + 1) (drop v.head.next b.bytes)
+    ≡ stopped (number_of why) =
     row-stops above.row (omega (arith, above.left)) why h in
     let levels : 64 - suc l ≡ 64 - l - 1 = omega arith in
     stops why
@@ -226,7 +234,7 @@ pub record Closing (b : Begun) (more own place : List ℕ) (l at index next i re
 pub closing : {b : Begun} {more own place : List ℕ} {level next i reach : ℕ} {numbered indexed : List ℕ} → AllBytes b.bytes
     → (level ≡ 0 → ⊥) → get_or more level 0 ≡ 0 → Opened b more own place 0 level next i reach numbered indexed
     → Closing b more own place (level - 1) (get_or place level 0) (get_or own level 0) next i reach numbered indexed
-closing bytes some none (root e r) = absurd (some refl)
+closing bytes some none (root r) = absurd (some refl)
 closing {b} {more} {own} {place} {next = next} {i} {reach} {numbered} {indexed} bytes some none
     (open_node {l = l} {index = index} {at = at} {v = v} noted above rest) =
     let one : suc l - 1 ≡ l = omega arith in

@@ -1,4 +1,4 @@
-// Expressions of depth at most 64, read by the loop over their nodes.
+// Expressions of depth at most 64, read by the loop over their nodes, or by the walk in bytes that are too many for it.
 ghost use Rattle.std.specs.Prelude.{◌≤◌, length};
 ghost use Rattle.node_reader.specs.Heads.{columns_of};
 ghost use Rattle.node_reader.specs.Nodes.{Lent};
@@ -6,7 +6,7 @@ ghost use Rattle.node_reader.specs.Places.{ExpressionIs, ExpressionIn};
 
 use super::call_heads::{Columns, Source};
 use super::reading_loop::read_node;
-use super::walk::Walked;
+use super::walk::{Walked, node};
 use terms::refusals::Refusal;
 
 // An expression of depth at most 64, whose nodes go into the rows from `count` on, where these are so long.
@@ -21,7 +21,12 @@ pub fn expression_in(
     requires { (at ≤ length s.now) × Lent s.now numbers.old indexes.old }
     ensures { ExpressionIn s.now at count result (columns_of columns) numbers.new indexes.new }
 {
-    read_node(numbers, indexes, Source { bytes: s, columns }, at, count)
+    let source = Source { bytes: s, columns };
+    if s.len() <= 16384 {
+        read_node(numbers, indexes, source, at, count)
+    } else {
+        node(numbers, indexes, source, at, 64, count)
+    }
 }
 
 // An expression of depth at most 64, for those who have no rows to lend.

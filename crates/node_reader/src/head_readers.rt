@@ -108,6 +108,7 @@ fn other_head(s: &[u8], at: usize) -> Result<Head, Refusal>
 }
 
 // The fields of a node of this kind.
+#[inline(always)]
 pub fn head_of_kind(source: Source, at: usize, kind: u64) -> Result<Head, Refusal>
     requires { at ≤ length source.bytes.now }
     ensures { HeadIs source.entry.bytes.now at result (λ child. decode.node_of_kind (columns_of source.entry.columns) child kind) }

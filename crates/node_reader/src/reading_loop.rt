@@ -1,15 +1,16 @@
-// A node and all below it, read in one loop with a row of the nodes that are open; it answers as the walk does. Nodes left to count and
+// A node and all below it, read in one loop with notes of the nodes that are open; it answers as the walk does. Nodes left to count and
 // open nodes fall.
-ghost use Rattle.std.specs.Prelude.{◌≤◌, ◌+◌, length};
+ghost use Rattle.std.specs.Prelude.{◌≤◌, ◌<◌, ◌+◌, length, Ok};
 ghost use Rattle.definitions.specs.Decode as decode;
 ghost use Rattle.definitions.specs.Good.{depth};
 ghost use Rattle.node_reader.specs.Heads.{columns_of};
 ghost use Rattle.node_rows.specs.Rows.{Collected};
 ghost use Rattle.node_rows.specs.Stores.{Storable, Stored};
-ghost use Rattle.node_reader.specs.Nodes.{WalkedIs, Counted, Lent};
+ghost use Rattle.node_reader.specs.Nodes.{WalkedIs, Counted, NodeHead, Lent};
 
 use super::call_heads::Source;
 use super::walk::{Walked, node_head};
+use expression::heads::Head;
 use node_rows::collecting::Passed;
 use node_rows::numbers::put_node;
 use terms::refusals::Refusal;
@@ -34,36 +35,36 @@ fn put_leaf(
     put_node(numbers, indexes, count, kind, at, passed);
 }
 
-// A node of at most 64 levels and all below it. Open is a node of which children are read: of each it is noted how many are to come, its
-// index and its place; the first of `more` is for the node itself, to come as if it were an only child.
-pub fn read_node(
+// A node with children, whose head was read. A node is open while children of it are to come: it is noted at its level how many, and its
+// index and its place; at level 0 none is open.
+fn read_open(
     numbers: &mut [u32],
     indexes: &mut [u16],
     source: Source,
     at: usize,
+    head: Head,
     mut count: usize,
 ) -> Result<Walked, Refusal>
-    requires { (at ≤ length source.bytes.now) × Lent source.bytes.now numbers.old indexes.old }
+    requires lent { Lent source.bytes.now numbers.old indexes.old }
+    requires short { (at ≤ length source.bytes.now) × (length source.bytes.now ≤ 16384) }
+    requires head { NodeHead source.bytes.now at 64 count (columns_of source.columns) (Ok head) × (0 < head.children) }
     ensures read { WalkedIs source.entry.bytes.now at count result (decode.node (columns_of source.entry.columns) 64) depth
         (length numbers.old)
         (Collected at count numbers.old indexes.old numbers.new indexes.new) }
     ensures counted { Counted count 0 result }
 {
     let s = source.bytes;
-    let mut more = [0u8; 65];
-    let mut index = [0u16; 65];
-    let mut place = [0usize; 65];
-    more[0] = 1;
-    let mut level: usize = 0;
-    let mut depth: usize = 1;
-    let mut next = at;
-    loop {
+    let mut more = [head.children as u8; 65];
+    let mut index = [count as u16; 65];
+    let mut place = [at as u16; 65];
+    let mut level: usize = 1;
+    let mut depth: usize = 2;
+    let mut next = head.next;
+    count += 1;
+    while level != 0 {
         if more[level] == 0 {
-            if level == 0 {
-                return Ok(Walked { next, count, depth });
-            }
             let own = usize::from(index[level]);
-            let start = place[level];
+            let start = usize::from(place[level]);
             let passed = Passed {
                 end: next,
                 index: count,
@@ -79,11 +80,41 @@ pub fn read_node(
                 level += 1;
                 more[level] = head.children as u8;
                 index[level] = count as u16;
-                place[level] = next;
+                place[level] = next as u16;
                 depth = depth.max(level + 1);
             }
             next = head.next;
             count += 1;
         }
     }
+    Ok(Walked { next, count, depth })
+}
+
+// A node of at most 64 levels and all below it, in bytes so few that two bytes hold a place. A leaf needs no notes, which would have to be
+// cleared.
+pub fn read_node(
+    numbers: &mut [u32],
+    indexes: &mut [u16],
+    source: Source,
+    at: usize,
+    count: usize,
+) -> Result<Walked, Refusal>
+    requires lent { Lent source.bytes.now numbers.old indexes.old }
+    requires short { (at ≤ length source.bytes.now) × (length source.bytes.now ≤ 16384) }
+    ensures read { WalkedIs source.entry.bytes.now at count result (decode.node (columns_of source.entry.columns) 64) depth
+        (length numbers.old)
+        (Collected at count numbers.old indexes.old numbers.new indexes.new) }
+    ensures counted { Counted count 0 result }
+{
+    let head = node_head(source, at, 64, count)?;
+    if head.children != 0 {
+        return read_open(numbers, indexes, source, at, head, count);
+    }
+    let s = source.bytes;
+    put_leaf(numbers, indexes, s[at], at, head.next, count);
+    Ok(Walked {
+        next: head.next,
+        count: count + 1,
+        depth: 1,
+    })
 }

@@ -22,7 +22,8 @@ pub struct Walked {
     pub depth: usize,
 }
 
-// A node's kind and fields, with this many levels left and so many nodes counted before it.
+// A node's kind and fields, with this many levels left and so many nodes counted before it. The hint is for the loop.
+#[inline(always)]
 pub fn node_head(source: Source, at: usize, levels: usize, count: usize) -> Result<Head, Refusal>
     requires { at ≤ length source.bytes.now }
     ensures { NodeHead source.entry.bytes.now at levels count (columns_of source.entry.columns) result }

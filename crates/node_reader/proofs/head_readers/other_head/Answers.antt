@@ -10,5 +10,10 @@ use Rattle.node_reader.proofs.head_readers.other_head.Goals as goal
 pub returns : goal.returns
 unfolding other_node children_of
 returns c =
-    let many = c.in_ok-children.ensures in
-    (many.0, other _, (λ child n. after _ (c.in_ok-many.ensures.1 n) ∙ after _ (many.1 n)), λ es as-many. refl, (byte-up-to-back 16 0 0 _ _ _ (many.1 0)).1)
+    let many = c.in_ok-children.ensures in (
+      many.0,
+      other _,
+      (λ child n. after _ (c.in_ok-many.ensures.1 n) ∙ after _ (many.1 n)),
+      λ es as-many. refl,
+      (byte-up-to-back 16 0 0 _ _ _ (many.1 0)).1,
+    )

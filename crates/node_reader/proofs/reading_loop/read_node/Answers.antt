@@ -1,57 +1,21 @@
--- Of each open node the loop keeps what the walk over its children would: a leaf or a closed node is one more child of the node above it.
+-- A leaf is read with its head; any other node is the loop's.
 use mathlib.Core.Path.{refl}
-use Rattle.node_reader.proofs.Reading.{kept}
 use Rattle.node_reader.proofs.Standing.{all-bytes}
-use Rattle.node_reader.proofs.Storing.{has-kind, storable}
-use Rattle.node_reader.proofs.Looping.{begins, refused, goes-down, leaf-here, leaf-read, closing-here, closed}
+use Rattle.node_reader.proofs.Storing.{leaf, has-kind, storable, node-filled}
 use Rattle.node_reader.proofs.reading_loop.read_node.Goals as goal
-use Rattle.node_reader.proofs.reading_loop.read_node.Goals.{then-head-eq0, else-head-eq0}
 
-pub loop-more-init : goal.loop-more-init
-loop-more-init c =
-    begins _ _ _ _ refl refl refl refl c.requires.0
-
-pub bounds-s-start : goal.bounds-s-start
-bounds-s-start c =
+pub bounds-s-at : goal.bounds-s-at
+bounds-s-at c =
     let bytes = all-bytes c.args.source.bytes.now c.type_inv.s in
-    has-kind (closing-here c.loop-more.invariant bytes c.if-more-level-eq0.true c.if-level-eq0.false c.from-own.result c.from-own.ensures)
-
-pub put_node-requires : goal.put_node-requires
-put_node-requires c =
-    let bytes = all-bytes c.args.source.bytes.now c.type_inv.s in
-    storable (closing-here c.loop-more.invariant bytes c.if-more-level-eq0.true c.if-level-eq0.false c.from-own.result c.from-own.ensures)
-
-pub loop-more-preserved-then-more-level-eq0 : goal.loop-more-preserved-then-more-level-eq0
-loop-more-preserved-then-more-level-eq0 c =
-    let bytes = all-bytes c.args.source.bytes.now c.type_inv.s in
-    closed c.loop-more.invariant bytes c.if-more-level-eq0.true c.if-level-eq0.false c.from-own.result c.from-own.ensures _ _
-    c.put_node.auto.numbers c.put_node.auto.next c.put_node.ensures
-
-pub returns-in_err-head-clause-read : goal.returns-in_err-head-clause-read
-returns-in_err-head-clause-read c =
-    rw (kept c.from_residual.ensures) (refused c.loop-more.invariant c.if-more-level-eq0.false _ c.in_err-head.ensures)
-
-pub bounds-s-next : goal.bounds-s-next
-bounds-s-next c =
-    let bytes = all-bytes c.args.source.bytes.now c.type_inv.s in
-    has-kind (leaf-here c.loop-more.invariant c.if-more-level-eq0.false c.requires.1 _ c.in_ok-head.ensures bytes c.if-head-eq0.true)
+    has-kind (leaf c.in_ok-head.ensures bytes c.requires.short.0 c.requires.lent refl refl refl c.if-head-ne0.false)
 
 pub put_leaf-requires : goal.put_leaf-requires
 put_leaf-requires c =
-    let bytes = all-bytes c.args.source.bytes.now c.type_inv.s in
-    storable (leaf-here c.loop-more.invariant c.if-more-level-eq0.false c.requires.1 _ c.in_ok-head.ensures bytes c.if-head-eq0.true)
+    let bytes = all-bytes c.args.source.bytes.now c.shared_slice_known-1.given in
+    storable (leaf c.in_ok-head.ensures bytes c.requires.short.0 c.requires.lent refl refl refl c.if-head-ne0.false)
 
-pub loop-more-preserved : goal.loop-more-preserved
-loop-more-preserved c =
-    elim c.if-head-eq0.branch [
-      | then-head-eq0 w ↦
-          let bytes = all-bytes c.args.source.bytes.now w.shared_slice_known-then-head-eq0-1.given in
-          let put = w.put_leaf in
-          rw (w.numbers-is, w.indexes-is, w.more-is, w.index-is, w.place-is, w.level-is, w.depth-is)
-          (leaf-read c.loop-more.invariant c.if-more-level-eq0.false c.requires.1 c.in_ok-head.head c.in_ok-head.ensures bytes
-          w.if-head-eq0.true _ _ put.auto.numbers put.auto.indexes put.ensures)
-      | else-head-eq0 w ↦
-          rw (w.numbers-is, w.indexes-is, w.more-is, w.index-is, w.place-is, w.level-is, w.depth-is)
-          (goes-down c.loop-more.invariant c.if-more-level-eq0.false c.requires.1 c.in_ok-head.head c.in_ok-head.ensures w.if-head-eq0.false
-          w.max-depth.result w.max-depth.ensures)
-    ]
+pub returns-clause-read : goal.returns-clause-read
+returns-clause-read c =
+    let bytes = all-bytes c.args.source.bytes.now c.shared_slice_known-1.given in
+    node-filled (leaf c.in_ok-head.ensures bytes c.requires.short.0 c.requires.lent refl refl refl c.if-head-ne0.false) _ _
+    c.put_leaf.ensures

@@ -3,10 +3,10 @@ use Prim.Native.Nat.{◌+◌, ◌-◌, ◌*◌}
 use Rattle.node_reader.specs.Heads.{columns_of}
 use Rattle.node_reader.proofs.OpenNodes.{Begun}
 use Rattle.node_reader.proofs.Looping.{InLoop}
-use Rattle.node_reader.proofs.reading_loop.read_node.Given as goal
+use Rattle.node_reader.proofs.reading_loop.read_open.Given as goal
 
-abbrev pub invariant-loop-more : goal.invariant-loop-more
-invariant-loop-more l =
+abbrev pub invariant-loop-level : goal.invariant-loop-level
+invariant-loop-level l =
     let b : Begun = record {
       columns = columns_of l.source.columns;
       bytes = l.source.bytes.now;
@@ -17,5 +17,5 @@ invariant-loop-more l =
     } in
     InLoop b l.more l.index l.place l.level l.next l.count l.depth l.numbers l.indexes
 
-abbrev pub decreases-loop-more : goal.decreases-loop-more
-decreases-loop-more l = 2 * (1024 - l.count) + l.level
+abbrev pub decreases-loop-level : goal.decreases-loop-level
+decreases-loop-level l = 2 * (1024 - l.count) + l.level
