@@ -1,17 +1,18 @@
 -- Laws of the place of an item: one item more, and what an item found among the first says of the whole list.
 use Rattle.std.specs.Prelude.{if◌then◌else◌}
-use Prim.Native.Nat.{ℕ, suc, ◌+◌, ◌<◌}
+use Prim.Native.Nat.{ℕ, suc, ◌+◌, ◌-◌, ◌≤◌, ◌<◌}
 use native.Mathlib.Omega.{arith}
 use native.Mathlib.Numerals.{add-one}
 use mathlib.Core.Path.{◌≡◌, refl, sym, ap, ◌∙◌, subst}
-use mathlib.Core.Bool.{Bool, true, false}
+use mathlib.Core.Bool.{Bool, true, false, ◌||◌}
 use mathlib.Core.List.{List, [], ◌∷◌, ◌++◌}
 use mathlib.Core.Option.{Option, none, some, map}
-use lib.ListN.{length, take, get_or}
-use lib.Seq.{take-suc, length-take-le}
+use lib.ListN.{length, take, drop, get_or, length-drop, take-append-drop}
+use lib.Seq.{take-suc, take_all, take-add, length-take-le}
 use lib.Dec.{eqb, ltb}
 use borrow.Author.Tests.{eq-eqb, ne_eqb, lt-ltb, le-ltb, ltb-true, ltb-false}
-use Rattle.definitions.specs.Project.{place_in}
+use Rattle.definitions.specs.Project.{place_in, is_place}
+use Rattle.writing.proofs.Written.{behind}
 use Rattle.std.specs.Prelude as optional
 use Rattle.std.specs.Prelude.{cond, ◌==◌, position, is_some, Some, None}
 use Rattle.std.specs.List.{position_or_len}
@@ -79,6 +80,12 @@ place-snoc (b ∷ x) a item =
     ap (λ (p : Option ℕ). if eqb b item then some 0 else map suc p) (place-snoc x a item)
     ∙ one_more (eqb b item) (eqb a item) (place_in x item) (length x)
 
+either-has : (p : Option ℕ) (t : Bool) (n : ℕ) → is_place (either p (if t then some n else none)) ≡ (is_place p || t)
+unfolding is_place
+either-has (some place) t n = refl
+either-has none true n = refl
+either-has none false n = refl
+
 module _ (items : List ℕ) (k item : ℕ) (inside : k < length items) where
   place-next : place_in (take (k + 1) items) item
       ≡ either (place_in (take k items) item) (if eqb (get_or items k 0) item then some k else none)
@@ -104,6 +111,58 @@ module _ (items : List ℕ) (k item : ℕ) (inside : k < length items) where
   -- and a new one stands at its end.
   pub place-new : place_in (take k items) item ≡ none → get_or items k 0 ≡ item → place_in (take (k + 1) items) item ≡ some k
   place-new e same = place-next ∙ rw (e, eq-eqb (get_or items k 0) item same) refl
+
+  -- Whether it is found then.
+  pub has_next : is_place (place_in (take (k + 1) items) item) ≡ (is_place (place_in (take k items) item) || eqb (get_or items k 0) item)
+  has_next = ap is_place place-next ∙ either-has (place_in (take k items) item) (eqb (get_or items k 0) item) k
+
+-- ---- behind items that lack it
+
+same_places : (q : Option ℕ) → map (λ n. 0 + n) q ≡ q
+same_places none = refl
+same_places (some n) = let same : 0 + n ≡ n = omega arith in ap some same
+
+one_before : (t : Bool) (p q : Option ℕ) (m : ℕ)
+    → (if t then some 0 else map suc (either p (map (λ n. m + n) q)))
+    ≡ either (if t then some 0 else map suc p) (map (λ n. suc m + n) q)
+one_before true p q m = refl
+one_before false (some place) q m = refl
+one_before false none none m = refl
+one_before false none (some n) m = let next : suc (m + n) ≡ suc m + n = omega arith in ap some next
+
+place-append : (x y : List ℕ) (item : ℕ) → place_in (x ++ y) item ≡ either (place_in x item) (map (λ n. length x + n) (place_in y item))
+unfolding place_in
+place-append [] y item = sym (same_places (place_in y item))
+place-append (b ∷ x) y item =
+    ap (λ (p : Option ℕ). if eqb b item then some 0 else map suc p) (place-append x y item)
+    ∙ one_before (eqb b item) (place_in x item) (place_in y item) (length x)
+
+pub no-place : (p : Option ℕ) → is_place p ≡ false → p ≡ none
+unfolding is_place
+no-place none e = refl
+no-place (some place) e = absurd (let z : ◌≡◌ {A = ℕ} 0 1 = cc in omega arith)
+
+module _ (items : List ℕ) (item start : ℕ) (lacks : place_in (take start items) item ≡ none) where
+  pub lacks-more : (n end : ℕ) → end ≡ start + n → place_in (take n (drop start items)) item ≡ none → place_in (take end items) item ≡ none
+  lacks-more n end is lacks_too =
+      ap (λ (l : List ℕ). place_in l item) (ap (λ (m : ℕ). take m items) is ∙ take-add start n items)
+      ∙ place-append (take start items) (take n (drop start items)) item
+      ∙ rw (lacks, lacks_too) refl
+
+  -- The whole list, once its part from `start` on is lent.
+  place-behind : start ≤ length items → place_in items item ≡ map (λ n. start + n) (place_in (behind start items) item)
+  place-behind within =
+      let rest : behind start items ≡ drop start items =
+      take_all (length items - start) (drop start items) (omega (arith, length-drop start items)) in
+      ap (λ (l : List ℕ). place_in l item) (sym (take-append-drop start items))
+      ∙ place-append (take start items) (drop start items) item
+      ∙ rw (lacks, length-take-le start items within, rest) refl
+
+  -- What a search of that part says.
+  pub place-from : start ≤ length items → (p : optional.Option ℕ) → p ≡ position (λ other. other == item) (behind start items)
+      → map (λ n. start + n) (place_of p) ≡ place_in items item
+  place-from within p e = ap (λ (q : optional.Option ℕ). map (λ n. start + n) (place_of q)) e
+      ∙ ap (map (λ n. start + n)) (position-is (behind start items) item) ∙ sym (place-behind within)
 
 -- ---- the whole list
 

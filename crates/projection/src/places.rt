@@ -2,9 +2,9 @@
 // `heads` has for each of 1,024 such chains the place and one of its last item, `nexts` for each item that of the one before it, 0
 // standing for none, since memory is fixed and an `Option` takes twice as much. Only the first of equal items is in a chain, so none has
 // over 64, and only an item that may be sought is: `sought` has a flag for each twelve last bits.
-ghost use Rattle.std.specs.Prelude.{◌≡◌, ◌==◌, ℕ, length, position};
-ghost use Rattle.std.proofs.Math.Option.{Option};
-ghost use Rattle.definitions.specs.Project.{place_in};
+ghost use Rattle.std.specs.Prelude.{◌≡◌, ◌==◌, ◌≤◌, ℕ, length, take, position};
+ghost use Rattle.std.proofs.Math.Option.{Option, none};
+ghost use Rattle.definitions.specs.Project.{place_in, is_place};
 ghost use Rattle.projection.specs.Chains.{place_of, link_of, Walk, Chain, Chained, Unfilled, Sought};
 
 #[derive(Clone, Copy)]
@@ -13,11 +13,43 @@ pub struct Chains<'a> {
     pub nexts: &'a [u16],
 }
 
-// By a search of the list.
-fn first_place(items: &[u16], index: u16) -> Option<usize>
+// Whether a list has a child index. All are looked at, where `contains` stops, so that the compiler can compare several at once.
+fn has(items: &[u16], index: u16) -> bool
+    ensures { result ≡ is_place (place_in items.now index) }
+{
+    let mut found = false;
+    for item in items {
+        found = found | (*item == index);
+    }
+    found
+}
+
+// How many items are at the list's start in blocks of sixteen without the child index.
+fn passed_over(items: &[u16], index: u16) -> usize
+    ensures within { result ≤ length items.now }
+    ensures none { place_in (take result items.now) index ≡ none }
+{
+    let mut start = 0;
+    while start + 16 <= items.len() && !has(&items[start..start + 16], index) {
+        start += 16;
+    }
+    start
+}
+
+// By a search item by item.
+fn position_in(items: &[u16], index: u16) -> Option<usize>
     ensures { result ≡ position (λ item. item == index) items.now }
 {
     items.iter().position(|item| *item == index)
+}
+
+// By a search of the list: block by block, and then of what is left.
+fn first_place(items: &[u16], index: u16) -> Option<usize>
+    ensures { place_of result ≡ place_in items.now index }
+{
+    let start = passed_over(items, index);
+    let k = position_in(&items[start..], index)?;
+    Some(start + k)
 }
 
 // By a search of its chain. Its links fall, but one by one they are no row to go over.

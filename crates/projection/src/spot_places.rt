@@ -50,7 +50,7 @@ pub fn find_places(row: &mut [u32], side: JoinSide, items: &[u16]) -> bool
     requires { length items.now ≤ most_items }
     ensures { PlacedIs (side_number (join_side side)) items.now row.old row.new result }
 {
-    if row.len() <= 4 || items.len() <= 16 {
+    if row.len() <= 16 || items.len() <= 16 {
         return put_places(row, side, items, None);
     }
     let mut heads = [0u16; 1024];

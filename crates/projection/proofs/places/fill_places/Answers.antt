@@ -5,7 +5,8 @@ use Rattle.projection.proofs.ChainLaws.{chained-none, chain-of, chained-skips, c
 use Rattle.projection.proofs.PlaceLaws.{is-missing, is-there}
 use Rattle.projection.proofs.places.fill_places.Goals as goal
 use Rattle.projection.proofs.places.fill_places.Goals.{then-sought-from+then-is_none, else-sought-from}
-use Rattle.projection.proofs.places.fill_places.Goals.{else-sought-from-via-then-sought-from+else-is_none, else-sought-from-via-else-sought-from}
+use Rattle.projection.proofs.places.fill_places.Goals.{else-sought-from-via-then-sought-from+else-is_none}
+use Rattle.projection.proofs.places.fill_places.Goals.{else-sought-from-via-else-sought-from}
 
 pub loop-k-init : goal.loop-k-init
 loop-k-init c =

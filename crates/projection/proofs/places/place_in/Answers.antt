@@ -1,12 +1,7 @@
 -- `place_in`: the chains have the index where it stands first in the list.
-use Rattle.projection.proofs.PlaceLaws.{position-is}
 use Rattle.projection.proofs.places.place_in.Goals as goal
 
 pub chain_place-requires : goal.chain_place-requires
 chain_place-requires c =
     let there = rw c.in-Some.is at c.requires in
     record { chains = there.chains; room = there.room; place = _; walk = there.walk }
-
-pub returns-in-None : goal.returns-in-None
-returns-in-None c =
-    rw c.first_place.ensures (position-is c.args.items.now c.args.index)
