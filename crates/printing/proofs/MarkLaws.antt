@@ -3,14 +3,15 @@ use Prim.Native.Nat.{ℕ, zero, suc, ◌+◌, ◌<◌}
 use native.Mathlib.Omega.{arith}
 use mathlib.Core.Path.{◌≡◌, refl, sym, ap, ◌∙◌}
 use mathlib.Core.List.{List, [], ◌∷◌, ◌++◌, append_assoc}
-use lib.ListN.{get_or}
+use lib.ListN.{length, get_or}
 use Rattle.definitions.specs.Basics.{ascii}
 use Rattle.definitions.specs.Expression.{Expr, column, literal, and, binary, call, other, field}
 use Rattle.definitions.specs.Printed.{decimal, digits16, printed}
 use Rattle.definitions.specs.Decode.{index_below}
 use Rattle.definitions.specs.Good.{InRange}
 use Rattle.expression.specs.Places.{short_at, part}
-use Rattle.expression.specs.Nodes.{kind_of}
+use Rattle.definitions.specs.Encode.{exprs_bytes}
+use Rattle.expression.specs.Nodes.{kind_of, children_of}
 use Rattle.expression.proofs.Standing.{kind-is}
 use Rattle.printing.specs.Marks.{marked, column_text, literal_text, name_text, leading_of, opening_of, separator_of, before_of, closing_of, PhysicalAt, OfPhysical}
 use Rattle.printing.proofs.NodeFields.{column-at, literal-at, binary-at, call_at, other_at}
@@ -83,17 +84,31 @@ module _ {s : List ℕ} {at : ℕ} where
 
   -- ---- closings
 
-  pub leaf-closes : get_or s at 0 < 2 → (t : Expr) → PhysicalAt s at t → closing_of t ≡ []
-  unfolding closing_of kind_of
-  leaf-closes few t h = by_kind t (omega (arith, kind-is h.stands)) where
-    by_kind : (t : Expr) → kind_of t < 2 → closing_of t ≡ []
-    by_kind (column i g) k = refl
-    by_kind (literal y v) k = refl
+  -- A column or a literal.
+  leaf-at : (P : Expr → Type 0) → get_or s at 0 < 2 → (t : Expr) → PhysicalAt s at t → ((i g : ℕ) → P (column i g))
+      → ((y v : ℕ) → P (literal y v)) → P t
+  unfolding kind_of
+  leaf-at P few t h of_column of_literal = by_kind t (omega (arith, kind-is h.stands)) where
+    by_kind : (t : Expr) → kind_of t < 2 → P t
+    by_kind (column i g) k = of_column i g
+    by_kind (literal y v) k = of_literal y v
     by_kind (and l r) k = absurd (omega arith)
     by_kind (binary o l r) k = absurd (omega arith)
     by_kind (call name args) k = absurd (omega arith)
     by_kind (other g cs) k = absurd (omega arith)
     by_kind (field b g) k = absurd (omega arith)
+
+  pub leaf-closes : get_or s at 0 < 2 → (t : Expr) → PhysicalAt s at t → closing_of t ≡ []
+  unfolding closing_of
+  leaf-closes few t h = leaf-at (λ t. closing_of t ≡ []) few t h (λ i g. refl) (λ y v. refl)
+
+  -- It is all opening, and has no children.
+  pub leaf-whole : get_or s at 0 < 2 → (t : Expr) → PhysicalAt s at t
+      → (printed t ≡ opening_of t) × (length (exprs_bytes (children_of t)) ≡ 0)
+  unfolding opening_of children_of exprs_bytes
+  leaf-whole few t h =
+      leaf-at (λ t. (printed t ≡ opening_of t) × (length (exprs_bytes (children_of t)) ≡ 0)) few t h
+      (λ i g. (refl, refl)) (λ y v. (refl, refl))
 
   pub binary-closes : get_or s at 0 ≡ 2 → (t : Expr) → PhysicalAt s at t → closing_of t ≡ 41 ∷ []
   unfolding closing_of ascii

@@ -4,7 +4,7 @@ use native.Mathlib.Omega.{arith}
 use native.Mathlib.Numerals.{add-one}
 use mathlib.Core.Path.{◌≡◌, refl, sym, ap, ◌∙◌, subst}
 use mathlib.Core.List.{List, ◌++◌}
-use lib.ListN.{length, length-append}
+use lib.ListN.{length, get_or, length-append}
 use Rattle.definitions.specs.Expression.{Expr, Exprs, cons}
 use Rattle.definitions.specs.Encode.{exprs_bytes}
 use Rattle.definitions.specs.Decode.{index_below}
@@ -19,6 +19,7 @@ use Rattle.writing.proofs.Written.{chain, nothing-wrote}
 use Rattle.printing.specs.Marks.{opening_of, before_of, closing_of, PhysicalAt}
 use Rattle.printing.specs.Texts.{texts_from, PrintIs, NodePrinted, RowFits, RowPrinted}
 use Rattle.printing.specs.declared.texts.Printed.{Printed}
+use Rattle.printing.proofs.MarkLaws.{leaf-whole}
 use Rattle.printing.proofs.NodeTexts.{node-text}
 
 -- ---- a node
@@ -41,6 +42,12 @@ module _ {s : List ℕ} {at w : ℕ} {before : List ℕ} (p : Room (PhysicalAt s
 
     row_of : {t : Expr} (h : PhysicalAt s at t) → Row (index_below h.bound) s head.next head.children (children_of t)
     row_of h = children-stand h.stands head.next head.children (head_of h).next (head_of h).children
+
+    -- A column or a literal is written then.
+    pub leaf-printed : get_or s at 0 < 2 → NodePrinted s at w before opened (record { read = head.next; wrote = first })
+    leaf-printed few t h =
+        let whole = leaf-whole few t h in
+        record { read = omega (arith, (head_of h).next, tree-length t, whole.1); out = rw whole.0 (put.wrote t h) }
 
     pub children-fit : RowFits s at head.next head.children 0 first opened
     children-fit = record {

@@ -7,7 +7,9 @@ use super::fields::leading_number;
 use super::openings::{put_column, put_literal, put_name};
 use expression::fields::short_at;
 
-// Writes what stands before the children of the node at a place; all of it where it can have none.
+// Writes what stands before the children of the node at a place; all of it where it can have none. Inlined, since one of its callers has
+// only leaves, and then little is left of it.
+#[inline(always)]
 pub fn put_opening(out: &mut [u8], w: usize, src: &[u8], at: usize) -> usize
     requires { Room (PhysicalAt src.now at) opening_of w out.old }
     ensures { PutsAt (PhysicalAt src.now at) opening_of w out.old out.new result }

@@ -1,4 +1,5 @@
 // The text of an expression.
+ghost use Rattle.std.specs.Prelude.{◌<◌, slice_index};
 ghost use Rattle.definitions.specs.Printed as definitions;
 ghost use Rattle.writing.specs.Writing.{Room};
 ghost use Rattle.printing.specs.Marks.{PhysicalAt};
@@ -14,12 +15,29 @@ pub struct Printed {
     pub wrote: usize,
 }
 
+// Writes the text of a column or a literal, which has no children and nothing after them.
+fn print_leaf(out: &mut [u8], w: usize, src: &[u8], at: usize) -> Printed
+    requires leaf { slice_index src.now at < 2 }
+    requires room { Room (PhysicalAt src.now at) definitions.printed w out.old }
+    ensures { NodePrinted src.now at w out.old out.new result }
+{
+    let wrote = put_opening(out, w, src, at);
+    let head = head_at(src, at);
+    Printed {
+        read: head.next,
+        wrote,
+    }
+}
+
 // Writes the text of the expression at a place from w on.
 #[cycle(print_children_print_node)]
 pub fn print_node(out: &mut [u8], w: usize, src: &[u8], at: usize) -> Printed
     requires { Room (PhysicalAt src.now at) definitions.printed w out.old }
     ensures { NodePrinted src.now at w out.old out.new result }
 {
+    if src[at] < 2 {
+        return print_leaf(out, w, src, at);
+    }
     let first = put_opening(out, w, src, at);
     let head = head_at(src, at);
     let row = print_children(out, first, src, at, head.next, head.children);

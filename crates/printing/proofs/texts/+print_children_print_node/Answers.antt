@@ -2,6 +2,7 @@
 -- walk goes further on, a row walk to a node at its own place.
 use native.Mathlib.Omega.{arith}
 use Rattle.expression.proofs.Standing.{node-some}
+use Rattle.printing.proofs.NodeFields.{kind-within}
 use Rattle.printing.proofs.PrintWalk.{opening-room, children-later, children-fit, closing-room, node-printed, printing-begins, printing-ends, before-room, child-room, printing-goes-on}
 use Rattle.printing.proofs.texts.+print_children_print_node.Goals as goal
 
@@ -30,6 +31,10 @@ print_children-loop-position-preserved t c =
 pub print_children-returns : goal.print_children-returns
 print_children-returns t c =
     printing-ends c.loop-position.invariant c.loop-position-test.false
+
+pub print_node-bounds-src-at : goal.print_node-bounds-src-at
+print_node-bounds-src-at t c =
+    kind-within c.requires.stands
 
 pub print_node-put_opening-first-requires : goal.print_node-put_opening-first-requires
 print_node-put_opening-first-requires t c =
