@@ -8,13 +8,13 @@ use mathlib.Core.List.{List, ◌++◌}
 use lib.ListN.{length, take, drop}
 use lib.Dec.{leb}
 use borrow.Author.Tests.{le-leb, lt-leb}
-use Rattle.definitions.specs.Basics.{ok, refused}
-use Rattle.definitions.specs.Expression.{Plan, empty, held, extracted}
-use Rattle.definitions.specs.Encode.{plan_bytes}
-use Rattle.definitions.specs.Plans.{plan_of}
-use Rattle.definitions.specs.Exchange.{exchange_plan}
-use Rattle.definitions.specs.Calls.{finish, new_after_exchange, exchange}
-use Rattle.definitions.specs.Good.{AllBytes}
+use Rattle.definitions.specs.Words.Basics.{ok, refused}
+use Rattle.definitions.specs.Words.Expression.{Plan, empty, held, extracted}
+use Rattle.definitions.specs.Bytes.Encode.{plan_bytes}
+use Rattle.definitions.specs.Bytes.Plans.{plan_of}
+use Rattle.definitions.specs.Filter.Exchange.{exchange_plan}
+use Rattle.definitions.specs.Calls.Base.{finish, new_after_exchange, exchange}
+use Rattle.definitions.specs.Bytes.Good.{AllBytes}
 use Rattle.std.specs.Prelude.{Ok}
 use Rattle.terms.specs.Refusals.{number_of}
 use Rattle.terms.specs.declared.refusals.Refusal.{Refusal}

@@ -5,10 +5,10 @@ use mathlib.Core.Path.{◌≡◌}
 use mathlib.Core.List.{List, [], ◌∷◌}
 use mathlib.Core.Option.{Option, none}
 use lib.ListN.{length, length-map}
-use Rattle.definitions.specs.Basics.{big_endian}
-use Rattle.definitions.specs.Expression as tree
-use Rattle.definitions.specs.Encode.{expr_bytes, frame_bytes, remainder_bytes, extraction_bytes}
-use Rattle.definitions.specs.Exchange.{exchange_record, exchange_frame, exchange_predicate, exchange_extraction}
+use Rattle.definitions.specs.Words.Basics.{big_endian}
+use Rattle.definitions.specs.Words.Expression as tree
+use Rattle.definitions.specs.Bytes.Encode.{expr_bytes, frame_bytes, remainder_bytes, extraction_bytes}
+use Rattle.definitions.specs.Filter.Exchange.{exchange_record, exchange_frame, exchange_predicate, exchange_extraction}
 use Rattle.theorems.proofs.ExchangeGood.{records-length}
 use Rattle.expression.specs.Places.{Between}
 use Rattle.frame_reader.specs.Frames.{FrameAt}

@@ -4,10 +4,10 @@ use native.Mathlib.Omega.{arith}
 use mathlib.Core.Path.{◌≡◌, refl, ◌∙◌}
 use mathlib.Core.List.{List}
 use lib.ListN.{length}
-use Rattle.definitions.specs.Expression.{Frame, Extraction, Plan, held, extracted}
-use Rattle.definitions.specs.Encode.{plan_bytes}
-use Rattle.definitions.specs.Exchange.{exchange_plan}
-use Rattle.definitions.specs.Calls.{written_over}
+use Rattle.definitions.specs.Words.Expression.{Frame, Extraction, Plan, held, extracted}
+use Rattle.definitions.specs.Bytes.Encode.{plan_bytes}
+use Rattle.definitions.specs.Filter.Exchange.{exchange_plan}
+use Rattle.definitions.specs.Calls.Base.{written_over}
 use Rattle.theorems.proofs.ExchangeGood.{plan-as-long}
 use Rattle.writing.specs.Writing.{Room, Puts}
 use Rattle.call_exchange.specs.ExchangedBytes.{frame_exchanged, extraction_exchanged}

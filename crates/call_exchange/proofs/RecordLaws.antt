@@ -7,11 +7,11 @@ use mathlib.Core.Path.{◌≡◌, refl, sym, ap, ◌∙◌}
 use mathlib.Core.List.{List, [], ◌∷◌, ◌++◌, map, append-nil}
 use lib.ListN.{length, take, drop, get_or, set, length-map}
 use lib.Seq.{take-length, drop-length}
-use Rattle.definitions.specs.Basics.{big_endian}
-use Rattle.definitions.specs.Expression.{Side, left, right, no_side, Record}
-use Rattle.definitions.specs.Encode.{side_number, record_bytes, records_bytes}
-use Rattle.definitions.specs.Decode.{side_numbered}
-use Rattle.definitions.specs.Exchange.{negate, exchange_record}
+use Rattle.definitions.specs.Words.Basics.{big_endian}
+use Rattle.definitions.specs.Words.Expression.{Side, left, right, no_side, Record}
+use Rattle.definitions.specs.Bytes.Encode.{side_number, record_bytes, records_bytes}
+use Rattle.definitions.specs.Bytes.Decode.{side_numbered}
+use Rattle.definitions.specs.Filter.Exchange.{negate, exchange_record}
 use Rattle.theorems.proofs.ExchangeGood.{records-length}
 use Rattle.writing.specs.Writing.{Room, Puts}
 use Rattle.call_exchange.specs.Held.{RecordsAt}

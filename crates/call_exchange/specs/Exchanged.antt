@@ -1,9 +1,9 @@
 -- What an exchange answers and writes.
 use Rattle.std.specs.Prelude.{ℕ, ◌≤◌, ◌≡◌, List, length}
-use Rattle.definitions.specs.Expression.{Frame, Extraction, Plan, held, extracted}
-use Rattle.definitions.specs.Encode.{plan_bytes}
-use Rattle.definitions.specs.Exchange.{exchange_plan}
-use Rattle.definitions.specs.Calls.{written_over}
+use Rattle.definitions.specs.Words.Expression.{Frame, Extraction, Plan, held, extracted}
+use Rattle.definitions.specs.Bytes.Encode.{plan_bytes}
+use Rattle.definitions.specs.Filter.Exchange.{exchange_plan}
+use Rattle.definitions.specs.Calls.Base.{written_over}
 use Rattle.frame_reader.specs.Frames.{FrameAt}
 use Rattle.plan_reader.specs.Plans.{ExtractionAt}
 use Rattle.plan_reader.specs.declared.extraction_bodies.Held.{Held}

@@ -2,9 +2,9 @@
 use Rattle.std.specs.Prelude.{ℕ, List, map}
 use Rattle.std.proofs.Math.Option
 use Rattle.std.proofs.Math.Option.{Option}
-use Rattle.definitions.specs.Expression.{Record, Frame, Extraction}
-use Rattle.definitions.specs.Encode.{records_bytes, frame_bytes, remainder_bytes, extraction_bytes}
-use Rattle.definitions.specs.Exchange.{exchange_record, exchange_frame, exchange_extraction}
+use Rattle.definitions.specs.Words.Expression.{Record, Frame, Extraction}
+use Rattle.definitions.specs.Bytes.Encode.{records_bytes, frame_bytes, remainder_bytes, extraction_bytes}
+use Rattle.definitions.specs.Filter.Exchange.{exchange_record, exchange_frame, exchange_extraction}
 
 abbrev pub records_exchanged : List Record → List ℕ
 records_exchanged records = records_bytes (map exchange_record records)

@@ -1,7 +1,7 @@
 -- Records that stand in the bytes of a held plan.
 use Rattle.std.specs.Prelude.{ℕ, ◌≡◌, List, length}
-use Rattle.definitions.specs.Expression.{Record}
-use Rattle.definitions.specs.Encode.{records_bytes}
+use Rattle.definitions.specs.Words.Expression.{Record}
+use Rattle.definitions.specs.Bytes.Encode.{records_bytes}
 use Rattle.expression.specs.Places.{Holds}
 
 -- So many records stand at a place.

@@ -1,5 +1,5 @@
 // The call exchange.
-ghost use Rattle.definitions.specs.Calls as definitions;
+ghost use Rattle.definitions.specs.Calls.Base as definitions;
 ghost use Rattle.join_filter.specs.Outcomes.{OutcomeIs};
 
 use super::exchanged_plans::exchange_plan;

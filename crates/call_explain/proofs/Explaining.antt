@@ -10,15 +10,16 @@ use mathlib.Core.List.{List, ◌++◌, map-map}
 use lib.ListN.{length, take, drop, length-map}
 use lib.Dec.{leb}
 use borrow.Author.Tests.{le-leb, lt-leb}
-use Rattle.definitions.specs.Basics.{Result, ok, refused}
-use Rattle.definitions.specs.Expression as tree
-use Rattle.definitions.specs.Expression.{Expr}
-use Rattle.definitions.specs.Leaves.{leaves}
-use Rattle.definitions.specs.Plans.{frame_of}
-use Rattle.definitions.specs.Calls.{written_over}
-use Rattle.definitions.specs.Good.{AllBytes, nodes, plan_nodes}
-use Rattle.definitions.specs.Settings.{Settings, good_settings}
-use Rattle.definitions.specs.Verdicts.{verdict_byte, verdict_under, verdicts_under, verdict_bytes, named_by, bill_number, explained, TakenLeaf, new_verdicts, finish_explain, explain}
+use Rattle.definitions.specs.Words.Basics.{Result, ok, refused}
+use Rattle.definitions.specs.Words.Expression as tree
+use Rattle.definitions.specs.Words.Expression.{Expr}
+use Rattle.definitions.specs.Words.Leaves.{leaves}
+use Rattle.definitions.specs.Bytes.Plans.{frame_of}
+use Rattle.definitions.specs.Calls.Base.{written_over}
+use Rattle.definitions.specs.Bytes.Good.{AllBytes, nodes, plan_nodes}
+use Rattle.definitions.specs.Filter.Settings.{Settings, good_settings}
+use Rattle.definitions.specs.Filter.Verdicts.{verdict_byte, verdict_under, verdicts_under, verdict_bytes, named_by, bill_number, explained, TakenLeaf}
+use Rattle.definitions.specs.Calls.Explain.{new_verdicts, finish_explain, explain}
 use Rattle.theorems.proofs.InverseFrame.{frame_back}
 use Rattle.theorems.proofs.Pick.{leaves-nodes}
 use Rattle.leaf_matching.specs.Frames.{Over}

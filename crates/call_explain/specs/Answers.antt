@@ -1,7 +1,8 @@
 -- Which definition the answer is.
 use Rattle.std.specs.Prelude.{ℕ, ◌+◌, ◌*◌, ◌≡◌, List, Result, Ok, Err}
-use Rattle.definitions.specs.Basics.{ok, refused}
-use Rattle.definitions.specs.Verdicts.{bill_number, ExplainOutcome}
+use Rattle.definitions.specs.Words.Basics.{ok, refused}
+use Rattle.definitions.specs.Filter.Verdicts.{bill_number}
+use Rattle.definitions.specs.Calls.Explain.{ExplainOutcome}
 use Rattle.terms.specs.Refusals.{number_of}
 use Rattle.terms.specs.declared.refusals.Refusal.{Refusal}
 use Rattle.leaf_verdicts.specs.Taken.{taken_of}

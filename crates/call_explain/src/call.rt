@@ -1,5 +1,5 @@
 // The call explain: a verdict of each conjunct.
-ghost use Rattle.definitions.specs.Verdicts as definitions;
+ghost use Rattle.definitions.specs.Calls.Explain as definitions;
 ghost use Rattle.terms.specs.Settings.{settings_of};
 ghost use Rattle.call_explain.specs.Answers.{ExplainedIs};
 

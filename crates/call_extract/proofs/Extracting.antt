@@ -9,15 +9,15 @@ use mathlib.Core.Option.{Option, none, some}
 use lib.ListN.{length, take, drop}
 use lib.Dec.{leb}
 use borrow.Author.Tests.{le-leb, lt-leb}
-use Rattle.definitions.specs.Basics.{refused}
-use Rattle.definitions.specs.Expression.{Frame, Extraction}
-use Rattle.definitions.specs.Encode.{plan_bytes, extraction_bytes}
-use Rattle.definitions.specs.Extract.{pick, take_pick, Matcher, matches_by, extraction_by}
-use Rattle.definitions.specs.OneWalk.{walk_length_by}
-use Rattle.definitions.specs.Calls.{written_over, finish, matched_bytes, new_after_extract_by, extract_filled_by, walk_filled_by}
-use Rattle.definitions.specs.Good.{AllBytes, ReadableFrame}
-use Rattle.definitions.specs.Meaning.{Meaning}
-use Rattle.definitions.specs.Matchers.{Lawful}
+use Rattle.definitions.specs.Words.Basics.{refused}
+use Rattle.definitions.specs.Words.Expression.{Frame, Extraction}
+use Rattle.definitions.specs.Bytes.Encode.{plan_bytes, extraction_bytes}
+use Rattle.definitions.specs.Filter.Extract.{pick, take_pick, Matcher, matches_by, extraction_by}
+use Rattle.definitions.specs.Filter.OneWalk.{walk_length_by}
+use Rattle.definitions.specs.Calls.Base.{written_over, finish, matched_bytes, new_after_extract_by, extract_filled_by, walk_filled_by}
+use Rattle.definitions.specs.Bytes.Good.{AllBytes, ReadableFrame}
+use Rattle.definitions.specs.Meaning.Values.{Meaning}
+use Rattle.definitions.specs.Meaning.Matchers.{Lawful}
 use Rattle.theorems.proofs.ExtractGood.{GoodExtraction, good-by}
 use Rattle.frame_reader.specs.declared.frame_bodies.Frame as places
 use Rattle.plan_reader.specs.Plans.{HoldsFrame}

@@ -6,14 +6,13 @@ use lib.ListN.{length, take}
 use mathlib.Core.Path.{◌≡◌, refl, ap, ◌∙◌}
 use mathlib.Core.Bool.{Bool, false}
 use mathlib.Core.List.{List}
-use Rattle.definitions.specs.Basics.{ok, refused}
-use Rattle.definitions.specs.Expression as tree
-use Rattle.definitions.specs.Extract.{Matcher}
-use Rattle.definitions.specs.Calls.{finish, table_fits, extract_filled_by, extract_filled, walk_filled_by}
-use Rattle.definitions.specs.Settings.{Settings, good_settings, default_settings, match_under}
-use Rattle.definitions.specs.SettingsClaims.{GoodSettings}
+use Rattle.definitions.specs.Words.Basics.{ok, refused}
+use Rattle.definitions.specs.Words.Expression as tree
+use Rattle.definitions.specs.Filter.Extract.{Matcher}
+use Rattle.definitions.specs.Calls.Base.{finish, table_fits, extract_filled_by, extract_filled, walk_filled_by}
+use Rattle.definitions.specs.Filter.Settings.{Settings, good_settings, default_settings, match_under, GoodSettings}
 use Rattle.theorems.proofs.Proved.{default-settings}
-use Rattle.definitions.specs.Plans.{plan_of}
+use Rattle.definitions.specs.Bytes.Plans.{plan_of}
 use Rattle.plan_reader.specs.Plans.{NotHeld, no_bytes, no_good}
 use Rattle.join_filter.proofs.Walking.{bad-refused, empty-refused, extracted-refused, long-refused}
 use Rattle.join_filter.proofs.Settling.{lent-24, lent-settled}

@@ -8,14 +8,14 @@ use mathlib.Core.List.{List, [], ◌∷◌, map}
 use lib.ListN.{length, take, get_or, length-take}
 use lib.Seq.{get_or-take}
 use borrow.Author.Tests.{lt-leb}
-use Rattle.definitions.specs.Basics.{Result, ok, refused}
-use Rattle.definitions.specs.Expression as tree
-use Rattle.definitions.specs.Encode.{plan_bytes}
-use Rattle.definitions.specs.Plans.{plan_of}
-use Rattle.definitions.specs.Good.{AllBytes}
-use Rattle.definitions.specs.NodeTable.{NodeRecord, nodes_from, node_table, begins_with}
-use Rattle.definitions.specs.Extract.{Matcher}
-use Rattle.definitions.specs.Calls.{table_fits, finish, held_plan, extract_by, extract_filled_by, walk_filled_by, extract_walk_by}
+use Rattle.definitions.specs.Words.Basics.{Result, ok, refused}
+use Rattle.definitions.specs.Words.Expression as tree
+use Rattle.definitions.specs.Bytes.Encode.{plan_bytes}
+use Rattle.definitions.specs.Bytes.Plans.{plan_of}
+use Rattle.definitions.specs.Bytes.Good.{AllBytes}
+use Rattle.definitions.specs.Bytes.NodeTable.{NodeRecord, nodes_from, node_table, begins_with}
+use Rattle.definitions.specs.Filter.Extract.{Matcher}
+use Rattle.definitions.specs.Calls.Base.{table_fits, finish, held_plan, extract_by, extract_filled_by, walk_filled_by, extract_walk_by}
 use Rattle.theorems.proofs.ExchangeGood.{frame-length}
 use Rattle.theorems.proofs.NodeTables.{node-count, begins-exactly-by}
 use Rattle.frame_reader.specs.declared.frame_bodies.Frame.{Frame}

@@ -1,9 +1,10 @@
 -- Request 6 of document 02: the extract with a lent table. (Ours.)
 use Rattle.std.specs.Prelude.{ℕ, List}
-use Rattle.definitions.specs.NodeTable.{NodeRecord}
-use Rattle.definitions.specs.Extract.{Matcher}
-use Rattle.definitions.specs.Calls.{extract_by, extract_walk_by}
-use Rattle.definitions.specs.Settings.{Settings, extract_under, extract_walk_under}
+use Rattle.definitions.specs.Bytes.NodeTable.{NodeRecord}
+use Rattle.definitions.specs.Filter.Extract.{Matcher}
+use Rattle.definitions.specs.Calls.Base.{extract_by, extract_walk_by}
+use Rattle.definitions.specs.Filter.Settings.{Settings}
+use Rattle.definitions.specs.Calls.Settings.{extract_under, extract_walk_under}
 use Rattle.join_filter.specs.Outcomes.{ExtractIs}
 use Rattle.join_filter.specs.declared.answers.Extracted.{Extracted}
 

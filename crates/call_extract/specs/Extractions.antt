@@ -1,10 +1,10 @@
 -- What the writer of an extraction is given, and what it writes.
 use Rattle.std.specs.Prelude.{ℕ, ◌≤◌, ◌≡◌, List, length}
 use Rattle.std.proofs.Math.Option.{map}
-use Rattle.definitions.specs.Expression as tree
-use Rattle.definitions.specs.Encode.{extraction_bytes}
-use Rattle.definitions.specs.Decode.{index_below}
-use Rattle.definitions.specs.Extract.{without, prune}
+use Rattle.definitions.specs.Words.Expression as tree
+use Rattle.definitions.specs.Bytes.Encode.{extraction_bytes}
+use Rattle.definitions.specs.Bytes.Decode.{index_below}
+use Rattle.definitions.specs.Filter.Extract.{without, prune}
 use Rattle.expression.specs.Nodes.{Stands}
 use Rattle.frame_reader.specs.declared.frame_bodies.Frame.{Frame}
 use Rattle.sedona_query_planner.specs.Predicates.{on_children, PredicateAt}

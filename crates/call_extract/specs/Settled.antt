@@ -1,10 +1,10 @@
 -- Request 13 of document 02: the extract under settings, with a lent table of nodes or that of its own nodes. (Ours.)
 use Rattle.std.specs.Prelude.{ℕ, List, Option, Some, None, if◌then◌else◌}
 use Rattle.std.specs.Borrow.{Bor}
-use Rattle.definitions.specs.Basics.{refused}
-use Rattle.definitions.specs.Extract.{Matcher}
-use Rattle.definitions.specs.Calls.{Outcome, finish, extract_filled_by, walk_filled_by}
-use Rattle.definitions.specs.Settings.{Settings, good_settings, match_under}
+use Rattle.definitions.specs.Words.Basics.{refused}
+use Rattle.definitions.specs.Filter.Extract.{Matcher}
+use Rattle.definitions.specs.Calls.Base.{Outcome, finish, extract_filled_by, walk_filled_by}
+use Rattle.definitions.specs.Filter.Settings.{Settings, good_settings, match_under}
 use Rattle.join_filter.specs.Outcomes.{ExtractIs}
 use Rattle.join_filter.specs.declared.answers.Extracted.{Extracted}
 use Rattle.node_table.specs.declared.NodeRecord.{NodeRecord as Lent}

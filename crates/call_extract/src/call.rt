@@ -2,7 +2,7 @@
 // A port of `transform_join_filter` of
 // rust/sedona-query-planner/src/spatial_expr_utils.rs.
 ghost use Rattle.std.specs.Prelude.{◌/◌, ◌≤◌, min, length};
-ghost use Rattle.definitions.specs.Settings.{match_under};
+ghost use Rattle.definitions.specs.Filter.Settings.{match_under};
 ghost use Rattle.terms.specs.Settings.{settings_of};
 ghost use Rattle.join_filter.specs.Outcomes.{ExtractIs};
 ghost use Rattle.call_extract.specs.Settled.{HeldBy, SettledBy, filled_under, walk_under};

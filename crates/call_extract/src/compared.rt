@@ -1,5 +1,5 @@
 // Extract of a held frame whose nodes are compared with those of a table.
-ghost use Rattle.definitions.specs.Settings.{match_under};
+ghost use Rattle.definitions.specs.Filter.Settings.{match_under};
 ghost use Rattle.terms.specs.Settings.{settings_of};
 ghost use Rattle.plan_reader.specs.Plans.{HoldsFrame};
 ghost use Rattle.call_extract.specs.FrameRows.{Indexed};

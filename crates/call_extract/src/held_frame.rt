@@ -1,6 +1,6 @@
 // The extract of a held frame.
-ghost use Rattle.definitions.specs.Calls as definitions;
-ghost use Rattle.definitions.specs.Settings.{match_under};
+ghost use Rattle.definitions.specs.Calls.Base as definitions;
+ghost use Rattle.definitions.specs.Filter.Settings.{match_under};
 ghost use Rattle.terms.specs.Settings.{settings_of};
 ghost use Rattle.join_filter.specs.Outcomes.{ExtractIs};
 ghost use Rattle.plan_reader.specs.Plans.{HoldsFrame};

@@ -9,18 +9,18 @@ use mathlib.Core.Option
 use mathlib.Core.Option.{Option, none, some}
 use lib.ListN.{length, take, drop, length-append, length-map}
 use lib.Seq.{take_all}
-use Rattle.definitions.specs.Basics.{any}
-use Rattle.definitions.specs.Expression as tree
-use Rattle.definitions.specs.Expression.{Expr, Record, Predicate}
-use Rattle.definitions.specs.Encode.{expr_bytes, frame_bytes, remainder_bytes, plan_bytes}
-use Rattle.definitions.specs.Leaves.{leaves}
-use Rattle.definitions.specs.Decode.{index_below}
-use Rattle.definitions.specs.Extract.{is_knn, prune, Matcher, matches_by}
-use Rattle.definitions.specs.Claims.{is_match}
-use Rattle.definitions.specs.Meaning.{Meaning}
-use Rattle.definitions.specs.Good.{plan_nodes}
-use Rattle.definitions.specs.AllClaims.{TakesAll}
-use Rattle.definitions.specs.ExtractAll.{positions_from, picks_bytes, matching, is_other, match_count, without_all, last_remainder}
+use Rattle.definitions.specs.Words.Basics.{any}
+use Rattle.definitions.specs.Words.Expression as tree
+use Rattle.definitions.specs.Words.Expression.{Expr, Record, Predicate}
+use Rattle.definitions.specs.Bytes.Encode.{expr_bytes, frame_bytes, remainder_bytes, plan_bytes}
+use Rattle.definitions.specs.Words.Leaves.{leaves}
+use Rattle.definitions.specs.Bytes.Decode.{index_below}
+use Rattle.definitions.specs.Filter.Extract.{is_knn, prune, Matcher, matches_by, is_match}
+use Rattle.definitions.specs.Meaning.Values.{Meaning}
+use Rattle.definitions.specs.Bytes.Good.{plan_nodes}
+use Rattle.definitions.specs.Claims.All.{TakesAll}
+use Rattle.definitions.specs.Filter.Conjuncts.{positions_from, matching, is_other, match_count, without_all, last_remainder}
+use Rattle.definitions.specs.Calls.ExtractAll.{picks_bytes}
 use Rattle.theorems.proofs.ExchangeGood.{frame-length}
 use Rattle.theorems.proofs.Pick.{leaves-nodes}
 use Rattle.node_rows.proofs.NodeBytes.{nodes-by-bytes}

@@ -8,16 +8,18 @@ use mathlib.Core.List.{List, ◌++◌}
 use lib.ListN.{length, take, drop, replicate, length-replicate}
 use lib.Dec.{leb}
 use borrow.Author.Tests.{le-leb, lt-leb}
-use Rattle.definitions.specs.Basics.{Result, ok, refused}
-use Rattle.definitions.specs.Expression as tree
-use Rattle.definitions.specs.Plans.{frame_of}
-use Rattle.definitions.specs.Calls.{written_over}
-use Rattle.definitions.specs.Good.{AllBytes}
-use Rattle.definitions.specs.Extract.{Matcher}
-use Rattle.definitions.specs.ExtractAll.{AllOutcome, conjuncts_by, new_conjuncts, finish_all, extract_all_by}
-use Rattle.definitions.specs.AllClaims.{TakesAll}
-use Rattle.definitions.specs.Settings.{Settings, good_settings, match_under, FairUnder, extract_all_under}
-use Rattle.definitions.specs.SettingsClaims.{GoodSettings}
+use Rattle.definitions.specs.Words.Basics.{Result, ok, refused}
+use Rattle.definitions.specs.Words.Expression as tree
+use Rattle.definitions.specs.Bytes.Plans.{frame_of}
+use Rattle.definitions.specs.Calls.Base.{written_over}
+use Rattle.definitions.specs.Bytes.Good.{AllBytes}
+use Rattle.definitions.specs.Filter.Extract.{Matcher}
+use Rattle.definitions.specs.Calls.ExtractAll.{AllOutcome, new_conjuncts, finish_all, extract_all_by}
+use Rattle.definitions.specs.Filter.Conjuncts.{conjuncts_by}
+use Rattle.definitions.specs.Claims.All.{TakesAll}
+use Rattle.definitions.specs.Filter.Settings.{Settings, good_settings, match_under, GoodSettings}
+use Rattle.definitions.specs.Meaning.Values.{FairUnder}
+use Rattle.definitions.specs.Calls.Settings.{extract_all_under}
 use Rattle.theorems.proofs.InverseFrame.{frame_back}
 use Rattle.theorems.proofs.SettingsClaimed.{all-settings-hold, bad-settings-refused}
 use Rattle.expression.specs.Nodes.{OfTree}

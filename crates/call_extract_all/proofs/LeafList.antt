@@ -8,10 +8,11 @@ use mathlib.Core.List.{List, [], ◌∷◌, map, append-nil}
 use mathlib.Core.Option.{Option, none, some}
 use lib.ListN.{length, set}
 use borrow.Author.Tests.{not-true}
-use Rattle.definitions.specs.Expression.{Expr, Record, Predicate}
-use Rattle.definitions.specs.Leaves.{leaves}
-use Rattle.definitions.specs.Extract.{is_knn, Matcher}
-use Rattle.definitions.specs.ExtractAll.{positions_from, pick_bytes, picks_bytes, matching, is_other, match_count}
+use Rattle.definitions.specs.Words.Expression.{Expr, Record, Predicate}
+use Rattle.definitions.specs.Words.Leaves.{leaves}
+use Rattle.definitions.specs.Filter.Extract.{is_knn, Matcher}
+use Rattle.definitions.specs.Filter.Conjuncts.{positions_from, matching, is_other, match_count}
+use Rattle.definitions.specs.Calls.ExtractAll.{pick_bytes, picks_bytes}
 use Rattle.writing.specs.Written.{Wrote}
 use Rattle.writing.specs.Writing.{Room}
 use Rattle.writing.proofs.Written.{store}

@@ -5,10 +5,10 @@ use mathlib.Core.Path.{◌≡◌, sym, ap, subst}
 use mathlib.Core.List.{List, ◌++◌, map-append}
 use mathlib.Core.Option.{Option}
 use lib.ListN.{length, length-append}
-use Rattle.definitions.specs.Expression.{Expr, and, Record, Predicate}
-use Rattle.definitions.specs.Leaves.{leaves}
-use Rattle.definitions.specs.Extract.{is_knn, Matcher}
-use Rattle.definitions.specs.ExtractAll.{is_other}
+use Rattle.definitions.specs.Words.Expression.{Expr, and, Record, Predicate}
+use Rattle.definitions.specs.Words.Leaves.{leaves}
+use Rattle.definitions.specs.Filter.Extract.{is_knn, Matcher}
+use Rattle.definitions.specs.Filter.Conjuncts.{is_other}
 use Rattle.theorems.proofs.AllParts.{bytes-append, count-append}
 use Rattle.writing.specs.Written.{Wrote, WroteAt}
 use Rattle.writing.proofs.Written.{behind, together, then-wrote, chain}

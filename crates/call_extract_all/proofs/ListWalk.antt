@@ -6,12 +6,12 @@ use mathlib.Core.Bool.{Bool}
 use mathlib.Core.List.{List, [], ◌∷◌, ◌++◌}
 use mathlib.Core.Option.{Option, none, some}
 use lib.ListN.{length, length-append, length-map}
-use Rattle.definitions.specs.Expression.{Expr, and, Record, Predicate}
-use Rattle.definitions.specs.Encode.{expr_bytes}
-use Rattle.definitions.specs.Leaves.{leaves}
-use Rattle.definitions.specs.Decode.{index_below}
-use Rattle.definitions.specs.Extract.{is_knn, Matcher}
-use Rattle.definitions.specs.ExtractAll.{is_other, match_count}
+use Rattle.definitions.specs.Words.Expression.{Expr, and, Record, Predicate}
+use Rattle.definitions.specs.Bytes.Encode.{expr_bytes}
+use Rattle.definitions.specs.Words.Leaves.{leaves}
+use Rattle.definitions.specs.Bytes.Decode.{index_below}
+use Rattle.definitions.specs.Filter.Extract.{is_knn, Matcher}
+use Rattle.definitions.specs.Filter.Conjuncts.{is_other, match_count}
 use Rattle.theorems.proofs.AllParts.{bytes-append}
 use Rattle.expression.specs.Nodes.{head_bytes}
 use Rattle.expression.specs.Leaves.{Both}

@@ -1,7 +1,7 @@
 -- Which definition the answer is.
 use Rattle.std.specs.Prelude.{◌≡◌, List, ℕ, Result, Ok, Err}
-use Rattle.definitions.specs.Basics.{ok, refused}
-use Rattle.definitions.specs.ExtractAll.{AllOutcome}
+use Rattle.definitions.specs.Words.Basics.{ok, refused}
+use Rattle.definitions.specs.Calls.ExtractAll.{AllOutcome}
 use Rattle.terms.specs.Refusals.{number_of}
 use Rattle.terms.specs.declared.refusals.Refusal.{Refusal}
 use Rattle.call_extract_all.specs.declared.conjuncts.Taken.{Taken}

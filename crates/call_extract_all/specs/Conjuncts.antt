@@ -1,14 +1,14 @@
 -- All indexable conjuncts of a good frame, and what is written of them.
 use Rattle.std.specs.Prelude.{ℕ, ◌/◌, ◌≤◌, min, ◌≡◌, List, map, length}
-use Rattle.definitions.specs.Expression as tree
-use Rattle.definitions.specs.Expression.{held}
-use Rattle.definitions.specs.Encode.{frame_bytes, remainder_bytes}
-use Rattle.definitions.specs.Leaves.{leaves}
-use Rattle.definitions.specs.Extract.{Matcher}
-use Rattle.definitions.specs.Good.{GoodPlan}
-use Rattle.definitions.specs.Settings.{Settings, match_under}
-use Rattle.definitions.specs.SettingsClaims.{GoodSettings}
-use Rattle.definitions.specs.ExtractAll.{match_count, last_remainder, conjuncts_by, conjuncts_bytes}
+use Rattle.definitions.specs.Words.Expression as tree
+use Rattle.definitions.specs.Words.Expression.{held}
+use Rattle.definitions.specs.Bytes.Encode.{frame_bytes, remainder_bytes}
+use Rattle.definitions.specs.Words.Leaves.{leaves}
+use Rattle.definitions.specs.Filter.Extract.{Matcher}
+use Rattle.definitions.specs.Bytes.Good.{GoodPlan}
+use Rattle.definitions.specs.Filter.Settings.{Settings, match_under, GoodSettings}
+use Rattle.definitions.specs.Filter.Conjuncts.{match_count, last_remainder, conjuncts_by}
+use Rattle.definitions.specs.Calls.ExtractAll.{conjuncts_bytes}
 use Rattle.expression.specs.Places.{Holds}
 use Rattle.writing.specs.Written.{Wrote}
 use Rattle.frame_reader.specs.Frames.{FrameAt}

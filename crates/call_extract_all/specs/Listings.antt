@@ -1,11 +1,12 @@
 -- All matches of an expression's AND-leaves, and what is written of them.
 use Rattle.std.specs.Prelude.{ℕ, ◌+◌, ◌≤◌, ◌≡◌, Bool, List, map, length}
 use Rattle.std.proofs.Math.Option.{Option, none, some}
-use Rattle.definitions.specs.Expression.{Expr, Record, Predicate}
-use Rattle.definitions.specs.Leaves.{leaves}
-use Rattle.definitions.specs.Decode.{index_below}
-use Rattle.definitions.specs.Extract.{is_knn, Matcher}
-use Rattle.definitions.specs.ExtractAll.{positions_from, picks_bytes, matching, is_other, match_count}
+use Rattle.definitions.specs.Words.Expression.{Expr, Record, Predicate}
+use Rattle.definitions.specs.Words.Leaves.{leaves}
+use Rattle.definitions.specs.Bytes.Decode.{index_below}
+use Rattle.definitions.specs.Filter.Extract.{is_knn, Matcher}
+use Rattle.definitions.specs.Filter.Conjuncts.{positions_from, matching, is_other, match_count}
+use Rattle.definitions.specs.Calls.ExtractAll.{picks_bytes}
 use Rattle.expression.specs.Nodes.{Stands}
 use Rattle.writing.specs.Written.{Wrote, WroteAt}
 use Rattle.plan_writer.specs.Tables.{Entries, ChildTable}

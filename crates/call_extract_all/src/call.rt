@@ -1,6 +1,6 @@
 // The call extract all (request 14): all indexable conjuncts of a frame at once.
 ghost use Rattle.std.specs.Prelude.{◌/◌, ◌≤◌, min, length};
-ghost use Rattle.definitions.specs.Settings as definitions;
+ghost use Rattle.definitions.specs.Calls.Settings as definitions;
 ghost use Rattle.terms.specs.Settings.{settings_of};
 ghost use Rattle.call_extract_all.specs.AllAnswers.{AllOutcomeIs};
 

@@ -1,5 +1,5 @@
 // The predicates of all matching AND-leaves, the KNN ones first, then the last remainder.
-ghost use Rattle.definitions.specs.Settings.{match_under};
+ghost use Rattle.definitions.specs.Filter.Settings.{match_under};
 ghost use Rattle.terms.specs.Settings.{settings_of};
 ghost use Rattle.expression.specs.Nodes.{OfTree};
 ghost use Rattle.node_rows.specs.Rows.{Tabled};

@@ -1,7 +1,7 @@
 // The walk over all AND-leaves: KNN predicates into one buffer, the others into another, a flag for each leaf.
 ghost use Rattle.std.specs.Prelude.{◌≡◌, [], ◌∷◌};
-ghost use Rattle.definitions.specs.Leaves.{leaves};
-ghost use Rattle.definitions.specs.Settings.{match_under};
+ghost use Rattle.definitions.specs.Words.Leaves.{leaves};
+ghost use Rattle.definitions.specs.Filter.Settings.{match_under};
 ghost use Rattle.terms.specs.Settings.{settings_of};
 ghost use Rattle.expression.specs.Nodes.{OfTree, OfTreeIn};
 ghost use Rattle.expression.specs.Leaves.{NodeIs};

@@ -9,13 +9,13 @@ use lib.ListN.{length, take, drop}
 use lib.Seq.{take-length}
 use lib.Dec.{leb}
 use borrow.Author.Tests.{le-leb, lt-leb}
-use Rattle.definitions.specs.Basics.{ok, refused}
-use Rattle.definitions.specs.Expression.{Frame}
-use Rattle.definitions.specs.Encode.{plan_bytes}
-use Rattle.definitions.specs.Plans.{frame_of}
-use Rattle.definitions.specs.Good.{AllBytes, nodes, plan_nodes}
-use Rattle.definitions.specs.NodeTable.{NodeRecord, nodes_from, node_table}
-use Rattle.definitions.specs.Calls.{written_over, tabled, filled_by, new_after_load, finish_load, load}
+use Rattle.definitions.specs.Words.Basics.{ok, refused}
+use Rattle.definitions.specs.Words.Expression.{Frame}
+use Rattle.definitions.specs.Bytes.Encode.{plan_bytes}
+use Rattle.definitions.specs.Bytes.Plans.{frame_of}
+use Rattle.definitions.specs.Bytes.Good.{AllBytes, nodes, plan_nodes}
+use Rattle.definitions.specs.Bytes.NodeTable.{NodeRecord, nodes_from, node_table}
+use Rattle.definitions.specs.Calls.Base.{written_over, tabled, filled_by, new_after_load, finish_load, load}
 use Rattle.theorems.proofs.InverseFrame.{frame_back}
 use Rattle.theorems.proofs.ExchangeGood.{frame-length}
 use Rattle.theorems.proofs.NodeTables.{table-nests-by}

@@ -1,6 +1,6 @@
 -- Which definition a load is.
 use Rattle.std.specs.Prelude.{ℕ, ◌≡◌, List, ◌++◌, length, drop, Result, Ok, Err}
-use Rattle.definitions.specs.NodeTable.{NodeRecord}
+use Rattle.definitions.specs.Bytes.NodeTable.{NodeRecord}
 use Rattle.expression.specs.Filling.{Records}
 use Rattle.node_rows.specs.Rows.{RowHas}
 use Rattle.terms.specs.declared.refusals.Refusal.{Refusal}

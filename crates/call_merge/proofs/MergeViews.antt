@@ -3,9 +3,9 @@ use Prim.Native.Nat.{ℕ, ◌+◌}
 use mathlib.Core.Path.{◌≡◌, sym, ap, ◌∙◌}
 use mathlib.Core.List.{List, [], ◌∷◌, ◌++◌, append_assoc}
 use lib.ListN.{length}
-use Rattle.definitions.specs.Expression as tree
-use Rattle.definitions.specs.Encode.{expr_bytes, records_bytes}
-use Rattle.definitions.specs.Merge.{merge_frames}
+use Rattle.definitions.specs.Words.Expression as tree
+use Rattle.definitions.specs.Bytes.Encode.{expr_bytes, records_bytes}
+use Rattle.definitions.specs.Filter.Merge.{merge_frames}
 use Rattle.theorems.proofs.Merged.{merged-bytes}
 use Rattle.expression.specs.Places.{Between}
 use Rattle.frame_reader.specs.Frames.{FrameAt}

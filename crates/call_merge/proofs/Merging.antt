@@ -8,13 +8,14 @@ use mathlib.Core.List.{List, ◌++◌}
 use lib.ListN.{length, take, drop}
 use lib.Dec.{leb}
 use borrow.Author.Tests.{le-leb, lt-leb}
-use Rattle.definitions.specs.Basics.{ok, refused}
-use Rattle.definitions.specs.Expression.{Frame, held}
-use Rattle.definitions.specs.Encode.{frame_bytes, plan_bytes}
-use Rattle.definitions.specs.NodeTable.{NodeRecord, node_table}
-use Rattle.definitions.specs.Calls.{written_over, tabled, filled_by, finish}
-use Rattle.definitions.specs.Good.{AllBytes, GoodPlan, nodes, plan_nodes}
-use Rattle.definitions.specs.Merge.{merge_frames, over_limits, merged_frame as merged_or_not, new_after_merge, with_table, merge}
+use Rattle.definitions.specs.Words.Basics.{ok, refused}
+use Rattle.definitions.specs.Words.Expression.{Frame, held}
+use Rattle.definitions.specs.Bytes.Encode.{frame_bytes, plan_bytes}
+use Rattle.definitions.specs.Bytes.NodeTable.{NodeRecord, node_table}
+use Rattle.definitions.specs.Calls.Base.{written_over, tabled, filled_by, finish}
+use Rattle.definitions.specs.Bytes.Good.{AllBytes, GoodPlan, nodes, plan_nodes}
+use Rattle.definitions.specs.Filter.Merge.{merge_frames, over_limits}
+use Rattle.definitions.specs.Calls.Merge.{merged_frame as merged_or_not, new_after_merge, with_table, merge}
 use Rattle.theorems.proofs.InverseFrame.{frame_back}
 use Rattle.theorems.proofs.ExchangeGood.{frame-length}
 use Rattle.theorems.proofs.NodeTables.{table-nests-by}

@@ -5,12 +5,12 @@ use mathlib.Core.Path.{◌≡◌, sym, ap, ◌∙◌, subst}
 use mathlib.Core.List.{List, ◌∷◌, ◌++◌, append_assoc}
 use lib.ListN.{length, drop, length-append}
 use lib.Seq.{drop-append_seam}
-use Rattle.definitions.specs.Basics.{big_endian}
-use Rattle.definitions.specs.Expression.{Frame, held}
-use Rattle.definitions.specs.Encode.{expr_bytes, records_bytes, frame_bytes, plan_bytes}
-use Rattle.definitions.specs.Decode.{index_below}
-use Rattle.definitions.specs.Good.{GoodPlan, nodes, plan_nodes}
-use Rattle.definitions.specs.NodeTable.{nodes_from, node_table}
+use Rattle.definitions.specs.Words.Basics.{big_endian}
+use Rattle.definitions.specs.Words.Expression.{Frame, held}
+use Rattle.definitions.specs.Bytes.Encode.{expr_bytes, records_bytes, frame_bytes, plan_bytes}
+use Rattle.definitions.specs.Bytes.Decode.{index_below}
+use Rattle.definitions.specs.Bytes.Good.{GoodPlan, nodes, plan_nodes}
+use Rattle.definitions.specs.Bytes.NodeTable.{nodes_from, node_table}
 use Rattle.theorems.proofs.ExchangeGood.{frame-length}
 use Rattle.expression.specs.Nodes.{Stands}
 use Rattle.expression.specs.Filling.{Records, filled}

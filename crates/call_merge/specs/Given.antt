@@ -1,8 +1,8 @@
 -- The frame that is merged into the held one.
 use Rattle.std.specs.Prelude.{ℕ, ◌≡◌, List, length}
-use Rattle.definitions.specs.Basics.{ok}
-use Rattle.definitions.specs.Expression as tree
-use Rattle.definitions.specs.Plans.{frame_of}
+use Rattle.definitions.specs.Words.Basics.{ok}
+use Rattle.definitions.specs.Words.Expression as tree
+use Rattle.definitions.specs.Bytes.Plans.{frame_of}
 use Rattle.frame_reader.specs.Frames.{FrameAt}
 use Rattle.frame_reader.specs.declared.frame_bodies.Frame.{Frame}
 

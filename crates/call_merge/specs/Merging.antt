@@ -1,8 +1,8 @@
 -- Two frames that are merged, and the bytes of the merged frame and of its parts.
 use Rattle.std.specs.Prelude.{ℕ, ◌+◌, List, ◌++◌, length}
-use Rattle.definitions.specs.Expression as tree
-use Rattle.definitions.specs.Encode.{expr_bytes, records_bytes, frame_bytes}
-use Rattle.definitions.specs.Merge.{raised, merge_frames}
+use Rattle.definitions.specs.Words.Expression as tree
+use Rattle.definitions.specs.Bytes.Encode.{expr_bytes, records_bytes, frame_bytes}
+use Rattle.definitions.specs.Filter.Merge.{raised, merge_frames}
 use Rattle.frame_reader.specs.Frames.{FrameAt}
 use Rattle.frame_reader.specs.declared.frame_bodies.Frame.{Frame}
 use Rattle.writing.specs.Writing.{Both}

@@ -8,13 +8,14 @@ use mathlib.Core.List.{List, ◌++◌}
 use lib.ListN.{length, drop, drop_of_length-le}
 use lib.Dec.{leb}
 use borrow.Author.Tests.{le-leb, lt-leb}
-use Rattle.definitions.specs.Basics.{Result, ok, refused}
-use Rattle.definitions.specs.Expression.{Frame}
-use Rattle.definitions.specs.Encode.{expr_bytes, exprs_bytes}
-use Rattle.definitions.specs.Plans.{frame_of}
-use Rattle.definitions.specs.Calls.{written_over}
-use Rattle.definitions.specs.Printed.{printed, text_of, finish_print, print}
-use Rattle.definitions.specs.Good.{AllBytes}
+use Rattle.definitions.specs.Words.Basics.{Result, ok, refused}
+use Rattle.definitions.specs.Words.Expression.{Frame}
+use Rattle.definitions.specs.Bytes.Encode.{expr_bytes, exprs_bytes}
+use Rattle.definitions.specs.Bytes.Plans.{frame_of}
+use Rattle.definitions.specs.Calls.Base.{written_over}
+use Rattle.definitions.specs.Bytes.Printed.{printed}
+use Rattle.definitions.specs.Calls.Print.{text_of, finish_print, print}
+use Rattle.definitions.specs.Bytes.Good.{AllBytes}
 use Rattle.theorems.proofs.InverseFrame.{frame_back}
 use Rattle.theorems.proofs.TextLength.{text-short}
 use Rattle.frame_reader.specs.Frames.{FrameAt}

@@ -2,7 +2,7 @@
 #![tactic(auto)]
 
 ghost use Rattle.std.specs.Prelude.{◌≤◌, ◌↔◌, length, IsTrue};
-ghost use Rattle.definitions.specs.Printed.{printed};
+ghost use Rattle.definitions.specs.Bytes.Printed.{printed};
 ghost use Rattle.join_filter.specs.Outcomes.{PrintIs};
 ghost use Rattle.printing.specs.Texts.{TextThere, OfText};
 

@@ -9,14 +9,15 @@ use mathlib.Core.Option.{none, some}
 use lib.ListN.{length, take, drop}
 use lib.Dec.{leb}
 use borrow.Author.Tests.{le-leb, lt-leb}
-use Rattle.definitions.specs.Basics.{ok, refused}
-use Rattle.definitions.specs.Limits.{most_items}
-use Rattle.definitions.specs.Expression as tree
-use Rattle.definitions.specs.Expression.{held, extracted}
-use Rattle.definitions.specs.Plans.{plan_of}
-use Rattle.definitions.specs.Calls.{Outcome, written_over, finish}
-use Rattle.definitions.specs.Good.{AllBytes}
-use Rattle.definitions.specs.Project.{placed, project_extraction, projection, short_lists, projected_bytes, new_after_project, project}
+use Rattle.definitions.specs.Words.Basics.{ok, refused}
+use Rattle.definitions.specs.Words.Limits.{most_items}
+use Rattle.definitions.specs.Words.Expression as tree
+use Rattle.definitions.specs.Words.Expression.{held, extracted}
+use Rattle.definitions.specs.Bytes.Plans.{plan_of}
+use Rattle.definitions.specs.Calls.Base.{Outcome, written_over, finish}
+use Rattle.definitions.specs.Bytes.Good.{AllBytes}
+use Rattle.definitions.specs.Filter.Project.{placed, project_extraction, projection}
+use Rattle.definitions.specs.Calls.Project.{short_lists, projected_bytes, new_after_project, project}
 use Rattle.theorems.proofs.InversePlan.{plan-back}
 use Rattle.theorems.proofs.Lengths.{bytes-up-to}
 use Rattle.std.specs.Prelude.{Ok, Some}

@@ -1,8 +1,8 @@
 -- What is held where a projection begins. (Ours.)
 use Rattle.std.specs.Prelude.{ℕ, ◌*◌, ◌≤◌, ◌<◌, ◌≡◌, List, length, take}
-use Rattle.definitions.specs.Basics.{ok}
-use Rattle.definitions.specs.Expression as tree
-use Rattle.definitions.specs.Plans.{plan_of}
+use Rattle.definitions.specs.Words.Basics.{ok}
+use Rattle.definitions.specs.Words.Expression as tree
+use Rattle.definitions.specs.Bytes.Plans.{plan_of}
 use Rattle.plan_reader.specs.declared.extraction_bodies.Extraction.{Extraction}
 use Rattle.projection.specs.Extractions.{ExtractionThere}
 use Rattle.projection.specs.Projected.{ListsFit}

@@ -1,5 +1,5 @@
 // Project with a row for the child indexes.
-ghost use Rattle.definitions.specs.Project as definitions;
+ghost use Rattle.definitions.specs.Calls.Project as definitions;
 ghost use Rattle.join_filter.specs.Outcomes.{OutcomeIs};
 ghost use Rattle.call_project.specs.Holding.{Ready};
 

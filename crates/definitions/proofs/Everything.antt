@@ -1,39 +1,46 @@
--- Names to unfold definitions by, for theorems that hold by computation: one for each file of definitions, and one for all.
+-- Names to unfold definitions by, for theorems that hold by computation: one for each subject of the definitions, and one for all.
 use Prim.Native.Nat.{ℕ}
 use mathlib.Core.Bool as Bool
 use mathlib.Core.Option as Option
-use Rattle.definitions.specs.Basics as Basics
-use Rattle.definitions.specs.Expression as Expression
-use Rattle.definitions.specs.Literals as Literals
-use Rattle.definitions.specs.Encode as Encode
-use Rattle.definitions.specs.Leaves as Leaves
-use Rattle.definitions.specs.Readers as Readers
-use Rattle.definitions.specs.Decode as Decode
-use Rattle.definitions.specs.Plans as Plans
-use Rattle.definitions.specs.References as References
-use Rattle.definitions.specs.Match as Match
-use Rattle.definitions.specs.Extract as Extract
-use Rattle.definitions.specs.OneWalk as OneWalk
-use Rattle.definitions.specs.Exchange as Exchange
-use Rattle.definitions.specs.Calls as Calls
-use Rattle.definitions.specs.Machine as Machine
-use Rattle.definitions.specs.Sessions as Sessions
-use Rattle.definitions.specs.Meaning as Meaning
-use Rattle.definitions.specs.Logical as Logical
-use Rattle.definitions.specs.Program as Program
-use Rattle.definitions.specs.Printed as Printed
-use Rattle.definitions.specs.Good as Good
-use Rattle.definitions.specs.Merge as Merge
-use Rattle.definitions.specs.NodeTable as NodeTable
-use Rattle.definitions.specs.Project as Project
-use Rattle.definitions.specs.OddMachine as OddMachine
-use Rattle.definitions.specs.Queues as Queues
-use Rattle.definitions.specs.QueueBytes as QueueBytes
-use Rattle.definitions.specs.QueueLists as QueueLists
-use Rattle.definitions.specs.ExtractAll as ExtractAll
-use Rattle.definitions.specs.Hosts as Hosts
-use Rattle.definitions.specs.Settings as Settings
-use Rattle.definitions.specs.Verdicts as Verdicts
+use Rattle.definitions.specs.Words.Basics as Basics
+use Rattle.definitions.specs.Words.Expression as Expression
+use Rattle.definitions.specs.Words.Literals as Literals
+use Rattle.definitions.specs.Bytes.Encode as Encode
+use Rattle.definitions.specs.Words.Leaves as Leaves
+use Rattle.definitions.specs.Bytes.Readers as Readers
+use Rattle.definitions.specs.Bytes.Decode as Decode
+use Rattle.definitions.specs.Bytes.Plans as Plans
+use Rattle.definitions.specs.Words.References as References
+use Rattle.definitions.specs.Filter.Match as Match
+use Rattle.definitions.specs.Filter.Extract as Extract
+use Rattle.definitions.specs.Filter.OneWalk as OneWalk
+use Rattle.definitions.specs.Filter.Exchange as Exchange
+use Rattle.definitions.specs.Calls.Base as Calls
+use Rattle.definitions.specs.Lists.Machine as Machine
+use Rattle.definitions.specs.Lists.Sessions as Sessions
+use Rattle.definitions.specs.Meaning.Values as Meaning
+use Rattle.definitions.specs.Filter.Names as Logical
+use Rattle.definitions.specs.Calls.Logical as CallsLogical
+use Rattle.definitions.specs.Lists.Program as Program
+use Rattle.definitions.specs.Bytes.Printed as Printed
+use Rattle.definitions.specs.Calls.Print as CallsPrint
+use Rattle.definitions.specs.Bytes.Good as Good
+use Rattle.definitions.specs.Calls.Merge as Merge
+use Rattle.definitions.specs.Filter.Merge as FilterMerge
+use Rattle.definitions.specs.Bytes.NodeTable as NodeTable
+use Rattle.definitions.specs.Calls.Project as Project
+use Rattle.definitions.specs.Filter.Project as FilterProject
+use Rattle.definitions.specs.Lists.OddMachine as OddMachine
+use Rattle.definitions.specs.Calls.Queues as Queues
+use Rattle.definitions.specs.Calls.QueueBytes as QueueBytes
+use Rattle.definitions.specs.Lists.Queues as QueueLists
+use Rattle.definitions.specs.Filter.Conjuncts as ExtractAll
+use Rattle.definitions.specs.Calls.ExtractAll as CallsExtractAll
+use Rattle.definitions.specs.Filter.Settings as Settings
+use Rattle.definitions.specs.Calls.Settings as CallsSettings
+use Rattle.definitions.specs.Lists.Settings as ListsSettings
+use Rattle.definitions.specs.Filter.Verdicts as Verdicts
+use Rattle.definitions.specs.Calls.Explain as CallsExplain
 
 unfoldable pub basics : ℕ
 unfolding Basics.ascii Basics.same_name Basics.big_endian Basics.any Basics.all Basics.keep
@@ -130,29 +137,29 @@ meaning = 0
 unfoldable pub logical : ℕ
 unfolding Logical.lower_case Logical.spatial_names Logical.function_name Logical.comparison_name Logical.leaf_name Logical.mask Logical.distinct
     Logical.bits_of Logical.in_left Logical.in_right Logical.schema_side Logical.first_argument_side Logical.knn_arguments Logical.query_side_from
-    Logical.query_side Logical.logical_answer Logical.logical Logical.logical_bytes
+    Logical.query_side CallsLogical.logical_answer CallsLogical.logical CallsLogical.logical_bytes
 logical = 0
 
 unfoldable pub program : ℕ
-unfolding Program.digit_value Program.pair_bytes Program.digit_bytes Program.or_refused Program.line_bytes Program.digit Program.digits
+unfolding Program.digit_value Program.pair_bytes Program.digit_bytes Program.or_refused Program.line_bytes Basics.digit Basics.digits
     Program.refused_line Program.load_line Program.logical_line Program.line_call Program.call_line Program.line_of Program.read_line
     Program.line_outcome Program.written_line Program.into_first Program.lines_of Program.output_from Program.fresh_plan Program.output
 program = 0
 
 unfoldable pub printing : ℕ
 unfolding Printed.figures Printed.decimal_width Printed.decimal Printed.digits16 Printed.printed
-    Printed.text_of Printed.finish_print Printed.print
+    CallsPrint.text_of CallsPrint.finish_print CallsPrint.print
 printing = 0
 
 unfoldable pub merging : ℕ
-unfolding Good.nodes Good.depth Merge.raised Merge.merge_frames Merge.over_limits Merge.merged_frame Merge.new_after_merge
+unfolding Good.nodes Good.depth FilterMerge.raised FilterMerge.merge_frames FilterMerge.over_limits Merge.merged_frame Merge.new_after_merge
     Merge.with_table Merge.merge
 merging = 0
 
 unfoldable pub projecting : ℕ
-unfolding Project.place_in Project.place_of Project.is_place Project.or_zero Project.new_place Project.has_place Project.project_expr
-    Project.placed_expr Project.project_predicate Project.placed_predicate Project.project_record Project.placed_record Project.project_frame
-    Project.placed_remainder Project.project_extraction Project.placed Project.projection Project.short_lists Project.projected_bytes
+unfolding FilterProject.place_in FilterProject.place_of FilterProject.is_place FilterProject.or_zero FilterProject.new_place FilterProject.has_place FilterProject.project_expr
+    FilterProject.placed_expr FilterProject.project_predicate FilterProject.placed_predicate FilterProject.project_record FilterProject.placed_record FilterProject.project_frame
+    FilterProject.placed_remainder FilterProject.project_extraction FilterProject.placed FilterProject.projection Project.short_lists Project.projected_bytes
     Project.new_after_project Project.project OddMachine.odd_length OddMachine.odd_step OddMachine.odd_run
 projecting = 0
 
@@ -165,15 +172,14 @@ queues = 0
 
 unfoldable pub listing : ℕ
 unfolding ExtractAll.no_round ExtractAll.round_then ExtractAll.but ExtractAll.in_first ExtractAll.round ExtractAll.rounds
-    ExtractAll.positions_from ExtractAll.conjuncts_by ExtractAll.pick_bytes ExtractAll.picks_bytes ExtractAll.conjuncts_bytes
-    ExtractAll.new_conjuncts ExtractAll.finish_all ExtractAll.extract_all_by ExtractAll.exchange_pick ExtractAll.exchange_conjuncts
-    Hosts.hosted_all
+    ExtractAll.positions_from ExtractAll.conjuncts_by CallsExtractAll.pick_bytes CallsExtractAll.picks_bytes CallsExtractAll.conjuncts_bytes
+    CallsExtractAll.new_conjuncts CallsExtractAll.finish_all CallsExtractAll.extract_all_by ExtractAll.exchange_pick ExtractAll.exchange_conjuncts
 listing = 0
 
 unfoldable pub settings : ℕ
 unfolding Settings.good_settings Settings.default_settings Settings.has_bit Settings.allowed Settings.passing Settings.only_if
-    Settings.match_under Settings.extract_under Settings.extract_walk_under Settings.extract_all_under Settings.make_under Settings.walk_under
-    Settings.calls_run_under
+    Settings.match_under CallsSettings.extract_under CallsSettings.extract_walk_under CallsSettings.extract_all_under ListsSettings.make_under ListsSettings.walk_under
+    ListsSettings.calls_run_under
 settings = 0
 
 unfoldable pub verdicts : ℕ
@@ -185,8 +191,8 @@ unfolding Option.or_else Verdicts.verdict_byte Verdicts.reasons Verdicts.line_na
     Verdicts.literal_whole Verdicts.no_number Verdicts.is_below_one Verdicts.is_above Verdicts.below_one Verdicts.above Verdicts.no_flag
     Verdicts.left_out Verdicts.lacks Verdicts.geometry_is Verdicts.bound_is Verdicts.knn_literal_is Verdicts.applies_by Verdicts.applies
     Verdicts.first_that Verdicts.matches_as Verdicts.verdict_under Verdicts.verdicts_under Verdicts.verdict_bytes Verdicts.one_on
-    Verdicts.first_passing Verdicts.named_by Verdicts.bill_number Verdicts.explained Verdicts.new_verdicts Verdicts.finish_explain
-    Verdicts.explain Verdicts.exchange_verdict
+    Verdicts.first_passing Verdicts.named_by Verdicts.bill_number Verdicts.explained CallsExplain.new_verdicts CallsExplain.finish_explain
+    CallsExplain.explain Verdicts.exchange_verdict
 verdicts = 0
 
 unfoldable pub everything : ℕ

@@ -4,9 +4,9 @@ use native.Mathlib.Omega.{arith}
 use mathlib.Core.Path.{◌≡◌, ◌∙◌, subst}
 use mathlib.Core.List.{List}
 use lib.ListN.{length, length-append}
-use Rattle.definitions.specs.Expression.{Expr, Exprs}
-use Rattle.definitions.specs.Encode.{expr_bytes, exprs_bytes}
-use Rattle.definitions.specs.Decode.{Columns}
+use Rattle.definitions.specs.Words.Expression.{Expr, Exprs}
+use Rattle.definitions.specs.Bytes.Encode.{expr_bytes, exprs_bytes}
+use Rattle.definitions.specs.Bytes.Decode.{Columns}
 use Rattle.expression.specs.Nodes.{children_of, Stands, Row, Tree, OfTree, Trees, OfTrees}
 use Rattle.expression.specs.Heads.{HeadIs}
 use Rattle.expression.specs.declared.heads.Head.{Head}

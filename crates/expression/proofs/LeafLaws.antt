@@ -8,8 +8,8 @@ use types.Run.{OneOf}
 use denote.Enum.Declared.{tag_of}
 use lib.ListN.{length, take, get_or, length-append}
 use lib.Seq.{take_at}
-use Rattle.definitions.specs.Expression.{Expr, column, literal, and, binary, call, other, field, Exprs, count}
-use Rattle.definitions.specs.Decode.{Columns}
+use Rattle.definitions.specs.Words.Expression.{Expr, column, literal, and, binary, call, other, field, Exprs, count}
+use Rattle.definitions.specs.Bytes.Decode.{Columns}
 use Rattle.expression.specs.Places.{Holds, part}
 use Rattle.expression.specs.Nodes.{head_bytes, children_of, kind_of, Stands}
 use Rattle.expression.specs.Heads.{HeadIs}

@@ -12,8 +12,8 @@ use lib.Dec.{eqb, leb}
 use lib.Pointwise.{pointwise}
 use borrow.Author.Tests.{eq-eqb, ne_eqb, le-leb, le-ltb, lt-ltb, leb-true, leb-false}
 use Rattle.std.specs.Char.{to_ascii_lowercase}
-use Rattle.definitions.specs.Basics.{same_name}
-use Rattle.definitions.specs.Logical.{lower_case}
+use Rattle.definitions.specs.Words.Basics.{same_name}
+use Rattle.definitions.specs.Filter.Names.{lower_case}
 
 pub by_bytes : (a b : List ℕ) → pointwise eqb a b ≡ same_name a b
 unfolding same_name

@@ -3,8 +3,8 @@ use Prim.Native.Nat.{ℕ, zero, suc, ◌<◌}
 use native.Mathlib.Omega.{arith}
 use mathlib.Core.Path.{◌≡◌, refl, sym, ap}
 use mathlib.Core.List.{List, ◌++◌, append-nil}
-use Rattle.definitions.specs.Expression.{Expr, column, literal, and, binary, call, other, field, Exprs}
-use Rattle.definitions.specs.Match.{columns_of, columns_of_all}
+use Rattle.definitions.specs.Words.Expression.{Expr, column, literal, and, binary, call, other, field, Exprs}
+use Rattle.definitions.specs.Words.References.{columns_of, columns_of_all}
 use Rattle.theorems.proofs.Cases.{each}
 use Rattle.expression.specs.Nodes.{kind_of, children_of}
 

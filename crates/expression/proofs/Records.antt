@@ -5,10 +5,10 @@ use native.Mathlib.Nat.{not-suc-le-zero, add-zero}
 use mathlib.Core.Path.{◌≡◌, refl, ap, subst}
 use mathlib.Core.List.{List, [], ◌∷◌}
 use lib.ListN.{length, get_or}
-use Rattle.definitions.specs.Basics.{big_endian}
-use Rattle.definitions.specs.Expression.{Record}
-use Rattle.definitions.specs.Encode.{record_bytes, records_bytes}
-use Rattle.definitions.specs.Match.{record_at}
+use Rattle.definitions.specs.Words.Basics.{big_endian}
+use Rattle.definitions.specs.Words.Expression.{Record}
+use Rattle.definitions.specs.Bytes.Encode.{record_bytes, records_bytes}
+use Rattle.definitions.specs.Words.References.{record_at}
 use Rattle.theorems.proofs.ExchangeGood.{record-length}
 use Rattle.expression.specs.Places.{Holds, short_at}
 use Rattle.expression.proofs.Placed.{byte_at, front, back}

@@ -9,7 +9,7 @@ use mir.Syntax.{w32, w64}
 use mir.Val.{SFits, to_z}
 use borrow.Author.Tests.{lt-ltb, le-ltb, le-leb, leb-true, ltb-true, ltb-false}
 use Rattle.std.specs.Prelude.{Result, Ok, Err, OkIff, is_ok}
-use Rattle.definitions.specs.Literals.{signed, is_int32}
+use Rattle.definitions.specs.Words.Literals.{signed, is_int32}
 
 by_half : (n : ℕ) (t : Bool) → ltb n 9223372036854775808 ≡ t → to_z w64 n ≡ signed n
 unfolding signed

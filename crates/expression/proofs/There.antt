@@ -3,8 +3,8 @@ use Prim.Native.Nat.{ℕ, ◌+◌, ◌-◌, ◌≤◌, ◌<◌}
 use mathlib.Core.Path.{◌≡◌}
 use mathlib.Core.List.{List}
 use lib.ListN.{length}
-use Rattle.definitions.specs.Expression.{nil, cons}
-use Rattle.definitions.specs.Encode.{expr_bytes}
+use Rattle.definitions.specs.Words.Expression.{nil, cons}
+use Rattle.definitions.specs.Bytes.Encode.{expr_bytes}
 use Rattle.expression.specs.Nodes.{Tree, OfTreeIn, OfTree, Trees}
 use Rattle.expression.specs.Leaves.{Pair, Calls, NodeIs}
 use Rattle.expression.specs.declared.heads.Head.{Head}

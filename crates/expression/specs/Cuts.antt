@@ -1,8 +1,8 @@
 -- Where one AND-leaf of an expression stands.
 use Rattle.std.specs.Prelude.{ℕ, ◌+◌, ◌≡◌, [], ◌∷◌, length}
-use Rattle.definitions.specs.Expression.{Expr, and}
-use Rattle.definitions.specs.Encode.{expr_bytes}
-use Rattle.definitions.specs.Leaves.{leaves}
+use Rattle.definitions.specs.Words.Expression.{Expr, and}
+use Rattle.definitions.specs.Bytes.Encode.{expr_bytes}
+use Rattle.definitions.specs.Words.Leaves.{leaves}
 use Rattle.expression.specs.Nodes.{left_of, right_of}
 use Rattle.expression.specs.declared.cuts.Cut.{Cut}
 

@@ -1,10 +1,10 @@
 -- Request 6 of document 02: the records that a table is filled with, by where their expression stands. (Ours.)
 use Rattle.std.specs.Prelude.{ℕ, ◌+◌, ◌≤◌, ◌≡◌, List, [], length}
-use Rattle.definitions.specs.Expression.{Expr}
-use Rattle.definitions.specs.Encode.{expr_bytes}
-use Rattle.definitions.specs.Decode.{Columns}
-use Rattle.definitions.specs.Good.{nodes}
-use Rattle.definitions.specs.NodeTable.{NodeRecord, nodes_from}
+use Rattle.definitions.specs.Words.Expression.{Expr}
+use Rattle.definitions.specs.Bytes.Encode.{expr_bytes}
+use Rattle.definitions.specs.Bytes.Decode.{Columns}
+use Rattle.definitions.specs.Bytes.Good.{nodes}
+use Rattle.definitions.specs.Bytes.NodeTable.{NodeRecord, nodes_from}
 use Rattle.expression.specs.Nodes.{Stands}
 
 -- These are the records of the `count` nodes of an expression at a place, at most 1,024 that end by 16,384; or count is 0 and there are

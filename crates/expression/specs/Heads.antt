@@ -1,6 +1,6 @@
 -- What the answers about a node's head say.
 use Rattle.std.specs.Prelude.{ℕ, ◌+◌, ◌≡◌, length}
-use Rattle.definitions.specs.Expression.{Expr, count}
+use Rattle.definitions.specs.Words.Expression.{Expr, count}
 use Rattle.expression.specs.Nodes.{head_bytes, children_of}
 use Rattle.expression.specs.declared.heads.Head.{Head}
 

@@ -1,7 +1,7 @@
 // Where expressions end. That one stands at a place is a clause of each function that walks: the fact holds the expression, and a ghost
 // field holds propositions alone.
 ghost use Rattle.std.specs.Prelude.{◌≡◌, ◌+◌, length};
-ghost use Rattle.definitions.specs.Encode.{expr_bytes, exprs_bytes};
+ghost use Rattle.definitions.specs.Bytes.Encode.{expr_bytes, exprs_bytes};
 ghost use Rattle.expression.specs.Nodes.{Tree, OfTree, Trees, OfTrees};
 
 use super::heads::head_at;

@@ -1,6 +1,6 @@
 // Literals: the number that eight bytes are, and the range of each type.
 ghost use Rattle.std.specs.Prelude.{◌≡◌};
-ghost use Rattle.definitions.specs.Literals as literals;
+ghost use Rattle.definitions.specs.Words.Literals as literals;
 
 // The whole number that eight bytes are in two's complement.
 pub fn signed(bytes: u64) -> i64
@@ -11,7 +11,7 @@ pub fn signed(bytes: u64) -> i64
 
 // Whether a literal's eight bytes are in the range of its type: Boolean, Int32, UInt32, or one that takes any. A type, as a node's kind,
 // stays the byte of document 01's format, which a `match` is on.
-#[tactic(auto, unfolding(definitions::specs::Literals::literal_in_range))]
+#[tactic(auto, unfolding(definitions::specs::Words::Literals::literal_in_range))]
 pub fn literal_in_range(kind: u64, bytes: u64) -> bool
     ensures { result ≡ literals.literal_in_range kind bytes }
 {

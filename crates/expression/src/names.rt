@@ -1,7 +1,7 @@
 // Names of functions, compared with names that are known.
 ghost use Rattle.std.specs.Prelude.{◌≡◌};
-ghost use Rattle.definitions.specs.Basics.{same_name};
-ghost use Rattle.definitions.specs.Logical.{lower_case};
+ghost use Rattle.definitions.specs.Words.Basics.{same_name};
+ghost use Rattle.definitions.specs.Filter.Names.{lower_case};
 
 // Whether a name is this one: the definition's comparison, which is stated of every name.
 #[inline(always)]

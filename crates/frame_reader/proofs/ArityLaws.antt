@@ -8,11 +8,11 @@ use mathlib.Core.List.{List, [], ◌∷◌}
 use mathlib.Core.Option.{Option}
 use lib.ListN.{length}
 use lib.Dec.{leb}
-use Rattle.definitions.specs.Basics.{ascii, same_name, all}
-use Rattle.definitions.specs.Expression.{Relation, Expr, and, binary, call, Exprs, nil, cons, count}
-use Rattle.definitions.specs.Encode.{expr_bytes, exprs_bytes}
-use Rattle.definitions.specs.Leaves.{no_comparison, comparison, leaves, relation_named, relation_arity, call_arity, distance_arity, distance_arguments, comparison_arity, leaf_arity, arity}
-use Rattle.definitions.specs.Decode.{Columns}
+use Rattle.definitions.specs.Words.Basics.{ascii, same_name, all}
+use Rattle.definitions.specs.Words.Expression.{Relation, Expr, and, binary, call, Exprs, nil, cons, count}
+use Rattle.definitions.specs.Bytes.Encode.{expr_bytes, exprs_bytes}
+use Rattle.definitions.specs.Words.Leaves.{no_comparison, comparison, leaves, relation_named, relation_arity, call_arity, distance_arity, distance_arguments, comparison_arity, leaf_arity, arity}
+use Rattle.definitions.specs.Bytes.Decode.{Columns}
 use Rattle.expression.specs.Places.{part}
 use Rattle.expression.specs.Nodes.{Tree, OfTree, OfTreeIn, OfTrees}
 use Rattle.expression.specs.Leaves.{NodeIs, Both, OfPair, CallStands, CallIs, OfCall, PlainNode, plain_column, plain_literal, plain_other, plain_field}

@@ -5,12 +5,12 @@ use mathlib.Core.Path.{◌≡◌, refl, sym, ap, ◌∙◌, subst}
 use mathlib.Core.Bool.{Bool, true, false, ◌&&◌, and-true, and_assoc}
 use mathlib.Core.List.{List, [], ◌∷◌, ◌++◌, map, append_assoc, append-nil}
 use lib.ListN.{length, get_or, length-append}
-use Rattle.definitions.specs.Expression.{Expr, and, binary, Exprs, nil, cons, count}
-use Rattle.definitions.specs.Encode.{expr_bytes, exprs_bytes}
-use Rattle.definitions.specs.Decode.{Columns}
-use Rattle.definitions.specs.Good.{nodes, nodes_all}
-use Rattle.definitions.specs.Leaves.{leaves, leaf_arity, call_arity, arity}
-use Rattle.definitions.specs.NodeTable.{record_of, nodes_from, row_from}
+use Rattle.definitions.specs.Words.Expression.{Expr, and, binary, Exprs, nil, cons, count}
+use Rattle.definitions.specs.Bytes.Encode.{expr_bytes, exprs_bytes}
+use Rattle.definitions.specs.Bytes.Decode.{Columns}
+use Rattle.definitions.specs.Bytes.Good.{nodes, nodes_all}
+use Rattle.definitions.specs.Words.Leaves.{leaves, leaf_arity, call_arity, arity}
+use Rattle.definitions.specs.Bytes.NodeTable.{record_of, nodes_from, row_from}
 use Rattle.expression.specs.Places.{Holds}
 use Rattle.expression.specs.Nodes.{Stands, Row, OfTree}
 use Rattle.expression.specs.Leaves.{Both, CallIs, PlainNode}

@@ -5,11 +5,11 @@ use mathlib.Core.Path.{◌≡◌, subst}
 use mathlib.Core.Bool.{Bool}
 use mathlib.Core.List.{List}
 use lib.ListN.{length, replicate, length-replicate}
-use Rattle.definitions.specs.Expression as tree
-use Rattle.definitions.specs.Decode.{frame_body}
-use Rattle.definitions.specs.Good.{nodes}
-use Rattle.definitions.specs.Leaves.{arity}
-use Rattle.definitions.specs.Readers.{read, byte}
+use Rattle.definitions.specs.Words.Expression as tree
+use Rattle.definitions.specs.Bytes.Decode.{frame_body}
+use Rattle.definitions.specs.Bytes.Good.{nodes}
+use Rattle.definitions.specs.Words.Leaves.{arity}
+use Rattle.definitions.specs.Bytes.Readers.{read, byte}
 use Rattle.expression.specs.Nodes.{OfTree}
 use Rattle.frame_reader.specs.Arities.{Listed}
 use Rattle.node_rows.specs.Numbers.{start_at}

@@ -3,12 +3,12 @@ use Prim.Native.Nat.{ℕ, zero, suc, ◌^◌, ◌≤◌, ◌<◌}
 use mathlib.Core.Path.{◌≡◌, refl, sym, ap, ◌∙◌}
 use mathlib.Core.List.{List, [], ◌∷◌, ◌++◌}
 use lib.ListN.{length}
-use Rattle.definitions.specs.Basics.{big_endian}
-use Rattle.definitions.specs.Expression.{Record}
-use Rattle.definitions.specs.Encode.{side_number, record_bytes, records_bytes}
-use Rattle.definitions.specs.Readers.{read, byte_up_to, number, repeat}
-use Rattle.definitions.specs.Decode.{side_numbered, side_up_to, one_record}
-use Rattle.definitions.specs.Good.{AllBytes}
+use Rattle.definitions.specs.Words.Basics.{big_endian}
+use Rattle.definitions.specs.Words.Expression.{Record}
+use Rattle.definitions.specs.Bytes.Encode.{side_number, record_bytes, records_bytes}
+use Rattle.definitions.specs.Bytes.Readers.{read, byte_up_to, number, repeat}
+use Rattle.definitions.specs.Bytes.Decode.{side_numbered, side_up_to, one_record}
+use Rattle.definitions.specs.Bytes.Good.{AllBytes}
 use Rattle.theorems.proofs.ReaderLaws.{step, given}
 use Rattle.theorems.proofs.Inverse.{byte-up-to-back, number-back, after-bytes, join}
 use Rattle.theorems.proofs.InversePlan.{side-number}

@@ -3,8 +3,8 @@ use Prim.Native.Nat.{ℕ}
 use native.Mathlib.Omega.{arith}
 use mathlib.Core.List.{List}
 use lib.ListN.{drop}
-use Rattle.definitions.specs.Expression.{Expr}
-use Rattle.definitions.specs.Decode.{Columns}
+use Rattle.definitions.specs.Words.Expression.{Expr}
+use Rattle.definitions.specs.Bytes.Decode.{Columns}
 use Rattle.expression.specs.Places.{Holds}
 use Rattle.expression.specs.Nodes.{Stands, Spans}
 use Rattle.node_reader.specs.Places.{ExprAt}

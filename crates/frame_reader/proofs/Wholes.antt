@@ -7,11 +7,11 @@ use mathlib.Core.List.{List, [], ◌∷◌, ◌++◌}
 use lib.ListN.{length, drop, length-drop, drop_of_length-le}
 use lib.Dec.{eqb}
 use borrow.Author.Tests.{eqb-true, eqb-false}
-use Rattle.definitions.specs.Expression.{Expr, Record}
-use Rattle.definitions.specs.Encode.{records_bytes}
-use Rattle.definitions.specs.Readers.{Read, read, stopped, Reader, continue, ◌>>=◌, ◌>>◌, require, byte, repeat, require_length, none_left, at_end}
-use Rattle.definitions.specs.Decode.{index_below, one_record}
-use Rattle.definitions.specs.Good.{AllBytes, nodes, depth}
+use Rattle.definitions.specs.Words.Expression.{Expr, Record}
+use Rattle.definitions.specs.Bytes.Encode.{records_bytes}
+use Rattle.definitions.specs.Bytes.Readers.{Read, read, stopped, Reader, continue, ◌>>=◌, ◌>>◌, require, byte, repeat, require_length, none_left, at_end}
+use Rattle.definitions.specs.Bytes.Decode.{index_below, one_record}
+use Rattle.definitions.specs.Bytes.Good.{AllBytes, nodes, depth}
 use Rattle.theorems.proofs.ReaderLaws.{after, halts, passes, fails}
 use Rattle.std.specs.Prelude.{Result, Ok, Err}
 use Rattle.std.proofs.Common.{◌⊎◌, inl, inr}

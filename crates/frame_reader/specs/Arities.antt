@@ -1,8 +1,8 @@
 -- What the answer about arity says.
 use Rattle.std.specs.Prelude.{ℕ, ◌+◌, ◌≡◌, Bool, true, false, List, Option, Some, None}
-use Rattle.definitions.specs.Expression.{Expr, and}
-use Rattle.definitions.specs.Good.{nodes}
-use Rattle.definitions.specs.Leaves.{arity}
+use Rattle.definitions.specs.Words.Expression.{Expr, and}
+use Rattle.definitions.specs.Bytes.Good.{nodes}
+use Rattle.definitions.specs.Words.Leaves.{arity}
 use Rattle.expression.specs.Nodes.{Tree, OfTree}
 use Rattle.node_rows.specs.Numbers.{start_at}
 use Rattle.node_rows.specs.Rows.{Tabled}

@@ -1,12 +1,12 @@
 -- What the answers about whole frames say: where records and expression stand.
 use Rattle.std.specs.Prelude.{ℕ, ◌+◌, ◌/◌, ◌≤◌, min, ◌≡◌, Bool, List, length, drop, eqb, Result, Ok, Err}
-use Rattle.definitions.specs.Basics as basics
-use Rattle.definitions.specs.Basics.{ok, refused}
-use Rattle.definitions.specs.Expression as tree
-use Rattle.definitions.specs.Encode.{records_bytes}
-use Rattle.definitions.specs.Readers.{read, stopped, Reader, ◌>>=◌, ◌>>◌, require, byte, require_length}
-use Rattle.definitions.specs.Decode.{index_below, fields}
-use Rattle.definitions.specs.Good.{nodes, depth}
+use Rattle.definitions.specs.Words.Basics as basics
+use Rattle.definitions.specs.Words.Basics.{ok, refused}
+use Rattle.definitions.specs.Words.Expression as tree
+use Rattle.definitions.specs.Bytes.Encode.{records_bytes}
+use Rattle.definitions.specs.Bytes.Readers.{read, stopped, Reader, ◌>>=◌, ◌>>◌, require, byte, require_length}
+use Rattle.definitions.specs.Bytes.Decode.{index_below, fields}
+use Rattle.definitions.specs.Bytes.Good.{nodes, depth}
 use Rattle.terms.specs.Refusals.{number_of}
 use Rattle.terms.specs.declared.refusals.Refusal.{Refusal}
 use Rattle.node_reader.specs.Places.{ExprAt}

@@ -1,7 +1,7 @@
 -- What the answer about a side says.
 use Rattle.std.specs.Prelude.{ℕ, ◌≤◌, List, length, Result, Ok, Err}
-use Rattle.definitions.specs.Readers.{Reader}
-use Rattle.definitions.specs.Expression as tree
+use Rattle.definitions.specs.Bytes.Readers.{Reader}
+use Rattle.definitions.specs.Words.Expression as tree
 use Rattle.terms.specs.Refusals.{number_of}
 use Rattle.terms.specs.Sides.{join_side}
 use Rattle.terms.specs.declared.refusals.Refusal.{Refusal}

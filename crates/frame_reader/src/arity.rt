@@ -1,8 +1,8 @@
 // Whether every AND-leaf has the arguments that it needs (refusal 8).
 ghost use Rattle.std.specs.Prelude.{◌≡◌, ◌+◌, length};
-ghost use Rattle.definitions.specs.Expression.{binary, call as call_of, nil, cons, count as count_of};
-ghost use Rattle.definitions.specs.Encode.{expr_bytes, exprs_bytes};
-ghost use Rattle.definitions.specs.Leaves.{call_arity, distance_arity, distance_arguments, leaf_arity, arity};
+ghost use Rattle.definitions.specs.Words.Expression.{binary, call as call_of, nil, cons, count as count_of};
+ghost use Rattle.definitions.specs.Bytes.Encode.{expr_bytes, exprs_bytes};
+ghost use Rattle.definitions.specs.Words.Leaves.{call_arity, distance_arity, distance_arguments, leaf_arity, arity};
 ghost use Rattle.expression.specs.Nodes.{Tree, OfTree};
 ghost use Rattle.expression.specs.Leaves.{Pair, OfPair, Calls, OfCall};
 ghost use Rattle.frame_reader.specs.Arities.{ArityIs};

@@ -1,9 +1,9 @@
 // Whether AND-leaves have the arguments that they need, of an expression whose nodes are in rows: no end is looked for. (`arity` asks the
 // bytes, of held remainders, which have no rows.)
 ghost use Rattle.std.specs.Prelude.{◌≡◌, ◌+◌};
-ghost use Rattle.definitions.specs.Expression.{binary, nil, cons};
-ghost use Rattle.definitions.specs.Good.{nodes};
-ghost use Rattle.definitions.specs.Leaves.{leaf_arity, arity};
+ghost use Rattle.definitions.specs.Words.Expression.{binary, nil, cons};
+ghost use Rattle.definitions.specs.Bytes.Good.{nodes};
+ghost use Rattle.definitions.specs.Words.Leaves.{leaf_arity, arity};
 ghost use Rattle.expression.specs.Nodes.{OfTree};
 ghost use Rattle.expression.specs.Leaves.{Pair, OfPair};
 ghost use Rattle.node_rows.specs.Numbers.{start_at};

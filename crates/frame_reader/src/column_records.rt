@@ -1,7 +1,7 @@
 // The records of columns.
 ghost use Rattle.std.specs.Prelude.{◌≤◌, length};
-ghost use Rattle.definitions.specs.Readers as readers;
-ghost use Rattle.definitions.specs.Decode as decode;
+ghost use Rattle.definitions.specs.Bytes.Readers as readers;
+ghost use Rattle.definitions.specs.Bytes.Decode as decode;
 ghost use Rattle.node_reader.specs.Fields.{FieldIs, SkippedIs};
 ghost use Rattle.frame_reader.specs.Records.{SideIs};
 
@@ -10,7 +10,7 @@ use terms::refusals::Refusal;
 use terms::sides::JoinSide;
 
 // A side with a number of at most `most`.
-#[tactic(auto, unfolding(definitions::specs::Decode::side_up_to))]
+#[tactic(auto, unfolding(definitions::specs::Bytes::Decode::side_up_to))]
 pub fn side_up_to(s: &[u8], at: usize, most: u64) -> Result<(JoinSide, usize), Refusal>
     requires { at ≤ length s.now }
     ensures { SideIs s.now at result (decode.side_up_to most) }
@@ -20,7 +20,7 @@ pub fn side_up_to(s: &[u8], at: usize, most: u64) -> Result<(JoinSide, usize), R
 }
 
 // A column's record: side, child index, field tag.
-#[tactic(auto, unfolding(definitions::specs::Decode::one_record))]
+#[tactic(auto, unfolding(definitions::specs::Bytes::Decode::one_record))]
 fn one_record(s: &[u8], at: usize) -> Result<usize, Refusal>
     requires { at ≤ length s.now }
     ensures { SkippedIs s.now at result decode.one_record }
@@ -44,7 +44,7 @@ pub fn records(s: &[u8], at: usize, many: u64) -> Result<usize, Refusal>
 }
 
 // How many records a frame has, at most 256.
-#[tactic(auto, unfolding(definitions::specs::Decode::record_count))]
+#[tactic(auto, unfolding(definitions::specs::Bytes::Decode::record_count))]
 pub fn record_count(s: &[u8], at: usize) -> Result<(u64, usize), Refusal>
     requires { at ≤ length s.now }
     ensures { FieldIs s.now at result decode.record_count }

@@ -1,7 +1,7 @@
 // A frame's parts, and what is said of a frame that was read.
 ghost use Rattle.std.specs.Prelude.{◌≡◌, ◌≤◌, length};
-ghost use Rattle.definitions.specs.Decode as decode;
-ghost use Rattle.definitions.specs.Leaves.{arity};
+ghost use Rattle.definitions.specs.Bytes.Decode as decode;
+ghost use Rattle.definitions.specs.Words.Leaves.{arity};
 ghost use Rattle.expression.specs.Nodes.{Tree, OfTree};
 ghost use Rattle.node_reader.specs.Fields.{FieldIs, SkippedIs};
 ghost use Rattle.node_reader.specs.Nodes.{Lent};
@@ -33,7 +33,7 @@ pub struct Counted<T> {
 }
 
 // A physical frame after its first byte, with so many nodes counted before it; its nodes go into the rows, where these are so long.
-#[tactic(auto, unfolding(definitions::specs::Decode::frame_body))]
+#[tactic(auto, unfolding(definitions::specs::Bytes::Decode::frame_body))]
 pub fn frame_body_in(
     numbers: &mut [u32],
     indexes: &mut [u16],

@@ -1,6 +1,6 @@
 // Whole frames, physical and logical, the arity of AND-leaves included.
 ghost use Rattle.std.specs.Prelude.{◌≤◌, ◌/◌, min, length};
-ghost use Rattle.definitions.specs.Plans as plans;
+ghost use Rattle.definitions.specs.Bytes.Plans as plans;
 ghost use Rattle.frame_reader.specs.Frames.{Roomy, PhysicalIs, PhysicalIn, LogicalIs};
 
 use super::by_rows::arity_by_rows;

@@ -13,8 +13,8 @@ use borrow.Author.Tests.{le-leb, lt-leb}
 use Rattle.hexadecimal.specs.Hex.{leading_pair, leading_bytes, decoded_to, DecodedIs}
 use Rattle.writing.specs.Written.{Wrote}
 use Rattle.std.specs.Prelude.{Some, None}
-use Rattle.definitions.specs.Basics.{ok, refused}
-use Rattle.definitions.specs.Program.{digit_value, pair_bytes, digit_bytes, or_refused, line_bytes}
+use Rattle.definitions.specs.Words.Basics.{ok, refused}
+use Rattle.definitions.specs.Lists.Program.{digit_value, pair_bytes, digit_bytes, or_refused, line_bytes}
 
 -- A byte, or none, before what the later digits give.
 abbrev ahead : List ℕ → Option (List ℕ) → Option (List ℕ)

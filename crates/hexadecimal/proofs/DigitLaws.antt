@@ -7,7 +7,7 @@ use mathlib.Core.Option.{Option, none, some}
 use mathlib.Core.Bool.{Bool, true, false, ◌&&◌}
 use lib.Dec.{leb}
 use borrow.Author.Tests.{leb-true}
-use Rattle.definitions.specs.Program.{digit_value}
+use Rattle.definitions.specs.Lists.Program.{digit_value}
 
 -- A digit's value is below 16.
 abbrev Bounded : Option ℕ → Type 0

@@ -7,7 +7,7 @@ use mathlib.Core.Path.{◌≡◌, refl, sym, ap}
 use mathlib.Core.List.{List, [], ◌∷◌, ◌++◌}
 use lib.ListN.{length, take, get_or, set, length-set, take-append-drop}
 use lib.Seq.{take-suc, length-take-le}
-use Rattle.definitions.specs.Program.{digit, digits}
+use Rattle.definitions.specs.Words.Basics.{digit, digits}
 use Rattle.writing.specs.Written.{WroteAt}
 use Rattle.writing.proofs.Written.{store, chain}
 

@@ -2,9 +2,9 @@
 use Rattle.std.specs.Prelude.{ℕ, ◌+◌, ◌*◌, ◌/◌, ◌%◌, ◌&&◌, ◌≡◌, List, [], ◌∷◌, length, take, leb, eqb, if◌then◌else◌, Option, Some, None, IfSome}
 use Rattle.std.proofs.Math.Option as maybe
 use Rattle.std.proofs.Math.Option.{none, some}
-use Rattle.definitions.specs.Limits.{most_digits}
-use Rattle.definitions.specs.Basics.{Result, ok, refused}
-use Rattle.definitions.specs.Program.{digit_value, line_bytes}
+use Rattle.definitions.specs.Words.Limits.{most_digits}
+use Rattle.definitions.specs.Words.Basics.{Result, ok, refused}
+use Rattle.definitions.specs.Lists.Program.{digit_value, line_bytes}
 use Rattle.writing.specs.Written.{Wrote}
 
 -- The value of a digit, if it is one.

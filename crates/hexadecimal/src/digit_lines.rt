@@ -1,6 +1,6 @@
 // Lines out.
 ghost use Rattle.std.specs.Prelude.{[], ◌∷◌, ◌++◌, ◌+◌, ◌*◌, ◌≤◌, length};
-ghost use Rattle.definitions.specs.Program.{digits};
+ghost use Rattle.definitions.specs.Words.Basics.{digits};
 ghost use Rattle.writing.specs.Written.{WroteAt};
 
 use super::hex::encode;

@@ -1,12 +1,13 @@
 // Bytes from hexadecimal digits, and back.
 ghost use Rattle.std.specs.Prelude.{◌≡◌, [], ◌+◌, ◌*◌, ◌≤◌, ◌<◌, length};
 ghost use Rattle.std.proofs.Math.Option.{some};
-ghost use Rattle.definitions.specs.Program as program;
+ghost use Rattle.definitions.specs.Lists.Program as program;
+ghost use Rattle.definitions.specs.Words.Basics as basics;
 ghost use Rattle.hexadecimal.specs.Hex.{value_of, bytes_of, DecodedIs};
 ghost use Rattle.writing.specs.Written.{WroteAt};
 
 // The value of a digit 0-9 or a-f.
-#[tactic(auto, unfolding(definitions::specs::Program::digit_value))]
+#[tactic(auto, unfolding(definitions::specs::Lists::Program::digit_value))]
 fn digit_value(c: u8) -> Option<u8>
     ensures { value_of result ≡ program.digit_value c }
 {
@@ -18,7 +19,7 @@ fn digit_value(c: u8) -> Option<u8>
 }
 
 // The byte of two digits.
-#[tactic(auto, using(crate::proofs::DigitLaws::digit_laws), unfolding(definitions::specs::Program::pair_bytes))]
+#[tactic(auto, using(crate::proofs::DigitLaws::digit_laws), unfolding(definitions::specs::Lists::Program::pair_bytes))]
 fn digit_pair(high: u8, low: u8) -> Option<u8>
     ensures { bytes_of result ≡ program.pair_bytes (program.digit_value high) (program.digit_value low) (some []) }
 {
@@ -47,10 +48,10 @@ pub fn decode(out: &mut [u8], line: &[u8]) -> Option<usize>
 }
 
 // The digit of a value below 16.
-#[tactic(auto, unfolding(definitions::specs::Program::digit))]
+#[tactic(auto, unfolding(definitions::specs::Words::Basics::digit))]
 fn digit(value: u8) -> u8
     requires { value < 16 }
-    ensures { result ≡ program.digit value }
+    ensures { result ≡ basics.digit value }
 {
     if value < 10 {
         b'0' + value
@@ -62,7 +63,7 @@ fn digit(value: u8) -> u8
 // The digits of bytes go to `out` from a place on; gives where they end. Public for the crate that prints literals.
 pub fn encode(out: &mut [u8], at: usize, bytes: &[u8]) -> usize
     requires { at + 2 * length bytes.now ≤ length out.old }
-    ensures { WroteAt at (program.digits bytes.now) out.old out.new result }
+    ensures { WroteAt at (basics.digits bytes.now) out.old out.new result }
 {
     // By index: `chunks_exact_mut(2)` with a zip was tried and the proof did not close.
     let mut next = at;

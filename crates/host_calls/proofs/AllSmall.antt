@@ -6,13 +6,15 @@ use mathlib.Core.Bool.{Bool, true, false}
 use mathlib.Core.List.{List}
 use lib.IntN.{ℤ}
 use lib.ListN.{length}
-use Rattle.definitions.specs.Limits.{four_bytes}
-use Rattle.definitions.specs.Basics.{Result, ok, refused}
-use Rattle.definitions.specs.Good.{AllBytes}
-use Rattle.definitions.specs.Hosts.{hosted_all}
-use Rattle.definitions.specs.Sessions.{accepted}
-use Rattle.definitions.specs.ExtractAll.{AllOutcome, conjuncts_by, finish_all, extract_all_by}
-use Rattle.definitions.specs.Settings.{Settings, good_settings, match_under, extract_all_under}
+use Rattle.definitions.specs.Words.Limits.{four_bytes}
+use Rattle.definitions.specs.Words.Basics.{Result, ok, refused}
+use Rattle.definitions.specs.Bytes.Good.{AllBytes}
+use Rattle.host_calls.specs.Hosts.{hosted_all}
+use Rattle.definitions.specs.Lists.Sessions.{accepted}
+use Rattle.definitions.specs.Calls.ExtractAll.{AllOutcome, finish_all, extract_all_by}
+use Rattle.definitions.specs.Filter.Conjuncts.{conjuncts_by}
+use Rattle.definitions.specs.Filter.Settings.{Settings, good_settings, match_under}
+use Rattle.definitions.specs.Calls.Settings.{extract_all_under}
 use Rattle.theorems.proofs.InverseFrame.{same_ok}
 use Rattle.theorems.proofs.Proved.{all-settings, bad-settings}
 use Rattle.host_calls.specs.Hosted.{AllHosted}

@@ -6,16 +6,17 @@ use mathlib.Core.Path.{◌≡◌, refl, sym, ap, ◌∙◌, subst}
 use mathlib.Core.Bool.{true}
 use mathlib.Core.List.{List, [], ◌++◌, map}
 use lib.ListN.{length, take, drop, replicate, length-replicate}
-use Rattle.definitions.specs.Basics.{Result, ok, refused}
-use Rattle.definitions.specs.NodeTable.{NodeRecord, blank}
-use Rattle.definitions.specs.Calls.{LoadOutcome, load, Outcome}
-use Rattle.definitions.specs.Hosts.{hosted}
-use Rattle.definitions.specs.Limits.{four_bytes}
-use Rattle.definitions.specs.Settings.{Settings, match_under, extract_under, extract_walk_under}
-use Rattle.definitions.specs.Machine.{extract_call}
-use Rattle.definitions.specs.Sessions.{make_by, accepted}
-use Rattle.definitions.specs.Merge.{MergeOutcome, merge}
-use Rattle.definitions.specs.Good.{AllBytes}
+use Rattle.definitions.specs.Words.Basics.{Result, ok, refused}
+use Rattle.definitions.specs.Bytes.NodeTable.{NodeRecord, blank}
+use Rattle.definitions.specs.Calls.Base.{LoadOutcome, load, Outcome}
+use Rattle.host_calls.specs.Hosts.{hosted}
+use Rattle.definitions.specs.Words.Limits.{four_bytes}
+use Rattle.definitions.specs.Filter.Settings.{Settings, match_under}
+use Rattle.definitions.specs.Calls.Settings.{extract_under, extract_walk_under}
+use Rattle.definitions.specs.Lists.Machine.{extract_call}
+use Rattle.definitions.specs.Lists.Sessions.{make_by, accepted}
+use Rattle.definitions.specs.Calls.Merge.{MergeOutcome, merge}
+use Rattle.definitions.specs.Bytes.Good.{AllBytes}
 use Rattle.join_filter.proofs.Settling.{by-settings}
 use Rattle.theorems.proofs.Proved.{lengths_short, merge-writes, walk-short, all-settings}
 use Rattle.join_filter.specs.Outcomes.{Answered, answer_of, ExtractIs}

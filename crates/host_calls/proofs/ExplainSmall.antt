@@ -8,16 +8,17 @@ use lib.IntN.{ℤ}
 use lib.ListN.{length}
 use lib.Dec.{leb}
 use borrow.Author.Tests.{leb-true, leb-false}
-use Rattle.definitions.specs.Limits.{four_bytes}
-use Rattle.definitions.specs.Basics.{Result, ok, refused}
-use Rattle.definitions.specs.Expression.{Frame}
-use Rattle.definitions.specs.Leaves.{leaves}
-use Rattle.definitions.specs.Plans.{frame_of}
-use Rattle.definitions.specs.Good.{AllBytes}
-use Rattle.definitions.specs.Hosts.{hosted}
-use Rattle.definitions.specs.Sessions.{accepted}
-use Rattle.definitions.specs.Settings.{Settings, good_settings}
-use Rattle.definitions.specs.Verdicts.{verdict_bytes, explained, ExplainOutcome, finish_explain, explain}
+use Rattle.definitions.specs.Words.Limits.{four_bytes}
+use Rattle.definitions.specs.Words.Basics.{Result, ok, refused}
+use Rattle.definitions.specs.Words.Expression.{Frame}
+use Rattle.definitions.specs.Words.Leaves.{leaves}
+use Rattle.definitions.specs.Bytes.Plans.{frame_of}
+use Rattle.definitions.specs.Bytes.Good.{AllBytes}
+use Rattle.host_calls.specs.Hosts.{hosted}
+use Rattle.definitions.specs.Lists.Sessions.{accepted}
+use Rattle.definitions.specs.Filter.Settings.{Settings, good_settings}
+use Rattle.definitions.specs.Filter.Verdicts.{verdict_bytes, explained}
+use Rattle.definitions.specs.Calls.Explain.{ExplainOutcome, finish_explain, explain}
 use Rattle.theorems.proofs.InverseFrame.{same_ok, frame_back}
 use Rattle.theorems.proofs.Proved.{explain-calls, answer-is-the-bill}
 use Rattle.host_calls.specs.Hosted.{ExplainHosted}

@@ -3,9 +3,9 @@ use Prim.Native.Nat.{ℕ}
 use mathlib.Core.Path.{◌≡◌, refl}
 use mathlib.Core.List.{List}
 use lib.IntN.{ℤ}
-use Rattle.definitions.specs.Calls.{Outcome}
-use Rattle.definitions.specs.Good.{AllBytes}
-use Rattle.definitions.specs.Hosts.{hosted, hosted_walk}
+use Rattle.definitions.specs.Calls.Base.{Outcome}
+use Rattle.definitions.specs.Bytes.Good.{AllBytes}
+use Rattle.host_calls.specs.Hosts.{hosted, hosted_walk}
 use Rattle.join_filter.specs.Outcomes.{Answered, answer_of, OutcomeIs, ExtractIs}
 use Rattle.join_filter.specs.declared.answers.Extracted.{Extracted}
 use Rattle.host_calls.specs.Hosted.{CallHosted, ExtractHosted}

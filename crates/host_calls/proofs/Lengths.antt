@@ -6,13 +6,14 @@ use mathlib.Core.Path.{◌≡◌, refl, sym, ap, ◌∙◌}
 use mathlib.Core.List.{List, []}
 use lib.IntN.{ℤ}
 use lib.ListN.{length}
-use Rattle.definitions.specs.Calls.{Outcome, exchange}
-use Rattle.definitions.specs.Hosts.{hosted}
-use Rattle.definitions.specs.Machine.{exchange_call}
-use Rattle.definitions.specs.Sessions.{make_by, accepted}
-use Rattle.definitions.specs.Printed.{printed, PrintOutcome}
-use Rattle.definitions.specs.Project.{project}
-use Rattle.definitions.specs.Good.{AllBytes}
+use Rattle.definitions.specs.Calls.Base.{Outcome, exchange}
+use Rattle.host_calls.specs.Hosts.{hosted}
+use Rattle.definitions.specs.Lists.Machine.{exchange_call}
+use Rattle.definitions.specs.Lists.Sessions.{make_by, accepted}
+use Rattle.definitions.specs.Bytes.Printed.{printed}
+use Rattle.definitions.specs.Calls.Print.{PrintOutcome}
+use Rattle.definitions.specs.Calls.Project.{project}
+use Rattle.definitions.specs.Bytes.Good.{AllBytes}
 use Rattle.theorems.proofs.InverseFrame.{same_ok, frame_back}
 use Rattle.theorems.proofs.Proved.{lengths_short, text-is-short, print-given}
 use Rattle.join_filter.specs.Outcomes.{Answered, answer_of, OutcomeIs, PrintIs}

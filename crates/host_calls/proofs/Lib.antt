@@ -1,4 +1,5 @@
 -- Laws that the proofs use: answers as numbers.
+pub mod HostRows
 pub mod Numbers
 pub mod Hosting
 pub mod Lengths

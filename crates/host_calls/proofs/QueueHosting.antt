@@ -5,9 +5,9 @@ use native.Mathlib.Omega.{arith}
 use mathlib.Core.Path.{◌≡◌, refl, ap}
 use mathlib.Core.List.{List}
 use lib.IntN.{ℤ}
-use Rattle.definitions.specs.Queues.{queue_number}
-use Rattle.definitions.specs.QueueBytes.{PutOutcome, put, ServeOutcome, serve}
-use Rattle.definitions.specs.Hosts.{hosted, hosted_serve}
+use Rattle.definitions.specs.Calls.Queues.{queue_number}
+use Rattle.definitions.specs.Calls.QueueBytes.{PutOutcome, put, ServeOutcome, serve}
+use Rattle.host_calls.specs.Hosts.{hosted, hosted_serve}
 use Rattle.theorems.proofs.Proved.{queue-lengths}
 use Rattle.join_filter.specs.Outcomes.{Answered, answer_of}
 use Rattle.queues.specs.Outcomes.{queue_is, ServeAnswered, serve_answer_of, PutIs, ServeIs}

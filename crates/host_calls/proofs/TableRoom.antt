@@ -8,13 +8,14 @@ use mathlib.Core.List.{List, ◌++◌}
 use lib.ListN.{length, drop, length-append, length-drop}
 use lib.Dec.{leb}
 use borrow.Author.Tests.{leb-true}
-use Rattle.definitions.specs.Basics.{Result, ok, refused}
-use Rattle.definitions.specs.Expression.{Frame, Plan, empty, held, extracted}
-use Rattle.definitions.specs.Good.{nodes}
-use Rattle.definitions.specs.NodeTable.{NodeRecord, node_table}
-use Rattle.definitions.specs.Calls.{written_over, tabled, filled_by, new_after_load, finish_load, load}
-use Rattle.definitions.specs.Encode.{frame_bytes}
-use Rattle.definitions.specs.Merge.{merge_frames, over_limits, merged_frame, new_after_merge, with_table, merge}
+use Rattle.definitions.specs.Words.Basics.{Result, ok, refused}
+use Rattle.definitions.specs.Words.Expression.{Frame, Plan, empty, held, extracted}
+use Rattle.definitions.specs.Bytes.Good.{nodes}
+use Rattle.definitions.specs.Bytes.NodeTable.{NodeRecord, node_table}
+use Rattle.definitions.specs.Calls.Base.{written_over, tabled, filled_by, new_after_load, finish_load, load}
+use Rattle.definitions.specs.Bytes.Encode.{frame_bytes}
+use Rattle.definitions.specs.Filter.Merge.{merge_frames, over_limits}
+use Rattle.definitions.specs.Calls.Merge.{merged_frame, new_after_merge, with_table, merge}
 use Rattle.theorems.proofs.NodeTables.{table-nests-by}
 use Rattle.expression.specs.Filling.{Records}
 use Rattle.node_table.proofs.FillLaws.{records-count}

@@ -1,10 +1,10 @@
 -- What a call leaves to be done with the table. (Ours.)
 use Rattle.std.specs.Prelude.{ℕ, ◌≤◌, ◌≡◌, List, ◌++◌, pos, neg_ℤ, length, drop, Result, Ok, Err}
-use Rattle.definitions.specs.Calls.{load}
-use Rattle.definitions.specs.Merge.{merge}
-use Rattle.definitions.specs.NodeTable.{NodeRecord}
-use Rattle.definitions.specs.Good.{AllBytes}
-use Rattle.definitions.specs.Hosts.{hosted}
+use Rattle.definitions.specs.Calls.Base.{load}
+use Rattle.definitions.specs.Calls.Merge.{merge}
+use Rattle.definitions.specs.Bytes.NodeTable.{NodeRecord}
+use Rattle.definitions.specs.Bytes.Good.{AllBytes}
+use Rattle.host_calls.specs.Hosts.{hosted}
 use Rattle.expression.specs.Filling.{Records}
 use Rattle.terms.specs.Refusals.{number_of}
 use Rattle.terms.specs.declared.refusals.Refusal.{Refusal}

@@ -1,15 +1,15 @@
 -- Which definition each number is, and what the buffers and the table are; and that what was lent are bytes.
 use Rattle.std.specs.Prelude.{ℕ, ◌≡◌, List, ℤ}
-use Rattle.definitions.specs.Calls.{load, Outcome}
-use Rattle.definitions.specs.Merge.{MergeOutcome}
-use Rattle.definitions.specs.NodeTable.{NodeRecord}
-use Rattle.definitions.specs.Good.{AllBytes}
-use Rattle.definitions.specs.ExtractAll.{AllOutcome}
-use Rattle.definitions.specs.Hosts.{hosted, hosted_walk, hosted_serve, hosted_all}
-use Rattle.definitions.specs.Printed.{print}
-use Rattle.definitions.specs.Settings.{Settings}
-use Rattle.definitions.specs.QueueBytes.{PutOutcome, ServeOutcome}
-use Rattle.definitions.specs.Verdicts.{ExplainOutcome}
+use Rattle.definitions.specs.Calls.Base.{load, Outcome}
+use Rattle.definitions.specs.Calls.Merge.{MergeOutcome}
+use Rattle.definitions.specs.Bytes.NodeTable.{NodeRecord}
+use Rattle.definitions.specs.Bytes.Good.{AllBytes}
+use Rattle.definitions.specs.Calls.ExtractAll.{AllOutcome}
+use Rattle.host_calls.specs.Hosts.{hosted, hosted_walk, hosted_serve, hosted_all}
+use Rattle.definitions.specs.Calls.Print.{print}
+use Rattle.definitions.specs.Filter.Settings.{Settings}
+use Rattle.definitions.specs.Calls.QueueBytes.{PutOutcome, ServeOutcome}
+use Rattle.definitions.specs.Calls.Explain.{ExplainOutcome}
 
 -- The load is the definition's, whatever n the host had: answer, plan buffer and table.
 abbrev pub LoadHosted : (frame before : List ℕ) (table : List NodeRecord) (after : List ℕ) (filled : List NodeRecord) → ℤ → Type 0

@@ -1,6 +1,6 @@
 // A call's answer as one number for a host: a length, or minus the number of the refusal.
 ghost use Rattle.std.specs.Prelude.{◌≡◌, ◌≤◌, pos, neg_ℤ};
-ghost use Rattle.definitions.specs.Hosts.{hosted, hosted_walk};
+ghost use Rattle.host_calls.specs.Hosts.{hosted, hosted_walk};
 ghost use Rattle.terms.specs.Refusals.{number_of};
 ghost use Rattle.join_filter.specs.Outcomes.{answer_of};
 ghost use Rattle.host_calls.specs.Short.{Short, ShortWalk};

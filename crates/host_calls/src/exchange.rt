@@ -1,5 +1,5 @@
 // Exchange, with the answer as a host gets it. Public for the crate `spatialjoin_c`.
-ghost use Rattle.definitions.specs.Calls as definitions;
+ghost use Rattle.definitions.specs.Calls.Base as definitions;
 ghost use Rattle.host_calls.specs.Hosted.{CallHosted};
 
 use super::answers::answer_number;

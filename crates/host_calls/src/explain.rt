@@ -1,7 +1,8 @@
 // Explain, with the answer as a host gets it: the taken leaf and the number of verdicts in one number. Public for the crate
 // `spatialjoin_c`.
 ghost use Rattle.std.specs.Prelude.{◌≡◌, ◌<◌};
-ghost use Rattle.definitions.specs.Verdicts as definitions;
+ghost use Rattle.definitions.specs.Filter.Verdicts as definitions;
+ghost use Rattle.definitions.specs.Calls.Explain as explaining;
 ghost use Rattle.terms.specs.Settings.{settings_of};
 ghost use Rattle.leaf_verdicts.specs.Taken.{taken_of};
 ghost use Rattle.host_calls.specs.Hosted.{ExplainHosted};
@@ -24,7 +25,7 @@ fn bill_number(taken: Option<TakenLeaf>) -> usize
 
 // Below 2^40.
 pub fn explain_number(frame: &[u8], verdicts: &mut [u8], settings: Settings) -> i64
-    ensures { ExplainHosted frame.now (definitions.explain (settings_of settings) frame.now verdicts.old)
+    ensures { ExplainHosted frame.now (explaining.explain (settings_of settings) frame.now verdicts.old)
         verdicts.new result }
 {
     match explain(verdicts, frame, settings) {

@@ -1,5 +1,5 @@
 // The call extract, its answer as a host gets it. Public for `spatialjoin_c`.
-ghost use Rattle.definitions.specs.Settings.{extract_under, extract_walk_under};
+ghost use Rattle.definitions.specs.Calls.Settings.{extract_under, extract_walk_under};
 ghost use Rattle.terms.specs.Settings.{settings_of};
 ghost use Rattle.node_table.specs.Records.{nodes_of};
 ghost use Rattle.host_calls.specs.Hosted.{ExtractHosted};

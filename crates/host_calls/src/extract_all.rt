@@ -1,5 +1,5 @@
 // Extract all, with the answer as a host gets it: rounds and length in one number. Public for the crate `spatialjoin_c`.
-ghost use Rattle.definitions.specs.Settings as definitions;
+ghost use Rattle.definitions.specs.Calls.Settings as definitions;
 ghost use Rattle.terms.specs.Settings.{settings_of};
 ghost use Rattle.host_calls.specs.Hosted.{AllHosted};
 

@@ -1,7 +1,7 @@
 // Logical, with the answer as a host gets it: mask, count and side in one number. Public for the crate `spatialjoin_c`.
 ghost use Rattle.std.specs.Prelude.{◌≡◌};
-ghost use Rattle.definitions.specs.Hosts.{hosted_names};
-ghost use Rattle.definitions.specs.Logical as logicals;
+ghost use Rattle.host_calls.specs.Hosts.{hosted_names};
+ghost use Rattle.definitions.specs.Calls.Logical as logicals;
 
 use super::answers::minus_refusal;
 use logical_filter::call::logical;

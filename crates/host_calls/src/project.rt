@@ -1,5 +1,5 @@
 // Project, with the answer as a host gets it. Public for the crate `spatialjoin_c`.
-ghost use Rattle.definitions.specs.Project as projects;
+ghost use Rattle.definitions.specs.Calls.Project as projects;
 ghost use Rattle.host_calls.specs.Hosted.{CallHosted};
 
 use super::answers::answer_number;

@@ -1,5 +1,5 @@
 // Put, with the answer as a host gets it (request 12). Public for the crate `spatialjoin_c`.
-ghost use Rattle.definitions.specs.QueueBytes as definitions;
+ghost use Rattle.definitions.specs.Calls.QueueBytes as definitions;
 ghost use Rattle.host_calls.specs.Hosted.{PutHosted};
 
 use super::answers::answer_number;

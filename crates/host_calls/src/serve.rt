@@ -1,7 +1,7 @@
 // Serve, with the answer as a host gets it (request 12). Public for the crate `spatialjoin_c`.
 ghost use Rattle.std.specs.Prelude.{◌≡◌};
-ghost use Rattle.definitions.specs.Hosts.{hosted_serve};
-ghost use Rattle.definitions.specs.QueueBytes as definitions;
+ghost use Rattle.host_calls.specs.Hosts.{hosted_serve};
+ghost use Rattle.definitions.specs.Calls.QueueBytes as definitions;
 ghost use Rattle.queues.specs.Outcomes.{serve_answer_of};
 ghost use Rattle.host_calls.specs.Short.{ServeShort};
 ghost use Rattle.host_calls.specs.Hosted.{ServeHosted};

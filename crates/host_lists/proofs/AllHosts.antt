@@ -6,17 +6,18 @@ use mathlib.Core.Bool.{Bool, true, false}
 use mathlib.Core.List.{List}
 use lib.IntN.{ℤ, pos, neg_ℤ}
 use lib.ListN.{length, take}
-use Rattle.definitions.specs.Basics.{Result, ok, refused, all}
-use Rattle.definitions.specs.Expression.{Frame, held}
-use Rattle.definitions.specs.Plans.{frame_of}
-use Rattle.definitions.specs.Extract.{matches_by}
-use Rattle.definitions.specs.Good.{AllBytes, GoodPlan}
-use Rattle.definitions.specs.Sessions.{accepted}
-use Rattle.definitions.specs.Hosts.{hosted_all}
-use Rattle.definitions.specs.Claims.{SameFrom, RefusedBy}
-use Rattle.definitions.specs.ExtractAll.{AllOutcome, conjuncts_by, conjuncts_bytes, finish_all, extract_all_by, match_count}
-use Rattle.definitions.specs.Settings.{Settings, good_settings, match_under, extract_all_under}
-use Rattle.definitions.specs.SettingsClaims.{GoodSettings, all_refusals}
+use Rattle.definitions.specs.Words.Basics.{Result, ok, refused, all}
+use Rattle.definitions.specs.Words.Expression.{Frame, held}
+use Rattle.definitions.specs.Bytes.Plans.{frame_of}
+use Rattle.definitions.specs.Filter.Extract.{matches_by}
+use Rattle.definitions.specs.Bytes.Good.{AllBytes, GoodPlan}
+use Rattle.definitions.specs.Lists.Sessions.{accepted}
+use Rattle.host_calls.specs.Hosts.{hosted_all}
+use Rattle.definitions.specs.Claims.Calls.{SameFrom, RefusedBy, all_refusals}
+use Rattle.definitions.specs.Calls.ExtractAll.{AllOutcome, conjuncts_bytes, finish_all, extract_all_by}
+use Rattle.definitions.specs.Filter.Conjuncts.{conjuncts_by, match_count}
+use Rattle.definitions.specs.Filter.Settings.{Settings, good_settings, match_under, GoodSettings}
+use Rattle.definitions.specs.Calls.Settings.{extract_all_under}
 use Rattle.theorems.proofs.InverseFrame.{same_ok, frame_back}
 use Rattle.theorems.proofs.Proved.{all-settings, bad-settings, refusals-under}
 use Rattle.host_calls.specs.Hosted.{AllHosted}

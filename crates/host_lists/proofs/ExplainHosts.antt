@@ -8,16 +8,16 @@ use lib.IntN.{ℤ, pos, neg_ℤ}
 use lib.ListN.{length, take}
 use lib.Dec.{leb}
 use borrow.Author.Tests.{leb-true, leb-false}
-use Rattle.definitions.specs.Basics.{Result, ok, refused, all, big_endian}
-use Rattle.definitions.specs.Expression.{Frame}
-use Rattle.definitions.specs.Leaves.{leaves}
-use Rattle.definitions.specs.Plans.{frame_of}
-use Rattle.definitions.specs.Hosts.{hosted}
-use Rattle.definitions.specs.Sessions.{accepted}
-use Rattle.definitions.specs.Claims.{SameFrom, RefusedBy}
-use Rattle.definitions.specs.Settings.{Settings}
-use Rattle.definitions.specs.SettingsClaims.{GoodSettings, all_refusals}
-use Rattle.definitions.specs.Verdicts.{verdict_bytes, explained, ExplainOutcome, finish_explain, explain}
+use Rattle.definitions.specs.Words.Basics.{Result, ok, refused, all, big_endian}
+use Rattle.definitions.specs.Words.Expression.{Frame}
+use Rattle.definitions.specs.Words.Leaves.{leaves}
+use Rattle.definitions.specs.Bytes.Plans.{frame_of}
+use Rattle.host_calls.specs.Hosts.{hosted}
+use Rattle.definitions.specs.Lists.Sessions.{accepted}
+use Rattle.definitions.specs.Claims.Calls.{SameFrom, RefusedBy, all_refusals}
+use Rattle.definitions.specs.Filter.Settings.{Settings, GoodSettings}
+use Rattle.definitions.specs.Filter.Verdicts.{verdict_bytes, explained}
+use Rattle.definitions.specs.Calls.Explain.{ExplainOutcome, finish_explain, explain}
 use Rattle.theorems.proofs.InverseFrame.{same_ok, frame_back}
 use Rattle.theorems.proofs.Proved.{explain-calls, answer-is-the-bill}
 use Rattle.host_calls.specs.Hosted.{ExplainHosted}

@@ -6,20 +6,23 @@ use mathlib.Core.Bool.{true, false, false≢true}
 use mathlib.Core.List.{List, [], ◌∷◌, map}
 use lib.IntN.{ℤ}
 use lib.Dec.{eqb}
-use Rattle.definitions.specs.Limits.{most_nodes}
-use Rattle.definitions.specs.Basics.{Result, ok, refused}
-use Rattle.definitions.specs.Expression.{Frame, held}
-use Rattle.definitions.specs.OneWalk.{walk_length_by}
-use Rattle.definitions.specs.Calls.{LoadOutcome, finish_load, load, Outcome, exchange, held_plan}
-use Rattle.definitions.specs.Machine.{Kind, extract_call, exchange_call}
-use Rattle.definitions.specs.Good.{AllBytes}
-use Rattle.definitions.specs.NodeTable.{NodeRecord}
-use Rattle.definitions.specs.Sessions.{make_by, accepted}
-use Rattle.definitions.specs.Settings.{Settings, match_under, extract_under, extract_walk_under, make_under, walk_under}
-use Rattle.definitions.specs.Merge.{MergeOutcome, merge}
-use Rattle.definitions.specs.Project.{Lists, project}
-use Rattle.definitions.specs.History.{Call, loading, making, merging, projecting}
-use Rattle.definitions.specs.Hosts.{hosted, hosted_walk}
+use Rattle.definitions.specs.Words.Limits.{most_nodes}
+use Rattle.definitions.specs.Words.Basics.{Result, ok, refused}
+use Rattle.definitions.specs.Words.Expression.{Frame, held}
+use Rattle.definitions.specs.Filter.OneWalk.{walk_length_by}
+use Rattle.definitions.specs.Calls.Base.{LoadOutcome, finish_load, load, Outcome, exchange, held_plan}
+use Rattle.definitions.specs.Lists.Machine.{Kind, extract_call, exchange_call}
+use Rattle.definitions.specs.Bytes.Good.{AllBytes}
+use Rattle.definitions.specs.Bytes.NodeTable.{NodeRecord}
+use Rattle.definitions.specs.Lists.Sessions.{make_by, accepted}
+use Rattle.definitions.specs.Filter.Settings.{Settings, match_under}
+use Rattle.definitions.specs.Calls.Settings.{extract_under, extract_walk_under}
+use Rattle.definitions.specs.Lists.Settings.{make_under, walk_under}
+use Rattle.definitions.specs.Calls.Merge.{MergeOutcome, merge}
+use Rattle.definitions.specs.Filter.Project.{ChildLists}
+use Rattle.definitions.specs.Calls.Project.{project}
+use Rattle.definitions.specs.Lists.History.{Call, loading, making, merging, projecting}
+use Rattle.host_calls.specs.Hosts.{hosted, hosted_walk}
 use Rattle.theorems.proofs.Proved.{all-settings, refused-keeps, merge_keeps, project-keeps, walk-carried, walk-short}
 use Rattle.join_filter.proofs.Settling.{refused-24, by-settings}
 use Rattle.join_filter.specs.Outcomes.{Answered, answer_of}
@@ -125,7 +128,7 @@ host-keeps S fits b (merging frame scratch) a z is h =
     (is.1.3 ∙ kept.1, is.1.4 ∙ kept.2, is.2 ∙ same-n b.n (answered z) h, is.1.5 ∙ kept.3)
 host-keeps S fits b (projecting scratch of_left of_right) a z is h =
     let (r, o, same) = project-is b.n b.plan scratch of_left of_right a.plan is.0 z is.1 in
-    let lists : Lists = record { of_left = of_left; of_right = of_right } in
+    let lists : ChildLists = record { of_left = of_left; of_right = of_right } in
     let kept = project-keeps lists b.n b.plan scratch (refused-is _ r z same (ap (λ (x : Outcome). x.answer) o) h) in
     (is.1.2 ∙ kept.1, is.1.3 ∙ kept.2, is.2 ∙ same-n b.n (answered z) h, ap nodes_of is.3)
 

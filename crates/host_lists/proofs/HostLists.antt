@@ -8,23 +8,26 @@ use mathlib.Core.Option.{some}
 use lib.IntN.{ℤ, pos}
 use lib.ListN.{length, take, length-map}
 use lib.Dec.{leb}
-use Rattle.definitions.specs.Expression.{Frame, Extraction}
-use Rattle.definitions.specs.Encode.{plan_bytes}
-use Rattle.definitions.specs.Extract.{matches_by}
-use Rattle.definitions.specs.Machine.{extract_call, exchange_call}
-use Rattle.definitions.specs.NodeTable.{NodeRecord}
-use Rattle.definitions.specs.Sessions.{Made, fed, ListOutcome, machine_after_by, accepted, extract_accepted, exchanges_odd, plan_left}
-use Rattle.definitions.specs.Meaning.{Valuation, Meaning, frame_value, extraction_value}
-use Rattle.definitions.specs.Settings.{Settings, match_under, FairUnder}
-use Rattle.definitions.specs.SettingsClaims.{GoodSettings}
-use Rattle.definitions.specs.Claims.{AgreeBy, some_leaf_matches_by, TookAmong, extracted_plan, NamesLeaf, price_line_by}
-use Rattle.definitions.specs.ValueClaims.{values_when, HasValue}
-use Rattle.definitions.specs.Merge.{merge_frames, merge}
-use Rattle.definitions.specs.Project.{Lists as ChildLists}
-use Rattle.definitions.specs.OddMachine.{odd_run}
-use Rattle.definitions.specs.ProjectClaims.{NewColumns, project_by, OddAgree}
-use Rattle.definitions.specs.History.{making, nothing}
-use Rattle.definitions.specs.Hosts.{hosted}
+use Rattle.definitions.specs.Words.Expression.{Frame, Extraction}
+use Rattle.definitions.specs.Bytes.Encode.{plan_bytes}
+use Rattle.definitions.specs.Filter.Extract.{matches_by}
+use Rattle.definitions.specs.Lists.Machine.{extract_call, exchange_call}
+use Rattle.definitions.specs.Bytes.NodeTable.{NodeRecord}
+use Rattle.definitions.specs.Lists.Sessions.{Made, fed, ListOutcome, machine_after_by, accepted, extract_accepted, exchanges_odd, plan_left}
+use Rattle.definitions.specs.Meaning.Values.{Valuation, Meaning, frame_value, extraction_value, FairUnder}
+use Rattle.definitions.specs.Filter.Settings.{Settings, match_under, GoodSettings}
+use Rattle.definitions.specs.Claims.Lists.{AgreeBy, some_leaf_matches_by}
+use Rattle.definitions.specs.Claims.Pick.{TookAmong, NamesLeaf}
+use Rattle.definitions.specs.Filter.Exchange.{extracted_plan}
+use Rattle.definitions.specs.Claims.PriceLine.{price_line_by}
+use Rattle.definitions.specs.Claims.Values.{values_when, HasValue}
+use Rattle.definitions.specs.Filter.Merge.{merge_frames}
+use Rattle.definitions.specs.Calls.Merge.{merge}
+use Rattle.definitions.specs.Filter.Project.{ChildLists}
+use Rattle.definitions.specs.Lists.OddMachine.{odd_run}
+use Rattle.definitions.specs.Claims.Project.{NewColumns, project_by, OddAgree}
+use Rattle.definitions.specs.Lists.History.{making, nothing}
+use Rattle.host_calls.specs.Hosts.{hosted}
 use Rattle.join_filter.specs.Outcomes.{Answered, LoadIs, OutcomeIs, MergeIs}
 use Rattle.join_filter.specs.Lists.{Ran, given, carried, ran_to, Starts, by_load as code-by-load, by_merge as code-by-merge, CodeRun, outcome as code-outcome, DemandThree, AfterProjection, ProjectIs, CodeMeetsUnder}
 use Rattle.join_filter.specs.declared.answers.Extracted.{Extracted}

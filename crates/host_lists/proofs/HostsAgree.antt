@@ -7,17 +7,20 @@ use native.Mathlib.Omega.{arith}
 use lib.IntN.{ℤ}
 use lib.ListN.{length, take}
 use lib.Dec.{leb}
-use Rattle.definitions.specs.Expression.{Frame, Extraction, held}
-use Rattle.definitions.specs.Encode.{frame_bytes, plan_bytes}
-use Rattle.definitions.specs.Extract.{Matcher, matches_by}
-use Rattle.definitions.specs.Machine.{extract_call}
-use Rattle.definitions.specs.Good.{GoodPlan}
-use Rattle.definitions.specs.Sessions.{Made, machine_after_by, accepted, extract_accepted, exchanges_odd, SessionBy, after, plan_after, extracted_in, odd_in}
-use Rattle.definitions.specs.Merge.{merge_frames, MergeOutcome, merge}
-use Rattle.definitions.specs.Claims.{AgreeBy, some_leaf_matches_by, TookAmong, extracted_plan}
-use Rattle.definitions.specs.Settings.{Settings, match_under, FairUnder}
-use Rattle.definitions.specs.SettingsClaims.{GoodSettings}
-use Rattle.definitions.specs.AnyMatcher.{Lists}
+use Rattle.definitions.specs.Words.Expression.{Frame, Extraction, held}
+use Rattle.definitions.specs.Bytes.Encode.{frame_bytes, plan_bytes}
+use Rattle.definitions.specs.Filter.Extract.{Matcher, matches_by}
+use Rattle.definitions.specs.Lists.Machine.{extract_call}
+use Rattle.definitions.specs.Bytes.Good.{GoodPlan}
+use Rattle.definitions.specs.Lists.Sessions.{Made, machine_after_by, accepted, extract_accepted, exchanges_odd, SessionBy, after, plan_after, extracted_in, odd_in}
+use Rattle.definitions.specs.Filter.Merge.{merge_frames}
+use Rattle.definitions.specs.Calls.Merge.{MergeOutcome, merge}
+use Rattle.definitions.specs.Claims.Lists.{AgreeBy, some_leaf_matches_by}
+use Rattle.definitions.specs.Claims.Pick.{TookAmong}
+use Rattle.definitions.specs.Filter.Exchange.{extracted_plan}
+use Rattle.definitions.specs.Filter.Settings.{Settings, match_under, GoodSettings}
+use Rattle.definitions.specs.Meaning.Values.{FairUnder}
+use Rattle.definitions.specs.Claims.AnyMatcher.{Lists}
 use Rattle.theorems.proofs.InverseFrame.{same_ok, frame_back}
 use Rattle.theorems.proofs.Pick.{any_some}
 use Rattle.theorems.proofs.ListTheorem.{written_held}

@@ -8,20 +8,20 @@ use mathlib.Core.List.{List, [], ◌∷◌, ◌++◌}
 use mathlib.Core.Option.{Option, none, some}
 use lib.ListN.{length, take, replicate, length-replicate}
 use lib.Dec.{leb, eqb}
-use Rattle.definitions.specs.Limits.{most_bytes, most_nodes, most_digits}
-use Rattle.definitions.specs.Basics.{Result, ok, refused, map_result}
-use Rattle.definitions.specs.Expression.{Frame}
-use Rattle.definitions.specs.Encode.{plan_bytes}
-use Rattle.definitions.specs.Plans.{frame_of}
-use Rattle.definitions.specs.Match.{match_leaf}
-use Rattle.definitions.specs.Calls.{LoadOutcome, new_after_load, finish_load, load, Outcome, table_fits}
-use Rattle.definitions.specs.Machine.{Kind, extract_call, exchange_call}
-use Rattle.definitions.specs.Good.{AllBytes}
-use Rattle.definitions.specs.NodeTable.{NodeRecord, blank}
-use Rattle.definitions.specs.Sessions.{Made, make_by, make}
-use Rattle.definitions.specs.Logical.{logical, logical_bytes}
-use Rattle.definitions.specs.Program.{digit_value, pair_bytes, digit_bytes, or_refused, line_bytes, Kept, LineOutcome, refused_line, load_line, logical_line, line_call, call_line, line_of, read_line, line_outcome, written_line, lines_of, output_from, fresh_plan, output}
-use Rattle.definitions.specs.History.{loading, making, State, nothing, state_plan, Answered, but_scratch, one_call_by}
+use Rattle.definitions.specs.Words.Limits.{most_bytes, most_nodes, most_digits}
+use Rattle.definitions.specs.Words.Basics.{Result, ok, refused, map_result}
+use Rattle.definitions.specs.Words.Expression.{Frame}
+use Rattle.definitions.specs.Bytes.Encode.{plan_bytes}
+use Rattle.definitions.specs.Bytes.Plans.{frame_of}
+use Rattle.definitions.specs.Filter.Match.{match_leaf}
+use Rattle.definitions.specs.Calls.Base.{LoadOutcome, new_after_load, finish_load, load, Outcome, table_fits}
+use Rattle.definitions.specs.Lists.Machine.{Kind, extract_call, exchange_call}
+use Rattle.definitions.specs.Bytes.Good.{AllBytes}
+use Rattle.definitions.specs.Bytes.NodeTable.{NodeRecord, blank}
+use Rattle.definitions.specs.Lists.Sessions.{Made, make_by, make}
+use Rattle.definitions.specs.Calls.Logical.{logical, logical_bytes}
+use Rattle.definitions.specs.Lists.Program.{digit_value, pair_bytes, digit_bytes, or_refused, line_bytes, Kept, LineOutcome, refused_line, load_line, logical_line, line_call, call_line, line_of, read_line, line_outcome, written_line, lines_of, output_from, fresh_plan, output}
+use Rattle.definitions.specs.Lists.History.{loading, making, State, nothing, state_plan, Answered, but_scratch, one_call_by}
 use Rattle.theorems.proofs.MatchLaws.{match-laws}
 use Rattle.theorems.proofs.TablesFit.{extract-filled-by}
 use Rattle.theorems.proofs.Histories.{HoldsState, CallAgrees, state-left, state-held, call-agrees}

@@ -9,18 +9,18 @@ use mathlib.Core.List.{List, [], ◌∷◌, map}
 use lib.IntN.{pos, neg_ℤ}
 use lib.Dec.{leb, eqb}
 use borrow.Author.Tests.{leb-true, eqb-true}
-use Rattle.definitions.specs.Limits.{most_bytes}
-use Rattle.definitions.specs.Basics.{Result, ok, refused, any, all}
-use Rattle.definitions.specs.Machine.{Kind, extract_call, exchange_call}
-use Rattle.definitions.specs.Good.{AllBytes}
-use Rattle.definitions.specs.NodeTable.{NodeRecord}
-use Rattle.definitions.specs.Sessions.{make_by, accepted}
-use Rattle.definitions.specs.Settings.{Settings, make_under}
-use Rattle.definitions.specs.SettingsClaims.{settled_refusals}
-use Rattle.definitions.specs.Calls.{Outcome}
-use Rattle.definitions.specs.Merge.{merge}
-use Rattle.definitions.specs.Hosts.{hosted, hosted_walk}
-use Rattle.definitions.specs.Claims.{load_refusals, exchange_refusals, merge_refusals, project_refusals, RefusedBy}
+use Rattle.definitions.specs.Words.Limits.{most_bytes}
+use Rattle.definitions.specs.Words.Basics.{Result, ok, refused, any, all}
+use Rattle.definitions.specs.Lists.Machine.{Kind, extract_call, exchange_call}
+use Rattle.definitions.specs.Bytes.Good.{AllBytes}
+use Rattle.definitions.specs.Bytes.NodeTable.{NodeRecord}
+use Rattle.definitions.specs.Lists.Sessions.{make_by, accepted}
+use Rattle.definitions.specs.Filter.Settings.{Settings}
+use Rattle.definitions.specs.Lists.Settings.{make_under}
+use Rattle.definitions.specs.Claims.Calls.{settled_refusals, load_refusals, exchange_refusals, merge_refusals, project_refusals, RefusedBy}
+use Rattle.definitions.specs.Calls.Base.{Outcome}
+use Rattle.definitions.specs.Calls.Merge.{merge}
+use Rattle.host_calls.specs.Hosts.{hosted, hosted_walk}
 use Rattle.theorems.proofs.Tools.{and-both}
 use Rattle.theorems.proofs.InverseFrame.{same_ok, refused_not_ok}
 use Rattle.theorems.proofs.Proved.{lengths_short, refusals-of-calls, merge-writes, all-settings, refusals-under}

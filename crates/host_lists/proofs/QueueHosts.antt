@@ -7,13 +7,13 @@ use mathlib.Core.List.{List, [], ◌∷◌, ◌++◌}
 use lib.IntN.{pos}
 use lib.ListN.{length}
 use borrow.Author.Tests.{lt-ltb, le-ltb, ne_eqb}
-use Rattle.definitions.specs.Basics.{Result, ok, refused, all}
-use Rattle.definitions.specs.Queues.{Queue, chassis, fixed_unit, queue_number}
-use Rattle.definitions.specs.QueueBytes.{state_of, put, Served, frame_from, both_empty, serve}
-use Rattle.definitions.specs.QueueLists.{QueueCall, put_call, serve_call, QueueMade, made_put, made_serve, QueuesRun, queues_run, fresh_queues, waiting_in, added, Given, served, given_of}
-use Rattle.definitions.specs.QueueClaims.{left_by, served_after, ComesOut}
-use Rattle.definitions.specs.Hosts.{hosted, hosted_serve}
-use Rattle.definitions.specs.Claims.{put_refusals, serve_refusals, RefusedBy}
+use Rattle.definitions.specs.Words.Basics.{Result, ok, refused, all}
+use Rattle.definitions.specs.Calls.Queues.{Queue, chassis, fixed_unit, queue_number}
+use Rattle.definitions.specs.Calls.QueueBytes.{state_of, put, Served, frame_from, both_empty, serve}
+use Rattle.definitions.specs.Lists.Queues.{QueueCall, put_call, serve_call, QueueMade, made_put, made_serve, QueuesRun, queues_run, fresh_queues, waiting_in, added, Given, served, given_of}
+use Rattle.definitions.specs.Claims.Queues.{left_by, served_after, ComesOut}
+use Rattle.host_calls.specs.Hosts.{hosted, hosted_serve}
+use Rattle.definitions.specs.Claims.Calls.{put_refusals, serve_refusals, RefusedBy}
 use Rattle.theorems.proofs.Proved.{refusals-of-calls, put-adds, queue-lengths, run-parts, always-held, in-order, fair}
 use Rattle.host_calls.specs.Hosted.{PutHosted}
 use Rattle.host_lists.specs.Numbers.{answered}

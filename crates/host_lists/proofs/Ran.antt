@@ -5,20 +5,21 @@ use mathlib.Core.Path.{◌≡◌, refl, sym, ap, ap₂, ◌∙◌}
 use mathlib.Core.Bool.{false≢true}
 use mathlib.Core.List.{List, [], ◌∷◌}
 use lib.IntN.{ℤ, pos}
-use Rattle.definitions.specs.Basics.{Result, ok, refused}
-use Rattle.definitions.specs.Expression.{Frame}
-use Rattle.definitions.specs.Extract.{Matcher}
-use Rattle.definitions.specs.Calls.{LoadOutcome, finish_load, load, Outcome, finish, exchange}
-use Rattle.definitions.specs.Machine.{Kind, extract_call, exchange_call}
-use Rattle.definitions.specs.NodeTable.{NodeRecord}
-use Rattle.definitions.specs.Sessions.{make_by, accepted}
-use Rattle.definitions.specs.Settings.{Settings, extract_under, extract_walk_under, make_under, walk_under}
-use Rattle.definitions.specs.SettingsClaims.{settled_refusals}
-use Rattle.definitions.specs.Merge.{MergeOutcome, with_table, merge}
-use Rattle.definitions.specs.Project.{project}
-use Rattle.definitions.specs.History.{Call, loading, making, merging, projecting, FramesAreBytes}
-use Rattle.definitions.specs.Hosts.{hosted, hosted_walk}
-use Rattle.definitions.specs.Claims.{load_refusals, exchange_refusals, merge_refusals, project_refusals, RefusedBy}
+use Rattle.definitions.specs.Words.Basics.{Result, ok, refused}
+use Rattle.definitions.specs.Words.Expression.{Frame}
+use Rattle.definitions.specs.Filter.Extract.{Matcher}
+use Rattle.definitions.specs.Calls.Base.{LoadOutcome, finish_load, load, Outcome, finish, exchange}
+use Rattle.definitions.specs.Lists.Machine.{Kind, extract_call, exchange_call}
+use Rattle.definitions.specs.Bytes.NodeTable.{NodeRecord}
+use Rattle.definitions.specs.Lists.Sessions.{make_by, accepted}
+use Rattle.definitions.specs.Filter.Settings.{Settings}
+use Rattle.definitions.specs.Calls.Settings.{extract_under, extract_walk_under}
+use Rattle.definitions.specs.Lists.Settings.{make_under, walk_under}
+use Rattle.definitions.specs.Claims.Calls.{settled_refusals, load_refusals, exchange_refusals, merge_refusals, project_refusals, RefusedBy}
+use Rattle.definitions.specs.Calls.Merge.{MergeOutcome, with_table, merge}
+use Rattle.definitions.specs.Calls.Project.{project}
+use Rattle.definitions.specs.Lists.History.{Call, loading, making, merging, projecting, FramesAreBytes}
+use Rattle.host_calls.specs.Hosts.{hosted, hosted_walk}
 use Rattle.theorems.proofs.Changes.{extract-writes}
 use Rattle.theorems.proofs.Proved.{refusals-of-calls, refusals-under}
 use Rattle.join_filter.specs.Outcomes.{Answered, answer_of, n_after, LoadIs, OutcomeIs, MergeIs}

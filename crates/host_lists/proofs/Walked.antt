@@ -5,19 +5,20 @@ use mathlib.Core.Bool.{Bool}
 use mathlib.Core.List.{List, [], ◌∷◌, map}
 use lib.IntN.{ℤ}
 use lib.ListN.{length}
-use Rattle.definitions.specs.Basics.{Result}
-use Rattle.definitions.specs.Expression.{Extraction}
-use Rattle.definitions.specs.Calls.{LoadOutcome, Outcome}
-use Rattle.definitions.specs.Machine.{Kind, extract_call, exchange_call}
-use Rattle.definitions.specs.NodeTable.{NodeRecord}
-use Rattle.definitions.specs.Sessions.{Made, extract_with, fed, make_by, walk_by}
-use Rattle.definitions.specs.Settings.{Settings, match_under, FairUnder, make_under, walk_under}
-use Rattle.definitions.specs.SettingsClaims.{GoodSettings}
-use Rattle.definitions.specs.Matchers.{Lawful}
-use Rattle.definitions.specs.Merge.{MergeOutcome}
-use Rattle.definitions.specs.OddMachine.{odd_step, odd_run}
-use Rattle.definitions.specs.History.{Call, loading, making, merging, projecting, State, nothing, started, projected, refuse_call, make_call, machine_call, machine_history, one_call_by, FramesAreBytes}
-use Rattle.definitions.specs.Hosts.{hosted}
+use Rattle.definitions.specs.Words.Basics.{Result}
+use Rattle.definitions.specs.Words.Expression.{Extraction}
+use Rattle.definitions.specs.Calls.Base.{LoadOutcome, Outcome}
+use Rattle.definitions.specs.Lists.Machine.{Kind, extract_call, exchange_call}
+use Rattle.definitions.specs.Bytes.NodeTable.{NodeRecord}
+use Rattle.definitions.specs.Lists.Sessions.{Made, extract_with, fed, make_by, walk_by}
+use Rattle.definitions.specs.Filter.Settings.{Settings, match_under, GoodSettings}
+use Rattle.definitions.specs.Meaning.Values.{FairUnder}
+use Rattle.definitions.specs.Lists.Settings.{make_under, walk_under}
+use Rattle.definitions.specs.Meaning.Matchers.{Lawful}
+use Rattle.definitions.specs.Calls.Merge.{MergeOutcome}
+use Rattle.definitions.specs.Lists.OddMachine.{odd_step, odd_run}
+use Rattle.definitions.specs.Lists.History.{Call, loading, making, merging, projecting, State, nothing, started, projected, refuse_call, make_call, machine_call, machine_history, one_call_by, FramesAreBytes}
+use Rattle.host_calls.specs.Hosts.{hosted}
 use Rattle.theorems.proofs.SettingsLaws.{settings-laws}
 use Rattle.theorems.proofs.SettingsClaimed.{same-make, same-carried}
 use Rattle.theorems.proofs.Lists.{step-walk}

@@ -1,13 +1,14 @@
 -- Request 14 of a host's own call `spatialjoin_extract_all`, by the relation that its contract cites.
 use Rattle.std.specs.Prelude.{ℕ, suc, ◌/◌, ◌%◌, ◌≡◌, List, ℤ, pos, negsuc, take}
-use Rattle.definitions.specs.Basics.{Result, ok, refused}
-use Rattle.definitions.specs.Expression.{Frame}
-use Rattle.definitions.specs.Plans.{frame_of}
-use Rattle.definitions.specs.Extract.{matches_by}
-use Rattle.definitions.specs.Claims.{SameFrom}
-use Rattle.definitions.specs.ExtractAll.{conjuncts_by, conjuncts_bytes, match_count}
-use Rattle.definitions.specs.Settings.{Settings, match_under, extract_all_under}
-use Rattle.definitions.specs.SettingsClaims.{GoodSettings}
+use Rattle.definitions.specs.Words.Basics.{Result, ok, refused}
+use Rattle.definitions.specs.Words.Expression.{Frame}
+use Rattle.definitions.specs.Bytes.Plans.{frame_of}
+use Rattle.definitions.specs.Filter.Extract.{matches_by}
+use Rattle.definitions.specs.Claims.Calls.{SameFrom}
+use Rattle.definitions.specs.Filter.Conjuncts.{conjuncts_by, match_count}
+use Rattle.definitions.specs.Calls.ExtractAll.{conjuncts_bytes}
+use Rattle.definitions.specs.Filter.Settings.{Settings, match_under, GoodSettings}
+use Rattle.definitions.specs.Calls.Settings.{extract_all_under}
 use Rattle.host_calls.specs.Hosted.{AllHosted}
 use Rattle.host_lists.specs.Numbers.{Fits}
 

@@ -1,16 +1,16 @@
 -- A host's own call `spatialjoin_explain`, by the relation that its contract cites. (Ours, beyond document 02.)
 use Rattle.std.specs.Prelude.{ℕ, suc, ◌/◌, ◌%◌, ◌≡◌, List, ℤ, pos, negsuc, length, take}
 use Rattle.std.proofs.Math.Option.{none, some}
-use Rattle.definitions.specs.Basics.{Result, ok, refused, big_endian}
-use Rattle.definitions.specs.Expression.{Frame, Extraction}
-use Rattle.definitions.specs.Encode.{extraction_bytes}
-use Rattle.definitions.specs.Leaves.{leaves}
-use Rattle.definitions.specs.Plans.{frame_of}
-use Rattle.definitions.specs.Extract.{extraction_by}
-use Rattle.definitions.specs.Claims.{SameFrom}
-use Rattle.definitions.specs.Settings.{Settings, match_under}
-use Rattle.definitions.specs.SettingsClaims.{GoodSettings}
-use Rattle.definitions.specs.Verdicts.{verdict_bytes, explain}
+use Rattle.definitions.specs.Words.Basics.{Result, ok, refused, big_endian}
+use Rattle.definitions.specs.Words.Expression.{Frame, Extraction}
+use Rattle.definitions.specs.Bytes.Encode.{extraction_bytes}
+use Rattle.definitions.specs.Words.Leaves.{leaves}
+use Rattle.definitions.specs.Bytes.Plans.{frame_of}
+use Rattle.definitions.specs.Filter.Extract.{extraction_by}
+use Rattle.definitions.specs.Claims.Calls.{SameFrom}
+use Rattle.definitions.specs.Filter.Settings.{Settings, match_under, GoodSettings}
+use Rattle.definitions.specs.Filter.Verdicts.{verdict_bytes}
+use Rattle.definitions.specs.Calls.Explain.{explain}
 use Rattle.host_calls.specs.Hosted.{ExplainHosted}
 use Rattle.host_lists.specs.Numbers.{Fits}
 

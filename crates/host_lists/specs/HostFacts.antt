@@ -1,15 +1,15 @@
 -- One exported call of a host, whatever the settings: demand 1 of it, what it gives with settings that get 24, and that every call runs.
 use Rattle.std.specs.Prelude.{ℕ, ◌*◌, ◌-◌, ◌≤◌, ◌≡◌, true, false, List, [], ℤ, pos, neg_ℤ, eqb}
-use Rattle.definitions.specs.Limits.{most_nodes}
-use Rattle.definitions.specs.Basics.{ok, refused}
-use Rattle.definitions.specs.Expression.{Frame, held}
-use Rattle.definitions.specs.OneWalk.{walk_length_by}
-use Rattle.definitions.specs.Calls.{held_plan}
-use Rattle.definitions.specs.Machine.{extract_call}
-use Rattle.definitions.specs.Good.{AllBytes}
-use Rattle.definitions.specs.Sessions.{accepted}
-use Rattle.definitions.specs.Settings.{Settings, good_settings, match_under}
-use Rattle.definitions.specs.History.{Call, loading, making, merging, projecting, FrameIsBytes}
+use Rattle.definitions.specs.Words.Limits.{most_nodes}
+use Rattle.definitions.specs.Words.Basics.{ok, refused}
+use Rattle.definitions.specs.Words.Expression.{Frame, held}
+use Rattle.definitions.specs.Filter.OneWalk.{walk_length_by}
+use Rattle.definitions.specs.Calls.Base.{held_plan}
+use Rattle.definitions.specs.Lists.Machine.{extract_call}
+use Rattle.definitions.specs.Bytes.Good.{AllBytes}
+use Rattle.definitions.specs.Lists.Sessions.{accepted}
+use Rattle.definitions.specs.Filter.Settings.{Settings, good_settings, match_under}
+use Rattle.definitions.specs.Lists.History.{Call, loading, making, merging, projecting, FrameIsBytes}
 use Rattle.node_table.specs.Records.{nodes_of}
 use Rattle.host_lists.specs.Numbers.{walk_answered, walk_carried, answered_by, carried_by, number_by, IsAnswer, Fits}
 use Rattle.host_lists.specs.HostLists.{Host, MadeHosted, HostCall}

@@ -2,25 +2,30 @@
 -- are fixed, two lists that are compared have the same ones, and the machine is given them too (request 13).
 use Rattle.std.specs.Prelude.{ℕ, ◌≡◌, Bool, true, false, ◌&&◌, not, List, [], ◌∷◌, map, ℤ, pos, length, take, leb}
 use Rattle.std.proofs.Math.Option.{some}
-use Rattle.definitions.specs.Basics.{ok}
-use Rattle.definitions.specs.Expression.{Frame, Extraction, held, extracted as holding}
-use Rattle.definitions.specs.Encode.{frame_bytes, plan_bytes}
-use Rattle.definitions.specs.Plans.{frame_of}
-use Rattle.definitions.specs.Extract.{matches_by}
-use Rattle.definitions.specs.Calls.{table_fits, held_plan, exchange}
-use Rattle.definitions.specs.Machine.{Kind, extract_call, exchange_call, machine_step}
-use Rattle.definitions.specs.Sessions.{Made, fed, ListOutcome, machine_after_by, accepted, extract_accepted, exchanges_odd, plan_left}
-use Rattle.definitions.specs.Meaning.{Valuation, Meaning, frame_value, extraction_value}
-use Rattle.definitions.specs.Settings.{Settings, match_under, FairUnder, extract_under, extract_walk_under}
-use Rattle.definitions.specs.SettingsClaims.{GoodSettings}
-use Rattle.definitions.specs.Claims.{AgreeBy, some_leaf_matches_by, TookAmong, extracted_plan, NamesLeaf, price_line_by}
-use Rattle.definitions.specs.ValueClaims.{values_when, HasValue}
-use Rattle.definitions.specs.Merge.{merge_frames, merge}
-use Rattle.definitions.specs.Project.{projection, project, Lists as ChildLists}
-use Rattle.definitions.specs.OddMachine.{odd_run}
-use Rattle.definitions.specs.ProjectClaims.{NewColumns, project_by, OddAgree}
-use Rattle.definitions.specs.History.{Call, loading, making, merging, projecting, State, nothing, started, projected, state_plan, machine_call, History, machine_history}
-use Rattle.definitions.specs.Hosts.{hosted}
+use Rattle.definitions.specs.Words.Basics.{ok}
+use Rattle.definitions.specs.Words.Expression.{Frame, Extraction, held, extracted as holding}
+use Rattle.definitions.specs.Bytes.Encode.{frame_bytes, plan_bytes}
+use Rattle.definitions.specs.Bytes.Plans.{frame_of}
+use Rattle.definitions.specs.Filter.Extract.{matches_by}
+use Rattle.definitions.specs.Calls.Base.{table_fits, held_plan, exchange}
+use Rattle.definitions.specs.Lists.Machine.{Kind, extract_call, exchange_call, machine_step}
+use Rattle.definitions.specs.Lists.Sessions.{Made, fed, ListOutcome, machine_after_by, accepted, extract_accepted, exchanges_odd, plan_left}
+use Rattle.definitions.specs.Meaning.Values.{Valuation, Meaning, frame_value, extraction_value, FairUnder}
+use Rattle.definitions.specs.Filter.Settings.{Settings, match_under, GoodSettings}
+use Rattle.definitions.specs.Calls.Settings.{extract_under, extract_walk_under}
+use Rattle.definitions.specs.Claims.Lists.{AgreeBy, some_leaf_matches_by}
+use Rattle.definitions.specs.Claims.Pick.{TookAmong, NamesLeaf}
+use Rattle.definitions.specs.Filter.Exchange.{extracted_plan}
+use Rattle.definitions.specs.Claims.PriceLine.{price_line_by}
+use Rattle.definitions.specs.Claims.Values.{values_when, HasValue}
+use Rattle.definitions.specs.Filter.Merge.{merge_frames}
+use Rattle.definitions.specs.Calls.Merge.{merge}
+use Rattle.definitions.specs.Filter.Project.{projection, ChildLists}
+use Rattle.definitions.specs.Calls.Project.{project}
+use Rattle.definitions.specs.Lists.OddMachine.{odd_run}
+use Rattle.definitions.specs.Claims.Project.{NewColumns, project_by, OddAgree}
+use Rattle.definitions.specs.Lists.History.{Call, loading, making, merging, projecting, State, nothing, started, projected, state_plan, machine_call, History, machine_history}
+use Rattle.host_calls.specs.Hosts.{hosted}
 use Rattle.node_table.specs.Records.{nodes_of}
 use Rattle.node_table.specs.declared.NodeRecord.{NodeRecord as TableRecord}
 use Rattle.host_calls.specs.Hosted.{LoadHosted, CallHosted, ExtractHosted, MergeHosted}

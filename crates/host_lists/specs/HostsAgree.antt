@@ -1,13 +1,13 @@
 -- Two hosts from the same frame and with the same settings, whatever each of them exchanged: the same leaf and the same price line.
 use Rattle.std.specs.Prelude.{ℕ, ◌≡◌, true, false, List, ℤ, length, take, leb}
-use Rattle.definitions.specs.Expression.{Frame, Extraction}
-use Rattle.definitions.specs.Encode.{plan_bytes}
-use Rattle.definitions.specs.Machine.{extract_call}
-use Rattle.definitions.specs.Sessions.{Made, accepted}
-use Rattle.definitions.specs.Extract.{matches_by}
-use Rattle.definitions.specs.Settings.{Settings, match_under}
-use Rattle.definitions.specs.SettingsClaims.{GoodSettings}
-use Rattle.definitions.specs.Claims.{TookAmong, extracted_plan}
+use Rattle.definitions.specs.Words.Expression.{Frame, Extraction}
+use Rattle.definitions.specs.Bytes.Encode.{plan_bytes}
+use Rattle.definitions.specs.Lists.Machine.{extract_call}
+use Rattle.definitions.specs.Lists.Sessions.{Made, accepted}
+use Rattle.definitions.specs.Filter.Extract.{matches_by}
+use Rattle.definitions.specs.Filter.Settings.{Settings, match_under, GoodSettings}
+use Rattle.definitions.specs.Claims.Pick.{TookAmong}
+use Rattle.definitions.specs.Filter.Exchange.{extracted_plan}
 use Rattle.host_lists.specs.Numbers.{walk_answered}
 use Rattle.host_lists.specs.HostLists.{MadeHosted, HostRun, plan, extracted, odd}
 

@@ -1,13 +1,13 @@
 -- The program's lines by the two-bit machine: each line out is that of the machine's answer and plan.
 use Rattle.std.specs.Prelude.{ℕ, ◌≡◌, List, [], ◌∷◌, ◌++◌, length, take, replicate, eqb, if◌then◌else◌}
-use Rattle.definitions.specs.Limits.{most_bytes, most_nodes}
-use Rattle.definitions.specs.Basics.{Result, ok, refused, map_result}
-use Rattle.definitions.specs.Encode.{plan_bytes}
-use Rattle.definitions.specs.Match.{match_leaf}
-use Rattle.definitions.specs.Machine.{Kind, extract_call, exchange_call}
-use Rattle.definitions.specs.Logical.{logical, logical_bytes}
-use Rattle.definitions.specs.Program.{line_bytes, Kept, line_outcome, written_line, lines_of, output}
-use Rattle.definitions.specs.History.{Call, loading, making, State, nothing, state_plan, Answered, machine_call}
+use Rattle.definitions.specs.Words.Limits.{most_bytes, most_nodes}
+use Rattle.definitions.specs.Words.Basics.{Result, ok, refused, map_result}
+use Rattle.definitions.specs.Bytes.Encode.{plan_bytes}
+use Rattle.definitions.specs.Filter.Match.{match_leaf}
+use Rattle.definitions.specs.Lists.Machine.{Kind, extract_call, exchange_call}
+use Rattle.definitions.specs.Calls.Logical.{logical, logical_bytes}
+use Rattle.definitions.specs.Lists.Program.{line_bytes, Kept, line_outcome, written_line, lines_of, output}
+use Rattle.definitions.specs.Lists.History.{Call, loading, making, State, nothing, state_plan, Answered, machine_call}
 use Rattle.lines.specs.Answers.{Answered as LineAnswered, answer_bytes, length_after, kept_as, AnswerIs}
 
 -- ---- the machine's lines

@@ -1,16 +1,17 @@
 -- The answer, and with extract the walk, that a host reads off the number of a call.
 use Rattle.std.specs.Prelude.{ℕ, suc, ◌/◌, ◌%◌, ◌≤◌, ◌<◌, ◌≡◌, List, [], ◌∷◌, ℤ, pos, negsuc}
-use Rattle.definitions.specs.Limits.{most_bytes, four_bytes}
-use Rattle.definitions.specs.Basics.{Result, ok, refused}
-use Rattle.definitions.specs.Calls.{load}
-use Rattle.definitions.specs.Machine.{Kind, extract_call, exchange_call}
-use Rattle.definitions.specs.Good.{AllBytes}
-use Rattle.definitions.specs.NodeTable.{NodeRecord}
-use Rattle.definitions.specs.Settings.{Settings, make_under}
-use Rattle.definitions.specs.Merge.{merge}
-use Rattle.definitions.specs.Project.{project}
-use Rattle.definitions.specs.History.{Call, loading, making, merging, projecting}
-use Rattle.definitions.specs.Hosts.{hosted, hosted_walk}
+use Rattle.definitions.specs.Words.Limits.{most_bytes, four_bytes}
+use Rattle.definitions.specs.Words.Basics.{Result, ok, refused}
+use Rattle.definitions.specs.Calls.Base.{load}
+use Rattle.definitions.specs.Lists.Machine.{Kind, extract_call, exchange_call}
+use Rattle.definitions.specs.Bytes.Good.{AllBytes}
+use Rattle.definitions.specs.Bytes.NodeTable.{NodeRecord}
+use Rattle.definitions.specs.Filter.Settings.{Settings}
+use Rattle.definitions.specs.Lists.Settings.{make_under}
+use Rattle.definitions.specs.Calls.Merge.{merge}
+use Rattle.definitions.specs.Calls.Project.{project}
+use Rattle.definitions.specs.Lists.History.{Call, loading, making, merging, projecting}
+use Rattle.host_calls.specs.Hosts.{hosted, hosted_walk}
 
 -- ---- a number
 

@@ -1,11 +1,11 @@
 -- Request 12 of a host's own lists of `spatialjoin_put` and `spatialjoin_serve`, each call by the relation that its contract cites.
 use Rattle.std.specs.Prelude.{ℕ, suc, ◌+◌, ◌-◌, ◌*◌, ◌≤◌, ◌≡◌, List, [], ◌∷◌, ◌++◌, ℤ, pos, negsuc, length, eqb, ltb, if◌then◌else◌}
-use Rattle.definitions.specs.Basics.{Result, ok, refused}
-use Rattle.definitions.specs.Queues.{Queue, chassis, fixed_unit, queue_number, State}
-use Rattle.definitions.specs.QueueBytes.{state_of, put, Served, frame_from, both_empty, serve}
-use Rattle.definitions.specs.QueueLists.{QueueCall, put_call, serve_call, QueueMade, made_put, made_serve, queues_run, fresh_queues, waiting_in, added, served, given_of}
-use Rattle.definitions.specs.QueueClaims.{ComesOut}
-use Rattle.definitions.specs.Hosts.{hosted, hosted_serve}
+use Rattle.definitions.specs.Words.Basics.{Result, ok, refused}
+use Rattle.definitions.specs.Calls.Queues.{Queue, chassis, fixed_unit, queue_number, State}
+use Rattle.definitions.specs.Calls.QueueBytes.{state_of, put, Served, frame_from, both_empty, serve}
+use Rattle.definitions.specs.Lists.Queues.{QueueCall, put_call, serve_call, QueueMade, made_put, made_serve, queues_run, fresh_queues, waiting_in, added, served, given_of}
+use Rattle.definitions.specs.Claims.Queues.{ComesOut}
+use Rattle.host_calls.specs.Hosts.{hosted, hosted_serve}
 use Rattle.host_calls.specs.Hosted.{PutHosted, ServeHosted}
 use Rattle.host_lists.specs.Numbers.{answered}
 

@@ -15,22 +15,23 @@ use contract.Monad.{Fun}
 use contract.Notation.{connectives}
 use denote.Triple.Entry.{Args, Res}
 use denote.Triple.Clauses.{AtExit}
-use Rattle.definitions.specs.Calls.{exchange}
-use Rattle.definitions.specs.Settings.{Settings, extract_under, extract_walk_under, extract_all_under}
-use Rattle.definitions.specs.Merge.{merge}
-use Rattle.definitions.specs.Project.{project}
-use Rattle.definitions.specs.Machine.{extract_call, exchange_call}
-use Rattle.definitions.specs.History.{loading, making, merging, projecting}
-use Rattle.definitions.specs.QueueBytes.{put, serve}
-use Rattle.definitions.specs.Verdicts.{explain}
-use Rattle.definitions.specs.QueueLists.{put_call, serve_call, made_put, made_serve}
+use Rattle.definitions.specs.Calls.Base.{exchange}
+use Rattle.definitions.specs.Filter.Settings.{Settings}
+use Rattle.definitions.specs.Calls.Settings.{extract_under, extract_walk_under, extract_all_under}
+use Rattle.definitions.specs.Calls.Merge.{merge}
+use Rattle.definitions.specs.Calls.Project.{project}
+use Rattle.definitions.specs.Lists.Machine.{extract_call, exchange_call}
+use Rattle.definitions.specs.Lists.History.{loading, making, merging, projecting}
+use Rattle.definitions.specs.Calls.QueueBytes.{put, serve}
+use Rattle.definitions.specs.Calls.Explain.{explain}
+use Rattle.definitions.specs.Lists.Queues.{put_call, serve_call, made_put, made_serve}
 use Rattle.node_table.specs.Records.{nodes_of}
 use Rattle.node_table.specs.declared.NodeRecord.{NodeRecord as TableRecord}
 use Rattle.host_calls.specs.Hosted.{LoadHosted, CallHosted, settings_by, ExtractHosted, MergeHosted, PutHosted, ServeHosted, AllHosted, ExplainHosted}
 use Rattle.host_lists.specs.Numbers.{answered, walk_answered, next_n}
 use Rattle.host_lists.specs.HostLists.{Host, HostCall}
 use Rattle.host_lists.specs.QueueHosts.{serve_answered, QueueHosted, put_hosted, serve_hosted}
-use Rattle.definitions.specs.Program.{line_outcome}
+use Rattle.definitions.specs.Lists.Program.{line_outcome}
 use Rattle.lines.specs.Answers.{kept_as, AnswerIs}
 use Rattle.lines.specs.Scratch.{line_scratch}
 use Rattle.lines.specs.contracts.calls.answer_line as line

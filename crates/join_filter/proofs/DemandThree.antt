@@ -8,27 +8,32 @@ use mathlib.Core.Option.{some}
 use lib.ListN.{length, take}
 use lib.Seq.{length-take-le}
 use lib.Dec.{leb}
-use Rattle.definitions.specs.Basics.{ok}
-use Rattle.definitions.specs.Expression.{Frame, Extraction, held, extracted as holding}
-use Rattle.definitions.specs.Encode.{frame_bytes, plan_bytes}
-use Rattle.definitions.specs.Plans.{frame_of}
-use Rattle.definitions.specs.Extract.{matches_by}
-use Rattle.definitions.specs.Calls.{LoadOutcome, load, Outcome, held_plan}
-use Rattle.definitions.specs.Machine.{Kind, extract_call, exchange_call}
-use Rattle.definitions.specs.Good.{AllBytes}
-use Rattle.definitions.specs.Sessions.{Made, fed, make_by, ListOutcome, calls_run_by, machine_after_by, accepted, extract_accepted, exchanges_odd, SessionBy, after, plan_left}
-use Rattle.definitions.specs.Meaning.{Valuation, Meaning, frame_value, extraction_value}
-use Rattle.definitions.specs.Settings.{Settings, match_under, FairUnder, make_under, calls_run_under}
-use Rattle.definitions.specs.SettingsClaims.{GoodSettings, UnderSettings}
-use Rattle.definitions.specs.Claims.{LeavesSession, AgreeBy, some_leaf_matches_by, TookAmong, extracted_plan, NamesLeaf, price_line_by}
-use Rattle.definitions.specs.ValueClaims.{values_when, HasValue}
-use Rattle.definitions.specs.Merge.{merge_frames, MergeOutcome, merge}
-use Rattle.definitions.specs.NodeTable.{NodeRecord}
-use Rattle.definitions.specs.MergeClaims.{LeftBy}
-use Rattle.definitions.specs.Project.{projection, Lists as ChildLists}
-use Rattle.definitions.specs.OddMachine.{odd_run}
-use Rattle.definitions.specs.ProjectClaims.{NewColumns, project_by, OddAgree, calls_from, ValueFrom}
-use Rattle.definitions.specs.History.{Call, loading, making, merging, projecting, one_call_by, HistoryOutcome, history_by}
+use Rattle.definitions.specs.Words.Basics.{ok}
+use Rattle.definitions.specs.Words.Expression.{Frame, Extraction, held, extracted as holding}
+use Rattle.definitions.specs.Bytes.Encode.{frame_bytes, plan_bytes}
+use Rattle.definitions.specs.Bytes.Plans.{frame_of}
+use Rattle.definitions.specs.Filter.Extract.{matches_by}
+use Rattle.definitions.specs.Calls.Base.{LoadOutcome, load, Outcome, held_plan}
+use Rattle.definitions.specs.Lists.Machine.{Kind, extract_call, exchange_call}
+use Rattle.definitions.specs.Bytes.Good.{AllBytes}
+use Rattle.definitions.specs.Lists.Sessions.{Made, fed, make_by, ListOutcome, calls_run_by, machine_after_by, accepted, extract_accepted, exchanges_odd, SessionBy, after, plan_left}
+use Rattle.definitions.specs.Meaning.Values.{Valuation, Meaning, frame_value, extraction_value, FairUnder}
+use Rattle.definitions.specs.Filter.Settings.{Settings, match_under, GoodSettings}
+use Rattle.definitions.specs.Lists.Settings.{make_under, calls_run_under}
+use Rattle.definitions.specs.Claims.Settings.{UnderSettings}
+use Rattle.definitions.specs.Claims.Lists.{LeavesSession, AgreeBy, some_leaf_matches_by}
+use Rattle.definitions.specs.Claims.Pick.{TookAmong, NamesLeaf}
+use Rattle.definitions.specs.Filter.Exchange.{extracted_plan}
+use Rattle.definitions.specs.Claims.PriceLine.{price_line_by}
+use Rattle.definitions.specs.Claims.Values.{values_when, HasValue}
+use Rattle.definitions.specs.Filter.Merge.{merge_frames}
+use Rattle.definitions.specs.Calls.Merge.{MergeOutcome, merge}
+use Rattle.definitions.specs.Bytes.NodeTable.{NodeRecord}
+use Rattle.definitions.specs.Claims.Merge.{LeftBy}
+use Rattle.definitions.specs.Filter.Project.{projection, ChildLists}
+use Rattle.definitions.specs.Lists.OddMachine.{odd_run}
+use Rattle.definitions.specs.Claims.Project.{NewColumns, project_by, OddAgree, calls_from, ValueFrom}
+use Rattle.definitions.specs.Lists.History.{Call, loading, making, merging, projecting, one_call_by, HistoryOutcome, history_by}
 use Rattle.theorems.proofs.InverseFrame.{same_ok}
 use Rattle.theorems.proofs.MergeCall.{same-held}
 use Rattle.theorems.proofs.SettingsClaimed.{same-make}

@@ -7,12 +7,12 @@ use mathlib.Core.List.{List, ◌++◌}
 use lib.ListN.{length, take, drop}
 use lib.Seq.{length-take-le, take-append_seam}
 use borrow.Author.Tests.{le-leb}
-use Rattle.definitions.specs.Basics.{Result, ok, refused}
-use Rattle.definitions.specs.Expression.{Plan}
-use Rattle.definitions.specs.Encode.{plan_bytes}
-use Rattle.definitions.specs.Plans.{plan_of}
-use Rattle.definitions.specs.Calls.{written_over, held_plan}
-use Rattle.definitions.specs.Good.{AllBytes, GoodPlan}
+use Rattle.definitions.specs.Words.Basics.{Result, ok, refused}
+use Rattle.definitions.specs.Words.Expression.{Plan}
+use Rattle.definitions.specs.Bytes.Encode.{plan_bytes}
+use Rattle.definitions.specs.Bytes.Plans.{plan_of}
+use Rattle.definitions.specs.Calls.Base.{written_over, held_plan}
+use Rattle.definitions.specs.Bytes.Good.{AllBytes, GoodPlan}
 use Rattle.theorems.proofs.InversePlan.{plan-back}
 use Rattle.theorems.proofs.Lengths.{bytes-up-to}
 

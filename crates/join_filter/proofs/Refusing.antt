@@ -6,14 +6,14 @@ use mathlib.Core.Bool.{Bool}
 use mathlib.Core.List.{List}
 use lib.ListN.{length, take}
 use borrow.Author.Tests.{lt-leb}
-use Rattle.definitions.specs.Basics.{Result, ok, refused, map_result}
-use Rattle.definitions.specs.Expression.{Frame, Extraction, Plan, empty, extracted}
-use Rattle.definitions.specs.Encode.{frame_bytes}
-use Rattle.definitions.specs.Plans.{frame_of, plan_of}
-use Rattle.definitions.specs.NodeTable.{NodeRecord}
-use Rattle.definitions.specs.Extract.{Matcher}
-use Rattle.definitions.specs.Calls.{filled_by, Outcome, finish, held_plan, new_after_exchange, exchange, new_after_extract_by, extract_filled_by}
-use Rattle.definitions.specs.Merge.{new_after_merge, MergeOutcome, with_table, merge}
+use Rattle.definitions.specs.Words.Basics.{Result, ok, refused, map_result}
+use Rattle.definitions.specs.Words.Expression.{Frame, Extraction, Plan, empty, extracted}
+use Rattle.definitions.specs.Bytes.Encode.{frame_bytes}
+use Rattle.definitions.specs.Bytes.Plans.{frame_of, plan_of}
+use Rattle.definitions.specs.Bytes.NodeTable.{NodeRecord}
+use Rattle.definitions.specs.Filter.Extract.{Matcher}
+use Rattle.definitions.specs.Calls.Base.{filled_by, Outcome, finish, held_plan, new_after_exchange, exchange, new_after_extract_by, extract_filled_by}
+use Rattle.definitions.specs.Calls.Merge.{new_after_merge, MergeOutcome, with_table, merge}
 use Rattle.join_filter.proofs.Keeping.{held-is}
 
 -- A call by what it makes of the held plan, given n and both buffers' lengths, by how it ends with that, and by what a refusal leaves.

@@ -3,11 +3,11 @@ use Prim.Native.Nat.{ℕ, ◌<◌}
 use mathlib.Core.Path.{◌≡◌, refl, sym, ◌∙◌}
 use mathlib.Core.Bool.{Bool, true, false}
 use mathlib.Core.List.{List}
-use Rattle.definitions.specs.Limits.{four_bytes}
-use Rattle.definitions.specs.Calls.{Outcome, finish, extract_by, extract_walk_by}
-use Rattle.definitions.specs.NodeTable.{NodeRecord}
-use Rattle.definitions.specs.Settings.{Settings, good_settings, match_under, extract_under, extract_walk_under}
-use Rattle.definitions.specs.SettingsClaims.{GoodSettings}
+use Rattle.definitions.specs.Words.Limits.{four_bytes}
+use Rattle.definitions.specs.Calls.Base.{Outcome, finish, extract_by, extract_walk_by}
+use Rattle.definitions.specs.Bytes.NodeTable.{NodeRecord}
+use Rattle.definitions.specs.Filter.Settings.{Settings, good_settings, match_under, GoodSettings}
+use Rattle.definitions.specs.Calls.Settings.{extract_under, extract_walk_under}
 use Rattle.theorems.proofs.Proved.{all-settings, bad-settings}
 use Rattle.terms.specs.declared.refusals.Refusal.TheVariants.{BadSettings}
 use Rattle.join_filter.specs.Outcomes.{ExtractIs, unwalked}

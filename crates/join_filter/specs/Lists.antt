@@ -2,26 +2,31 @@
 -- list the settings are fixed, two lists that are compared have the same ones, and the machine is given them too (request 13).
 use Rattle.std.specs.Prelude.{ℕ, ◌≡◌, Bool, true, false, ◌&&◌, not, List, [], ◌∷◌, map, length, take, leb, Ok}
 use Rattle.std.proofs.Math.Option.{some}
-use Rattle.definitions.specs.Basics.{Result, ok}
-use Rattle.definitions.specs.Expression.{Frame, Extraction, held, extracted as holding}
-use Rattle.definitions.specs.Encode.{frame_bytes, plan_bytes}
-use Rattle.definitions.specs.Plans.{frame_of}
-use Rattle.definitions.specs.Extract.{matches_by}
-use Rattle.definitions.specs.Calls.{table_fits, held_plan}
-use Rattle.definitions.specs.NodeTable.{NodeRecord}
-use Rattle.definitions.specs.Machine.{extract_call, exchange_call}
-use Rattle.definitions.specs.Good.{AllBytes}
-use Rattle.definitions.specs.Sessions.{Made, fed, ListOutcome, machine_after_by, accepted, extract_accepted, exchanges_odd, plan_left}
-use Rattle.definitions.specs.Meaning.{Valuation, Meaning, frame_value, extraction_value}
-use Rattle.definitions.specs.Settings.{Settings, match_under, FairUnder, make_under, walk_under}
-use Rattle.definitions.specs.SettingsClaims.{GoodSettings}
-use Rattle.definitions.specs.Claims.{AgreeBy, some_leaf_matches_by, TookAmong, extracted_plan, NamesLeaf, price_line_by}
-use Rattle.definitions.specs.ValueClaims.{values_when, HasValue}
-use Rattle.definitions.specs.Merge.{merge_frames, merge}
-use Rattle.definitions.specs.Project.{projection, project, Lists as ChildLists}
-use Rattle.definitions.specs.OddMachine.{odd_run}
-use Rattle.definitions.specs.ProjectClaims.{NewColumns, project_by, OddAgree}
-use Rattle.definitions.specs.History.{Call, loading, making, merging, projecting, nothing, state_plan, History, machine_history, FramesAreBytes}
+use Rattle.definitions.specs.Words.Basics.{Result, ok}
+use Rattle.definitions.specs.Words.Expression.{Frame, Extraction, held, extracted as holding}
+use Rattle.definitions.specs.Bytes.Encode.{frame_bytes, plan_bytes}
+use Rattle.definitions.specs.Bytes.Plans.{frame_of}
+use Rattle.definitions.specs.Filter.Extract.{matches_by}
+use Rattle.definitions.specs.Calls.Base.{table_fits, held_plan}
+use Rattle.definitions.specs.Bytes.NodeTable.{NodeRecord}
+use Rattle.definitions.specs.Lists.Machine.{extract_call, exchange_call}
+use Rattle.definitions.specs.Bytes.Good.{AllBytes}
+use Rattle.definitions.specs.Lists.Sessions.{Made, fed, ListOutcome, machine_after_by, accepted, extract_accepted, exchanges_odd, plan_left}
+use Rattle.definitions.specs.Meaning.Values.{Valuation, Meaning, frame_value, extraction_value, FairUnder}
+use Rattle.definitions.specs.Filter.Settings.{Settings, match_under, GoodSettings}
+use Rattle.definitions.specs.Lists.Settings.{make_under, walk_under}
+use Rattle.definitions.specs.Claims.Lists.{AgreeBy, some_leaf_matches_by}
+use Rattle.definitions.specs.Claims.Pick.{TookAmong, NamesLeaf}
+use Rattle.definitions.specs.Filter.Exchange.{extracted_plan}
+use Rattle.definitions.specs.Claims.PriceLine.{price_line_by}
+use Rattle.definitions.specs.Claims.Values.{values_when, HasValue}
+use Rattle.definitions.specs.Filter.Merge.{merge_frames}
+use Rattle.definitions.specs.Calls.Merge.{merge}
+use Rattle.definitions.specs.Filter.Project.{projection, ChildLists}
+use Rattle.definitions.specs.Calls.Project.{project}
+use Rattle.definitions.specs.Lists.OddMachine.{odd_run}
+use Rattle.definitions.specs.Claims.Project.{NewColumns, project_by, OddAgree}
+use Rattle.definitions.specs.Lists.History.{Call, loading, making, merging, projecting, nothing, state_plan, History, machine_history, FramesAreBytes}
 use Rattle.join_filter.specs.Outcomes.{Answered, answer_of, n_after, LoadIs, OutcomeIs, MergeIs}
 use Rattle.join_filter.specs.declared.answers.Extracted.{Extracted}
 

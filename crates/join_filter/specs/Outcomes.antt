@@ -1,10 +1,10 @@
 -- Which definition each answer is.
 use Rattle.std.specs.Prelude.{ℕ, ◌≡◌, List, Result as Given, Ok, Err}
-use Rattle.definitions.specs.Basics.{Result, ok, refused}
-use Rattle.definitions.specs.Calls.{Outcome, load}
-use Rattle.definitions.specs.NodeTable.{NodeRecord}
-use Rattle.definitions.specs.Merge.{MergeOutcome}
-use Rattle.definitions.specs.Printed.{print}
+use Rattle.definitions.specs.Words.Basics.{Result, ok, refused}
+use Rattle.definitions.specs.Calls.Base.{Outcome, load}
+use Rattle.definitions.specs.Bytes.NodeTable.{NodeRecord}
+use Rattle.definitions.specs.Calls.Merge.{MergeOutcome}
+use Rattle.definitions.specs.Calls.Print.{print}
 use Rattle.terms.specs.Refusals.{number_of}
 use Rattle.terms.specs.declared.refusals.Refusal.{Refusal}
 use Rattle.join_filter.specs.declared.answers.Extracted.{Extracted}

@@ -7,8 +7,8 @@ use mathlib.Core.Bool.{Bool, true, false, ◌&&◌}
 use mathlib.Core.Option.{Option, none, some}
 use lib.Dec.{leb, eqb}
 use borrow.Author.Tests.{eq-eqb, ne_eqb}
-use Rattle.definitions.specs.Expression.{Predicate}
-use Rattle.definitions.specs.Settings.{Settings, has_bit, allowed, passing}
+use Rattle.definitions.specs.Words.Expression.{Predicate}
+use Rattle.definitions.specs.Filter.Settings.{Settings, has_bit, allowed, passing}
 use Rattle.sedona_query_planner.specs.Predicates.{on_children}
 use Rattle.sedona_query_planner.specs.declared.spatial_predicate.RelationPredicate.{RelationPredicate}
 use Rattle.sedona_query_planner.specs.declared.spatial_predicate.DistancePredicate.{DistancePredicate}

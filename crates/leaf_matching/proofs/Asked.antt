@@ -6,11 +6,11 @@ use mathlib.Core.List.{List}
 use mathlib.Core.Logic.{◌⊎◌, inl, inr, ⊎_elim}
 use mathlib.Core.Option.{Option, none, some, some-ne-none}
 use lib.Dec.{eqb}
-use Rattle.definitions.specs.Basics.{ascii, same_name}
-use Rattle.definitions.specs.Expression.{Relation, Expr, Exprs, nil, cons, call, Side, left, right, no_side, Record, Predicate, relation, distance, knn}
-use Rattle.definitions.specs.Leaves.{relation_named, Comparison, compares, no_comparison, distance_arguments}
-use Rattle.definitions.specs.Match.{Request, ask_relation, ask_distance, ask_knn, ask_nothing, relation_request, dwithin_request, knn_literals, knn_request, knn_request_by, call_request, call_request_by, distance_request, comparison_request, request_by, Order, left_right, right_left, no_order, ArgumentSide, no_columns, all_on, mixed, match_relation, store_distance, match_distance, match_knn, match_request, match_leaf, match_leaf_by}
-use Rattle.definitions.specs.Extract.{is_knn}
+use Rattle.definitions.specs.Words.Basics.{ascii, same_name}
+use Rattle.definitions.specs.Words.Expression.{Relation, Expr, Exprs, nil, cons, call, Side, left, right, no_side, Record, Predicate, relation, distance, knn}
+use Rattle.definitions.specs.Words.Leaves.{relation_named, Comparison, compares, no_comparison, distance_arguments}
+use Rattle.definitions.specs.Filter.Match.{Request, ask_relation, ask_distance, ask_knn, ask_nothing, relation_request, dwithin_request, knn_literals, knn_request, knn_request_by, call_request, call_request_by, distance_request, comparison_request, request_by, Order, left_right, right_left, no_order, ArgumentSide, no_columns, all_on, mixed, match_relation, store_distance, match_distance, match_knn, match_request, match_leaf, match_leaf_by}
+use Rattle.definitions.specs.Filter.Extract.{is_knn}
 use Rattle.theorems.proofs.Requests.{by-test}
 use Rattle.leaf_matching.specs.Matches.{is_relation, Lacks}
 

@@ -8,11 +8,11 @@ use mathlib.Core.List.{List}
 use mathlib.Core.Option as optional
 use mathlib.Core.Option.{none, some}
 use lib.ListN.{length}
-use Rattle.definitions.specs.Expression.{Expr, Record, Predicate, distance}
+use Rattle.definitions.specs.Words.Expression.{Expr, Record, Predicate, distance}
 use Rattle.sedona_query_planner.specs.Predicates.{bound_on, on_children, ArgumentAt}
-use Rattle.definitions.specs.Decode.{index_below}
-use Rattle.definitions.specs.Match as definition
-use Rattle.definitions.specs.Match.{request, side_of, order_of, on_child, store_distance, match_distance, match_request, match_leaf, match_leaf_by}
+use Rattle.definitions.specs.Bytes.Decode.{index_below}
+use Rattle.definitions.specs.Filter.Match as definition
+use Rattle.definitions.specs.Filter.Match.{request, side_of, order_of, on_child, store_distance, match_distance, match_request, match_leaf, match_leaf_by}
 use Rattle.expression.specs.Nodes.{Spans, OfTreeIn}
 use Rattle.sedona_expr.specs.Parsed as parsed
 use Rattle.sedona_expr.specs.Parsed.{ParsedIs}

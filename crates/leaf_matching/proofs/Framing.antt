@@ -5,11 +5,11 @@ use mathlib.Core.Path.{◌≡◌, refl, sym, ap₂, ◌∙◌}
 use mathlib.Core.List.{List, ◌∷◌, ◌++◌}
 use lib.ListN.{length, get_or}
 use borrow.Author.Tests.{ltb-true}
-use Rattle.definitions.specs.Basics.{big_endian}
-use Rattle.definitions.specs.Expression.{Expr, column, Exprs, cons, Record, count}
-use Rattle.definitions.specs.Encode.{expr_bytes, record_bytes}
-use Rattle.definitions.specs.Decode.{index_below}
-use Rattle.definitions.specs.Match.{record_at}
+use Rattle.definitions.specs.Words.Basics.{big_endian}
+use Rattle.definitions.specs.Words.Expression.{Expr, column, Exprs, cons, Record, count}
+use Rattle.definitions.specs.Bytes.Encode.{expr_bytes, record_bytes}
+use Rattle.definitions.specs.Bytes.Decode.{index_below}
+use Rattle.definitions.specs.Words.References.{record_at}
 use Rattle.expression.specs.Places.{Holds, short_at}
 use Rattle.expression.specs.Nodes.{head_bytes, children_of, Tree, OfTree}
 use Rattle.leaf_matching.specs.Frames.{Over, OverAll, Framed, FramedAll, OfFrame}

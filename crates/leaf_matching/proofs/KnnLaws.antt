@@ -6,11 +6,11 @@ use mathlib.Core.Path.{◌≡◌, refl, sym, ap, ◌∙◌}
 use mathlib.Core.Bool.{true}
 use mathlib.Core.List.{List}
 use mathlib.Core.Option.{none, some}
-use Rattle.definitions.specs.Basics.{ascii, same_name}
-use Rattle.definitions.specs.Expression.{Expr, call, Exprs, nil, cons, count, Record, knn}
-use Rattle.definitions.specs.Match.{ask_nothing, knn_request_by, call_request_by, request_by, on_child, match_knn, match_request, match_leaf_by}
-use Rattle.definitions.specs.Extract.{is_knn}
-use Rattle.definitions.specs.Exchange.{negate}
+use Rattle.definitions.specs.Words.Basics.{ascii, same_name}
+use Rattle.definitions.specs.Words.Expression.{Expr, call, Exprs, nil, cons, count, Record, knn}
+use Rattle.definitions.specs.Filter.Match.{ask_nothing, knn_request_by, call_request_by, request_by, on_child, match_knn, match_request, match_leaf_by}
+use Rattle.definitions.specs.Filter.Extract.{is_knn}
+use Rattle.definitions.specs.Filter.Exchange.{negate}
 use Rattle.expression.specs.Nodes.{OfTrees}
 use Rattle.terms.specs.Sides.{join_side}
 use Rattle.leaf_matching.specs.Sides.{order, GeometriesAre}

@@ -15,13 +15,13 @@ use lib.ListN.{length, get_or}
 use lib.IntN.{ℤ, pos, negsuc, nat_abs}
 use lib.Dec.{eqb}
 use borrow.Author.Tests.{le-leb, lt-leb, ne_eqb, leb-true}
-use Rattle.definitions.specs.Basics.{given◌then◌else◌, big_endian}
-use Rattle.definitions.specs.Expression.{Expr, column, literal, and, binary, call, other, field}
-use Rattle.definitions.specs.Encode.{expr_bytes}
-use Rattle.definitions.specs.Literals.{signed, literal_in_range, u32, number_u32, only_k, number_bool}
-use Rattle.definitions.specs.Readers.{number, number_after}
-use Rattle.definitions.specs.Decode.{Columns}
-use Rattle.definitions.specs.Match.{literal_u32, literal_k, literal_bool}
+use Rattle.definitions.specs.Words.Basics.{given◌then◌else◌, big_endian}
+use Rattle.definitions.specs.Words.Expression.{Expr, column, literal, and, binary, call, other, field}
+use Rattle.definitions.specs.Bytes.Encode.{expr_bytes}
+use Rattle.definitions.specs.Words.Literals.{signed, literal_in_range, u32, number_u32, only_k, number_bool}
+use Rattle.definitions.specs.Bytes.Readers.{number, number_after}
+use Rattle.definitions.specs.Bytes.Decode.{Columns}
+use Rattle.definitions.specs.Filter.Match.{literal_u32, literal_k, literal_bool}
 use Rattle.theorems.proofs.ReaderLaws.{same_read}
 use Rattle.theorems.proofs.RoundTrip.{number-reads}
 use Rattle.theorems.proofs.KLaws.{is-k, zero-no-k}

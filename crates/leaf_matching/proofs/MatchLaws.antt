@@ -5,11 +5,11 @@ use mathlib.Core.Path.{◌≡◌, refl, sym, ap, ◌∙◌, subst}
 use mathlib.Core.Bool.{Bool}
 use mathlib.Core.List.{List}
 use lib.ListN.{length}
-use Rattle.definitions.specs.Basics.{same_name}
-use Rattle.definitions.specs.Expression.{Expr, Exprs, cons, Record}
-use Rattle.definitions.specs.Encode.{expr_bytes}
-use Rattle.definitions.specs.Decode.{index_below}
-use Rattle.definitions.specs.Match.{side_of, order_of}
+use Rattle.definitions.specs.Words.Basics.{same_name}
+use Rattle.definitions.specs.Words.Expression.{Expr, Exprs, cons, Record}
+use Rattle.definitions.specs.Bytes.Encode.{expr_bytes}
+use Rattle.definitions.specs.Bytes.Decode.{index_below}
+use Rattle.definitions.specs.Filter.Match.{side_of, order_of}
 use Rattle.expression.specs.Places.{part}
 use Rattle.expression.specs.Nodes.{Row, Trees}
 use Rattle.expression.specs.declared.leaves.Called.{Called}

@@ -6,11 +6,11 @@ use mathlib.Core.Path.{◌≡◌, refl, sym, ap, ◌∙◌}
 use mathlib.Core.Bool.{Bool, true, false}
 use mathlib.Core.List.{List}
 use mathlib.Core.Option.{none, some, none-ne-some}
-use Rattle.definitions.specs.Basics.{ascii, same_name, any}
-use Rattle.definitions.specs.Expression.{relations, call, Exprs, nil, cons, count, Record, relation}
-use Rattle.definitions.specs.Expression as definition
-use Rattle.definitions.specs.Leaves.{type_named, relation_named}
-use Rattle.definitions.specs.Match.{relation_request, call_request_by, request_by, ask_nothing, invert, on_child, match_relation, match_request, match_leaf, match_leaf_by}
+use Rattle.definitions.specs.Words.Basics.{ascii, same_name, any}
+use Rattle.definitions.specs.Words.Expression.{relations, call, Exprs, nil, cons, count, Record, relation, invert}
+use Rattle.definitions.specs.Words.Expression as definition
+use Rattle.definitions.specs.Words.Leaves.{type_named, relation_named}
+use Rattle.definitions.specs.Filter.Match.{relation_request, call_request_by, request_by, ask_nothing, on_child, match_relation, match_request, match_leaf, match_leaf_by}
 use Rattle.sedona_query_planner.specs.Predicates.{bound_on}
 use Rattle.theorems.proofs.Requests.{same-name}
 use Rattle.expression.specs.Places.{part}

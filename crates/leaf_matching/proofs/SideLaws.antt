@@ -4,9 +4,10 @@ use mathlib.Core.Path.{◌≡◌, refl, sym, ap, ◌∙◌}
 use mathlib.Core.Bool.{Bool, true, false, ◌||◌, not}
 use Rattle.std.proofs.Math.Bool.{or-true, or-false}
 use mathlib.Core.List.{List, [], ◌∷◌, ◌++◌}
-use Rattle.definitions.specs.Basics.{any}
-use Rattle.definitions.specs.Expression.{Side, left, right, no_side}
-use Rattle.definitions.specs.Match.{same_side, all_on, mixed, common_side}
+use Rattle.definitions.specs.Words.Basics.{any}
+use Rattle.definitions.specs.Words.Expression.{Side, left, right, no_side}
+use Rattle.definitions.specs.Words.References.{same_side}
+use Rattle.definitions.specs.Filter.Match.{all_on, mixed, common_side}
 use Rattle.theorems.proofs.VerdictSides.{of, all-left, all-right, all-mark}
 use Rattle.leaf_matching.specs.declared.sides.Seen.{Seen}
 use Rattle.leaf_matching.specs.Sides.{argument_side, nothing_seen, see, see_all, sides_by, sides_seen, flags_of}

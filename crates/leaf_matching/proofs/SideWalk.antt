@@ -5,12 +5,13 @@ use native.Mathlib.Omega.{arith}
 use mathlib.Core.Path.{◌≡◌, refl, sym, ap, ap₂, ◌∙◌, subst}
 use mathlib.Core.List.{List, [], ◌∷◌, ◌++◌, map}
 use lib.ListN.{length, get_or, length-append}
-use Rattle.definitions.specs.Basics.{big_endian}
-use Rattle.definitions.specs.Expression.{Side, Expr, column, Exprs, Record}
-use Rattle.definitions.specs.Encode.{expr_bytes, exprs_bytes, record_bytes}
-use Rattle.definitions.specs.Decode.{side_numbered, index_below}
-use Rattle.definitions.specs.Good.{nodes}
-use Rattle.definitions.specs.Match.{columns_of, columns_of_all, record_at, side_of, order_of}
+use Rattle.definitions.specs.Words.Basics.{big_endian}
+use Rattle.definitions.specs.Words.Expression.{Side, Expr, column, Exprs, Record}
+use Rattle.definitions.specs.Bytes.Encode.{expr_bytes, exprs_bytes, record_bytes}
+use Rattle.definitions.specs.Bytes.Decode.{side_numbered, index_below}
+use Rattle.definitions.specs.Bytes.Good.{nodes}
+use Rattle.definitions.specs.Words.References.{columns_of, columns_of_all, record_at}
+use Rattle.definitions.specs.Filter.Match.{side_of, order_of}
 use Rattle.theorems.proofs.RoundTripPlan.{side-again}
 use Rattle.expression.proofs.OfKind.{no-own-columns}
 use Rattle.expression.specs.Places.{short_at}

@@ -1,9 +1,9 @@
 -- An expression at a place, with the records of its columns at another.
 use Rattle.std.specs.Prelude.{ℕ, ◌+◌, ◌≡◌, List, length}
-use Rattle.definitions.specs.Expression.{Expr, Exprs, Record}
-use Rattle.definitions.specs.Encode.{expr_bytes, records_bytes}
-use Rattle.definitions.specs.Decode.{index_below}
-use Rattle.definitions.specs.Good.{nodes}
+use Rattle.definitions.specs.Words.Expression.{Expr, Exprs, Record}
+use Rattle.definitions.specs.Bytes.Encode.{expr_bytes, records_bytes}
+use Rattle.definitions.specs.Bytes.Decode.{index_below}
+use Rattle.definitions.specs.Bytes.Good.{nodes}
 use Rattle.expression.specs.Places.{Holds}
 use Rattle.expression.specs.Nodes.{Stands, Row}
 use Rattle.expression.specs.Leaves.{CallStands}

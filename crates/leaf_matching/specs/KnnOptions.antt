@@ -1,8 +1,8 @@
 -- What the answers about KNN's literals mean.
 use Rattle.std.specs.Prelude.{ℕ, ◌≡◌, Option, Some, None}
 use Rattle.std.proofs.Math.Option as optional
-use Rattle.definitions.specs.Expression.{Expr, Exprs, nil, cons}
-use Rattle.definitions.specs.Match.{literal_bool, Request, ask_knn, ask_nothing, knn_literals, knn_request_by}
+use Rattle.definitions.specs.Words.Expression.{Expr, Exprs, nil, cons}
+use Rattle.definitions.specs.Filter.Match.{literal_bool, Request, ask_knn, ask_nothing, knn_literals, knn_request_by}
 use Rattle.sedona_query_planner.specs.Predicates.{flag, ties_number}
 use Rattle.leaf_matching.specs.declared.knn.KnnFlags.{KnnFlags}
 use Rattle.leaf_matching.specs.declared.knn.KnnOptions.{KnnOptions}

@@ -1,9 +1,9 @@
 -- What matching a leaf answers.
 use Rattle.std.specs.Prelude.{ℕ, ◌≡◌, Bool, true, false, List, Result, Ok, Err}
 use Rattle.std.proofs.Math.Option.{Option, none, some}
-use Rattle.definitions.specs.Expression.{Expr, Exprs, call, Record, Predicate, relation, distance, knn}
-use Rattle.definitions.specs.Match.{match_leaf_by}
-use Rattle.definitions.specs.Settings.{Settings, allowed, passing}
+use Rattle.definitions.specs.Words.Expression.{Expr, Exprs, call, Record, Predicate, relation, distance, knn}
+use Rattle.definitions.specs.Filter.Match.{match_leaf_by}
+use Rattle.definitions.specs.Filter.Settings.{Settings, allowed, passing}
 use Rattle.sedona_query_planner.specs.Predicates.{Change, on_children, PredicateAt}
 use Rattle.sedona_query_planner.specs.declared.spatial_predicate.SpatialPredicate.{SpatialPredicate}
 use Rattle.leaf_matching.specs.declared.matching.NoMatch.{NoMatch}

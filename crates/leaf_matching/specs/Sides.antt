@@ -1,9 +1,10 @@
 -- What the answers about sides mean.
 use Rattle.std.specs.Prelude.{ℕ, ◌+◌, ◌/◌, ◌%◌, ◌≡◌, eqb, bit_or, if◌then◌else◌, List, [], ◌∷◌, map, length, Option, Some, None}
-use Rattle.definitions.specs.Expression.{Side, left, right, no_side, Expr, Exprs, Record}
-use Rattle.definitions.specs.Encode.{expr_bytes, exprs_bytes}
-use Rattle.definitions.specs.Match as definition
-use Rattle.definitions.specs.Match.{columns_of, columns_of_all, record_at, ArgumentSide, no_columns, all_on, mixed, side_of, order_of}
+use Rattle.definitions.specs.Words.Expression.{Side, left, right, no_side, Expr, Exprs, Record}
+use Rattle.definitions.specs.Bytes.Encode.{expr_bytes, exprs_bytes}
+use Rattle.definitions.specs.Filter.Match as definition
+use Rattle.definitions.specs.Words.References.{columns_of, columns_of_all, record_at}
+use Rattle.definitions.specs.Filter.Match.{ArgumentSide, no_columns, all_on, mixed, side_of, order_of}
 use Rattle.terms.specs.Sides.{join_side}
 use Rattle.terms.specs.declared.sides.JoinSide.TheVariants as side
 use Rattle.leaf_matching.specs.declared.sides.Sides.{Sides}

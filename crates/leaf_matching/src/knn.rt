@@ -2,7 +2,7 @@
 // A port of `match_knn_predicate` of
 // rust/sedona-query-planner/src/spatial_expr_utils.rs.
 ghost use Rattle.std.specs.Prelude.{◌≤◌};
-ghost use Rattle.definitions.specs.Extract.{is_knn};
+ghost use Rattle.definitions.specs.Filter.Extract.{is_knn};
 ghost use Rattle.expression.specs.Nodes.{Trees, OfTrees};
 ghost use Rattle.expression.specs.Leaves.{OfCall};
 ghost use Rattle.node_rows.specs.Rows.{TabledAll};

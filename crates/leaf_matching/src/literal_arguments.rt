@@ -2,7 +2,7 @@
 // A port of `extract_literal_u32` and `extract_literal_bool` of
 // rust/sedona-query-planner/src/spatial_expr_utils.rs.
 ghost use Rattle.std.specs.Prelude.{◌≡◌, ◌+◌, ◌≤◌, length};
-ghost use Rattle.definitions.specs.Match.{literal_u32, literal_k, literal_bool};
+ghost use Rattle.definitions.specs.Filter.Match.{literal_u32, literal_k, literal_bool};
 ghost use Rattle.expression.specs.Nodes.{Tree, OfTree};
 ghost use Rattle.leaf_matching.specs.Literals.{long_at, number_is, flag_is};
 

@@ -2,7 +2,7 @@
 // A port of `collect_column_references`, `side_of_column_references` and `resolve_column_reference_sides` of
 // rust/sedona-query-planner/src/spatial_expr_utils.rs.
 ghost use Rattle.std.specs.Prelude.{◌≡◌};
-ghost use Rattle.definitions.specs.Match.{side_of, order_of};
+ghost use Rattle.definitions.specs.Filter.Match.{side_of, order_of};
 ghost use Rattle.terms.specs.Sides.{join_side};
 ghost use Rattle.node_rows.specs.Rows.{Begin};
 ghost use Rattle.leaf_matching.specs.Frames.{Framed, OfFrame, FramedAll, OfFrameAll, FramedTwo, OfFrameTwo, Argued, OfArgument};
@@ -156,7 +156,7 @@ pub fn side_of_column_references(s: &[u8], rec: usize, at: usize) -> Argument
 }
 
 // In which order two arguments have their sides, if each is of one child and they are of both.
-#[tactic(auto, unfolding(definitions::specs::Match::order_of, definitions::specs::Match::is_side, definitions::specs::References::same_side))]
+#[tactic(auto, unfolding(definitions::specs::Filter::Match::order_of, definitions::specs::Filter::Match::is_side, definitions::specs::Words::References::same_side))]
 pub fn resolve_column_reference_sides(first: Sides, second: Sides) -> Option<Order>
     ensures { order result ≡ order_of (argument_side first) (argument_side second) }
 {

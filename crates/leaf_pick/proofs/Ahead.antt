@@ -9,16 +9,16 @@ use mathlib.Core.List.{List, [], ◌∷◌, map, append-nil}
 use mathlib.Core.Logic.{inl, inr}
 use mathlib.Core.Option.{Option, none}
 use lib.ListN.{length, get_or}
-use Rattle.definitions.specs.Expression.{Expr, and, Exprs, nil, cons, count, Record, Predicate}
-use Rattle.definitions.specs.Encode.{expr_bytes, exprs_bytes}
-use Rattle.definitions.specs.Leaves.{leaves}
-use Rattle.definitions.specs.Decode.{index_below}
-use Rattle.definitions.specs.Good.{nodes, nodes_all}
-use Rattle.definitions.specs.NodeTable.{row_from}
-use Rattle.definitions.specs.Extract as definition
-use Rattle.definitions.specs.Extract.{is_knn_match, Matcher, matches_by}
-use Rattle.definitions.specs.OneWalk as walks
-use Rattle.definitions.specs.OneWalk.{reading, stopped, read_leaf, walk_on, one_walk, remembered, count_to, walk_length_by}
+use Rattle.definitions.specs.Words.Expression.{Expr, and, Exprs, nil, cons, count, Record, Predicate}
+use Rattle.definitions.specs.Bytes.Encode.{expr_bytes, exprs_bytes}
+use Rattle.definitions.specs.Words.Leaves.{leaves}
+use Rattle.definitions.specs.Bytes.Decode.{index_below}
+use Rattle.definitions.specs.Bytes.Good.{nodes, nodes_all}
+use Rattle.definitions.specs.Bytes.NodeTable.{row_from}
+use Rattle.definitions.specs.Filter.Extract as definition
+use Rattle.definitions.specs.Filter.Extract.{is_knn_match, Matcher, matches_by}
+use Rattle.definitions.specs.Filter.OneWalk as walks
+use Rattle.definitions.specs.Filter.OneWalk.{reading, stopped, read_leaf, walk_on, one_walk, remembered, count_to, walk_length_by}
 use Rattle.theorems.proofs.Proved.{one-walk-is-pick}
 use Rattle.expression.specs.Nodes.{head_bytes, left_of, OfTree, OfTreeIn}
 use Rattle.expression.specs.Leaves.{Both, NodeIs}

@@ -6,10 +6,10 @@ use mathlib.Core.Bool.{Bool, true, false, false≢true}
 use mathlib.Core.List.{List}
 use mathlib.Core.Logic.{◌⊎◌, inl, inr}
 use mathlib.Core.Option.{some, some-ne-none}
-use Rattle.definitions.specs.Basics.{given◌then◌else◌, ascii, same_name}
-use Rattle.definitions.specs.Expression.{Side, Expr, column, literal, and, binary, call, other, field, Exprs, nil, cons, Record, Predicate, knn}
-use Rattle.definitions.specs.Match.{Request, ask_knn, knn_request_by, call_request_by, request_by, Order, left_right, right_left, no_order, order_of, side_of, on_child, match_knn, match_request, match_leaf_by}
-use Rattle.definitions.specs.Extract.{is_knn}
+use Rattle.definitions.specs.Words.Basics.{given◌then◌else◌, ascii, same_name}
+use Rattle.definitions.specs.Words.Expression.{Side, Expr, column, literal, and, binary, call, other, field, Exprs, nil, cons, Record, Predicate, knn}
+use Rattle.definitions.specs.Filter.Match.{Request, ask_knn, knn_request_by, call_request_by, request_by, Order, left_right, right_left, no_order, order_of, side_of, on_child, match_knn, match_request, match_leaf_by}
+use Rattle.definitions.specs.Filter.Extract.{is_knn}
 use Rattle.leaf_matching.specs.Matches.{Matching, MatchingIs, LeafMatchingBy}
 use Rattle.leaf_pick.specs.Picks.{is_other}
 use Rattle.leaf_matching.specs.declared.matching.NoMatch.TheVariants.{Unmatched, NotAsked}

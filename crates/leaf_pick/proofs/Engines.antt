@@ -3,8 +3,8 @@ use Rattle.std.specs.Prelude.{Some, None}
 use Prim.Native.Nat.{ℕ}
 use native.Mathlib.Omega.{arith}
 use mathlib.Core.Path.{◌≡◌, sym, ap, ◌∙◌}
-use Rattle.definitions.specs.Expression.{Expr}
-use Rattle.definitions.specs.Extract as definition
+use Rattle.definitions.specs.Words.Expression.{Expr}
+use Rattle.definitions.specs.Filter.Extract as definition
 use Rattle.expression.specs.Cuts.{CutAt, here, in_left, in_right}
 use Rattle.expression.specs.declared.cuts.Cut.{Cut}
 use Rattle.expression.proofs.AndLeaves.{no-and, position-below}

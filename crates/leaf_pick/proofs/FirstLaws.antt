@@ -10,12 +10,12 @@ use mathlib.Core.Bool.{Bool}
 use mathlib.Core.List.{List, [], ◌∷◌, map, map-append}
 use mathlib.Core.Option.{Option, none, some}
 use lib.ListN.{length, get_or, length-append, length-map}
-use Rattle.definitions.specs.Expression.{Expr, and, Record, Predicate}
-use Rattle.definitions.specs.Encode.{expr_bytes}
-use Rattle.definitions.specs.Leaves.{leaves}
-use Rattle.definitions.specs.Decode.{index_below}
-use Rattle.definitions.specs.Extract as definition
-use Rattle.definitions.specs.Extract.{is_knn, first_match, first_of, Matcher, matches_by}
+use Rattle.definitions.specs.Words.Expression.{Expr, and, Record, Predicate}
+use Rattle.definitions.specs.Bytes.Encode.{expr_bytes}
+use Rattle.definitions.specs.Words.Leaves.{leaves}
+use Rattle.definitions.specs.Bytes.Decode.{index_below}
+use Rattle.definitions.specs.Filter.Extract as definition
+use Rattle.definitions.specs.Filter.Extract.{is_knn, first_match, first_of, Matcher, matches_by}
 use Rattle.expression.proofs.AndLeaves.{leaves-few}
 use Rattle.expression.specs.Nodes.{left_of, right_of}
 use Rattle.expression.specs.Nodes.{head_bytes, OfTree, OfTreeIn}

@@ -6,13 +6,13 @@ use mathlib.Core.List.{List, [], ◌∷◌, ◌++◌, map, append_assoc}
 use mathlib.Core.Logic.{◌⊎◌, inl, inr}
 use mathlib.Core.Option.{Option, none}
 use lib.ListN.{length, length-append}
-use Rattle.definitions.specs.Expression.{Expr, column, literal, and, binary, call, other, field, Exprs, nil, cons, count, Predicate}
-use Rattle.definitions.specs.Encode.{expr_bytes, exprs_bytes}
-use Rattle.definitions.specs.Leaves.{leaves}
-use Rattle.definitions.specs.Decode.{Columns}
-use Rattle.definitions.specs.Good.{nodes, nodes_all}
-use Rattle.definitions.specs.NodeTable.{NodeRecord, record_of, nodes_from, row_from}
-use Rattle.definitions.specs.OneWalk.{reached}
+use Rattle.definitions.specs.Words.Expression.{Expr, column, literal, and, binary, call, other, field, Exprs, nil, cons, count, Predicate}
+use Rattle.definitions.specs.Bytes.Encode.{expr_bytes, exprs_bytes}
+use Rattle.definitions.specs.Words.Leaves.{leaves}
+use Rattle.definitions.specs.Bytes.Decode.{Columns}
+use Rattle.definitions.specs.Bytes.Good.{nodes, nodes_all}
+use Rattle.definitions.specs.Bytes.NodeTable.{NodeRecord, record_of, nodes_from, row_from}
+use Rattle.definitions.specs.Filter.OneWalk.{reached}
 use Rattle.expression.specs.Places.{Holds}
 use Rattle.expression.specs.Nodes.{Row, left_of}
 use Rattle.expression.specs.Cuts.{CutAt, here, in_left, in_right}

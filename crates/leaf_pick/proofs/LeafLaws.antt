@@ -6,10 +6,10 @@ use mathlib.Core.Bool.{Bool, true, false}
 use mathlib.Core.List.{List}
 use mathlib.Core.Option.{Option, none, some}
 use lib.ListN.{length}
-use Rattle.definitions.specs.Expression.{Expr, Record, Predicate, relation, distance, knn}
-use Rattle.definitions.specs.Decode.{index_below}
-use Rattle.definitions.specs.Match.{match_leaf, match_leaf_by}
-use Rattle.definitions.specs.Extract.{is_knn}
+use Rattle.definitions.specs.Words.Expression.{Expr, Record, Predicate, relation, distance, knn}
+use Rattle.definitions.specs.Bytes.Decode.{index_below}
+use Rattle.definitions.specs.Filter.Match.{match_leaf, match_leaf_by}
+use Rattle.definitions.specs.Filter.Extract.{is_knn}
 use Rattle.expression.specs.Leaves.{CallIs, OfCall}
 use Rattle.expression.specs.declared.leaves.Called.{Called}
 use Rattle.expression.specs.declared.leaves.Node.TheVariants.{Call}

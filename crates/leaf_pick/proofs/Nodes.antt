@@ -8,13 +8,13 @@ use lib.ListN.{length, drop}
 use mathlib.Core.Logic.{inr}
 use mathlib.Core.Option.{none}
 use borrow.Author.Tests.{ne_eqb}
-use Rattle.definitions.specs.Basics.{ascii, same_name, any}
-use Rattle.definitions.specs.Expression.{relations, Expr, binary, call, Exprs, Record}
-use Rattle.definitions.specs.Leaves.{type_named, relation_named, comparison}
-use Rattle.definitions.specs.Decode.{Columns}
-use Rattle.definitions.specs.Match.{Request, ask_nothing, relation_request, call_request_by, comparison_request, request_by, match_request, match_leaf_by}
-use Rattle.definitions.specs.Settings.{Settings, allowed, passing, only_if, match_under}
-use Rattle.definitions.specs.Extract.{is_knn}
+use Rattle.definitions.specs.Words.Basics.{ascii, same_name, any}
+use Rattle.definitions.specs.Words.Expression.{relations, Expr, binary, call, Exprs, Record}
+use Rattle.definitions.specs.Words.Leaves.{type_named, relation_named, comparison}
+use Rattle.definitions.specs.Bytes.Decode.{Columns}
+use Rattle.definitions.specs.Filter.Match.{Request, ask_nothing, relation_request, call_request_by, comparison_request, request_by, match_request, match_leaf_by}
+use Rattle.definitions.specs.Filter.Settings.{Settings, allowed, passing, only_if, match_under}
+use Rattle.definitions.specs.Filter.Extract.{is_knn}
 use Rattle.expression.specs.Nodes.{Stands, OfTreeIn}
 use Rattle.expression.specs.Places.{part}
 use Rattle.expression.specs.Leaves.{CallStands, NodeIs, PlainNode, plain_column, plain_literal, plain_other, plain_field}

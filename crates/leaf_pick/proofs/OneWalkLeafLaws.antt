@@ -6,10 +6,10 @@ use mathlib.Core.Bool.{false, not, false≢true}
 use mathlib.Core.List.{List}
 use mathlib.Core.Option.{Option, none, some}
 use borrow.Author.Tests.{not-true}
-use Rattle.definitions.specs.Expression.{Expr, Record, Predicate}
-use Rattle.definitions.specs.Extract as definition
-use Rattle.definitions.specs.Extract.{is_knn, is_knn_match, first_of, Matcher}
-use Rattle.definitions.specs.OneWalk.{reading, read_leaf}
+use Rattle.definitions.specs.Words.Expression.{Expr, Record, Predicate}
+use Rattle.definitions.specs.Filter.Extract as definition
+use Rattle.definitions.specs.Filter.Extract.{is_knn, is_knn_match, first_of, Matcher}
+use Rattle.definitions.specs.Filter.OneWalk.{reading, read_leaf}
 use Rattle.node_rows.proofs.RowLaws.{tabled-end}
 use Rattle.leaf_matching.specs.Frames.{Over}
 use Rattle.leaf_matching.specs.Matches.{Lacks, Matches}

@@ -4,9 +4,9 @@ use native.Mathlib.Omega.{arith}
 use mathlib.Core.Path.{◌≡◌, refl, sym, subst}
 use mathlib.Core.List.{List}
 use lib.ListN.{length, get_or, length-append}
-use Rattle.definitions.specs.Expression.{Expr, and, nil, cons}
-use Rattle.definitions.specs.Encode.{expr_bytes}
-use Rattle.definitions.specs.Good.{nodes}
+use Rattle.definitions.specs.Words.Expression.{Expr, and, nil, cons}
+use Rattle.definitions.specs.Bytes.Encode.{expr_bytes}
+use Rattle.definitions.specs.Bytes.Good.{nodes}
 use Rattle.expression.specs.Nodes.{head_bytes, children_of, left_of}
 use Rattle.expression.specs.Cuts.{CutAt, here, in_left, in_right}
 use Rattle.expression.specs.declared.cuts.Cut.{Cut}

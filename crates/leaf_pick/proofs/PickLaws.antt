@@ -7,8 +7,8 @@ use mathlib.Core.Bool.{Bool, true, false, not}
 use mathlib.Core.List.{List, [], ◌∷◌, ◌++◌}
 use mathlib.Core.Option.{Option, none, some, some-ne-none}
 use lib.ListN.{length}
-use Rattle.definitions.specs.Expression.{Predicate}
-use Rattle.definitions.specs.Extract.{Pick, is_knn, later, first_match, first_of, pick}
+use Rattle.definitions.specs.Words.Expression.{Predicate}
+use Rattle.definitions.specs.Filter.Extract.{Pick, is_knn, later, first_match, first_of, pick}
 use Rattle.theorems.proofs.Walks.{moved, moved-zero}
 use Rattle.leaf_matching.specs.Matches.{Lacks}
 use Rattle.leaf_pick.specs.Picks.{is_other}

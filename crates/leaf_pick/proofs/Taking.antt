@@ -4,8 +4,8 @@ use Prim.Native.Nat.{ℕ}
 use mathlib.Core.Path.{◌≡◌, sym, ap, ◌∙◌, subst}
 use mathlib.Core.List.{List}
 use mathlib.Core.Option.{some}
-use Rattle.definitions.specs.Expression.{Expr, Record}
-use Rattle.definitions.specs.Extract.{pick, Matcher, matches_by}
+use Rattle.definitions.specs.Words.Expression.{Expr, Record}
+use Rattle.definitions.specs.Filter.Extract.{pick, Matcher, matches_by}
 use Rattle.expression.specs.Cuts.{CutAt}
 use Rattle.node_rows.specs.Rows.{Tabled}
 use Rattle.leaf_pick.specs.Walks.{Remembers, SpotOf, WalkIs, Spotted, ParentIs, WalkedIs}

@@ -1,7 +1,7 @@
 -- Request 9 of document 02: two engines that pick by the same contract.
 use Rattle.std.specs.Prelude.{ℕ, ◌≡◌, List, Option, Some, None}
-use Rattle.definitions.specs.Expression.{Expr, Record, Predicate}
-use Rattle.definitions.specs.Extract.{Matcher}
+use Rattle.definitions.specs.Words.Expression.{Expr, Record, Predicate}
+use Rattle.definitions.specs.Filter.Extract.{Matcher}
 use Rattle.sedona_query_planner.specs.Predicates.{on_children, PredicateAt}
 use Rattle.leaf_pick.specs.Picks.{PickedIs}
 use Rattle.leaf_pick.specs.declared.first_match.Pick.{Pick}

@@ -3,10 +3,10 @@ use Rattle.std.specs.Prelude.{ℕ, ◌+◌, ◌≡◌, Bool, not, List, map, len
 use Rattle.std.specs.declared.ops.ControlFlow.{ControlFlow}
 use Rattle.std.specs.declared.ops.ControlFlow.TheVariants.{Continue, Break}
 use Rattle.std.proofs.Math.Option as optional
-use Rattle.definitions.specs.Expression.{Expr, Record, Predicate}
-use Rattle.definitions.specs.Leaves.{leaves}
-use Rattle.definitions.specs.Extract as definition
-use Rattle.definitions.specs.Extract.{is_knn, first_match, Matcher, matches_by}
+use Rattle.definitions.specs.Words.Expression.{Expr, Record, Predicate}
+use Rattle.definitions.specs.Words.Leaves.{leaves}
+use Rattle.definitions.specs.Filter.Extract as definition
+use Rattle.definitions.specs.Filter.Extract.{is_knn, first_match, Matcher, matches_by}
 use Rattle.expression.specs.Nodes.{OfTree, OfTreeIn}
 use Rattle.expression.specs.Leaves.{NodeIs}
 use Rattle.expression.specs.Cuts.{CutAt}

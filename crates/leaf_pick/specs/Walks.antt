@@ -3,13 +3,13 @@ use Rattle.std.specs.Prelude.{ℕ, suc, ◌+◌, ◌≡◌, Bool, true, false, L
 use Rattle.std.specs.declared.ops.ControlFlow.{ControlFlow}
 use Rattle.std.specs.declared.ops.ControlFlow.TheVariants.{Continue, Break}
 use Rattle.std.proofs.Math.Option as optional
-use Rattle.definitions.specs.Expression.{Expr, Record}
-use Rattle.definitions.specs.Encode.{expr_bytes}
-use Rattle.definitions.specs.Decode.{Columns}
-use Rattle.definitions.specs.Extract as definition
-use Rattle.definitions.specs.Extract.{is_knn, is_knn_match, pick, Matcher, matches_by}
-use Rattle.definitions.specs.OneWalk.{reading, stopped, read_leaf, walk_length_by}
-use Rattle.definitions.specs.Settings.{Settings, match_under}
+use Rattle.definitions.specs.Words.Expression.{Expr, Record}
+use Rattle.definitions.specs.Bytes.Encode.{expr_bytes}
+use Rattle.definitions.specs.Bytes.Decode.{Columns}
+use Rattle.definitions.specs.Filter.Extract as definition
+use Rattle.definitions.specs.Filter.Extract.{is_knn, is_knn_match, pick, Matcher, matches_by}
+use Rattle.definitions.specs.Filter.OneWalk.{reading, stopped, read_leaf, walk_length_by}
+use Rattle.definitions.specs.Filter.Settings.{Settings, match_under}
 use Rattle.expression.specs.Leaves.{NodeIs}
 use Rattle.leaf_matching.specs.Matches.{Lacks}
 use Rattle.expression.specs.Cuts.{CutAt}

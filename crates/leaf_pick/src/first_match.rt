@@ -1,8 +1,8 @@
 // The walk over the AND-leaves up to the first that matches as wanted.
 ghost use Rattle.std.specs.Prelude.{◌≤◌, ◌≡◌, [], ◌∷◌};
-ghost use Rattle.definitions.specs.Leaves.{leaves};
-ghost use Rattle.definitions.specs.Extract.{is_knn};
-ghost use Rattle.definitions.specs.Settings.{match_under};
+ghost use Rattle.definitions.specs.Words.Leaves.{leaves};
+ghost use Rattle.definitions.specs.Filter.Extract.{is_knn};
+ghost use Rattle.definitions.specs.Filter.Settings.{match_under};
 ghost use Rattle.expression.specs.Nodes.{OfTree};
 ghost use Rattle.leaf_matching.specs.Frames.{Framed, OfFrame};
 ghost use Rattle.node_rows.specs.Rows.{Tabled};

@@ -2,12 +2,12 @@
 // The rows have the And nodes and AND-leaves in prefix order: after an And comes its left side, after a leaf the node that comes after all
 // below it. So the walk is a loop, and the parent of the leaf that is taken is looked for afterwards.
 ghost use Rattle.std.specs.Prelude.{◌<◌, ◌≡◌, length};
-ghost use Rattle.definitions.specs.Settings.{match_under};
+ghost use Rattle.definitions.specs.Filter.Settings.{match_under};
 ghost use Rattle.expression.specs.Nodes.{OfTree};
 ghost use Rattle.leaf_matching.specs.Frames.{Framed, OfFrame};
 ghost use Rattle.node_rows.specs.Rows.{Tabled};
 ghost use Rattle.terms.specs.Settings.{settings_of};
-ghost use Rattle.definitions.specs.Extract.{is_knn};
+ghost use Rattle.definitions.specs.Filter.Extract.{is_knn};
 ghost use Rattle.leaf_matching.specs.Matches.{Lacks};
 ghost use Rattle.leaf_pick.specs.Picks.{LeafThere};
 ghost use Rattle.leaf_pick.specs.Walks.{PassedIs, NoKnnIs, seen_here, ReadIs, WalkIs, WalkedIs, Spotted, ParentIs};

@@ -3,7 +3,7 @@
 // A port of `extract_spatial_predicate` and `extract_knn_predicate_prioritized` of
 // rust/sedona-query-planner/src/spatial_expr_utils.rs.
 // A node is given by its place and its index in the rows, which say where it ends and which node comes after it.
-ghost use Rattle.definitions.specs.Settings.{match_under};
+ghost use Rattle.definitions.specs.Filter.Settings.{match_under};
 ghost use Rattle.expression.specs.Nodes.{OfTree};
 ghost use Rattle.leaf_matching.specs.Frames.{Framed, OfFrame};
 ghost use Rattle.node_rows.specs.Rows.{Tabled};

@@ -6,10 +6,10 @@ use mathlib.Core.Path.{◌≡◌, refl, ◌∙◌}
 use mathlib.Core.Bool.{false}
 use mathlib.Core.List.{List}
 use lib.ListN.{length}
-use Rattle.definitions.specs.Expression.{Expr, Exprs, nil, cons, count, Record}
-use Rattle.definitions.specs.Encode.{expr_bytes}
-use Rattle.definitions.specs.Decode.{Columns, index_below}
-use Rattle.definitions.specs.Verdicts.{Verdict, as_relation, too_few_arguments, too_many_arguments, with_bound, argument_is, has_argument, sides_of}
+use Rattle.definitions.specs.Words.Expression.{Expr, Exprs, nil, cons, count, Record}
+use Rattle.definitions.specs.Bytes.Encode.{expr_bytes}
+use Rattle.definitions.specs.Bytes.Decode.{Columns, index_below}
+use Rattle.definitions.specs.Filter.Verdicts.{Verdict, as_relation, too_few_arguments, too_many_arguments, with_bound, argument_is, has_argument, sides_of}
 use Rattle.expression.specs.Nodes.{Row, Trees}
 use Rattle.expression.proofs.Standing.{some-children}
 use Rattle.expression.proofs.Parts.{two-of}

@@ -5,10 +5,10 @@ use mathlib.Core.Bool.{Bool, true, false, ◌&&◌, ◌||◌, not}
 use mathlib.Core.List.{List}
 use Prim.Native.Nat.{ℕ, ◌+◌}
 use lib.ListN.{length}
-use Rattle.definitions.specs.Expression.{Side, left, right, no_side, Expr, Record}
-use Rattle.definitions.specs.Encode.{expr_bytes}
+use Rattle.definitions.specs.Words.Expression.{Side, left, right, no_side, Expr, Record}
+use Rattle.definitions.specs.Bytes.Encode.{expr_bytes}
 use Rattle.leaf_matching.specs.Frames.{Over, OverTwo}
-use Rattle.definitions.specs.Verdicts.{Verdict, first_without_columns, first_of_both, first_with_mark, second_without_columns, second_of_both, second_with_mark, both_left, both_right, bound_of_both, bound_with_mark, as_distance, of_both, of_mark}
+use Rattle.definitions.specs.Filter.Verdicts.{Verdict, first_without_columns, first_of_both, first_with_mark, second_without_columns, second_of_both, second_with_mark, both_left, both_right, bound_of_both, bound_with_mark, as_distance, of_both, of_mark}
 use Rattle.theorems.proofs.VerdictSides.{of, none-by-bits, left-by-bits, right-by-bits}
 use Rattle.leaf_matching.specs.declared.sides.Flags.{Flags}
 use Rattle.leaf_matching.specs.Sides.{nothing_seen, see_all, flags_of}

@@ -5,11 +5,11 @@ use mathlib.Core.Path.{◌≡◌, refl, sym, ap, ◌∙◌}
 use mathlib.Core.Bool.{Bool, true, false, ◌&&◌, ◌||◌, not, false≢true}
 use mathlib.Core.List.{List, [], ◌∷◌}
 use lib.ListN.{length, get_or}
-use Rattle.definitions.specs.Basics.{ascii, same_name, any, all}
-use Rattle.definitions.specs.Expression.{relations}
-use Rattle.definitions.specs.Leaves.{type_named, relation_named}
-use Rattle.definitions.specs.Logical.{spatial_names}
-use Rattle.definitions.specs.Verdicts.{is_no_line, line_named}
+use Rattle.definitions.specs.Words.Basics.{ascii, same_name, any, all}
+use Rattle.definitions.specs.Words.Expression.{relations}
+use Rattle.definitions.specs.Words.Leaves.{type_named, relation_named}
+use Rattle.definitions.specs.Filter.Names.{spatial_names}
+use Rattle.definitions.specs.Filter.Verdicts.{is_no_line, line_named}
 use Rattle.theorems.proofs.Tools.{same-name}
 
 -- ---- one of several names

@@ -12,13 +12,13 @@ use mathlib.Core.Option.{none, some}
 use lib.ListN.{length, get_or}
 use lib.IntN.{ℤ, pos, negsuc}
 use borrow.Author.Tests.{lt-ltb, le-ltb, ne_eqb}
-use Rattle.definitions.specs.Basics.{big_endian}
-use Rattle.definitions.specs.Expression.{Expr, column, literal, and, binary, call, other, field, Exprs, cons}
-use Rattle.definitions.specs.Encode.{expr_bytes}
-use Rattle.definitions.specs.Literals.{signed}
-use Rattle.definitions.specs.Decode.{Columns}
-use Rattle.definitions.specs.Match.{literal_bool}
-use Rattle.definitions.specs.Verdicts.{Verdict, verdict_byte, as_knn, k_no_number, k_below_one, k_above_greatest, spheroid_no_flag, ties_no_flag, whole_number, literal_whole, no_number, below_one, above, is_below_one, is_above, no_flag}
+use Rattle.definitions.specs.Words.Basics.{big_endian}
+use Rattle.definitions.specs.Words.Expression.{Expr, column, literal, and, binary, call, other, field, Exprs, cons}
+use Rattle.definitions.specs.Bytes.Encode.{expr_bytes}
+use Rattle.definitions.specs.Words.Literals.{signed}
+use Rattle.definitions.specs.Bytes.Decode.{Columns}
+use Rattle.definitions.specs.Filter.Match.{literal_bool}
+use Rattle.definitions.specs.Filter.Verdicts.{Verdict, verdict_byte, as_knn, k_no_number, k_below_one, k_above_greatest, spheroid_no_flag, ties_no_flag, whole_number, literal_whole, no_number, below_one, above, is_below_one, is_above, no_flag}
 use Rattle.sedona_query_planner.specs.Predicates.{flag}
 use Rattle.expression.specs.Nodes.{kind_of, OfTree, OfTrees, Row}
 use Rattle.expression.proofs.Standing.{kind-is, no-children, some-children, first-stands, rest-stands}

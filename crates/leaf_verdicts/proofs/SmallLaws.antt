@@ -5,13 +5,13 @@ use mathlib.Core.Path.{◌≡◌, refl, sym, ap, ◌∙◌, subst}
 use mathlib.Core.Bool.{Bool, true, false, ◌||◌}
 use mathlib.Core.List.{List}
 use lib.ListN.{length}
-use Rattle.definitions.specs.Encode.{expr_bytes}
-use Rattle.definitions.specs.Basics.{ascii, same_name}
-use Rattle.definitions.specs.Expression.{Expr, binary}
-use Rattle.definitions.specs.Leaves.{comparison, no_comparison}
-use Rattle.definitions.specs.Logical.{function_name}
-use Rattle.definitions.specs.Verdicts.{is_distance_call, measured_in_small, ours_in_small, some_of_ours}
-use Rattle.definitions.specs.Decode.{Columns}
+use Rattle.definitions.specs.Bytes.Encode.{expr_bytes}
+use Rattle.definitions.specs.Words.Basics.{ascii, same_name}
+use Rattle.definitions.specs.Words.Expression.{Expr, binary}
+use Rattle.definitions.specs.Words.Leaves.{comparison, no_comparison}
+use Rattle.definitions.specs.Filter.Names.{function_name}
+use Rattle.definitions.specs.Filter.Verdicts.{is_distance_call, measured_in_small, ours_in_small, some_of_ours}
+use Rattle.definitions.specs.Bytes.Decode.{Columns}
 use Rattle.expression.specs.Nodes.{Tree, OfTree, Trees, OfTrees, Row}
 use Rattle.expression.specs.Leaves.{PlainNode, plain_column, plain_literal, plain_other, plain_field}
 use Rattle.expression.proofs.Standing.{no-children, some-children, first-stands, rest-stands}

@@ -5,11 +5,11 @@ use mathlib.Core.Path.{◌≡◌, refl, sym, ap, ◌∙◌}
 use mathlib.Core.Bool.{Bool, true, false, not}
 use mathlib.Core.List.{List}
 use mathlib.Core.Option.{none, some}
-use Rattle.definitions.specs.Expression.{Expr, and, binary, call, Exprs, nil, cons, Record}
-use Rattle.definitions.specs.Leaves.{Comparison, comparison, compares, no_comparison, distance_arguments}
-use Rattle.definitions.specs.Logical.{lower_case}
-use Rattle.definitions.specs.Settings.{Settings, has_bit}
-use Rattle.definitions.specs.Verdicts.{Verdict, other_case, other_side, other_operator, nothing_of_ours, some_of_ours, kind_left_out, PriceLine, relation_line, distance_line, knn_line, no_line, line_named, line_compared, line_meant, is_no_line, with_bound, arguments_compared, arguments_of, measured_in_small, ours_in_small, measured_other_side, measured_beside, distance_on_other_side, distance_beside_other, parts_of, left_out, verdict_under}
+use Rattle.definitions.specs.Words.Expression.{Expr, and, binary, call, Exprs, nil, cons, Record}
+use Rattle.definitions.specs.Words.Leaves.{Comparison, comparison, compares, no_comparison, distance_arguments}
+use Rattle.definitions.specs.Filter.Names.{lower_case}
+use Rattle.definitions.specs.Filter.Settings.{Settings, has_bit}
+use Rattle.definitions.specs.Filter.Verdicts.{Verdict, other_case, other_side, other_operator, nothing_of_ours, some_of_ours, kind_left_out, PriceLine, relation_line, distance_line, knn_line, no_line, line_named, line_compared, line_meant, is_no_line, with_bound, arguments_compared, arguments_of, measured_in_small, ours_in_small, measured_other_side, measured_beside, distance_on_other_side, distance_beside_other, parts_of, left_out, verdict_under}
 use Rattle.expression.specs.Nodes.{children_of}
 use Rattle.expression.specs.Leaves.{PlainNode, plain_column, plain_literal, plain_other, plain_field}
 use Rattle.leaf_verdicts.specs.Stages.{relation_stage, distance_stage, knn_stage, inside_stage, other_stage, operator_stage, no_stage, stage}

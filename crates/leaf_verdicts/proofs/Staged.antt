@@ -3,9 +3,9 @@ use Rattle.std.specs.Prelude.{if◌then◌else◌}
 use mathlib.Core.Path.{◌≡◌, refl}
 use mathlib.Core.Bool.{Bool, true, false, not}
 use mathlib.Core.List.{List}
-use Rattle.definitions.specs.Expression.{Expr, Exprs, nil, cons, Record}
-use Rattle.definitions.specs.Settings.{Settings, has_bit}
-use Rattle.definitions.specs.Verdicts.{Verdict, kind_left_out, too_few_arguments, too_many_arguments, reasons, PriceLine, relation_line, distance_line, knn_line, no_line, line_meant, arguments_of, applies_by, applies, first_that, matches_as, verdict_under}
+use Rattle.definitions.specs.Words.Expression.{Expr, Exprs, nil, cons, Record}
+use Rattle.definitions.specs.Filter.Settings.{Settings, has_bit}
+use Rattle.definitions.specs.Filter.Verdicts.{Verdict, kind_left_out, too_few_arguments, too_many_arguments, reasons, PriceLine, relation_line, distance_line, knn_line, no_line, line_meant, arguments_of, applies_by, applies, first_that, matches_as, verdict_under}
 use Rattle.theorems.proofs.VerdictMatches.{reading}
 use Rattle.leaf_verdicts.specs.Stages.{geometry_verdict, bound_verdict, k_verdict, flag_verdict, relation_stage, distance_stage, ties_stage, flags_stage, options_stage, knn_stage, no_stage, stage}
 

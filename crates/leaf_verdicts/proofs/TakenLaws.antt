@@ -12,7 +12,7 @@ use Rattle.std.proofs.lemmas.List.Quantifiers.{position-Some}
 use Rattle.std.proofs.lemmas.List.Sums.{fails_before_first}
 use Rattle.std.specs.List.{position_or_len}
 use Rattle.std.proofs.lemmas.Grind.{common_steps}
-use Rattle.definitions.specs.Verdicts.{one_on, first_passing}
+use Rattle.definitions.specs.Filter.Verdicts.{one_on, first_passing}
 
 module _ (test : ℕ → Bool) where
   -- By where it is, those before it not passing.

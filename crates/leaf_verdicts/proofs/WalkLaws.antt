@@ -5,12 +5,12 @@ use mathlib.Core.Path.{◌≡◌, refl, sym, ap, ◌∙◌}
 use mathlib.Core.List.{List, [], ◌∷◌, ◌++◌, map}
 use lib.ListN.{length, length-append, length-map, set}
 use mathlib.Core.List.{map-append}
-use Rattle.definitions.specs.Expression.{Expr, and, Record}
-use Rattle.definitions.specs.Encode.{expr_bytes}
-use Rattle.definitions.specs.Leaves.{leaves}
-use Rattle.definitions.specs.Decode.{index_below}
-use Rattle.definitions.specs.Settings.{Settings}
-use Rattle.definitions.specs.Verdicts.{verdict_byte, verdict_under}
+use Rattle.definitions.specs.Words.Expression.{Expr, and, Record}
+use Rattle.definitions.specs.Bytes.Encode.{expr_bytes}
+use Rattle.definitions.specs.Words.Leaves.{leaves}
+use Rattle.definitions.specs.Bytes.Decode.{index_below}
+use Rattle.definitions.specs.Filter.Settings.{Settings}
+use Rattle.definitions.specs.Filter.Verdicts.{verdict_byte, verdict_under}
 use Rattle.expression.specs.Nodes.{head_bytes}
 use Rattle.expression.specs.Leaves.{Both}
 use Rattle.expression.proofs.Standing.{first-stands, rest-stands}

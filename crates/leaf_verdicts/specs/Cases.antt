@@ -1,6 +1,6 @@
 -- The definitions' cases of verdicts and lines.
-use Rattle.definitions.specs.Verdicts as definitions
-use Rattle.definitions.specs.Verdicts.{as_relation, as_distance, as_knn, other_case, other_side, other_operator, inside_another, nothing_of_ours, kind_left_out, too_few_arguments, too_many_arguments, first_without_columns, first_of_both, first_with_mark, second_without_columns, second_of_both, second_with_mark, both_left, both_right, bound_of_both, bound_with_mark, k_no_number, k_below_one, k_above_greatest, spheroid_no_flag, ties_no_flag, relation_line, distance_line, knn_line, no_line}
+use Rattle.definitions.specs.Filter.Verdicts as definitions
+use Rattle.definitions.specs.Filter.Verdicts.{as_relation, as_distance, as_knn, other_case, other_side, other_operator, inside_another, nothing_of_ours, kind_left_out, too_few_arguments, too_many_arguments, first_without_columns, first_of_both, first_with_mark, second_without_columns, second_of_both, second_with_mark, both_left, both_right, bound_of_both, bound_with_mark, k_no_number, k_below_one, k_above_greatest, spheroid_no_flag, ties_no_flag, relation_line, distance_line, knn_line, no_line}
 use Rattle.leaf_verdicts.specs.declared.lines.PriceLine.{PriceLine}
 use Rattle.leaf_verdicts.specs.declared.lines.PriceLine.TheVariants as line
 use Rattle.leaf_verdicts.specs.declared.verdict.Verdict.{Verdict}

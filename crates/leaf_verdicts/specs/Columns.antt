@@ -1,9 +1,9 @@
 -- What the answers about columns mean.
 use Rattle.std.specs.Prelude.{ℕ, ◌+◌, ◌≡◌, Bool, true, false, List, length, Option, Some, None}
-use Rattle.definitions.specs.Expression.{Expr, Record}
-use Rattle.definitions.specs.Encode.{expr_bytes}
-use Rattle.definitions.specs.Verdicts as definitions
-use Rattle.definitions.specs.Verdicts.{sides_of}
+use Rattle.definitions.specs.Words.Expression.{Expr, Record}
+use Rattle.definitions.specs.Bytes.Encode.{expr_bytes}
+use Rattle.definitions.specs.Filter.Verdicts as definitions
+use Rattle.definitions.specs.Filter.Verdicts.{sides_of}
 use Rattle.leaf_matching.specs.declared.sides.Flags.{Flags}
 use Rattle.leaf_verdicts.specs.Cases.{verdict_of}
 use Rattle.leaf_verdicts.specs.Stages.{geometry_verdict, bound_verdict}

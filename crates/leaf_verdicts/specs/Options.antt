@@ -1,7 +1,7 @@
 -- What the answers about a KNN's literals mean.
 use Rattle.std.specs.Prelude.{ℕ, ◌≡◌, ltb, if◌then◌else◌, Option, Some, None}
-use Rattle.definitions.specs.Expression.{Expr}
-use Rattle.definitions.specs.Verdicts as definitions
+use Rattle.definitions.specs.Words.Expression.{Expr}
+use Rattle.definitions.specs.Filter.Verdicts as definitions
 use Rattle.leaf_verdicts.specs.Columns.{or_after}
 use Rattle.leaf_verdicts.specs.Stages.{k_verdict}
 use Rattle.leaf_verdicts.specs.declared.verdict.Verdict.{Verdict}

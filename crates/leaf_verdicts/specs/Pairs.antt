@@ -1,6 +1,6 @@
 -- Both sides of an operator, with the records of their columns.
 use Rattle.std.specs.Prelude.{ℕ, List}
-use Rattle.definitions.specs.Expression.{Expr, nil, cons, Record}
+use Rattle.definitions.specs.Words.Expression.{Expr, nil, cons, Record}
 use Rattle.leaf_matching.specs.Frames.{OverAll}
 
 -- Two expressions in a row stand there; what is claimed of them.

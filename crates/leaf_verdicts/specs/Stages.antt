@@ -1,8 +1,8 @@
 -- The verdict of a leaf in stages, one argument after the other: the form in which the code comes to it. (Ours; `Staged` proves it.)
 use Rattle.std.specs.Prelude.{ℕ, ◌&&◌, ◌||◌, List, if◌then◌else◌}
-use Rattle.definitions.specs.Expression.{Side, left, right, Expr, Exprs, nil, cons, Record}
-use Rattle.definitions.specs.Settings.{Settings, has_bit}
-use Rattle.definitions.specs.Verdicts.{Verdict, has_argument, as_relation, as_distance, as_knn, other_case, other_side, other_operator, inside_another, nothing_of_ours, kind_left_out, too_few_arguments, too_many_arguments, first_without_columns, first_of_both, first_with_mark, second_without_columns, second_of_both, second_with_mark, both_left, both_right, bound_of_both, bound_with_mark, k_no_number, k_below_one, k_above_greatest, spheroid_no_flag, ties_no_flag, PriceLine, relation_line, distance_line, knn_line, no_line, ours_in_small, distance_on_other_side, distance_beside_other, parts_of, some_of_ours, is_distance_call, sides_of, none_of, of_both, of_mark, only_of, no_number, below_one, above, no_flag}
+use Rattle.definitions.specs.Words.Expression.{Side, left, right, Expr, Exprs, nil, cons, Record}
+use Rattle.definitions.specs.Filter.Settings.{Settings, has_bit}
+use Rattle.definitions.specs.Filter.Verdicts.{Verdict, has_argument, as_relation, as_distance, as_knn, other_case, other_side, other_operator, inside_another, nothing_of_ours, kind_left_out, too_few_arguments, too_many_arguments, first_without_columns, first_of_both, first_with_mark, second_without_columns, second_of_both, second_with_mark, both_left, both_right, bound_of_both, bound_with_mark, k_no_number, k_below_one, k_above_greatest, spheroid_no_flag, ties_no_flag, PriceLine, relation_line, distance_line, knn_line, no_line, ours_in_small, distance_on_other_side, distance_beside_other, parts_of, some_of_ours, is_distance_call, sides_of, none_of, of_both, of_mark, only_of, no_number, below_one, above, no_flag}
 
 -- Two geometries by the sides of their columns; if they are fine, what comes after them.
 unfoldable pub geometry_verdict : (a b : List Side) → (after : Verdict) → Verdict

@@ -1,10 +1,10 @@
 -- What is written of all AND-leaves of an expression.
 use Rattle.std.specs.Prelude.{ℕ, ◌+◌, ◌≤◌, ◌≡◌, List, map, length}
-use Rattle.definitions.specs.Expression.{Expr, Record}
-use Rattle.definitions.specs.Encode.{expr_bytes}
-use Rattle.definitions.specs.Leaves.{leaves}
-use Rattle.definitions.specs.Settings.{Settings}
-use Rattle.definitions.specs.Verdicts.{verdict_byte, verdict_under}
+use Rattle.definitions.specs.Words.Expression.{Expr, Record}
+use Rattle.definitions.specs.Bytes.Encode.{expr_bytes}
+use Rattle.definitions.specs.Words.Leaves.{leaves}
+use Rattle.definitions.specs.Filter.Settings.{Settings}
+use Rattle.definitions.specs.Filter.Verdicts.{verdict_byte, verdict_under}
 use Rattle.leaf_matching.specs.Frames.{Over, OfFrame}
 use Rattle.writing.specs.Written.{Wrote}
 use Rattle.leaf_verdicts.specs.declared.walk.Written.{Written}

@@ -1,8 +1,8 @@
 // The verdict of an AND-leaf.
 ghost use Rattle.std.specs.Prelude.{◌≡◌, ◌+◌, length};
-ghost use Rattle.definitions.specs.Expression.{Expr, binary, call, nil, cons};
-ghost use Rattle.definitions.specs.Encode.{expr_bytes};
-ghost use Rattle.definitions.specs.Verdicts.{with_bound, verdict_under};
+ghost use Rattle.definitions.specs.Words.Expression.{Expr, binary, call, nil, cons};
+ghost use Rattle.definitions.specs.Bytes.Encode.{expr_bytes};
+ghost use Rattle.definitions.specs.Filter.Verdicts.{with_bound, verdict_under};
 ghost use Rattle.expression.specs.Nodes.{Stands, OfTree, Trees, OfTrees};
 ghost use Rattle.expression.specs.Leaves.{Pair, OfPair, Calls, OfCall};
 ghost use Rattle.leaf_matching.specs.Frames.{Over, Framed, OfFrame, FramedAll, OfFrameAll, CallFramed, OfCallFrame};

@@ -1,6 +1,6 @@
 // The line of the price list that a leaf is meant for.
 ghost use Rattle.std.specs.Prelude.{◌≡◌};
-ghost use Rattle.definitions.specs.Verdicts as definitions;
+ghost use Rattle.definitions.specs.Filter.Verdicts as definitions;
 ghost use Rattle.terms.specs.Settings.{settings_of};
 ghost use Rattle.leaf_verdicts.specs.Cases.{line_of};
 
@@ -18,7 +18,7 @@ pub enum PriceLine {
 }
 
 // The line of a function's name.
-#[tactic(auto, unfolding(definitions::specs::Verdicts::line_named, definitions::specs::Basics::ascii))]
+#[tactic(auto, unfolding(definitions::specs::Filter::Verdicts::line_named, definitions::specs::Words::Basics::ascii))]
 pub fn line_named(name: &[u8]) -> PriceLine
     ensures { line_of result ≡ definitions.line_named name.now }
 {
@@ -35,7 +35,7 @@ pub fn line_named(name: &[u8]) -> PriceLine
 }
 
 // Whether the settings leave a line's kind out.
-#[tactic(auto, unfolding(definitions::specs::Verdicts::left_out))]
+#[tactic(auto, unfolding(definitions::specs::Filter::Verdicts::left_out))]
 pub fn left_out(settings: Settings, line: PriceLine) -> bool
     ensures { result ≡ definitions.left_out (settings_of settings) (line_of line) }
 {

@@ -1,8 +1,8 @@
 // What would be ours if letters were small.
 ghost use Rattle.std.specs.Prelude.{◌≡◌, not};
-ghost use Rattle.definitions.specs.Logical.{lower_case};
-ghost use Rattle.definitions.specs.Expression.{binary};
-ghost use Rattle.definitions.specs.Verdicts as definitions;
+ghost use Rattle.definitions.specs.Filter.Names.{lower_case};
+ghost use Rattle.definitions.specs.Words.Expression.{binary};
+ghost use Rattle.definitions.specs.Filter.Verdicts as definitions;
 ghost use Rattle.expression.specs.Nodes.{Tree, OfTree, Trees, OfTrees};
 ghost use Rattle.expression.specs.Leaves.{Pair, OfPair};
 

@@ -1,6 +1,6 @@
 // The AND-leaf that is taken, read off the bytes of the verdicts alone.
 ghost use Rattle.std.specs.Prelude.{◌≡◌, eqb, leb, position};
-ghost use Rattle.definitions.specs.Verdicts as definitions;
+ghost use Rattle.definitions.specs.Filter.Verdicts as definitions;
 ghost use Rattle.leaf_verdicts.specs.Taken.{taken_of};
 
 // Its position, and the line that it is on: the first byte of its extraction.

@@ -1,6 +1,6 @@
 // Verdicts, with their bytes.
 ghost use Rattle.std.specs.Prelude.{◌≡◌};
-ghost use Rattle.definitions.specs.Verdicts.{verdict_byte};
+ghost use Rattle.definitions.specs.Filter.Verdicts.{verdict_byte};
 ghost use Rattle.leaf_verdicts.specs.Cases.{verdict_of};
 
 // An AND-leaf matches, or why it does not: the first reason in the order of these bytes.
@@ -38,7 +38,7 @@ pub enum Verdict {
 impl From<Verdict> for u8 {
     ghost from_gives = { λ verdict byte. byte ≡ verdict_byte (verdict_of verdict) };
 
-    #[tactic(auto, unfolding(definitions::specs::Verdicts::verdict_byte))]
+    #[tactic(auto, unfolding(definitions::specs::Filter::Verdicts::verdict_byte))]
     fn from(verdict: Verdict) -> u8 {
         verdict as u8
     }

@@ -6,16 +6,17 @@ use mathlib.Core.Path.{◌≡◌, refl, sym, ap, ◌∙◌}
 use mathlib.Core.Bool.{Bool, true, false}
 use mathlib.Core.List.{List, [], ◌∷◌, ◌++◌, map}
 use lib.ListN.{length, take, drop, replicate, length-append, length-replicate}
-use Rattle.definitions.specs.Basics.{Result, ok, refused, map_result, any, same_name, big_endian}
-use Rattle.definitions.specs.Encode.{side_number}
-use Rattle.definitions.specs.Expression.{Expr, Side, Frame}
-use Rattle.definitions.specs.Leaves.{leaves}
-use Rattle.definitions.specs.Plans.{frame_of, logical_of}
-use Rattle.definitions.specs.Calls.{LoadOutcome, Outcome, written_over, new_after_load, finish_load, load, finish, held_plan, new_after_extract, extract_filled_by, new_after_exchange, exchange}
-use Rattle.definitions.specs.NodeTable.{NodeRecord, blank}
-use Rattle.definitions.specs.Machine.{Kind, extract_call, exchange_call}
-use Rattle.definitions.specs.Logical.{LogicalAnswer, leaf_name, distinct, spatial_names, logical_answer, logical, logical_bytes}
-use Rattle.definitions.specs.Program.{Kept, LineOutcome, refused_line, load_line, logical_line, line_call, call_line}
+use Rattle.definitions.specs.Words.Basics.{Result, ok, refused, map_result, any, same_name, big_endian}
+use Rattle.definitions.specs.Bytes.Encode.{side_number}
+use Rattle.definitions.specs.Words.Expression.{Expr, Side, Frame}
+use Rattle.definitions.specs.Words.Leaves.{leaves}
+use Rattle.definitions.specs.Bytes.Plans.{frame_of, logical_of}
+use Rattle.definitions.specs.Calls.Base.{LoadOutcome, Outcome, written_over, new_after_load, finish_load, load, finish, held_plan, new_after_extract, extract_filled_by, new_after_exchange, exchange}
+use Rattle.definitions.specs.Bytes.NodeTable.{NodeRecord, blank}
+use Rattle.definitions.specs.Lists.Machine.{Kind, extract_call, exchange_call}
+use Rattle.definitions.specs.Calls.Logical.{LogicalAnswer, logical_answer, logical, logical_bytes}
+use Rattle.definitions.specs.Filter.Names.{leaf_name, distinct, spatial_names}
+use Rattle.definitions.specs.Lists.Program.{Kept, LineOutcome, refused_line, load_line, logical_line, line_call, call_line}
 use Rattle.theorems.proofs.InversePlan.{refused_not_ok}
 use Rattle.terms.specs.Refusals.{number_of}
 use Rattle.terms.specs.declared.refusals.Refusal.{Refusal}

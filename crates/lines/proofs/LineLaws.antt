@@ -8,10 +8,10 @@ use mathlib.Core.List.{List, [], ◌∷◌}
 use lib.ListN.{length, take, drop, get_or}
 use lib.Dec.{leb}
 use borrow.Author.Tests.{ne_eqb, leb-true}
-use Rattle.definitions.specs.Basics.{ok, refused}
-use Rattle.definitions.specs.Calls.{written_over}
-use Rattle.definitions.specs.Machine.{extract_call, exchange_call}
-use Rattle.definitions.specs.Program.{Kept, refused_line, load_line, logical_line, call_line, line_of, digit_bytes, or_refused, line_bytes, read_line, line_outcome}
+use Rattle.definitions.specs.Words.Basics.{ok, refused}
+use Rattle.definitions.specs.Calls.Base.{written_over}
+use Rattle.definitions.specs.Lists.Machine.{extract_call, exchange_call}
+use Rattle.definitions.specs.Lists.Program.{Kept, refused_line, load_line, logical_line, call_line, line_of, digit_bytes, or_refused, line_bytes, read_line, line_outcome}
 use Rattle.theorems.proofs.InversePlan.{refused_not_ok}
 use Rattle.terms.specs.Refusals.{number_of}
 use Rattle.terms.specs.declared.refusals.Refusal.{Refusal}

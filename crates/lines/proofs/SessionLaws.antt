@@ -9,7 +9,7 @@ use lib.ListN.{length, take, replicate, length-append, length-replicate}
 use lib.Seq.{length-take-le}
 use lib.Dec.{leb, eqb}
 use borrow.Author.Tests.{leb-true, leb-false, eqb-true, eqb-false}
-use Rattle.definitions.specs.Program.{Kept, line_outcome, written_line, fresh_plan}
+use Rattle.definitions.specs.Lists.Program.{Kept, line_outcome, written_line, fresh_plan}
 use Rattle.terms.specs.Refusals.{number_of}
 use Rattle.terms.specs.declared.refusals.Refusal.TheVariants.{NotHexadecimal}
 use Rattle.lines.specs.declared.answers.Given.TheVariants.{Plan, Logical}

@@ -5,7 +5,7 @@ use mathlib.Core.Bool.{Bool, true, false}
 use mathlib.Core.List.{List, [], ◌∷◌, ◌++◌, append_assoc, append-nil}
 use lib.Dec.{eqb}
 use borrow.Author.Tests.{eqb-true, eqb-false, ne_eqb}
-use Rattle.definitions.specs.Program.{Kept, into_first, lines_of, output_from, output}
+use Rattle.definitions.specs.Lists.Program.{Kept, into_first, lines_of, output_from, output}
 use Rattle.lines.specs.Pieces.{Session, Step, end_line, join, character, piece, input_end, fresh_session}
 
 -- ---- lines

@@ -1,7 +1,7 @@
 -- What the answer to a line is in the definitions' terms.
 use Rattle.std.specs.Prelude.{ℕ, ◌≤◌, ◌≡◌, List, [], ◌∷◌, length, take, Result as Either, Ok, Err}
-use Rattle.definitions.specs.Basics.{Result, ok, refused}
-use Rattle.definitions.specs.Program.{Kept, LineOutcome}
+use Rattle.definitions.specs.Words.Basics.{Result, ok, refused}
+use Rattle.definitions.specs.Lists.Program.{Kept, LineOutcome}
 use Rattle.terms.specs.Refusals.{number_of}
 use Rattle.terms.specs.declared.refusals.Refusal.{Refusal}
 use Rattle.lines.specs.declared.answers.Given.{Given}

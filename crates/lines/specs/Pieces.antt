@@ -1,6 +1,6 @@
 -- The input in pieces, cut anywhere: what is kept between two of them, and what is written for each.
 use Rattle.std.specs.Prelude.{ℕ, Bool, true, false, List, [], ◌∷◌, ◌++◌, eqb, if◌then◌else◌}
-use Rattle.definitions.specs.Program.{Kept, LineOutcome, line_outcome, written_line, fresh_plan}
+use Rattle.definitions.specs.Lists.Program.{Kept, LineOutcome, line_outcome, written_line, fresh_plan}
 
 -- Between two pieces: the plan that is kept, and the characters of the line that has begun.
 pub record Session : Type 0 where

@@ -1,6 +1,6 @@
 -- A run of the program: pieces are fed, what waits is written out now and then, and the input ends.
 use Rattle.std.specs.Prelude.{ℕ, ◌≤◌, ◌≡◌, List, [], ◌∷◌, ◌++◌, take}
-use Rattle.definitions.specs.Program.{output}
+use Rattle.definitions.specs.Lists.Program.{output}
 use Rattle.lines.specs.Pieces.{piece, fresh_session}
 use Rattle.lines.specs.declared.states.Buffers.{Buffers}
 use Rattle.lines.specs.declared.states.State.{State}

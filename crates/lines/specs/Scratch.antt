@@ -1,9 +1,9 @@
 -- What a line leaves in the scratch: its bytes, and then what a call of extract or exchange leaves there. No answer depends on it.
 use Rattle.std.specs.Prelude.{ℕ, List, [], ◌∷◌, eqb, if◌then◌else◌}
-use Rattle.definitions.specs.Basics.{Result, ok, refused}
-use Rattle.definitions.specs.Calls.{written_over}
-use Rattle.definitions.specs.Machine.{Kind, extract_call, exchange_call}
-use Rattle.definitions.specs.Program.{Kept, line_bytes, line_call}
+use Rattle.definitions.specs.Words.Basics.{Result, ok, refused}
+use Rattle.definitions.specs.Calls.Base.{written_over}
+use Rattle.definitions.specs.Lists.Machine.{Kind, extract_call, exchange_call}
+use Rattle.definitions.specs.Lists.Program.{Kept, line_bytes, line_call}
 use Rattle.hexadecimal.specs.Hex.{decoded_to}
 
 -- What a call leaves; nothing is called where more bytes follow.

@@ -1,6 +1,6 @@
 // What a line gives, and how it is written.
 ghost use Rattle.std.specs.Prelude.{◌≡◌, ◌+◌, ◌*◌, ◌≤◌, length};
-ghost use Rattle.definitions.specs.Program.{written_line};
+ghost use Rattle.definitions.specs.Lists.Program.{written_line};
 ghost use Rattle.writing.specs.Written.{WroteAt};
 ghost use Rattle.lines.specs.Answers.{answer_bytes, plan_length, length_after};
 

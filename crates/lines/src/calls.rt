@@ -1,6 +1,6 @@
 // The call that a line of the program's input asks for.
 ghost use Rattle.std.specs.Prelude.{◌≡◌, List, ℕ, ◌<◌, ◌≤◌, length, take, MatchResult};
-ghost use Rattle.definitions.specs.Program as program;
+ghost use Rattle.definitions.specs.Lists.Program as program;
 ghost use Rattle.terms.specs.declared.refusals.Refusal.TheVariants.{BytesAfterEnd};
 ghost use Rattle.lines.specs.Answers.{kept_as, AnswerIs};
 ghost use Rattle.lines.specs.Calling.{line_answer};

@@ -1,6 +1,6 @@
 // The end of a line: what it gives is written, and the state goes on.
 ghost use Rattle.std.specs.Prelude.{◌≡◌, List, ℕ, ◌+◌, ◌*◌, ◌≤◌, length};
-ghost use Rattle.definitions.specs.Program.{line_outcome};
+ghost use Rattle.definitions.specs.Lists.Program.{line_outcome};
 ghost use Rattle.lines.specs.Answers.{plan_length, kept_as, AnswerIs};
 ghost use Rattle.lines.specs.Collecting.{Begun};
 ghost use Rattle.lines.specs.Sessions.{begun_scratch, EndedIs};

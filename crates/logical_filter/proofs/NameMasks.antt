@@ -14,8 +14,8 @@ use lib.Dec.{eqb, ltb}
 use lib.Bits.{bit_or, or_step}
 use lib.Pow.{pow-lt}
 use borrow.Author.Tests.{ltb-true, ltb-false, eqb-true, eqb-false, eq-eqb, ne_eqb}
-use Rattle.definitions.specs.Basics.{same_name, any}
-use Rattle.definitions.specs.Logical.{mask}
+use Rattle.definitions.specs.Words.Basics.{same_name, any}
+use Rattle.definitions.specs.Filter.Names.{mask}
 use Rattle.logical_filter.specs.Logicals.{spellings, apart}
 use Rattle.theorems.proofs.Requests.{same-name}
 

@@ -6,12 +6,12 @@ use mathlib.Core.Bool.{Bool, false}
 use mathlib.Core.List.{List, [], ◌∷◌, map, map-append}
 use lib.ListN.{length}
 use lib.Bits.{bit_or}
-use Rattle.definitions.specs.Basics.{ascii, same_name, any}
-use Rattle.definitions.specs.Expression.{Expr, and, binary, nil, cons}
-use Rattle.definitions.specs.Encode.{expr_bytes, exprs_bytes}
-use Rattle.definitions.specs.Leaves.{leaves, no_comparison, comparison}
-use Rattle.definitions.specs.Decode.{Columns}
-use Rattle.definitions.specs.Logical.{lower_case, spatial_names, function_name, comparison_name, leaf_name, mask}
+use Rattle.definitions.specs.Words.Basics.{ascii, same_name, any}
+use Rattle.definitions.specs.Words.Expression.{Expr, and, binary, nil, cons}
+use Rattle.definitions.specs.Bytes.Encode.{expr_bytes, exprs_bytes}
+use Rattle.definitions.specs.Words.Leaves.{leaves, no_comparison, comparison}
+use Rattle.definitions.specs.Bytes.Decode.{Columns}
+use Rattle.definitions.specs.Filter.Names.{lower_case, spatial_names, function_name, comparison_name, leaf_name, mask}
 use Rattle.theorems.proofs.Cases.{each}
 use Rattle.expression.specs.Places.{part}
 use Rattle.expression.specs.Nodes.{kind_of, Stands, OfTree, OfTrees}

@@ -2,11 +2,12 @@
 use Prim.Native.Nat.{ℕ}
 use mathlib.Core.Path.{◌≡◌, sym, ap, ◌∙◌}
 use mathlib.Core.List.{List}
-use Rattle.definitions.specs.Basics.{Result, ok, refused, map_result}
-use Rattle.definitions.specs.Expression.{Side, Expr}
-use Rattle.definitions.specs.Leaves.{leaves}
-use Rattle.definitions.specs.Plans.{logical_of}
-use Rattle.definitions.specs.Logical.{LogicalAnswer, query_side, logical_answer, logical}
+use Rattle.definitions.specs.Words.Basics.{Result, ok, refused, map_result}
+use Rattle.definitions.specs.Words.Expression.{Side, Expr}
+use Rattle.definitions.specs.Words.Leaves.{leaves}
+use Rattle.definitions.specs.Bytes.Plans.{logical_of}
+use Rattle.definitions.specs.Calls.Logical.{LogicalAnswer, logical_answer, logical}
+use Rattle.definitions.specs.Filter.Names.{query_side}
 use Rattle.logical_filter.specs.Logicals.{PredicateNamesAre}
 use Rattle.logical_filter.specs.declared.predicate_names.PredicateNames.{PredicateNames}
 

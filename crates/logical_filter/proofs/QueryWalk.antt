@@ -9,12 +9,12 @@ use mathlib.Core.List.{List, [], ◌∷◌, ◌++◌, append-nil}
 use mathlib.Core.Option.{Option, none, some}
 use lib.ListN.{length, get_or, length-append}
 use lib.Dec.{eqb}
-use Rattle.definitions.specs.Basics.{ascii, same_name, all, big_endian}
-use Rattle.definitions.specs.Expression.{Side, left, right, no_side, Expr, column, literal, and, binary, call, other, field, Exprs}
-use Rattle.definitions.specs.Encode.{expr_bytes, exprs_bytes}
-use Rattle.definitions.specs.Leaves.{leaves}
-use Rattle.definitions.specs.Decode.{Columns}
-use Rattle.definitions.specs.Logical.{lower_case, bits_of, bits_of_all, in_left, in_right, schema_side, first_argument_side, knn_arguments, query_side_from, query_side}
+use Rattle.definitions.specs.Words.Basics.{ascii, same_name, all, big_endian}
+use Rattle.definitions.specs.Words.Expression.{Side, left, right, no_side, Expr, column, literal, and, binary, call, other, field, Exprs}
+use Rattle.definitions.specs.Bytes.Encode.{expr_bytes, exprs_bytes}
+use Rattle.definitions.specs.Words.Leaves.{leaves}
+use Rattle.definitions.specs.Bytes.Decode.{Columns}
+use Rattle.definitions.specs.Filter.Names.{lower_case, bits_of, bits_of_all, in_left, in_right, schema_side, first_argument_side, knn_arguments, query_side_from, query_side}
 use Rattle.expression.specs.Places.{Holds, part}
 use Rattle.expression.specs.Nodes.{head_bytes, children_of, kind_of, Stands, Row, Tree, OfTreeIn, OfTree, Trees, OfTrees}
 use Rattle.expression.specs.Heads.{HeadIs}

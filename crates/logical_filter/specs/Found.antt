@@ -1,8 +1,8 @@
 -- Which definition the answer is.
 use Rattle.std.specs.Prelude.{Result, Ok, Err}
-use Rattle.definitions.specs.Basics as basics
-use Rattle.definitions.specs.Basics.{ok, refused}
-use Rattle.definitions.specs.Logical as definitions
+use Rattle.definitions.specs.Words.Basics as basics
+use Rattle.definitions.specs.Words.Basics.{ok, refused}
+use Rattle.definitions.specs.Calls.Logical as definitions
 use Rattle.terms.specs.Refusals.{number_of}
 use Rattle.terms.specs.declared.refusals.Refusal.{Refusal}
 use Rattle.logical_filter.specs.QuerySides.{query_side_is}

@@ -1,10 +1,10 @@
 -- What the answers about the spatial names of a logical filter say.
 use Rattle.std.specs.Prelude.{ℕ, ◌≡◌, Bool, true, not, ◌&&◌, List, [], ◌∷◌, map}
 use denote.Bor.{Bor}
-use Rattle.definitions.specs.Basics.{same_name, any}
-use Rattle.definitions.specs.Expression.{Expr}
-use Rattle.definitions.specs.Leaves.{leaves}
-use Rattle.definitions.specs.Logical.{spatial_names, leaf_name, mask, distinct}
+use Rattle.definitions.specs.Words.Basics.{same_name, any}
+use Rattle.definitions.specs.Words.Expression.{Expr}
+use Rattle.definitions.specs.Words.Leaves.{leaves}
+use Rattle.definitions.specs.Filter.Names.{spatial_names, leaf_name, mask, distinct}
 use Rattle.logical_filter.specs.declared.predicate_names.Collected.{Collected}
 use Rattle.logical_filter.specs.declared.predicate_names.PredicateNames.{PredicateNames}
 

@@ -1,10 +1,10 @@
 -- What the answers about a KNN query side say.
 use Rattle.std.specs.Prelude.{ℕ, ◌≡◌, List, [], ◌∷◌}
 use Rattle.std.proofs.Math.Option.{Option, none, some}
-use Rattle.definitions.specs.Basics.{all}
-use Rattle.definitions.specs.Expression.{Side, left, right, no_side, Expr, Exprs}
-use Rattle.definitions.specs.Decode.{Columns}
-use Rattle.definitions.specs.Logical.{in_left, in_right, knn_arguments}
+use Rattle.definitions.specs.Words.Basics.{all}
+use Rattle.definitions.specs.Words.Expression.{Side, left, right, no_side, Expr, Exprs}
+use Rattle.definitions.specs.Bytes.Decode.{Columns}
+use Rattle.definitions.specs.Filter.Names.{in_left, in_right, knn_arguments}
 use Rattle.expression.specs.declared.leaves.Called.{Called}
 use Rattle.sedona_expr.specs.Parsed.{Arguments}
 use Rattle.std.specs.declared.ops.ControlFlow.{ControlFlow}

@@ -1,6 +1,6 @@
 // The call logical.
 ghost use Rattle.std.specs.Prelude.{◌≡◌};
-ghost use Rattle.definitions.specs.Logical as definitions;
+ghost use Rattle.definitions.specs.Calls.Logical as definitions;
 ghost use Rattle.logical_filter.specs.Found.{names_of};
 
 use super::knn_query_side::{KNNJoinQuerySide, find_knn_query_side};

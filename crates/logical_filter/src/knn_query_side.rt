@@ -1,9 +1,9 @@
 // The query side of a logical filter's first KNN call. A port of `find_knn_query_side` of
 // rust/sedona-query-planner/src/spatial_expr_utils.rs; the case of letters is ignored.
 ghost use Rattle.std.specs.Prelude.{◌≡◌, ◌+◌, length};
-ghost use Rattle.definitions.specs.Encode.{side_number, expr_bytes, exprs_bytes};
-ghost use Rattle.definitions.specs.Leaves.{leaves};
-ghost use Rattle.definitions.specs.Logical.{bits_of, bits_of_all, query_side};
+ghost use Rattle.definitions.specs.Bytes.Encode.{side_number, expr_bytes, exprs_bytes};
+ghost use Rattle.definitions.specs.Words.Leaves.{leaves};
+ghost use Rattle.definitions.specs.Filter.Names.{bits_of, bits_of_all, query_side};
 ghost use Rattle.expression.specs.Nodes.{Tree, OfTree, OfTreeIn, Trees, OfTrees};
 ghost use Rattle.logical_filter.specs.QuerySides.{first_knn, KnnIs, SchemasAre, query_side_is};
 
@@ -97,7 +97,7 @@ pub enum KNNJoinQuerySide {
 impl From<KNNJoinQuerySide> for u8 {
     ghost from_gives = { λ side number. number ≡ side_number (query_side_is side) };
 
-    #[tactic(auto, unfolding(definitions::specs::Encode::side_number))]
+    #[tactic(auto, unfolding(definitions::specs::Bytes::Encode::side_number))]
     fn from(side: KNNJoinQuerySide) -> u8 {
         side as u8
     }

@@ -2,11 +2,11 @@
 // rust/sedona-query-planner/src/spatial_expr_utils.rs; the case of letters is ignored.
 ghost use Rattle.std.specs.Prelude.{◌≡◌, true, ◌∷◌, [], map, position, ◌+◌, ◌≤◌, length};
 ghost use Rattle.std.specs.List.{list_any};
-ghost use Rattle.definitions.specs.Basics.{ascii, same_name, any};
-ghost use Rattle.definitions.specs.Expression.{binary, nil, cons};
-ghost use Rattle.definitions.specs.Encode.{expr_bytes, exprs_bytes};
-ghost use Rattle.definitions.specs.Leaves.{leaves};
-ghost use Rattle.definitions.specs.Logical.{lower_case, spatial_names, function_name, leaf_name, mask};
+ghost use Rattle.definitions.specs.Words.Basics.{ascii, same_name, any};
+ghost use Rattle.definitions.specs.Words.Expression.{binary, nil, cons};
+ghost use Rattle.definitions.specs.Bytes.Encode.{expr_bytes, exprs_bytes};
+ghost use Rattle.definitions.specs.Words.Leaves.{leaves};
+ghost use Rattle.definitions.specs.Filter.Names.{lower_case, spatial_names, function_name, leaf_name, mask};
 ghost use Rattle.expression.specs.Nodes.{Tree, OfTree};
 ghost use Rattle.expression.specs.Leaves.{Pair, OfPair};
 ghost use Rattle.logical_filter.specs.Logicals.{spellings, apart, NamesAre, PredicateNamesAre};

@@ -5,9 +5,9 @@ use mathlib.Core.Path.{◌≡◌, refl, ◌∙◌}
 use mathlib.Core.List.{List}
 use lib.ListN.{length, drop}
 use borrow.Author.Tests.{ne_eqb}
-use Rattle.definitions.specs.Expression.{Expr, column, Exprs, nil, cons, count}
-use Rattle.definitions.specs.Readers.{Read, read, stopped, Reader, continue, ◌>>=◌, give, byte_up_to}
-use Rattle.definitions.specs.Decode.{repeat_exprs, Columns, node_of_kind, any_column, binary_expr, binary_node}
+use Rattle.definitions.specs.Words.Expression.{Expr, column, Exprs, nil, cons, count}
+use Rattle.definitions.specs.Bytes.Readers.{Read, read, stopped, Reader, continue, ◌>>=◌, give, byte_up_to}
+use Rattle.definitions.specs.Bytes.Decode.{repeat_exprs, Columns, node_of_kind, any_column, binary_expr, binary_node}
 use Rattle.expression.specs.Nodes.{children_of}
 use Rattle.std.specs.Prelude.{Ok}
 use Rattle.node_reader.specs.Fields.{ReadsAt}

@@ -5,9 +5,9 @@ use mathlib.Core.Path.{◌≡◌, refl, ◌∙◌, subst}
 use mathlib.Core.List.{List}
 use lib.ListN.{length, drop, get_or, set, length-set}
 use Rattle.std.specs.Prelude.{Ok}
-use Rattle.definitions.specs.Decode.{node}
-use Rattle.definitions.specs.Readers.{stopped}
-use Rattle.definitions.specs.Good.{AllBytes}
+use Rattle.definitions.specs.Bytes.Decode.{node}
+use Rattle.definitions.specs.Bytes.Readers.{stopped}
+use Rattle.definitions.specs.Bytes.Good.{AllBytes}
 use Rattle.terms.specs.declared.refusals.Refusal.{Refusal}
 use Rattle.terms.specs.Refusals.{number_of}
 use Rattle.expression.specs.declared.heads.Head.{Head}

@@ -9,8 +9,8 @@ use lib.ListN.{length, take, drop, get_or, length-drop}
 use lib.Dec.{leb}
 use lib.Seq.{take-suc, drop-drop}
 use Rattle.std.proofs.lemmas.List.{take_all}
-use Rattle.definitions.specs.Basics.{all}
-use Rattle.definitions.specs.Readers.{read, stopped, byte_between, repeat}
+use Rattle.definitions.specs.Words.Basics.{all}
+use Rattle.definitions.specs.Bytes.Readers.{read, stopped, byte_between, repeat}
 use Rattle.theorems.proofs.ReaderLaws.{after, halts}
 use Rattle.theorems.proofs.Taken.{and-both}
 use Rattle.terms.specs.declared.refusals.Refusal.TheVariants.{EndsInsideField, OutOfRange}

@@ -8,7 +8,7 @@ use mathlib.Core.List.{List, [], ◌∷◌}
 use lib.ListN.{length, take, drop, get_or, length-drop}
 use Rattle.std.proofs.lemmas.List.{get_or-take, get_or-drop}
 use lib.Dec.{lit<}
-use Rattle.definitions.specs.Readers.{read, stopped, number_after, number}
+use Rattle.definitions.specs.Bytes.Readers.{read, stopped, number_after, number}
 use Rattle.theorems.proofs.ReaderLaws.{after}
 use Rattle.node_reader.proofs.Reading.{there}
 

@@ -7,9 +7,9 @@ use mathlib.Core.List.{List}
 use lib.ListN.{length, drop, get_or, set}
 use Rattle.std.proofs.lemmas.List.{get_or-set_same, get_or-set_other}
 use Rattle.std.specs.Prelude.{Result, Ok, Err}
-use Rattle.definitions.specs.Decode.{Columns, node, repeat_exprs}
-use Rattle.definitions.specs.Readers.{stopped}
-use Rattle.definitions.specs.Good.{AllBytes, depth}
+use Rattle.definitions.specs.Bytes.Decode.{Columns, node, repeat_exprs}
+use Rattle.definitions.specs.Bytes.Readers.{stopped}
+use Rattle.definitions.specs.Bytes.Good.{AllBytes, depth}
 use Rattle.terms.specs.declared.refusals.Refusal.{Refusal}
 use Rattle.terms.specs.Refusals.{number_of}
 use Rattle.expression.specs.declared.heads.Head.{Head}

@@ -6,7 +6,7 @@ use mathlib.Core.Path.{◌≡◌, refl, ◌∙◌}
 use mathlib.Core.List.{List, [], ◌∷◌}
 use lib.ListN.{length, drop}
 use Rattle.std.specs.Prelude.{Result, Ok, Err}
-use Rattle.definitions.specs.Readers.{read, stopped, Reader, repeat}
+use Rattle.definitions.specs.Bytes.Readers.{read, stopped, Reader, repeat}
 use Rattle.terms.specs.declared.refusals.Refusal.{Refusal}
 use Rattle.terms.specs.Refusals.{number_of}
 use Rattle.node_reader.specs.Fields.{SkippedIs}

@@ -4,11 +4,11 @@ use native.Mathlib.Omega.{arith}
 use mathlib.Core.Path.{◌≡◌, ap}
 use mathlib.Core.List.{List, ◌++◌}
 use lib.ListN.{length, drop, length-drop, length-append}
-use Rattle.definitions.specs.Decode.{Columns, node, expression}
-use Rattle.definitions.specs.Good.{AllBytes, depth, nodes}
-use Rattle.definitions.specs.Expression.{Expr}
-use Rattle.definitions.specs.Encode.{expr_bytes}
-use Rattle.definitions.specs.Readers.{read}
+use Rattle.definitions.specs.Bytes.Decode.{Columns, node, expression}
+use Rattle.definitions.specs.Bytes.Good.{AllBytes, depth, nodes}
+use Rattle.definitions.specs.Words.Expression.{Expr}
+use Rattle.definitions.specs.Bytes.Encode.{expr_bytes}
+use Rattle.definitions.specs.Bytes.Readers.{read}
 pub use Rattle.theorems.proofs.Tools.{all-bytes, bytes-from}
 use Rattle.theorems.proofs.Inverse.{NodeBack, node-back}
 use Rattle.node_reader.specs.declared.walk.Walked.{Walked}

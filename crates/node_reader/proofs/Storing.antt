@@ -4,9 +4,9 @@ use native.Mathlib.Omega.{arith}
 use mathlib.Core.Path.{◌≡◌, refl, sym, subst}
 use mathlib.Core.List.{List}
 use lib.ListN.{length, get_or, set}
-use Rattle.definitions.specs.Expression.{Expr, Exprs}
-use Rattle.definitions.specs.Decode.{Columns, node, repeat_exprs}
-use Rattle.definitions.specs.Good.{AllBytes, depth}
+use Rattle.definitions.specs.Words.Expression.{Expr, Exprs}
+use Rattle.definitions.specs.Bytes.Decode.{Columns, node, repeat_exprs}
+use Rattle.definitions.specs.Bytes.Good.{AllBytes, depth}
 use Rattle.expression.specs.Nodes.{head_bytes, children_of}
 use Rattle.expression.proofs.Standing.{kind-is, node-some, tree-length}
 use Rattle.node_reader.specs.Heads.{depth_above}

@@ -9,11 +9,11 @@ use mathlib.Core.Bool.{Bool, true}
 use mathlib.Core.List.{List}
 use lib.ListN.{length, drop}
 use borrow.Author.Tests.{lt-ltb, le-ltb}
-use Rattle.definitions.specs.Expression as tree
-use Rattle.definitions.specs.Expression.{Expr, Exprs, nil, cons}
-use Rattle.definitions.specs.Readers.{read, stopped, Reader, continue, give}
-use Rattle.definitions.specs.Decode.{repeat_exprs, Columns, count_node, node_kind, node_of_kind, node}
-use Rattle.definitions.specs.Good.{depth, depth_all}
+use Rattle.definitions.specs.Words.Expression as tree
+use Rattle.definitions.specs.Words.Expression.{Expr, Exprs, nil, cons}
+use Rattle.definitions.specs.Bytes.Readers.{read, stopped, Reader, continue, give}
+use Rattle.definitions.specs.Bytes.Decode.{repeat_exprs, Columns, count_node, node_kind, node_of_kind, node}
+use Rattle.definitions.specs.Bytes.Good.{depth, depth_all}
 use Rattle.terms.specs.declared.refusals.Refusal.{Refusal}
 use Rattle.node_reader.specs.declared.walk.Walked.{Walked}
 use Rattle.std.specs.Prelude.{Result, Ok, Err}

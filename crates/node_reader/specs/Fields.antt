@@ -1,7 +1,7 @@
 -- What the answers about fields say of the definitions' readers, at a place of the bytes.
 use Rattle.std.specs.Prelude.{ℕ, ◌≤◌, ◌≡◌, Bool, ◌&&◌, List, length, drop, leb, Result, Ok, Err}
-use Rattle.definitions.specs.Basics.{all}
-use Rattle.definitions.specs.Readers.{read, stopped, Reader}
+use Rattle.definitions.specs.Words.Basics.{all}
+use Rattle.definitions.specs.Bytes.Readers.{read, stopped, Reader}
 use Rattle.terms.specs.Refusals.{number_of}
 use Rattle.terms.specs.declared.refusals.Refusal.{Refusal}
 

@@ -1,10 +1,10 @@
 -- What the answers about a node's head say of the definitions' readers.
 use Rattle.std.specs.Prelude.{ℕ, suc, ◌≤◌, ◌≡◌, List, length, drop, Result, Ok, Err}
-use Rattle.definitions.specs.Limits.{most_children}
-use Rattle.definitions.specs.Expression.{Expr, Exprs, count}
-use Rattle.definitions.specs.Readers.{stopped, Reader, continue, give}
-use Rattle.definitions.specs.Decode as decode
-use Rattle.definitions.specs.Good.{depth_all}
+use Rattle.definitions.specs.Words.Limits.{most_children}
+use Rattle.definitions.specs.Words.Expression.{Expr, Exprs, count}
+use Rattle.definitions.specs.Bytes.Readers.{stopped, Reader, continue, give}
+use Rattle.definitions.specs.Bytes.Decode as decode
+use Rattle.definitions.specs.Bytes.Good.{depth_all}
 use Rattle.expression.specs.Nodes.{children_of}
 use Rattle.terms.specs.Refusals.{number_of}
 use Rattle.terms.specs.declared.refusals.Refusal.{Refusal}

@@ -1,10 +1,10 @@
 -- What the answers about walks over nodes say of the definitions' readers.
 use Rattle.std.specs.Prelude.{ℕ, ◌+◌, ◌-◌, ◌≤◌, ◌<◌, ◌≡◌, List, length, drop, Result, Ok, Err}
-use Rattle.definitions.specs.Limits.{most_children}
-use Rattle.definitions.specs.Expression as tree
-use Rattle.definitions.specs.Expression.{Expr, Exprs}
-use Rattle.definitions.specs.Readers.{read, stopped, Reader, continue, give}
-use Rattle.definitions.specs.Decode.{Columns, node, repeat_exprs}
+use Rattle.definitions.specs.Words.Limits.{most_children}
+use Rattle.definitions.specs.Words.Expression as tree
+use Rattle.definitions.specs.Words.Expression.{Expr, Exprs}
+use Rattle.definitions.specs.Bytes.Readers.{read, stopped, Reader, continue, give}
+use Rattle.definitions.specs.Bytes.Decode.{Columns, node, repeat_exprs}
 use Rattle.terms.specs.Refusals.{number_of}
 use Rattle.terms.specs.declared.refusals.Refusal.{Refusal}
 use Rattle.expression.specs.Nodes.{children_of}

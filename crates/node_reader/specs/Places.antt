@@ -1,11 +1,11 @@
 -- Where an expression stands that was read.
 use Rattle.std.specs.Prelude.{ℕ, ◌+◌, ◌≤◌, ◌≡◌, List, length, drop, Result, Ok, Err}
-use Rattle.definitions.specs.Expression.{Expr}
-use Rattle.definitions.specs.Encode.{expr_bytes}
-use Rattle.definitions.specs.Readers.{read, stopped}
-use Rattle.definitions.specs.Decode.{Columns, expression}
-use Rattle.definitions.specs.Good as good
-use Rattle.definitions.specs.Good.{Readable}
+use Rattle.definitions.specs.Words.Expression.{Expr}
+use Rattle.definitions.specs.Bytes.Encode.{expr_bytes}
+use Rattle.definitions.specs.Bytes.Readers.{read, stopped}
+use Rattle.definitions.specs.Bytes.Decode.{Columns, expression}
+use Rattle.definitions.specs.Bytes.Good as good
+use Rattle.definitions.specs.Bytes.Good.{Readable}
 use Rattle.terms.specs.Refusals.{number_of}
 use Rattle.terms.specs.declared.refusals.Refusal.{Refusal}
 use Rattle.expression.specs.Places.{Between}

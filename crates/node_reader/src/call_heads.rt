@@ -1,6 +1,6 @@
 // What a node's head says, and the head of a call.
 ghost use Rattle.std.specs.Prelude.{◌≤◌, length};
-ghost use Rattle.definitions.specs.Decode as decode;
+ghost use Rattle.definitions.specs.Bytes.Decode as decode;
 ghost use Rattle.node_reader.specs.Heads.{HeadIs};
 
 use super::field_readers::{byte_between, byte_up_to, name_bytes};
@@ -23,7 +23,7 @@ pub struct Source<'a> {
 }
 
 // A function call: its name, and its arguments to come.
-#[tactic(auto, unfolding(definitions::specs::Decode::call_node))]
+#[tactic(auto, unfolding(definitions::specs::Bytes::Decode::call_node))]
 pub fn call_head(s: &[u8], at: usize) -> Result<Head, Refusal>
     requires { at ≤ length s.now }
     ensures { HeadIs s.now at result decode.call_node }

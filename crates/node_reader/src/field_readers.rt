@@ -2,7 +2,7 @@
 // is within the bytes is a clause of each reader: with a ghost field of bytes and place, which was tried, each answer has to promise the
 // same bytes again.
 ghost use Rattle.std.specs.Prelude.{◌≡◌, ◌≤◌, length};
-ghost use Rattle.definitions.specs.Readers as readers;
+ghost use Rattle.definitions.specs.Bytes.Readers as readers;
 ghost use Rattle.node_reader.specs.Fields.{FieldIs, SkippedIs, name_like};
 
 use terms::refusals::Refusal;
@@ -35,7 +35,7 @@ pub fn byte(s: &[u8], at: usize) -> Result<(u64, usize), Refusal>
 }
 
 // A byte of at most `most`.
-#[tactic(auto, unfolding(definitions::specs::Readers::byte_up_to, definitions::specs::Readers::byte_between))]
+#[tactic(auto, unfolding(definitions::specs::Bytes::Readers::byte_up_to, definitions::specs::Bytes::Readers::byte_between))]
 pub fn byte_up_to(s: &[u8], at: usize, most: u64) -> Result<(u64, usize), Refusal>
     requires { at ≤ length s.now }
     ensures { FieldIs s.now at result (readers.byte_up_to most) }
@@ -44,7 +44,7 @@ pub fn byte_up_to(s: &[u8], at: usize, most: u64) -> Result<(u64, usize), Refusa
 }
 
 // A byte from `least` to `most`.
-#[tactic(auto, unfolding(definitions::specs::Readers::byte_between))]
+#[tactic(auto, unfolding(definitions::specs::Bytes::Readers::byte_between))]
 pub fn byte_between(s: &[u8], at: usize, least: u64, most: u64) -> Result<(u64, usize), Refusal>
     requires { at ≤ length s.now }
     ensures { FieldIs s.now at result (readers.byte_between least most) }

@@ -1,6 +1,6 @@
 // A node's head: its kind, and the fields before its children.
 ghost use Rattle.std.specs.Prelude.{◌≡◌, ◌≤◌, length};
-ghost use Rattle.definitions.specs.Decode as decode;
+ghost use Rattle.definitions.specs.Bytes.Decode as decode;
 ghost use Rattle.node_reader.specs.Fields.{FieldIs};
 ghost use Rattle.node_reader.specs.Heads.{HeadIs, columns_of};
 
@@ -21,7 +21,7 @@ fn allowed_kind(kind: u64, columns: Columns) -> bool
 }
 
 // A kind byte.
-#[tactic(auto, unfolding(definitions::specs::Decode::node_kind))]
+#[tactic(auto, unfolding(definitions::specs::Bytes::Decode::node_kind))]
 pub fn node_kind(source: Source, at: usize) -> Result<(u64, usize), Refusal>
     requires { at ≤ length source.bytes.now }
     ensures { FieldIs source.entry.bytes.now at result (decode.node_kind (columns_of source.entry.columns)) }
@@ -34,7 +34,7 @@ pub fn node_kind(source: Source, at: usize) -> Result<(u64, usize), Refusal>
 }
 
 // A physical column: its index and its name's tag.
-#[tactic(auto, unfolding(definitions::specs::Decode::column_node))]
+#[tactic(auto, unfolding(definitions::specs::Bytes::Decode::column_node))]
 fn column_head(s: &[u8], at: usize, bound: u64) -> Result<Head, Refusal>
     requires { at ≤ length s.now }
     ensures { HeadIs s.now at result (λ child. decode.column_node bound) }
@@ -48,7 +48,7 @@ fn column_head(s: &[u8], at: usize, bound: u64) -> Result<Head, Refusal>
 }
 
 // A logical column: which schemas have it, and its tag.
-#[tactic(auto, unfolding(definitions::specs::Decode::field_node))]
+#[tactic(auto, unfolding(definitions::specs::Bytes::Decode::field_node))]
 fn field_head(s: &[u8], at: usize) -> Result<Head, Refusal>
     requires { at ≤ length s.now }
     ensures { HeadIs s.now at result (λ child. decode.field_node) }
@@ -70,7 +70,7 @@ fn any_column_head(source: Source, at: usize) -> Result<Head, Refusal>
 }
 
 // A literal: its type and eight bytes.
-#[tactic(auto, unfolding(definitions::specs::Decode::literal_node))]
+#[tactic(auto, unfolding(definitions::specs::Bytes::Decode::literal_node))]
 fn literal_head(s: &[u8], at: usize) -> Result<Head, Refusal>
     requires { at ≤ length s.now }
     ensures { HeadIs s.now at result (λ child. decode.literal_node) }
@@ -84,7 +84,7 @@ fn literal_head(s: &[u8], at: usize) -> Result<Head, Refusal>
 }
 
 // A binary operator: And, a comparison or any other, with its two children to come.
-#[tactic(auto, unfolding(definitions::specs::Decode::binary_node))]
+#[tactic(auto, unfolding(definitions::specs::Bytes::Decode::binary_node))]
 fn binary_head(s: &[u8], at: usize) -> Result<Head, Refusal>
     requires { at ≤ length s.now }
     ensures { HeadIs s.now at result decode.binary_node }
@@ -94,7 +94,7 @@ fn binary_head(s: &[u8], at: usize) -> Result<Head, Refusal>
 }
 
 // Any other node: its tag, and its children to come.
-#[tactic(auto, unfolding(definitions::specs::Decode::other_node))]
+#[tactic(auto, unfolding(definitions::specs::Bytes::Decode::other_node))]
 fn other_head(s: &[u8], at: usize) -> Result<Head, Refusal>
     requires { at ≤ length s.now }
     ensures { HeadIs s.now at result decode.other_node }

@@ -1,8 +1,8 @@
 // A node and all below it, read in one loop with notes of the nodes that are open; it answers as the walk does. Nodes left to count and
 // open nodes fall.
 ghost use Rattle.std.specs.Prelude.{◌≤◌, ◌<◌, ◌+◌, length, Ok};
-ghost use Rattle.definitions.specs.Decode as decode;
-ghost use Rattle.definitions.specs.Good.{depth};
+ghost use Rattle.definitions.specs.Bytes.Decode as decode;
+ghost use Rattle.definitions.specs.Bytes.Good.{depth};
 ghost use Rattle.node_reader.specs.Heads.{columns_of};
 ghost use Rattle.node_rows.specs.Rows.{Collected};
 ghost use Rattle.node_rows.specs.Stores.{Storable, Stored};

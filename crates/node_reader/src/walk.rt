@@ -1,8 +1,8 @@
 // The walk over a node and the walk over its children, which call each other. Nodes left to count fall.
 ghost use Rattle.std.specs.Prelude.{◌≤◌, length};
-ghost use Rattle.definitions.specs.Decode as decode;
-ghost use Rattle.definitions.specs.Decode.{repeat_exprs};
-ghost use Rattle.definitions.specs.Good.{depth};
+ghost use Rattle.definitions.specs.Bytes.Decode as decode;
+ghost use Rattle.definitions.specs.Bytes.Decode.{repeat_exprs};
+ghost use Rattle.definitions.specs.Bytes.Good.{depth};
 ghost use Rattle.node_reader.specs.Heads.{columns_of, depth_above};
 ghost use Rattle.node_rows.specs.Rows.{Collected, CollectedAll};
 ghost use Rattle.node_reader.specs.Nodes.{WalkedIs, Counted, NodeHead, Lent};

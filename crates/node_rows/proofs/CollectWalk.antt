@@ -6,11 +6,11 @@ use mathlib.Core.Path.{◌≡◌, refl, sym, ap, ap₂, ◌∙◌, subst}
 use mathlib.Core.List.{List, [], ◌∷◌, ◌++◌, map, map-append}
 use lib.ListN.{length, take, drop, get_or, set, length-append}
 use lib.Seq.{take-suc, append_snoc, set_at, length-take-le}
-use Rattle.definitions.specs.Expression.{Expr, Exprs, nil, cons}
-use Rattle.definitions.specs.Encode.{expr_bytes, exprs_bytes}
-use Rattle.definitions.specs.Decode.{Columns}
-use Rattle.definitions.specs.Good.{nodes, nodes_all}
-use Rattle.definitions.specs.NodeTable.{record_of, nodes_from, row_from}
+use Rattle.definitions.specs.Words.Expression.{Expr, Exprs, nil, cons}
+use Rattle.definitions.specs.Bytes.Encode.{expr_bytes, exprs_bytes}
+use Rattle.definitions.specs.Bytes.Decode.{Columns}
+use Rattle.definitions.specs.Bytes.Good.{nodes, nodes_all}
+use Rattle.definitions.specs.Bytes.NodeTable.{record_of, nodes_from, row_from}
 use Rattle.expression.specs.Nodes.{head_bytes, children_of, Stands, Row, OfTree, OfTrees, Tree}
 use Rattle.expression.specs.Heads.{HeadIs}
 use Rattle.expression.specs.declared.heads.Head.{Head}

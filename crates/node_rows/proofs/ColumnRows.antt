@@ -10,13 +10,13 @@ use lib.ListN.{length, take, drop, get_or, length-append}
 use lib.Seq.{drop-cons}
 use lib.Dec.{ltb}
 use borrow.Author.Tests.{lt-ltb, le-ltb}
-use Rattle.definitions.specs.Basics.{big_endian}
-use Rattle.definitions.specs.Expression.{Expr, column, literal, and, binary, call, other, field, Exprs, nil, cons, count}
-use Rattle.definitions.specs.Encode.{expr_bytes, exprs_bytes}
-use Rattle.definitions.specs.Decode.{Columns, index_below, fields}
-use Rattle.definitions.specs.References.{columns_of, columns_of_all}
-use Rattle.definitions.specs.Good.{All, Short, ColumnInRange, nodes}
-use Rattle.definitions.specs.NodeTable.{NodeRecord, kind_byte, record_of, nodes_from, row_from}
+use Rattle.definitions.specs.Words.Basics.{big_endian}
+use Rattle.definitions.specs.Words.Expression.{Expr, column, literal, and, binary, call, other, field, Exprs, nil, cons, count}
+use Rattle.definitions.specs.Bytes.Encode.{expr_bytes, exprs_bytes}
+use Rattle.definitions.specs.Bytes.Decode.{Columns, index_below, fields}
+use Rattle.definitions.specs.Words.References.{columns_of, columns_of_all}
+use Rattle.definitions.specs.Bytes.Good.{All, Short, ColumnInRange, nodes}
+use Rattle.definitions.specs.Bytes.NodeTable.{NodeRecord, kind_byte, record_of, nodes_from, row_from}
 use Rattle.theorems.proofs.Columns.{all_append}
 use Rattle.expression.specs.Places.{short_at}
 use Rattle.expression.specs.Nodes.{head_bytes, children_of, kind_of, Stands, Row}

@@ -4,7 +4,7 @@ use native.Mathlib.Omega.{arith}
 use mathlib.Core.Path.{◌≡◌, sym, ap, ◌∙◌}
 use mathlib.Core.List.{List, ◌++◌, map}
 use lib.ListN.{length, drop}
-use Rattle.definitions.specs.NodeTable.{NodeRecord}
+use Rattle.definitions.specs.Bytes.NodeTable.{NodeRecord}
 use Rattle.expression.specs.Nodes.{OfTree}
 use Rattle.node_rows.specs.Numbers.{number, numbers_from}
 use Rattle.expression.specs.Filling.{Records, nothing, filled}

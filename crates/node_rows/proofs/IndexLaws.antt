@@ -4,10 +4,10 @@ use native.Mathlib.Omega.{arith}
 use mathlib.Core.Path.{◌≡◌, refl, sym, ap, ◌∙◌, subst}
 use mathlib.Core.List.{List}
 use lib.ListN.{length, get_or}
-use Rattle.definitions.specs.Expression.{Expr, Exprs, nil, cons, count}
-use Rattle.definitions.specs.Encode.{expr_bytes}
-use Rattle.definitions.specs.Decode.{Columns}
-use Rattle.definitions.specs.Good.{nodes}
+use Rattle.definitions.specs.Words.Expression.{Expr, Exprs, nil, cons, count}
+use Rattle.definitions.specs.Bytes.Encode.{expr_bytes}
+use Rattle.definitions.specs.Bytes.Decode.{Columns}
+use Rattle.definitions.specs.Bytes.Good.{nodes}
 use Rattle.expression.specs.Nodes.{head_bytes, children_of, Stands, Spans, Row, Tree, OfTree, OfTreeIn}
 use Rattle.expression.specs.Leaves.{NodeIs, Both, CallIs, Pair, OfPair, OfCall}
 use Rattle.expression.specs.declared.leaves.Called.{Called}

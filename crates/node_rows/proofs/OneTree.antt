@@ -4,12 +4,12 @@ use native.Mathlib.Omega.{arith}
 use mathlib.Core.Path.{◌≡◌, refl, sym, ap, ap₂, ◌∙◌, subst}
 use mathlib.Core.List.{List, [], ◌∷◌, ◌++◌, append_assoc}
 use lib.ListN.{length, get_or}
-use Rattle.definitions.specs.Basics.{big_endian}
-use Rattle.definitions.specs.Expression.{Expr, column, literal, and, binary, call, other, field, Exprs, nil, cons, count}
-use Rattle.definitions.specs.Encode.{expr_bytes, exprs_bytes}
-use Rattle.definitions.specs.Readers.{read, number}
-use Rattle.definitions.specs.Decode.{Columns, index_below, fields}
-use Rattle.definitions.specs.Good.{Short, ColumnInRange, FieldInRange, InRange, InRangeAll}
+use Rattle.definitions.specs.Words.Basics.{big_endian}
+use Rattle.definitions.specs.Words.Expression.{Expr, column, literal, and, binary, call, other, field, Exprs, nil, cons, count}
+use Rattle.definitions.specs.Bytes.Encode.{expr_bytes, exprs_bytes}
+use Rattle.definitions.specs.Bytes.Readers.{read, number}
+use Rattle.definitions.specs.Bytes.Decode.{Columns, index_below, fields}
+use Rattle.definitions.specs.Bytes.Good.{Short, ColumnInRange, FieldInRange, InRange, InRangeAll}
 use Rattle.theorems.proofs.Cases.{whole, row}
 use Rattle.theorems.proofs.RoundTrip.{number-reads}
 use Rattle.expression.specs.Nodes.{kind_of, Stands, Row, OfTree, OfTrees}

@@ -4,11 +4,11 @@ use native.Mathlib.Omega.{arith}
 use mathlib.Core.Path.{◌≡◌, refl, sym, ap, ap₂, ◌∙◌, subst}
 use mathlib.Core.List.{List, ◌∷◌, ◌++◌, map, map-append, append-nil}
 use lib.ListN.{length, get_or, length-append, length-map}
-use Rattle.definitions.specs.Basics.{big_endian}
-use Rattle.definitions.specs.Expression.{Expr, column, literal, and, binary, call, other, field, Exprs, nil, cons}
-use Rattle.definitions.specs.Encode.{expr_bytes, exprs_bytes}
-use Rattle.definitions.specs.Good.{nodes, nodes_all}
-use Rattle.definitions.specs.NodeTable.{kind_byte, record_of, nodes_from, row_from}
+use Rattle.definitions.specs.Words.Basics.{big_endian}
+use Rattle.definitions.specs.Words.Expression.{Expr, column, literal, and, binary, call, other, field, Exprs, nil, cons}
+use Rattle.definitions.specs.Bytes.Encode.{expr_bytes, exprs_bytes}
+use Rattle.definitions.specs.Bytes.Good.{nodes, nodes_all}
+use Rattle.definitions.specs.Bytes.NodeTable.{kind_byte, record_of, nodes_from, row_from}
 use Rattle.theorems.proofs.Cases.{each}
 use Rattle.theorems.proofs.NodeTables.{node-count, row_count}
 use Rattle.expression.specs.Places.{Holds}

@@ -9,11 +9,11 @@ use lib.ListN.{length, take, drop, length-append, take-append-drop}
 use lib.Seq.{take-take, drop_at, length-take-le}
 use lib.Dec.{ltb}
 use borrow.Author.Tests.{ltb-true}
-use Rattle.definitions.specs.Basics.{big_endian}
-use Rattle.definitions.specs.Expression.{Expr, column, literal, and, binary, call, other, field, Exprs, nil, cons}
-use Rattle.definitions.specs.Encode.{expr_bytes, exprs_bytes}
-use Rattle.definitions.specs.Good.{nodes}
-use Rattle.definitions.specs.NodeTable.{NodeRecord, nodes_from, row_from}
+use Rattle.definitions.specs.Words.Basics.{big_endian}
+use Rattle.definitions.specs.Words.Expression.{Expr, column, literal, and, binary, call, other, field, Exprs, nil, cons}
+use Rattle.definitions.specs.Bytes.Encode.{expr_bytes, exprs_bytes}
+use Rattle.definitions.specs.Bytes.Good.{nodes}
+use Rattle.definitions.specs.Bytes.NodeTable.{NodeRecord, nodes_from, row_from}
 use Rattle.expression.specs.Places.{Holds}
 use Rattle.writing.specs.Written.{WroteAt}
 use Rattle.writing.proofs.Written.{taken}

@@ -1,8 +1,8 @@
 -- Request 6 of document 02: the numbers of node records, and which node comes after a node. (Ours.)
 use Rattle.std.specs.Prelude.{ℕ, ◌+◌, ◌*◌, ◌/◌, ◌%◌, ◌&&◌, List, [], ◌∷◌, ◌++◌, map, get_or, ltb, if◌then◌else◌}
-use Rattle.definitions.specs.Expression.{Expr, column, literal, and, binary, call, other, field, Exprs, nil, cons}
-use Rattle.definitions.specs.Good.{nodes}
-use Rattle.definitions.specs.NodeTable.{NodeRecord, nodes_from, row_from}
+use Rattle.definitions.specs.Words.Expression.{Expr, column, literal, and, binary, call, other, field, Exprs, nil, cons}
+use Rattle.definitions.specs.Bytes.Good.{nodes}
+use Rattle.definitions.specs.Bytes.NodeTable.{NodeRecord, nodes_from, row_from}
 
 -- Kind, start and end in one number, the greatest of 32 bits where they do not fit.
 unfoldable pub number : NodeRecord → ℕ

@@ -1,10 +1,10 @@
 -- Request 6 of document 02: rows that hold the nodes of an expression. (Ours.)
 use Rattle.std.specs.Prelude.{ℕ, ◌+◌, ◌≤◌, ◌≡◌, List, ◌++◌, map, length, take, drop}
-use Rattle.definitions.specs.Expression.{Expr, Exprs, cons}
-use Rattle.definitions.specs.Encode.{expr_bytes, exprs_bytes}
-use Rattle.definitions.specs.Decode.{Columns}
-use Rattle.definitions.specs.Good.{nodes, nodes_all}
-use Rattle.definitions.specs.NodeTable.{NodeRecord}
+use Rattle.definitions.specs.Words.Expression.{Expr, Exprs, cons}
+use Rattle.definitions.specs.Bytes.Encode.{expr_bytes, exprs_bytes}
+use Rattle.definitions.specs.Bytes.Decode.{Columns}
+use Rattle.definitions.specs.Bytes.Good.{nodes, nodes_all}
+use Rattle.definitions.specs.Bytes.NodeTable.{NodeRecord}
 use Rattle.expression.specs.Places.{Holds}
 use Rattle.expression.specs.Nodes.{Stands, Row}
 use Rattle.expression.specs.Filling.{Records}

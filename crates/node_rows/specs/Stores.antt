@@ -1,6 +1,6 @@
 -- Request 6 of document 02: a node's number stored in a row, and rows compared. (Ours.)
 use Rattle.std.specs.Prelude.{ℕ, ◌≤◌, ◌<◌, ◌≡◌, Bool, true, false, List, length, take, get_or, set}
-use Rattle.definitions.specs.NodeTable.{NodeRecord}
+use Rattle.definitions.specs.Bytes.NodeTable.{NodeRecord}
 use Rattle.node_rows.specs.Numbers.{number}
 
 -- A node's number and the index after it fit, where the rows have its place.

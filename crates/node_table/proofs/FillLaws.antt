@@ -5,7 +5,7 @@ use mathlib.Core.Path.{◌≡◌, refl, sym, ◌∙◌, ap}
 use mathlib.Core.List.{List, ◌++◌, map, map-append}
 use lib.ListN.{length, drop, take, length-map}
 use lib.Seq.{take_at}
-use Rattle.definitions.specs.NodeTable.{NodeRecord, nodes_from}
+use Rattle.definitions.specs.Bytes.NodeTable.{NodeRecord, nodes_from}
 use Rattle.node_rows.specs.Numbers.{number}
 use Rattle.expression.specs.Filling.{Records, nothing, filled}
 use Rattle.node_rows.specs.Rows.{RowIs, RowHas}

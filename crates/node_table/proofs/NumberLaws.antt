@@ -7,7 +7,7 @@ use mathlib.Core.Bool.{Bool, true, false, ◌&&◌}
 use mathlib.Core.List.{List, [], ◌∷◌, map}
 use lib.Dec.{ltb}
 use borrow.Author.Tests.{le-ltb}
-use Rattle.definitions.specs.NodeTable.{NodeRecord}
+use Rattle.definitions.specs.Bytes.NodeTable.{NodeRecord}
 use Rattle.node_rows.specs.Numbers.{number}
 use Rattle.node_rows.proofs.NumberLaws.{Told, number-told}
 use Rattle.node_rows.proofs.TableLaws.{AllTold}

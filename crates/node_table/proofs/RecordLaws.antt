@@ -5,7 +5,7 @@ use native.Mathlib.Omega.{arith}
 use mathlib.Core.List.{List, ◌++◌, map, map-append, map-map}
 use lib.ListN.{length, get_or, take, drop, length-map, get_or-map}
 use Rattle.std.proofs.lemmas.List.{get_or_default}
-use Rattle.definitions.specs.NodeTable as definitions
+use Rattle.definitions.specs.Bytes.NodeTable as definitions
 use Rattle.node_rows.specs.Numbers.{number}
 use Rattle.node_table.specs.Numbers.{numbered}
 use Rattle.node_table.specs.Records.{node_of, nodes_of}

@@ -1,6 +1,6 @@
 -- Request 6 of document 02: the record of a number. (Ours.)
 use Rattle.std.specs.Prelude.{ℕ, ◌/◌, ◌%◌}
-use Rattle.definitions.specs.NodeTable.{NodeRecord}
+use Rattle.definitions.specs.Bytes.NodeTable.{NodeRecord}
 
 -- The record that a number of 32 bits stands for. (Ours.)
 unfoldable pub numbered : ℕ → NodeRecord

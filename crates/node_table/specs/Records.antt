@@ -1,6 +1,6 @@
 -- Request 6 of document 02: the records that a lent table holds. (Ours.)
 use Rattle.std.specs.Prelude.{ℕ, ◌≡◌, List, map, ◌++◌, drop}
-use Rattle.definitions.specs.NodeTable.{NodeRecord}
+use Rattle.definitions.specs.Bytes.NodeTable.{NodeRecord}
 use Rattle.expression.specs.Filling.{Records}
 use Rattle.node_table.specs.declared.NodeRecord.{NodeRecord as Lent}
 

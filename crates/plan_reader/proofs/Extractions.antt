@@ -8,12 +8,12 @@ use lib.ListN.{length, drop, get_or}
 use lib.Dec.{eqb}
 use borrow.Author.Tests.{eqb-true, eqb-false, eq-eqb, ne_eqb}
 use mathlib.Core.Bool.{Bool, true, false}
-use Rattle.definitions.specs.Basics as definitions
-use Rattle.definitions.specs.Basics.{ok, refused, map_result}
-use Rattle.definitions.specs.Expression.{Frame, Extraction, Plan, empty, held, extracted}
-use Rattle.definitions.specs.Readers.{Read, read, stopped, Reader, continue, ◌>>◌, give, byte, require_length, at_end, result_of}
-use Rattle.definitions.specs.Decode.{extraction_body}
-use Rattle.definitions.specs.Plans.{whole_extraction, frame_of, extraction_of, plan_of_kind, plan_of}
+use Rattle.definitions.specs.Words.Basics as definitions
+use Rattle.definitions.specs.Words.Basics.{ok, refused, map_result}
+use Rattle.definitions.specs.Words.Expression.{Frame, Extraction, Plan, empty, held, extracted}
+use Rattle.definitions.specs.Bytes.Readers.{Read, read, stopped, Reader, continue, ◌>>◌, give, byte, require_length, at_end, result_of}
+use Rattle.definitions.specs.Bytes.Decode.{extraction_body}
+use Rattle.definitions.specs.Bytes.Plans.{whole_extraction, frame_of, extraction_of, plan_of_kind, plan_of}
 use Rattle.theorems.proofs.ReaderLaws.{after, halts, passes, fails}
 use Rattle.frame_reader.specs.Frames.{first_of, PhysicalIs, PhysicalIn}
 use Rattle.std.specs.Prelude.{Result, Ok, Err}

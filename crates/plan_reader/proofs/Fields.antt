@@ -5,9 +5,9 @@ use mathlib.Core.Path.{◌≡◌, refl}
 use mathlib.Core.List.{List}
 use lib.ListN.{drop}
 use lib.Dec.{eqb}
-use Rattle.definitions.specs.Readers.{byte_up_to, number}
-use Rattle.definitions.specs.Decode.{k_field}
-use Rattle.definitions.specs.Good.{AllBytes}
+use Rattle.definitions.specs.Bytes.Readers.{byte_up_to, number}
+use Rattle.definitions.specs.Bytes.Decode.{k_field}
+use Rattle.definitions.specs.Bytes.Good.{AllBytes}
 use Rattle.theorems.proofs.KLaws.{k-held}
 use Rattle.theorems.proofs.Inverse.{byte-up-to-back, number-back}
 use Rattle.theorems.proofs.InversePlan.{k-back}

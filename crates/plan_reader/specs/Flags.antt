@@ -1,8 +1,8 @@
 -- What the answer about the flags of a held KNN says.
 use Rattle.std.specs.Prelude.{ℕ, ◌≤◌, ◌≡◌, List, length, drop, Result, Ok, Err}
-use Rattle.definitions.specs.Expression as tree
-use Rattle.definitions.specs.Readers.{stopped, Reader, ◌>>=◌, byte_up_to}
-use Rattle.definitions.specs.Decode.{side_up_to}
+use Rattle.definitions.specs.Words.Expression as tree
+use Rattle.definitions.specs.Bytes.Readers.{stopped, Reader, ◌>>=◌, byte_up_to}
+use Rattle.definitions.specs.Bytes.Decode.{side_up_to}
 use Rattle.terms.specs.Refusals.{number_of}
 use Rattle.terms.specs.Sides.{join_side}
 use Rattle.sedona_query_planner.specs.Predicates.{flag, ties_number}

@@ -1,11 +1,11 @@
 -- What the answers about held plans say.
 use Rattle.std.specs.Prelude.{ℕ, ◌≤◌, ◌≡◌, List, length, take, drop, Option, Some, None, Result, Ok, Err}
 use Rattle.std.proofs.Math.Option as optional
-use Rattle.definitions.specs.Basics as basics
-use Rattle.definitions.specs.Basics.{ok, refused}
-use Rattle.definitions.specs.Expression as tree
-use Rattle.definitions.specs.Readers.{read, stopped, Reader}
-use Rattle.definitions.specs.Plans.{plan_of}
+use Rattle.definitions.specs.Words.Basics as basics
+use Rattle.definitions.specs.Words.Basics.{ok, refused}
+use Rattle.definitions.specs.Words.Expression as tree
+use Rattle.definitions.specs.Bytes.Readers.{read, stopped, Reader}
+use Rattle.definitions.specs.Bytes.Plans.{plan_of}
 use Rattle.terms.specs.Refusals.{number_of}
 use Rattle.terms.specs.declared.refusals.Refusal.{Refusal}
 use Rattle.terms.specs.declared.refusals.Refusal.TheVariants.{NoGoodPlan, PlanEmpty}

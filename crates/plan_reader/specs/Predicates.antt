@@ -1,9 +1,9 @@
 -- What the answers about held predicates say: which predicate it is, and where its arguments stand.
 use Rattle.std.specs.Prelude.{ℕ, ◌≤◌, ◌≡◌, List, length, drop, Result, Ok, Err}
-use Rattle.definitions.specs.Expression as tree
-use Rattle.definitions.specs.Expression.{Expr}
-use Rattle.definitions.specs.Readers.{read, stopped, Reader, ◌>>=◌, give}
-use Rattle.definitions.specs.Decode.{argument}
+use Rattle.definitions.specs.Words.Expression as tree
+use Rattle.definitions.specs.Words.Expression.{Expr}
+use Rattle.definitions.specs.Bytes.Readers.{read, stopped, Reader, ◌>>=◌, give}
+use Rattle.definitions.specs.Bytes.Decode.{argument}
 use Rattle.terms.specs.Refusals.{number_of}
 use Rattle.terms.specs.declared.refusals.Refusal.{Refusal}
 use Rattle.sedona_query_planner.specs.Predicates.{unchanged, ArgumentAt, PredicateAt}

@@ -1,6 +1,6 @@
 // An extraction's parts, and what is said of a plan that was read.
 ghost use Rattle.std.specs.Prelude.{◌≤◌, length};
-ghost use Rattle.definitions.specs.Decode as decode;
+ghost use Rattle.definitions.specs.Bytes.Decode as decode;
 ghost use Rattle.plan_reader.specs.Plans.{RemainderIs, ExtractionIs};
 
 use super::held_predicates::predicate_of_kind;
@@ -25,7 +25,7 @@ pub enum Held {
 }
 
 // A physical frame after its first byte, with its arity, so many nodes being counted before it; and the place after it.
-#[tactic(auto, unfolding(definitions::specs::Decode::some_remainder))]
+#[tactic(auto, unfolding(definitions::specs::Bytes::Decode::some_remainder))]
 pub fn some_remainder(s: &[u8], at: usize, nodes: usize) -> Result<(Option<Frame>, usize), Refusal>
     requires { at ≤ length s.now }
     ensures { RemainderIs s.now at nodes result decode.some_remainder }
@@ -38,7 +38,7 @@ pub fn some_remainder(s: &[u8], at: usize, nodes: usize) -> Result<(Option<Frame
 }
 
 // Nothing, or a physical frame, with so many nodes counted before it; and the place after it.
-#[tactic(auto, unfolding(definitions::specs::Decode::remainder))]
+#[tactic(auto, unfolding(definitions::specs::Bytes::Decode::remainder))]
 pub fn remainder_at(s: &[u8], at: usize, nodes: usize) -> Result<(Option<Frame>, usize), Refusal>
     requires { at ≤ length s.now }
     ensures { RemainderIs s.now at nodes result decode.remainder }
@@ -52,7 +52,7 @@ pub fn remainder_at(s: &[u8], at: usize, nodes: usize) -> Result<(Option<Frame>,
 }
 
 // An extraction after its first byte, and the place after it; its position may be any.
-#[tactic(auto, unfolding(definitions::specs::Decode::extraction_body))]
+#[tactic(auto, unfolding(definitions::specs::Bytes::Decode::extraction_body))]
 pub fn extraction_body(s: &[u8], at: usize, first: u64) -> Result<(Extraction, usize), Refusal>
     requires { at ≤ length s.now }
     ensures { ExtractionIs s.now at result (decode.extraction_body first) }

@@ -1,6 +1,6 @@
 // Held plans: nothing, a physical frame, or an extraction.
 ghost use Rattle.std.specs.Prelude.{◌≡◌, ℕ, List, get_or};
-ghost use Rattle.definitions.specs.Plans as plans;
+ghost use Rattle.definitions.specs.Bytes.Plans as plans;
 ghost use Rattle.frame_reader.specs.Frames.{Roomy};
 ghost use Rattle.plan_reader.specs.Plans.{WholeIs, HeldIs, HeldIn};
 

@@ -1,6 +1,6 @@
 // The predicate of a held extraction: which it is, and where its arguments stand.
 ghost use Rattle.std.specs.Prelude.{◌≤◌, length};
-ghost use Rattle.definitions.specs.Decode as decode;
+ghost use Rattle.definitions.specs.Bytes.Decode as decode;
 ghost use Rattle.terms.specs.Forms.{form_number};
 ghost use Rattle.terms.specs.Sides.{join_side};
 ghost use Rattle.node_reader.specs.Places.{ExpressionIs};
@@ -37,7 +37,7 @@ fn argument(s: &[u8], at: usize, count: usize) -> Result<Walked, Refusal>
 }
 
 // The left and the right argument, with no node counted before them.
-#[tactic(auto, unfolding(definitions::specs::Decode::argument))]
+#[tactic(auto, unfolding(definitions::specs::Bytes::Decode::argument))]
 fn both(s: &[u8], at: usize) -> Result<Pair, Refusal>
     requires { at ≤ length s.now }
     ensures { PairIs s.now at result }
@@ -52,7 +52,7 @@ fn both(s: &[u8], at: usize) -> Result<Pair, Refusal>
 }
 
 // A relation: type, left, right.
-#[tactic(auto, unfolding(definitions::specs::Decode::relation_predicate))]
+#[tactic(auto, unfolding(definitions::specs::Bytes::Decode::relation_predicate))]
 fn relation_predicate(s: &[u8], at: usize) -> Result<Counted<SpatialPredicate>, Refusal>
     requires { at ≤ length s.now }
     ensures { PredicateIs s.now at result decode.relation_predicate }
@@ -103,7 +103,7 @@ fn distance_arguments(
 }
 
 // A distance: form, side, left, right, distance.
-#[tactic(auto, unfolding(definitions::specs::Decode::distance_predicate, definitions::specs::Readers::byte_up_to))]
+#[tactic(auto, unfolding(definitions::specs::Bytes::Decode::distance_predicate, definitions::specs::Bytes::Readers::byte_up_to))]
 fn distance_predicate(s: &[u8], at: usize) -> Result<Counted<SpatialPredicate>, Refusal>
     requires { at ≤ length s.now }
     ensures { PredicateIs s.now at result decode.distance_predicate }
@@ -115,7 +115,7 @@ fn distance_predicate(s: &[u8], at: usize) -> Result<Counted<SpatialPredicate>, 
 }
 
 // KNN: k, spheroid, probe side, ties, left, right.
-#[tactic(auto, unfolding(definitions::specs::Decode::knn_predicate))]
+#[tactic(auto, unfolding(definitions::specs::Bytes::Decode::knn_predicate))]
 fn knn_predicate(s: &[u8], at: usize) -> Result<Counted<SpatialPredicate>, Refusal>
     requires { at ≤ length s.now }
     ensures { PredicateIs s.now at result decode.knn_predicate }
@@ -141,7 +141,7 @@ fn knn_predicate(s: &[u8], at: usize) -> Result<Counted<SpatialPredicate>, Refus
 }
 
 // The predicate that a first byte announces.
-#[tactic(auto, unfolding(definitions::specs::Decode::predicate_of_kind))]
+#[tactic(auto, unfolding(definitions::specs::Bytes::Decode::predicate_of_kind))]
 pub fn predicate_of_kind(
     s: &[u8],
     at: usize,

@@ -1,6 +1,6 @@
 // The fields of a held KNN predicate before its arguments: k and flags.
 ghost use Rattle.std.specs.Prelude.{◌≤◌, length};
-ghost use Rattle.definitions.specs.Decode as decode;
+ghost use Rattle.definitions.specs.Bytes.Decode as decode;
 ghost use Rattle.node_reader.specs.Fields.{FieldIs};
 ghost use Rattle.plan_reader.specs.Flags.{FlagsIs};
 
@@ -35,7 +35,7 @@ pub fn knn_flags(s: &[u8], at: usize) -> Result<(Flags, usize), Refusal>
 }
 
 // A number of four bytes that is a k; 0 is none.
-#[tactic(auto, unfolding(definitions::specs::Decode::k_field))]
+#[tactic(auto, unfolding(definitions::specs::Bytes::Decode::k_field))]
 pub fn k_field(s: &[u8], at: usize) -> Result<(u64, usize), Refusal>
     requires { at ≤ length s.now }
     ensures { FieldIs s.now at result decode.k_field }

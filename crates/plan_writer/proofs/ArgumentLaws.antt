@@ -6,8 +6,8 @@ use mathlib.Core.List.{List}
 use lib.ListN.{length}
 use Rattle.std.specs.Prelude.{Option}
 use Rattle.std.specs.Borrow.{Bor}
-use Rattle.definitions.specs.Expression.{Expr}
-use Rattle.definitions.specs.Encode.{expr_bytes}
+use Rattle.definitions.specs.Words.Expression.{Expr}
+use Rattle.definitions.specs.Bytes.Encode.{expr_bytes}
 use Rattle.expression.specs.Places.{Between}
 use Rattle.expression.proofs.Standing.{spans-between}
 use Rattle.writing.specs.Writing.{Room, PutsAt, same}

@@ -3,12 +3,12 @@ use Prim.Native.Nat.{ℕ, ◌≤◌}
 use mathlib.Core.Path.{◌≡◌, refl, sym, ap₂, ◌∙◌}
 use mathlib.Core.List.{List}
 use lib.ListN.{length, get_or}
-use Rattle.definitions.specs.Expression.{Side, left, right, no_side, Expr, Record, Predicate, relation, knn}
-use Rattle.definitions.specs.Decode.{index_below}
-use Rattle.definitions.specs.Match.{on_child}
+use Rattle.definitions.specs.Words.Expression.{Side, left, right, no_side, Expr, Record, Predicate, relation, knn}
+use Rattle.definitions.specs.Bytes.Decode.{index_below}
+use Rattle.definitions.specs.Filter.Match.{on_child}
 use Rattle.sedona_query_planner.specs.Predicates.{bound_on}
-use Rattle.definitions.specs.Good.{InRange}
-use Rattle.definitions.specs.Exchange.{negate}
+use Rattle.definitions.specs.Bytes.Good.{InRange}
+use Rattle.definitions.specs.Filter.Exchange.{negate}
 use Rattle.terms.specs.Sides.{join_side}
 use Rattle.sedona_query_planner.specs.Relations.{relation_of}
 use Rattle.sedona_query_planner.specs.Predicates.{flag, ties_number, on_children, ArgumentAt, PredicateAt}

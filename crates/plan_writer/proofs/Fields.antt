@@ -6,12 +6,12 @@ use mathlib.Core.List.{List, [], ◌∷◌, ◌++◌}
 use lib.ListN.{length, get_or}
 use lib.Dec.{lit<}
 use borrow.Author.Tests.{ltb-true}
-use Rattle.definitions.specs.Basics.{big_endian}
-use Rattle.definitions.specs.Expression.{Expr, column, Record}
-use Rattle.definitions.specs.Encode.{expr_bytes}
-use Rattle.definitions.specs.Decode.{index_below}
-use Rattle.definitions.specs.Match.{record_at}
-use Rattle.definitions.specs.Good.{RecordsInRange}
+use Rattle.definitions.specs.Words.Basics.{big_endian}
+use Rattle.definitions.specs.Words.Expression.{Expr, column, Record}
+use Rattle.definitions.specs.Bytes.Encode.{expr_bytes}
+use Rattle.definitions.specs.Bytes.Decode.{index_below}
+use Rattle.definitions.specs.Words.References.{record_at}
+use Rattle.definitions.specs.Bytes.Good.{RecordsInRange}
 use Rattle.expression.specs.Places.{Holds, short_at}
 use Rattle.expression.specs.Nodes.{head_bytes, Stands}
 use Rattle.expression.proofs.Records.{short-is, short-length}

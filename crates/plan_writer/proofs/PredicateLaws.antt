@@ -5,12 +5,12 @@ use mathlib.Core.Path.{◌≡◌, sym, ap, ◌∙◌}
 use mathlib.Core.List.{List, [], ◌∷◌, ◌++◌, append_assoc}
 use lib.ListN.{length}
 use lib.Seq.{sets}
-use Rattle.definitions.specs.Basics.{big_endian}
+use Rattle.definitions.specs.Words.Basics.{big_endian}
 use Rattle.std.specs.Prelude.{Option}
 use Rattle.std.specs.Borrow.{Bor}
-use Rattle.definitions.specs.Expression.{Predicate}
-use Rattle.definitions.specs.Encode.{side_number, relation_number, predicate_kind, predicate_fields}
-use Rattle.definitions.specs.Exchange.{negate}
+use Rattle.definitions.specs.Words.Expression.{Predicate}
+use Rattle.definitions.specs.Bytes.Encode.{side_number, relation_number, predicate_kind, predicate_fields}
+use Rattle.definitions.specs.Filter.Exchange.{negate}
 use Rattle.terms.specs.Forms.{form_number}
 use Rattle.terms.specs.Sides.{join_side}
 use Rattle.terms.specs.declared.sides.JoinSide.{JoinSide}

@@ -4,10 +4,10 @@ use native.Mathlib.Omega.{arith}
 use mathlib.Core.Path.{◌≡◌, refl, ap, ap₂}
 use borrow.Author.Tests.{ltb-true, lt-ltb}
 use mathlib.Core.List.{List}
-use Rattle.definitions.specs.Expression.{Expr, column, literal, and, binary, call, other, field, Exprs, nil, cons}
-use Rattle.definitions.specs.Decode.{index_below}
-use Rattle.definitions.specs.Match.{map_columns, map_columns_all}
-use Rattle.definitions.specs.Good.{InRange, InRangeAll}
+use Rattle.definitions.specs.Words.Expression.{Expr, column, literal, and, binary, call, other, field, Exprs, nil, cons}
+use Rattle.definitions.specs.Bytes.Decode.{index_below}
+use Rattle.definitions.specs.Words.References.{map_columns, map_columns_all}
+use Rattle.definitions.specs.Bytes.Good.{InRange, InRangeAll}
 use Rattle.expression.specs.Nodes.{Stands, Row}
 
 module _ (a b : ℕ) (wide : a ≤ b) where

@@ -1,9 +1,9 @@
 -- What becomes of an argument that is written.
 use Rattle.std.specs.Prelude.{ℕ, List, length, get_or, Option, Some, None}
 use Rattle.std.specs.Borrow.{Bor}
-use Rattle.definitions.specs.Expression.{Side, left, right, no_side, Expr}
-use Rattle.definitions.specs.Encode.{expr_bytes}
-use Rattle.definitions.specs.Match.{map_columns}
+use Rattle.definitions.specs.Words.Expression.{Side, left, right, no_side, Expr}
+use Rattle.definitions.specs.Bytes.Encode.{expr_bytes}
+use Rattle.definitions.specs.Words.References.{map_columns}
 use Rattle.terms.specs.Sides.{join_side}
 use Rattle.sedona_query_planner.specs.Predicates.{Change, unchanged, ArgumentAt}
 use Rattle.writing.specs.Writing.{Both, joined}

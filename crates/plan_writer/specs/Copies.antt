@@ -1,9 +1,9 @@
 -- What the writers of expressions answer and write.
 use Rattle.std.specs.Prelude.{ℕ, ◌+◌, ◌≤◌, ◌≡◌, List, length, get_or}
-use Rattle.definitions.specs.Expression.{Expr, column, Exprs}
-use Rattle.definitions.specs.Encode.{expr_bytes, exprs_bytes}
-use Rattle.definitions.specs.Decode.{index_below}
-use Rattle.definitions.specs.Match.{map_columns, map_columns_all}
+use Rattle.definitions.specs.Words.Expression.{Expr, column, Exprs}
+use Rattle.definitions.specs.Bytes.Encode.{expr_bytes, exprs_bytes}
+use Rattle.definitions.specs.Bytes.Decode.{index_below}
+use Rattle.definitions.specs.Words.References.{map_columns, map_columns_all}
 use Rattle.expression.specs.Places.{Holds}
 use Rattle.expression.specs.Nodes.{Stands, Row}
 use Rattle.writing.specs.Written.{Wrote}

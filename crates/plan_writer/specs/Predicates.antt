@@ -1,8 +1,8 @@
 -- The bytes of predicates with their position, and of frames before their records.
 use Rattle.std.specs.Prelude.{ℕ, List, [], ◌∷◌, ◌++◌}
-use Rattle.definitions.specs.Basics.{big_endian}
-use Rattle.definitions.specs.Expression.{Predicate}
-use Rattle.definitions.specs.Encode.{side_number, predicate_kind, predicate_fields}
+use Rattle.definitions.specs.Words.Basics.{big_endian}
+use Rattle.definitions.specs.Words.Expression.{Predicate}
+use Rattle.definitions.specs.Bytes.Encode.{side_number, predicate_kind, predicate_fields}
 use Rattle.terms.specs.Sides.{join_side}
 use Rattle.sedona_query_planner.specs.Predicates.{flag, ties_number}
 use Rattle.sedona_query_planner.specs.declared.spatial_predicate.KNNPredicate.{KNNPredicate}

@@ -1,9 +1,9 @@
 -- Tables of column indexes, and the records that they are made from.
 use Rattle.std.specs.Prelude.{ℕ, ◌+◌, ◌<◌, ◌≡◌, List, length, get_or}
-use Rattle.definitions.specs.Expression.{Record}
-use Rattle.definitions.specs.Encode.{record_bytes, records_bytes}
-use Rattle.definitions.specs.Match.{record_at}
-use Rattle.definitions.specs.Good.{RecordsInRange}
+use Rattle.definitions.specs.Words.Expression.{Record}
+use Rattle.definitions.specs.Bytes.Encode.{record_bytes, records_bytes}
+use Rattle.definitions.specs.Words.References.{record_at}
+use Rattle.definitions.specs.Bytes.Good.{RecordsInRange}
 use Rattle.expression.specs.Places.{Holds}
 
 -- A table has the new index of each of `count` columns.

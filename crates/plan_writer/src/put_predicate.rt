@@ -1,6 +1,6 @@
 // The one writer of predicates: the first byte and the position, then the fields into the part after them.
 ghost use Rattle.std.specs.Prelude.{◌≡◌, ◌≤◌, length};
-ghost use Rattle.definitions.specs.Encode.{predicate_fields};
+ghost use Rattle.definitions.specs.Bytes.Encode.{predicate_fields};
 ghost use Rattle.sedona_query_planner.specs.Predicates.{RelationAt, DistanceAt, KnnAt, PredicateAt};
 ghost use Rattle.writing.specs.Written.{WroteAt};
 ghost use Rattle.writing.specs.Writing.{Room, Puts};

@@ -4,7 +4,7 @@ use native.Mathlib.Omega.{arith}
 use mathlib.Core.Path.{◌≡◌}
 use mathlib.Core.List.{List, [], ◌∷◌, ◌++◌}
 use lib.ListN.{length, set}
-use Rattle.definitions.specs.Printed.{figures, decimal_width, decimal}
+use Rattle.definitions.specs.Bytes.Printed.{figures, decimal_width, decimal}
 use Rattle.theorems.proofs.Figures.{decimal-length}
 use Rattle.writing.specs.Written.{WroteAt}
 use Rattle.printing.specs.Marks.{Fits, marked}

@@ -4,13 +4,13 @@ use native.Mathlib.Omega.{arith}
 use mathlib.Core.Path.{◌≡◌, refl, sym, ap, ◌∙◌}
 use mathlib.Core.List.{List, [], ◌∷◌, ◌++◌, append_assoc}
 use lib.ListN.{length, get_or}
-use Rattle.definitions.specs.Basics.{ascii}
-use Rattle.definitions.specs.Expression.{Expr, column, literal, and, binary, call, other, field}
-use Rattle.definitions.specs.Printed.{decimal, digits16, printed}
-use Rattle.definitions.specs.Decode.{index_below}
-use Rattle.definitions.specs.Good.{InRange}
+use Rattle.definitions.specs.Words.Basics.{ascii}
+use Rattle.definitions.specs.Words.Expression.{Expr, column, literal, and, binary, call, other, field}
+use Rattle.definitions.specs.Bytes.Printed.{decimal, digits16, printed}
+use Rattle.definitions.specs.Bytes.Decode.{index_below}
+use Rattle.definitions.specs.Bytes.Good.{InRange}
 use Rattle.expression.specs.Places.{short_at, part}
-use Rattle.definitions.specs.Encode.{exprs_bytes}
+use Rattle.definitions.specs.Bytes.Encode.{exprs_bytes}
 use Rattle.expression.specs.Nodes.{kind_of, children_of}
 use Rattle.expression.proofs.Standing.{kind-is}
 use Rattle.printing.specs.Marks.{marked, column_text, literal_text, name_text, leading_of, opening_of, separator_of, before_of, closing_of, PhysicalAt, OfPhysical}

@@ -5,10 +5,10 @@ use mathlib.Core.Path.{◌≡◌, refl, ◌∙◌, subst}
 use mathlib.Core.List.{List, [], ◌∷◌, ◌++◌}
 use lib.ListN.{length, get_or}
 use lib.Dec.{lit<, lit≤}
-use Rattle.definitions.specs.Basics.{big_endian}
-use Rattle.definitions.specs.Expression.{Expr, column, literal, and, binary, call, other, field, Exprs, count}
-use Rattle.definitions.specs.Decode.{index_below}
-use Rattle.definitions.specs.Good.{InRange}
+use Rattle.definitions.specs.Words.Basics.{big_endian}
+use Rattle.definitions.specs.Words.Expression.{Expr, column, literal, and, binary, call, other, field, Exprs, count}
+use Rattle.definitions.specs.Bytes.Decode.{index_below}
+use Rattle.definitions.specs.Bytes.Good.{InRange}
 use Rattle.expression.specs.Places.{Holds, short_at, part}
 use Rattle.expression.specs.Nodes.{head_bytes, kind_of, Stands}
 use Rattle.expression.proofs.Records.{short-is, short-length}

@@ -4,9 +4,9 @@ use native.Mathlib.Omega.{arith}
 use mathlib.Core.Path.{◌≡◌, refl, sym, ap}
 use mathlib.Core.List.{List, [], ◌∷◌, ◌++◌, append_assoc, append-nil}
 use lib.ListN.{length, length-append}
-use Rattle.definitions.specs.Basics.{ascii}
-use Rattle.definitions.specs.Expression.{Expr, column, literal, and, binary, call, other, field, Exprs, nil, cons, count}
-use Rattle.definitions.specs.Printed.{decimal, printed, printed_all, printed_more}
+use Rattle.definitions.specs.Words.Basics.{ascii}
+use Rattle.definitions.specs.Words.Expression.{Expr, column, literal, and, binary, call, other, field, Exprs, nil, cons, count}
+use Rattle.definitions.specs.Bytes.Printed.{decimal, printed, printed_all, printed_more}
 use Rattle.theorems.proofs.Figures.{decimal-length, digits16-length}
 use Rattle.expression.specs.Nodes.{children_of}
 use Rattle.printing.specs.Marks.{opening_of, separator_of, before_of, closing_of, own_size}

@@ -5,10 +5,10 @@ use native.Mathlib.Numerals.{add-one}
 use mathlib.Core.Path.{◌≡◌, refl, sym, ap, ◌∙◌, subst}
 use mathlib.Core.List.{List, ◌++◌}
 use lib.ListN.{length, get_or, length-append}
-use Rattle.definitions.specs.Expression.{Expr, Exprs, cons}
-use Rattle.definitions.specs.Encode.{exprs_bytes}
-use Rattle.definitions.specs.Decode.{index_below}
-use Rattle.definitions.specs.Printed.{printed}
+use Rattle.definitions.specs.Words.Expression.{Expr, Exprs, cons}
+use Rattle.definitions.specs.Bytes.Encode.{exprs_bytes}
+use Rattle.definitions.specs.Bytes.Decode.{index_below}
+use Rattle.definitions.specs.Bytes.Printed.{printed}
 use Rattle.expression.specs.Nodes.{children_of, Row, OfTree}
 use Rattle.expression.specs.Heads.{HeadIs}
 use Rattle.expression.specs.declared.heads.Head.{Head}

@@ -4,7 +4,7 @@ use native.Mathlib.Omega.{arith}
 use mathlib.Core.Path.{◌≡◌, ap}
 use mathlib.Core.List.{List, [], ◌∷◌, ◌++◌}
 use lib.ListN.{length, set, length-set, length-append}
-use Rattle.definitions.specs.Expression.{Expr}
+use Rattle.definitions.specs.Words.Expression.{Expr}
 use Rattle.writing.specs.Written.{WroteAt}
 use Rattle.writing.specs.Writing.{Room, PutsAt}
 use Rattle.writing.proofs.Written.{store, chain}

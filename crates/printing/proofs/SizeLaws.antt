@@ -5,10 +5,10 @@ use mathlib.Core.Path.{◌≡◌, refl, ◌∙◌}
 use mathlib.Core.List.{List}
 use lib.ListN.{get_or}
 use lib.Dec.{lit≤}
-use Rattle.definitions.specs.Expression.{Expr, column, literal, and, binary, call, other, field, count}
-use Rattle.definitions.specs.Decode.{index_below}
-use Rattle.definitions.specs.Good.{InRange}
-use Rattle.definitions.specs.Printed.{decimal_width}
+use Rattle.definitions.specs.Words.Expression.{Expr, column, literal, and, binary, call, other, field, count}
+use Rattle.definitions.specs.Bytes.Decode.{index_below}
+use Rattle.definitions.specs.Bytes.Good.{InRange}
+use Rattle.definitions.specs.Bytes.Printed.{decimal_width}
 use Rattle.theorems.proofs.Figures.{width-cases}
 use Rattle.expression.specs.Places.{short_at}
 use Rattle.expression.specs.Nodes.{children_of, kind_of}

@@ -1,10 +1,9 @@
 -- A printed node: its own characters before its children, between them and after them.
 use Rattle.std.specs.Prelude.{ℕ, zero, suc, ◌+◌, ◌-◌, ◌≤◌, ◌≡◌, List, [], ◌∷◌, ◌++◌, length}
-use Rattle.definitions.specs.Basics.{ascii}
-use Rattle.definitions.specs.Expression.{Expr, column, literal, and, binary, call, other, field, count}
-use Rattle.definitions.specs.Decode.{index_below}
-use Rattle.definitions.specs.Program.{digits}
-use Rattle.definitions.specs.Printed.{decimal_width, decimal, printed}
+use Rattle.definitions.specs.Words.Basics.{ascii, digits}
+use Rattle.definitions.specs.Words.Expression.{Expr, column, literal, and, binary, call, other, field, count}
+use Rattle.definitions.specs.Bytes.Decode.{index_below}
+use Rattle.definitions.specs.Bytes.Printed.{decimal_width, decimal, printed}
 use Rattle.expression.specs.Nodes.{children_of, Stands}
 
 -- There is room for a text from w on.

@@ -1,10 +1,10 @@
 -- What the contracts of the walks say: the text of an expression, and of children in a row.
 use Rattle.std.specs.Prelude.{ℕ, suc, ◌+◌, ◌≤◌, ◌≡◌, List, [], ◌++◌, length, drop}
-use Rattle.definitions.specs.Expression.{Expr, Exprs, nil, cons}
-use Rattle.definitions.specs.Encode.{expr_bytes, exprs_bytes}
-use Rattle.definitions.specs.Decode.{index_below}
-use Rattle.definitions.specs.Good.{InRangeAll}
-use Rattle.definitions.specs.Printed.{printed}
+use Rattle.definitions.specs.Words.Expression.{Expr, Exprs, nil, cons}
+use Rattle.definitions.specs.Bytes.Encode.{expr_bytes, exprs_bytes}
+use Rattle.definitions.specs.Bytes.Decode.{index_below}
+use Rattle.definitions.specs.Bytes.Good.{InRangeAll}
+use Rattle.definitions.specs.Bytes.Printed.{printed}
 use Rattle.expression.specs.Nodes.{Row}
 use Rattle.writing.specs.Written.{WroteAt}
 use Rattle.printing.specs.Marks.{before_of, PhysicalAt}

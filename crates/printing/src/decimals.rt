@@ -1,13 +1,13 @@
 // Numbers in decimal.
 ghost use Rattle.std.specs.Prelude.{◌≡◌};
-ghost use Rattle.definitions.specs.Printed.{decimal_width, decimal};
+ghost use Rattle.definitions.specs.Bytes.Printed.{decimal_width, decimal};
 ghost use Rattle.writing.specs.Written.{WroteAt};
 ghost use Rattle.printing.specs.Marks.{Fits, marked};
 
 use writing::numbers::put_figures;
 
 // How many digits a number below 100,000 has.
-#[tactic(auto, unfolding(definitions::specs::Printed::decimal_width))]
+#[tactic(auto, unfolding(definitions::specs::Bytes::Printed::decimal_width))]
 pub fn decimal_width(n: usize) -> usize
     ensures { result ≡ decimal_width n }
 {

@@ -1,6 +1,6 @@
 // The length of an expression's text.
 ghost use Rattle.std.specs.Prelude.{◌≡◌, length};
-ghost use Rattle.definitions.specs.Printed.{printed};
+ghost use Rattle.definitions.specs.Bytes.Printed.{printed};
 ghost use Rattle.printing.specs.Texts.{TextThere, OfText};
 
 use super::sizes::own_size;

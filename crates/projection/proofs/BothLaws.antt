@@ -4,10 +4,10 @@ use native.Mathlib.Omega.{arith}
 use mathlib.Core.Path.{◌≡◌, sym, ◌∙◌, subst}
 use mathlib.Core.List.{List, ◌++◌}
 use lib.ListN.{length, length-append}
-use Rattle.definitions.specs.Limits.{two_bytes}
-use Rattle.definitions.specs.Expression.{Side}
-use Rattle.definitions.specs.Encode.{expr_bytes}
-use Rattle.definitions.specs.Decode.{index_below}
+use Rattle.definitions.specs.Words.Limits.{two_bytes}
+use Rattle.definitions.specs.Words.Expression.{Side}
+use Rattle.definitions.specs.Bytes.Encode.{expr_bytes}
+use Rattle.definitions.specs.Bytes.Decode.{index_below}
 use Rattle.expression.specs.Nodes.{Stands}
 use Rattle.projection.specs.Spots.{Spot, column_spots}
 use Rattle.projection.specs.Rows.{ColumnsFit, Collected, ColumnsCollected}

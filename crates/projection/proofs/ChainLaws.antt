@@ -10,8 +10,8 @@ use lib.ListN.{length, take, get_or, set, replicate, length-set, length-replicat
 use lib.Seq.{get_or-set_same, get_or-set_other}
 use lib.Dec.{eqb}
 use borrow.Author.Tests.{eqb-true, eqb-false}
-use Rattle.definitions.specs.Limits.{most_items}
-use Rattle.definitions.specs.Project.{place_in}
+use Rattle.definitions.specs.Words.Limits.{most_items}
+use Rattle.definitions.specs.Filter.Project.{place_in}
 use Rattle.projection.specs.Chains.{link_of, Walk, ends, here, further, Chain, MaySeek, Chained, Unfilled}
 use Rattle.projection.proofs.PlaceLaws.{place-passed, place-stays, place-new}
 

@@ -5,11 +5,11 @@ use mathlib.Core.Path.{◌≡◌, refl, sym, ap, ◌∙◌, subst}
 use mathlib.Core.List.{List, [], ◌++◌, map, map-append, append-nil}
 use mathlib.Core.Option.{Option, none, some}
 use lib.ListN.{length, length-append}
-use Rattle.definitions.specs.Basics.{big_endian}
-use Rattle.definitions.specs.Limits.{most_bytes}
-use Rattle.definitions.specs.Expression as tree
-use Rattle.definitions.specs.Encode.{predicate_fields, records_bytes, expr_bytes, remainder_bytes, frame_bytes, extraction_bytes, plan_bytes}
-use Rattle.definitions.specs.Good.{ReadableRemainder}
+use Rattle.definitions.specs.Words.Basics.{big_endian}
+use Rattle.definitions.specs.Words.Limits.{most_bytes}
+use Rattle.definitions.specs.Words.Expression as tree
+use Rattle.definitions.specs.Bytes.Encode.{predicate_fields, records_bytes, expr_bytes, remainder_bytes, frame_bytes, extraction_bytes, plan_bytes}
+use Rattle.definitions.specs.Bytes.Good.{ReadableRemainder}
 use Rattle.theorems.proofs.ExchangeGood.{records-length}
 use Rattle.expression.specs.Places.{Holds}
 use Rattle.expression.proofs.Placed.{fits, front, back, next}

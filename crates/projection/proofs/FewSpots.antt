@@ -3,10 +3,10 @@ use Prim.Native.Nat.{ℕ, ◌+◌, ◌*◌, ◌≤◌}
 use native.Mathlib.Omega.{arith}
 use mathlib.Core.Option.{Option, none, some}
 use lib.ListN.{length, length-append}
-use Rattle.definitions.specs.Expression as tree
-use Rattle.definitions.specs.Expression.{Side, left, right, Expr, Predicate, relation, distance, knn, Extraction, extracted}
-use Rattle.definitions.specs.Encode.{expr_bytes, predicate_fields, frame_bytes, remainder_bytes, extraction_bytes, plan_bytes}
-use Rattle.definitions.specs.Exchange.{negate}
+use Rattle.definitions.specs.Words.Expression as tree
+use Rattle.definitions.specs.Words.Expression.{Side, left, right, Expr, Predicate, relation, distance, knn, Extraction, extracted}
+use Rattle.definitions.specs.Bytes.Encode.{expr_bytes, predicate_fields, frame_bytes, remainder_bytes, extraction_bytes, plan_bytes}
+use Rattle.definitions.specs.Filter.Exchange.{negate}
 use Rattle.theorems.proofs.ExchangeGood.{records-length}
 use Rattle.projection.proofs.SpotLaws.{few-columns, record-spots}
 use Rattle.projection.specs.PlanSpots.{both_spots, predicate_spots, remainder_spots, extraction_spots}

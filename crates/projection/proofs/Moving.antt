@@ -6,20 +6,20 @@ use mathlib.Core.List.{List, [], ◌∷◌, ◌++◌, append_assoc, append-nil, 
 use mathlib.Core.Option
 use mathlib.Core.Option.{Option, none, some}
 use lib.ListN.{length, length-append, length-map}
-use Rattle.definitions.specs.Basics.{big_endian}
-use Rattle.definitions.specs.Expression as tree
-use Rattle.definitions.specs.Expression.{Side, left, right, Expr, column, literal, and, binary, call, other, field, Exprs, nil, cons, count, Record, Predicate, relation, distance, knn, Extraction, extracted}
-use Rattle.definitions.specs.Encode.{side_number, relation_number, expr_bytes, exprs_bytes, record_bytes, records_bytes, frame_bytes, predicate_kind, predicate_fields, remainder_bytes, extraction_bytes, plan_bytes}
-use Rattle.definitions.specs.References.{map_columns, map_columns_all}
-use Rattle.definitions.specs.Exchange.{negate}
-use Rattle.definitions.specs.Project.{Lists, new_place, project_expr, project_predicate, project_record, project_frame, project_extraction}
+use Rattle.definitions.specs.Words.Basics.{big_endian}
+use Rattle.definitions.specs.Words.Expression as tree
+use Rattle.definitions.specs.Words.Expression.{Side, left, right, Expr, column, literal, and, binary, call, other, field, Exprs, nil, cons, count, Record, Predicate, relation, distance, knn, Extraction, extracted}
+use Rattle.definitions.specs.Bytes.Encode.{side_number, relation_number, expr_bytes, exprs_bytes, record_bytes, records_bytes, frame_bytes, predicate_kind, predicate_fields, remainder_bytes, extraction_bytes, plan_bytes}
+use Rattle.definitions.specs.Words.References.{map_columns, map_columns_all}
+use Rattle.definitions.specs.Filter.Exchange.{negate}
+use Rattle.definitions.specs.Filter.Project.{ChildLists, new_place, project_expr, project_predicate, project_record, project_frame, project_extraction}
 use Rattle.theorems.proofs.Columns.{map-count}
 use Rattle.projection.specs.Spots.{Spot, column_spots, child_spots, record_spots}
 use Rattle.projection.specs.PlanSpots.{both_spots, predicate_spots, remainder_spots, extraction_spots}
 use Rattle.projection.specs.Projected.{moved}
 use Rattle.projection.proofs.PatchLaws.{patched_by, by_append, put-over}
 
-module _ (lists : Lists) where
+module _ (lists : ChildLists) where
   -- The child indexes, moved in the bytes x that start at a place, make y of them, and nothing else changes.
   pub record Moves (es : List Spot) (at : ℕ) (x y : List ℕ) : Type 0 where
     pub same : length x ≡ length y

@@ -5,7 +5,7 @@ use mathlib.Core.Path.{◌≡◌, refl, sym, ap, ap₂, ◌∙◌}
 use mathlib.Core.List.{List, [], ◌∷◌, ◌++◌, append_assoc, map}
 use lib.ListN.{length, drop, length-append}
 use lib.Seq.{take_at, drop_at}
-use Rattle.definitions.specs.Basics.{big_endian}
+use Rattle.definitions.specs.Words.Basics.{big_endian}
 use Rattle.projection.specs.Spots.{Spot, spot_number}
 use Rattle.projection.specs.Patches.{put_at, patched}
 use Rattle.projection.proofs.SoundSpots.{AllSound, nothing, also, number-place, number-child}

@@ -5,19 +5,19 @@ use mathlib.Core.Bool.{Bool, ◌&&◌, and_assoc}
 use mathlib.Core.List.{List, [], ◌∷◌}
 use mathlib.Core.Option.{Option, none, some}
 use lib.ListN.{length}
-use Rattle.definitions.specs.Basics.{all}
-use Rattle.definitions.specs.Expression as tree
-use Rattle.definitions.specs.Expression.{Side, left, right, Expr, column, literal, and, binary, call, other, field, Exprs, nil, cons, Record, Predicate, relation, distance, knn, Extraction}
-use Rattle.definitions.specs.Encode.{expr_bytes, predicate_fields}
-use Rattle.definitions.specs.References.{columns_of, columns_of_all}
-use Rattle.definitions.specs.Exchange.{negate}
-use Rattle.definitions.specs.Project.{Lists, has_place, placed_expr, placed_predicate, placed_record, placed_remainder, placed}
+use Rattle.definitions.specs.Words.Basics.{all}
+use Rattle.definitions.specs.Words.Expression as tree
+use Rattle.definitions.specs.Words.Expression.{Side, left, right, Expr, column, literal, and, binary, call, other, field, Exprs, nil, cons, Record, Predicate, relation, distance, knn, Extraction}
+use Rattle.definitions.specs.Bytes.Encode.{expr_bytes, predicate_fields}
+use Rattle.definitions.specs.Words.References.{columns_of, columns_of_all}
+use Rattle.definitions.specs.Filter.Exchange.{negate}
+use Rattle.definitions.specs.Filter.Project.{ChildLists, has_place, placed_expr, placed_predicate, placed_record, placed_remainder, placed}
 use Rattle.expression.proofs.AndLeaves.{all_append}
 use Rattle.projection.specs.Spots.{column_spots, child_spots, record_spots}
 use Rattle.projection.specs.PlanSpots.{both_spots, predicate_spots, remainder_spots, extraction_spots}
 use Rattle.projection.proofs.PlacedSpots.{has}
 
-module _ (lists : Lists) where
+module _ (lists : ChildLists) where
   mutual
     unfolding column_spots child_spots columns_of columns_of_all all
 

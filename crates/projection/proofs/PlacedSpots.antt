@@ -9,11 +9,11 @@ use mathlib.Core.List.{List, [], ◌∷◌, map}
 use mathlib.Core.Option.{Option, none, some}
 use lib.ListN.{length}
 use lib.Dec.{eqb}
-use Rattle.definitions.specs.Basics.{all}
-use Rattle.definitions.specs.Limits.{most_items}
-use Rattle.definitions.specs.Expression.{Side, left, right, no_side}
-use Rattle.definitions.specs.Encode.{side_number}
-use Rattle.definitions.specs.Project.{place_in, Lists, place_of, is_place, or_zero, new_place, has_place}
+use Rattle.definitions.specs.Words.Basics.{all}
+use Rattle.definitions.specs.Words.Limits.{most_items}
+use Rattle.definitions.specs.Words.Expression.{Side, left, right, no_side}
+use Rattle.definitions.specs.Bytes.Encode.{side_number}
+use Rattle.definitions.specs.Filter.Project.{place_in, ChildLists, place_of, is_place, or_zero, new_place, has_place}
 use Rattle.projection.proofs.PlaceLaws.{place-within}
 use Rattle.projection.specs.Spots.{Spot, spot_number}
 use Rattle.projection.specs.Placing.{goes_by, has_number, placed_number, PlacedIs}
@@ -88,7 +88,7 @@ module _ (side : Side) (items : List ℕ) where
 
 -- ---- both sides, one after the other
 
-module _ (lists : Lists) where
+module _ (lists : ChildLists) where
   abbrev by_left : Spot → Spot
   by_left = moved_by left lists.of_left
 

@@ -10,8 +10,8 @@ use lib.ListN.{length, take, drop, get_or, set, length-map, drop_of_length-le}
 use lib.Seq.{take_all, length-take-le, drop-cons, get_or_at}
 use borrow.Author.Tests.{eq-eqb, ne_eqb}
 use borrow.Author.Count.{below_more}
-use Rattle.definitions.specs.Basics.{all}
-use Rattle.definitions.specs.Project.{place_in, is_place, or_zero}
+use Rattle.definitions.specs.Words.Basics.{all}
+use Rattle.definitions.specs.Filter.Project.{place_in, is_place, or_zero}
 use Rattle.theorems.proofs.Tools.{mapped_at}
 use Rattle.writing.proofs.Written.{write-more}
 use Rattle.projection.specs.Placing.{has_number, placed_number, PlacedIs}

@@ -4,13 +4,13 @@ use native.Mathlib.Omega.{arith}
 use mathlib.Core.Path.{◌≡◌, refl, sym, ap, ◌∙◌, subst}
 use mathlib.Core.List.{List, ◌++◌, append_assoc}
 use lib.ListN.{length, length-append}
-use Rattle.definitions.specs.Basics.{big_endian}
-use Rattle.definitions.specs.Limits.{two_bytes}
-use Rattle.definitions.specs.Expression.{Side, left, right, Expr, Predicate}
-use Rattle.definitions.specs.Encode.{expr_bytes, predicate_fields}
-use Rattle.definitions.specs.Decode.{index_below}
-use Rattle.definitions.specs.Exchange.{negate}
-use Rattle.definitions.specs.Good.{Readable}
+use Rattle.definitions.specs.Words.Basics.{big_endian}
+use Rattle.definitions.specs.Words.Limits.{two_bytes}
+use Rattle.definitions.specs.Words.Expression.{Side, left, right, Expr, Predicate}
+use Rattle.definitions.specs.Bytes.Encode.{expr_bytes, predicate_fields}
+use Rattle.definitions.specs.Bytes.Decode.{index_below}
+use Rattle.definitions.specs.Filter.Exchange.{negate}
+use Rattle.definitions.specs.Bytes.Good.{Readable}
 use Rattle.expression.specs.Places.{Holds}
 use Rattle.expression.specs.Nodes.{Stands}
 use Rattle.expression.proofs.Placed.{front, back, next}

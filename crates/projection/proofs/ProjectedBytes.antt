@@ -6,9 +6,9 @@ use mathlib.Core.Path.{◌≡◌, refl, sym, ap, ◌∙◌, subst}
 use mathlib.Core.List.{List, [], ◌++◌, map}
 use lib.ListN.{length, take, drop, get_or, length-map, take-append-drop}
 use lib.Seq.{length-take-le}
-use Rattle.definitions.specs.Expression as tree
-use Rattle.definitions.specs.Encode.{plan_bytes}
-use Rattle.definitions.specs.Project.{Lists, project_extraction}
+use Rattle.definitions.specs.Words.Expression as tree
+use Rattle.definitions.specs.Bytes.Encode.{plan_bytes}
+use Rattle.definitions.specs.Filter.Project.{ChildLists, project_extraction}
 use Rattle.plan_reader.specs.declared.extraction_bodies.Extraction.{Extraction}
 use Rattle.projection.specs.Spots.{Spot, spot_number}
 use Rattle.projection.specs.PlanSpots.{extraction_spots}
@@ -28,13 +28,13 @@ sound-inside (also e inside short rest) zero b = omega (arith, number-place e sh
 sound-inside (also e inside short rest) (suc k) b = sound-inside rest k (omega arith)
 
 -- The lists of both sides; the child indexes of an extraction as places; the bytes of its projection.
-abbrev pub lists_of : (of_left of_right : List ℕ) → Lists
+abbrev pub lists_of : (of_left of_right : List ℕ) → ChildLists
 lists_of of_left of_right = record { of_left = of_left; of_right = of_right }
 
-abbrev moved_spots : Lists → tree.Extraction → List Spot
+abbrev moved_spots : ChildLists → tree.Extraction → List Spot
 moved_spots lists X = map (moved lists) (extraction_spots X)
 
-abbrev pub new_bytes : Lists → tree.Extraction → List ℕ
+abbrev pub new_bytes : ChildLists → tree.Extraction → List ℕ
 new_bytes lists X = plan_bytes (tree.extracted (project_extraction lists X))
 
 module _ (n : ℕ) (plan : List ℕ) {x : Extraction} {X : tree.Extraction} (fits : n ≤ length plan)

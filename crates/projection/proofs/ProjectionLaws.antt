@@ -7,11 +7,11 @@ use mathlib.Core.Bool.{true, false, ◌&&◌}
 use mathlib.Core.List.{List, [], ◌∷◌, ◌++◌, map}
 use lib.ListN.{length, take, get_or, length-append}
 use lib.Seq.{take_at, take-suc}
-use Rattle.definitions.specs.Basics.{big_endian, all}
-use Rattle.definitions.specs.Expression as tree
-use Rattle.definitions.specs.Expression.{left, right}
-use Rattle.definitions.specs.Encode.{side_number, plan_bytes}
-use Rattle.definitions.specs.Project.{Lists, placed}
+use Rattle.definitions.specs.Words.Basics.{big_endian, all}
+use Rattle.definitions.specs.Words.Expression as tree
+use Rattle.definitions.specs.Words.Expression.{left, right}
+use Rattle.definitions.specs.Bytes.Encode.{side_number, plan_bytes}
+use Rattle.definitions.specs.Filter.Project.{ChildLists, placed}
 use Rattle.plan_reader.specs.declared.extraction_bodies.Extraction.{Extraction}
 use Rattle.writing.specs.Written.{WroteAt}
 use Rattle.projection.specs.Spots.{Spot, spot_number}
@@ -40,7 +40,7 @@ pub cut-there : (part rest : List ℕ) (count : ℕ) → length part ≡ count
     → (count ≤ length (part ++ rest)) × (take count (part ++ rest) ≡ part)
 cut-there part rest count e = (simp length-append (omega arith), take_at part rest count e)
 
-module _ (lists : Lists) {s : List ℕ} {x : Extraction} (X : tree.Extraction) (t : ExtractionThere s x X) (row : List ℕ)
+module _ (lists : ChildLists) {s : List ℕ} {x : Extraction} (X : tree.Extraction) (t : ExtractionThere s x X) (row : List ℕ)
     (are : row ≡ map spot_number (extraction_spots X)) where
   abbrev es : List Spot
   es = extraction_spots X

@@ -6,9 +6,9 @@ use mathlib.Core.Path.{◌≡◌, sym, ap, ap₂, ◌∙◌, subst}
 use mathlib.Core.List.{List, [], ◌∷◌, ◌++◌, map, map-append}
 use lib.ListN.{length, take, get_or, set, length-set}
 use lib.Seq.{take-suc, take_all}
-use Rattle.definitions.specs.Expression.{Side, Record}
-use Rattle.definitions.specs.Encode.{record_bytes}
-use Rattle.definitions.specs.Decode.{side_numbered}
+use Rattle.definitions.specs.Words.Expression.{Side, Record}
+use Rattle.definitions.specs.Bytes.Encode.{record_bytes}
+use Rattle.definitions.specs.Bytes.Decode.{side_numbered}
 use Rattle.theorems.proofs.RoundTripPlan.{side-again}
 use Rattle.expression.specs.Places.{short_at}
 use Rattle.expression.proofs.Placed.{first}

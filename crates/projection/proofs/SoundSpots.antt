@@ -5,14 +5,14 @@ use mathlib.Core.Path.{◌≡◌}
 use mathlib.Core.List.{List, [], ◌∷◌, ◌++◌}
 use mathlib.Core.Option.{Option, none, some}
 use lib.ListN.{length, length-append}
-use Rattle.definitions.specs.Basics.{big_endian}
-use Rattle.definitions.specs.Limits.{two_bytes}
-use Rattle.definitions.specs.Expression as tree
-use Rattle.definitions.specs.Expression.{Side, left, right, Expr, column, literal, and, binary, call, other, field, Exprs, nil, cons, Record, Predicate, relation, distance, knn, Extraction, extracted}
-use Rattle.definitions.specs.Encode.{side_number, expr_bytes, exprs_bytes, record_bytes, records_bytes, predicate_fields, frame_bytes, remainder_bytes, extraction_bytes, plan_bytes}
-use Rattle.definitions.specs.Decode.{index_below}
-use Rattle.definitions.specs.Exchange.{negate}
-use Rattle.definitions.specs.Good.{InRange, InRangeAll, RecordsInRange, ReadablePredicate, ReadableRemainder, GoodPlan}
+use Rattle.definitions.specs.Words.Basics.{big_endian}
+use Rattle.definitions.specs.Words.Limits.{two_bytes}
+use Rattle.definitions.specs.Words.Expression as tree
+use Rattle.definitions.specs.Words.Expression.{Side, left, right, Expr, column, literal, and, binary, call, other, field, Exprs, nil, cons, Record, Predicate, relation, distance, knn, Extraction, extracted}
+use Rattle.definitions.specs.Bytes.Encode.{side_number, expr_bytes, exprs_bytes, record_bytes, records_bytes, predicate_fields, frame_bytes, remainder_bytes, extraction_bytes, plan_bytes}
+use Rattle.definitions.specs.Bytes.Decode.{index_below}
+use Rattle.definitions.specs.Filter.Exchange.{negate}
+use Rattle.definitions.specs.Bytes.Good.{InRange, InRangeAll, RecordsInRange, ReadablePredicate, ReadableRemainder, GoodPlan}
 use Rattle.projection.specs.Spots.{Spot, spot_number, column_spots, child_spots, record_spots}
 use Rattle.projection.proofs.SpotLaws.{side-small, spot_of}
 use Rattle.projection.specs.PlanSpots.{both_spots, predicate_spots, remainder_spots, extraction_spots}

@@ -4,10 +4,10 @@ use native.Mathlib.Omega.{arith}
 use mathlib.Core.Path.{◌≡◌, refl, sym, ap, ◌∙◌}
 use mathlib.Core.List.{List, [], ◌∷◌, ◌++◌, append-nil}
 use lib.ListN.{length, get_or, length-append}
-use Rattle.definitions.specs.Basics.{big_endian}
-use Rattle.definitions.specs.Expression.{Side, left, right, no_side, Expr, column, literal, and, binary, call, other, field, Exprs, nil, cons, Record}
-use Rattle.definitions.specs.Encode.{side_number, expr_bytes, exprs_bytes}
-use Rattle.definitions.specs.References.{record_at}
+use Rattle.definitions.specs.Words.Basics.{big_endian}
+use Rattle.definitions.specs.Words.Expression.{Side, left, right, no_side, Expr, column, literal, and, binary, call, other, field, Exprs, nil, cons, Record}
+use Rattle.definitions.specs.Bytes.Encode.{side_number, expr_bytes, exprs_bytes}
+use Rattle.definitions.specs.Words.References.{record_at}
 use Rattle.expression.specs.Nodes.{head_bytes, children_of, kind_of}
 use Rattle.projection.specs.Spots.{Spot, column_spots, child_spots, record_spots}
 

@@ -4,10 +4,10 @@ use native.Mathlib.Omega.{arith}
 use mathlib.Core.Path.{◌≡◌, refl, sym, ap, ◌∙◌, subst}
 use mathlib.Core.List.{List, [], ◌∷◌, ◌++◌, map, map-append}
 use lib.ListN.{length, get_or, set, length-append, length-map}
-use Rattle.definitions.specs.Limits.{most_bytes, two_bytes}
-use Rattle.definitions.specs.Expression.{Side, Expr, Exprs, cons}
-use Rattle.definitions.specs.Encode.{expr_bytes, exprs_bytes}
-use Rattle.definitions.specs.Decode.{index_below}
+use Rattle.definitions.specs.Words.Limits.{most_bytes, two_bytes}
+use Rattle.definitions.specs.Words.Expression.{Side, Expr, Exprs, cons}
+use Rattle.definitions.specs.Bytes.Encode.{expr_bytes, exprs_bytes}
+use Rattle.definitions.specs.Bytes.Decode.{index_below}
 use Rattle.expression.specs.Places.{short_at}
 use Rattle.expression.specs.Nodes.{children_of, Stands, Row, OfTree}
 use Rattle.expression.specs.Heads.{HeadIs}

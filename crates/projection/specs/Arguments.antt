@@ -1,10 +1,10 @@
 -- What is collected of a predicate's arguments. (Ours.)
 use Rattle.std.specs.Prelude.{ℕ, ◌+◌, ◌≤◌, List, length}
-use Rattle.definitions.specs.Limits.{most_bytes, two_bytes}
-use Rattle.definitions.specs.Expression.{Side, Expr, Predicate}
-use Rattle.definitions.specs.Encode.{expr_bytes, predicate_fields}
-use Rattle.definitions.specs.Decode.{index_below}
-use Rattle.definitions.specs.Good.{ReadablePredicate}
+use Rattle.definitions.specs.Words.Limits.{most_bytes, two_bytes}
+use Rattle.definitions.specs.Words.Expression.{Side, Expr, Predicate}
+use Rattle.definitions.specs.Bytes.Encode.{expr_bytes, predicate_fields}
+use Rattle.definitions.specs.Bytes.Decode.{index_below}
+use Rattle.definitions.specs.Bytes.Good.{ReadablePredicate}
 use Rattle.expression.specs.Places.{Holds}
 use Rattle.expression.specs.Nodes.{Stands}
 use Rattle.sedona_query_planner.specs.Predicates.{unchanged, PredicateAt}

@@ -2,8 +2,8 @@
 use Rattle.std.specs.Prelude.{ℕ, suc, ◌%◌, ◌≤◌, ◌<◌, ◌≡◌, List, length, take, get_or, Bool, true, false, Option, Some, None, ⊤}
 use Rattle.std.proofs.Math.Option as optional
 use Rattle.std.proofs.Math.Option.{none, some}
-use Rattle.definitions.specs.Limits.{most_items}
-use Rattle.definitions.specs.Project.{place_in}
+use Rattle.definitions.specs.Words.Limits.{most_items}
+use Rattle.definitions.specs.Filter.Project.{place_in}
 use Rattle.projection.specs.declared.places.Chains.{Chains}
 
 -- What an answer says.

@@ -1,8 +1,8 @@
 -- What is collected of an extraction. (Ours.)
 use Rattle.std.specs.Prelude.{ℕ, ◌≤◌, ◌≡◌, List, map, length}
-use Rattle.definitions.specs.Expression as tree
-use Rattle.definitions.specs.Encode.{plan_bytes}
-use Rattle.definitions.specs.Good.{GoodPlan}
+use Rattle.definitions.specs.Words.Expression as tree
+use Rattle.definitions.specs.Bytes.Encode.{plan_bytes}
+use Rattle.definitions.specs.Bytes.Good.{GoodPlan}
 use Rattle.plan_reader.specs.Plans.{ExtractionAt}
 use Rattle.plan_reader.specs.declared.extraction_bodies.Extraction.{Extraction}
 use Rattle.writing.specs.Written.{WroteAt}

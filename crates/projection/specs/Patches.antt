@@ -1,6 +1,6 @@
 -- Request 7 of document 02: child indexes put at their places. (Ours.)
 use Rattle.std.specs.Prelude.{ℕ, ◌+◌, ◌/◌, ◌%◌, ◌≤◌, ◌<◌, ◌≡◌, List, [], ◌∷◌, ◌++◌, length, take, drop, get_or}
-use Rattle.definitions.specs.Basics.{big_endian}
+use Rattle.definitions.specs.Words.Basics.{big_endian}
 
 -- Bytes from a place on, the others as they were.
 abbrev pub put_at : (w : ℕ) (x s : List ℕ) → List ℕ

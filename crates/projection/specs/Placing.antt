@@ -1,7 +1,7 @@
 -- Request 7 of document 02: places put into the numbers of child indexes. (Ours.)
 use Rattle.std.specs.Prelude.{ℕ, ◌+◌, ◌-◌, ◌/◌, ◌%◌, ◌≡◌, Bool, true, false, List, map, eqb, if◌then◌else◌}
-use Rattle.definitions.specs.Basics.{all}
-use Rattle.definitions.specs.Project.{place_in, is_place, or_zero}
+use Rattle.definitions.specs.Words.Basics.{all}
+use Rattle.definitions.specs.Filter.Project.{place_in, is_place, or_zero}
 
 -- Whether a number's child index goes by the side of a number.
 abbrev pub goes_by : (side number : ℕ) → Bool

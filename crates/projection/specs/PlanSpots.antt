@@ -1,9 +1,9 @@
 -- Request 7 of document 02: the child indexes of an extraction, in the order of its bytes. (Ours.)
 use Rattle.std.specs.Prelude.{ℕ, ◌+◌, List, [], ◌++◌, length}
 use Rattle.std.proofs.Math.Option.{Option, none, some}
-use Rattle.definitions.specs.Expression.{Side, left, right, Expr, Frame, Predicate, relation, distance, knn, Extraction}
-use Rattle.definitions.specs.Encode.{expr_bytes, predicate_fields}
-use Rattle.definitions.specs.Exchange.{negate}
+use Rattle.definitions.specs.Words.Expression.{Side, left, right, Expr, Frame, Predicate, relation, distance, knn, Extraction}
+use Rattle.definitions.specs.Bytes.Encode.{expr_bytes, predicate_fields}
+use Rattle.definitions.specs.Filter.Exchange.{negate}
 use Rattle.projection.specs.Spots.{Spot, column_spots, record_spots}
 
 -- Those of two arguments, the second where the first ends.

@@ -1,8 +1,8 @@
 -- What is found of the places of an extraction's child indexes. (Ours.)
 use Rattle.std.specs.Prelude.{ℕ, ◌≤◌, ◌≡◌, true, false, List, map, length, take, Option, Some, None}
-use Rattle.definitions.specs.Limits.{most_items}
-use Rattle.definitions.specs.Expression as tree
-use Rattle.definitions.specs.Project.{Lists, new_place, placed}
+use Rattle.definitions.specs.Words.Limits.{most_items}
+use Rattle.definitions.specs.Words.Expression as tree
+use Rattle.definitions.specs.Filter.Project.{ChildLists, new_place, placed}
 use Rattle.plan_reader.specs.declared.extraction_bodies.Extraction.{Extraction}
 use Rattle.projection.specs.Spots.{Spot, spot_number}
 use Rattle.projection.specs.PlanSpots.{extraction_spots}
@@ -14,11 +14,11 @@ pub record ListsFit (of_left of_right : List ℕ) : Type 0 where
   pub second : length of_right ≤ most_items
 
 -- A child index replaced by its place.
-abbrev pub moved : Lists → Spot → Spot
+abbrev pub moved : ChildLists → Spot → Spot
 moved lists e = record { side = e.side; at = e.at; child = new_place lists e.side e.child }
 
 -- The lists have all, and the row's first numbers are those of the places; or they lack one.
-abbrev pub PlacesAre : (lists : Lists) (X : tree.Extraction) (row : List ℕ) → Option ℕ → Type 0
+abbrev pub PlacesAre : (lists : ChildLists) (X : tree.Extraction) (row : List ℕ) → Option ℕ → Type 0
 PlacesAre lists X row (Some count) =
     (placed lists X ≡ true) × (count ≤ length row) × (take count row ≡ map spot_number (map (moved lists) (extraction_spots X)))
 PlacesAre lists X row None = placed lists X ≡ false

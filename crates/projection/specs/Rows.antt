@@ -1,9 +1,9 @@
 -- Rows that child indexes are put into. (Ours.)
 use Rattle.std.specs.Prelude.{ℕ, ◌+◌, ◌*◌, ◌≤◌, ◌≡◌, List, map, length}
-use Rattle.definitions.specs.Limits.{most_bytes, two_bytes}
-use Rattle.definitions.specs.Expression.{Side, Expr, Exprs, Record}
-use Rattle.definitions.specs.Encode.{expr_bytes, exprs_bytes}
-use Rattle.definitions.specs.Decode.{index_below}
+use Rattle.definitions.specs.Words.Limits.{most_bytes, two_bytes}
+use Rattle.definitions.specs.Words.Expression.{Side, Expr, Exprs, Record}
+use Rattle.definitions.specs.Bytes.Encode.{expr_bytes, exprs_bytes}
+use Rattle.definitions.specs.Bytes.Decode.{index_below}
 use Rattle.expression.specs.Nodes.{Stands, Row}
 use Rattle.writing.specs.Written.{WroteAt}
 use Rattle.plan_writer.specs.Tables.{Entries}

@@ -1,7 +1,7 @@
 -- Request 7 of document 02: where child indexes stand in bytes. (Ours.)
 use Rattle.std.specs.Prelude.{ℕ, ◌+◌, ◌*◌, List, [], ◌∷◌, ◌++◌, length}
-use Rattle.definitions.specs.Expression.{Side, Expr, column, literal, and, binary, call, other, field, Exprs, nil, cons, Record}
-use Rattle.definitions.specs.Encode.{side_number, expr_bytes}
+use Rattle.definitions.specs.Words.Expression.{Side, Expr, column, literal, and, binary, call, other, field, Exprs, nil, cons, Record}
+use Rattle.definitions.specs.Bytes.Encode.{side_number, expr_bytes}
 
 -- A child index: the side by which it goes, the place of its two bytes, and itself.
 pub record Spot : Type 0 where

@@ -4,7 +4,7 @@
 // over 64, and only an item that may be sought is: `sought` has a flag for each twelve last bits.
 ghost use Rattle.std.specs.Prelude.{◌≡◌, ◌==◌, ◌≤◌, ℕ, length, take, position};
 ghost use Rattle.std.proofs.Math.Option.{Option, none};
-ghost use Rattle.definitions.specs.Project.{place_in, is_place};
+ghost use Rattle.definitions.specs.Filter.Project.{place_in, is_place};
 ghost use Rattle.projection.specs.Chains.{place_of, link_of, Walk, Chain, Chained, Unfilled, Sought};
 
 #[derive(Clone, Copy)]

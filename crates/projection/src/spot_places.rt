@@ -1,7 +1,7 @@
 // Each child index of a side becomes its place in the list of that side.
 ghost use Rattle.std.specs.Prelude.{◌≤◌, ◌≡◌, length};
-ghost use Rattle.definitions.specs.Limits.{most_items};
-ghost use Rattle.definitions.specs.Encode.{side_number};
+ghost use Rattle.definitions.specs.Words.Limits.{most_items};
+ghost use Rattle.definitions.specs.Bytes.Encode.{side_number};
 ghost use Rattle.terms.specs.Sides.{join_side};
 ghost use Rattle.projection.specs.Placing.{PlacedIs};
 ghost use Rattle.projection.specs.Seeking.{AllMarked, AllSought};

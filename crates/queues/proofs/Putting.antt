@@ -7,10 +7,10 @@ use mathlib.Core.List.{List, [], ◌∷◌, ◌++◌}
 use lib.ListN.{length, take, drop, get_or}
 use lib.Seq.{get_or-take, get_or-drop}
 use borrow.Author.Tests.{lt-ltb, le-ltb, le-leb, lt-leb}
-use Rattle.definitions.specs.Basics.{Result, ok, refused, ◌>>=◌}
-use Rattle.definitions.specs.Good.{AllBytes}
-use Rattle.definitions.specs.Queues.{Queue, chassis, fixed_unit, queue_number, Frames, State, waiting, with_frames, put_in}
-use Rattle.definitions.specs.QueueBytes.{start, part_of, queue_of, state_of, queue_over, state_over, queue_numbered, put_done, put}
+use Rattle.definitions.specs.Words.Basics.{Result, ok, refused, ◌>>=◌}
+use Rattle.definitions.specs.Bytes.Good.{AllBytes}
+use Rattle.definitions.specs.Calls.Queues.{Queue, chassis, fixed_unit, queue_number, Frames, State, waiting, with_frames, put_in}
+use Rattle.definitions.specs.Calls.QueueBytes.{start, part_of, queue_of, state_of, queue_over, state_over, queue_numbered, put_done, put}
 use Rattle.theorems.proofs.QueueStates.{HeldIn, held_in, part-long, part-holds, with_part, frames-over}
 use Rattle.queues.specs.Held.{Held}
 use Rattle.queues.specs.Parts.{HasRoom, FrameAdded}

@@ -5,11 +5,11 @@ use mathlib.Core.Path.{◌≡◌, refl, sym, ap, ap₂, ◌∙◌}
 use mathlib.Core.List.{List, [], ◌∷◌, ◌++◌, map, append-nil}
 use lib.ListN.{length, take, drop, set, length-append, length-map, length-drop}
 use lib.Seq.{length-take-le}
-use Rattle.definitions.specs.Basics.{big_endian}
-use Rattle.definitions.specs.Good.{AllBytes}
-use Rattle.definitions.specs.Queues.{Frames}
-use Rattle.definitions.specs.QueueBytes.{lengths_of, places_of, in_slots, length_bytes, queue_over}
-use Rattle.definitions.specs.QueueClaims.{FramesFit}
+use Rattle.definitions.specs.Words.Basics.{big_endian}
+use Rattle.definitions.specs.Bytes.Good.{AllBytes}
+use Rattle.definitions.specs.Calls.Queues.{Frames}
+use Rattle.definitions.specs.Calls.QueueBytes.{lengths_of, places_of, in_slots, length_bytes, queue_over}
+use Rattle.definitions.specs.Claims.Queues.{FramesFit}
 use Rattle.theorems.proofs.Slots.{Slotted, slots_length, slotted-front, slots-more}
 use Rattle.theorems.proofs.QueueFrames.{lengths-slotted, places-slotted}
 use Rattle.theorems.proofs.QueueStates.{Holds, queue-holds, queue-fits, queue-same, lengths-long, places-long}

@@ -11,9 +11,9 @@ use lib.Seq.{drop-drop, get_or-drop, get_or-take}
 use Rattle.std.specs.Simd.{first_chunks}
 use lib.Dec.{leb}
 use borrow.Author.Tests.{le-leb, lt-leb, ne_eqb, eq-eqb}
-use Rattle.definitions.specs.Basics.{ok, refused}
-use Rattle.definitions.specs.Queues.{chassis, fixed_unit, Mark}
-use Rattle.definitions.specs.QueueBytes.{part_of, lengths_of, places_of, short, is_length, mark_of, frames_of, queue_of, state_of}
+use Rattle.definitions.specs.Words.Basics.{ok, refused}
+use Rattle.definitions.specs.Calls.Queues.{chassis, fixed_unit, Mark}
+use Rattle.definitions.specs.Calls.QueueBytes.{part_of, lengths_of, places_of, short, is_length, mark_of, frames_of, queue_of, state_of}
 use Rattle.theorems.proofs.QueueFrames.{range-in}
 use Rattle.expression.specs.Places.{short_at}
 use Rattle.queues.specs.Held.{GoodIs}

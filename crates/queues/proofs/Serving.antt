@@ -8,11 +8,11 @@ use mathlib.Core.Option.{Option, none, some}
 use lib.ListN.{length, take, drop, get_or, set, length-append}
 use lib.Seq.{length-take-le}
 use borrow.Author.Tests.{le-leb, lt-leb}
-use Rattle.definitions.specs.Basics.{ok, refused}
-use Rattle.definitions.specs.Calls.{written_over}
-use Rattle.definitions.specs.Good.{AllBytes}
-use Rattle.definitions.specs.Queues.{Queue, chassis, fixed_unit, other_queue, Mark, nobody, last, Frames, State, waiting, with_frames, marked, Due, first_tried, oldest, due}
-use Rattle.definitions.specs.QueueBytes.{start, lengths_of, places_of, queue_of, state_of, mark_byte, state_over, frame_from, both_empty, serve_due, serve_held, serve}
+use Rattle.definitions.specs.Words.Basics.{ok, refused}
+use Rattle.definitions.specs.Calls.Base.{written_over}
+use Rattle.definitions.specs.Bytes.Good.{AllBytes}
+use Rattle.definitions.specs.Calls.Queues.{Queue, chassis, fixed_unit, other_queue, Mark, nobody, last, Frames, State, waiting, with_frames, marked, Due, first_tried, oldest, due}
+use Rattle.definitions.specs.Calls.QueueBytes.{start, lengths_of, places_of, queue_of, state_of, mark_byte, state_over, frame_from, both_empty, serve_due, serve_held, serve}
 use Rattle.theorems.proofs.QueueFrames.{At, row_at}
 use Rattle.theorems.proofs.QueueStates.{held_in, Holds, queue-holds, places-long, mark-same}
 use Rattle.expression.specs.Places.{short_at}

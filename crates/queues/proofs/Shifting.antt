@@ -6,10 +6,10 @@ use mathlib.Core.Path.{◌≡◌, refl, sym, ap, ap₂, ◌∙◌}
 use mathlib.Core.List.{List, [], ◌∷◌, ◌++◌, map}
 use lib.ListN.{length, take, drop, get_or, set, length-map}
 use lib.Seq.{take_at, drop_at, take-suc, take_all, length-take-le, drop-drop, get_or-drop, get_or-take}
-use Rattle.definitions.specs.Basics.{ok}
-use Rattle.definitions.specs.Queues.{Frames}
-use Rattle.definitions.specs.QueueBytes.{short, lengths_of, places_of, queue_of, in_slots, length_bytes, queue_over}
-use Rattle.definitions.specs.QueueClaims.{FramesFit}
+use Rattle.definitions.specs.Words.Basics.{ok}
+use Rattle.definitions.specs.Calls.Queues.{Frames}
+use Rattle.definitions.specs.Calls.QueueBytes.{short, lengths_of, places_of, queue_of, in_slots, length_bytes, queue_over}
+use Rattle.definitions.specs.Claims.Queues.{FramesFit}
 use Rattle.theorems.proofs.Slots.{Slotted, slots_length, slots-behind}
 use Rattle.theorems.proofs.QueueFrames.{At, row_at, lengths-slotted, places-slotted}
 use Rattle.theorems.proofs.QueueStates.{Holds, queue-holds, queue-fits, lengths-long, places-long, whole}

@@ -1,10 +1,10 @@
 -- What the functions on a whole buffer find and write.
 use Rattle.std.specs.Prelude.{ℕ, ◌≡◌, Bool, true, false, List, ◌∷◌, Option, Some, None, Result as Given, Ok, Err}
 use Rattle.std.proofs.Math.Option.{Option as Optional, none, some}
-use Rattle.definitions.specs.Basics.{Result, ok, refused}
-use Rattle.definitions.specs.Queues.{Queue, Frames, State, waiting, with_frames, marked, oldest, due}
-use Rattle.definitions.specs.Queues as queues
-use Rattle.definitions.specs.QueueBytes.{state_of, serve_due}
+use Rattle.definitions.specs.Words.Basics.{Result, ok, refused}
+use Rattle.definitions.specs.Calls.Queues.{Queue, Frames, State, waiting, with_frames, marked, oldest, due}
+use Rattle.definitions.specs.Calls.Queues as queues
+use Rattle.definitions.specs.Calls.QueueBytes.{state_of, serve_due}
 use Rattle.terms.specs.declared.refusals.Refusal.{Refusal}
 use Rattle.terms.specs.declared.refusals.Refusal.TheVariants.{NoGoodPlan}
 use Rattle.queues.specs.Outcomes.{queue_is, ServeAnswered, ServeIs}

@@ -1,7 +1,7 @@
 -- Lists of calls of the code, by the contracts of put and serve alone.
 use Rattle.std.specs.Prelude.{ℕ, ◌≡◌, List, [], ◌∷◌}
-use Rattle.definitions.specs.QueueBytes as definitions
-use Rattle.definitions.specs.QueueLists.{QueueCall, put_call, serve_call, QueueMade, made_put, made_serve, queues_run}
+use Rattle.definitions.specs.Calls.QueueBytes as definitions
+use Rattle.definitions.specs.Lists.Queues.{QueueCall, put_call, serve_call, QueueMade, made_put, made_serve, queues_run}
 use Rattle.join_filter.specs.Outcomes.{Answered, answer_of}
 use Rattle.queues.specs.Outcomes.{ServeAnswered, serve_answer_of, PutIs, ServeIs}
 

@@ -1,8 +1,8 @@
 -- Which definition each answer is.
 use Rattle.std.specs.Prelude.{ℕ, ◌≡◌, ◌<◌, List, Option, Some, None, Result as Given, Ok, Err}
-use Rattle.definitions.specs.Basics.{Result, ok, refused}
-use Rattle.definitions.specs.Queues as queues
-use Rattle.definitions.specs.QueueBytes as bytes
+use Rattle.definitions.specs.Words.Basics.{Result, ok, refused}
+use Rattle.definitions.specs.Calls.Queues as queues
+use Rattle.definitions.specs.Calls.QueueBytes as bytes
 use Rattle.terms.specs.Refusals.{number_of}
 use Rattle.terms.specs.declared.refusals.Refusal.{Refusal}
 use Rattle.terms.specs.declared.refusals.Refusal.TheVariants.{NoSuchQueue}

@@ -1,8 +1,8 @@
 -- What the functions on the bytes of one queue need and write.
 use Rattle.std.specs.Prelude.{ℕ, ◌+◌, ◌*◌, ◌≤◌, ◌<◌, ◌≡◌, List, [], ◌∷◌, ◌++◌, length, take, drop}
-use Rattle.definitions.specs.Basics.{ok, big_endian}
-use Rattle.definitions.specs.Queues.{Frames}
-use Rattle.definitions.specs.QueueBytes.{queue_of, queue_over}
+use Rattle.definitions.specs.Words.Basics.{ok, big_endian}
+use Rattle.definitions.specs.Calls.Queues.{Frames}
+use Rattle.definitions.specs.Calls.QueueBytes.{queue_of, queue_over}
 use Rattle.expression.specs.Places.{short_at}
 use Rattle.writing.specs.Written.{WroteAt}
 

@@ -1,7 +1,7 @@
 // The queues, and what serve answers.
 ghost use Rattle.std.specs.Prelude.{◌≡◌};
-ghost use Rattle.definitions.specs.Queues.{queue_number, last};
-ghost use Rattle.definitions.specs.QueueBytes.{mark_byte};
+ghost use Rattle.definitions.specs.Calls.Queues.{queue_number, last};
+ghost use Rattle.definitions.specs.Calls.QueueBytes.{mark_byte};
 ghost use Rattle.queues.specs.Outcomes.{queue_is, NumberedIs};
 
 use terms::refusals::Refusal;

@@ -1,6 +1,6 @@
 // Whether a buffer holds two queues.
 ghost use Rattle.std.specs.Prelude.{◌≡◌, length};
-ghost use Rattle.definitions.specs.QueueBytes.{queue_of};
+ghost use Rattle.definitions.specs.Calls.QueueBytes.{queue_of};
 ghost use Rattle.queues.specs.Held.{GoodIs, HeldIs};
 
 use crate::parts::{FIRST, LENGTHS, LONGEST, MOST, PLACES, SECOND, WHOLE};

@@ -1,6 +1,6 @@
 // The bytes of one queue: count, lengths, places.
 ghost use Rattle.std.specs.Prelude.{◌≡◌};
-ghost use Rattle.definitions.specs.QueueBytes.{start};
+ghost use Rattle.definitions.specs.Calls.QueueBytes.{start};
 ghost use Rattle.queues.specs.Outcomes.{queue_is};
 ghost use Rattle.queues.specs.Parts.{HasRoom, FrameAdded, HasNext, FrameMoved, HasFirst, FirstTaken};
 

@@ -1,5 +1,5 @@
 // The call put.
-ghost use Rattle.definitions.specs.QueueBytes as definitions;
+ghost use Rattle.definitions.specs.Calls.QueueBytes as definitions;
 ghost use Rattle.queues.specs.Outcomes.{PutIs};
 
 use crate::answers::Queue;

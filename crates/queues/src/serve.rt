@@ -1,5 +1,5 @@
 // The call serve.
-ghost use Rattle.definitions.specs.QueueBytes as definitions;
+ghost use Rattle.definitions.specs.Calls.QueueBytes as definitions;
 ghost use Rattle.queues.specs.Outcomes.{queue_is, ServeIs};
 ghost use Rattle.queues.specs.Held.{Held, FirstOf, DueIs, HoldsFrame, ServedFrom};
 

@@ -8,12 +8,12 @@ use mathlib.Core.List.{List, [], ◌∷◌, ◌++◌, append_assoc, append-nil}
 use mathlib.Core.Option.{Option, none, some}
 use lib.ListN.{length, length-append}
 use borrow.Author.Tests.{lt-ltb, le-ltb}
-use Rattle.definitions.specs.Expression.{Expr, column, literal, and, binary, call, other, field}
-use Rattle.definitions.specs.Encode.{expr_bytes}
-use Rattle.definitions.specs.Leaves.{leaves}
-use Rattle.definitions.specs.Decode.{Columns}
-use Rattle.definitions.specs.Extract.{without, and_left, and_right}
-use Rattle.definitions.specs.Good.{InRange}
+use Rattle.definitions.specs.Words.Expression.{Expr, column, literal, and, binary, call, other, field}
+use Rattle.definitions.specs.Bytes.Encode.{expr_bytes}
+use Rattle.definitions.specs.Words.Leaves.{leaves}
+use Rattle.definitions.specs.Bytes.Decode.{Columns}
+use Rattle.definitions.specs.Filter.Extract.{without, and_left, and_right}
+use Rattle.definitions.specs.Bytes.Good.{InRange}
 use Rattle.expression.specs.Nodes.{left_of, right_of}
 use Rattle.expression.specs.Cuts.{CutAt, here, in_left, in_right}
 use Rattle.expression.specs.declared.cuts.Cut.{Cut}

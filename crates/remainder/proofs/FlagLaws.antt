@@ -8,11 +8,11 @@ use lib.ListN.{length, get_or, set, replicate, length-set}
 use lib.Seq.{get_or-set_same, get_or-set_other}
 use lib.Dec.{ltb, eqb}
 use borrow.Author.Tests.{ltb-true, eqb-true, eqb-false, eq-eqb}
-use Rattle.definitions.specs.Basics.{any}
-use Rattle.definitions.specs.Expression.{Expr}
-use Rattle.definitions.specs.Match.{columns_of}
-use Rattle.definitions.specs.Extract.{holds}
-use Rattle.definitions.specs.Good.{All}
+use Rattle.definitions.specs.Words.Basics.{any}
+use Rattle.definitions.specs.Words.Expression.{Expr}
+use Rattle.definitions.specs.Words.References.{columns_of}
+use Rattle.definitions.specs.Filter.Extract.{holds}
+use Rattle.definitions.specs.Bytes.Good.{All}
 use Rattle.theorems.proofs.ExtractGood.{found}
 use Rattle.remainder.specs.References.{marked}
 use Rattle.remainder.specs.Records.{Flags}

@@ -7,12 +7,12 @@ use mathlib.Core.List.{List, [], ◌∷◌, ◌++◌}
 use mathlib.Core.Option.{Option, none, some, map}
 use lib.ListN.{length, take, drop, set, replicate, length-replicate}
 use lib.Seq.{drop_at, length-take-le}
-use Rattle.definitions.specs.Expression.{Expr, column, literal, and, binary, call, other, field, Record}
-use Rattle.definitions.specs.Encode.{expr_bytes, frame_bytes, remainder_bytes}
-use Rattle.definitions.specs.Decode.{Columns, index_below}
-use Rattle.definitions.specs.Extract.{prune}
-use Rattle.definitions.specs.Good.{InRange}
-use Rattle.definitions.specs.ExtractAll.{and_both, unless, without_all}
+use Rattle.definitions.specs.Words.Expression.{Expr, column, literal, and, binary, call, other, field, Record}
+use Rattle.definitions.specs.Bytes.Encode.{expr_bytes, frame_bytes, remainder_bytes}
+use Rattle.definitions.specs.Bytes.Decode.{Columns, index_below}
+use Rattle.definitions.specs.Filter.Extract.{prune}
+use Rattle.definitions.specs.Bytes.Good.{InRange}
+use Rattle.definitions.specs.Filter.Conjuncts.{and_both, unless, without_all}
 use Rattle.theorems.proofs.Tools.{by-test}
 use Rattle.theorems.proofs.Taken.{RestIs}
 use Rattle.expression.specs.Places.{Holds}

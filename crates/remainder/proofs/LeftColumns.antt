@@ -8,12 +8,12 @@ use mathlib.Core.List.{List, [], ◌∷◌, ◌++◌, map, map-append, append-ni
 use lib.ListN.{length}
 use lib.Dec.{ltb}
 use borrow.Author.Tests.{lt-ltb, le-ltb, le-leb, lt-leb, leb-true}
-use Rattle.definitions.specs.Basics.{keep}
-use Rattle.definitions.specs.Expression.{Expr, and}
-use Rattle.definitions.specs.Encode.{expr_bytes}
-use Rattle.definitions.specs.Decode.{Columns}
-use Rattle.definitions.specs.Match.{columns_of}
-use Rattle.definitions.specs.Good.{All}
+use Rattle.definitions.specs.Words.Basics.{keep}
+use Rattle.definitions.specs.Words.Expression.{Expr, and}
+use Rattle.definitions.specs.Bytes.Encode.{expr_bytes}
+use Rattle.definitions.specs.Bytes.Decode.{Columns}
+use Rattle.definitions.specs.Words.References.{columns_of}
+use Rattle.definitions.specs.Bytes.Good.{All}
 use Rattle.theorems.proofs.Columns.{all_both}
 use Rattle.expression.specs.Nodes.{left_of, right_of, Stands}
 use Rattle.expression.specs.declared.cuts.Cut.{Cut}

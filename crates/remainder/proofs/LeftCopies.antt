@@ -8,12 +8,12 @@ use mathlib.Core.List.{List, [], ◌∷◌, ◌++◌, map, append_assoc}
 use lib.ListN.{length, get_or, set, take, drop, length-append}
 use lib.Seq.{drop-drop, drop-append_seam}
 use borrow.Author.Tests.{ltb-true}
-use Rattle.definitions.specs.Basics.{big_endian, keep}
-use Rattle.definitions.specs.Expression.{Expr}
-use Rattle.definitions.specs.Encode.{expr_bytes}
-use Rattle.definitions.specs.Decode.{index_below}
-use Rattle.definitions.specs.Match.{columns_of}
-use Rattle.definitions.specs.Good.{All}
+use Rattle.definitions.specs.Words.Basics.{big_endian, keep}
+use Rattle.definitions.specs.Words.Expression.{Expr}
+use Rattle.definitions.specs.Bytes.Encode.{expr_bytes}
+use Rattle.definitions.specs.Bytes.Decode.{index_below}
+use Rattle.definitions.specs.Words.References.{columns_of}
+use Rattle.definitions.specs.Bytes.Good.{All}
 use Rattle.theorems.proofs.Columns.{all_both, map-length}
 use Rattle.expression.specs.Places.{Holds, Between}
 use Rattle.expression.specs.declared.cuts.Cut.{Cut}

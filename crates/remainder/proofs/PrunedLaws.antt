@@ -5,11 +5,11 @@ use mathlib.Core.Path.{◌≡◌, sym, ap, ◌∙◌, subst}
 use mathlib.Core.Bool.{Bool}
 use mathlib.Core.List.{List, ◌++◌}
 use lib.ListN.{length, length-append}
-use Rattle.definitions.specs.Basics.{big_endian}
-use Rattle.definitions.specs.Expression.{Expr, Record}
-use Rattle.definitions.specs.Encode.{expr_bytes, records_bytes}
-use Rattle.definitions.specs.Match.{columns_of, map_columns}
-use Rattle.definitions.specs.Extract.{new_index}
+use Rattle.definitions.specs.Words.Basics.{big_endian}
+use Rattle.definitions.specs.Words.Expression.{Expr, Record}
+use Rattle.definitions.specs.Bytes.Encode.{expr_bytes, records_bytes}
+use Rattle.definitions.specs.Words.References.{columns_of, map_columns}
+use Rattle.definitions.specs.Filter.Extract.{new_index}
 use Rattle.theorems.proofs.Columns.{columns-below}
 use Rattle.writing.specs.Written.{Wrote, WroteAt}
 use Rattle.writing.proofs.Written.{behind, together, behind-length, part-wrote, to_start, chain}

@@ -10,12 +10,12 @@ use lib.ListN.{length, get_or, take, drop, set, length-append, length-set, take-
 use lib.Seq.{take-suc, take_all}
 use lib.Dec.{eqb}
 use borrow.Author.Tests.{eqb-true, eq-eqb, ne_eqb}
-use Rattle.definitions.specs.Basics.{any, keep}
-use Rattle.definitions.specs.Expression.{Side, left, right, no_side, Record}
-use Rattle.definitions.specs.Encode.{side_number, record_bytes, records_bytes}
-use Rattle.definitions.specs.Match.{record_at, same_side}
-use Rattle.definitions.specs.Extract.{same_column, new_index}
-use Rattle.definitions.specs.Good.{All}
+use Rattle.definitions.specs.Words.Basics.{any, keep}
+use Rattle.definitions.specs.Words.Expression.{Side, left, right, no_side, Record}
+use Rattle.definitions.specs.Bytes.Encode.{side_number, record_bytes, records_bytes}
+use Rattle.definitions.specs.Words.References.{record_at, same_side}
+use Rattle.definitions.specs.Filter.Extract.{same_column, new_index}
+use Rattle.definitions.specs.Bytes.Good.{All}
 use Rattle.theorems.proofs.ExchangeGood.{records-length}
 use Rattle.theorems.proofs.ExtractGood.{same-column-refl}
 use Rattle.theorems.proofs.Pruned.{any_found}

@@ -5,10 +5,10 @@ use mathlib.Core.Path.{◌≡◌, refl, sym, ap, ◌∙◌}
 use mathlib.Core.Bool.{Bool, true}
 use mathlib.Core.List.{List, [], ◌∷◌, ◌++◌}
 use lib.ListN.{length, get_or, set, length-append}
-use Rattle.definitions.specs.Expression.{Expr, Exprs}
-use Rattle.definitions.specs.Encode.{expr_bytes, exprs_bytes}
-use Rattle.definitions.specs.Decode.{index_below}
-use Rattle.definitions.specs.Match.{columns_of, columns_of_all}
+use Rattle.definitions.specs.Words.Expression.{Expr, Exprs}
+use Rattle.definitions.specs.Bytes.Encode.{expr_bytes, exprs_bytes}
+use Rattle.definitions.specs.Bytes.Decode.{index_below}
+use Rattle.definitions.specs.Words.References.{columns_of, columns_of_all}
 use Rattle.expression.proofs.OfKind.{no-own-columns}
 use Rattle.expression.specs.Places.{short_at}
 use Rattle.expression.specs.Nodes.{children_of, Stands, Row, Tree, OfTree}

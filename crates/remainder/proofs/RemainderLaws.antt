@@ -6,12 +6,12 @@ use mathlib.Core.Bool.{Bool, false}
 use mathlib.Core.List.{List, [], ◌∷◌, ◌++◌, append_assoc}
 use mathlib.Core.Option.{Option, map}
 use lib.ListN.{length, set, replicate, length-append, length-replicate}
-use Rattle.definitions.specs.Basics.{big_endian}
-use Rattle.definitions.specs.Expression.{Expr, Record}
-use Rattle.definitions.specs.Encode.{expr_bytes, records_bytes, frame_bytes, remainder_bytes}
-use Rattle.definitions.specs.Decode.{index_below}
-use Rattle.definitions.specs.Match.{columns_of, map_columns}
-use Rattle.definitions.specs.Extract.{referenced, new_index, prune}
+use Rattle.definitions.specs.Words.Basics.{big_endian}
+use Rattle.definitions.specs.Words.Expression.{Expr, Record}
+use Rattle.definitions.specs.Bytes.Encode.{expr_bytes, records_bytes, frame_bytes, remainder_bytes}
+use Rattle.definitions.specs.Bytes.Decode.{index_below}
+use Rattle.definitions.specs.Words.References.{columns_of, map_columns}
+use Rattle.definitions.specs.Filter.Extract.{referenced, new_index, prune}
 use Rattle.theorems.proofs.Columns.{columns-below}
 use Rattle.writing.specs.Written.{Wrote, WroteAt}
 use Rattle.plan_writer.specs.Copies.{copy_of}

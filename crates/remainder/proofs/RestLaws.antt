@@ -10,10 +10,10 @@ use lib.ListN.{length, take, drop, get_or, set, length-append, length-map}
 use lib.Seq.{take-append-le, drop_at, take-take, length-take-le}
 use lib.Dec.{eqb}
 use borrow.Author.Tests.{eqb-true, eqb-false}
-use Rattle.definitions.specs.Expression.{Expr, column, literal, and, binary, call, other, field}
-use Rattle.definitions.specs.Encode.{expr_bytes}
-use Rattle.definitions.specs.Leaves.{leaves}
-use Rattle.definitions.specs.ExtractAll.{and_both, unless, without_all}
+use Rattle.definitions.specs.Words.Expression.{Expr, column, literal, and, binary, call, other, field}
+use Rattle.definitions.specs.Bytes.Encode.{expr_bytes}
+use Rattle.definitions.specs.Words.Leaves.{leaves}
+use Rattle.definitions.specs.Filter.Conjuncts.{and_both, unless, without_all}
 use Rattle.theorems.proofs.AllRounds.{leaves-some}
 use Rattle.expression.specs.Places.{Holds}
 use Rattle.expression.proofs.Placed.{first, front, back}

@@ -6,10 +6,10 @@ use mathlib.Core.List.{List, [], ◌∷◌}
 use lib.ListN.{length, length-append}
 use types.Run.{OneOf, miss}
 use denote.Enum.Declared.{tag_of}
-use Rattle.definitions.specs.Expression.{Expr, and}
-use Rattle.definitions.specs.Encode.{expr_bytes}
-use Rattle.definitions.specs.Leaves.{leaves}
-use Rattle.definitions.specs.Decode.{Columns}
+use Rattle.definitions.specs.Words.Expression.{Expr, and}
+use Rattle.definitions.specs.Bytes.Encode.{expr_bytes}
+use Rattle.definitions.specs.Words.Leaves.{leaves}
+use Rattle.definitions.specs.Bytes.Decode.{Columns}
 use Rattle.expression.specs.Nodes.{head_bytes, Stands}
 use Rattle.expression.specs.Leaves.{NodeIs, Both}
 use Rattle.expression.specs.declared.leaves.Node.{Node}

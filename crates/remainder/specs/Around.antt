@@ -3,9 +3,9 @@
 use Rattle.std.specs.Prelude.{ℕ, ◌+◌, ◌-◌, ◌≤◌, ◌≡◌, Bool, List, ltb, leb, if◌then◌else◌}
 use Rattle.std.proofs.Math.Bool.{◌||◌}
 use Rattle.std.proofs.Math.Option.{some}
-use Rattle.definitions.specs.Expression.{Expr}
-use Rattle.definitions.specs.Decode.{Columns}
-use Rattle.definitions.specs.Extract.{without}
+use Rattle.definitions.specs.Words.Expression.{Expr}
+use Rattle.definitions.specs.Bytes.Decode.{Columns}
+use Rattle.definitions.specs.Filter.Extract.{without}
 use Rattle.expression.specs.Nodes.{Stands}
 use Rattle.expression.specs.Cuts.{CutAt}
 use Rattle.expression.specs.declared.cuts.Cut.{Cut}

@@ -1,8 +1,8 @@
 -- Request 3: the indexes that what is left holds, as flags.
 use Rattle.std.specs.Prelude.{ℕ, ◌<◌, ◌≡◌, Bool, false, List, length, get_or}
-use Rattle.definitions.specs.Expression.{Expr}
-use Rattle.definitions.specs.Decode.{index_below}
-use Rattle.definitions.specs.Extract.{holds}
+use Rattle.definitions.specs.Words.Expression.{Expr}
+use Rattle.definitions.specs.Bytes.Decode.{index_below}
+use Rattle.definitions.specs.Filter.Extract.{holds}
 use Rattle.expression.specs.declared.cuts.Cut.{Cut}
 use Rattle.remainder.specs.Around.{SomeLeft, OfLeft}
 

@@ -1,11 +1,11 @@
 -- What is left of a frame without the AND-leaves that go, and what is written of it.
 use Rattle.std.specs.Prelude.{ℕ, ◌≤◌, ◌≡◌, Bool, List, length}
 use Rattle.std.proofs.Math.Option.{map}
-use Rattle.definitions.specs.Expression.{Expr, Record}
-use Rattle.definitions.specs.Encode.{expr_bytes, remainder_bytes}
-use Rattle.definitions.specs.Leaves.{leaves}
-use Rattle.definitions.specs.Extract.{prune}
-use Rattle.definitions.specs.ExtractAll.{without_all}
+use Rattle.definitions.specs.Words.Expression.{Expr, Record}
+use Rattle.definitions.specs.Bytes.Encode.{expr_bytes, remainder_bytes}
+use Rattle.definitions.specs.Words.Leaves.{leaves}
+use Rattle.definitions.specs.Filter.Extract.{prune}
+use Rattle.definitions.specs.Filter.Conjuncts.{without_all}
 use Rattle.expression.specs.Places.{Holds}
 use Rattle.writing.specs.Written.{Wrote}
 use Rattle.remainder.specs.Rests.{flags_of}

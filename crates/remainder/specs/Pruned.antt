@@ -1,9 +1,9 @@
 -- A plain expression and the records of its columns, and the frame that is written of them.
 use Rattle.std.specs.Prelude.{ℕ, ◌≤◌, ◌≡◌, List, length}
-use Rattle.definitions.specs.Expression.{Expr, Record}
-use Rattle.definitions.specs.Encode.{frame_bytes}
-use Rattle.definitions.specs.Decode.{index_below}
-use Rattle.definitions.specs.Extract.{prune}
+use Rattle.definitions.specs.Words.Expression.{Expr, Record}
+use Rattle.definitions.specs.Bytes.Encode.{frame_bytes}
+use Rattle.definitions.specs.Bytes.Decode.{index_below}
+use Rattle.definitions.specs.Filter.Extract.{prune}
 use Rattle.expression.specs.Nodes.{Stands}
 use Rattle.writing.specs.Written.{Wrote}
 use Rattle.plan_writer.specs.Tables.{Entries}

@@ -1,11 +1,11 @@
 -- The records of the columns that stay.
 use Rattle.std.specs.Prelude.{ℕ, ◌+◌, ◌*◌, ◌≤◌, ◌<◌, ◌≡◌, Bool, true, false, List, [], ◌∷◌, ◌++◌, length, get_or, eqb}
-use Rattle.definitions.specs.Basics.{big_endian, any, keep}
-use Rattle.definitions.specs.Expression.{Record}
-use Rattle.definitions.specs.Encode.{records_bytes}
-use Rattle.definitions.specs.Match.{record_at}
-use Rattle.definitions.specs.Extract.{same_column, new_index}
-use Rattle.definitions.specs.Good.{All}
+use Rattle.definitions.specs.Words.Basics.{big_endian, any, keep}
+use Rattle.definitions.specs.Words.Expression.{Record}
+use Rattle.definitions.specs.Bytes.Encode.{records_bytes}
+use Rattle.definitions.specs.Words.References.{record_at}
+use Rattle.definitions.specs.Filter.Extract.{same_column, new_index}
+use Rattle.definitions.specs.Bytes.Good.{All}
 use Rattle.writing.specs.Written.{WroteAt}
 use Rattle.plan_writer.specs.Tables.{Entries, Table}
 

@@ -1,9 +1,9 @@
 -- Which columns are referenced, as flags.
 use Rattle.std.specs.Prelude.{ℕ, ◌+◌, ◌≡◌, Bool, true, List, [], ◌∷◌, length, set}
-use Rattle.definitions.specs.Expression.{Expr, Exprs}
-use Rattle.definitions.specs.Encode.{expr_bytes, exprs_bytes}
-use Rattle.definitions.specs.Decode.{index_below}
-use Rattle.definitions.specs.Match.{columns_of, columns_of_all}
+use Rattle.definitions.specs.Words.Expression.{Expr, Exprs}
+use Rattle.definitions.specs.Bytes.Encode.{expr_bytes, exprs_bytes}
+use Rattle.definitions.specs.Bytes.Decode.{index_below}
+use Rattle.definitions.specs.Words.References.{columns_of, columns_of_all}
 use Rattle.expression.specs.Nodes.{Stands, Row}
 
 -- The flags once these columns are marked.

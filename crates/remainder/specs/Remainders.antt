@@ -1,10 +1,10 @@
 -- What is written of an expression without one of its AND-leaves, and of a whole remainder.
 use Rattle.std.specs.Prelude.{ℕ, ◌≤◌, ◌≡◌, List, length}
 use Rattle.std.proofs.Math.Option.{map}
-use Rattle.definitions.specs.Expression.{Expr, Record}
-use Rattle.definitions.specs.Encode.{expr_bytes, remainder_bytes}
-use Rattle.definitions.specs.Decode.{index_below}
-use Rattle.definitions.specs.Extract.{without, prune}
+use Rattle.definitions.specs.Words.Expression.{Expr, Record}
+use Rattle.definitions.specs.Bytes.Encode.{expr_bytes, remainder_bytes}
+use Rattle.definitions.specs.Bytes.Decode.{index_below}
+use Rattle.definitions.specs.Filter.Extract.{without, prune}
 use Rattle.expression.specs.Nodes.{Stands}
 use Rattle.writing.specs.Written.{Wrote}
 use Rattle.plan_writer.specs.Tables.{Entries}

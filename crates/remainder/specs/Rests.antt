@@ -1,11 +1,11 @@
 -- What stays of an expression without some of its AND-leaves, and where it was written.
 use Rattle.std.specs.Prelude.{ℕ, ◌+◌, ◌≤◌, ◌≡◌, Bool, true, false, List, [], ◌∷◌, map, length}
 use Rattle.std.proofs.Math.Option.{Option, none, some}
-use Rattle.definitions.specs.Expression.{Expr}
-use Rattle.definitions.specs.Encode.{expr_bytes}
-use Rattle.definitions.specs.Leaves.{leaves}
-use Rattle.definitions.specs.Decode.{Columns}
-use Rattle.definitions.specs.ExtractAll.{without_all}
+use Rattle.definitions.specs.Words.Expression.{Expr}
+use Rattle.definitions.specs.Bytes.Encode.{expr_bytes}
+use Rattle.definitions.specs.Words.Leaves.{leaves}
+use Rattle.definitions.specs.Bytes.Decode.{Columns}
+use Rattle.definitions.specs.Filter.Conjuncts.{without_all}
 use Rattle.expression.specs.Places.{Holds}
 use Rattle.expression.specs.Nodes.{Stands}
 use Rattle.writing.specs.Written.{WroteAt}

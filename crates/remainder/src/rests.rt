@@ -1,7 +1,7 @@
 // What stays of a filter without some of its AND-leaves, written from its end to its start: the head of an And is written once it is
 // known that both of its sides stay.
 ghost use Rattle.std.specs.Prelude.{◌≤◌, ◌≡◌, [], ◌∷◌, length};
-ghost use Rattle.definitions.specs.Leaves.{leaves};
+ghost use Rattle.definitions.specs.Words.Leaves.{leaves};
 ghost use Rattle.expression.specs.Nodes.{OfTree};
 ghost use Rattle.node_rows.specs.Rows.{Tabled};
 ghost use Rattle.remainder.specs.Rests.{RestFits, RestPut, AndPut};

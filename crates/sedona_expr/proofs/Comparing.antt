@@ -10,11 +10,11 @@ use mathlib.Core.Option.{none, some}
 use lib.ListN.{length, get_or}
 use lib.Dec.{eqb}
 use borrow.Author.Tests.{ne_eqb}
-use Rattle.definitions.specs.Basics.{ascii, same_name}
-use Rattle.definitions.specs.Expression.{Expr, nil, cons}
-use Rattle.definitions.specs.Encode.{expr_bytes}
-use Rattle.definitions.specs.Leaves.{compares, no_comparison, comparison, distance_arguments}
-use Rattle.definitions.specs.Decode.{Columns}
+use Rattle.definitions.specs.Words.Basics.{ascii, same_name}
+use Rattle.definitions.specs.Words.Expression.{Expr, nil, cons}
+use Rattle.definitions.specs.Bytes.Encode.{expr_bytes}
+use Rattle.definitions.specs.Words.Leaves.{compares, no_comparison, comparison, distance_arguments}
+use Rattle.definitions.specs.Bytes.Decode.{Columns}
 use Rattle.expression.specs.Places.{part}
 use Rattle.expression.specs.Nodes.{Stands, Row, Tree, OfTree}
 use Rattle.expression.specs.Leaves.{Pair, OfPair, CallIs, NodeIs, plain_column, plain_literal, plain_other, plain_field}

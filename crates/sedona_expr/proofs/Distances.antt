@@ -8,11 +8,11 @@ use mathlib.Core.Bool.{Bool, true, false}
 use mathlib.Core.List.{List}
 use mathlib.Core.Option.{Option, none, some, none-ne-some}
 use lib.ListN.{length}
-use Rattle.definitions.specs.Basics.{ascii, same_name}
-use Rattle.definitions.specs.Expression.{Relation, Expr, column, literal, and, binary, call, other, field, Exprs, nil, cons, count}
-use Rattle.definitions.specs.Leaves.{Comparison, no_comparison, comparison, distance_arguments, relation_named}
-use Rattle.definitions.specs.Match.{relation_request, dwithin_request, knn_literals, knn_request, knn_request_by, call_request, call_request_by, distance_request, comparison_request, request, request_by}
-use Rattle.definitions.specs.Decode.{Columns}
+use Rattle.definitions.specs.Words.Basics.{ascii, same_name}
+use Rattle.definitions.specs.Words.Expression.{Relation, Expr, column, literal, and, binary, call, other, field, Exprs, nil, cons, count}
+use Rattle.definitions.specs.Words.Leaves.{Comparison, no_comparison, comparison, distance_arguments, relation_named}
+use Rattle.definitions.specs.Filter.Match.{relation_request, dwithin_request, knn_literals, knn_request, knn_request_by, call_request, call_request_by, distance_request, comparison_request, request, request_by}
+use Rattle.definitions.specs.Bytes.Decode.{Columns}
 use Rattle.theorems.proofs.Requests.{same-name}
 use Rattle.expression.specs.Places.{part}
 use Rattle.expression.specs.Nodes.{head_bytes, children_of, Row}

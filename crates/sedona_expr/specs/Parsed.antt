@@ -1,10 +1,10 @@
 -- What the answers about distances say of the definitions' requests.
 use Rattle.std.specs.Prelude.{ℕ, ◌≡◌, Bool, true, false, ◌||◌, List, eqb, if◌then◌else◌, Option, Some, None}
 use Rattle.std.proofs.Math.Option as optional
-use Rattle.definitions.specs.Expression.{Expr, Exprs}
-use Rattle.definitions.specs.Leaves as definitions
-use Rattle.definitions.specs.Match.{Request, ask_relation, ask_distance, ask_knn, ask_nothing}
-use Rattle.definitions.specs.Decode.{Columns}
+use Rattle.definitions.specs.Words.Expression.{Expr, Exprs}
+use Rattle.definitions.specs.Words.Leaves as definitions
+use Rattle.definitions.specs.Filter.Match.{Request, ask_relation, ask_distance, ask_knn, ask_nothing}
+use Rattle.definitions.specs.Bytes.Decode.{Columns}
 use Rattle.terms.specs.Forms.{form_number}
 use Rattle.expression.specs.Nodes.{Stands, Spans, Row}
 use Rattle.expression.specs.declared.leaves.Called.{Called}

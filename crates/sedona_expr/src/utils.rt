@@ -1,9 +1,9 @@
 // Distance predicates: a port of rust/sedona-expr/src/utils.rs.
-ghost use Rattle.definitions.specs.Leaves.{distance_arguments};
-ghost use Rattle.definitions.specs.Leaves as definitions;
-ghost use Rattle.definitions.specs.Match.{comparison_request, call_request, request};
+ghost use Rattle.definitions.specs.Words.Leaves.{distance_arguments};
+ghost use Rattle.definitions.specs.Words.Leaves as definitions;
+ghost use Rattle.definitions.specs.Filter.Match.{comparison_request, call_request, request};
 ghost use Rattle.std.specs.Prelude.{◌≡◌};
-ghost use Rattle.definitions.specs.Expression.{nil, cons};
+ghost use Rattle.definitions.specs.Words.Expression.{nil, cons};
 ghost use Rattle.expression.specs.Nodes.{Tree, OfTree, OfTreeIn};
 ghost use Rattle.expression.specs.Leaves.{Pair, OfPair, Calls, OfCall};
 ghost use Rattle.node_rows.specs.Numbers.{start_at};

@@ -1,11 +1,11 @@
 -- Which predicate of the definitions the code's stands for: its arguments at places of bytes, and what becomes of them.
 use Rattle.std.specs.Prelude.{ℕ, ◌≡◌, Bool, true, false, List, length, eqb, if◌then◌else◌, Option, Some, None}
-use Rattle.definitions.specs.Limits.{two_bytes}
-use Rattle.definitions.specs.Expression as tree
-use Rattle.definitions.specs.Expression.{Expr, Record, Predicate, relation, distance, knn}
-use Rattle.definitions.specs.Decode.{index_below}
-use Rattle.definitions.specs.Match.{on_child}
-use Rattle.definitions.specs.Exchange.{negate, exchange_predicate}
+use Rattle.definitions.specs.Words.Limits.{two_bytes}
+use Rattle.definitions.specs.Words.Expression as tree
+use Rattle.definitions.specs.Words.Expression.{Expr, Record, Predicate, relation, distance, knn}
+use Rattle.definitions.specs.Bytes.Decode.{index_below}
+use Rattle.definitions.specs.Filter.Match.{on_child}
+use Rattle.definitions.specs.Filter.Exchange.{negate, exchange_predicate}
 use Rattle.terms.specs.Forms.{form_number}
 use Rattle.terms.specs.Sides.{join_side}
 use Rattle.expression.specs.Nodes.{Spans}

@@ -1,7 +1,7 @@
 -- Relation types: the definitions' relation for each case; its number in document 01 is the definitions' `relation_number`.
 use Rattle.std.specs.Prelude.{Option, Some, None}
 use Rattle.std.proofs.Math.Option as optional
-use Rattle.definitions.specs.Expression as definitions
+use Rattle.definitions.specs.Words.Expression as definitions
 use Rattle.sedona_query_planner.specs.declared.spatial_predicate.SpatialRelationType.{SpatialRelationType}
 use Rattle.sedona_query_planner.specs.declared.spatial_predicate.SpatialRelationType.TheVariants.{Intersects, Contains, Within, Covers, CoveredBy, Touches, Crosses, Overlaps, Equals}
 

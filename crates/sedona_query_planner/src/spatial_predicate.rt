@@ -1,9 +1,9 @@
 // Spatial predicates: a port of rust/sedona-query-planner/src/spatial_predicate.rs.
 ghost use Rattle.std.specs.Prelude.{◌≡◌};
-ghost use Rattle.definitions.specs.Encode.{relation_number};
-ghost use Rattle.definitions.specs.Decode.{relation_numbered};
-ghost use Rattle.definitions.specs.Leaves.{relation_named};
-ghost use Rattle.definitions.specs.Match as definitions;
+ghost use Rattle.definitions.specs.Bytes.Encode.{relation_number};
+ghost use Rattle.definitions.specs.Bytes.Decode.{relation_numbered};
+ghost use Rattle.definitions.specs.Words.Leaves.{relation_named};
+ghost use Rattle.definitions.specs.Words.Expression as definitions;
 ghost use Rattle.sedona_query_planner.specs.Relations.{relation_of, named_relation};
 ghost use Rattle.sedona_query_planner.specs.Predicates.{ties_number, ties_numbered, unchanged, RelationAt, DistanceAt, KnnAt, PredicateAt, Exchanges};
 
@@ -108,7 +108,7 @@ impl SpatialRelationType {
     }
 
     // The relation that holds of the exchanged arguments.
-    #[tactic(auto, unfolding(definitions::specs::Expression::invert))]
+    #[tactic(auto, unfolding(definitions::specs::Words::Expression::invert))]
     pub fn invert(self) -> Self
         ensures { relation_of result ≡ definitions.invert (relation_of self) }
     {
@@ -130,7 +130,7 @@ impl SpatialRelationType {
 impl From<u64> for SpatialRelationType {
     ghost from_gives = { λ number type. relation_of type ≡ relation_numbered number };
 
-    #[tactic(auto, unfolding(definitions::specs::Decode::relation_numbered, definitions::specs::Expression::relations))]
+    #[tactic(auto, unfolding(definitions::specs::Bytes::Decode::relation_numbered, definitions::specs::Words::Expression::relations))]
     fn from(number: u64) -> SpatialRelationType {
         match number {
             0 => SpatialRelationType::Intersects,

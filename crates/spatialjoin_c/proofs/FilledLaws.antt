@@ -4,10 +4,10 @@ use Prim.Native.Nat.{ℕ, ◌≤◌}
 use native.Mathlib.Omega.{arith}
 use mathlib.Core.List.{List, map, ◌++◌}
 use lib.ListN.{length, length-map, take, drop}
-use Rattle.definitions.specs.NodeTable as nodes
+use Rattle.definitions.specs.Bytes.NodeTable as nodes
 use Rattle.node_table.specs.Records.{node_of, nodes_of, FilledIs}
 use Rattle.node_table.specs.declared.NodeRecord.{NodeRecord}
-use Rattle.definitions.specs.Merge.{merge}
+use Rattle.definitions.specs.Calls.Merge.{merge}
 use Rattle.node_rows.specs.Rows.{Filling, RowHas}
 use Rattle.node_table.specs.Numbers.{numbered}
 use Rattle.node_table.proofs.FillLaws.{filled-first}

@@ -3,14 +3,14 @@
 #![tactic(auto)]
 
 ghost use Rattle.std.specs.Prelude.{◌≡◌, pos};
-ghost use Rattle.definitions.specs.Calls as definitions;
-ghost use Rattle.definitions.specs.Hosts.{hosted_names};
-ghost use Rattle.definitions.specs.Logical as logicals;
-ghost use Rattle.definitions.specs.Merge as merges;
-ghost use Rattle.definitions.specs.Project as projects;
-ghost use Rattle.definitions.specs.QueueBytes as queued;
-ghost use Rattle.definitions.specs.Settings as settled;
-ghost use Rattle.definitions.specs.Verdicts as explaining;
+ghost use Rattle.definitions.specs.Calls.Base as definitions;
+ghost use Rattle.host_calls.specs.Hosts.{hosted_names};
+ghost use Rattle.definitions.specs.Calls.Logical as logicals;
+ghost use Rattle.definitions.specs.Calls.Merge as merges;
+ghost use Rattle.definitions.specs.Calls.Project as projects;
+ghost use Rattle.definitions.specs.Calls.QueueBytes as queued;
+ghost use Rattle.definitions.specs.Calls.Settings as settled;
+ghost use Rattle.definitions.specs.Calls.Explain as explaining;
 ghost use Rattle.spatialjoin_c.specs.Version.{version};
 ghost use Rattle.node_table.specs.Records.{nodes_of};
 ghost use Rattle.host_calls.specs.Hosted.{LoadHosted, CallHosted, settings_by, ExtractHosted, MergeHosted, PrintHosted, PutHosted, ServeHosted, AllHosted, ExplainHosted};

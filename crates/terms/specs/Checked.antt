@@ -1,6 +1,6 @@
 -- What a test of settings answers.
 use Rattle.std.specs.Prelude.{◌≡◌, false, Result, Ok, Err}
-use Rattle.definitions.specs.Settings.{good_settings}
+use Rattle.definitions.specs.Filter.Settings.{good_settings}
 use Rattle.terms.specs.Settings.{settings_of}
 use Rattle.terms.specs.declared.settings.Settings.{Settings}
 use Rattle.terms.specs.declared.checked.Checked.{Checked}

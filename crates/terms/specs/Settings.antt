@@ -1,5 +1,5 @@
 -- The definitions' settings for the code's.
-use Rattle.definitions.specs.Settings as definitions
+use Rattle.definitions.specs.Filter.Settings as definitions
 use Rattle.terms.specs.declared.settings.Settings.{Settings}
 
 abbrev pub settings_of : Settings → definitions.Settings

@@ -1,5 +1,5 @@
 -- The definitions' side for each case of the code's.
-use Rattle.definitions.specs.Expression as tree
+use Rattle.definitions.specs.Words.Expression as tree
 use Rattle.terms.specs.declared.sides.JoinSide.{JoinSide}
 use Rattle.terms.specs.declared.sides.JoinSide.TheVariants.{Left, Right, None}
 

@@ -1,5 +1,5 @@
 // Session settings that were tested (request 13 of document 02).
-ghost use Rattle.definitions.specs.SettingsClaims.{GoodSettings};
+ghost use Rattle.definitions.specs.Filter.Settings.{GoodSettings};
 ghost use Rattle.terms.specs.Settings.{settings_of};
 
 use crate::refusals::Refusal;

@@ -1,7 +1,7 @@
 // Session settings (request 13 of document 02).
 ghost use Rattle.std.specs.Prelude.{◌≡◌, true};
-ghost use Rattle.definitions.specs.Settings as definitions;
-ghost use Rattle.definitions.specs.SettingsClaims.{GoodSettings};
+ghost use Rattle.definitions.specs.Filter.Settings as definitions;
+ghost use Rattle.definitions.specs.Filter.Settings.{GoodSettings};
 ghost use Rattle.terms.specs.Settings.{settings_of};
 
 // The kinds allowed (bit 0 relation, bit 1 distance, bit 2 KNN), the default k and the greatest k, as a C host gives them.
@@ -13,7 +13,7 @@ pub struct Settings {
 }
 
 // Whether they do not get 24.
-#[tactic(auto, unfolding(definitions::specs::Settings::good_settings))]
+#[tactic(auto, unfolding(definitions::specs::Filter::Settings::good_settings))]
 pub fn good_settings(settings: Settings) -> bool
     ensures value { result ≡ definitions.good_settings (settings_of settings) }
     ensures good_settings { result ≡ true → GoodSettings (settings_of settings) }
@@ -31,7 +31,7 @@ pub fn good_settings(settings: Settings) -> bool
 }
 
 // All kinds, 1 and 4,294,967,295: what the program gives.
-#[tactic(auto, unfolding(definitions::specs::Settings::default_settings))]
+#[tactic(auto, unfolding(definitions::specs::Filter::Settings::default_settings))]
 pub fn default_settings() -> Settings
     ensures { settings_of result ≡ definitions.default_settings }
 {

@@ -1,8 +1,8 @@
 // Sides of a join.
 ghost use Rattle.std.specs.Prelude.{◌≡◌};
-ghost use Rattle.definitions.specs.Decode.{side_numbered};
-ghost use Rattle.definitions.specs.Encode.{side_number};
-ghost use Rattle.definitions.specs.Exchange as definitions;
+ghost use Rattle.definitions.specs.Bytes.Decode.{side_numbered};
+ghost use Rattle.definitions.specs.Bytes.Encode.{side_number};
+ghost use Rattle.definitions.specs.Filter.Exchange as definitions;
 ghost use Rattle.terms.specs.Sides.{join_side};
 
 // A side of the join; none is a mark column's, and that of an argument without columns.
@@ -15,7 +15,7 @@ pub enum JoinSide {
 
 impl JoinSide {
     // The other side; none stays none. The name is the Rust's.
-    #[tactic(auto, unfolding(definitions::specs::Exchange::negate))]
+    #[tactic(auto, unfolding(definitions::specs::Filter::Exchange::negate))]
     pub fn negate(self) -> Self
         ensures { join_side result ≡ definitions.negate (join_side self) }
     {
@@ -31,7 +31,7 @@ impl JoinSide {
 impl From<u64> for JoinSide {
     ghost from_gives = { λ number side. join_side side ≡ side_numbered number };
 
-    #[tactic(auto, unfolding(definitions::specs::Decode::side_numbered))]
+    #[tactic(auto, unfolding(definitions::specs::Bytes::Decode::side_numbered))]
     fn from(number: u64) -> JoinSide {
         match number {
             0 => JoinSide::Left,
@@ -45,7 +45,7 @@ impl From<u64> for JoinSide {
 impl From<JoinSide> for u8 {
     ghost from_gives = { λ side number. number ≡ side_number (join_side side) };
 
-    #[tactic(auto, unfolding(definitions::specs::Encode::side_number))]
+    #[tactic(auto, unfolding(definitions::specs::Bytes::Encode::side_number))]
     fn from(side: JoinSide) -> u8 {
         side as u8
     }

@@ -10,20 +10,23 @@ use mathlib.Core.Option.{Option, none, some}
 use lib.ListN.{length, take, get_or, length-map}
 use lib.Dec.{leb}
 use borrow.Author.Tests.{le-leb, leb-true}
-use Rattle.definitions.specs.Limits.{most_bytes, most_nodes}
-use Rattle.definitions.specs.Basics.{Result, ok, refused, any, all, keep}
-use Rattle.definitions.specs.Expression.{Expr, column, literal, and, binary, call, other, field, Record, Frame, Extraction, held}
-use Rattle.definitions.specs.Encode.{frame_bytes, remainder_bytes, plan_bytes}
-use Rattle.definitions.specs.Leaves.{leaves}
-use Rattle.definitions.specs.Plans.{frame_of}
-use Rattle.definitions.specs.Extract.{Pick, is_knn, prune, Matcher, matches_by, extraction_by}
-use Rattle.definitions.specs.Good.{AllBytes, plan_nodes, GoodPlan}
-use Rattle.definitions.specs.Sessions.{accepted}
-use Rattle.definitions.specs.Meaning.{Valuation, Meaning, frame_value}
-use Rattle.definitions.specs.Matchers.{Lawful}
-use Rattle.definitions.specs.Claims.{is_match, some_leaf_matches_by, TookAmong}
-use Rattle.definitions.specs.ExtractAll.{Conjuncts, no_round, round_then, but, in_first, round, rounds, positions_from, positions_of, conjuncts_by, pick_bytes, picks_bytes, conjuncts_bytes, new_conjuncts, finish_all, extract_all_by, matching, is_other, knn_first, match_count, and_both, unless, without_all, last_remainder, conjuncts_value}
-use Rattle.definitions.specs.AllClaims.{EveryPick, TakenInOrder, leaves_left, LeavesThatStay, GoodRest, AllWrote, AllKept, TakesAll, AllCall, AnyMatcherAll}
+use Rattle.definitions.specs.Words.Limits.{most_bytes, most_nodes}
+use Rattle.definitions.specs.Words.Basics.{Result, ok, refused, any, all, keep}
+use Rattle.definitions.specs.Words.Expression.{Expr, column, literal, and, binary, call, other, field, Record, Frame, Extraction, held}
+use Rattle.definitions.specs.Bytes.Encode.{frame_bytes, remainder_bytes, plan_bytes}
+use Rattle.definitions.specs.Words.Leaves.{leaves}
+use Rattle.definitions.specs.Bytes.Plans.{frame_of}
+use Rattle.definitions.specs.Filter.Extract.{Pick, is_knn, prune, Matcher, matches_by, extraction_by, is_match}
+use Rattle.definitions.specs.Bytes.Good.{AllBytes, plan_nodes, GoodPlan}
+use Rattle.definitions.specs.Lists.Sessions.{accepted}
+use Rattle.definitions.specs.Meaning.Values.{Valuation, Meaning, frame_value}
+use Rattle.definitions.specs.Meaning.Matchers.{Lawful}
+use Rattle.definitions.specs.Claims.Lists.{some_leaf_matches_by}
+use Rattle.definitions.specs.Claims.Pick.{TookAmong}
+use Rattle.definitions.specs.Filter.Conjuncts.{Conjuncts, no_round, round_then, but, in_first, round, rounds, positions_from, positions_of, conjuncts_by, matching, is_other, knn_first, match_count, and_both, unless, without_all, last_remainder}
+use Rattle.definitions.specs.Calls.ExtractAll.{pick_bytes, picks_bytes, conjuncts_bytes, new_conjuncts, finish_all, extract_all_by}
+use Rattle.definitions.specs.Meaning.Conjuncts.{conjuncts_value}
+use Rattle.definitions.specs.Claims.All.{EveryPick, TakenInOrder, leaves_left, LeavesThatStay, GoodRest, AllWrote, AllKept, TakesAll, AllCall, AnyMatcherAll}
 use Rattle.theorems.proofs.Taken.{and-both}
 use Rattle.theorems.proofs.Pick.{takes-by, position-of-leaf, leaves-nodes}
 use Rattle.theorems.proofs.RoundTripPlan.{frame-reads}

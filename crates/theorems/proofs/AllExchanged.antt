@@ -4,13 +4,13 @@ use mathlib.Core.Path.{◌≡◌, refl, ap, ◌∙◌}
 use mathlib.Core.List.{List}
 use mathlib.Core.Option.{Option, none, some, map}
 use lib.ListN.{length}
-use Rattle.definitions.specs.Expression.{Frame, Extraction}
-use Rattle.definitions.specs.Leaves.{leaves}
-use Rattle.definitions.specs.Extract.{Matcher, extraction_by}
-use Rattle.definitions.specs.Exchange.{exchange_frame, exchange_extraction}
-use Rattle.definitions.specs.Meaning.{Meaning}
-use Rattle.definitions.specs.Matchers.{Lawful}
-use Rattle.definitions.specs.ExtractAll.{no_round, round_then, but, in_first, round, rounds, positions_of, conjuncts_by, exchange_pick, exchange_conjuncts}
+use Rattle.definitions.specs.Words.Expression.{Frame, Extraction}
+use Rattle.definitions.specs.Words.Leaves.{leaves}
+use Rattle.definitions.specs.Filter.Extract.{Matcher, extraction_by}
+use Rattle.definitions.specs.Filter.Exchange.{exchange_frame, exchange_extraction}
+use Rattle.definitions.specs.Meaning.Values.{Meaning}
+use Rattle.definitions.specs.Meaning.Matchers.{Lawful}
+use Rattle.definitions.specs.Filter.Conjuncts.{no_round, round_then, but, in_first, round, rounds, positions_of, conjuncts_by, exchange_pick, exchange_conjuncts}
 use Rattle.theorems.proofs.ExtractExchange.{exchanged-by}
 
 module _ {match : Matcher} {Asks : Meaning → Type 0} (laws : Lawful match Asks) where

@@ -7,16 +7,15 @@ use mathlib.Core.Bool.{Bool, true, false, ◌&&◌}
 use mathlib.Core.List.{List, [], ◌∷◌}
 use mathlib.Core.Option.{Option, none, some, map}
 use lib.ListN.{length, get_or, length-append}
-use Rattle.definitions.specs.Basics.{any}
-use Rattle.definitions.specs.Expression.{Expr, column, literal, and, binary, call, other, field, Frame, Predicate, Extraction, held, extracted}
-use Rattle.definitions.specs.Encode.{expr_bytes, remainder_bytes, extraction_bytes, plan_bytes}
-use Rattle.definitions.specs.Leaves.{arity}
-use Rattle.definitions.specs.Decode.{Columns, index_below}
-use Rattle.definitions.specs.Extract.{Pick, prune, Matcher, matches_by}
-use Rattle.definitions.specs.Good.{nodes, depth, InRange, ReadableFrame, plan_nodes, predicate_nodes, remainder_nodes, GoodPlan}
-use Rattle.definitions.specs.Claims.{is_match}
-use Rattle.definitions.specs.ExtractAll.{and_both, unless, without_all, last_remainder}
-use Rattle.definitions.specs.AllClaims.{EveryPick, GoodRest}
+use Rattle.definitions.specs.Words.Basics.{any}
+use Rattle.definitions.specs.Words.Expression.{Expr, column, literal, and, binary, call, other, field, Frame, Predicate, Extraction, held, extracted}
+use Rattle.definitions.specs.Bytes.Encode.{expr_bytes, remainder_bytes, extraction_bytes, plan_bytes}
+use Rattle.definitions.specs.Words.Leaves.{arity}
+use Rattle.definitions.specs.Bytes.Decode.{Columns, index_below}
+use Rattle.definitions.specs.Filter.Extract.{Pick, prune, Matcher, matches_by, is_match}
+use Rattle.definitions.specs.Bytes.Good.{nodes, depth, InRange, ReadableFrame, plan_nodes, predicate_nodes, remainder_nodes, GoodPlan}
+use Rattle.definitions.specs.Filter.Conjuncts.{and_both, unless, without_all, last_remainder}
+use Rattle.definitions.specs.Claims.All.{EveryPick, GoodRest}
 use Rattle.theorems.proofs.Tools.{by-test}
 use Rattle.theorems.proofs.Taken.{RestIs, rest_bytes, and-both, arity-and}
 use Rattle.theorems.proofs.ExtractGood.{rest-readable, rest-length, prune-nodes}

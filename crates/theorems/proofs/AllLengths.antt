@@ -8,17 +8,17 @@ use mathlib.Core.List.{List, [], ◌∷◌, ◌++◌, map, map-append}
 use mathlib.Core.Option
 use mathlib.Core.Option.{Option, none, some}
 use lib.ListN.{length, length-append, length-map}
-use Rattle.definitions.specs.Basics.{big_endian, any}
-use Rattle.definitions.specs.Expression.{Expr, column, literal, and, binary, call, other, field, Record, Frame, Predicate}
-use Rattle.definitions.specs.Encode.{expr_bytes, frame_bytes, predicate_fields, remainder_bytes}
-use Rattle.definitions.specs.Leaves.{leaves}
-use Rattle.definitions.specs.Decode.{index_below}
-use Rattle.definitions.specs.Extract.{Pick, is_knn, prune, Matcher, matches_by}
-use Rattle.definitions.specs.Good.{nodes, depth, InRange, RecordsInRange, ReadableFrame}
-use Rattle.definitions.specs.Meaning.{Meaning}
-use Rattle.definitions.specs.Matchers.{Fits, Lawful}
-use Rattle.definitions.specs.Claims.{is_match}
-use Rattle.definitions.specs.ExtractAll.{pick_bytes, picks_bytes, conjuncts_bytes, matching, is_other, knn_first, and_both, unless, without_all, last_remainder}
+use Rattle.definitions.specs.Words.Basics.{big_endian, any}
+use Rattle.definitions.specs.Words.Expression.{Expr, column, literal, and, binary, call, other, field, Record, Frame, Predicate}
+use Rattle.definitions.specs.Bytes.Encode.{expr_bytes, frame_bytes, predicate_fields, remainder_bytes}
+use Rattle.definitions.specs.Words.Leaves.{leaves}
+use Rattle.definitions.specs.Bytes.Decode.{index_below}
+use Rattle.definitions.specs.Filter.Extract.{Pick, is_knn, prune, Matcher, matches_by, is_match}
+use Rattle.definitions.specs.Bytes.Good.{nodes, depth, InRange, RecordsInRange, ReadableFrame}
+use Rattle.definitions.specs.Meaning.Values.{Meaning}
+use Rattle.definitions.specs.Meaning.Matchers.{Fits, Lawful}
+use Rattle.definitions.specs.Calls.ExtractAll.{pick_bytes, picks_bytes, conjuncts_bytes}
+use Rattle.definitions.specs.Filter.Conjuncts.{matching, is_other, knn_first, and_both, unless, without_all, last_remainder}
 use Rattle.theorems.proofs.Taken.{rest_bytes}
 use Rattle.theorems.proofs.ExtractGood.{rest-length}
 use Rattle.theorems.proofs.ExchangeGood.{frame-length}

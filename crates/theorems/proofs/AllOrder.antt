@@ -9,11 +9,10 @@ use mathlib.Core.Option.{Option, none, some}
 use lib.ListN.{length, get_or}
 use lib.Dec.{eqb}
 use borrow.Author.Tests.{eq-eqb, ne_eqb}
-use Rattle.definitions.specs.Expression.{Predicate}
-use Rattle.definitions.specs.Extract.{Pick, is_knn}
-use Rattle.definitions.specs.Claims.{is_match}
-use Rattle.definitions.specs.ExtractAll.{positions_from, matching, is_other, knn_first}
-use Rattle.definitions.specs.AllClaims.{EveryPick, RisingFrom, times, TakenInOrder}
+use Rattle.definitions.specs.Words.Expression.{Predicate}
+use Rattle.definitions.specs.Filter.Extract.{Pick, is_knn, is_match}
+use Rattle.definitions.specs.Filter.Conjuncts.{positions_from, matching, is_other, knn_first}
+use Rattle.definitions.specs.Claims.All.{EveryPick, RisingFrom, times, TakenInOrder}
 use Rattle.theorems.proofs.Tools.{by-test}
 use Rattle.theorems.proofs.AllPicks.{Matches}
 

@@ -7,9 +7,10 @@ use mathlib.Core.Bool.{Bool, true, false}
 use mathlib.Core.List.{List, [], ◌∷◌, ◌++◌}
 use mathlib.Core.Option.{Option, none, some}
 use lib.ListN.{length}
-use Rattle.definitions.specs.Expression.{Predicate}
-use Rattle.definitions.specs.Extract.{Pick}
-use Rattle.definitions.specs.ExtractAll.{positions_from, picks_bytes, matching, match_count}
+use Rattle.definitions.specs.Words.Expression.{Predicate}
+use Rattle.definitions.specs.Filter.Extract.{Pick}
+use Rattle.definitions.specs.Filter.Conjuncts.{positions_from, matching, match_count}
+use Rattle.definitions.specs.Calls.ExtractAll.{picks_bytes}
 use Rattle.theorems.proofs.AllPicks.{Matches}
 use Rattle.theorems.proofs.AllConjuncts.{picks-append}
 

@@ -8,9 +8,9 @@ use mathlib.Core.Bool.{Bool, true, false, not}
 use mathlib.Core.List.{List, [], ◌∷◌, ◌++◌, map}
 use mathlib.Core.Option.{Option, none, some}
 use lib.ListN.{length, get_or, length-append}
-use Rattle.definitions.specs.Expression.{Predicate}
-use Rattle.definitions.specs.Extract.{Pick, is_knn, first_match, first_of, pick}
-use Rattle.definitions.specs.ExtractAll.{but, positions_from, matching, is_other, knn_first, match_count}
+use Rattle.definitions.specs.Words.Expression.{Predicate}
+use Rattle.definitions.specs.Filter.Extract.{Pick, is_knn, first_match, first_of, pick}
+use Rattle.definitions.specs.Filter.Conjuncts.{but, positions_from, matching, is_other, knn_first, match_count}
 use Rattle.theorems.proofs.Pick.{no-match, passes, NoneBelow, First, first-is}
 
 -- A list of matches.

@@ -12,17 +12,16 @@ use lib.ListN.{length, get_or, length-append, length-map, get_or-append}
 use lib.Seq.{get_or-append-add}
 use lib.Dec.{ltb}
 use borrow.Author.Tests.{ltb-true, ltb-false}
-use Rattle.definitions.specs.Basics.{keep}
-use Rattle.definitions.specs.Expression.{Expr, column, literal, and, binary, call, other, field, Record, Frame, held}
-use Rattle.definitions.specs.Leaves.{leaves}
-use Rattle.definitions.specs.Decode.{index_below}
-use Rattle.definitions.specs.References.{columns_of, map_columns, record_at}
-use Rattle.definitions.specs.Extract.{Pick, pick, and_left, and_right, without, referenced, new_index, prune, take_pick, Matcher, matches_by, extraction_by}
-use Rattle.definitions.specs.Good.{InRange, GoodPlan}
-use Rattle.definitions.specs.Meaning.{Meaning}
-use Rattle.definitions.specs.Matchers.{Lawful}
-use Rattle.definitions.specs.Claims.{is_match}
-use Rattle.definitions.specs.ExtractAll.{Conjuncts, no_round, round_then, but, in_first, round, rounds, positions_from, positions_of, conjuncts_by, matching, knn_first, and_both, unless, without_all, last_remainder}
+use Rattle.definitions.specs.Words.Basics.{keep}
+use Rattle.definitions.specs.Words.Expression.{Expr, column, literal, and, binary, call, other, field, Record, Frame, held}
+use Rattle.definitions.specs.Words.Leaves.{leaves}
+use Rattle.definitions.specs.Bytes.Decode.{index_below}
+use Rattle.definitions.specs.Words.References.{columns_of, map_columns, record_at}
+use Rattle.definitions.specs.Filter.Extract.{Pick, pick, and_left, and_right, without, referenced, new_index, prune, take_pick, Matcher, matches_by, extraction_by, is_match}
+use Rattle.definitions.specs.Bytes.Good.{InRange, GoodPlan}
+use Rattle.definitions.specs.Meaning.Values.{Meaning}
+use Rattle.definitions.specs.Meaning.Matchers.{Lawful}
+use Rattle.definitions.specs.Filter.Conjuncts.{Conjuncts, no_round, round_then, but, in_first, round, rounds, positions_from, positions_of, conjuncts_by, matching, knn_first, and_both, unless, without_all, last_remainder}
 use Rattle.theorems.proofs.Tools.{by-test, mapped_at}
 use Rattle.theorems.proofs.Taken.{Taken, taken, rest_leaves, less, RestIs, rest-in-range}
 use Rattle.theorems.proofs.Pick.{any_none, any_some}

@@ -5,14 +5,15 @@ use mathlib.Core.Path.{◌≡◌, refl, sym, ap, ◌∙◌, subst}
 use mathlib.Core.List.{List, [], ◌∷◌, ◌++◌, map}
 use mathlib.Core.Option.{Option, none, some}
 use lib.ListN.{length, get_or, length-map}
-use Rattle.definitions.specs.Expression.{Expr, Record, Frame, held}
-use Rattle.definitions.specs.Leaves.{leaves}
-use Rattle.definitions.specs.Decode.{index_below}
-use Rattle.definitions.specs.Extract.{Pick, pick, without, prune, Matcher, matches_by}
-use Rattle.definitions.specs.Good.{InRange, GoodPlan}
-use Rattle.definitions.specs.Meaning.{and_value, Valuation, Meaning, value, frame_columns, frame_value, predicate_value}
-use Rattle.definitions.specs.Matchers.{Valued, Lawful}
-use Rattle.definitions.specs.ExtractAll.{Conjuncts, no_round, round_then, but, positions_of, matching, knn_first, and_of, rest_values, conjuncts_value}
+use Rattle.definitions.specs.Words.Expression.{Expr, Record, Frame, held}
+use Rattle.definitions.specs.Words.Leaves.{leaves}
+use Rattle.definitions.specs.Bytes.Decode.{index_below}
+use Rattle.definitions.specs.Filter.Extract.{Pick, pick, without, prune, Matcher, matches_by}
+use Rattle.definitions.specs.Bytes.Good.{InRange, GoodPlan}
+use Rattle.definitions.specs.Meaning.Values.{and_value, Valuation, Meaning, value, frame_columns, frame_value, predicate_value}
+use Rattle.definitions.specs.Meaning.Matchers.{Valued, Lawful}
+use Rattle.definitions.specs.Filter.Conjuncts.{Conjuncts, no_round, round_then, but, positions_of, matching, knn_first}
+use Rattle.definitions.specs.Meaning.Conjuncts.{and_of, rest_values, conjuncts_value}
 use Rattle.theorems.proofs.Tools.{mapped_at}
 use Rattle.theorems.proofs.Taken.{Taken, taken, rest_leaves, leaf-in-range}
 use Rattle.theorems.proofs.Values.{and_rest, taken-value}

@@ -7,17 +7,17 @@ use mathlib.Core.List.{List, [], ◌∷◌, ◌++◌, map}
 use mathlib.Core.Option.{Option, none, some}
 use lib.ListN.{length}
 use lib.Dec.{leb}
-use Rattle.definitions.specs.Basics.{Result}
-use Rattle.definitions.specs.Expression.{Frame, Extraction}
-use Rattle.definitions.specs.Extract.{Matcher, extraction_by}
-use Rattle.definitions.specs.Encode.{plan_bytes}
-use Rattle.definitions.specs.Calls.{Outcome}
-use Rattle.definitions.specs.NodeTable.{NodeRecord}
-use Rattle.definitions.specs.Machine.{Kind, extract_call, exchange_call, Bits, machine_plan, machine_length, Step, refuse_step, accept_step, take_step, machine_step, machine_run, fresh}
-use Rattle.definitions.specs.Sessions.{Made, extract_with, exchange_with, make_by, calls_run_by, fed, machine_after_by, accepted, is_extract, extract_accepted, exchanges_odd, SessionBy, length_after, plan_after, extracted_in, odd_in, answer_after}
-use Rattle.definitions.specs.Meaning.{Meaning}
-use Rattle.definitions.specs.Matchers.{Lawful}
-use Rattle.definitions.specs.Claims.{some_leaf_matches_by}
+use Rattle.definitions.specs.Words.Basics.{Result}
+use Rattle.definitions.specs.Words.Expression.{Frame, Extraction}
+use Rattle.definitions.specs.Filter.Extract.{Matcher, extraction_by}
+use Rattle.definitions.specs.Bytes.Encode.{plan_bytes}
+use Rattle.definitions.specs.Calls.Base.{Outcome}
+use Rattle.definitions.specs.Bytes.NodeTable.{NodeRecord}
+use Rattle.definitions.specs.Lists.Machine.{Kind, extract_call, exchange_call, Bits, machine_plan, machine_length, Step, refuse_step, accept_step, take_step, machine_step, machine_run, fresh}
+use Rattle.definitions.specs.Lists.Sessions.{Made, extract_with, exchange_with, make_by, calls_run_by, fed, machine_after_by, accepted, is_extract, extract_accepted, exchanges_odd, SessionBy, length_after, plan_after, extracted_in, odd_in, answer_after}
+use Rattle.definitions.specs.Meaning.Values.{Meaning}
+use Rattle.definitions.specs.Meaning.Matchers.{Lawful}
+use Rattle.definitions.specs.Claims.Lists.{some_leaf_matches_by}
 use Rattle.theorems.proofs.Tools.{by-test}
 use Rattle.theorems.proofs.Pick.{Matched, matched}
 use Rattle.theorems.proofs.Lists.{bits, step-agrees}

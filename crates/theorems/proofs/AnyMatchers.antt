@@ -1,16 +1,16 @@
 -- All that is claimed of extractions and of calls with any lawful matcher, gathered, and that 01's is one.
 use mathlib.Core.Path.{◌≡◌, ap, ◌∙◌, subst}
 use mathlib.Core.List.{List}
-use Rattle.definitions.specs.Basics.{ok}
-use Rattle.definitions.specs.Expression.{Frame}
-use Rattle.definitions.specs.Plans.{plan_of}
-use Rattle.definitions.specs.Extract.{Matcher}
-use Rattle.definitions.specs.Machine.{Bits, machine_plan}
-use Rattle.definitions.specs.Sessions.{Made, SessionBy, plan_after, odd_in}
-use Rattle.definitions.specs.Meaning.{Valuation, Meaning, frame_value}
-use Rattle.definitions.specs.Matchers.{Lawful, Symmetric}
-use Rattle.definitions.specs.ValueClaims.{values_when, HasValue}
-use Rattle.definitions.specs.AnyMatcher.{Extracts, OneCall, Lists, AnyMatcher}
+use Rattle.definitions.specs.Words.Basics.{ok}
+use Rattle.definitions.specs.Words.Expression.{Frame}
+use Rattle.definitions.specs.Bytes.Plans.{plan_of}
+use Rattle.definitions.specs.Filter.Extract.{Matcher}
+use Rattle.definitions.specs.Lists.Machine.{Bits, machine_plan}
+use Rattle.definitions.specs.Lists.Sessions.{Made, SessionBy, plan_after, odd_in}
+use Rattle.definitions.specs.Meaning.Values.{Valuation, Meaning, frame_value}
+use Rattle.definitions.specs.Meaning.Matchers.{Lawful, Symmetric}
+use Rattle.definitions.specs.Claims.Values.{values_when, HasValue}
+use Rattle.definitions.specs.Claims.AnyMatcher.{Extracts, OneCall, Lists, AnyMatcher}
 use Rattle.theorems.proofs.ExtractExchange.{exchanged-by}
 use Rattle.theorems.proofs.RoundTripPlan.{plan-reads}
 use Rattle.theorems.proofs.ExtractGood.{GoodExtraction, good-by}

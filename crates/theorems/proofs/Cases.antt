@@ -1,7 +1,7 @@
 -- What is shown of each kind of expression, or of each pair of sides, holds of all.
 use Prim.Native.Nat.{ℕ}
 use mathlib.Core.List.{List}
-use Rattle.definitions.specs.Expression.{Side, left, right, no_side, Expr, column, literal, and, binary, call, other, field, Exprs, nil, cons}
+use Rattle.definitions.specs.Words.Expression.{Side, left, right, no_side, Expr, column, literal, and, binary, call, other, field, Exprs, nil, cons}
 
 module _ (P : Expr → Type 0) where
   -- By what an expression is.

@@ -10,19 +10,19 @@ use lib.ListN.{length, take, drop, length-append, length-drop}
 use lib.Seq.{take-append_seam, drop-append_seam, length-take-le}
 use lib.Dec.{leb}
 use borrow.Author.Tests.{leb-true}
-use Rattle.definitions.specs.Basics.{Result, ok, refused}
-use Rattle.definitions.specs.Expression.{Frame, Extraction, Plan, empty, held, extracted}
-use Rattle.definitions.specs.Encode.{frame_bytes, plan_bytes}
-use Rattle.definitions.specs.Plans.{frame_of, plan_of}
-use Rattle.definitions.specs.Extract.{Matcher, extraction_by}
-use Rattle.definitions.specs.Calls.{written_over, filled_by, table_fits, finish_load, load, Outcome, finish, held_plan, new_after_exchange, exchange, matched_bytes, new_after_extract_by, extract_filled_by, extract_by}
-use Rattle.definitions.specs.Machine.{Kind, extract_call, exchange_call}
-use Rattle.definitions.specs.Good.{AllBytes, nodes, GoodPlan}
-use Rattle.definitions.specs.NodeTable.{NodeRecord, node_table}
-use Rattle.definitions.specs.Sessions.{make_by, accepted}
-use Rattle.definitions.specs.Meaning.{Meaning}
-use Rattle.definitions.specs.Matchers.{Lawful}
-use Rattle.definitions.specs.Claims.{SameFrom, Filled, LoadWrote, CallWrote}
+use Rattle.definitions.specs.Words.Basics.{Result, ok, refused}
+use Rattle.definitions.specs.Words.Expression.{Frame, Extraction, Plan, empty, held, extracted}
+use Rattle.definitions.specs.Bytes.Encode.{frame_bytes, plan_bytes}
+use Rattle.definitions.specs.Bytes.Plans.{frame_of, plan_of}
+use Rattle.definitions.specs.Filter.Extract.{Matcher, extraction_by}
+use Rattle.definitions.specs.Calls.Base.{written_over, filled_by, table_fits, finish_load, load, Outcome, finish, held_plan, new_after_exchange, exchange, matched_bytes, new_after_extract_by, extract_filled_by, extract_by}
+use Rattle.definitions.specs.Lists.Machine.{Kind, extract_call, exchange_call}
+use Rattle.definitions.specs.Bytes.Good.{AllBytes, nodes, GoodPlan}
+use Rattle.definitions.specs.Bytes.NodeTable.{NodeRecord, node_table}
+use Rattle.definitions.specs.Lists.Sessions.{make_by, accepted}
+use Rattle.definitions.specs.Meaning.Values.{Meaning}
+use Rattle.definitions.specs.Meaning.Matchers.{Lawful}
+use Rattle.definitions.specs.Claims.Calls.{SameFrom, Filled, LoadWrote, CallWrote}
 use Rattle.theorems.proofs.Tools.{by-test}
 use Rattle.theorems.proofs.InversePlan.{plan-back}
 use Rattle.theorems.proofs.ExtractGood.{GoodExtraction, good-by}

@@ -8,13 +8,13 @@ use mathlib.Core.Option.{none, some}
 use lib.ListN.{length, length-append}
 use lib.Dec.{leb, ltb, eqb}
 use borrow.Author.Tests.{lt-ltb}
-use Rattle.definitions.specs.Basics.{big_endian, all, ascii, same_name}
-use Rattle.definitions.specs.Expression.{Expr, column, literal, and, binary, call, other, field, Exprs, nil, cons, count}
-use Rattle.definitions.specs.Encode.{expr_bytes, exprs_bytes}
-use Rattle.definitions.specs.Leaves.{leaves, call_arity, leaf_arity, arity, comparison, Comparison, compares, no_comparison, comparison_arity, distance_arguments, distance_arity}
-use Rattle.definitions.specs.Decode.{index_below}
-use Rattle.definitions.specs.References.{columns_of, columns_of_all, map_columns, map_columns_all}
-use Rattle.definitions.specs.Good.{All, nodes, nodes_all, depth, depth_all, InRange, InRangeAll, Short}
+use Rattle.definitions.specs.Words.Basics.{big_endian, all, ascii, same_name}
+use Rattle.definitions.specs.Words.Expression.{Expr, column, literal, and, binary, call, other, field, Exprs, nil, cons, count}
+use Rattle.definitions.specs.Bytes.Encode.{expr_bytes, exprs_bytes}
+use Rattle.definitions.specs.Words.Leaves.{leaves, call_arity, leaf_arity, arity, comparison, Comparison, compares, no_comparison, comparison_arity, distance_arguments, distance_arity}
+use Rattle.definitions.specs.Bytes.Decode.{index_below}
+use Rattle.definitions.specs.Words.References.{columns_of, columns_of_all, map_columns, map_columns_all}
+use Rattle.definitions.specs.Bytes.Good.{All, nodes, nodes_all, depth, depth_all, InRange, InRangeAll, Short}
 
 pub all-left : (P : ℕ → Type 0) (xs ys : List ℕ) → All P (xs ++ ys) → All P xs
 all-left P [] ys h = tt

@@ -5,9 +5,9 @@ use mathlib.Core.List.{List, [], ◌∷◌, map}
 use mathlib.Core.Option
 use mathlib.Core.Option.{Option, none, some}
 use lib.ListN.{get_or-map}
-use Rattle.definitions.specs.Expression.{Side, left, right, no_side, Relation, intersects, contains, within, covers, covered_by, touches, crosses, overlaps, equals, Record, Frame, Predicate, relation, distance, knn, Extraction, Plan, empty, held, extracted, invert}
-use Rattle.definitions.specs.References.{record_at, same_side}
-use Rattle.definitions.specs.Exchange.{negate, exchange_record, exchange_frame, exchange_predicate, exchange_extraction, exchange_plan}
+use Rattle.definitions.specs.Words.Expression.{Side, left, right, no_side, Relation, intersects, contains, within, covers, covered_by, touches, crosses, overlaps, equals, Record, Frame, Predicate, relation, distance, knn, Extraction, Plan, empty, held, extracted, invert}
+use Rattle.definitions.specs.Words.References.{record_at, same_side}
+use Rattle.definitions.specs.Filter.Exchange.{negate, exchange_record, exchange_frame, exchange_predicate, exchange_extraction, exchange_plan}
 use Rattle.theorems.proofs.Cases.{two-sides}
 
 -- ---- exchange twice

@@ -6,12 +6,12 @@ use mathlib.Core.List.{List, [], ◌∷◌, map}
 use mathlib.Core.Option
 use mathlib.Core.Option.{Option, none, some}
 use lib.ListN.{length, length-append, length-map}
-use Rattle.definitions.specs.Basics.{big_endian}
-use Rattle.definitions.specs.Expression.{Side, left, right, no_side, Record, Frame, Predicate, relation, distance, knn, Extraction, Plan, empty, held, extracted}
-use Rattle.definitions.specs.Encode.{expr_bytes, record_bytes, records_bytes, frame_bytes, predicate_fields, remainder_bytes, extraction_bytes, plan_bytes}
-use Rattle.definitions.specs.Exchange.{negate, exchange_record, exchange_frame, exchange_predicate, exchange_extraction, exchange_plan}
-use Rattle.definitions.specs.Good.{Short, RecordsInRange, ReadableFrame, OneOfTwo, ReadablePredicate, ReadableRemainder, predicate_nodes, remainder_nodes, plan_nodes, ReadablePlan, GoodPlan}
-use Rattle.definitions.specs.Claims.{moved_to}
+use Rattle.definitions.specs.Words.Basics.{big_endian}
+use Rattle.definitions.specs.Words.Expression.{Side, left, right, no_side, Record, Frame, Predicate, relation, distance, knn, Extraction, Plan, empty, held, extracted}
+use Rattle.definitions.specs.Bytes.Encode.{expr_bytes, record_bytes, records_bytes, frame_bytes, predicate_fields, remainder_bytes, extraction_bytes, plan_bytes}
+use Rattle.definitions.specs.Filter.Exchange.{negate, exchange_record, exchange_frame, exchange_predicate, exchange_extraction, exchange_plan}
+use Rattle.definitions.specs.Bytes.Good.{Short, RecordsInRange, ReadableFrame, OneOfTwo, ReadablePredicate, ReadableRemainder, predicate_nodes, remainder_nodes, plan_nodes, ReadablePlan, GoodPlan}
+use Rattle.definitions.specs.Claims.Plans.{moved_to}
 
 -- ---- lengths
 

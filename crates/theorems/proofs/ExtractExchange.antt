@@ -7,14 +7,14 @@ use mathlib.Core.List.{List, [], ◌∷◌, map}
 use mathlib.Core.Option
 use mathlib.Core.Option.{Option, none, some}
 use lib.ListN.{length, take}
-use Rattle.definitions.specs.Basics.{any, keep}
-use Rattle.definitions.specs.Expression.{Expr, Record, Frame, Predicate, relation, distance, knn}
-use Rattle.definitions.specs.Leaves.{leaves}
-use Rattle.definitions.specs.References.{record_at, map_columns, columns_of}
-use Rattle.definitions.specs.Extract.{Pick, is_knn, later, first_match, first_of, pick, same_column, referenced, new_index, prune, take_pick, Matcher, matches_by, extraction_by}
-use Rattle.definitions.specs.Exchange.{exchange_record, exchange_frame, exchange_predicate, exchange_extraction}
-use Rattle.definitions.specs.Meaning.{Meaning}
-use Rattle.definitions.specs.Matchers.{Lawful}
+use Rattle.definitions.specs.Words.Basics.{any, keep}
+use Rattle.definitions.specs.Words.Expression.{Expr, Record, Frame, Predicate, relation, distance, knn}
+use Rattle.definitions.specs.Words.Leaves.{leaves}
+use Rattle.definitions.specs.Words.References.{record_at, map_columns, columns_of}
+use Rattle.definitions.specs.Filter.Extract.{Pick, is_knn, later, first_match, first_of, pick, same_column, referenced, new_index, prune, take_pick, Matcher, matches_by, extraction_by}
+use Rattle.definitions.specs.Filter.Exchange.{exchange_record, exchange_frame, exchange_predicate, exchange_extraction}
+use Rattle.definitions.specs.Meaning.Values.{Meaning}
+use Rattle.definitions.specs.Meaning.Matchers.{Lawful}
 use Rattle.theorems.proofs.Exchange.{swapped, record-at, same-negated}
 
 -- ---- the pick

@@ -10,18 +10,18 @@ use mathlib.Core.Option.{Option, none, some, map}
 use lib.ListN.{length, take}
 use lib.Dec.{ltb, eqb}
 use borrow.Author.Tests.{ltb-true, lt-ltb, eq-eqb}
-use Rattle.definitions.specs.Basics.{any, keep}
-use Rattle.definitions.specs.Expression.{Side, left, right, no_side, Expr, Record, Frame, Extraction, held, extracted}
-use Rattle.definitions.specs.Encode.{expr_bytes, frame_bytes, remainder_bytes, extraction_bytes, plan_bytes}
-use Rattle.definitions.specs.Leaves.{arity}
-use Rattle.definitions.specs.Decode.{index_below}
-use Rattle.definitions.specs.References.{record_at, columns_of, same_side, map_columns}
-use Rattle.definitions.specs.Extract.{Pick, pick, without, same_column, referenced, new_index, prune, take_pick, Matcher, matches_by, extraction_by, extraction}
-use Rattle.definitions.specs.Good.{All, nodes, depth, InRange, RecordsInRange, ReadableFrame, ReadableRemainder, remainder_nodes, plan_nodes, GoodPlan}
+use Rattle.definitions.specs.Words.Basics.{any, keep}
+use Rattle.definitions.specs.Words.Expression.{Side, left, right, no_side, Expr, Record, Frame, Extraction, held, extracted}
+use Rattle.definitions.specs.Bytes.Encode.{expr_bytes, frame_bytes, remainder_bytes, extraction_bytes, plan_bytes}
+use Rattle.definitions.specs.Words.Leaves.{arity}
+use Rattle.definitions.specs.Bytes.Decode.{index_below}
+use Rattle.definitions.specs.Words.References.{record_at, columns_of, same_side, map_columns}
+use Rattle.definitions.specs.Filter.Extract.{Pick, pick, without, same_column, referenced, new_index, prune, take_pick, Matcher, matches_by, extraction_by, extraction}
+use Rattle.definitions.specs.Bytes.Good.{All, nodes, depth, InRange, RecordsInRange, ReadableFrame, ReadableRemainder, remainder_nodes, plan_nodes, GoodPlan}
 use Rattle.theorems.proofs.Columns.{Fits as FitsIn, map-length, map-nodes, map-depth, map-in-range, map-arity, all_both, columns-below}
 use Rattle.theorems.proofs.Taken.{Taken, taken-bytes, taken-nodes, leaf-depth, rest-depth, leaf-in-range, rest-in-range, rest-arity, rest_bytes, rest_nodes, RestIs}
-use Rattle.definitions.specs.Meaning.{Meaning}
-use Rattle.definitions.specs.Matchers.{Fits, Lawful}
+use Rattle.definitions.specs.Meaning.Values.{Meaning}
+use Rattle.definitions.specs.Meaning.Matchers.{Fits, Lawful}
 use Rattle.theorems.proofs.MatchLaws.{match-laws}
 use Rattle.theorems.proofs.Pick.{taking, Picked, picked, leaf_at, position-short, pick-taken, pick-matches}
 use Rattle.theorems.proofs.Tools.{by-test}

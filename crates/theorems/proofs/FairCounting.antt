@@ -9,15 +9,15 @@ use mathlib.Core.Option.{Option, none, some}
 use lib.ListN.{length}
 use lib.Dec.{leb, eqb}
 use borrow.Author.Tests.{leb-true, ne_eqb}
-use Rattle.definitions.specs.Basics.{ascii, same_name}
-use Rattle.definitions.specs.Expression.{Side, Relation, Expr, column, literal, and, binary, call, other, field, Exprs, nil, cons, Record, knn}
-use Rattle.definitions.specs.Literals.{literal_in_range, number_bool}
-use Rattle.definitions.specs.Leaves.{relation_named}
-use Rattle.definitions.specs.Match.{literal_k, literal_bool, knn_literals, knn_request, knn_request_by, match_leaf}
-use Rattle.definitions.specs.Decode.{Columns, index_below}
-use Rattle.definitions.specs.Good.{InRange, InRangeAll}
-use Rattle.definitions.specs.Meaning.{Valuation, Meaning, value, values, frame_columns, Fair}
-use Rattle.definitions.specs.ValueClaims.{FairByArguments}
+use Rattle.definitions.specs.Words.Basics.{ascii, same_name}
+use Rattle.definitions.specs.Words.Expression.{Side, Relation, Expr, column, literal, and, binary, call, other, field, Exprs, nil, cons, Record, knn}
+use Rattle.definitions.specs.Words.Literals.{literal_in_range, number_bool}
+use Rattle.definitions.specs.Words.Leaves.{relation_named}
+use Rattle.definitions.specs.Filter.Match.{literal_k, literal_bool, knn_literals, knn_request, knn_request_by, match_leaf}
+use Rattle.definitions.specs.Bytes.Decode.{Columns, index_below}
+use Rattle.definitions.specs.Bytes.Good.{InRange, InRangeAll}
+use Rattle.definitions.specs.Meaning.Values.{Valuation, Meaning, value, values, frame_columns, Fair}
+use Rattle.definitions.specs.Claims.Values.{FairByArguments}
 use Rattle.definitions.proofs.Everything.{everything}
 use Rattle.theorems.proofs.Tools.{same-name}
 use Rattle.theorems.proofs.KnnLeaves.{Asked, Matched, leaf-matched}

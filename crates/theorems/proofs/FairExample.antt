@@ -9,16 +9,16 @@ use mathlib.Core.Option.{Option, none, some}
 use lib.Dec.{leb, ltb, eqb}
 use lib.IntN.{ℤ, pos}
 use borrow.Author.Tests.{eqb-true, eqb-false, eq-eqb, ne_eqb}
-use Rattle.definitions.specs.Basics.{given◌then◌else◌, ascii, same_name}
-use Rattle.definitions.specs.Expression.{Side, Relation, intersects, contains, within, covers, covered_by, touches, crosses, overlaps, equals, Expr, column, literal, and, binary, call, other, field, Exprs, nil, cons, Record, Predicate, knn, invert}
-use Rattle.definitions.specs.Literals.{signed, u32, number_u32, is_k, only_k}
-use Rattle.definitions.specs.Leaves.{relation_named}
-use Rattle.definitions.specs.Match.{literal_u32, literal_k, literal_bool, knn_literals, knn_request_by, match_leaf_by}
-use Rattle.definitions.specs.Extract.{Matcher}
-use Rattle.definitions.specs.Meaning.{Valuation, Meaning, value, frame_columns, FairBy, Fair}
-use Rattle.definitions.specs.Settings.{Settings, default_settings, allowed, only_if, match_under}
-use Rattle.definitions.specs.SettingsClaims.{FairMeaningUnder}
-use Rattle.definitions.specs.ValueClaims.{FairMeaning, marked_frame, mark_copied, MarksStay}
+use Rattle.definitions.specs.Words.Basics.{given◌then◌else◌, ascii, same_name}
+use Rattle.definitions.specs.Words.Expression.{Side, Relation, intersects, contains, within, covers, covered_by, touches, crosses, overlaps, equals, Expr, column, literal, and, binary, call, other, field, Exprs, nil, cons, Record, Predicate, knn, invert}
+use Rattle.definitions.specs.Words.Literals.{signed, u32, number_u32, is_k, only_k}
+use Rattle.definitions.specs.Words.Leaves.{relation_named}
+use Rattle.definitions.specs.Filter.Match.{literal_u32, literal_k, literal_bool, knn_literals, knn_request_by, match_leaf_by}
+use Rattle.definitions.specs.Filter.Extract.{Matcher}
+use Rattle.definitions.specs.Meaning.Values.{Valuation, Meaning, value, frame_columns, FairBy, Fair}
+use Rattle.definitions.specs.Filter.Settings.{Settings, default_settings, allowed, only_if, match_under}
+use Rattle.definitions.specs.Claims.Settings.{FairMeaningUnder}
+use Rattle.definitions.specs.Claims.Values.{FairMeaning, marked_frame, mark_copied, MarksStay}
 use Rattle.definitions.proofs.Everything.{everything}
 use Rattle.theorems.proofs.Tools.{by-test}
 use Rattle.theorems.proofs.KnnLeaves.{Asked, Matched, leaf-matched}

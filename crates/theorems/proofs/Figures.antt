@@ -10,11 +10,10 @@ use lib.ListN.{length}
 use lib.Dec.{ltb, lit<, lit≤}
 use lib.Arith.{mod-mul}
 use borrow.Author.Tests.{ltb-true, ltb-false, lt-ltb, le-leb}
-use Rattle.definitions.specs.Basics.{big_endian}
-use Rattle.definitions.specs.Readers.{read, number}
-use Rattle.definitions.specs.Program.{digit, digits}
-use Rattle.definitions.specs.Printed.{figures, decimal_width, decimal, digits16}
-use Rattle.definitions.specs.PrintClaims.{is_digit, NoDigit}
+use Rattle.definitions.specs.Words.Basics.{big_endian, digit, digits}
+use Rattle.definitions.specs.Bytes.Readers.{read, number}
+use Rattle.definitions.specs.Bytes.Printed.{figures, decimal_width, decimal, digits16}
+use Rattle.definitions.specs.Claims.Print.{is_digit, NoDigit}
 use Rattle.theorems.proofs.Tools.{by-test}
 use Rattle.theorems.proofs.RoundTrip.{number-reads}
 

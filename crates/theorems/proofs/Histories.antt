@@ -9,23 +9,25 @@ use mathlib.Core.Option.{Option, none, some}
 use lib.ListN.{length, take}
 use lib.Dec.{leb}
 use borrow.Author.Tests.{leb-true, le-leb}
-use Rattle.definitions.specs.Basics.{Result, ok, refused, map_result}
-use Rattle.definitions.specs.Expression.{Frame, Extraction, Plan, empty, held, extracted}
-use Rattle.definitions.specs.Encode.{plan_bytes, frame_bytes}
-use Rattle.definitions.specs.Plans.{frame_of, plan_of}
-use Rattle.definitions.specs.Extract.{Matcher, extraction_by}
-use Rattle.definitions.specs.Calls.{LoadOutcome, written_over, tabled, filled_by, table_fits, new_after_load, finish_load, load, Outcome, finish, held_plan, new_after_exchange, exchange, new_after_extract_by, extract_filled_by}
-use Rattle.definitions.specs.Machine.{Kind, extract_call, exchange_call, Bits, fresh, extraction_or, machine_plan, machine_length, machine_step}
-use Rattle.definitions.specs.Good.{AllBytes, nodes, plan_nodes, GoodPlan}
-use Rattle.definitions.specs.NodeTable.{NodeRecord, node_table}
-use Rattle.definitions.specs.Sessions.{Made, make_by}
-use Rattle.definitions.specs.Meaning.{Meaning}
-use Rattle.definitions.specs.Matchers.{Lawful}
-use Rattle.definitions.specs.Merge.{merge_frames, over_limits, merged_frame, new_after_merge, with_table, merge}
-use Rattle.definitions.specs.Project.{Lists, project_extraction, placed, projection, short_lists, projected_bytes, new_after_project, project}
-use Rattle.definitions.specs.OddMachine.{odd_length, odd_step}
-use Rattle.definitions.specs.History.{Call, loading, making, merging, projecting, State, nothing, started, projected, state_plan, Answered, refuse_call, start_at, start_in, load_call, make_call, merged_call, merge_call, projected_call, project_call, machine_call, History, machine_history, but_scratch, merged_but, one_call_by, HistoryOutcome, history_by, FrameIsBytes, FramesAreBytes}
-use Rattle.definitions.specs.MergeClaims.{HistoryOfCallsBy}
+use Rattle.definitions.specs.Words.Basics.{Result, ok, refused, map_result}
+use Rattle.definitions.specs.Words.Expression.{Frame, Extraction, Plan, empty, held, extracted}
+use Rattle.definitions.specs.Bytes.Encode.{plan_bytes, frame_bytes}
+use Rattle.definitions.specs.Bytes.Plans.{frame_of, plan_of}
+use Rattle.definitions.specs.Filter.Extract.{Matcher, extraction_by}
+use Rattle.definitions.specs.Calls.Base.{LoadOutcome, written_over, tabled, filled_by, table_fits, new_after_load, finish_load, load, Outcome, finish, held_plan, new_after_exchange, exchange, new_after_extract_by, extract_filled_by}
+use Rattle.definitions.specs.Lists.Machine.{Kind, extract_call, exchange_call, Bits, fresh, extraction_or, machine_plan, machine_length, machine_step}
+use Rattle.definitions.specs.Bytes.Good.{AllBytes, nodes, plan_nodes, GoodPlan}
+use Rattle.definitions.specs.Bytes.NodeTable.{NodeRecord, node_table}
+use Rattle.definitions.specs.Lists.Sessions.{Made, make_by}
+use Rattle.definitions.specs.Meaning.Values.{Meaning}
+use Rattle.definitions.specs.Meaning.Matchers.{Lawful}
+use Rattle.definitions.specs.Filter.Merge.{merge_frames, over_limits}
+use Rattle.definitions.specs.Calls.Merge.{merged_frame, new_after_merge, with_table, merge}
+use Rattle.definitions.specs.Filter.Project.{ChildLists, project_extraction, placed, projection}
+use Rattle.definitions.specs.Calls.Project.{short_lists, projected_bytes, new_after_project, project}
+use Rattle.definitions.specs.Lists.OddMachine.{odd_length, odd_step}
+use Rattle.definitions.specs.Lists.History.{Call, loading, making, merging, projecting, State, nothing, started, projected, state_plan, Answered, refuse_call, start_at, start_in, load_call, make_call, merged_call, merge_call, projected_call, project_call, machine_call, History, machine_history, but_scratch, merged_but, one_call_by, HistoryOutcome, history_by, FrameIsBytes, FramesAreBytes}
+use Rattle.definitions.specs.Claims.Merge.{HistoryOfCallsBy}
 use Rattle.theorems.proofs.Tools.{and-both}
 use Rattle.theorems.proofs.InverseFrame.{frame_back}
 use Rattle.theorems.proofs.ExtractGood.{GoodExtraction, good-by}
@@ -280,7 +282,7 @@ module _ {match : Matcher} {Asks : Meaning → Type 0} (laws : Lawful match Asks
 
     -- ---- project
 
-    module _ (lists : Lists) (s : State) (n : ℕ) (buffer scratch : List ℕ) (table : List NodeRecord) (h : HoldsState s n buffer table) where
+    module _ (lists : ChildLists) (s : State) (n : ℕ) (buffer scratch : List ℕ) (table : List NodeRecord) (h : HoldsState s n buffer table) where
       refuses-project : (number : ℕ) → CallAgrees (refuse_call s number) (but_scratch (finish n buffer scratch (refused number)) table)
       unfolding finish
       refuses-project number = refuses s n buffer table number h
@@ -335,7 +337,7 @@ module _ {match : Matcher} {Asks : Meaning → Type 0} (laws : Lawful match Asks
         let k = state-held s n buffer table h in
         rw (k.0, ← l.1) (merge-agrees s n buffer scratch table h frame bytes (state_plan match s) k.1 (frame_of frame) refl)
     call-agrees s n buffer table (projecting scratch of_left of_right) bytes h =
-        let lists : Lists = record { of_left = of_left; of_right = of_right } in
+        let lists : ChildLists = record { of_left = of_left; of_right = of_right } in
         let l = state-left s n buffer table h in
         let k = state-held s n buffer table h in
         rw (k.0, ← l.1) (project-by lists s n buffer scratch table h (state_plan match s) k.1 l.1 k.2)

@@ -10,13 +10,13 @@ use lib.ListN.{length}
 use lib.Dec.{leb, ltb, eqb, lit<}
 use lib.Arith.{digits_lt, digits_div, digits_mod}
 use borrow.Author.Tests.{leb-true, ltb-true, eqb-true, eqb-false}
-use Rattle.definitions.specs.Basics.{big_endian}
-use Rattle.definitions.specs.Expression.{Expr, column, literal, call, other, field, Exprs, nil, cons, count}
-use Rattle.definitions.specs.Literals.{literal_in_range}
-use Rattle.definitions.specs.Encode.{expr_bytes, exprs_bytes}
-use Rattle.definitions.specs.Readers.{read, stopped, Reader, give, first_byte, byte_up_to, byte_between, number_after, number, repeat}
-use Rattle.definitions.specs.Decode.{repeat_exprs, Columns, index_below, fields, allowed_kind, column_node, field_node, literal_node, binary_expr, binary_node, call_node, other_node, any_column, node_of_kind, count_node, node_kind, node}
-use Rattle.definitions.specs.Good.{AllBytes, nodes, depth, nodes_all, depth_all, InRange, InRangeAll, NameBytes}
+use Rattle.definitions.specs.Words.Basics.{big_endian}
+use Rattle.definitions.specs.Words.Expression.{Expr, column, literal, call, other, field, Exprs, nil, cons, count}
+use Rattle.definitions.specs.Words.Literals.{literal_in_range}
+use Rattle.definitions.specs.Bytes.Encode.{expr_bytes, exprs_bytes}
+use Rattle.definitions.specs.Bytes.Readers.{read, stopped, Reader, give, first_byte, byte_up_to, byte_between, number_after, number, repeat}
+use Rattle.definitions.specs.Bytes.Decode.{repeat_exprs, Columns, index_below, fields, allowed_kind, column_node, field_node, literal_node, binary_expr, binary_node, call_node, other_node, any_column, node_of_kind, count_node, node_kind, node}
+use Rattle.definitions.specs.Bytes.Good.{AllBytes, nodes, depth, nodes_all, depth_all, InRange, InRangeAll, NameBytes}
 use Rattle.theorems.proofs.ReaderLaws.{stopped-not-read, step, test, same_read, given}
 use Rattle.theorems.proofs.Columns.{all-right}
 use Rattle.theorems.proofs.Tools.{and-both}

@@ -8,14 +8,14 @@ use mathlib.Core.Option.{none}
 use lib.ListN.{length}
 use lib.Dec.{leb, eqb, lit≤}
 use borrow.Author.Tests.{leb-true, eqb-true}
-use Rattle.definitions.specs.Basics.{big_endian, Result, ok, refused}
-use Rattle.definitions.specs.Expression.{Plan, Side, Record, Frame, held}
-use Rattle.definitions.specs.Encode.{expr_bytes, side_number, record_bytes, records_bytes, frame_bytes, plan_bytes}
-use Rattle.definitions.specs.Leaves.{arity}
-use Rattle.definitions.specs.Readers.{Read, read, stopped, Reader, continue, give, number, byte_up_to, repeat, first_byte, require_length, none_left, at_end, result_of}
-use Rattle.definitions.specs.Decode.{index_below, node, expression, side_numbered, side_up_to, one_record, record_count, frame_body}
-use Rattle.definitions.specs.Plans.{physical_frame, frame_of}
-use Rattle.definitions.specs.Good.{ReadablePlan, AllBytes, nodes, Short, Readable, RecordsInRange, plan_nodes, GoodPlan}
+use Rattle.definitions.specs.Words.Basics.{big_endian, Result, ok, refused}
+use Rattle.definitions.specs.Words.Expression.{Plan, Side, Record, Frame, held}
+use Rattle.definitions.specs.Bytes.Encode.{expr_bytes, side_number, record_bytes, records_bytes, frame_bytes, plan_bytes}
+use Rattle.definitions.specs.Words.Leaves.{arity}
+use Rattle.definitions.specs.Bytes.Readers.{Read, read, stopped, Reader, continue, give, number, byte_up_to, repeat, first_byte, require_length, none_left, at_end, result_of}
+use Rattle.definitions.specs.Bytes.Decode.{index_below, node, expression, side_numbered, side_up_to, one_record, record_count, frame_body}
+use Rattle.definitions.specs.Bytes.Plans.{physical_frame, frame_of}
+use Rattle.definitions.specs.Bytes.Good.{ReadablePlan, AllBytes, nodes, Short, Readable, RecordsInRange, plan_nodes, GoodPlan}
 use Rattle.theorems.proofs.ReaderLaws.{step, test, given}
 use Rattle.theorems.proofs.Tools.{and-both}
 use Rattle.theorems.proofs.Inverse.{byte-back, byte-up-to-back, number-back, after-bytes, join, NodeBack, node-back}

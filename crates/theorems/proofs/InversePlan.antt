@@ -8,15 +8,15 @@ use mathlib.Core.List.{List, [], ◌∷◌, ◌++◌, append-nil}
 use mathlib.Core.Option.{Option, none, some}
 use lib.Dec.{eqb, lit≤}
 use borrow.Author.Tests.{eqb-true}
-use Rattle.definitions.specs.Basics.{big_endian, Result, ok, refused, map_result}
-use Rattle.definitions.specs.Expression.{Side, left, right, no_side, relations, Expr, Frame, Predicate, relation, distance, knn, Extraction, Plan, empty, held, extracted}
-use Rattle.definitions.specs.Literals.{is_k}
-use Rattle.definitions.specs.Encode.{expr_bytes, side_number, position_in, relation_number, frame_bytes, predicate_kind, predicate_fields, remainder_bytes, extraction_bytes, plan_bytes}
-use Rattle.definitions.specs.Leaves.{arity}
-use Rattle.definitions.specs.Readers.{Reader, continue, read, give, number, byte_up_to, first_byte, refuse}
-use Rattle.definitions.specs.Decode.{Columns, index_below, expression, side_up_to, frame_body, relation_numbered, relation_predicate, distance_predicate, k_field, knn_predicate, predicate_of_kind, some_remainder, remainder_of_kind, remainder, extraction_body, argument}
-use Rattle.definitions.specs.Plans.{whole_extraction, frame_of, extraction_of, plan_of_kind, plan_of}
-use Rattle.definitions.specs.Good.{AllBytes, Readable, OneOfTwo, ReadablePredicate, ReadableRemainder, predicate_nodes, remainder_nodes, plan_nodes, ReadablePlan, GoodPlan}
+use Rattle.definitions.specs.Words.Basics.{big_endian, Result, ok, refused, map_result}
+use Rattle.definitions.specs.Words.Expression.{Side, left, right, no_side, relations, Expr, Frame, Predicate, relation, distance, knn, Extraction, Plan, empty, held, extracted}
+use Rattle.definitions.specs.Words.Literals.{is_k}
+use Rattle.definitions.specs.Bytes.Encode.{expr_bytes, side_number, position_in, relation_number, frame_bytes, predicate_kind, predicate_fields, remainder_bytes, extraction_bytes, plan_bytes}
+use Rattle.definitions.specs.Words.Leaves.{arity}
+use Rattle.definitions.specs.Bytes.Readers.{Reader, continue, read, give, number, byte_up_to, first_byte, refuse}
+use Rattle.definitions.specs.Bytes.Decode.{Columns, index_below, expression, side_up_to, frame_body, relation_numbered, relation_predicate, distance_predicate, k_field, knn_predicate, predicate_of_kind, some_remainder, remainder_of_kind, remainder, extraction_body, argument}
+use Rattle.definitions.specs.Bytes.Plans.{whole_extraction, frame_of, extraction_of, plan_of_kind, plan_of}
+use Rattle.definitions.specs.Bytes.Good.{AllBytes, Readable, OneOfTwo, ReadablePredicate, ReadableRemainder, predicate_nodes, remainder_nodes, plan_nodes, ReadablePlan, GoodPlan}
 use Rattle.theorems.proofs.ReaderLaws.{stopped-not-read, step, test, given}
 use Rattle.theorems.proofs.Inverse.{byte-back, byte-up-to-back, number-back, after-bytes, join, NodeBack, node-back}
 use Rattle.theorems.proofs.InverseFrame.{PlanBack, whole-plan, side-back, frame_fields, FrameBack, body_back, answer_back, opened, ended, frame_back}

@@ -5,7 +5,7 @@ use mathlib.Core.Path.{◌≡◌}
 use mathlib.Core.Bool.{true, false}
 use lib.Dec.{leb, ltb}
 use borrow.Author.Tests.{ltb-true, lt-ltb, le-leb}
-use Rattle.definitions.specs.Literals.{is_k}
+use Rattle.definitions.specs.Words.Literals.{is_k}
 use Rattle.theorems.proofs.Tools.{and-both}
 
 pub k-held : (k : ℕ) → is_k k ≡ true → k < 4294967296

@@ -3,10 +3,10 @@ use Prim.Native.Nat.{ℕ}
 use mathlib.Core.Path.{◌≡◌}
 use mathlib.Core.List.{List}
 use mathlib.Core.Option.{Option, none, some}
-use Rattle.definitions.specs.Basics.{ascii, same_name}
-use Rattle.definitions.specs.Expression.{Side, left, right, no_side, Relation, Expr, call, Exprs, nil, cons, Record, Predicate, relation, distance, knn}
-use Rattle.definitions.specs.Leaves.{relation_named}
-use Rattle.definitions.specs.Match.{Order, left_right, right_left, no_order, Request, ask_relation, ask_distance, ask_knn, ask_nothing, relation_request, dwithin_request, call_request_by, request_by, ArgumentSide, no_columns, all_on, mixed, match_relation, store_distance, match_distance, match_knn, match_request, match_leaf_by, knn_request_by}
+use Rattle.definitions.specs.Words.Basics.{ascii, same_name}
+use Rattle.definitions.specs.Words.Expression.{Side, left, right, no_side, Relation, Expr, call, Exprs, nil, cons, Record, Predicate, relation, distance, knn}
+use Rattle.definitions.specs.Words.Leaves.{relation_named}
+use Rattle.definitions.specs.Filter.Match.{Order, left_right, right_left, no_order, Request, ask_relation, ask_distance, ask_knn, ask_nothing, relation_request, dwithin_request, call_request_by, request_by, ArgumentSide, no_columns, all_on, mixed, match_relation, store_distance, match_distance, match_knn, match_request, match_leaf_by, knn_request_by}
 use Rattle.theorems.proofs.Tools.{by-test, same-name}
 
 module _ (Q : (k spheroid ties : ℕ) → Type 0) where

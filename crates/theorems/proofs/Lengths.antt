@@ -9,26 +9,26 @@ use mathlib.Core.Option.{Option, none, some}
 use lib.ListN.{length, take}
 use lib.Dec.{leb}
 use borrow.Author.Tests.{leb-true}
-use Rattle.definitions.specs.Basics.{Result, ok, refused}
-use Rattle.definitions.specs.Expression.{Frame, Extraction, Plan, empty, held, extracted}
-use Rattle.definitions.specs.Encode.{plan_bytes}
-use Rattle.definitions.specs.Plans.{frame_of, plan_of}
-use Rattle.definitions.specs.Extract.{Matcher, extraction_by}
-use Rattle.definitions.specs.Exchange.{exchange_plan}
-use Rattle.definitions.specs.Calls.{new_after_load, finish_load, load, finish, held_plan, new_after_exchange, exchange, matched_bytes, new_after_extract_by, extract_filled_by, extract_by, table_fits, walked_by, walk_filled_by, extract_walk_by}
-use Rattle.definitions.specs.NodeTable.{NodeRecord}
-use Rattle.definitions.specs.Machine.{Kind, extract_call, exchange_call}
-use Rattle.definitions.specs.Sessions.{make_by}
-use Rattle.definitions.specs.Good.{AllBytes, GoodPlan}
-use Rattle.definitions.specs.Meaning.{Meaning}
-use Rattle.definitions.specs.Matchers.{Lawful}
+use Rattle.definitions.specs.Words.Basics.{Result, ok, refused}
+use Rattle.definitions.specs.Words.Expression.{Frame, Extraction, Plan, empty, held, extracted}
+use Rattle.definitions.specs.Bytes.Encode.{plan_bytes}
+use Rattle.definitions.specs.Bytes.Plans.{frame_of, plan_of}
+use Rattle.definitions.specs.Filter.Extract.{Matcher, extraction_by}
+use Rattle.definitions.specs.Filter.Exchange.{exchange_plan}
+use Rattle.definitions.specs.Calls.Base.{new_after_load, finish_load, load, finish, held_plan, new_after_exchange, exchange, matched_bytes, new_after_extract_by, extract_filled_by, extract_by, table_fits, walked_by, walk_filled_by, extract_walk_by}
+use Rattle.definitions.specs.Bytes.NodeTable.{NodeRecord}
+use Rattle.definitions.specs.Lists.Machine.{Kind, extract_call, exchange_call}
+use Rattle.definitions.specs.Lists.Sessions.{make_by}
+use Rattle.definitions.specs.Bytes.Good.{AllBytes, GoodPlan}
+use Rattle.definitions.specs.Meaning.Values.{Meaning}
+use Rattle.definitions.specs.Meaning.Matchers.{Lawful}
 use Rattle.theorems.proofs.InverseFrame.{refused_not_ok, same_ok, frame_back}
 use Rattle.theorems.proofs.InversePlan.{plan-back}
 use Rattle.theorems.proofs.ExtractGood.{GoodExtraction, good-by}
 use Rattle.theorems.proofs.ExchangeGood.{exchange-good}
 use Rattle.theorems.proofs.Pick.{few-leaves}
 use Rattle.theorems.proofs.Walks.{walk-bounded-by}
-use Rattle.definitions.specs.WalkClaims.{WalkShort}
+use Rattle.definitions.specs.Claims.Walk.{WalkShort}
 
 -- Bytes, if there are any, are at most 16,384.
 abbrev Short : Result (List ℕ) → Type 0

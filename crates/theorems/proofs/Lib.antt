@@ -89,8 +89,5 @@ pub mod QueueMachine
 pub mod QueueRuns
 pub mod QueueBound
 pub mod SettingsClaimed
-pub mod Table
-pub mod Refusals
-pub mod UpToLimits
-pub mod QueueLimits
+pub mod Rows
 pub mod Proved

@@ -9,20 +9,20 @@ use mathlib.Core.Option.{Option, none, some}
 use lib.ListN.{length, take, replicate, length-replicate}
 use lib.Dec.{leb, eqb}
 use borrow.Author.Tests.{leb-true, le-leb}
-use Rattle.definitions.specs.Limits.{most_bytes, most_nodes, most_digits}
-use Rattle.definitions.specs.Basics.{Result, ok, refused, map_result, any}
-use Rattle.definitions.specs.Expression.{Frame, Extraction, Plan, empty, held, extracted}
-use Rattle.definitions.specs.Encode.{plan_bytes}
-use Rattle.definitions.specs.Plans.{physical_frame, logical_frame, frame_of, logical_of, plan_of}
-use Rattle.definitions.specs.Extract.{extraction}
-use Rattle.definitions.specs.Exchange.{exchange_plan}
-use Rattle.definitions.specs.Calls.{written_over, tabled, new_after_load, finish_load, LoadOutcome, load, Outcome, finish, held_plan, new_after_exchange, exchange, matched_bytes, new_after_extract, new_after_extract_by, extract_filled_by}
-use Rattle.definitions.specs.Machine.{Kind, extract_call, exchange_call}
-use Rattle.definitions.specs.Good.{AllBytes, nodes, plan_nodes, GoodPlan}
-use Rattle.definitions.specs.NodeTable.{NodeRecord, blank}
-use Rattle.definitions.specs.Logical.{logical_answer, logical, logical_bytes}
-use Rattle.definitions.specs.Program.{digit_value, pair_bytes, digit_bytes, or_refused, line_bytes, Kept, LineOutcome, refused_line, load_line, logical_line, line_call, call_line, line_of, read_line, line_outcome, written_line, output_from, fresh_plan}
-use Rattle.definitions.specs.ShortClaims.{kept_after, line_refusals, LineRefusals}
+use Rattle.definitions.specs.Words.Limits.{most_bytes, most_nodes, most_digits}
+use Rattle.definitions.specs.Words.Basics.{Result, ok, refused, map_result, any}
+use Rattle.definitions.specs.Words.Expression.{Frame, Extraction, Plan, empty, held, extracted}
+use Rattle.definitions.specs.Bytes.Encode.{plan_bytes}
+use Rattle.definitions.specs.Bytes.Plans.{physical_frame, logical_frame, frame_of, logical_of, plan_of}
+use Rattle.definitions.specs.Filter.Extract.{extraction}
+use Rattle.definitions.specs.Filter.Exchange.{exchange_plan}
+use Rattle.definitions.specs.Calls.Base.{written_over, tabled, new_after_load, finish_load, LoadOutcome, load, Outcome, finish, held_plan, new_after_exchange, exchange, matched_bytes, new_after_extract, new_after_extract_by, extract_filled_by}
+use Rattle.definitions.specs.Lists.Machine.{Kind, extract_call, exchange_call}
+use Rattle.definitions.specs.Bytes.Good.{AllBytes, nodes, plan_nodes, GoodPlan}
+use Rattle.definitions.specs.Bytes.NodeTable.{NodeRecord, blank}
+use Rattle.definitions.specs.Calls.Logical.{logical_answer, logical, logical_bytes}
+use Rattle.definitions.specs.Lists.Program.{digit_value, pair_bytes, digit_bytes, or_refused, line_bytes, Kept, LineOutcome, refused_line, load_line, logical_line, line_call, call_line, line_of, read_line, line_outcome, written_line, output_from, fresh_plan}
+use Rattle.definitions.specs.Claims.Short.{kept_after, line_refusals, LineRefusals}
 use Rattle.theorems.proofs.Tools.{by-test, and-both}
 use Rattle.theorems.proofs.InverseFrame.{frame_back}
 use Rattle.theorems.proofs.ExchangeGood.{exchange-good}

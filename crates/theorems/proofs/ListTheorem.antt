@@ -9,19 +9,19 @@ use lib.ListN.{length, drop, length-append}
 use lib.Seq.{take-append_seam, length-take-le}
 use lib.Dec.{leb}
 use borrow.Author.Tests.{leb-true}
-use Rattle.definitions.specs.Basics.{Result, ok, refused}
-use Rattle.definitions.specs.Expression.{Frame, held}
-use Rattle.definitions.specs.Encode.{plan_bytes, frame_bytes}
-use Rattle.definitions.specs.Plans.{frame_of}
-use Rattle.definitions.specs.Extract.{Matcher}
-use Rattle.definitions.specs.Calls.{LoadOutcome, written_over, tabled, filled_by, table_fits, new_after_load, finish_load, load, held_plan}
-use Rattle.definitions.specs.Machine.{machine_plan, machine_length, fresh}
-use Rattle.definitions.specs.Good.{nodes, GoodPlan}
-use Rattle.definitions.specs.NodeTable.{NodeRecord, node_table}
-use Rattle.definitions.specs.Sessions.{Made, machine_after_by, accepted, SessionBy, after}
-use Rattle.definitions.specs.Meaning.{Meaning}
-use Rattle.definitions.specs.Matchers.{Lawful}
-use Rattle.definitions.specs.Claims.{LoadAccepted, LeavesSession, LoadHoldsBy, AgreeBy}
+use Rattle.definitions.specs.Words.Basics.{Result, ok, refused}
+use Rattle.definitions.specs.Words.Expression.{Frame, held}
+use Rattle.definitions.specs.Bytes.Encode.{plan_bytes, frame_bytes}
+use Rattle.definitions.specs.Bytes.Plans.{frame_of}
+use Rattle.definitions.specs.Filter.Extract.{Matcher}
+use Rattle.definitions.specs.Calls.Base.{LoadOutcome, written_over, tabled, filled_by, table_fits, new_after_load, finish_load, load, held_plan}
+use Rattle.definitions.specs.Lists.Machine.{machine_plan, machine_length, fresh}
+use Rattle.definitions.specs.Bytes.Good.{nodes, GoodPlan}
+use Rattle.definitions.specs.Bytes.NodeTable.{NodeRecord, node_table}
+use Rattle.definitions.specs.Lists.Sessions.{Made, machine_after_by, accepted, SessionBy, after}
+use Rattle.definitions.specs.Meaning.Values.{Meaning}
+use Rattle.definitions.specs.Meaning.Matchers.{Lawful}
+use Rattle.definitions.specs.Claims.Lists.{LoadAccepted, LeavesSession, LoadHoldsBy, AgreeBy}
 use Rattle.theorems.proofs.RoundTripPlan.{frame-reads}
 use Rattle.theorems.proofs.InverseFrame.{frame_back}
 use Rattle.theorems.proofs.NodeTables.{begins-filled}

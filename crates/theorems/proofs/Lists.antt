@@ -11,21 +11,20 @@ use lib.ListN.{length, take, drop, length-append}
 use lib.Seq.{take-append_seam}
 use lib.Dec.{leb}
 use borrow.Author.Tests.{le-leb}
-use Rattle.definitions.specs.Basics.{Result, ok, refused}
-use Rattle.definitions.specs.Expression.{Frame, Extraction, Plan, empty, held, extracted}
-use Rattle.definitions.specs.Encode.{plan_bytes}
-use Rattle.definitions.specs.Plans.{plan_of}
-use Rattle.definitions.specs.Extract.{Matcher, extraction_by}
-use Rattle.definitions.specs.OneWalk.{walk_length_by}
-use Rattle.definitions.specs.Exchange.{exchange_plan, exchange_frame, exchange_extraction}
-use Rattle.definitions.specs.Calls.{Outcome, written_over, finish, held_plan, new_after_exchange, exchange, matched_bytes, new_after_extract_by, extract_filled_by, table_fits, walked_by, walk_filled_by, extract_walk_by}
-use Rattle.definitions.specs.NodeTable.{NodeRecord, node_table, begins_with}
-use Rattle.definitions.specs.Machine.{Kind, extract_call, exchange_call, Bits, extraction_or, machine_plan, machine_length, Step, refuse_step, accept_step, with_walk, take_step, machine_step, Run, machine_run}
-use Rattle.definitions.specs.Sessions.{Made, fed, make_by, walk_by, ListOutcome, calls_run_by}
-use Rattle.definitions.specs.Good.{GoodPlan}
-use Rattle.definitions.specs.Meaning.{Meaning}
-use Rattle.definitions.specs.Matchers.{Lawful}
-use Rattle.definitions.specs.OddMachine.{extracted_plan}
+use Rattle.definitions.specs.Words.Basics.{Result, ok, refused}
+use Rattle.definitions.specs.Words.Expression.{Frame, Extraction, Plan, empty, held, extracted}
+use Rattle.definitions.specs.Bytes.Encode.{plan_bytes}
+use Rattle.definitions.specs.Bytes.Plans.{plan_of}
+use Rattle.definitions.specs.Filter.Extract.{Matcher, extraction_by}
+use Rattle.definitions.specs.Filter.OneWalk.{walk_length_by}
+use Rattle.definitions.specs.Filter.Exchange.{exchange_plan, exchange_frame, exchange_extraction, extracted_plan}
+use Rattle.definitions.specs.Calls.Base.{Outcome, written_over, finish, held_plan, new_after_exchange, exchange, matched_bytes, new_after_extract_by, extract_filled_by, table_fits, walked_by, walk_filled_by, extract_walk_by}
+use Rattle.definitions.specs.Bytes.NodeTable.{NodeRecord, node_table, begins_with}
+use Rattle.definitions.specs.Lists.Machine.{Kind, extract_call, exchange_call, Bits, extraction_or, machine_plan, machine_length, Step, refuse_step, accept_step, with_walk, take_step, machine_step, Run, machine_run}
+use Rattle.definitions.specs.Lists.Sessions.{Made, fed, make_by, walk_by, ListOutcome, calls_run_by}
+use Rattle.definitions.specs.Bytes.Good.{GoodPlan}
+use Rattle.definitions.specs.Meaning.Values.{Meaning}
+use Rattle.definitions.specs.Meaning.Matchers.{Lawful}
 use Rattle.theorems.proofs.Tools.{by-test}
 use Rattle.theorems.proofs.Exchange.{plan-twice}
 use Rattle.theorems.proofs.ExtractExchange.{exchanged-by}

@@ -10,21 +10,23 @@ use lib.ListN.{length, take}
 use lib.Dec.{leb, lit≤}
 use lib.Seq.{take-take}
 use borrow.Author.Tests.{le-leb}
-use Rattle.definitions.specs.Limits.{two_bytes}
-use Rattle.definitions.specs.Basics.{Result, ok, refused, big_endian}
-use Rattle.definitions.specs.Expression.{Frame, Predicate, relation, distance, knn, Extraction}
-use Rattle.definitions.specs.Encode.{predicate_kind, extraction_bytes, plan_bytes}
-use Rattle.definitions.specs.Leaves.{leaves}
-use Rattle.definitions.specs.Extract.{Matcher, matches_by, extraction_by}
-use Rattle.definitions.specs.OneWalk.{walk_length_by}
-use Rattle.definitions.specs.Exchange.{exchange_predicate, exchange_frame, exchange_extraction}
-use Rattle.definitions.specs.Calls.{Outcome}
-use Rattle.definitions.specs.NodeTable.{NodeRecord}
-use Rattle.definitions.specs.Machine.{extract_call, Bits, machine_plan, machine_length, refuse_step, accept_step, with_walk, take_step, machine_step}
-use Rattle.definitions.specs.Sessions.{Made, extract_with, make_by, ListOutcome, calls_run_by, machine_after_by, accepted, is_extract, extract_accepted, SessionBy, length_after, plan_after, extracted_in, odd_in, answer_after}
-use Rattle.definitions.specs.Meaning.{Meaning}
-use Rattle.definitions.specs.Matchers.{Lawful}
-use Rattle.definitions.specs.Claims.{some_leaf_matches_by, TookAmong, extracted_plan, position_held, NamesLeaf, price_line_by, OnLine}
+use Rattle.definitions.specs.Words.Limits.{two_bytes}
+use Rattle.definitions.specs.Words.Basics.{Result, ok, refused, big_endian}
+use Rattle.definitions.specs.Words.Expression.{Frame, Predicate, relation, distance, knn, Extraction}
+use Rattle.definitions.specs.Bytes.Encode.{predicate_kind, extraction_bytes, plan_bytes}
+use Rattle.definitions.specs.Words.Leaves.{leaves}
+use Rattle.definitions.specs.Filter.Extract.{Matcher, matches_by, extraction_by}
+use Rattle.definitions.specs.Filter.OneWalk.{walk_length_by}
+use Rattle.definitions.specs.Filter.Exchange.{exchange_predicate, exchange_frame, exchange_extraction, extracted_plan}
+use Rattle.definitions.specs.Calls.Base.{Outcome}
+use Rattle.definitions.specs.Bytes.NodeTable.{NodeRecord}
+use Rattle.definitions.specs.Lists.Machine.{extract_call, Bits, machine_plan, machine_length, refuse_step, accept_step, with_walk, take_step, machine_step}
+use Rattle.definitions.specs.Lists.Sessions.{Made, extract_with, make_by, ListOutcome, calls_run_by, machine_after_by, accepted, is_extract, extract_accepted, SessionBy, length_after, plan_after, extracted_in, odd_in, answer_after}
+use Rattle.definitions.specs.Meaning.Values.{Meaning}
+use Rattle.definitions.specs.Meaning.Matchers.{Lawful}
+use Rattle.definitions.specs.Claims.Lists.{some_leaf_matches_by}
+use Rattle.definitions.specs.Claims.Pick.{TookAmong, position_held, NamesLeaf}
+use Rattle.definitions.specs.Claims.PriceLine.{price_line_by, OnLine}
 use Rattle.theorems.proofs.ExtractExchange.{exchanged-by}
 use Rattle.theorems.proofs.Pick.{takes-by, position-of-leaf, few-leaves, Matched, matched}
 use Rattle.theorems.proofs.Lists.{Reached, Holds, bits, plan-extracted}

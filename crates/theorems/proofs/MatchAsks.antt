@@ -7,14 +7,14 @@ use mathlib.Core.Option.{Option, none, some}
 use lib.ListN.{length}
 use lib.Dec.{eqb}
 use borrow.Author.Tests.{eqb-true}
-use Rattle.definitions.specs.Basics.{ascii, same_name}
-use Rattle.definitions.specs.Expression.{Side, Relation, Expr, column, literal, and, binary, call, other, field, Exprs, nil, cons, Record, Predicate, knn}
-use Rattle.definitions.specs.Leaves.{relation_named, Comparison, compares, no_comparison, comparison, distance_arguments}
-use Rattle.definitions.specs.Decode.{index_below}
-use Rattle.definitions.specs.Match.{Request, ask_relation, ask_distance, ask_knn, ask_nothing, relation_request, dwithin_request, knn_literals, knn_request_by, call_request_by, distance_request, comparison_request, request_by, match_request, match_leaf_by}
-use Rattle.definitions.specs.Good.{InRange, InRangeAll}
-use Rattle.definitions.specs.Meaning.{Valuation, Meaning, value, values, frame_columns, distance_by_form, FairBy}
-use Rattle.definitions.specs.Settings.{passing, only_if}
+use Rattle.definitions.specs.Words.Basics.{ascii, same_name}
+use Rattle.definitions.specs.Words.Expression.{Side, Relation, Expr, column, literal, and, binary, call, other, field, Exprs, nil, cons, Record, Predicate, knn}
+use Rattle.definitions.specs.Words.Leaves.{relation_named, Comparison, compares, no_comparison, comparison, distance_arguments}
+use Rattle.definitions.specs.Bytes.Decode.{index_below}
+use Rattle.definitions.specs.Filter.Match.{Request, ask_relation, ask_distance, ask_knn, ask_nothing, relation_request, dwithin_request, knn_literals, knn_request_by, call_request_by, distance_request, comparison_request, request_by, match_request, match_leaf_by}
+use Rattle.definitions.specs.Bytes.Good.{InRange, InRangeAll}
+use Rattle.definitions.specs.Meaning.Values.{Valuation, Meaning, value, values, frame_columns, distance_by_form, FairBy}
+use Rattle.definitions.specs.Filter.Settings.{passing, only_if}
 use Rattle.theorems.proofs.Tools.{by-test, same-name}
 
 -- ---- what a leaf asks for has the leaf's value

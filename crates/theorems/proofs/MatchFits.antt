@@ -3,20 +3,20 @@ use Prim.Native.Nat.{ℕ, zero, suc, ◌≤◌}
 use native.Mathlib.Omega.{arith}
 use mathlib.Core.Path.{◌≡◌, refl}
 use mathlib.Core.Bool.{true}
-use Rattle.definitions.specs.Literals.{is_k}
+use Rattle.definitions.specs.Words.Literals.{is_k}
 use mathlib.Core.List.{List, [], ◌∷◌}
 use mathlib.Core.Option.{some}
 use lib.ListN.{length, length-append}
 use lib.Dec.{lit<}
 use borrow.Author.Tests.{lt-ltb}
-use Rattle.definitions.specs.Basics.{big_endian}
-use Rattle.definitions.specs.Expression.{Side, left, right, no_side, Relation, Expr, Record, relation, distance, knn, invert}
-use Rattle.definitions.specs.Encode.{expr_bytes, predicate_fields}
-use Rattle.definitions.specs.Decode.{index_below}
-use Rattle.definitions.specs.References.{record_at, columns_of}
-use Rattle.definitions.specs.Match.{Order, left_right, right_left, no_order, Request, ask_relation, ask_distance, ask_knn, ask_nothing, on_child, ArgumentSide, no_columns, all_on, mixed, side_of, order_of, match_relation, store_distance, match_distance, match_knn, match_request, match_leaf_by, request_by}
-use Rattle.definitions.specs.Good.{OneOfTwo, nodes, depth, Short, InRange, Readable, RecordsInRange, predicate_nodes}
-use Rattle.definitions.specs.Matchers.{Fits}
+use Rattle.definitions.specs.Words.Basics.{big_endian}
+use Rattle.definitions.specs.Words.Expression.{Side, left, right, no_side, Relation, Expr, Record, relation, distance, knn, invert}
+use Rattle.definitions.specs.Bytes.Encode.{expr_bytes, predicate_fields}
+use Rattle.definitions.specs.Bytes.Decode.{index_below}
+use Rattle.definitions.specs.Words.References.{record_at, columns_of}
+use Rattle.definitions.specs.Filter.Match.{Order, left_right, right_left, no_order, Request, ask_relation, ask_distance, ask_knn, ask_nothing, on_child, ArgumentSide, no_columns, all_on, mixed, side_of, order_of, match_relation, store_distance, match_distance, match_knn, match_request, match_leaf_by, request_by}
+use Rattle.definitions.specs.Bytes.Good.{OneOfTwo, nodes, depth, Short, InRange, Readable, RecordsInRange, predicate_nodes}
+use Rattle.definitions.specs.Meaning.Matchers.{Fits}
 use Rattle.theorems.proofs.Columns.{all-every, Fits as FitsIn, map-length, map-nodes, map-depth, map-in-range, widen}
 use Rattle.theorems.proofs.Requests.{Within, request-within}
 

@@ -7,19 +7,19 @@ use mathlib.Core.Bool.{Bool, true, false, false≢true}
 use mathlib.Core.List.{List, [], ◌∷◌, map}
 use mathlib.Core.Option.{Option, none, some}
 use lib.ListN.{length}
-use Rattle.definitions.specs.Basics.{all}
-use Rattle.definitions.specs.Expression.{Side, left, right, no_side, Relation, Expr, Record, Predicate, knn}
-use Rattle.definitions.specs.Decode.{index_below}
-use Rattle.definitions.specs.References.{columns_of, record_at, same_side}
-use Rattle.definitions.specs.Match.{ArgumentSide, no_columns, all_on, mixed, common_side, side_of, is_side, Order, left_right, right_left, no_order, order_of, on_child, Request, ask_relation, ask_distance, ask_knn, ask_nothing, match_relation, store_distance, match_distance, match_knn, match_request, match_leaf_by, request_by}
-use Rattle.definitions.specs.Exchange.{negate}
-use Rattle.definitions.specs.Good.{All, InRange}
-use Rattle.definitions.specs.Meaning.{Valuation, Meaning, value, frame_columns, predicate_value, FairBy}
-use Rattle.definitions.specs.Extract.{Matcher}
-use Rattle.definitions.specs.Settings.{passing, only_if}
+use Rattle.definitions.specs.Words.Basics.{all}
+use Rattle.definitions.specs.Words.Expression.{Side, left, right, no_side, Relation, Expr, Record, Predicate, knn}
+use Rattle.definitions.specs.Bytes.Decode.{index_below}
+use Rattle.definitions.specs.Words.References.{columns_of, record_at, same_side}
+use Rattle.definitions.specs.Filter.Match.{ArgumentSide, no_columns, all_on, mixed, common_side, side_of, is_side, Order, left_right, right_left, no_order, order_of, on_child, Request, ask_relation, ask_distance, ask_knn, ask_nothing, match_relation, store_distance, match_distance, match_knn, match_request, match_leaf_by, request_by}
+use Rattle.definitions.specs.Filter.Exchange.{negate}
+use Rattle.definitions.specs.Bytes.Good.{All, InRange}
+use Rattle.definitions.specs.Meaning.Values.{Valuation, Meaning, value, frame_columns, predicate_value, FairBy}
+use Rattle.definitions.specs.Filter.Extract.{Matcher}
+use Rattle.definitions.specs.Filter.Settings.{passing, only_if}
 use Rattle.theorems.proofs.Tools.{by-test, and-both}
 use Rattle.theorems.proofs.OnlyIf.{passing-is}
-use Rattle.definitions.specs.Matchers.{Valued}
+use Rattle.definitions.specs.Meaning.Matchers.{Valued}
 use Rattle.theorems.proofs.Values.{map-value, same-value, form-symmetric}
 use Rattle.theorems.proofs.MatchAsks.{MeansSame, request-means}
 

@@ -6,11 +6,11 @@ use mathlib.Core.Bool.{Bool, true, false, ◌&&◌}
 use mathlib.Core.List.{List, [], ◌∷◌, map}
 use mathlib.Core.Option
 use mathlib.Core.Option.{Option}
-use Rattle.definitions.specs.Basics.{all}
-use Rattle.definitions.specs.Expression.{Side, left, right, no_side, Relation, Expr, Record, Predicate}
-use Rattle.definitions.specs.References.{record_at, map_columns, columns_of, same_side}
-use Rattle.definitions.specs.Match.{Order, left_right, right_left, no_order, Request, ask_relation, ask_distance, ask_knn, ask_nothing, on_child, ArgumentSide, no_columns, all_on, mixed, common_side, side_of, is_side, order_of, match_relation, store_distance, match_distance, match_knn, match_request, match_leaf_by, request_by}
-use Rattle.definitions.specs.Exchange.{negate, exchange_predicate}
+use Rattle.definitions.specs.Words.Basics.{all}
+use Rattle.definitions.specs.Words.Expression.{Side, left, right, no_side, Relation, Expr, Record, Predicate}
+use Rattle.definitions.specs.Words.References.{record_at, map_columns, columns_of, same_side}
+use Rattle.definitions.specs.Filter.Match.{Order, left_right, right_left, no_order, Request, ask_relation, ask_distance, ask_knn, ask_nothing, on_child, ArgumentSide, no_columns, all_on, mixed, common_side, side_of, is_side, order_of, match_relation, store_distance, match_distance, match_knn, match_request, match_leaf_by, request_by}
+use Rattle.definitions.specs.Filter.Exchange.{negate, exchange_predicate}
 use Rattle.theorems.proofs.Exchange.{invert-invert, swapped, child-at, side-at, same-negated}
 
 -- ---- columns and sides

@@ -8,23 +8,25 @@ use mathlib.Core.List.{List}
 use lib.ListN.{length}
 use lib.Dec.{leb}
 use borrow.Author.Tests.{leb-true}
-use Rattle.definitions.specs.Basics.{Result, ok, refused, map_result}
-use Rattle.definitions.specs.Expression.{Frame, Extraction, Plan, empty, held, extracted}
-use Rattle.definitions.specs.Encode.{frame_bytes}
-use Rattle.definitions.specs.Plans.{frame_of}
-use Rattle.definitions.specs.Extract.{Matcher}
-use Rattle.definitions.specs.Calls.{tabled, filled_by, finish, held_plan}
-use Rattle.definitions.specs.Exchange.{exchange_frame, exchange_extraction, exchange_plan}
-use Rattle.definitions.specs.Machine.{Bits, machine_plan}
-use Rattle.definitions.specs.Good.{nodes, GoodPlan}
-use Rattle.definitions.specs.NodeTable.{NodeRecord}
-use Rattle.definitions.specs.Sessions.{Made, ListOutcome, calls_run_by, machine_after_by, accepted, after}
-use Rattle.definitions.specs.Meaning.{Meaning}
-use Rattle.definitions.specs.Matchers.{Lawful}
-use Rattle.definitions.specs.Claims.{CallWrote, AgreeBy}
-use Rattle.definitions.specs.Merge.{merge_frames, over_limits, merged_frame, new_after_merge, MergeOutcome, with_table, merge}
-use Rattle.definitions.specs.History.{held_now}
-use Rattle.definitions.specs.MergeClaims.{MergeAccepted, MergeWrote, MergeWrites, MergeKeeps, LeftBy, MergeHolds, merge_after, ListAfterMergeBy}
+use Rattle.definitions.specs.Words.Basics.{Result, ok, refused, map_result}
+use Rattle.definitions.specs.Words.Expression.{Frame, Extraction, Plan, empty, held, extracted}
+use Rattle.definitions.specs.Bytes.Encode.{frame_bytes}
+use Rattle.definitions.specs.Bytes.Plans.{frame_of}
+use Rattle.definitions.specs.Filter.Extract.{Matcher}
+use Rattle.definitions.specs.Calls.Base.{tabled, filled_by, finish, held_plan}
+use Rattle.definitions.specs.Filter.Exchange.{exchange_frame, exchange_extraction, exchange_plan}
+use Rattle.definitions.specs.Lists.Machine.{Bits, machine_plan}
+use Rattle.definitions.specs.Bytes.Good.{nodes, GoodPlan}
+use Rattle.definitions.specs.Bytes.NodeTable.{NodeRecord}
+use Rattle.definitions.specs.Lists.Sessions.{Made, ListOutcome, calls_run_by, machine_after_by, accepted, after}
+use Rattle.definitions.specs.Meaning.Values.{Meaning}
+use Rattle.definitions.specs.Meaning.Matchers.{Lawful}
+use Rattle.definitions.specs.Claims.Calls.{CallWrote}
+use Rattle.definitions.specs.Claims.Lists.{AgreeBy}
+use Rattle.definitions.specs.Filter.Merge.{merge_frames, over_limits}
+use Rattle.definitions.specs.Calls.Merge.{merged_frame, new_after_merge, MergeOutcome, with_table, merge}
+use Rattle.definitions.specs.Lists.History.{held_now}
+use Rattle.definitions.specs.Claims.Merge.{MergeAccepted, MergeWrote, MergeWrites, MergeKeeps, LeftBy, MergeHolds, merge_after, ListAfterMergeBy}
 use Rattle.theorems.proofs.Tools.{and-both}
 use Rattle.theorems.proofs.InverseFrame.{same_ok, frame_back}
 use Rattle.theorems.proofs.Lengths.{Good, held-good, held-is}

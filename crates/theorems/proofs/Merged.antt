@@ -8,18 +8,18 @@ use lib.ListN.{length, length-append, get_or-append}
 use lib.Seq.{get_or-append-add}
 use lib.Dec.{ltb}
 use borrow.Author.Tests.{ltb-true, ltb-false, lt-ltb, le-ltb}
-use Rattle.definitions.specs.Basics.{big_endian}
-use Rattle.definitions.specs.Expression.{no_side, Expr, Record, Frame, held}
-use Rattle.definitions.specs.Encode.{expr_bytes, record_bytes, records_bytes, frame_bytes, plan_bytes}
-use Rattle.definitions.specs.Leaves.{leaves, arity}
-use Rattle.definitions.specs.Decode.{index_below}
-use Rattle.definitions.specs.References.{columns_of, map_columns, record_at}
-use Rattle.definitions.specs.Extract.{Matcher, matches_by}
-use Rattle.definitions.specs.Good.{nodes, depth, InRange, RecordsInRange, ReadableFrame, plan_nodes, GoodPlan}
-use Rattle.definitions.specs.Meaning.{Meaning, and_value, value, frame_columns, frame_value}
-use Rattle.definitions.specs.Matchers.{Lawful}
-use Rattle.definitions.specs.Merge.{raised, merge_frames, over_limits}
-use Rattle.definitions.specs.MergeClaims.{MergedGood, MergedValue, MergedLeavesBy}
+use Rattle.definitions.specs.Words.Basics.{big_endian}
+use Rattle.definitions.specs.Words.Expression.{no_side, Expr, Record, Frame, held}
+use Rattle.definitions.specs.Bytes.Encode.{expr_bytes, record_bytes, records_bytes, frame_bytes, plan_bytes}
+use Rattle.definitions.specs.Words.Leaves.{leaves, arity}
+use Rattle.definitions.specs.Bytes.Decode.{index_below}
+use Rattle.definitions.specs.Words.References.{columns_of, map_columns, record_at}
+use Rattle.definitions.specs.Filter.Extract.{Matcher, matches_by}
+use Rattle.definitions.specs.Bytes.Good.{nodes, depth, InRange, RecordsInRange, ReadableFrame, plan_nodes, GoodPlan}
+use Rattle.definitions.specs.Meaning.Values.{Meaning, and_value, value, frame_columns, frame_value}
+use Rattle.definitions.specs.Meaning.Matchers.{Lawful}
+use Rattle.definitions.specs.Filter.Merge.{raised, merge_frames, over_limits}
+use Rattle.definitions.specs.Claims.Merge.{MergedGood, MergedValue, MergedLeavesBy}
 use Rattle.theorems.proofs.Columns.{all-every, all_both, Fits, map-length, map-nodes, map-depth, map-in-range, map-leaves, map-arity, columns-below}
 use Rattle.theorems.proofs.Taken.{arity-and}
 use Rattle.theorems.proofs.ExchangeGood.{frame-length}

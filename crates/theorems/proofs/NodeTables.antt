@@ -7,15 +7,15 @@ use mathlib.Core.List.{List, [], ◌∷◌, ◌++◌, append-nil, append_assoc}
 use lib.ListN.{length, take, drop, length-append, length-map}
 use lib.Dec.{eqb}
 use borrow.Author.Tests.{eqb-true, eq-eqb}
-use Rattle.definitions.specs.Basics.{big_endian}
-use Rattle.definitions.specs.Expression.{Expr, column, literal, and, binary, call, other, field, Exprs, nil, cons}
-use Rattle.definitions.specs.Limits.{most_bytes}
-use Rattle.definitions.specs.Encode.{expr_bytes, exprs_bytes, frame_bytes, plan_bytes}
-use Rattle.definitions.specs.Exchange.{exchange_record, exchange_frame}
-use Rattle.definitions.specs.Good.{nodes, nodes_all, GoodPlan}
-use Rattle.definitions.specs.NodeTable.{NodeRecord, kind_byte, record_of, nodes_from, row_from, node_table, same_record, begins_with}
-use Rattle.definitions.specs.Calls.{written_over}
-use Rattle.definitions.specs.TableClaims.{Nested, nothing, node, Rising, TableNests, Within, PositionsFit, TableExchanged, BeginsExactly}
+use Rattle.definitions.specs.Words.Basics.{big_endian}
+use Rattle.definitions.specs.Words.Expression.{Expr, column, literal, and, binary, call, other, field, Exprs, nil, cons}
+use Rattle.definitions.specs.Words.Limits.{most_bytes}
+use Rattle.definitions.specs.Bytes.Encode.{expr_bytes, exprs_bytes, frame_bytes, plan_bytes}
+use Rattle.definitions.specs.Filter.Exchange.{exchange_record, exchange_frame}
+use Rattle.definitions.specs.Bytes.Good.{nodes, nodes_all, GoodPlan}
+use Rattle.definitions.specs.Bytes.NodeTable.{NodeRecord, kind_byte, record_of, nodes_from, row_from, node_table, same_record, begins_with}
+use Rattle.definitions.specs.Calls.Base.{written_over}
+use Rattle.definitions.specs.Claims.Table.{Nested, nothing, node, Rising, TableNests, Within, PositionsFit, TableExchanged, BeginsExactly}
 use Rattle.theorems.proofs.Tools.{and-both}
 use Rattle.theorems.proofs.ExchangeGood.{frame-length}
 

@@ -9,18 +9,18 @@ use lib.ListN.{length, take, drop, length-append}
 use lib.Seq.{take-append_seam}
 use lib.Dec.{leb}
 use borrow.Author.Tests.{le-leb}
-use Rattle.definitions.specs.Basics.{Result, ok, refused}
-use Rattle.definitions.specs.Expression.{Extraction, extracted}
-use Rattle.definitions.specs.Encode.{plan_bytes}
-use Rattle.definitions.specs.Plans.{plan_of}
-use Rattle.definitions.specs.Extract.{Matcher}
-use Rattle.definitions.specs.Exchange.{exchange_plan}
-use Rattle.definitions.specs.Calls.{Outcome, written_over, finish, held_plan, exchange, extract_filled_by, table_fits}
-use Rattle.definitions.specs.Machine.{Kind, extract_call, exchange_call}
-use Rattle.definitions.specs.Good.{GoodPlan}
-use Rattle.definitions.specs.NodeTable.{NodeRecord}
-use Rattle.definitions.specs.Sessions.{Made, fed, make_by, ListOutcome, calls_run_by, accepted, is_extract, exchanges_odd}
-use Rattle.definitions.specs.OddMachine.{extracted_plan, odd_length, OddStep, odd_step, OddRun, odd_run}
+use Rattle.definitions.specs.Words.Basics.{Result, ok, refused}
+use Rattle.definitions.specs.Words.Expression.{Extraction, extracted}
+use Rattle.definitions.specs.Bytes.Encode.{plan_bytes}
+use Rattle.definitions.specs.Bytes.Plans.{plan_of}
+use Rattle.definitions.specs.Filter.Extract.{Matcher}
+use Rattle.definitions.specs.Filter.Exchange.{exchange_plan, extracted_plan}
+use Rattle.definitions.specs.Calls.Base.{Outcome, written_over, finish, held_plan, exchange, extract_filled_by, table_fits}
+use Rattle.definitions.specs.Lists.Machine.{Kind, extract_call, exchange_call}
+use Rattle.definitions.specs.Bytes.Good.{GoodPlan}
+use Rattle.definitions.specs.Bytes.NodeTable.{NodeRecord}
+use Rattle.definitions.specs.Lists.Sessions.{Made, fed, make_by, ListOutcome, calls_run_by, accepted, is_extract, exchanges_odd}
+use Rattle.definitions.specs.Lists.OddMachine.{odd_length, OddStep, odd_step, OddRun, odd_run}
 use Rattle.theorems.proofs.Tools.{by-test}
 use Rattle.theorems.proofs.Exchange.{plan-twice}
 use Rattle.theorems.proofs.ExchangeGood.{plan-as-long, exchange-good}

@@ -3,12 +3,12 @@ use Rattle.std.specs.Prelude.{if◌then◌else◌}
 use mathlib.Core.Path.{◌≡◌, refl, ap, ◌∙◌}
 use mathlib.Core.Bool.{Bool, true, false}
 use mathlib.Core.Option.{Option, none, some, map}
-use Rattle.definitions.specs.Expression.{Predicate}
-use Rattle.definitions.specs.Extract.{Matcher}
-use Rattle.definitions.specs.Exchange.{exchange_predicate}
-use Rattle.definitions.specs.Meaning.{Meaning}
-use Rattle.definitions.specs.Matchers.{Fits, Valued, Lawful}
-use Rattle.definitions.specs.Settings.{passing, only_if}
+use Rattle.definitions.specs.Words.Expression.{Predicate}
+use Rattle.definitions.specs.Filter.Extract.{Matcher}
+use Rattle.definitions.specs.Filter.Exchange.{exchange_predicate}
+use Rattle.definitions.specs.Meaning.Values.{Meaning}
+use Rattle.definitions.specs.Meaning.Matchers.{Fits, Valued, Lawful}
+use Rattle.definitions.specs.Filter.Settings.{passing, only_if}
 use Rattle.theorems.proofs.Tools.{by-test}
 
 -- Exchange does not change the test.

@@ -7,13 +7,14 @@ use mathlib.Core.Bool.{Bool, true, false, ◌||◌, or-true, false≢true}
 use mathlib.Core.List.{List, [], ◌∷◌}
 use mathlib.Core.Option.{Option, none, some, map}
 use lib.ListN.{length, get_or, length-append, length-map}
-use Rattle.definitions.specs.Limits.{most_nodes}
-use Rattle.definitions.specs.Basics.{any}
-use Rattle.definitions.specs.Expression.{Expr, column, literal, and, binary, call, other, field, Frame, Predicate, Extraction, held}
-use Rattle.definitions.specs.Leaves.{leaves}
-use Rattle.definitions.specs.Extract.{Pick, is_knn, later, first_match, first_of, pick, without, prune, take_pick, Matcher, matches_by, extraction_by}
-use Rattle.definitions.specs.Good.{nodes, Short, plan_nodes, GoodPlan}
-use Rattle.definitions.specs.Claims.{is_match, some_leaf_matches_by, is_knn_match, match_at, TookAmong}
+use Rattle.definitions.specs.Words.Limits.{most_nodes}
+use Rattle.definitions.specs.Words.Basics.{any}
+use Rattle.definitions.specs.Words.Expression.{Expr, column, literal, and, binary, call, other, field, Frame, Predicate, Extraction, held}
+use Rattle.definitions.specs.Words.Leaves.{leaves}
+use Rattle.definitions.specs.Filter.Extract.{Pick, is_knn, later, first_match, first_of, pick, without, prune, take_pick, Matcher, matches_by, extraction_by, is_match, is_knn_match}
+use Rattle.definitions.specs.Bytes.Good.{nodes, Short, plan_nodes, GoodPlan}
+use Rattle.definitions.specs.Claims.Lists.{some_leaf_matches_by}
+use Rattle.definitions.specs.Claims.Pick.{match_at, TookAmong}
 use Rattle.theorems.proofs.Cases.{each}
 use Rattle.theorems.proofs.Tools.{by-test, mapped_at}
 use Rattle.theorems.proofs.Taken.{Taken, taken}

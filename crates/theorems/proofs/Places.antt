@@ -9,8 +9,8 @@ use mathlib.Core.Option.{Option, none, some, map}
 use lib.ListN.{length, get_or}
 use lib.Dec.{ltb, eqb}
 use borrow.Author.Tests.{ltb-true, ltb-false, eqb-true, eqb-false}
-use Rattle.definitions.specs.Project.{place_in, is_place, or_zero}
-use Rattle.definitions.specs.ProjectClaims.{FirstPlace, PlaceExactly}
+use Rattle.definitions.specs.Filter.Project.{place_in, is_place, or_zero}
+use Rattle.definitions.specs.Claims.Project.{FirstPlace, PlaceExactly}
 use Rattle.theorems.proofs.Tools.{by-test}
 
 -- No position of a longer list has it either,

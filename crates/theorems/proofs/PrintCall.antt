@@ -10,16 +10,16 @@ use lib.ListN.{length, get_or, length-append, length-drop}
 use lib.Seq.{take-append_seam, drop-append_seam}
 use lib.Dec.{leb, ltb, lit<}
 use borrow.Author.Tests.{leb-true}
-use Rattle.definitions.specs.Basics.{Result, ok, refused, ascii, big_endian}
-use Rattle.definitions.specs.Expression.{Expr, column, literal, and, binary, call, other, field, Exprs, nil, cons, Frame}
-use Rattle.definitions.specs.Plans.{frame_of}
-use Rattle.definitions.specs.Decode.{index_below}
-use Rattle.definitions.specs.Calls.{written_over}
-use Rattle.definitions.specs.Program.{digit, digits}
-use Rattle.definitions.specs.Good.{All, AllBytes, InRange, InRangeAll, NameBytes}
-use Rattle.definitions.specs.Printed.{figures, decimal_width, decimal, digits16, printed, printed_all, printed_more, PrintOutcome, text_of, finish_print, print}
-use Rattle.definitions.specs.Sessions.{accepted}
-use Rattle.definitions.specs.PrintClaims.{PrintsNeverAlike, TextPrintable, NoLeadingZero, PrintAccepted, PrintWrote, PrintGiven, PrintRefused}
+use Rattle.definitions.specs.Words.Basics.{Result, ok, refused, ascii, big_endian, digit, digits}
+use Rattle.definitions.specs.Words.Expression.{Expr, column, literal, and, binary, call, other, field, Exprs, nil, cons, Frame}
+use Rattle.definitions.specs.Bytes.Plans.{frame_of}
+use Rattle.definitions.specs.Bytes.Decode.{index_below}
+use Rattle.definitions.specs.Calls.Base.{written_over}
+use Rattle.definitions.specs.Bytes.Good.{All, AllBytes, InRange, InRangeAll, NameBytes}
+use Rattle.definitions.specs.Bytes.Printed.{figures, decimal_width, decimal, digits16, printed, printed_all, printed_more}
+use Rattle.definitions.specs.Calls.Print.{PrintOutcome, text_of, finish_print, print}
+use Rattle.definitions.specs.Lists.Sessions.{accepted}
+use Rattle.definitions.specs.Claims.Print.{PrintsNeverAlike, TextPrintable, NoLeadingZero, PrintAccepted, PrintWrote, PrintGiven, PrintRefused}
 use Rattle.theorems.proofs.Columns.{all_append}
 use Rattle.theorems.proofs.Tools.{by-test, and-both}
 use Rattle.theorems.proofs.RoundTripPlan.{frame-reads}

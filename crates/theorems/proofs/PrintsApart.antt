@@ -7,12 +7,12 @@ use mathlib.Core.List.{List, [], ◌∷◌, ◌++◌, append_assoc}
 use lib.ListN.{length}
 use lib.Dec.{eqb, lit<}
 use borrow.Author.Tests.{eqb-false}
-use Rattle.definitions.specs.Basics.{ascii}
-use Rattle.definitions.specs.Expression.{Expr, column, literal, and, binary, call, other, field, Exprs, nil, cons}
-use Rattle.definitions.specs.Decode.{index_below}
-use Rattle.definitions.specs.Good.{InRange, InRangeAll}
-use Rattle.definitions.specs.Printed.{decimal, digits16, printed, printed_all, printed_more}
-use Rattle.definitions.specs.PrintClaims.{is_digit, NoDigit}
+use Rattle.definitions.specs.Words.Basics.{ascii}
+use Rattle.definitions.specs.Words.Expression.{Expr, column, literal, and, binary, call, other, field, Exprs, nil, cons}
+use Rattle.definitions.specs.Bytes.Decode.{index_below}
+use Rattle.definitions.specs.Bytes.Good.{InRange, InRangeAll}
+use Rattle.definitions.specs.Bytes.Printed.{decimal, digits16, printed, printed_all, printed_more}
+use Rattle.definitions.specs.Claims.Print.{is_digit, NoDigit}
 use Rattle.theorems.proofs.Cases.{whole}
 use Rattle.theorems.proofs.Figures.{first-same, rest-same, parts_same, decimals-same, literals-same}
 

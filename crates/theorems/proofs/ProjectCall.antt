@@ -10,14 +10,15 @@ use lib.ListN.{length, take}
 use lib.Seq.{length-take-le}
 use lib.Dec.{leb}
 use borrow.Author.Tests.{leb-true, le-leb}
-use Rattle.definitions.specs.Basics.{Result, ok, refused}
-use Rattle.definitions.specs.Expression.{Extraction, Plan, empty, held, extracted}
-use Rattle.definitions.specs.Encode.{plan_bytes}
-use Rattle.definitions.specs.Calls.{Outcome, finish, held_plan}
-use Rattle.definitions.specs.Good.{AllBytes, GoodPlan}
-use Rattle.definitions.specs.Sessions.{accepted}
-use Rattle.definitions.specs.Project.{Lists, project_extraction, placed, projection, short_lists, projected_bytes, new_after_project, project}
-use Rattle.definitions.specs.ProjectClaims.{Projects, project_by, ProjectedExactly, ProjectWrote, ProjectWrites, ProjectKeeps}
+use Rattle.definitions.specs.Words.Basics.{Result, ok, refused}
+use Rattle.definitions.specs.Words.Expression.{Extraction, Plan, empty, held, extracted}
+use Rattle.definitions.specs.Bytes.Encode.{plan_bytes}
+use Rattle.definitions.specs.Calls.Base.{Outcome, finish, held_plan}
+use Rattle.definitions.specs.Bytes.Good.{AllBytes, GoodPlan}
+use Rattle.definitions.specs.Lists.Sessions.{accepted}
+use Rattle.definitions.specs.Filter.Project.{ChildLists, project_extraction, placed, projection}
+use Rattle.definitions.specs.Calls.Project.{short_lists, projected_bytes, new_after_project, project}
+use Rattle.definitions.specs.Claims.Project.{Projects, project_by, ProjectedExactly, ProjectWrote, ProjectWrites, ProjectKeeps}
 use Rattle.theorems.proofs.Tools.{and-both}
 use Rattle.theorems.proofs.InverseFrame.{same_ok}
 use Rattle.theorems.proofs.InversePlan.{plan-back}
@@ -26,7 +27,7 @@ use Rattle.theorems.proofs.Changes.{over_first, finish-keeps, finish-wrote}
 use Rattle.theorems.proofs.ProjectedGood.{projected-length}
 
 -- Neither list has over 4,096 items.
-pub both-short : (lists : Lists) → short_lists lists ≡ true → (length lists.of_left ≤ 4096) × (length lists.of_right ≤ 4096)
+pub both-short : (lists : ChildLists) → short_lists lists ≡ true → (length lists.of_left ≤ 4096) × (length lists.of_right ≤ 4096)
 unfolding short_lists
 both-short lists e =
     let both : (leb (length lists.of_left) 4096 ≡ true) × (leb (length lists.of_right) 4096 ≡ true) = and-both _ _ e in
@@ -34,7 +35,7 @@ both-short lists e =
 
 -- ---- exactly when
 
-module _ (lists : Lists) (n : ℕ) (buffer scratch : List ℕ) where
+module _ (lists : ChildLists) (n : ℕ) (buffer scratch : List ℕ) where
   -- The answer to these bytes is a length.
   abbrev Answered : Result (List ℕ) → Type 0
   Answered r = accepted (finish n buffer scratch r).answer ≡ true
@@ -136,7 +137,7 @@ pub project-is-short : (n : ℕ) (buffer scratch of_left of_right : List ℕ) (m
     → (project n buffer scratch of_left of_right).answer ≡ ok m → m ≤ 16384
 unfolding accepted
 project-is-short n buffer scratch of_left of_right m bytes e =
-    let lists : Lists = record { of_left = of_left; of_right = of_right } in
+    let lists : ChildLists = record { of_left = of_left; of_right = of_right } in
     let (X, p, w) = project-wrote lists n buffer scratch bytes (ap accepted e) in
     let h : HeldFirst n buffer X = held_first n buffer X bytes p.holds in
     let is : (project n buffer scratch of_left of_right).n ≡ m = same_ok _ _ (sym w.wrote.answer ∙ e) in

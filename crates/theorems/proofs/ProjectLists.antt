@@ -7,23 +7,23 @@ use mathlib.Core.Path.{◌≡◌, refl, sym, ap, ◌∙◌, subst, fun_ext}
 use mathlib.Core.Bool.{Bool, true, false}
 use mathlib.Core.List.{List, map}
 use mathlib.Core.Option.{none, some}
-use Rattle.definitions.specs.Basics.{Result, ok}
-use Rattle.definitions.specs.Expression.{Side, Frame, Extraction, held, extracted}
-use Rattle.definitions.specs.Encode.{plan_bytes}
-use Rattle.definitions.specs.Plans.{plan_of}
-use Rattle.definitions.specs.Extract.{Matcher}
-use Rattle.definitions.specs.Exchange.{exchange_plan}
-use Rattle.definitions.specs.Calls.{Outcome, finish}
-use Rattle.definitions.specs.Machine.{Bits, machine_plan}
-use Rattle.definitions.specs.Good.{GoodPlan}
-use Rattle.definitions.specs.NodeTable.{NodeRecord}
-use Rattle.definitions.specs.Sessions.{Made, fed, ListOutcome, accepted, exchanges_odd, after, plan_left}
-use Rattle.definitions.specs.Meaning.{Valuation, Meaning, frame_value, extraction_value, plan_value, exchanged_values}
-use Rattle.definitions.specs.Matchers.{Lawful, Symmetric}
-use Rattle.definitions.specs.ValueClaims.{values_when}
-use Rattle.definitions.specs.Project.{Lists, project_extraction, projection}
-use Rattle.definitions.specs.OddMachine.{extracted_plan, odd_length, odd_run}
-use Rattle.definitions.specs.ProjectClaims.{Projects, project_by, OddAgree, calls_from, odd_from, ValueFrom, ListAfterProjection, ListProjectedBy}
+use Rattle.definitions.specs.Words.Basics.{Result, ok}
+use Rattle.definitions.specs.Words.Expression.{Side, Frame, Extraction, held, extracted}
+use Rattle.definitions.specs.Bytes.Encode.{plan_bytes}
+use Rattle.definitions.specs.Bytes.Plans.{plan_of}
+use Rattle.definitions.specs.Filter.Extract.{Matcher}
+use Rattle.definitions.specs.Filter.Exchange.{exchange_plan, extracted_plan}
+use Rattle.definitions.specs.Calls.Base.{Outcome, finish}
+use Rattle.definitions.specs.Lists.Machine.{Bits, machine_plan}
+use Rattle.definitions.specs.Bytes.Good.{GoodPlan}
+use Rattle.definitions.specs.Bytes.NodeTable.{NodeRecord}
+use Rattle.definitions.specs.Lists.Sessions.{Made, fed, ListOutcome, accepted, exchanges_odd, after, plan_left}
+use Rattle.definitions.specs.Meaning.Values.{Valuation, Meaning, frame_value, extraction_value, plan_value, exchanged_values}
+use Rattle.definitions.specs.Meaning.Matchers.{Lawful, Symmetric}
+use Rattle.definitions.specs.Claims.Values.{values_when}
+use Rattle.definitions.specs.Filter.Project.{ChildLists, project_extraction, projection}
+use Rattle.definitions.specs.Lists.OddMachine.{odd_length, odd_run}
+use Rattle.definitions.specs.Claims.Project.{Projects, project_by, OddAgree, calls_from, odd_from, ValueFrom, ListAfterProjection, ListProjectedBy}
 use Rattle.theorems.proofs.Exchange.{negate-negate}
 use Rattle.theorems.proofs.RoundTripPlan.{plan-reads}
 use Rattle.theorems.proofs.InverseFrame.{same_ok}
@@ -44,7 +44,7 @@ odd-value M turns w Y false = refl
 
 -- ---- after a projection of X
 
-module _ (match : Matcher) (lists : Lists) (n : ℕ) (buffer scratch : List ℕ) (table : List NodeRecord) (X : Extraction)
+module _ (match : Matcher) (lists : ChildLists) (n : ℕ) (buffer scratch : List ℕ) (table : List NodeRecord) (X : Extraction)
     (p : Projects lists n buffer scratch X) (h : HeldFirst n buffer X) where
   abbrev Y : Extraction
   Y = project_extraction lists X
@@ -131,7 +131,7 @@ module _ {match : Matcher} {Asks : Meaning → Type 0} (laws : Lawful match Asks
 
   -- With the machine's plan before the projection known.
   module _ (M : Meaning) (turns : Symmetric M) (v w : Valuation) (F : Frame) (asked : Asks M) (good : GoodPlan (held F))
-      (b : Bits) (n : ℕ) (buffer : List ℕ) (h : Holds laws F b n buffer) (lists : Lists) (scratch : List ℕ) (table : List NodeRecord)
+      (b : Bits) (n : ℕ) (buffer : List ℕ) (h : Holds laws F b n buffer) (lists : ChildLists) (scratch : List ℕ) (table : List NodeRecord)
       (later : List Made) where
     from-held : (X : Extraction) → Projects lists n buffer scratch X → machine_plan match F b ≡ extracted X
         → ValueFrom match (project_by lists n buffer scratch) table later lists M (values_when b.is_odd v) w (frame_value M v F)

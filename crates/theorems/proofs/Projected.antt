@@ -8,14 +8,14 @@ use mathlib.Core.List.{List, [], ◌∷◌, map}
 use mathlib.Core.Option
 use mathlib.Core.Option.{Option, none, some}
 use lib.ListN.{get_or, get_or-map}
-use Rattle.definitions.specs.Basics.{all}
-use Rattle.definitions.specs.Expression.{Side, left, right, no_side, Expr, Record, Frame, Predicate, relation, distance, knn, Extraction}
-use Rattle.definitions.specs.References.{columns_of, map_columns, record_at}
-use Rattle.definitions.specs.Exchange.{negate, exchange_record, exchange_frame, exchange_predicate, exchange_extraction}
-use Rattle.definitions.specs.Good.{All}
-use Rattle.definitions.specs.Meaning.{Valuation, Meaning, value, frame_columns, frame_value, predicate_value, and_value, and_remainder, extraction_value}
-use Rattle.definitions.specs.Project.{Lists, place_of, is_place, or_zero, new_place, has_place, project_expr, placed_expr, project_predicate, placed_predicate, project_record, placed_record, project_frame, placed_remainder, project_extraction, placed, projection}
-use Rattle.definitions.specs.ProjectClaims.{NewColumns, NewColumnsThere, ProjectionValue, exchange_lists, ProjectionExchanged}
+use Rattle.definitions.specs.Words.Basics.{all}
+use Rattle.definitions.specs.Words.Expression.{Side, left, right, no_side, Expr, Record, Frame, Predicate, relation, distance, knn, Extraction}
+use Rattle.definitions.specs.Words.References.{columns_of, map_columns, record_at}
+use Rattle.definitions.specs.Filter.Exchange.{negate, exchange_record, exchange_frame, exchange_predicate, exchange_extraction}
+use Rattle.definitions.specs.Bytes.Good.{All}
+use Rattle.definitions.specs.Meaning.Values.{Valuation, Meaning, value, frame_columns, frame_value, predicate_value, and_value, and_remainder, extraction_value}
+use Rattle.definitions.specs.Filter.Project.{ChildLists, place_of, is_place, or_zero, new_place, has_place, project_expr, placed_expr, project_predicate, placed_predicate, project_record, placed_record, project_frame, placed_remainder, project_extraction, placed, projection}
+use Rattle.definitions.specs.Claims.Project.{NewColumns, NewColumnsThere, ProjectionValue, exchange_lists, ProjectionExchanged}
 use Rattle.theorems.proofs.Tools.{and-both}
 use Rattle.theorems.proofs.Columns.{all_both}
 use Rattle.theorems.proofs.Values.{map-value}
@@ -24,7 +24,7 @@ use Rattle.theorems.proofs.Places.{place_is, listed-value}
 -- ---- values over the new columns
 
 -- The values read off the lists.
-listed_values : Lists → Valuation → Valuation
+listed_values : ChildLists → Valuation → Valuation
 listed_values lists v left i = v left (get_or lists.of_left i 0)
 listed_values lists v right i = v right (get_or lists.of_right i 0)
 listed_values lists v no_side i = v no_side i
@@ -40,7 +40,7 @@ all_true test [] e = tt
 all_true test (x ∷ xs) e =
     let both : (test x ≡ true) × (all test xs ≡ true) = and-both (test x) (all test xs) e in (both.0, all_true test xs both.1)
 
-module _ (lists : Lists) (v w : Valuation) (new : NewColumns lists v w) where
+module _ (lists : ChildLists) (v w : Valuation) (new : NewColumns lists v w) where
   place-value : (side : Side) (index : ℕ) → has_place lists side index ≡ true → v side index ≡ w side (new_place lists side index)
   unfolding has_place new_place place_of or_zero
   place-value left index e =
@@ -114,7 +114,7 @@ if-placed : (b : Bool) (X Y : Extraction) → (if b then some X else none) ≡ s
 if-placed true X Y e = (refl, cc)
 if-placed false X Y e = let z : ◌≡◌ {A = ℕ} 0 1 = cc in absurd (omega arith)
 
-pub projection-is : (lists : Lists) (X Y : Extraction) → projection lists X ≡ some Y
+pub projection-is : (lists : ChildLists) (X Y : Extraction) → projection lists X ≡ some Y
     → (placed lists X ≡ true) × (project_extraction lists X ≡ Y)
 unfolding projection
 projection-is lists X Y e = if-placed (placed lists X) (project_extraction lists X) Y e
@@ -126,8 +126,8 @@ projection-value M lists v w X Y new e =
 
 -- ---- the exchange
 
-module _ (lists : Lists) where
-  swapped : Lists
+module _ (lists : ChildLists) where
+  swapped : ChildLists
   swapped = exchange_lists lists
 
   place-swapped : (side : Side) (index : ℕ) → place_of swapped (negate side) index ≡ place_of lists side index

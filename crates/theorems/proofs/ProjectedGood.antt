@@ -8,14 +8,14 @@ use mathlib.Core.Option.{Option, none, some}
 use lib.ListN.{length, length-append, length-map}
 use lib.Dec.{ltb}
 use borrow.Author.Tests.{ltb-true, lt-ltb}
-use Rattle.definitions.specs.Expression.{Side, left, right, no_side, Expr, Record, Frame, Predicate, relation, distance, knn, Extraction, extracted}
-use Rattle.definitions.specs.Encode.{expr_bytes, frame_bytes, predicate_fields, remainder_bytes, plan_bytes}
-use Rattle.definitions.specs.Decode.{index_below}
-use Rattle.definitions.specs.References.{columns_of}
-use Rattle.definitions.specs.Exchange.{negate}
-use Rattle.definitions.specs.Good.{nodes, Short, Readable, RecordsInRange, ReadablePredicate, ReadableRemainder, predicate_nodes, remainder_nodes, plan_nodes, GoodPlan}
-use Rattle.definitions.specs.Project.{place_in, Lists, place_of, or_zero, new_place, project_expr, project_predicate, project_record, project_frame, project_extraction}
-use Rattle.definitions.specs.ProjectClaims.{ProjectionGood}
+use Rattle.definitions.specs.Words.Expression.{Side, left, right, no_side, Expr, Record, Frame, Predicate, relation, distance, knn, Extraction, extracted}
+use Rattle.definitions.specs.Bytes.Encode.{expr_bytes, frame_bytes, predicate_fields, remainder_bytes, plan_bytes}
+use Rattle.definitions.specs.Bytes.Decode.{index_below}
+use Rattle.definitions.specs.Words.References.{columns_of}
+use Rattle.definitions.specs.Filter.Exchange.{negate}
+use Rattle.definitions.specs.Bytes.Good.{nodes, Short, Readable, RecordsInRange, ReadablePredicate, ReadableRemainder, predicate_nodes, remainder_nodes, plan_nodes, GoodPlan}
+use Rattle.definitions.specs.Filter.Project.{place_in, ChildLists, place_of, or_zero, new_place, project_expr, project_predicate, project_record, project_frame, project_extraction}
+use Rattle.definitions.specs.Claims.Project.{ProjectionGood}
 use Rattle.theorems.proofs.Columns.{all_both, Fits, map-length, map-nodes, map-depth, map-in-range, columns-below}
 use Rattle.theorems.proofs.ExchangeGood.{frame-length, extraction-length}
 use Rattle.theorems.proofs.Places.{place_is, place_short}
@@ -23,7 +23,7 @@ use Rattle.theorems.proofs.Projected.{projection-is}
 
 -- ---- ranges
 
-module _ (lists : Lists) (short_left : length lists.of_left ≤ 4096) (short_right : length lists.of_right ≤ 4096) where
+module _ (lists : ChildLists) (short_left : length lists.of_left ≤ 4096) (short_right : length lists.of_right ≤ 4096) where
   new-short : (side : Side) (index : ℕ) → Short index → Short (new_place lists side index)
   unfolding new_place place_of or_zero
   new-short left index h = place_short lists.of_left index short_left (place_in lists.of_left index) (place_is lists.of_left index)
@@ -69,7 +69,7 @@ module _ (lists : Lists) (short_left : length lists.of_left ≤ 4096) (short_rig
 
 -- ---- lengths and nodes
 
-module _ (lists : Lists) where
+module _ (lists : ChildLists) where
   expr-length : (side : Side) (e : Expr) → length (expr_bytes (project_expr lists side e)) ≡ length (expr_bytes e)
   unfolding project_expr
   expr-length side e = map-length _ e
@@ -120,7 +120,7 @@ module _ (lists : Lists) where
 
 -- ---- good
 
-pub projected-good : (lists : Lists) (X : Extraction) → length lists.of_left ≤ 4096 → length lists.of_right ≤ 4096
+pub projected-good : (lists : ChildLists) (X : Extraction) → length lists.of_left ≤ 4096 → length lists.of_right ≤ 4096
     → GoodPlan (extracted X) → GoodPlan (extracted (project_extraction lists X))
 unfolding project_extraction
 projected-good lists X a b g = record {

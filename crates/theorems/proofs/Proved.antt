@@ -1,47 +1,53 @@
 -- Each claim of specs/Claims.antt and of the tables beside it, proved.
 use mathlib.Core.Path.{ap, ◌∙◌}
 use Rattle.std.proofs.Math.Option
-use Rattle.definitions.specs.Encode.{predicate_kind}
-use Rattle.definitions.specs.Match.{match_leaf}
-use Rattle.definitions.specs.Extract.{Matcher}
-use Rattle.definitions.specs.Sessions.{odd_in}
-use Rattle.definitions.specs.Meaning.{Fair}
-use Rattle.definitions.specs.Claims.{ExchangeTwice, ExtractExchanged, ExpressionReadBack, PlanReadBack, PlanOfBytes, AnyPosition, ExtractionGood, ExchangeGood, LengthsShort, RefusedKeeps, AcceptedWrites, RefusalsOfCalls, LoadAccepted, LoadHolds, ListOfCalls, AnswersInPlace, SamePlan, ExchangeAccepted, ExtractAccepted, PickExactly, RestOfLeaves, ExtractTakes, PositionInBytes, PriceLineOfCalls, PriceLineStays, PriceLineExchanged, MachinesAgree, NamesAreOnes, NamesOnce}
-use Rattle.definitions.specs.ValueClaims.{AndAssociative, AndCommutative, ExchangeValue, ExtractionValue, values_when, ListValue, FairMeaning, FairByArguments, MarksStay}
-use Rattle.definitions.specs.AnyMatcher.{Extracts, OneCall, Lists, AnyMatcher}
-use Rattle.definitions.specs.DemandThree.{MeetsDemandThree}
-use Rattle.definitions.specs.ShortClaims.{ExchangedKeepsPosition, ExchangeKeepsPosition, ProjectionKeepsLine, ProjectKeepsLine, MergeExchanged, MergeExchangedLine, PolicyKeepsIndex, BoundWithoutColumns, SameTextSameExpression, LineRefusals}
-use Rattle.definitions.specs.SettingsClaims.{AllSettings, BadSettings, RefusalsUnder, DefaultSettings, FairMeaningUnder, KindsNarrow}
-use Rattle.definitions.specs.AllClaims.{LeavesThatStay, AnyMatcherAll}
-use Rattle.definitions.specs.AllRows.{AllRows}
-use Rattle.definitions.specs.SettingsRows.{SettingsRows}
-use Rattle.definitions.specs.VerdictClaims.{VerdictExactly, VerdictByDefault, ReasonsTrueAndFirst, OnlyKnnTooFew, VerdictBytesApart, VerdictsNameTheLine, AnswerIsTheBill, VerdictsExchanged, VerdictsMerged, ExplainCalls}
-use Rattle.definitions.specs.VerdictRows.{VerdictRows}
-use Rattle.definitions.specs.TenRows.{TenRows}
-use Rattle.definitions.specs.FurtherRows.{FurtherRows}
-use Rattle.definitions.specs.PositionRows.{PositionRows}
-use Rattle.definitions.specs.NearestRows.{NearestRows}
-use Rattle.definitions.specs.BoundRows.{BoundRows}
-use Rattle.definitions.specs.RefusalTable.{RefusalTable}
-use Rattle.definitions.specs.NameTables.{NameTables}
-use Rattle.definitions.specs.GuardRows.{GuardRows}
-use Rattle.definitions.specs.PrintClaims.{PrintsApart, PrintsNeverAlike, TextShort, TextPrintable, NoLeadingZero, PrintAccepted, PrintGiven, PrintRefused}
-use Rattle.definitions.specs.PrintRows.{PrintRows}
-use Rattle.definitions.specs.Merge.{merge_frames}
-use Rattle.definitions.specs.MergeClaims.{MergedGood, MergedValue, MergedLeaves, MergeAccepted, MergeWrites, MergeKeeps, MergeHolds, ListAfterMerge, ValueAfterMerge, HistoryOfCalls, AnyMatcherMerges}
-use Rattle.definitions.specs.MergeRows.{MergeRows}
-use Rattle.definitions.specs.TableClaims.{TableNests, TableNamesBytes, PositionsFit, TableExchanged, BeginsExactly, TableStays, ExtractFilled, ExtractUnfilled, ExtractTwice, NeverTooShort}
-use Rattle.definitions.specs.TableRows.{TableRows}
-use Rattle.definitions.specs.PruningClaims.{KeptByHeldIndexes}
-use Rattle.definitions.specs.ProjectRows.{ProjectRows}
-use Rattle.definitions.specs.QueueRows.{QueueRows}
-use Rattle.definitions.specs.QueueClaims.{StateReadBack, StateHeld, PutAdds, ServeTakes, QueuesKept, QueueLengths, FreeBytes, RunParts, AlwaysHeld, InOrder, ServeGives, FairQueues, BoundReached}
-use Rattle.definitions.specs.ProjectClaims.{PlaceExactly, NewColumnsThere, ProjectionValue, ProjectionExchanged, ProjectionGood, ProjectedExactly, ProjectWrites, ProjectKeeps, ListAfterProjection, AnyMatcherProjects, ListProjectedValue}
-use Rattle.definitions.specs.WalkClaims.{RemembersFirst, StopsAtKnn, OneWalkIsPick, WalkBounded, WalkWhole, WalkUnmatched, WalkExchanged, WalkCarried, WalkShort}
-use Rattle.definitions.specs.WalkRows.{WalkRows}
+use Rattle.definitions.specs.Bytes.Encode.{predicate_kind}
+use Rattle.definitions.specs.Filter.Match.{match_leaf}
+use Rattle.definitions.specs.Filter.Extract.{Matcher}
+use Rattle.definitions.specs.Lists.Sessions.{odd_in}
+use Rattle.definitions.specs.Meaning.Values.{Fair}
+use Rattle.definitions.specs.Claims.Plans.{ExchangeTwice, ExtractExchanged, ExpressionReadBack, PlanReadBack, PlanOfBytes, AnyPosition, ExtractionGood, ExchangeGood}
+use Rattle.definitions.specs.Claims.Refusals.{LengthsShort, RefusalsOfCalls}
+use Rattle.definitions.specs.Claims.Calls.{RefusedKeeps, AcceptedWrites}
+use Rattle.definitions.specs.Claims.Lists.{LoadAccepted, LoadHolds, ListOfCalls, AnswersInPlace, SamePlan, ExchangeAccepted, ExtractAccepted}
+use Rattle.definitions.specs.Claims.Pick.{PickExactly, RestOfLeaves, ExtractTakes, PositionInBytes}
+use Rattle.definitions.specs.Claims.PriceLine.{PriceLineOfCalls, PriceLineStays, PriceLineExchanged, MachinesAgree}
+use Rattle.definitions.specs.Claims.Names.{NamesAreOnes, NamesOnce}
+use Rattle.definitions.specs.Claims.Values.{AndAssociative, AndCommutative, ExchangeValue, ExtractionValue, values_when, ListValue, FairMeaning, FairByArguments, MarksStay}
+use Rattle.definitions.specs.Claims.AnyMatcher.{Extracts, OneCall, Lists, AnyMatcher}
+use Rattle.definitions.specs.Claims.DemandThree.{MeetsDemandThree}
+use Rattle.definitions.specs.Claims.Short.{ExchangedKeepsPosition, ExchangeKeepsPosition, ProjectionKeepsLine, ProjectKeepsLine, MergeExchanged, MergeExchangedLine, PolicyKeepsIndex, BoundWithoutColumns, SameTextSameExpression, LineRefusals}
+use Rattle.definitions.specs.Claims.Settings.{AllSettings, BadSettings, RefusalsUnder, DefaultSettings, FairMeaningUnder, KindsNarrow}
+use Rattle.definitions.specs.Claims.All.{LeavesThatStay, AnyMatcherAll}
+use Rattle.definitions.specs.Rows.All.{AllRows}
+use Rattle.definitions.specs.Rows.Settings.{SettingsRows}
+use Rattle.definitions.specs.Claims.Verdicts.{VerdictExactly, VerdictByDefault, ReasonsTrueAndFirst, OnlyKnnTooFew, VerdictBytesApart, VerdictsNameTheLine, AnswerIsTheBill, VerdictsExchanged, VerdictsMerged, ExplainCalls}
+use Rattle.definitions.specs.Rows.Verdicts.{VerdictRows}
+use Rattle.definitions.specs.Rows.Ten.{TenRows}
+use Rattle.definitions.specs.Rows.Further.{FurtherRows}
+use Rattle.definitions.specs.Rows.Position.{PositionRows}
+use Rattle.definitions.specs.Rows.Nearest.{NearestRows}
+use Rattle.definitions.specs.Rows.Bound.{BoundRows}
+use Rattle.definitions.specs.Rows.Refusals.{RefusalTable}
+use Rattle.definitions.specs.Rows.Names.{NameTables}
+use Rattle.definitions.specs.Rows.Guard.{GuardRows}
+use Rattle.definitions.specs.Claims.Print.{PrintsApart, PrintsNeverAlike, TextShort, TextPrintable, NoLeadingZero, PrintAccepted, PrintGiven, PrintRefused}
+use Rattle.definitions.specs.Rows.Print.{PrintRows}
+use Rattle.definitions.specs.Filter.Merge.{merge_frames}
+use Rattle.definitions.specs.Claims.Merge.{MergedGood, MergedValue, MergedLeaves, MergeAccepted, MergeWrites, MergeKeeps, MergeHolds, ListAfterMerge, ValueAfterMerge, HistoryOfCalls, AnyMatcherMerges}
+use Rattle.definitions.specs.Rows.Merge.{MergeRows}
+use Rattle.definitions.specs.Claims.Table.{TableNests, TableNamesBytes, PositionsFit, TableExchanged, BeginsExactly, TableStays, ExtractFilled, ExtractUnfilled, ExtractTwice, NeverTooShort}
+use Rattle.definitions.specs.Rows.Table.{TableRows}
+use Rattle.definitions.specs.Claims.Pruning.{KeptByHeldIndexes}
+use Rattle.definitions.specs.Rows.Project.{ProjectRows}
+use Rattle.definitions.specs.Rows.Queues.{QueueRows}
+use Rattle.definitions.specs.Claims.Queues.{StateReadBack, StateHeld, PutAdds, ServeTakes, QueuesKept, QueueLengths, FreeBytes, RunParts, AlwaysHeld, InOrder, ServeGives, FairQueues, BoundReached}
+use Rattle.definitions.specs.Claims.Project.{PlaceExactly, NewColumnsThere, ProjectionValue, ProjectionExchanged, ProjectionGood, ProjectedExactly, ProjectWrites, ProjectKeeps, ListAfterProjection, AnyMatcherProjects, ListProjectedValue}
+use Rattle.definitions.specs.Claims.Walk.{RemembersFirst, StopsAtKnn, OneWalkIsPick, WalkBounded, WalkWhole, WalkUnmatched, WalkExchanged, WalkCarried, WalkShort}
+use Rattle.definitions.specs.Rows.Walk.{WalkRows}
 use Rattle.theorems.proofs.Exchange.{plan-twice}
 use Rattle.theorems.proofs.Walks.{remembers-first-by, stops-at-knn-by, one-walk-is-pick-by, walk-bounded-by, walk-whole-by, walk-unmatched-by, walk-exchanged-is, walk-carried-by}
-use Rattle.definitions.proofs.WalkedRows.{walk-rows-hold}
+use Rattle.definitions.proofs.Rows.Walk.{walk-rows-hold}
 use Rattle.theorems.proofs.RoundTripPlan.{expr-reads, plan-reads}
 use Rattle.theorems.proofs.InversePlan.{plan-back}
 use Rattle.theorems.proofs.Taken.{rest-of-leaves-are}
@@ -54,7 +60,7 @@ use Rattle.theorems.proofs.QueueCalls.{put-adds-by, put-refusals, serve-takes-by
 use Rattle.theorems.proofs.QueueMachine.{bytes-free}
 use Rattle.theorems.proofs.QueueRuns.{parts-run, held-always, order-kept, serve-gives-by, fair-by}
 use Rattle.theorems.proofs.QueueBound.{bound-is-reached}
-use Rattle.theorems.proofs.QueueLimits.{queue-rows-hold}
+use Rattle.theorems.proofs.Rows.Queues.{queue-rows-hold}
 use Rattle.theorems.proofs.RefusalNumbers.{load-refusals, settled-refusals, all-refusals, exchange-refusals, logical-refusals, print-refusals, merge-refusals, project-refusals}
 use Rattle.theorems.proofs.TablesRoom.{never-too-short-by}
 use Rattle.theorems.proofs.MatchLaws.{match-laws}
@@ -75,26 +81,27 @@ use Rattle.theorems.proofs.VerdictMoved.{verdicts-joined}
 use Rattle.theorems.proofs.VerdictCall.{explain-calls-hold}
 use Rattle.theorems.proofs.FairExample.{fair-points, fair-under, marks-left}
 use Rattle.theorems.proofs.FairCounting.{fair-counting}
-use Rattle.definitions.proofs.Names.{each-once, names-ones, tables-hold}
-use Rattle.theorems.proofs.Table.{ten-rows-hold}
-use Rattle.definitions.proofs.ListedRows.{all-rows-hold}
-use Rattle.definitions.proofs.SettledRows.{settings-rows-hold}
-use Rattle.definitions.proofs.ExplainedRows.{verdict-rows-hold}
-use Rattle.definitions.proofs.OurRows.{further-rows-hold}
-use Rattle.definitions.proofs.PlacedRows.{position-rows-hold}
-use Rattle.definitions.proofs.Nearest.{nearest-rows-hold}
-use Rattle.definitions.proofs.Bounds.{bound-rows-hold}
-use Rattle.definitions.proofs.Sentences.{guard-rows-hold}
-use Rattle.theorems.proofs.Refusals.{refusals-hold}
+use Rattle.definitions.proofs.Rows.Names.{each-once, names-ones, tables-hold}
+use Rattle.theorems.proofs.Rows.Ten.{ten-rows-hold}
+use Rattle.definitions.proofs.Rows.All.{all-rows-hold}
+use Rattle.definitions.proofs.Rows.Settings.{settings-rows-hold}
+use Rattle.definitions.proofs.Rows.Verdicts.{verdict-rows-hold}
+use Rattle.definitions.proofs.Rows.Further.{further-rows-hold}
+use Rattle.definitions.proofs.Rows.Position.{position-rows-hold}
+use Rattle.definitions.proofs.Rows.Nearest.{nearest-rows-hold}
+use Rattle.definitions.proofs.Rows.Bound.{bound-rows-hold}
+use Rattle.definitions.proofs.Rows.Guard.{guard-rows-hold}
+use Rattle.theorems.proofs.Rows.Refusals.{refusals-hold}
 use Rattle.theorems.proofs.PrintsApart.{told-apart}
 use Rattle.theorems.proofs.TextLength.{text-short}
 use Rattle.theorems.proofs.PrintCall.{prints-once, text-printable-by, no-leading, print-accepts, print-gives, print-refuses}
-use Rattle.definitions.proofs.ConsoleLines.{print-rows-hold}
+use Rattle.definitions.proofs.Rows.Print.{print-rows-hold}
 use Rattle.theorems.proofs.Merged.{merged-good, merged_value, merged-leaves-are}
 use Rattle.theorems.proofs.MergeCall.{merge-accepts, merge-wrote, merge-keeps-all, merge-held, list-after}
 use Rattle.theorems.proofs.Histories.{history-of}
-use Rattle.theorems.proofs.UpToLimits.{merge-rows-hold, project-rows-hold}
-use Rattle.definitions.proofs.TabledRows.{table-rows-hold}
+use Rattle.theorems.proofs.Rows.Merge.{merge-rows-hold}
+use Rattle.theorems.proofs.Rows.Project.{project-rows-hold}
+use Rattle.definitions.proofs.Rows.Table.{table-rows-hold}
 use Rattle.theorems.proofs.NodeTables.{table-nests-by, positions-fit-by, table-exchanged-by, begins-exactly-by}
 use Rattle.theorems.proofs.TableBytes.{table-names-bytes-by}
 use Rattle.theorems.proofs.TablesFit.{extract-filled-by, extract-unfilled-by, extract-twice-by}

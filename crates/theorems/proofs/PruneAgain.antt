@@ -9,13 +9,13 @@ use mathlib.Core.Option.{Option, none, some}
 use lib.ListN.{length, take, length-map}
 use lib.Dec.{ltb}
 use borrow.Author.Tests.{ltb-true}
-use Rattle.definitions.specs.Basics.{any, keep}
-use Rattle.definitions.specs.Expression.{Expr, column, literal, and, binary, call, other, field, Record, Frame}
-use Rattle.definitions.specs.Leaves.{leaves}
-use Rattle.definitions.specs.Decode.{index_below}
-use Rattle.definitions.specs.References.{columns_of, map_columns, record_at}
-use Rattle.definitions.specs.Extract.{and_left, and_right, without, same_column, referenced, new_index, prune}
-use Rattle.definitions.specs.Good.{All, InRange}
+use Rattle.definitions.specs.Words.Basics.{any, keep}
+use Rattle.definitions.specs.Words.Expression.{Expr, column, literal, and, binary, call, other, field, Record, Frame}
+use Rattle.definitions.specs.Words.Leaves.{leaves}
+use Rattle.definitions.specs.Bytes.Decode.{index_below}
+use Rattle.definitions.specs.Words.References.{columns_of, map_columns, record_at}
+use Rattle.definitions.specs.Filter.Extract.{and_left, and_right, without, same_column, referenced, new_index, prune}
+use Rattle.definitions.specs.Bytes.Good.{All, InRange}
 use Rattle.theorems.proofs.Columns.{all-every, all-left, all-right, all_append, all_both, map-leaves, columns-below}
 use Rattle.theorems.proofs.Moved.{map_same, map-twice, columns-mapped}
 use Rattle.theorems.proofs.MatchMeans.{map-all}

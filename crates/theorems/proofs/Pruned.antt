@@ -5,10 +5,10 @@ use mathlib.Core.Bool.{Bool, true, false, ◌||◌, false≢true, or-true}
 use mathlib.Core.List.{List, [], ◌∷◌}
 use lib.Dec.{eqb}
 use borrow.Author.Tests.{eqb-true, eq-eqb}
-use Rattle.definitions.specs.Basics.{any}
-use Rattle.definitions.specs.References.{columns_of, record_at}
-use Rattle.definitions.specs.Extract.{same_column, referenced, prune, holds}
-use Rattle.definitions.specs.PruningClaims.{KeptByHeldIndexes}
+use Rattle.definitions.specs.Words.Basics.{any}
+use Rattle.definitions.specs.Words.References.{columns_of, record_at}
+use Rattle.definitions.specs.Filter.Extract.{same_column, referenced, prune, holds}
+use Rattle.definitions.specs.Claims.Pruning.{KeptByHeldIndexes}
 
 -- ---- a number that is among others, and passes
 

@@ -6,12 +6,12 @@ use mathlib.Core.List.{List, [], ◌∷◌, ◌++◌, append_assoc, append-nil}
 use mathlib.Core.Option.{Option, some}
 use lib.ListN.{length, replicate, length-append, length-replicate}
 use borrow.Author.Tests.{lt-ltb}
-use Rattle.definitions.specs.Calls.{written_over}
-use Rattle.definitions.specs.Basics.{Result, ok}
-use Rattle.definitions.specs.Queues.{Queue, chassis, fixed_unit, queue_number, Mark, nobody, last, Frames, State, fresh_state, waiting, with_frames, put_in, Due, first_tried, oldest, due}
-use Rattle.definitions.specs.QueueBytes.{queue_numbered}
-use Rattle.definitions.specs.QueueLists.{QueueCall, put_call, serve_call, made_serve, fresh_queues, Given, served, given_of}
-use Rattle.definitions.specs.QueueClaims.{BoundReached, Latest, left_by}
+use Rattle.definitions.specs.Calls.Base.{written_over}
+use Rattle.definitions.specs.Words.Basics.{Result, ok}
+use Rattle.definitions.specs.Calls.Queues.{Queue, chassis, fixed_unit, queue_number, Mark, nobody, last, Frames, State, fresh_state, waiting, with_frames, put_in, Due, first_tried, oldest, due}
+use Rattle.definitions.specs.Calls.QueueBytes.{queue_numbered}
+use Rattle.definitions.specs.Lists.Queues.{QueueCall, put_call, serve_call, made_serve, fresh_queues, Given, served, given_of}
+use Rattle.definitions.specs.Claims.Queues.{BoundReached, Latest, left_by}
 use Rattle.theorems.proofs.QueueMachine.{state_put, or_old, Step, state_serve, state_run, run_is}
 use Rattle.theorems.proofs.QueueRuns.{fresh-held, waiting-is, with-is}
 

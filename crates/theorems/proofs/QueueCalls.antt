@@ -10,13 +10,13 @@ use mathlib.Core.Option.{Option, none, some}
 use lib.ListN.{length, drop, get_or}
 use lib.Dec.{leb, ltb, eqb}
 use borrow.Author.Tests.{leb-true}
-use Rattle.definitions.specs.Basics.{Result, ok, refused, ◌>>=◌, ◌>>◌, require, any}
-use Rattle.definitions.specs.Calls.{written_over}
-use Rattle.definitions.specs.Queues.{Queue, chassis, fixed_unit, queue_number, other_queue, State, waiting, with_frames, marked, put_in, Due, first_tried, due}
-use Rattle.definitions.specs.QueueBytes.{part_of, lengths_of, places_of, short, is_length, mark_of, frames_of, queue_of, state_of, state_over, queue_numbered, PutOutcome, put_done, put, Served, frame_from, both_empty, ServeOutcome, serve_due, serve_held, serve}
-use Rattle.definitions.specs.QueueLists.{waiting_of, waiting_in}
-use Rattle.definitions.specs.Claims.{put_refusals, serve_refusals, RefusedBy}
-use Rattle.definitions.specs.QueueClaims.{FramesFit, PutAdded, PutAdds, ServeTook, ServeTakes, QueuesKept, QueueLengths}
+use Rattle.definitions.specs.Words.Basics.{Result, ok, refused, ◌>>=◌, ◌>>◌, require, any}
+use Rattle.definitions.specs.Calls.Base.{written_over}
+use Rattle.definitions.specs.Calls.Queues.{Queue, chassis, fixed_unit, queue_number, other_queue, State, waiting, with_frames, marked, put_in, Due, first_tried, due}
+use Rattle.definitions.specs.Calls.QueueBytes.{part_of, lengths_of, places_of, short, is_length, mark_of, frames_of, queue_of, state_of, state_over, queue_numbered, PutOutcome, put_done, put, Served, frame_from, both_empty, ServeOutcome, serve_due, serve_held, serve}
+use Rattle.definitions.specs.Lists.Queues.{waiting_of, waiting_in}
+use Rattle.definitions.specs.Claims.Calls.{put_refusals, serve_refusals, RefusedBy}
+use Rattle.definitions.specs.Claims.Queues.{FramesFit, PutAdded, PutAdds, ServeTook, ServeTakes, QueuesKept, QueueLengths}
 use Rattle.theorems.proofs.Changes.{over-same, over_first}
 use Rattle.theorems.proofs.QueueStates.{held_in, in_held, held-over, held_fits}
 use Rattle.theorems.proofs.QueueChanges.{Turn, put-added, fits-added, fits-left, IsDue, nothing, one, is-due}

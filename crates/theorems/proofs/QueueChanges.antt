@@ -10,12 +10,12 @@ use mathlib.Core.Option.{Option, none, some}
 use lib.ListN.{length, take, length-append}
 use lib.Dec.{leb, ltb}
 use borrow.Author.Tests.{leb-true, ltb-true}
-use Rattle.definitions.specs.Basics.{Result, ok, refused}
-use Rattle.definitions.specs.Calls.{written_over}
-use Rattle.definitions.specs.Queues.{Queue, chassis, fixed_unit, queue_number, other_queue, Frames, State, waiting, with_frames, marked, put_in, Due, first_tried, oldest, due}
-use Rattle.definitions.specs.QueueBytes.{state_over, queue_numbered, put_done, put, frame_from, both_empty, ServeOutcome, serve_due, serve_held, serve}
-use Rattle.definitions.specs.QueueLists.{QueueCall, put_call, serve_call, QueueMade, made_put, made_serve, QueuesRun, queues_run}
-use Rattle.definitions.specs.QueueClaims.{FramesFit, Fits}
+use Rattle.definitions.specs.Words.Basics.{Result, ok, refused}
+use Rattle.definitions.specs.Calls.Base.{written_over}
+use Rattle.definitions.specs.Calls.Queues.{Queue, chassis, fixed_unit, queue_number, other_queue, Frames, State, waiting, with_frames, marked, put_in, Due, first_tried, oldest, due}
+use Rattle.definitions.specs.Calls.QueueBytes.{state_over, queue_numbered, put_done, put, frame_from, both_empty, ServeOutcome, serve_due, serve_held, serve}
+use Rattle.definitions.specs.Lists.Queues.{QueueCall, put_call, serve_call, QueueMade, made_put, made_serve, QueuesRun, queues_run}
+use Rattle.definitions.specs.Claims.Queues.{FramesFit, Fits}
 use Rattle.theorems.proofs.InverseFrame.{same_ok}
 use Rattle.theorems.proofs.Changes.{over_first}
 use Rattle.theorems.proofs.QueueFrames.{passed}

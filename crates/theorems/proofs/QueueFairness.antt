@@ -9,9 +9,9 @@ use mathlib.Core.List.{List, [], ◌∷◌, ◌++◌, append_assoc, append-nil}
 use mathlib.Core.Option.{Option, some}
 use lib.ListN.{length, take}
 use lib.Dec.{eqb}
-use Rattle.definitions.specs.Queues.{Queue, chassis, fixed_unit, queue_number, other_queue, Mark, last, Frames, State, waiting, with_frames, marked, first_tried}
-use Rattle.definitions.specs.QueueLists.{QueueMade, same_queue, added, Given, served, given_of}
-use Rattle.definitions.specs.QueueClaims.{ComesOut}
+use Rattle.definitions.specs.Calls.Queues.{Queue, chassis, fixed_unit, queue_number, other_queue, Mark, last, Frames, State, waiting, with_frames, marked, first_tried}
+use Rattle.definitions.specs.Lists.Queues.{QueueMade, same_queue, added, Given, served, given_of}
+use Rattle.definitions.specs.Claims.Queues.{ComesOut}
 use Rattle.theorems.proofs.QueueChanges.{Turn, put_refused, serve_refused, found_empty, puts, gives, Changes, no_call, call}
 
 -- ---- the frames of a queue after a put and after a serve

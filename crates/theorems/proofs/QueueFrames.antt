@@ -8,12 +8,12 @@ use lib.ListN.{length, take, drop, get_or, length-drop, take-append-drop}
 use lib.Seq.{take_at, drop_at, length-take-le, drop-drop}
 use lib.Dec.{leb}
 use borrow.Author.Tests.{le-leb, leb-true}
-use Rattle.definitions.specs.Basics.{Result, ok, refused, ◌>>=◌, ◌>>◌, require, big_endian}
-use Rattle.definitions.specs.Calls.{written_over}
-use Rattle.definitions.specs.Good.{AllBytes}
-use Rattle.definitions.specs.Queues.{Frames}
-use Rattle.definitions.specs.QueueBytes.{short, is_length, frames_of, in_slots, length_bytes}
-use Rattle.definitions.specs.QueueClaims.{FramesFit}
+use Rattle.definitions.specs.Words.Basics.{Result, ok, refused, ◌>>=◌, ◌>>◌, require, big_endian}
+use Rattle.definitions.specs.Calls.Base.{written_over}
+use Rattle.definitions.specs.Bytes.Good.{AllBytes}
+use Rattle.definitions.specs.Calls.Queues.{Frames}
+use Rattle.definitions.specs.Calls.QueueBytes.{short, is_length, frames_of, in_slots, length_bytes}
+use Rattle.definitions.specs.Claims.Queues.{FramesFit}
 use Rattle.theorems.proofs.Tools.{bytes-from}
 use Rattle.theorems.proofs.InverseFrame.{refused_not_ok, same_ok}
 use Rattle.theorems.proofs.Slots.{Slotted, next-slot, slot-length, one-slot}

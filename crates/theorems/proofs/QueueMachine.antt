@@ -7,12 +7,12 @@ use mathlib.Core.List.{List, [], ◌∷◌}
 use mathlib.Core.Option.{Option, none, some}
 use lib.ListN.{length}
 use lib.Dec.{leb}
-use Rattle.definitions.specs.Basics.{Result, ok, refused, map_result, ◌>>=◌}
-use Rattle.definitions.specs.Calls.{written_over}
-use Rattle.definitions.specs.Queues.{Queue, chassis, fixed_unit, State, put_in, Due, due}
-use Rattle.definitions.specs.QueueBytes.{state_over, queue_numbered, put_done, put, Served, frame_from, both_empty, ServeOutcome, serve_due, serve_held, serve}
-use Rattle.definitions.specs.QueueLists.{QueueCall, put_call, serve_call, QueueMade, made_put, made_serve, queues_run}
-use Rattle.definitions.specs.QueueClaims.{FreeBytes}
+use Rattle.definitions.specs.Words.Basics.{Result, ok, refused, map_result, ◌>>=◌}
+use Rattle.definitions.specs.Calls.Base.{written_over}
+use Rattle.definitions.specs.Calls.Queues.{Queue, chassis, fixed_unit, State, put_in, Due, due}
+use Rattle.definitions.specs.Calls.QueueBytes.{state_over, queue_numbered, put_done, put, Served, frame_from, both_empty, ServeOutcome, serve_due, serve_held, serve}
+use Rattle.definitions.specs.Lists.Queues.{QueueCall, put_call, serve_call, QueueMade, made_put, made_serve, queues_run}
+use Rattle.definitions.specs.Claims.Queues.{FreeBytes}
 use Rattle.theorems.proofs.QueueStates.{HeldIn, held_in, in_held, held-over, held_fits}
 use Rattle.theorems.proofs.QueueChanges.{put-added, fits-added, fits-left, IsDue, nothing, one, is-due}
 

@@ -9,11 +9,11 @@ use mathlib.Core.List.{List, [], ◌∷◌, ◌++◌}
 use mathlib.Core.Option.{Option, none, some}
 use lib.ListN.{length, length-replicate}
 use lib.Dec.{leb}
-use Rattle.definitions.specs.Basics.{ok, refused}
-use Rattle.definitions.specs.Queues.{Queue, chassis, fixed_unit, queue_number, Frames, State, fresh_state, waiting, with_frames, Due, due}
-use Rattle.definitions.specs.QueueBytes.{mark_of, frames_of, queue_of, PutOutcome, put, frame_from, ServeOutcome, serve_due, serve_held, serve}
-use Rattle.definitions.specs.QueueLists.{QueueCall, put_call, serve_call, made_put, made_serve, QueuesRun, queues_run, fresh_queues, waiting_of, waiting_in, added, Given, served, given_of}
-use Rattle.definitions.specs.QueueClaims.{FramesFit, RunParts, AlwaysHeld, InOrder, ServeGives, FairQueues, left_by}
+use Rattle.definitions.specs.Words.Basics.{ok, refused}
+use Rattle.definitions.specs.Calls.Queues.{Queue, chassis, fixed_unit, queue_number, Frames, State, fresh_state, waiting, with_frames, Due, due}
+use Rattle.definitions.specs.Calls.QueueBytes.{mark_of, frames_of, queue_of, PutOutcome, put, frame_from, ServeOutcome, serve_due, serve_held, serve}
+use Rattle.definitions.specs.Lists.Queues.{QueueCall, put_call, serve_call, made_put, made_serve, QueuesRun, queues_run, fresh_queues, waiting_of, waiting_in, added, Given, served, given_of}
+use Rattle.definitions.specs.Claims.Queues.{FramesFit, RunParts, AlwaysHeld, InOrder, ServeGives, FairQueues, left_by}
 use Rattle.theorems.proofs.InverseFrame.{same_ok}
 use Rattle.theorems.proofs.QueueStates.{HeldIn, held_in, in_held, held_fits}
 use Rattle.theorems.proofs.QueueChanges.{IsDue, nothing, one, is-due, LeftAll, run-left}

@@ -7,11 +7,11 @@ use lib.ListN.{length, take, drop, get_or, length-append, length-drop, take-appe
 use lib.Seq.{take_at, drop_at, take_all, length-take-le, take-add, drop-drop}
 use lib.Dec.{leb, eqb}
 use borrow.Author.Tests.{le-leb, leb-true, eq-eqb, eqb-true}
-use Rattle.definitions.specs.Basics.{ok}
-use Rattle.definitions.specs.Good.{AllBytes}
-use Rattle.definitions.specs.Queues.{Queue, chassis, fixed_unit, Mark, nobody, last, Frames, State, waiting, with_frames}
-use Rattle.definitions.specs.QueueBytes.{start, part_of, lengths_of, places_of, mark_of, queue_of, state_of, mark_byte, in_slots, length_bytes, queue_over, state_over}
-use Rattle.definitions.specs.QueueClaims.{FramesFit, Fits, StateReadBack, StateHeld}
+use Rattle.definitions.specs.Words.Basics.{ok}
+use Rattle.definitions.specs.Bytes.Good.{AllBytes}
+use Rattle.definitions.specs.Calls.Queues.{Queue, chassis, fixed_unit, Mark, nobody, last, Frames, State, waiting, with_frames}
+use Rattle.definitions.specs.Calls.QueueBytes.{start, part_of, lengths_of, places_of, mark_of, queue_of, state_of, mark_byte, in_slots, length_bytes, queue_over, state_over}
+use Rattle.definitions.specs.Claims.Queues.{FramesFit, Fits, StateReadBack, StateHeld}
 use Rattle.theorems.proofs.Slots.{slots_length}
 use Rattle.theorems.proofs.Tools.{bytes-from}
 use Rattle.theorems.proofs.InverseFrame.{refused_not_ok, same_ok}

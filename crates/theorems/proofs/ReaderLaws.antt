@@ -4,7 +4,7 @@ use native.Mathlib.Omega.{arith}
 use mathlib.Core.Path.{◌≡◌, refl, ap, subst}
 use mathlib.Core.Bool.{Bool, true, false}
 use mathlib.Core.List.{List}
-use Rattle.definitions.specs.Readers.{Read, read, stopped, Reader, continue, require}
+use Rattle.definitions.specs.Bytes.Readers.{Read, read, stopped, Reader, continue, require}
 
 -- ---- forwards
 

@@ -8,26 +8,30 @@ use mathlib.Core.Option.{Option, none, some}
 use lib.ListN.{length}
 use lib.Dec.{leb, ltb, eqb}
 use borrow.Author.Tests.{le-leb}
-use Rattle.definitions.specs.Basics.{Result, ok, refused, map_result, any}
-use Rattle.definitions.specs.Expression.{Frame, Extraction, Plan, empty, held, extracted}
-use Rattle.definitions.specs.Encode.{frame_bytes}
-use Rattle.definitions.specs.Literals.{literal_in_range}
-use Rattle.definitions.specs.Leaves.{arity}
-use Rattle.definitions.specs.Extract.{Matcher, extraction_by}
-use Rattle.definitions.specs.Readers.{Read, read, stopped, Reader, continue, require, first_byte, byte_up_to, byte_between, number_after, number, repeat, require_length, none_left, at_end, result_of}
-use Rattle.definitions.specs.Decode.{Columns, index_below, fields, allowed_kind, column_node, field_node, literal_node, binary_node, repeat_exprs, call_node, other_node, any_column, node_of_kind, count_node, node_kind, node, expression, side_up_to, one_record, record_count, frame_body}
-use Rattle.definitions.specs.Plans.{physical_frame, logical_frame, frame_of, logical_of}
-use Rattle.definitions.specs.Calls.{tabled, new_after_load, finish_load, load, Outcome, finish, held_plan, new_after_exchange, exchange, matched_bytes, new_after_extract_by, extract_by}
-use Rattle.definitions.specs.Good.{nodes}
-use Rattle.definitions.specs.NodeTable.{NodeRecord}
-use Rattle.definitions.specs.Logical.{logical_answer, logical}
-use Rattle.definitions.specs.Printed.{printed, text_of, finish_print, print}
-use Rattle.definitions.specs.Merge.{merge_frames, over_limits, merged_frame, new_after_merge, with_table, merge}
-use Rattle.definitions.specs.Project.{Lists, projection, short_lists, projected_bytes, new_after_project, project}
-use Rattle.definitions.specs.ExtractAll.{Conjuncts, conjuncts_by, conjuncts_bytes, AllOutcome, new_conjuncts, finish_all, extract_all_by}
-use Rattle.definitions.specs.Settings.{Settings, good_settings, match_under, extract_under, extract_all_under}
-use Rattle.definitions.specs.SettingsClaims.{settled_refusals, all_refusals}
-use Rattle.definitions.specs.Claims.{load_refusals, extract_refusals, exchange_refusals, logical_refusals, print_refusals, merge_refusals, project_refusals, RefusedBy}
+use Rattle.definitions.specs.Words.Basics.{Result, ok, refused, map_result, any}
+use Rattle.definitions.specs.Words.Expression.{Frame, Extraction, Plan, empty, held, extracted}
+use Rattle.definitions.specs.Bytes.Encode.{frame_bytes}
+use Rattle.definitions.specs.Words.Literals.{literal_in_range}
+use Rattle.definitions.specs.Words.Leaves.{arity}
+use Rattle.definitions.specs.Filter.Extract.{Matcher, extraction_by}
+use Rattle.definitions.specs.Bytes.Readers.{Read, read, stopped, Reader, continue, require, first_byte, byte_up_to, byte_between, number_after, number, repeat, require_length, none_left, at_end, result_of}
+use Rattle.definitions.specs.Bytes.Decode.{Columns, index_below, fields, allowed_kind, column_node, field_node, literal_node, binary_node, repeat_exprs, call_node, other_node, any_column, node_of_kind, count_node, node_kind, node, expression, side_up_to, one_record, record_count, frame_body}
+use Rattle.definitions.specs.Bytes.Plans.{physical_frame, logical_frame, frame_of, logical_of}
+use Rattle.definitions.specs.Calls.Base.{tabled, new_after_load, finish_load, load, Outcome, finish, held_plan, new_after_exchange, exchange, matched_bytes, new_after_extract_by, extract_by}
+use Rattle.definitions.specs.Bytes.Good.{nodes}
+use Rattle.definitions.specs.Bytes.NodeTable.{NodeRecord}
+use Rattle.definitions.specs.Calls.Logical.{logical_answer, logical}
+use Rattle.definitions.specs.Bytes.Printed.{printed}
+use Rattle.definitions.specs.Calls.Print.{text_of, finish_print, print}
+use Rattle.definitions.specs.Filter.Merge.{merge_frames, over_limits}
+use Rattle.definitions.specs.Calls.Merge.{merged_frame, new_after_merge, with_table, merge}
+use Rattle.definitions.specs.Filter.Project.{ChildLists, projection}
+use Rattle.definitions.specs.Calls.Project.{short_lists, projected_bytes, new_after_project, project}
+use Rattle.definitions.specs.Filter.Conjuncts.{Conjuncts, conjuncts_by}
+use Rattle.definitions.specs.Calls.ExtractAll.{conjuncts_bytes, AllOutcome, new_conjuncts, finish_all, extract_all_by}
+use Rattle.definitions.specs.Filter.Settings.{Settings, good_settings, match_under}
+use Rattle.definitions.specs.Calls.Settings.{extract_under, extract_all_under}
+use Rattle.definitions.specs.Claims.Calls.{settled_refusals, all_refusals, load_refusals, extract_refusals, exchange_refusals, logical_refusals, print_refusals, merge_refusals, project_refusals, RefusedBy}
 use Rattle.theorems.proofs.Tools.{by-test}
 use Rattle.theorems.proofs.Changes.{extract-writes}
 
@@ -315,7 +319,7 @@ module _ (P : ℕ → Type 0) where
       merge-only (ok new) h (ok (extracted X)) = p12
       merge-only (ok new) h (ok (held old)) = merged-only (merge_frames old new)
 
-    module _ (p18 : P 18) (p19 : P 19) (p20 : P 20) (lists : Lists) where
+    module _ (p18 : P 18) (p19 : P 19) (p20 : P 20) (lists : ChildLists) where
       placed-only : (x : Option Extraction) → Refuses (projected_bytes x)
       unfolding projected_bytes
       placed-only none = p20
@@ -425,7 +429,7 @@ pub project-refusals : (n : ℕ) (buffer scratch of_left of_right : List ℕ)
     → RefusedBy project_refusals (project n buffer scratch of_left of_right).answer
 unfolding project project_refusals any
 project-refusals n buffer scratch of_left of_right =
-    let lists : Lists = record { of_left = of_left; of_right = of_right } in
+    let lists : ChildLists = record { of_left = of_left; of_right = of_right } in
     refused-by project_refusals (project n buffer scratch of_left of_right).answer
     (finish-only (In project_refusals) n buffer scratch (new_after_project lists n (length scratch) (held_plan n buffer))
     (project-only (In project_refusals) refl refl refl n (length scratch) refl refl refl lists (held_plan n buffer)))

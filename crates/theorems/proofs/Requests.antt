@@ -8,14 +8,14 @@ use mathlib.Core.Option.{Option, none, some}
 use lib.ListN.{length, length-append}
 use lib.Dec.{eqb, lit≤}
 use borrow.Author.Tests.{leb-true, eqb-true}
-use Rattle.definitions.specs.Basics.{given◌then◌else◌, ascii, same_name}
-use Rattle.definitions.specs.Expression.{Relation, Expr, column, literal, and, binary, call, other, field, Exprs, nil, cons}
-use Rattle.definitions.specs.Literals.{literal_in_range, is_k, only_k, number_bool}
-use Rattle.definitions.specs.Encode.{expr_bytes, exprs_bytes}
-use Rattle.definitions.specs.Leaves.{relation_named, Comparison, compares, no_comparison, comparison, distance_arguments}
-use Rattle.definitions.specs.Decode.{Columns}
-use Rattle.definitions.specs.Match.{literal_u32, literal_k, literal_bool, Request, ask_relation, ask_distance, ask_knn, ask_nothing, relation_request, dwithin_request, knn_literals, knn_request_by, call_request_by, distance_request, comparison_request, request, request_by}
-use Rattle.definitions.specs.Good.{nodes, nodes_all, depth, depth_all, InRange, InRangeAll}
+use Rattle.definitions.specs.Words.Basics.{given◌then◌else◌, ascii, same_name}
+use Rattle.definitions.specs.Words.Expression.{Relation, Expr, column, literal, and, binary, call, other, field, Exprs, nil, cons}
+use Rattle.definitions.specs.Words.Literals.{literal_in_range, is_k, only_k, number_bool}
+use Rattle.definitions.specs.Bytes.Encode.{expr_bytes, exprs_bytes}
+use Rattle.definitions.specs.Words.Leaves.{relation_named, Comparison, compares, no_comparison, comparison, distance_arguments}
+use Rattle.definitions.specs.Bytes.Decode.{Columns}
+use Rattle.definitions.specs.Filter.Match.{literal_u32, literal_k, literal_bool, Request, ask_relation, ask_distance, ask_knn, ask_nothing, relation_request, dwithin_request, knn_literals, knn_request_by, call_request_by, distance_request, comparison_request, request, request_by}
+use Rattle.definitions.specs.Bytes.Good.{nodes, nodes_all, depth, depth_all, InRange, InRangeAll}
 pub use Rattle.theorems.proofs.Tools.{by-test, same-name}
 
 -- Short names for the sizes of an expression.

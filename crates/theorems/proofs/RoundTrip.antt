@@ -10,14 +10,14 @@ use lib.ListN.{length}
 use lib.Dec.{leb, ltb, lit<, lit≤}
 use lib.Arith.{mod-mul}
 use borrow.Author.Tests.{lt-ltb, le-leb}
-use Rattle.definitions.specs.Basics.{big_endian}
-use Rattle.definitions.specs.Expression.{Expr, column, literal, and, binary, call, other, field, Exprs, nil, cons, count}
-use Rattle.definitions.specs.Literals.{literal_in_range}
-use Rattle.definitions.specs.Encode.{expr_bytes, exprs_bytes}
-use Rattle.definitions.specs.Readers.{read, stopped, Reader, continue, give, byte_up_to, byte_between, number_after, number, repeat}
-use Rattle.definitions.specs.Decode.{repeat_exprs, Columns, index_below, fields, allowed_kind, column_node, field_node, literal_node, binary_expr, binary_node, call_node, other_node, any_column, node_of_kind, node_kind, node}
+use Rattle.definitions.specs.Words.Basics.{big_endian}
+use Rattle.definitions.specs.Words.Expression.{Expr, column, literal, and, binary, call, other, field, Exprs, nil, cons, count}
+use Rattle.definitions.specs.Words.Literals.{literal_in_range}
+use Rattle.definitions.specs.Bytes.Encode.{expr_bytes, exprs_bytes}
+use Rattle.definitions.specs.Bytes.Readers.{read, stopped, Reader, continue, give, byte_up_to, byte_between, number_after, number, repeat}
+use Rattle.definitions.specs.Bytes.Decode.{repeat_exprs, Columns, index_below, fields, allowed_kind, column_node, field_node, literal_node, binary_expr, binary_node, call_node, other_node, any_column, node_of_kind, node_kind, node}
 use Rattle.theorems.proofs.ReaderLaws.{after, passes}
-use Rattle.definitions.specs.Good.{nodes, depth, nodes_all, depth_all, InRange, InRangeAll, NameBytes}
+use Rattle.definitions.specs.Bytes.Good.{nodes, depth, nodes_all, depth_all, InRange, InRangeAll, NameBytes}
 
 -- ---- numbers of any width
 

@@ -8,15 +8,15 @@ use mathlib.Core.List.{List}
 use mathlib.Core.Option.{Option, none, some}
 use lib.Dec.{leb, ltb, eqb}
 use borrow.Author.Tests.{leb-true, le-leb, ltb-true, lt-ltb}
-use Rattle.definitions.specs.Basics.{given◌then◌else◌, ascii, same_name}
-use Rattle.definitions.specs.Expression.{Side, Relation, Expr, column, literal, and, binary, call, other, field, Exprs, nil, cons, Record, Predicate, relation, distance, knn}
-use Rattle.definitions.specs.Literals.{is_k, only_k}
-use Rattle.definitions.specs.Leaves.{relation_named, Comparison, compares, no_comparison, comparison, distance_arguments}
-use Rattle.definitions.specs.Match.{literal_u32, literal_k, literal_bool, Request, ask_relation, ask_distance, ask_knn, ask_nothing, relation_request, dwithin_request, knn_literals, knn_request_by, call_request_by, distance_request, comparison_request, request_by, match_request, match_leaf_by, match_leaf}
-use Rattle.definitions.specs.Exchange.{exchange_predicate}
-use Rattle.definitions.specs.Matchers.{Fits, Lawful}
-use Rattle.definitions.specs.Settings.{Settings, good_settings, default_settings, has_bit, allowed, passing, only_if, match_under, FairUnder}
-use Rattle.definitions.specs.SettingsClaims.{GoodSettings}
+use Rattle.definitions.specs.Words.Basics.{given◌then◌else◌, ascii, same_name}
+use Rattle.definitions.specs.Words.Expression.{Side, Relation, Expr, column, literal, and, binary, call, other, field, Exprs, nil, cons, Record, Predicate, relation, distance, knn}
+use Rattle.definitions.specs.Words.Literals.{is_k, only_k}
+use Rattle.definitions.specs.Words.Leaves.{relation_named, Comparison, compares, no_comparison, comparison, distance_arguments}
+use Rattle.definitions.specs.Filter.Match.{literal_u32, literal_k, literal_bool, Request, ask_relation, ask_distance, ask_knn, ask_nothing, relation_request, dwithin_request, knn_literals, knn_request_by, call_request_by, distance_request, comparison_request, request_by, match_request, match_leaf_by, match_leaf}
+use Rattle.definitions.specs.Filter.Exchange.{exchange_predicate}
+use Rattle.definitions.specs.Meaning.Matchers.{Fits, Lawful}
+use Rattle.definitions.specs.Filter.Settings.{Settings, good_settings, default_settings, has_bit, allowed, passing, only_if, match_under, GoodSettings}
+use Rattle.definitions.specs.Meaning.Values.{FairUnder}
 use Rattle.theorems.proofs.Tools.{by-test, and-both}
 use Rattle.theorems.proofs.KLaws.{is-k, k-held}
 use Rattle.theorems.proofs.Requests.{K, k-range}

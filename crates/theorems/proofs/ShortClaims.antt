@@ -11,22 +11,23 @@ use lib.ListN.{length, take, drop, get_or, length-append}
 use lib.Seq.{take-append_seam}
 use lib.Dec.{leb}
 use borrow.Author.Tests.{le-leb}
-use Rattle.definitions.specs.Basics.{Result, ok, refused, big_endian, all}
-use Rattle.definitions.specs.Expression.{Side, left, right, no_side, Relation, Expr, Record, Frame, Predicate, relation, distance, knn, Extraction, Plan, held, extracted}
-use Rattle.definitions.specs.Encode.{predicate_kind, extraction_bytes, plan_bytes}
-use Rattle.definitions.specs.References.{columns_of, same_side, record_at}
-use Rattle.definitions.specs.Leaves.{leaves}
-use Rattle.definitions.specs.Match.{ArgumentSide, no_columns, all_on, mixed, common_side, side_of, Order, left_right, right_left, no_order, Request, ask_relation, ask_distance, ask_knn, ask_nothing, request, match_relation, store_distance, match_distance, match_knn, match_request, match_leaf_by, match_leaf}
-use Rattle.definitions.specs.Extract.{Pick, without, prune, is_knn, later, first_match, first_of, pick, take_pick, matches_by, matches_of, extraction_by}
-use Rattle.definitions.specs.Exchange.{exchange_record, exchange_frame, exchange_extraction, exchange_plan}
-use Rattle.definitions.specs.Plans.{plan_of}
-use Rattle.definitions.specs.Calls.{written_over, Outcome, finish, held_plan, new_after_exchange, exchange}
-use Rattle.definitions.specs.Good.{GoodPlan}
-use Rattle.definitions.specs.Sessions.{accepted}
-use Rattle.definitions.specs.Merge.{merge_frames}
-use Rattle.definitions.specs.Printed.{printed, print}
-use Rattle.definitions.specs.Project.{Lists, project_predicate, project_extraction, placed, projection}
-use Rattle.definitions.specs.Claims.{price_line}
+use Rattle.definitions.specs.Words.Basics.{Result, ok, refused, big_endian, all}
+use Rattle.definitions.specs.Words.Expression.{Side, left, right, no_side, Relation, Expr, Record, Frame, Predicate, relation, distance, knn, Extraction, Plan, held, extracted}
+use Rattle.definitions.specs.Bytes.Encode.{predicate_kind, extraction_bytes, plan_bytes}
+use Rattle.definitions.specs.Words.References.{columns_of, same_side, record_at}
+use Rattle.definitions.specs.Words.Leaves.{leaves}
+use Rattle.definitions.specs.Filter.Match.{ArgumentSide, no_columns, all_on, mixed, common_side, side_of, Order, left_right, right_left, no_order, Request, ask_relation, ask_distance, ask_knn, ask_nothing, request, match_relation, store_distance, match_distance, match_knn, match_request, match_leaf_by, match_leaf}
+use Rattle.definitions.specs.Filter.Extract.{Pick, without, prune, is_knn, later, first_match, first_of, pick, take_pick, matches_by, matches_of, extraction_by}
+use Rattle.definitions.specs.Filter.Exchange.{exchange_record, exchange_frame, exchange_extraction, exchange_plan}
+use Rattle.definitions.specs.Bytes.Plans.{plan_of}
+use Rattle.definitions.specs.Calls.Base.{written_over, Outcome, finish, held_plan, new_after_exchange, exchange}
+use Rattle.definitions.specs.Bytes.Good.{GoodPlan}
+use Rattle.definitions.specs.Lists.Sessions.{accepted}
+use Rattle.definitions.specs.Filter.Merge.{merge_frames}
+use Rattle.definitions.specs.Bytes.Printed.{printed}
+use Rattle.definitions.specs.Calls.Print.{print}
+use Rattle.definitions.specs.Filter.Project.{ChildLists, project_predicate, project_extraction, placed, projection}
+use Rattle.definitions.specs.Claims.PriceLine.{price_line}
 use Rattle.theorems.proofs.InverseFrame.{same_ok, frame_back}
 use Rattle.theorems.proofs.Lengths.{Good, held-good, held-is, bytes-up-to}
 use Rattle.theorems.proofs.RoundTripPlan.{plan-reads}
@@ -39,7 +40,7 @@ use Rattle.theorems.proofs.Machines.{first-bytes, price-exchanged}
 use Rattle.theorems.proofs.PrintCall.{prints-once, print-gives}
 use Rattle.theorems.proofs.Merged.{merged-leaves-are}
 use Rattle.theorems.proofs.ProjectCall.{project-wrote}
-use Rattle.definitions.specs.ShortClaims.{ExchangedKeepsPosition, ExchangeKeepsPosition, ProjectionKeepsLine, ProjectKeepsLine, MergeExchanged, MergeExchangedLine, PolicyKeepsIndex, BoundWithoutColumns, SameTextSameExpression}
+use Rattle.definitions.specs.Claims.Short.{ExchangedKeepsPosition, ExchangeKeepsPosition, ProjectionKeepsLine, ProjectKeepsLine, MergeExchanged, MergeExchangedLine, PolicyKeepsIndex, BoundWithoutColumns, SameTextSameExpression}
 
 -- ---- exchange
 
@@ -85,7 +86,7 @@ exchange-keeps-position n buffer scratch X bytes holds a =
 
 -- ---- projections
 
-kind-projected : (lists : Lists) (p : Predicate) → predicate_kind (project_predicate lists p) ≡ predicate_kind p
+kind-projected : (lists : ChildLists) (p : Predicate) → predicate_kind (project_predicate lists p) ≡ predicate_kind p
 unfolding predicate_kind project_predicate
 kind-projected lists (relation type l r) = refl
 kind-projected lists (distance form side l r bound) = refl
@@ -95,7 +96,7 @@ first_three : (X : Extraction) → take 3 (plan_bytes (extracted X)) ≡ predica
 unfolding plan_bytes extraction_bytes big_endian
 first_three X = refl
 
-projected-three : (lists : Lists) (X : Extraction)
+projected-three : (lists : ChildLists) (X : Extraction)
     → take 3 (plan_bytes (extracted (project_extraction lists X))) ≡ take 3 (plan_bytes (extracted X))
 unfolding project_extraction
 projected-three lists X =

@@ -6,8 +6,8 @@ use mathlib.Core.Path.{◌≡◌, refl, sym, ap, ap₂, ◌∙◌}
 use mathlib.Core.List.{List, [], ◌∷◌, ◌++◌, append_assoc}
 use lib.ListN.{length, take, drop, length-append, length-drop, take-append-drop}
 use lib.Seq.{take-append-add, drop-append-add, drop-append-le, length-take-le, drop-drop}
-use Rattle.definitions.specs.Calls.{written_over}
-use Rattle.definitions.specs.QueueBytes.{in_slots}
+use Rattle.definitions.specs.Calls.Base.{written_over}
+use Rattle.definitions.specs.Calls.QueueBytes.{in_slots}
 
 -- Each item is as long as its slot or shorter, and each slot is there.
 abbrev pub Slotted : (width : ℕ) → (items : List (List ℕ)) → (bytes : List ℕ) → Type 0

@@ -6,11 +6,11 @@ use mathlib.Core.Path.{◌≡◌, refl, sym, ap, ◌∙◌, subst}
 use mathlib.Core.List.{List, [], ◌∷◌, ◌++◌, append-nil, append_assoc}
 use lib.ListN.{length, take, drop, get_or, length-append, length-drop}
 use lib.Seq.{take-append_seam, drop-append_seam, drop-drop, drop_at, get_or-drop}
-use Rattle.definitions.specs.Basics.{big_endian}
-use Rattle.definitions.specs.Expression.{Expr, column, literal, and, binary, call, other, field, Exprs, nil, cons, count, Frame}
-use Rattle.definitions.specs.Encode.{expr_bytes, exprs_bytes, records_bytes, frame_bytes, plan_bytes}
-use Rattle.definitions.specs.NodeTable.{NodeRecord, kind_byte, record_of, nodes_from, row_from, node_table, blank}
-use Rattle.definitions.specs.TableClaims.{nodes_in_order, row_in_order, NamesNode, TableNamesBytes}
+use Rattle.definitions.specs.Words.Basics.{big_endian}
+use Rattle.definitions.specs.Words.Expression.{Expr, column, literal, and, binary, call, other, field, Exprs, nil, cons, count, Frame}
+use Rattle.definitions.specs.Bytes.Encode.{expr_bytes, exprs_bytes, records_bytes, frame_bytes, plan_bytes}
+use Rattle.definitions.specs.Bytes.NodeTable.{NodeRecord, kind_byte, record_of, nodes_from, row_from, node_table, blank}
+use Rattle.definitions.specs.Claims.Table.{nodes_in_order, row_in_order, NamesNode, TableNamesBytes}
 use Rattle.theorems.proofs.ExchangeGood.{records-length}
 
 -- ---- a node

@@ -5,13 +5,13 @@ use mathlib.Core.Bool.{Bool, true, false, false≢true}
 use mathlib.Core.List.{List}
 use mathlib.Core.Option.{Option, none, some}
 use lib.ListN.{length}
-use Rattle.definitions.specs.Basics.{Result, ok, refused}
-use Rattle.definitions.specs.Expression.{Frame, Extraction, Plan, empty, held, extracted}
-use Rattle.definitions.specs.Exchange.{exchange_plan}
-use Rattle.definitions.specs.Calls.{Outcome, table_fits, finish, held_plan, new_after_extract_by, extract_filled_by, extract_by}
-use Rattle.definitions.specs.Machine.{extraction_or}
-use Rattle.definitions.specs.NodeTable.{NodeRecord, node_table, begins_with}
-use Rattle.definitions.specs.TableClaims.{ExtractFilled, ExtractUnfilled, ExtractTwice}
+use Rattle.definitions.specs.Words.Basics.{Result, ok, refused}
+use Rattle.definitions.specs.Words.Expression.{Frame, Extraction, Plan, empty, held, extracted}
+use Rattle.definitions.specs.Filter.Exchange.{exchange_plan}
+use Rattle.definitions.specs.Calls.Base.{Outcome, table_fits, finish, held_plan, new_after_extract_by, extract_filled_by, extract_by}
+use Rattle.definitions.specs.Lists.Machine.{extraction_or}
+use Rattle.definitions.specs.Bytes.NodeTable.{NodeRecord, node_table, begins_with}
+use Rattle.definitions.specs.Claims.Table.{ExtractFilled, ExtractUnfilled, ExtractTwice}
 use Rattle.theorems.proofs.NodeTables.{table-exchanged-by}
 
 -- ---- extract

@@ -6,13 +6,13 @@ use mathlib.Core.Bool.{Bool, false, false≢true}
 use mathlib.Core.List.{List}
 use lib.ListN.{length}
 use lib.Dec.{eqb}
-use Rattle.definitions.specs.Basics.{Result, ok, refused}
-use Rattle.definitions.specs.Encode.{frame_bytes}
-use Rattle.definitions.specs.Plans.{physical_frame, frame_of}
-use Rattle.definitions.specs.Calls.{load, held_plan}
-use Rattle.definitions.specs.Good.{plan_nodes}
-use Rattle.definitions.specs.Merge.{new_after_merge, with_table, merge}
-use Rattle.definitions.specs.TableClaims.{NeverTooShort}
+use Rattle.definitions.specs.Words.Basics.{Result, ok, refused}
+use Rattle.definitions.specs.Bytes.Encode.{frame_bytes}
+use Rattle.definitions.specs.Bytes.Plans.{physical_frame, frame_of}
+use Rattle.definitions.specs.Calls.Base.{load, held_plan}
+use Rattle.definitions.specs.Bytes.Good.{plan_nodes}
+use Rattle.definitions.specs.Calls.Merge.{new_after_merge, with_table, merge}
+use Rattle.definitions.specs.Claims.Table.{NeverTooShort}
 use Rattle.theorems.proofs.InverseFrame.{frame_back}
 use Rattle.theorems.proofs.Merged.{within-limits}
 use Rattle.theorems.proofs.RefusalNumbers.{Refuses, physical-only, result-only, map-only, loaded-only, finish-only, tabled-enough, load-only, merge-only}

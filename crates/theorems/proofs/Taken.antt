@@ -11,14 +11,14 @@ use lib.ListN.{length, take, drop, get_or, length-append, get_or-append}
 use lib.Seq.{get_or-append-add, take-append-le, drop-append-le, take-append-add, drop-append-add}
 use lib.Dec.{ltb}
 use borrow.Author.Tests.{ltb-true, ltb-false}
-use Rattle.definitions.specs.Basics.{all}
-use Rattle.definitions.specs.Expression.{Expr, column, literal, and, binary, call, other, field}
-use Rattle.definitions.specs.Encode.{expr_bytes}
-use Rattle.definitions.specs.Leaves.{leaves, leaf_arity, arity}
-use Rattle.definitions.specs.Decode.{Columns}
-use Rattle.definitions.specs.Extract.{and_left, and_right, without}
-use Rattle.definitions.specs.Good.{nodes, depth, InRange}
-use Rattle.definitions.specs.Claims.{RestOfLeaves}
+use Rattle.definitions.specs.Words.Basics.{all}
+use Rattle.definitions.specs.Words.Expression.{Expr, column, literal, and, binary, call, other, field}
+use Rattle.definitions.specs.Bytes.Encode.{expr_bytes}
+use Rattle.definitions.specs.Words.Leaves.{leaves, leaf_arity, arity}
+use Rattle.definitions.specs.Bytes.Decode.{Columns}
+use Rattle.definitions.specs.Filter.Extract.{and_left, and_right, without}
+use Rattle.definitions.specs.Bytes.Good.{nodes, depth, InRange}
+use Rattle.definitions.specs.Claims.Pick.{RestOfLeaves}
 pub use Rattle.theorems.proofs.Tools.{and-both}
 
 -- A leaf taken out of an expression, and what is left.

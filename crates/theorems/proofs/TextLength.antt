@@ -3,13 +3,13 @@ use Prim.Native.Nat.{ℕ, ◌+◌, ◌*◌, ◌≤◌}
 use native.Mathlib.Omega.{arith}
 use lib.ListN.{length, length-append}
 use borrow.Author.Tests.{ltb-true}
-use Rattle.definitions.specs.Basics.{ascii, big_endian}
-use Rattle.definitions.specs.Expression.{Expr, column, literal, and, binary, call, other, field, Exprs, nil, cons}
-use Rattle.definitions.specs.Encode.{expr_bytes, exprs_bytes, plan_bytes}
-use Rattle.definitions.specs.Decode.{index_below}
-use Rattle.definitions.specs.Good.{nodes, nodes_all, InRange, InRangeAll, plan_nodes}
-use Rattle.definitions.specs.Printed.{printed, printed_all, printed_more}
-use Rattle.definitions.specs.PrintClaims.{TextShort}
+use Rattle.definitions.specs.Words.Basics.{ascii, big_endian}
+use Rattle.definitions.specs.Words.Expression.{Expr, column, literal, and, binary, call, other, field, Exprs, nil, cons}
+use Rattle.definitions.specs.Bytes.Encode.{expr_bytes, exprs_bytes, plan_bytes}
+use Rattle.definitions.specs.Bytes.Decode.{index_below}
+use Rattle.definitions.specs.Bytes.Good.{nodes, nodes_all, InRange, InRangeAll, plan_nodes}
+use Rattle.definitions.specs.Bytes.Printed.{printed, printed_all, printed_more}
+use Rattle.definitions.specs.Claims.Print.{TextShort}
 use Rattle.theorems.proofs.Figures.{decimal-short, decimal-three, decimal-two, decimal-one, digits16-length}
 use Rattle.theorems.proofs.ExchangeGood.{frame-length}
 

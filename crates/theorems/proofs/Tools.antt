@@ -10,8 +10,8 @@ use lib.Dec.{eqb}
 use borrow.Author.Tests.{eqb-true}
 use mir.Syntax.{w8}
 use mir.Val.{Fits}
-use Rattle.definitions.specs.Basics.{same_name}
-use Rattle.definitions.specs.Good.{AllBytes}
+use Rattle.definitions.specs.Words.Basics.{same_name}
+use Rattle.definitions.specs.Bytes.Good.{AllBytes}
 
 -- By the two outcomes of a test.
 pub by-test {κ} : {X : Type 0} (P : X → Type κ) (b : Bool) (x y : X) → (b ≡ true → P x) → (b ≡ false → P y) → P (if b then x else y)

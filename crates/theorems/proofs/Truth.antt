@@ -10,18 +10,18 @@ use mathlib.Core.Option.{Option, none, some}
 use lib.ListN.{length, take, get_or}
 use lib.Dec.{ltb}
 use borrow.Author.Tests.{ltb-true}
-use Rattle.definitions.specs.Basics.{keep}
-use Rattle.definitions.specs.Expression.{left, right, no_side, Expr, Record, Frame, relation, distance, knn, Extraction, Plan, empty, held, extracted}
-use Rattle.definitions.specs.Decode.{index_below}
-use Rattle.definitions.specs.References.{columns_of, record_at}
-use Rattle.definitions.specs.Extract.{Pick, pick, without, referenced, new_index, prune, take_pick, Matcher, matches_by, extraction_by}
-use Rattle.definitions.specs.Exchange.{negate, exchange_record, exchange_frame, exchange_predicate, exchange_extraction, exchange_plan}
-use Rattle.definitions.specs.Machine.{machine_plan, extraction_or}
-use Rattle.definitions.specs.Good.{InRange}
-use Rattle.definitions.specs.Meaning.{and_value, Valuation, Meaning, value, frame_columns, frame_value, predicate_value, and_remainder, extraction_value, plan_value, exchanged_values, FairBy}
+use Rattle.definitions.specs.Words.Basics.{keep}
+use Rattle.definitions.specs.Words.Expression.{left, right, no_side, Expr, Record, Frame, relation, distance, knn, Extraction, Plan, empty, held, extracted}
+use Rattle.definitions.specs.Bytes.Decode.{index_below}
+use Rattle.definitions.specs.Words.References.{columns_of, record_at}
+use Rattle.definitions.specs.Filter.Extract.{Pick, pick, without, referenced, new_index, prune, take_pick, Matcher, matches_by, extraction_by}
+use Rattle.definitions.specs.Filter.Exchange.{negate, exchange_record, exchange_frame, exchange_predicate, exchange_extraction, exchange_plan}
+use Rattle.definitions.specs.Lists.Machine.{machine_plan, extraction_or}
+use Rattle.definitions.specs.Bytes.Good.{InRange}
+use Rattle.definitions.specs.Meaning.Values.{and_value, Valuation, Meaning, value, frame_columns, frame_value, predicate_value, and_remainder, extraction_value, plan_value, exchanged_values, FairBy}
 use Rattle.theorems.proofs.Columns.{all_both, columns-below}
 use Rattle.theorems.proofs.Taken.{Taken, leaf-in-range, rest-in-range, RestIs}
-use Rattle.definitions.specs.Matchers.{Valued, Lawful, Symmetric}
+use Rattle.definitions.specs.Meaning.Matchers.{Valued, Lawful, Symmetric}
 use Rattle.theorems.proofs.Pick.{Picked, picked, leaf_at, pick-taken, pick-matches}
 use Rattle.theorems.proofs.ExtractGood.{references}
 use Rattle.theorems.proofs.Exchange.{child-at, side-at}

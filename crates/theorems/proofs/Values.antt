@@ -6,11 +6,11 @@ use mathlib.Core.Bool.{Bool, true, false}
 use mathlib.Core.List.{List, ◌∷◌}
 use mathlib.Core.Option.{Option, none, some}
 use lib.Dec.{eqb}
-use Rattle.definitions.specs.Expression.{Expr, column, literal, and, binary, call, other, field, Exprs, nil, cons}
-use Rattle.definitions.specs.References.{columns_of, columns_of_all, map_columns, map_columns_all}
-use Rattle.definitions.specs.Extract.{and_left, and_right, Matcher}
-use Rattle.definitions.specs.Good.{All}
-use Rattle.definitions.specs.Meaning.{and_value, Meaning, value, values, distance_by_form, FairBy}
+use Rattle.definitions.specs.Words.Expression.{Expr, column, literal, and, binary, call, other, field, Exprs, nil, cons}
+use Rattle.definitions.specs.Words.References.{columns_of, columns_of_all, map_columns, map_columns_all}
+use Rattle.definitions.specs.Filter.Extract.{and_left, and_right, Matcher}
+use Rattle.definitions.specs.Bytes.Good.{All}
+use Rattle.definitions.specs.Meaning.Values.{and_value, Meaning, value, values, distance_by_form, FairBy}
 use Rattle.theorems.proofs.Columns.{all-left, all-right}
 use Rattle.theorems.proofs.Taken.{Taken, here, in_left, in_right}
 

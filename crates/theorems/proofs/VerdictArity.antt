@@ -4,11 +4,11 @@ use mathlib.Core.Path.{◌≡◌, refl, sym, ap, ◌∙◌}
 use mathlib.Core.Bool.{Bool, true, false, not, false≢true}
 use mathlib.Core.Option.{Option, none, some}
 use lib.Dec.{leb}
-use Rattle.definitions.specs.Basics.{given◌then◌else◌, ascii, same_name}
-use Rattle.definitions.specs.Expression.{Relation, Expr, column, literal, and, binary, call, other, field, Exprs, nil, cons, count}
-use Rattle.definitions.specs.Leaves.{relation_named, Comparison, compares, no_comparison, comparison, distance_arguments, relation_arity, call_arity, distance_arity, comparison_arity, leaf_arity}
-use Rattle.definitions.specs.Verdicts.{PriceLine, relation_line, distance_line, knn_line, no_line, line_named, line_compared, line_meant, with_bound, arguments_compared, arguments_of, argument_is, has_argument, lacks, applies_by, applies}
-use Rattle.definitions.specs.VerdictClaims.{OnlyKnnTooFew}
+use Rattle.definitions.specs.Words.Basics.{given◌then◌else◌, ascii, same_name}
+use Rattle.definitions.specs.Words.Expression.{Relation, Expr, column, literal, and, binary, call, other, field, Exprs, nil, cons, count}
+use Rattle.definitions.specs.Words.Leaves.{relation_named, Comparison, compares, no_comparison, comparison, distance_arguments, relation_arity, call_arity, distance_arity, comparison_arity, leaf_arity}
+use Rattle.definitions.specs.Filter.Verdicts.{PriceLine, relation_line, distance_line, knn_line, no_line, line_named, line_compared, line_meant, with_bound, arguments_compared, arguments_of, argument_is, has_argument, lacks, applies_by, applies}
+use Rattle.definitions.specs.Claims.Verdicts.{OnlyKnnTooFew}
 
 -- What is there is not lacking.
 not-lacking : (line : PriceLine) (es : Exprs) → lacks line es ≡ false → lacks line es ≡ true → line ≡ knn_line

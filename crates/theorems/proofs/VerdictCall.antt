@@ -7,18 +7,19 @@ use mathlib.Core.List.{List}
 use lib.ListN.{length, take}
 use lib.Dec.{leb}
 use borrow.Author.Tests.{le-leb, lt-leb}
-use Rattle.definitions.specs.Basics.{Result, ok, refused, any}
-use Rattle.definitions.specs.Expression.{Frame}
-use Rattle.definitions.specs.Leaves.{leaves}
-use Rattle.definitions.specs.Plans.{frame_of}
-use Rattle.definitions.specs.Calls.{written_over}
-use Rattle.definitions.specs.ExtractAll.{finish_all, new_conjuncts, extract_all_by}
-use Rattle.definitions.specs.Sessions.{accepted}
-use Rattle.definitions.specs.Claims.{SameFrom, RefusedBy}
-use Rattle.definitions.specs.Settings.{Settings, good_settings, match_under, extract_all_under}
-use Rattle.definitions.specs.SettingsClaims.{all_refusals}
-use Rattle.definitions.specs.Verdicts.{verdict_bytes, explained, ExplainOutcome, new_verdicts, finish_explain, explain}
-use Rattle.definitions.specs.VerdictClaims.{ExplainCalls}
+use Rattle.definitions.specs.Words.Basics.{Result, ok, refused, any}
+use Rattle.definitions.specs.Words.Expression.{Frame}
+use Rattle.definitions.specs.Words.Leaves.{leaves}
+use Rattle.definitions.specs.Bytes.Plans.{frame_of}
+use Rattle.definitions.specs.Calls.Base.{written_over}
+use Rattle.definitions.specs.Calls.ExtractAll.{finish_all, new_conjuncts, extract_all_by}
+use Rattle.definitions.specs.Lists.Sessions.{accepted}
+use Rattle.definitions.specs.Claims.Calls.{SameFrom, RefusedBy, all_refusals}
+use Rattle.definitions.specs.Filter.Settings.{Settings, good_settings, match_under}
+use Rattle.definitions.specs.Calls.Settings.{extract_all_under}
+use Rattle.definitions.specs.Filter.Verdicts.{verdict_bytes, explained}
+use Rattle.definitions.specs.Calls.Explain.{ExplainOutcome, new_verdicts, finish_explain, explain}
+use Rattle.definitions.specs.Claims.Verdicts.{ExplainCalls}
 use Rattle.theorems.proofs.Changes.{over-same, over_first}
 use Rattle.theorems.proofs.RefusalNumbers.{all-refusals}
 use Rattle.theorems.proofs.VerdictLines.{as-many}

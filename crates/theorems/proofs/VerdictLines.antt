@@ -10,17 +10,16 @@ use mathlib.Core.Option.{Option, none, some}
 use lib.ListN.{length, take, length-map}
 use lib.Dec.{leb, eqb}
 use borrow.Author.Tests.{leb-false, ne_eqb}
-use Rattle.definitions.specs.Basics.{big_endian}
-use Rattle.definitions.specs.Expression.{Expr, Record, Frame, Predicate, relation, distance, knn, Extraction, held}
-use Rattle.definitions.specs.Encode.{predicate_kind, extraction_bytes}
-use Rattle.definitions.specs.Leaves.{leaves}
-use Rattle.definitions.specs.Extract.{Pick, is_knn, later, first_match, first_of, pick, take_pick, matches_by, extraction_by}
-use Rattle.definitions.specs.Good.{GoodPlan}
-use Rattle.definitions.specs.Claims.{price_line_by}
-use Rattle.definitions.specs.Settings.{Settings, match_under}
-use Rattle.definitions.specs.SettingsClaims.{GoodSettings}
-use Rattle.definitions.specs.Verdicts.{verdict_byte, verdict_under, verdicts_under, verdict_bytes, TakenLeaf, one_on, first_passing, named_by, bill_number, explained}
-use Rattle.definitions.specs.VerdictClaims.{line_said, taken_leaf, VerdictsNameTheLine, AnswerIsTheBill}
+use Rattle.definitions.specs.Words.Basics.{big_endian}
+use Rattle.definitions.specs.Words.Expression.{Expr, Record, Frame, Predicate, relation, distance, knn, Extraction, held}
+use Rattle.definitions.specs.Bytes.Encode.{predicate_kind, extraction_bytes}
+use Rattle.definitions.specs.Words.Leaves.{leaves}
+use Rattle.definitions.specs.Filter.Extract.{Pick, is_knn, later, first_match, first_of, pick, take_pick, matches_by, extraction_by}
+use Rattle.definitions.specs.Bytes.Good.{GoodPlan}
+use Rattle.definitions.specs.Claims.PriceLine.{price_line_by}
+use Rattle.definitions.specs.Filter.Settings.{Settings, match_under, GoodSettings}
+use Rattle.definitions.specs.Filter.Verdicts.{verdict_byte, verdict_under, verdicts_under, verdict_bytes, TakenLeaf, one_on, first_passing, named_by, bill_number, explained}
+use Rattle.definitions.specs.Claims.Verdicts.{line_said, taken_leaf, VerdictsNameTheLine, AnswerIsTheBill}
 use Rattle.theorems.proofs.Pick.{few-leaves, position-of-leaf}
 use Rattle.theorems.proofs.VerdictMatches.{verdict-exactly-holds}
 

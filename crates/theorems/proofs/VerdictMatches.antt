@@ -9,16 +9,15 @@ use mathlib.Core.Option.{Option, none, some, map}
 use lib.Dec.{leb, ltb, eqb}
 use lib.IntN.{ℤ, pos, negsuc}
 use borrow.Author.Tests.{ltb-true, ltb-false, le-leb, lt-leb, lt-ltb, not-true}
-use Rattle.definitions.specs.Basics.{given◌then◌else◌, ascii, same_name, any, all}
-use Rattle.definitions.specs.Expression.{Side, left, right, no_side, Relation, Expr, column, literal, and, binary, call, other, field, Exprs, nil, cons, Record, Predicate, relation, distance, knn, invert}
-use Rattle.definitions.specs.Encode.{predicate_kind}
-use Rattle.definitions.specs.Literals.{signed, u32, number_u32, is_k, only_k}
-use Rattle.definitions.specs.Leaves.{relation_named, Comparison, compares, no_comparison, comparison, distance_arguments}
-use Rattle.definitions.specs.Match.{literal_u32, literal_k, literal_bool, Request, ask_distance, ask_nothing, relation_request, dwithin_request, knn_literals, knn_request_by, call_request_by, distance_request, comparison_request, request_by, ArgumentSide, no_columns, all_on, mixed, side_of, Order, left_right, right_left, no_order, order_of, match_relation, store_distance, match_distance, match_knn, match_request, match_leaf_by}
-use Rattle.definitions.specs.Settings.{Settings, good_settings, has_bit, allowed, passing, only_if, match_under}
-use Rattle.definitions.specs.SettingsClaims.{GoodSettings}
-use Rattle.definitions.specs.Verdicts.{Verdict, verdict_byte, reasons, PriceLine, relation_line, distance_line, knn_line, no_line, line_named, line_compared, line_meant, is_no_line, is_distance_line, is_knn_line, with_bound, arguments_compared, arguments_of, argument_is, has_argument, sides_of, of_both, of_mark, whole_number, literal_whole, no_number, is_below_one, is_above, below_one, above, no_flag, left_out, lacks, geometry_is, bound_is, knn_literal_is, applies_by, applies, first_that, matches_as, verdict_under}
-use Rattle.definitions.specs.VerdictClaims.{line_said, VerdictExactly}
+use Rattle.definitions.specs.Words.Basics.{given◌then◌else◌, ascii, same_name, any, all}
+use Rattle.definitions.specs.Words.Expression.{Side, left, right, no_side, Relation, Expr, column, literal, and, binary, call, other, field, Exprs, nil, cons, Record, Predicate, relation, distance, knn, invert}
+use Rattle.definitions.specs.Bytes.Encode.{predicate_kind}
+use Rattle.definitions.specs.Words.Literals.{signed, u32, number_u32, is_k, only_k}
+use Rattle.definitions.specs.Words.Leaves.{relation_named, Comparison, compares, no_comparison, comparison, distance_arguments}
+use Rattle.definitions.specs.Filter.Match.{literal_u32, literal_k, literal_bool, Request, ask_distance, ask_nothing, relation_request, dwithin_request, knn_literals, knn_request_by, call_request_by, distance_request, comparison_request, request_by, ArgumentSide, no_columns, all_on, mixed, side_of, Order, left_right, right_left, no_order, order_of, match_relation, store_distance, match_distance, match_knn, match_request, match_leaf_by}
+use Rattle.definitions.specs.Filter.Settings.{Settings, good_settings, has_bit, allowed, passing, only_if, match_under, GoodSettings}
+use Rattle.definitions.specs.Filter.Verdicts.{Verdict, verdict_byte, reasons, PriceLine, relation_line, distance_line, knn_line, no_line, line_named, line_compared, line_meant, is_no_line, is_distance_line, is_knn_line, with_bound, arguments_compared, arguments_of, argument_is, has_argument, sides_of, of_both, of_mark, whole_number, literal_whole, no_number, is_below_one, is_above, below_one, above, no_flag, left_out, lacks, geometry_is, bound_is, knn_literal_is, applies_by, applies, first_that, matches_as, verdict_under}
+use Rattle.definitions.specs.Claims.Verdicts.{line_said, VerdictExactly}
 use Rattle.theorems.proofs.Tools.{by-test, and-both}
 use Rattle.theorems.proofs.VerdictSides.{not-and, ordered, geometry_reasons, geometries-are, bound-ok, bounds-are}
 

@@ -8,17 +8,17 @@ use mathlib.Core.Option
 use mathlib.Core.Option.{Option, none, some}
 use lib.ListN.{length}
 use lib.Dec.{eqb}
-use Rattle.definitions.specs.Basics.{given◌then◌else◌, ascii, same_name}
-use Rattle.definitions.specs.Expression.{Side, left, right, Expr, column, literal, and, binary, call, other, field, Exprs, nil, cons, Record}
-use Rattle.definitions.specs.Decode.{index_below}
-use Rattle.definitions.specs.Leaves.{leaves, Comparison, compares, no_comparison, comparison, distance_arguments}
-use Rattle.definitions.specs.References.{record_at, map_columns, map_columns_all}
-use Rattle.definitions.specs.Good.{InRange, InRangeAll}
-use Rattle.definitions.specs.Logical.{function_name}
-use Rattle.definitions.specs.Merge.{raised, merge_frames}
-use Rattle.definitions.specs.Settings.{Settings}
-use Rattle.definitions.specs.Verdicts.{Verdict, as_relation, as_distance, as_knn, other_case, other_side, other_operator, inside_another, nothing_of_ours, kind_left_out, too_few_arguments, too_many_arguments, first_without_columns, first_of_both, first_with_mark, second_without_columns, second_of_both, second_with_mark, both_left, both_right, bound_of_both, bound_with_mark, k_no_number, k_below_one, k_above_greatest, spheroid_no_flag, ties_no_flag, reasons, PriceLine, relation_line, distance_line, knn_line, no_line, line_compared, line_meant, is_no_line, is_distance_line, is_knn_line, with_bound, arguments_compared, arguments_of, argument_is, has_argument, measured_in_small, ours_in_small, is_distance_call, measured_other_side, measured_beside, distance_on_other_side, distance_beside_other, parts_of, some_of_ours, sides_of, none_of, of_both, of_mark, only_of, literal_whole, no_number, below_one, above, no_flag, lacks, geometry_is, bound_is, knn_literal_is, applies_by, applies, first_that, matches_as, verdict_under, verdicts_under}
-use Rattle.definitions.specs.VerdictClaims.{VerdictsMerged}
+use Rattle.definitions.specs.Words.Basics.{given◌then◌else◌, ascii, same_name}
+use Rattle.definitions.specs.Words.Expression.{Side, left, right, Expr, column, literal, and, binary, call, other, field, Exprs, nil, cons, Record}
+use Rattle.definitions.specs.Bytes.Decode.{index_below}
+use Rattle.definitions.specs.Words.Leaves.{leaves, Comparison, compares, no_comparison, comparison, distance_arguments}
+use Rattle.definitions.specs.Words.References.{record_at, map_columns, map_columns_all}
+use Rattle.definitions.specs.Bytes.Good.{InRange, InRangeAll}
+use Rattle.definitions.specs.Filter.Names.{function_name}
+use Rattle.definitions.specs.Filter.Merge.{raised, merge_frames}
+use Rattle.definitions.specs.Filter.Settings.{Settings}
+use Rattle.definitions.specs.Filter.Verdicts.{Verdict, as_relation, as_distance, as_knn, other_case, other_side, other_operator, inside_another, nothing_of_ours, kind_left_out, too_few_arguments, too_many_arguments, first_without_columns, first_of_both, first_with_mark, second_without_columns, second_of_both, second_with_mark, both_left, both_right, bound_of_both, bound_with_mark, k_no_number, k_below_one, k_above_greatest, spheroid_no_flag, ties_no_flag, reasons, PriceLine, relation_line, distance_line, knn_line, no_line, line_compared, line_meant, is_no_line, is_distance_line, is_knn_line, with_bound, arguments_compared, arguments_of, argument_is, has_argument, measured_in_small, ours_in_small, is_distance_call, measured_other_side, measured_beside, distance_on_other_side, distance_beside_other, parts_of, some_of_ours, sides_of, none_of, of_both, of_mark, only_of, literal_whole, no_number, below_one, above, no_flag, lacks, geometry_is, bound_is, knn_literal_is, applies_by, applies, first_that, matches_as, verdict_under, verdicts_under}
+use Rattle.definitions.specs.Claims.Verdicts.{VerdictsMerged}
 use Rattle.theorems.proofs.Cases.{each}
 use Rattle.theorems.proofs.Columns.{map_comparison, comparison-mapped}
 use Rattle.theorems.proofs.Moved.{map-kept, arguments-mapped, bool-mapped, sides-moved}

@@ -3,11 +3,11 @@ use Rattle.std.specs.Prelude.{if◌then◌else◌}
 use mathlib.Core.Path.{◌≡◌, refl, sym, ap, ap₂, ◌∙◌}
 use mathlib.Core.Bool.{Bool, true, false, ◌&&◌, ◌||◌, not, false≢true, and-true, and-false, or-true}
 use mathlib.Core.List.{List, [], ◌∷◌}
-use Rattle.definitions.specs.Basics.{any, all}
-use Rattle.definitions.specs.Expression.{Side, left, right, no_side}
-use Rattle.definitions.specs.References.{same_side}
-use Rattle.definitions.specs.Match.{ArgumentSide, no_columns, all_on, mixed, common_side, is_side, Order, left_right, right_left, no_order, order_of}
-use Rattle.definitions.specs.Verdicts.{none_of, of_both, of_mark, only_of}
+use Rattle.definitions.specs.Words.Basics.{any, all}
+use Rattle.definitions.specs.Words.Expression.{Side, left, right, no_side}
+use Rattle.definitions.specs.Words.References.{same_side}
+use Rattle.definitions.specs.Filter.Match.{ArgumentSide, no_columns, all_on, mixed, common_side, is_side, Order, left_right, right_left, no_order, order_of}
+use Rattle.definitions.specs.Filter.Verdicts.{none_of, of_both, of_mark, only_of}
 
 pub not-and : (a b : Bool) → not (a && b) ≡ (not a || not b)
 not-and true b = refl

@@ -7,15 +7,15 @@ use mathlib.Core.List.{List, [], ◌∷◌, ◌++◌, map}
 use lib.ListN.{take, drop}
 use lib.Dec.{eqb}
 use borrow.Author.Tests.{eqb-true}
-use Rattle.definitions.specs.Basics.{any, all}
-use Rattle.definitions.specs.Expression.{Side, left, right, no_side, Expr, Exprs, nil, cons, Record}
-use Rattle.definitions.specs.References.{columns_of, same_side}
-use Rattle.definitions.specs.Leaves.{leaves}
-use Rattle.definitions.specs.Match.{ArgumentSide, no_columns, all_on, mixed, common_side, is_side}
-use Rattle.definitions.specs.Exchange.{negate, exchange_frame}
-use Rattle.definitions.specs.Settings.{Settings}
-use Rattle.definitions.specs.Verdicts.{Verdict, as_relation, as_distance, as_knn, other_case, other_side, other_operator, inside_another, nothing_of_ours, kind_left_out, too_few_arguments, too_many_arguments, first_without_columns, first_of_both, first_with_mark, second_without_columns, second_of_both, second_with_mark, both_left, both_right, bound_of_both, bound_with_mark, k_no_number, k_below_one, k_above_greatest, spheroid_no_flag, ties_no_flag, verdict_byte, reasons, PriceLine, relation_line, distance_line, knn_line, no_line, line_meant, is_no_line, is_distance_line, arguments_of, argument_is, sides_of, none_of, of_both, of_mark, only_of, geometry_is, bound_is, applies_by, applies, first_that, matches_as, verdict_under, verdicts_under, exchange_verdict}
-use Rattle.definitions.specs.VerdictClaims.{VerdictsExchanged}
+use Rattle.definitions.specs.Words.Basics.{any, all}
+use Rattle.definitions.specs.Words.Expression.{Side, left, right, no_side, Expr, Exprs, nil, cons, Record}
+use Rattle.definitions.specs.Words.References.{columns_of, same_side}
+use Rattle.definitions.specs.Words.Leaves.{leaves}
+use Rattle.definitions.specs.Filter.Match.{ArgumentSide, no_columns, all_on, mixed, common_side, is_side}
+use Rattle.definitions.specs.Filter.Exchange.{negate, exchange_frame}
+use Rattle.definitions.specs.Filter.Settings.{Settings}
+use Rattle.definitions.specs.Filter.Verdicts.{Verdict, as_relation, as_distance, as_knn, other_case, other_side, other_operator, inside_another, nothing_of_ours, kind_left_out, too_few_arguments, too_many_arguments, first_without_columns, first_of_both, first_with_mark, second_without_columns, second_of_both, second_with_mark, both_left, both_right, bound_of_both, bound_with_mark, k_no_number, k_below_one, k_above_greatest, spheroid_no_flag, ties_no_flag, verdict_byte, reasons, PriceLine, relation_line, distance_line, knn_line, no_line, line_meant, is_no_line, is_distance_line, arguments_of, argument_is, sides_of, none_of, of_both, of_mark, only_of, geometry_is, bound_is, applies_by, applies, first_that, matches_as, verdict_under, verdicts_under, exchange_verdict}
+use Rattle.definitions.specs.Claims.Verdicts.{VerdictsExchanged}
 use Rattle.theorems.proofs.Tools.{and-both}
 use Rattle.theorems.proofs.Exchange.{negate-negate, swapped, same-negated}
 use Rattle.theorems.proofs.MatchTurns.{turned, common-negated, sides-at}

@@ -8,18 +8,18 @@ use mathlib.Core.List.{List, [], ◌∷◌, ◌++◌, map, map-append}
 use mathlib.Core.Option.{Option, none, some}
 use lib.ListN.{length, take, get_or, length-append}
 use lib.Dec.{leb, eqb}
-use Rattle.definitions.specs.Basics.{Result, ok, refused, any}
-use Rattle.definitions.specs.Expression.{Expr, column, literal, and, binary, call, other, field, Record, Frame, Predicate, Extraction, Plan, empty, held, extracted}
-use Rattle.definitions.specs.Leaves.{leaves}
-use Rattle.definitions.specs.Extract.{Pick, is_knn, is_knn_match, later, first_match, first_of, pick, Matcher, matches_by, extraction_by}
-use Rattle.definitions.specs.OneWalk.{Memory, reading, stopped, read_leaf, walk_on, one_walk, remembered, reached, count_to, walk_length_by}
-use Rattle.definitions.specs.Exchange.{exchange_frame}
-use Rattle.definitions.specs.Calls.{finish, held_plan, matched_bytes, new_after_extract_by, extract_filled_by, extract_by, table_fits, walked_by, walk_filled_by, extract_walk_by}
-use Rattle.definitions.specs.NodeTable.{NodeRecord}
-use Rattle.definitions.specs.Sessions.{accepted}
-use Rattle.definitions.specs.Meaning.{Meaning}
-use Rattle.definitions.specs.Matchers.{Lawful}
-use Rattle.definitions.specs.WalkClaims.{RemembersFirst, StopsAtKnn, OneWalkIsPick, WalkBounded, WalkWhole, WalkUnmatched, WalkExchanged, WalkCarried}
+use Rattle.definitions.specs.Words.Basics.{Result, ok, refused, any}
+use Rattle.definitions.specs.Words.Expression.{Expr, column, literal, and, binary, call, other, field, Record, Frame, Predicate, Extraction, Plan, empty, held, extracted}
+use Rattle.definitions.specs.Words.Leaves.{leaves}
+use Rattle.definitions.specs.Filter.Extract.{Pick, is_knn, is_knn_match, later, first_match, first_of, pick, Matcher, matches_by, extraction_by}
+use Rattle.definitions.specs.Filter.OneWalk.{Memory, reading, stopped, read_leaf, walk_on, one_walk, remembered, reached, count_to, walk_length_by}
+use Rattle.definitions.specs.Filter.Exchange.{exchange_frame}
+use Rattle.definitions.specs.Calls.Base.{finish, held_plan, matched_bytes, new_after_extract_by, extract_filled_by, extract_by, table_fits, walked_by, walk_filled_by, extract_walk_by}
+use Rattle.definitions.specs.Bytes.NodeTable.{NodeRecord}
+use Rattle.definitions.specs.Lists.Sessions.{accepted}
+use Rattle.definitions.specs.Meaning.Values.{Meaning}
+use Rattle.definitions.specs.Meaning.Matchers.{Lawful}
+use Rattle.definitions.specs.Claims.Walk.{RemembersFirst, StopsAtKnn, OneWalkIsPick, WalkBounded, WalkWhole, WalkUnmatched, WalkExchanged, WalkCarried}
 use Rattle.theorems.proofs.Cases.{each}
 use Rattle.theorems.proofs.Tools.{by-test}
 use Rattle.theorems.proofs.Exchange.{swapped}

@@ -5,24 +5,27 @@ use mathlib.Core.Bool.{true, ◌&&◌, not}
 use mathlib.Core.List.{List}
 use lib.ListN.{length}
 use lib.Dec.{leb}
-use Rattle.definitions.specs.Basics.{ok}
-use Rattle.definitions.specs.Expression.{Frame, Extraction}
-use Rattle.definitions.specs.Encode.{plan_bytes}
-use Rattle.definitions.specs.Plans.{frame_of}
-use Rattle.definitions.specs.Extract.{matches_by}
-use Rattle.definitions.specs.Calls.{Outcome}
-use Rattle.definitions.specs.Machine.{Kind, extract_call, exchange_call}
-use Rattle.definitions.specs.NodeTable.{NodeRecord}
-use Rattle.definitions.specs.Sessions.{Made, make_by, ListOutcome, machine_after_by, accepted, extract_accepted, exchanges_odd, SessionBy, after, plan_left}
-use Rattle.definitions.specs.Meaning.{frame_value}
-use Rattle.definitions.specs.Settings.{Settings, match_under, FairUnder, make_under}
-use Rattle.definitions.specs.SettingsClaims.{GoodSettings, UnderSettings}
-use Rattle.definitions.specs.Claims.{AgreeBy, some_leaf_matches_by, TookAmong, extracted_plan}
-use Rattle.definitions.specs.ValueClaims.{values_when, HasValue}
-use Rattle.definitions.specs.AnyMatcher.{Lists}
+use Rattle.definitions.specs.Words.Basics.{ok}
+use Rattle.definitions.specs.Words.Expression.{Frame, Extraction}
+use Rattle.definitions.specs.Bytes.Encode.{plan_bytes}
+use Rattle.definitions.specs.Bytes.Plans.{frame_of}
+use Rattle.definitions.specs.Filter.Extract.{matches_by}
+use Rattle.definitions.specs.Calls.Base.{Outcome}
+use Rattle.definitions.specs.Lists.Machine.{Kind, extract_call, exchange_call}
+use Rattle.definitions.specs.Bytes.NodeTable.{NodeRecord}
+use Rattle.definitions.specs.Lists.Sessions.{Made, make_by, ListOutcome, machine_after_by, accepted, extract_accepted, exchanges_odd, SessionBy, after, plan_left}
+use Rattle.definitions.specs.Meaning.Values.{frame_value, FairUnder}
+use Rattle.definitions.specs.Filter.Settings.{Settings, match_under, GoodSettings}
+use Rattle.definitions.specs.Lists.Settings.{make_under}
+use Rattle.definitions.specs.Claims.Settings.{UnderSettings}
+use Rattle.definitions.specs.Claims.Lists.{AgreeBy, some_leaf_matches_by}
+use Rattle.definitions.specs.Claims.Pick.{TookAmong}
+use Rattle.definitions.specs.Filter.Exchange.{extracted_plan}
+use Rattle.definitions.specs.Claims.Values.{values_when, HasValue}
+use Rattle.definitions.specs.Claims.AnyMatcher.{Lists}
 use Rattle.theorems.proofs.InverseFrame.{same_ok}
 use Rattle.theorems.proofs.SettingsClaimed.{all-settings-hold, same-make}
-use Rattle.definitions.specs.DemandThree.{LoadTaken, loaded, list_after, plan_then, extracted_then, odd_then, MeetsDemandThree, DemandThree}
+use Rattle.definitions.specs.Claims.DemandThree.{LoadTaken, loaded, list_after, plan_then, extracted_then, odd_then, MeetsDemandThree, DemandThree}
 
 -- Two outcomes that are alike in both leave the same plan.
 abbrev Alike : (calls calls' : List Made) → (x y : ListOutcome) → Type 0

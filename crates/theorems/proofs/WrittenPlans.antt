@@ -7,16 +7,16 @@ use mathlib.Core.List.{List}
 use mathlib.Core.Option.{Option, none, some}
 use lib.ListN.{length, take}
 use lib.Dec.{leb}
-use Rattle.definitions.specs.Basics.{Result, ok, refused}
-use Rattle.definitions.specs.Expression.{Frame, Extraction, Plan, empty, held, extracted}
-use Rattle.definitions.specs.Encode.{plan_bytes}
-use Rattle.definitions.specs.Extract.{Matcher, extraction_by}
-use Rattle.definitions.specs.Exchange.{exchange_plan}
-use Rattle.definitions.specs.Calls.{Outcome, finish, held_plan, new_after_exchange, exchange, matched_bytes, new_after_extract_by}
-use Rattle.definitions.specs.Machine.{Kind, extract_call, exchange_call}
-use Rattle.definitions.specs.NodeTable.{NodeRecord}
-use Rattle.definitions.specs.Sessions.{make_by, accepted}
-use Rattle.definitions.specs.Claims.{PlanWritten}
+use Rattle.definitions.specs.Words.Basics.{Result, ok, refused}
+use Rattle.definitions.specs.Words.Expression.{Frame, Extraction, Plan, empty, held, extracted}
+use Rattle.definitions.specs.Bytes.Encode.{plan_bytes}
+use Rattle.definitions.specs.Filter.Extract.{Matcher, extraction_by}
+use Rattle.definitions.specs.Filter.Exchange.{exchange_plan}
+use Rattle.definitions.specs.Calls.Base.{Outcome, finish, held_plan, new_after_exchange, exchange, matched_bytes, new_after_extract_by}
+use Rattle.definitions.specs.Lists.Machine.{Kind, extract_call, exchange_call}
+use Rattle.definitions.specs.Bytes.NodeTable.{NodeRecord}
+use Rattle.definitions.specs.Lists.Sessions.{make_by, accepted}
+use Rattle.definitions.specs.Claims.Calls.{PlanWritten}
 use Rattle.theorems.proofs.Changes.{over_first, extract-writes}
 
 module _ (n : ℕ) (buffer scratch : List ℕ) where

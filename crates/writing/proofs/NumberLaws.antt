@@ -6,9 +6,9 @@ use mathlib.Core.Path.{◌≡◌, refl, sym, ap, ap₂, ◌∙◌}
 use mathlib.Core.List.{List, ◌∷◌, ◌++◌}
 use lib.ListN.{length, take, drop, get_or, set, length-set, take-append-drop}
 use lib.Seq.{take-suc, append_snoc, set_at, length-take-le}
-use Rattle.definitions.specs.Basics.{big_endian}
+use Rattle.definitions.specs.Words.Basics.{big_endian}
 use Rattle.theorems.proofs.Figures.{digit-small}
-use Rattle.definitions.specs.Printed.{figures}
+use Rattle.definitions.specs.Bytes.Printed.{figures}
 use Rattle.writing.specs.Numerals.{places}
 use Rattle.writing.specs.Written.{WroteAt}
 

@@ -1,7 +1,7 @@
 // Numbers of any width, as bytes and as decimal digits.
 ghost use Rattle.std.specs.Prelude.{◌+◌, ◌<◌, ◌≤◌, length};
-ghost use Rattle.definitions.specs.Basics.{big_endian};
-ghost use Rattle.definitions.specs.Printed.{figures};
+ghost use Rattle.definitions.specs.Words.Basics.{big_endian};
+ghost use Rattle.definitions.specs.Bytes.Printed.{figures};
 ghost use Rattle.writing.specs.Numerals.{places};
 ghost use Rattle.writing.specs.Written.{WroteAt};
 

@@ -1,6 +1,6 @@
 -- `put_frame_exchanged`: first byte and count, the records with their sides negated, the expression.
 use native.Mathlib.Omega.{arith}
-use Rattle.definitions.specs.Basics.{big_endian}
+use Rattle.definitions.specs.Words.Basics.{big_endian}
 use Rattle.plan_writer.specs.Predicates.{frame_head}
 use Rattle.writing.specs.Writing.{same}
 use Rattle.writing.proofs.Sequence.{first-room, second-room, both-put, head-room, rest-room, headed-put}

@@ -2,7 +2,7 @@
 use native.Mathlib.Omega.{arith}
 use mathlib.Core.Path.{◌≡◌, refl}
 use mathlib.Core.Bool.{true}
-use Rattle.definitions.specs.Settings.{good_settings}
+use Rattle.definitions.specs.Filter.Settings.{good_settings}
 use Rattle.terms.specs.Settings.{settings_of}
 use Rattle.node_reader.proofs.Reading.{kept}
 use Rattle.node_reader.proofs.Standing.{all-bytes}

@@ -5,7 +5,7 @@ use mathlib.Core.Path.{◌≡◌, subst}
 use native.Mathlib.Omega.{arith}
 use lib.ListN.{length-map}
 use borrow.Author.Tests.{not-true, not-false}
-use Rattle.definitions.specs.Settings.{match_under}
+use Rattle.definitions.specs.Filter.Settings.{match_under}
 use Rattle.terms.specs.Settings.{settings_of}
 use Rattle.node_reader.proofs.Standing.{all-bytes}
 use Rattle.node_rows.specs.Numbers.{number}

@@ -1,6 +1,6 @@
 -- Each refusal is the definition's; the frame is kept in the scratch and its extraction written from there.
 use lib.ListN.{take}
-use Rattle.definitions.specs.Settings.{match_under}
+use Rattle.definitions.specs.Filter.Settings.{match_under}
 use Rattle.terms.specs.Settings.{settings_of}
 use Rattle.theorems.proofs.SettingsLaws.{settings-laws}
 use Rattle.leaf_pick.specs.Picks.{TakenIs}

@@ -2,8 +2,9 @@
 use native.Mathlib.Omega.{arith}
 use Prim.Native.Nat.{◌+◌, ◌≤◌}
 use lib.ListN.{length}
-use Rattle.definitions.specs.Settings.{match_under, FairUnder}
-use Rattle.definitions.specs.AllClaims.{TakesAll}
+use Rattle.definitions.specs.Filter.Settings.{match_under}
+use Rattle.definitions.specs.Meaning.Values.{FairUnder}
+use Rattle.definitions.specs.Claims.All.{TakesAll}
 use Rattle.theorems.proofs.SettingsClaimed.{all-settings-hold}
 use Rattle.terms.specs.Settings.{settings_of}
 use Rattle.plan_writer.proofs.TableLaws.{records-within}

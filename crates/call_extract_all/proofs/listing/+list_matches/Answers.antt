@@ -5,11 +5,11 @@ use native.Mathlib.Omega.{arith}
 use mathlib.Core.Path.{◌≡◌, ◌∙◌}
 use mathlib.Core.List.{List}
 use lib.ListN.{length}
-use Rattle.definitions.specs.Settings.{match_under}
+use Rattle.definitions.specs.Filter.Settings.{match_under}
 use Rattle.terms.specs.Settings.{settings_of}
-use Rattle.definitions.specs.Expression.{Expr, Record, and as expr-and}
-use Rattle.definitions.specs.Encode.{expr_bytes}
-use Rattle.definitions.specs.Decode.{index_below, Columns}
+use Rattle.definitions.specs.Words.Expression.{Expr, Record, and as expr-and}
+use Rattle.definitions.specs.Bytes.Encode.{expr_bytes}
+use Rattle.definitions.specs.Bytes.Decode.{index_below, Columns}
 use Rattle.expression.specs.Nodes.{Stands}
 use Rattle.expression.specs.Leaves.{Both}
 use Rattle.expression.proofs.Standing.{node-some}

@@ -3,11 +3,11 @@ use Prim.Native.Nat.{ℕ, ◌≤◌}
 use mathlib.Core.Path.{◌≡◌, refl, sym}
 use mathlib.Core.List.{List}
 use lib.ListN.{length, take}
-use Rattle.definitions.specs.Basics.{ok}
-use Rattle.definitions.specs.Expression.{Frame}
-use Rattle.definitions.specs.NodeTable.{NodeRecord}
-use Rattle.definitions.specs.Plans.{frame_of, plan_of}
-use Rattle.definitions.specs.Merge.{new_after_merge, merge}
+use Rattle.definitions.specs.Words.Basics.{ok}
+use Rattle.definitions.specs.Words.Expression.{Frame}
+use Rattle.definitions.specs.Bytes.NodeTable.{NodeRecord}
+use Rattle.definitions.specs.Bytes.Plans.{frame_of, plan_of}
+use Rattle.definitions.specs.Calls.Merge.{new_after_merge, merge}
 use Rattle.terms.specs.Refusals.{number_of}
 use Rattle.terms.specs.declared.refusals.Refusal.{Refusal}
 use Rattle.node_reader.proofs.Reading.{kept}

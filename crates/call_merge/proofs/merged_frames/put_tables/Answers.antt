@@ -1,7 +1,7 @@
 -- `put_tables`: first byte and the sum of the counts, the held records, the new ones where those ended.
 use borrow.Author.Rules.{rules}
 use native.Mathlib.Omega.{arith}
-use Rattle.definitions.specs.Basics.{big_endian}
+use Rattle.definitions.specs.Words.Basics.{big_endian}
 use Rattle.plan_writer.specs.Predicates.{frame_head}
 use Rattle.writing.specs.Writing.{same}
 use Rattle.writing.proofs.Sequence.{first-room, second-room, both-put, head-room, rest-room, headed-put}

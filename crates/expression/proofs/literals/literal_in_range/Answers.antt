@@ -2,7 +2,7 @@
 use mir.Facts.{to_z-of_z}
 use mir.Syntax.{w64}
 use mathlib.Core.Path.{ap, ◌∙◌}
-use Rattle.definitions.specs.Literals.{is_int32, literal_in_range}
+use Rattle.definitions.specs.Words.Literals.{is_int32, literal_in_range}
 use Rattle.expression.proofs.Signed.{converts-int32}
 use Rattle.expression.proofs.literals.literal_in_range.Goals as goal
 

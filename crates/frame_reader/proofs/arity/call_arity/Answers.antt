@@ -1,6 +1,6 @@
 -- `call_arity`: a function ends where its arguments do.
 use mathlib.Core.Path.{sym, ◌∙◌}
-use Rattle.definitions.specs.Leaves.{leaf_arity}
+use Rattle.definitions.specs.Words.Leaves.{leaf_arity}
 use Rattle.frame_reader.proofs.arity.call_arity.Goals as goal
 
 pub returns-then-not-enough_arguments : goal.returns-then-not-enough_arguments

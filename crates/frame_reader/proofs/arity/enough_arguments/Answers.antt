@@ -1,7 +1,7 @@
 -- `enough_arguments`: `st_dwithin` needs three arguments, a relation name two, any other none.
 use mathlib.Core.Path.{refl}
-use Rattle.definitions.specs.Basics.{ascii}
-use Rattle.definitions.specs.Leaves.{relation_arity}
+use Rattle.definitions.specs.Words.Basics.{ascii}
+use Rattle.definitions.specs.Words.Leaves.{relation_arity}
 use Rattle.frame_reader.proofs.ArityLaws.{call_needs}
 use Rattle.frame_reader.proofs.arity.enough_arguments.Goals as goal
 

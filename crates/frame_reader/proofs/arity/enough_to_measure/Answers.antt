@@ -1,6 +1,6 @@
 -- `enough_to_measure`: an `st_distance` call needs two arguments, any other expression none.
 use mathlib.Core.Path.{sym, ap}
-use Rattle.definitions.specs.Leaves.{distance_arity}
+use Rattle.definitions.specs.Words.Leaves.{distance_arity}
 use Rattle.frame_reader.proofs.ArityLaws.{distance-needs}
 use Rattle.frame_reader.proofs.arity.enough_to_measure.Goals as goal
 

@@ -1,6 +1,6 @@
 -- A record is its side and then two numbers.
 use mathlib.Core.Path.{◌∙◌}
-use Rattle.definitions.specs.Decode.{one_record}
+use Rattle.definitions.specs.Bytes.Decode.{one_record}
 use Rattle.theorems.proofs.ReaderLaws.{after}
 use Rattle.frame_reader.proofs.column_records.one_record.Goals as goal
 

@@ -1,7 +1,7 @@
 -- One record and then the others: what is right for those left is right for all.
 use Prim.Native.Nat.{◌≤◌}
 use lib.ListN.{length}
-use Rattle.definitions.specs.Decode.{one_record}
+use Rattle.definitions.specs.Bytes.Decode.{one_record}
 use Rattle.node_reader.proofs.Repeats.{Left}
 use Rattle.frame_reader.proofs.column_records.records.Given as goal
 

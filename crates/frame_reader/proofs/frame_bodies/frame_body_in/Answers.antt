@@ -1,7 +1,7 @@
 -- A frame is its column count, so many records and an expression, each from where the last ended.
 use native.Mathlib.Omega.{arith}
 use mathlib.Core.Path.{◌∙◌}
-use Rattle.definitions.specs.Decode.{frame_body}
+use Rattle.definitions.specs.Bytes.Decode.{frame_body}
 use Rattle.theorems.proofs.ReaderLaws.{after}
 use Rattle.node_reader.proofs.Standing.{all-bytes}
 use Rattle.frame_reader.proofs.Wholes.{frame-stands}

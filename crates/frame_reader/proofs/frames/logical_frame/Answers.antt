@@ -1,8 +1,8 @@
 -- A frame of the sort 2 whose body is an expression with fields of the schemas; nothing is left to test.
 use mathlib.Core.Path.{ap}
-use Rattle.definitions.specs.Readers.{give, result_of}
-use Rattle.definitions.specs.Decode.{fields, expression}
-use Rattle.definitions.specs.Plans.{logical_frame, logical_of}
+use Rattle.definitions.specs.Bytes.Readers.{give, result_of}
+use Rattle.definitions.specs.Bytes.Decode.{fields, expression}
+use Rattle.definitions.specs.Bytes.Plans.{logical_frame, logical_of}
 use Rattle.node_reader.proofs.Reading.{kept}
 use Rattle.frame_reader.proofs.Wholes.{unopened, body-stops, ends, goes_on}
 use Rattle.frame_reader.proofs.frames.logical_frame.Goals as goal

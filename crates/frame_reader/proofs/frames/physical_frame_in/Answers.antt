@@ -1,10 +1,10 @@
 -- A frame of the sort 1: its body is the frame's, then comes the end, and its arity is tested last.
 use mathlib.Core.Path.{sym, ap, ◌∙◌}
-use Rattle.definitions.specs.Expression.{Frame}
-use Rattle.definitions.specs.Leaves.{arity}
-use Rattle.definitions.specs.Readers.{Reader, ◌>>◌, give, require, result_of}
-use Rattle.definitions.specs.Decode.{frame_body}
-use Rattle.definitions.specs.Plans.{physical_frame, frame_of}
+use Rattle.definitions.specs.Words.Expression.{Frame}
+use Rattle.definitions.specs.Words.Leaves.{arity}
+use Rattle.definitions.specs.Bytes.Readers.{Reader, ◌>>◌, give, require, result_of}
+use Rattle.definitions.specs.Bytes.Decode.{frame_body}
+use Rattle.definitions.specs.Bytes.Plans.{physical_frame, frame_of}
 use Rattle.theorems.proofs.ReaderLaws.{passes, fails}
 use Rattle.node_reader.proofs.Reading.{kept}
 use Rattle.frame_reader.proofs.FrameRows.{opened-short, roomy-lent, body-tabled, frame-listed, frame-arity, frame-up-to}

@@ -1,5 +1,5 @@
 -- `answer_number`: each answer by itself.
-use Rattle.definitions.specs.Hosts.{hosted}
+use Rattle.host_calls.specs.Hosts.{hosted}
 use Rattle.host_calls.proofs.Numbers.{given_back}
 use Rattle.host_calls.proofs.answers.answer_number.Goals as goal
 

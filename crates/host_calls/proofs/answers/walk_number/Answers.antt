@@ -1,5 +1,5 @@
 -- `walk_number`: a length with its walk, and minus a refusal's number with its walk.
-use Rattle.definitions.specs.Hosts.{hosted_walk}
+use Rattle.host_calls.specs.Hosts.{hosted_walk}
 use Rattle.host_calls.proofs.Numbers.{given_back}
 use Rattle.host_calls.proofs.answers.walk_number.Goals as goal
 

@@ -2,7 +2,7 @@
 use native.Mathlib.Omega.{arith}
 use mathlib.Core.Path.{◌≡◌}
 use Prim.Native.Nat.{◌+◌, ◌*◌}
-use Rattle.definitions.specs.Verdicts as definitions
+use Rattle.definitions.specs.Filter.Verdicts as definitions
 use Rattle.leaf_verdicts.specs.Taken.{taken_of}
 use Rattle.host_calls.proofs.explain.bill_number.Goals as goal
 use Rattle.host_calls.proofs.explain.bill_number.Goals.{After-from}

@@ -3,7 +3,7 @@ use Prim.Native.Nat.{◌<◌}
 use native.Mathlib.Omega.{arith}
 use Rattle.std.proofs.Common.{rules}
 use Rattle.node_reader.proofs.Standing.{all-bytes}
-use Rattle.definitions.specs.Hosts.{hosted}
+use Rattle.host_calls.specs.Hosts.{hosted}
 use Rattle.terms.specs.Settings.{settings_of}
 use Rattle.call_explain.specs.Answers.{explained_number}
 use Rattle.host_calls.proofs.Numbers.{number-is, given_back}

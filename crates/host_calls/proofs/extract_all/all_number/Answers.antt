@@ -4,8 +4,8 @@ use native.Mathlib.Omega.{arith}
 use mathlib.Core.Path.{refl}
 use Rattle.std.proofs.Common.{rules}
 use Rattle.node_reader.proofs.Standing.{all-bytes}
-use Rattle.definitions.specs.Basics.{ok}
-use Rattle.definitions.specs.Hosts.{hosted_all}
+use Rattle.definitions.specs.Words.Basics.{ok}
+use Rattle.host_calls.specs.Hosts.{hosted_all}
 use Rattle.terms.specs.Settings.{settings_of}
 use Rattle.host_calls.proofs.Numbers.{number-is, given_back}
 use Rattle.host_calls.proofs.AllSmall.{all_small, all-hosted}

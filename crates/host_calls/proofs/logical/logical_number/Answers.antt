@@ -1,6 +1,6 @@
 -- `logical_number`: mask, count and side as one number.
 use native.Mathlib.Omega.{arith}
-use Rattle.definitions.specs.Hosts.{hosted_names}
+use Rattle.host_calls.specs.Hosts.{hosted_names}
 use Rattle.host_calls.proofs.Numbers.{number-is, given_back}
 use Rattle.host_calls.proofs.logical.logical_number.Goals as goal
 

@@ -1,6 +1,6 @@
 -- `served_number`: each answer by itself.
 use Rattle.std.proofs.Common.{◌≡◌, ◌∙◌, ap, Ok, Some, None}
-use Rattle.definitions.specs.Hosts.{hosted_serve}
+use Rattle.host_calls.specs.Hosts.{hosted_serve}
 use Rattle.host_calls.proofs.Numbers.{given_back}
 use Rattle.host_calls.proofs.serve.served_number.Goals as goal
 

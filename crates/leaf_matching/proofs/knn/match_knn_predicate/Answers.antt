@@ -3,7 +3,7 @@ use native.Mathlib.Omega.{arith}
 use mathlib.Core.Path.{ap, ◌∙◌}
 use mathlib.Core.Logic.{⊎_elim}
 use Rattle.std.specs.Prelude.{Some}
-use Rattle.definitions.specs.Basics.{ascii}
+use Rattle.definitions.specs.Words.Basics.{ascii}
 use Rattle.leaf_matching.proofs.Asked.{other_name}
 use Rattle.leaf_matching.proofs.MatchLaws.{pair-framed, pair-begins, rest-trees, named}
 use Rattle.leaf_matching.proofs.Missing.{missed}

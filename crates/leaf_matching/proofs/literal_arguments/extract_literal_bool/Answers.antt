@@ -4,7 +4,7 @@ use native.Mathlib.Omega.{arith}
 use mathlib.Core.Path.{ap, sym, ◌∙◌}
 use mathlib.Core.Option.{some}
 use lib.Dec.{eqb}
-use Rattle.definitions.specs.Literals.{number_bool}
+use Rattle.definitions.specs.Words.Literals.{number_bool}
 use Rattle.expression.proofs.Standing.{node-some}
 use Rattle.leaf_matching.specs.Literals.{long_at}
 use Rattle.sedona_query_planner.specs.Predicates.{flag}

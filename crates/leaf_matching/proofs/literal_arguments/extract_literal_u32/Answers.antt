@@ -4,7 +4,7 @@ use mathlib.Core.Path.{ap, ◌∙◌}
 use lib.IntN.{pos}
 use mir.Syntax.{w64}
 use mir.Facts.{to_z-of_z}
-use Rattle.definitions.specs.Literals.{signed, u32}
+use Rattle.definitions.specs.Words.Literals.{signed, u32}
 use Rattle.expression.proofs.Standing.{node-some}
 use Rattle.leaf_matching.specs.Literals.{number_is}
 use Rattle.leaf_matching.proofs.LiteralLaws.{u32-of, u32-of-signed, literal-is, no-literal, literal-number, number-below, number-signed, number-unsigned, number-above}

@@ -2,7 +2,7 @@
 use mathlib.Core.Path.{sym, ap, ◌∙◌}
 use native.Mathlib.Omega.{arith}
 use Rattle.std.specs.Prelude.{Some}
-use Rattle.definitions.specs.Leaves.{relation_named}
+use Rattle.definitions.specs.Words.Leaves.{relation_named}
 use Rattle.leaf_matching.proofs.Asked.{no-relation}
 use Rattle.leaf_matching.proofs.Missing.{missed}
 use Rattle.leaf_matching.proofs.MatchLaws.{pair-framed, pair-begins}

@@ -1,7 +1,7 @@
 -- A column's side is seen; of any other node the children are walked, one after the other. The measure is twice the bytes left.
 use native.Mathlib.Omega.{arith}
 use mathlib.Core.Path.{ap, ◌∙◌}
-use Rattle.definitions.specs.Decode.{side_numbered}
+use Rattle.definitions.specs.Bytes.Decode.{side_numbered}
 use Rattle.expression.proofs.Standing.{node-some, after-head}
 use Rattle.leaf_matching.proofs.Framing.{framed-tree, entry-within, column_fits, children-framed}
 use Rattle.leaf_matching.proofs.SideWalk.{side-column, side-other, seeing-begins, seeing-first, seeing-goes-on, seeing-ends}

@@ -3,7 +3,7 @@ use Prim.Native.Nat.{◌/◌, ◌<◌}
 use native.Mathlib.Omega.{arith}
 use mathlib.Core.Path.{ap, ◌∙◌}
 use lib.ListN.{get_or}
-use Rattle.definitions.specs.Decode.{side_numbered}
+use Rattle.definitions.specs.Bytes.Decode.{side_numbered}
 use Rattle.node_rows.proofs.ColumnRows.{loop-column, loop-past, loop-ends}
 use Rattle.leaf_matching.proofs.SideWalk.{SeesColumns, ColumnOver, sees-begin, sees-more, side-seen, over-fits, over-entry}
 use Rattle.leaf_matching.proofs.sides.side_by_rows.Goals as goal

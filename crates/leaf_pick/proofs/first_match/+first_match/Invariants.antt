@@ -2,7 +2,7 @@
 -- left one ends.
 -- A call goes to a place further on, so the measure is the bytes left.
 use lib.ListN.{length}
-use Rattle.definitions.specs.Settings.{match_under}
+use Rattle.definitions.specs.Filter.Settings.{match_under}
 use Rattle.terms.specs.Settings.{settings_of}
 use Rattle.leaf_pick.proofs.FirstLaws.{Along}
 use Prim.Native.Nat.{◌-◌}

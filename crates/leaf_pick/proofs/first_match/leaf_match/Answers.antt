@@ -1,6 +1,6 @@
 -- `leaf_match`: the only AND-leaf below the node is the node, so its match is the first one, or there is none.
 use mathlib.Core.Path.{◌∙◌}
-use Rattle.definitions.specs.Settings.{match_under}
+use Rattle.definitions.specs.Filter.Settings.{match_under}
 use Rattle.terms.specs.Settings.{settings_of}
 use Rattle.leaf_pick.specs.Picks.{wants}
 use Rattle.node_rows.proofs.RowLaws.{tabled-end}

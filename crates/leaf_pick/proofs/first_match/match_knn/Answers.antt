@@ -1,7 +1,7 @@
 -- `match_knn`: a leaf that is no function is no KNN; a function has its own matching, of which the settings leave what they allow.
-use Rattle.definitions.specs.Match.{match_leaf_by}
-use Rattle.definitions.specs.Extract.{is_knn}
-use Rattle.definitions.specs.Settings.{only_if, match_under}
+use Rattle.definitions.specs.Filter.Match.{match_leaf_by}
+use Rattle.definitions.specs.Filter.Extract.{is_knn}
+use Rattle.definitions.specs.Filter.Settings.{only_if, match_under}
 use Rattle.terms.specs.Settings.{settings_of}
 use Rattle.leaf_matching.proofs.AllowLaws.{passing-lacks}
 use Rattle.leaf_pick.proofs.Nodes.{no-function}

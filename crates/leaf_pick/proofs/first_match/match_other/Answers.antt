@@ -1,6 +1,6 @@
 -- `match_other`: a relation and a distance match with any default k as with 1; the settings leave what they allow.
-use Rattle.definitions.specs.Match.{match_leaf_by}
-use Rattle.definitions.specs.Settings.{only_if, match_under}
+use Rattle.definitions.specs.Filter.Match.{match_leaf_by}
+use Rattle.definitions.specs.Filter.Settings.{only_if, match_under}
 use Rattle.leaf_pick.specs.Picks.{is_other}
 use Rattle.leaf_pick.proofs.Defaults.{other-default}
 use Rattle.leaf_pick.proofs.first_match.match_other.Goals as goal

@@ -1,5 +1,5 @@
 -- `read_other`: what is remembered stays, and where nothing is the first other match is.
-use Rattle.definitions.specs.Settings.{match_under}
+use Rattle.definitions.specs.Filter.Settings.{match_under}
 use Rattle.terms.specs.Settings.{settings_of}
 use Rattle.leaf_pick.specs.Picks.{is_other}
 use Rattle.leaf_pick.proofs.LeafLaws.{leaf-within}

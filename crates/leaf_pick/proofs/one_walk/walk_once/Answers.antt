@@ -2,7 +2,7 @@
 use native.Mathlib.Omega.{arith}
 use mathlib.Core.Path.{◌≡◌}
 use mathlib.Core.List.{[], ◌∷◌}
-use Rattle.definitions.specs.Leaves.{leaves}
+use Rattle.definitions.specs.Words.Leaves.{leaves}
 use Rattle.node_rows.proofs.RowLaws.{tabled-within}
 use Rattle.leaf_matching.specs.Frames.{OfFrame}
 use Rattle.leaf_matching.proofs.Framing.{framed-tree}

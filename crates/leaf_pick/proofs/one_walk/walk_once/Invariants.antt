@@ -1,6 +1,6 @@
 -- `walk_once`: an And opens into its sides, a leaf is passed; where the index has come to the end, nothing is ahead.
 use Prim.Native.Nat.{◌-◌}
-use Rattle.definitions.specs.Settings.{match_under}
+use Rattle.definitions.specs.Filter.Settings.{match_under}
 use Rattle.terms.specs.Settings.{settings_of}
 use Rattle.leaf_pick.proofs.Ahead.{Along}
 use Rattle.leaf_pick.proofs.one_walk.walk_once.Given as goal

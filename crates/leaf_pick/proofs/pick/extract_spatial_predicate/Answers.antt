@@ -1,5 +1,5 @@
 -- `extract_spatial_predicate`: the pick is the first KNN match; without one it is the first match that is not KNN.
-use Rattle.definitions.specs.Extract.{matches_by}
+use Rattle.definitions.specs.Filter.Extract.{matches_by}
 use Rattle.leaf_pick.proofs.PickLaws.{pick-knn}
 use Rattle.leaf_pick.proofs.FirstLaws.{taken_is, second-pass}
 use Rattle.leaf_pick.proofs.pick.extract_spatial_predicate.Goals as goal

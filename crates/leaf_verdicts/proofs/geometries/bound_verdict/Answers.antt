@@ -1,5 +1,5 @@
 -- `bound_verdict`: the flags of the walk say what is asked of the sides of its columns.
-use Rattle.definitions.specs.Verdicts.{sides_of}
+use Rattle.definitions.specs.Filter.Verdicts.{sides_of}
 use Rattle.leaf_verdicts.proofs.ColumnLaws.{bound-told}
 use Rattle.leaf_verdicts.proofs.geometries.bound_verdict.Goals as goal
 

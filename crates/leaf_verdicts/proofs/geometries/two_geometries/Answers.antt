@@ -1,6 +1,6 @@
 -- `two_geometries`: the flags of both walks say what is asked of the sides of their columns.
 use native.Mathlib.Omega.{arith}
-use Rattle.definitions.specs.Verdicts.{sides_of}
+use Rattle.definitions.specs.Filter.Verdicts.{sides_of}
 use Rattle.leaf_verdicts.proofs.ColumnLaws.{second-over, geometries-told}
 use Rattle.leaf_verdicts.proofs.geometries.two_geometries.Goals as goal
 

@@ -3,8 +3,8 @@ use native.Mathlib.Omega.{arith}
 use mathlib.Core.Path.{sym, ◌∙◌}
 use mathlib.Core.Bool.{true, false}
 use mathlib.Core.List.{List}
-use Rattle.definitions.specs.Expression.{Expr, nil, cons, Record}
-use Rattle.definitions.specs.Leaves.{comparison}
+use Rattle.definitions.specs.Words.Expression.{Expr, nil, cons, Record}
+use Rattle.definitions.specs.Words.Leaves.{comparison}
 use Rattle.expression.proofs.There.{first-of-pair}
 use Rattle.sedona_expr.specs.Parsed.{ComparedIs}
 use Rattle.sedona_expr.proofs.Comparing.{told-sides, sides-found}

@@ -4,11 +4,11 @@ use Prim.Native.Nat.{ℕ}
 use mathlib.Core.Path.{◌≡◌, refl, sym, ap, ◌∙◌}
 use mathlib.Core.Bool.{Bool, true, false}
 use mathlib.Core.List.{List}
-use Rattle.definitions.specs.Expression.{call, Exprs, Record}
-use Rattle.definitions.specs.Verdicts.{kind_left_out, verdict_under}
+use Rattle.definitions.specs.Words.Expression.{call, Exprs, Record}
+use Rattle.definitions.specs.Filter.Verdicts.{kind_left_out, verdict_under}
 use Rattle.leaf_matching.specs.Frames.{CallOver}
 use Rattle.leaf_verdicts.specs.declared.lines.PriceLine.{PriceLine}
-use Rattle.definitions.specs.Verdicts as definitions
+use Rattle.definitions.specs.Filter.Verdicts as definitions
 use Rattle.terms.specs.Settings.{settings_of}
 use Rattle.leaf_matching.proofs.MatchLaws.{arguments-over}
 use Rattle.leaf_verdicts.specs.Cases.{line_of}

@@ -1,7 +1,7 @@
 -- `leaf_verdict`: what the node is tells where its verdict is found.
 use mathlib.Core.Path.{sym, ap, ◌∙◌}
 use Rattle.expression.proofs.There.{plain-there}
-use Rattle.definitions.specs.Verdicts.{verdict_under}
+use Rattle.definitions.specs.Filter.Verdicts.{verdict_under}
 use Rattle.terms.specs.Settings.{settings_of}
 use Rattle.expression.specs.Nodes.{children_of}
 use Rattle.leaf_matching.proofs.Framing.{framed-tree, children-over}

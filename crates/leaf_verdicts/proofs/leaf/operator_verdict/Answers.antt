@@ -2,8 +2,8 @@
 use Rattle.expression.proofs.There.{first-of-pair, second-of-pair, both-there}
 use Rattle.expression.proofs.Standing.{first-stands}
 use Rattle.expression.proofs.Parts.{pair-right}
-use Rattle.definitions.specs.Expression.{nil, cons}
-use Rattle.definitions.specs.Verdicts.{is_distance_call}
+use Rattle.definitions.specs.Words.Expression.{nil, cons}
+use Rattle.definitions.specs.Filter.Verdicts.{is_distance_call}
 use Rattle.leaf_verdicts.specs.Stages.{operator_stage}
 use Rattle.leaf_verdicts.proofs.leaf.operator_verdict.Goals as goal
 use Rattle.leaf_verdicts.proofs.leaf.operator_verdict.Goals.{then-is_distance_expr-via-then-is_distance_expr, then-is_distance_expr-via-else-is_distance_expr+then-is_distance_expr-2}

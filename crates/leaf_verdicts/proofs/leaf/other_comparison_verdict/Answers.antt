@@ -1,7 +1,7 @@
 -- `other_comparison_verdict`: `st_distance` in other letters, or on the side that is not looked at, else what stands below it.
 use Rattle.expression.proofs.There.{both-there}
-use Rattle.definitions.specs.Expression.{nil, cons}
-use Rattle.definitions.specs.Verdicts.{is_distance_call}
+use Rattle.definitions.specs.Words.Expression.{nil, cons}
+use Rattle.definitions.specs.Filter.Verdicts.{is_distance_call}
 use Rattle.leaf_verdicts.specs.Stages.{other_stage}
 use Rattle.leaf_verdicts.proofs.leaf.other_comparison_verdict.Goals as goal
 

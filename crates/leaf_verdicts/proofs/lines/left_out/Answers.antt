@@ -4,8 +4,8 @@ use mathlib.Core.Path.{◌≡◌, ap}
 use mathlib.Core.Bool.{not}
 use Prim.Native.Nat.{ℕ, ◌/◌, ◌%◌}
 use lib.Dec.{eqb}
-use Rattle.definitions.specs.Settings.{has_bit}
-use Rattle.definitions.specs.Verdicts as definitions
+use Rattle.definitions.specs.Filter.Settings.{has_bit}
+use Rattle.definitions.specs.Filter.Verdicts as definitions
 use Rattle.leaf_verdicts.proofs.lines.left_out.Goals as goal
 
 pub returns-in-Relation : goal.returns-in-Relation

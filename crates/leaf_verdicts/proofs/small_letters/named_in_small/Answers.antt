@@ -1,6 +1,6 @@
 -- `named_in_small`: the spatial names are those that have a line.
 use mathlib.Core.Path.{◌∙◌}
-use Rattle.definitions.specs.Logical.{lower_case}
+use Rattle.definitions.specs.Filter.Names.{lower_case}
 use Rattle.leaf_verdicts.proofs.NameLaws.{spatial-line}
 use Rattle.leaf_verdicts.proofs.small_letters.named_in_small.Goals as goal
 

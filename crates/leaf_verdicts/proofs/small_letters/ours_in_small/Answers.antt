@@ -1,7 +1,7 @@
 -- `ours_in_small`: a function by its name, an operator by the side that it looks at.
 use mathlib.Core.Path.{sym, ap}
 use Rattle.std.proofs.Common.{inl, inr}
-use Rattle.definitions.specs.Verdicts as definitions
+use Rattle.definitions.specs.Filter.Verdicts as definitions
 use Rattle.leaf_verdicts.proofs.SmallLaws.{plain-small}
 use Rattle.leaf_verdicts.proofs.small_letters.ours_in_small.Goals as goal
 

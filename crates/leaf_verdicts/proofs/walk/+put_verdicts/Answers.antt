@@ -3,7 +3,7 @@
 use Prim.Native.Nat.{ℕ, ◌≤◌}
 use native.Mathlib.Omega.{arith}
 use mathlib.Core.Path.{ap, ◌∙◌}
-use Rattle.definitions.specs.Verdicts.{verdict_byte}
+use Rattle.definitions.specs.Filter.Verdicts.{verdict_byte}
 use lib.ListN.{length}
 use Rattle.expression.proofs.Standing.{node-some}
 use Rattle.expression.proofs.AndLeaves.{leaves-some, single-leaf}

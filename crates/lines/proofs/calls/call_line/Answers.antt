@@ -2,8 +2,8 @@
 use Rattle.std.proofs.Common.{Ok, Err}
 use native.Mathlib.Omega.{arith}
 use Rattle.std.proofs.lemmas.Result.{err_from_is_err_and}
-use Rattle.definitions.specs.Machine.{extract_call, exchange_call}
-use Rattle.definitions.specs.Program.{line_call}
+use Rattle.definitions.specs.Lists.Machine.{extract_call, exchange_call}
+use Rattle.definitions.specs.Lists.Program.{line_call}
 use mathlib.Core.Path.{sym, ◌∙◌}
 use Rattle.call_extract.proofs.Settling.{filled-default}
 use Rattle.lines.proofs.CallLaws.{load_gives, alone-gives, more-follow, more-leave}

@@ -1,5 +1,5 @@
 -- `find_st_knn_call`: the right child of an And is searched where the left one has no such call; the measure is the bytes left.
-use Rattle.definitions.specs.Basics.{ascii}
+use Rattle.definitions.specs.Words.Basics.{ascii}
 use Rattle.expression.proofs.EndWalk.{end-node}
 use Rattle.expression.proofs.Parts.{left-stands, both_end, call-end}
 use Rattle.expression.proofs.There.{and-left-there, and-right-there, pair-there, plain-there, both-there, call-there, arguments-there}

@@ -1,7 +1,7 @@
 -- `find_knn_query_side`: the first KNN call decides; a side has all columns of its first argument and the other side has not.
 use mathlib.Core.Path.{◌≡◌}
-use Rattle.definitions.specs.Leaves.{leaves}
-use Rattle.definitions.specs.Logical.{query_side}
+use Rattle.definitions.specs.Words.Leaves.{leaves}
+use Rattle.definitions.specs.Filter.Names.{query_side}
 use Rattle.expression.specs.Nodes.{OfTree}
 use Rattle.expression.proofs.EndWalk.{first-there}
 use Rattle.logical_filter.proofs.QueryWalk.{side_by, no-side, no-argument, argument-side}

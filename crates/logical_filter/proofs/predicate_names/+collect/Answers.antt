@@ -1,8 +1,8 @@
 -- `collect`: the names of both children of an And are put together; the measure is the bytes left.
 use mathlib.Core.Path.{refl}
 use native.Mathlib.Omega.{arith}
-use Rattle.definitions.specs.Basics.{ascii, same_name, any}
-use Rattle.definitions.specs.Logical.{spatial_names}
+use Rattle.definitions.specs.Words.Basics.{ascii, same_name, any}
+use Rattle.definitions.specs.Filter.Names.{spatial_names}
 use Rattle.logical_filter.specs.Logicals.{apart}
 use Rattle.expression.proofs.EndWalk.{end-node}
 use Rattle.expression.proofs.There.{and-left-there, and-right-there, pair-there, plain-there, call-there, arguments-there}

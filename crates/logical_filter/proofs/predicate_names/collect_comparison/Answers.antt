@@ -2,10 +2,10 @@
 use Rattle.std.specs.Prelude.{if◌then◌else◌}
 use mathlib.Core.Path.{◌≡◌, ◌∙◌}
 use mathlib.Core.List.{[]}
-use Rattle.definitions.specs.Basics.{ascii}
-use Rattle.definitions.specs.Expression.{Expr, binary, nil, cons}
-use Rattle.definitions.specs.Decode.{Columns}
-use Rattle.definitions.specs.Logical.{leaf_name}
+use Rattle.definitions.specs.Words.Basics.{ascii}
+use Rattle.definitions.specs.Words.Expression.{Expr, binary, nil, cons}
+use Rattle.definitions.specs.Bytes.Decode.{Columns}
+use Rattle.definitions.specs.Filter.Names.{leaf_name}
 use Rattle.expression.specs.Nodes.{Row}
 use Rattle.expression.proofs.Parts.{pair_ends}
 use Rattle.expression.proofs.There.{first-of-pair, second-of-pair}

@@ -2,9 +2,9 @@
 use mathlib.Core.Path.{sym, ap, ◌∙◌}
 use mathlib.Core.List.{map}
 use lib.Count.{ones}
-use Rattle.definitions.specs.Leaves.{leaves}
-use Rattle.definitions.specs.Logical.{spatial_names, leaf_name}
-use Rattle.definitions.proofs.Names.{names-ones}
+use Rattle.definitions.specs.Words.Leaves.{leaves}
+use Rattle.definitions.specs.Filter.Names.{spatial_names, leaf_name}
+use Rattle.definitions.proofs.Rows.Names.{names-ones}
 use Rattle.logical_filter.proofs.predicate_names.collect_spatial_predicate_names.Goals as goal
 
 pub returns : goal.returns

@@ -1,6 +1,6 @@
 -- `is_spatial_name`: the names are compared one after the other.
-use Rattle.definitions.specs.Basics.{ascii, any}
-use Rattle.definitions.specs.Logical.{spatial_names}
+use Rattle.definitions.specs.Words.Basics.{ascii, any}
+use Rattle.definitions.specs.Filter.Names.{spatial_names}
 use Rattle.logical_filter.proofs.predicate_names.is_spatial_name.Goals as goal
 
 pub returns : goal.returns

@@ -1,7 +1,7 @@
 -- Name length, name and argument count, each from where the last ended, and then so many arguments.
 use mathlib.Core.Path.{refl, ◌∙◌}
-use Rattle.definitions.specs.Expression.{call}
-use Rattle.definitions.specs.Decode.{call_node}
+use Rattle.definitions.specs.Words.Expression.{call}
+use Rattle.definitions.specs.Bytes.Decode.{call_node}
 use Rattle.expression.specs.Nodes.{children_of}
 use Rattle.theorems.proofs.Inverse.{byte-up-to-back}
 use Rattle.theorems.proofs.ReaderLaws.{after}

@@ -1,6 +1,6 @@
 -- Each mode's arm is its line of the definition.
 use borrow.Author.Tests.{le-leb, lt-leb}
-use Rattle.definitions.specs.Decode.{allowed_kind}
+use Rattle.definitions.specs.Bytes.Decode.{allowed_kind}
 use Rattle.node_reader.proofs.head_readers.allowed_kind.Goals as goal
 
 pub returns-in-Below : goal.returns-in-Below

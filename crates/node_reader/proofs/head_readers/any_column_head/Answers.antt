@@ -1,5 +1,5 @@
 -- Each mode's arm is its column.
-use Rattle.definitions.specs.Decode.{any_column}
+use Rattle.definitions.specs.Bytes.Decode.{any_column}
 use Rattle.node_reader.proofs.head_readers.any_column_head.Goals as goal
 
 pub returns-in-Below : goal.returns-in-Below

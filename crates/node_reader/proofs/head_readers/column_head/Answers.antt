@@ -1,9 +1,9 @@
 -- The bound is tested last, after index and tag.
 use mathlib.Core.Path.{refl, ◌∙◌}
 use borrow.Author.Tests.{lt-ltb}
-use Rattle.definitions.specs.Expression.{column}
+use Rattle.definitions.specs.Words.Expression.{column}
 use Rattle.expression.specs.Nodes.{children_of}
-use Rattle.definitions.specs.Decode.{column_node}
+use Rattle.definitions.specs.Bytes.Decode.{column_node}
 use Rattle.theorems.proofs.ReaderLaws.{after, passes}
 use Rattle.node_reader.proofs.Children.{childless}
 use Rattle.node_reader.proofs.head_readers.column_head.Goals as goal

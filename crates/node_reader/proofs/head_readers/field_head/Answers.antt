@@ -1,8 +1,8 @@
 -- Bits and tag are all of it.
 use mathlib.Core.Path.{refl, ◌∙◌}
-use Rattle.definitions.specs.Expression.{field}
+use Rattle.definitions.specs.Words.Expression.{field}
 use Rattle.expression.specs.Nodes.{children_of}
-use Rattle.definitions.specs.Decode.{field_node}
+use Rattle.definitions.specs.Bytes.Decode.{field_node}
 use Rattle.theorems.proofs.ReaderLaws.{after}
 use Rattle.node_reader.proofs.Children.{childless}
 use Rattle.node_reader.proofs.head_readers.field_head.Goals as goal

@@ -1,6 +1,6 @@
 -- Each kind's arm is its line of the definition.
 use Rattle.node_reader.specs.Heads.{columns_of}
-use Rattle.definitions.specs.Decode.{node_of_kind}
+use Rattle.definitions.specs.Bytes.Decode.{node_of_kind}
 use Rattle.node_reader.proofs.Children.{column-kind}
 use Rattle.node_reader.proofs.head_readers.head_of_kind.Goals as goal
 

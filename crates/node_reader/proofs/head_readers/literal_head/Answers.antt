@@ -1,8 +1,8 @@
 -- The range is tested once type and eight bytes are read.
 use mathlib.Core.Path.{refl, sym, ◌∙◌}
-use Rattle.definitions.specs.Expression.{literal}
+use Rattle.definitions.specs.Words.Expression.{literal}
 use Rattle.expression.specs.Nodes.{children_of}
-use Rattle.definitions.specs.Decode.{literal_node}
+use Rattle.definitions.specs.Bytes.Decode.{literal_node}
 use Rattle.theorems.proofs.ReaderLaws.{after, passes}
 use Rattle.node_reader.proofs.Children.{childless}
 use Rattle.node_reader.proofs.head_readers.literal_head.Goals as goal

@@ -1,8 +1,8 @@
 -- Tag and child count, and then so many children.
 use mathlib.Core.Path.{refl, ◌∙◌}
-use Rattle.definitions.specs.Expression.{other}
+use Rattle.definitions.specs.Words.Expression.{other}
 use Rattle.expression.specs.Nodes.{children_of}
-use Rattle.definitions.specs.Decode.{other_node}
+use Rattle.definitions.specs.Bytes.Decode.{other_node}
 use Rattle.theorems.proofs.Inverse.{byte-up-to-back}
 use Rattle.theorems.proofs.ReaderLaws.{after}
 use Rattle.node_reader.proofs.head_readers.other_head.Goals as goal

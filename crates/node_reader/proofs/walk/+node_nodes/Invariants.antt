@@ -1,7 +1,7 @@
 -- A node is its head and a row of children, and its own places in the rows are stored last; a row is a node and the rest of the row. Nodes
 -- left to count fall with each node.
 use Prim.Native.Nat.{◌+◌, ◌-◌, ◌*◌}
-use Rattle.definitions.specs.Decode as decode
+use Rattle.definitions.specs.Bytes.Decode as decode
 use Rattle.node_reader.specs.Heads.{columns_of}
 use Rattle.node_reader.proofs.Walks.{InRow}
 use Rattle.node_reader.proofs.walk.+node_nodes.Given as goal

@@ -1,6 +1,6 @@
 -- The position in two bytes, a predicate, and then its remainder.
 use mathlib.Core.Path.{refl, ◌∙◌}
-use Rattle.definitions.specs.Decode.{extraction_body}
+use Rattle.definitions.specs.Bytes.Decode.{extraction_body}
 use Rattle.theorems.proofs.ReaderLaws.{after}
 use Rattle.plan_reader.proofs.extraction_bodies.extraction_body.Goals as goal
 

@@ -2,7 +2,7 @@
 use mathlib.Core.Path.{refl, ◌∙◌}
 use mathlib.Core.Option.{none}
 use borrow.Author.Tests.{ne_eqb}
-use Rattle.definitions.specs.Decode.{remainder_of_kind, remainder}
+use Rattle.definitions.specs.Bytes.Decode.{remainder_of_kind, remainder}
 use Rattle.theorems.proofs.ReaderLaws.{after}
 use Rattle.plan_reader.proofs.Extractions.{follows}
 use Rattle.plan_reader.proofs.extraction_bodies.remainder_at.Goals as goal

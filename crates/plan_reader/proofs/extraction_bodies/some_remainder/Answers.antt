@@ -1,7 +1,7 @@
 -- A frame's body, and then its arity.
 use mathlib.Core.Path.{refl, sym, ◌∙◌}
 use mathlib.Core.Option.{some}
-use Rattle.definitions.specs.Decode.{some_remainder}
+use Rattle.definitions.specs.Bytes.Decode.{some_remainder}
 use Rattle.theorems.proofs.ReaderLaws.{after, passes}
 use Rattle.frame_reader.proofs.Standing.{expr-stands}
 use Rattle.plan_reader.proofs.extraction_bodies.some_remainder.Goals as goal

@@ -1,6 +1,6 @@
 -- Two arguments, and then the distance from where the second ended.
 use mathlib.Core.Path.{refl, ◌∙◌}
-use Rattle.definitions.specs.Decode.{argument}
+use Rattle.definitions.specs.Bytes.Decode.{argument}
 use Rattle.theorems.proofs.ReaderLaws.{after, halts}
 use Rattle.node_reader.proofs.Reading.{kept}
 use Rattle.frame_reader.proofs.Standing.{expr-spans}

@@ -1,7 +1,7 @@
 -- KNN is k, its flags and then two arguments.
 use native.Mathlib.Omega.{arith}
 use mathlib.Core.Path.{refl, ◌∙◌}
-use Rattle.definitions.specs.Decode.{knn_predicate}
+use Rattle.definitions.specs.Bytes.Decode.{knn_predicate}
 use Rattle.theorems.proofs.ReaderLaws.{after}
 use Rattle.node_reader.proofs.Standing.{all-bytes}
 use Rattle.node_reader.proofs.Reading.{kept}

@@ -1,7 +1,7 @@
 -- A relation is its type and then two arguments.
 use mathlib.Core.Path.{sym, ap, ◌∙◌}
-use Rattle.definitions.specs.Expression as tree
-use Rattle.definitions.specs.Decode.{relation_predicate}
+use Rattle.definitions.specs.Words.Expression as tree
+use Rattle.definitions.specs.Bytes.Decode.{relation_predicate}
 use Rattle.theorems.proofs.ReaderLaws.{after}
 use Rattle.node_reader.proofs.Reading.{kept}
 use Rattle.node_reader.proofs.Reading.{kept}

@@ -1,6 +1,6 @@
 -- Of the numbers that four bytes hold only 0 is no k.
 use mathlib.Core.Path.{◌∙◌}
-use Rattle.definitions.specs.Decode.{k_field}
+use Rattle.definitions.specs.Bytes.Decode.{k_field}
 use Rattle.theorems.proofs.KLaws.{is-k, zero-no-k}
 use Rattle.theorems.proofs.ReaderLaws.{after, passes, fails}
 use Rattle.node_reader.proofs.Standing.{all-bytes}

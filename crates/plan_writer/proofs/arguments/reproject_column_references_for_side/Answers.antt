@@ -1,8 +1,8 @@
 -- Copied as it stands, or its columns renumbered by the table, into the part from w on.
 use borrow.Author.Rules.{rules}
 use mathlib.Core.Path.{◌≡◌}
-use Rattle.definitions.specs.Encode.{expr_bytes}
-use Rattle.definitions.specs.Expression.{Expr}
+use Rattle.definitions.specs.Bytes.Encode.{expr_bytes}
+use Rattle.definitions.specs.Words.Expression.{Expr}
 use Rattle.terms.specs.declared.sides.JoinSide.TheVariants.{None}
 use Rattle.plan_writer.specs.Arguments.{written}
 use Rattle.plan_writer.proofs.ArgumentLaws.{kept-room, kept_put}

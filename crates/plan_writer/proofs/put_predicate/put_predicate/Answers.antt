@@ -1,7 +1,7 @@
 -- The first byte with the position, and the fields into the part after them.
 use native.Mathlib.Omega.{arith}
-use Rattle.definitions.specs.Basics.{big_endian}
-use Rattle.definitions.specs.Encode.{predicate_fields}
+use Rattle.definitions.specs.Words.Basics.{big_endian}
+use Rattle.definitions.specs.Bytes.Encode.{predicate_fields}
 use Rattle.sedona_query_planner.specs.Predicates.{PredicateAt}
 use Rattle.writing.specs.Writing.{Room}
 use Rattle.writing.proofs.Sequence.{part_room, part-put, ends-within, head-room, rest-room, headed-put}

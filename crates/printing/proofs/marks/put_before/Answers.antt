@@ -1,7 +1,7 @@
 -- `put_before`: nothing before the first child; else a comma, or a binary's operator.
 use mathlib.Core.Path.{◌≡◌}
 use mathlib.Core.List.{◌∷◌}
-use Rattle.definitions.specs.Expression.{Expr}
+use Rattle.definitions.specs.Words.Expression.{Expr}
 use Rattle.printing.specs.Marks.{marked, before_of, PhysicalAt}
 use Rattle.printing.proofs.NodeFields.{kind-within}
 use Rattle.printing.proofs.Sequences.{known-fits, known-puts, mark-fits, mark-written, begins-within, after-fits, after-written, nothing_written}

@@ -2,7 +2,7 @@
 use native.Mathlib.Omega.{arith}
 use mathlib.Core.Path.{◌≡◌}
 use mathlib.Core.List.{[], ◌∷◌}
-use Rattle.definitions.specs.Expression.{Expr}
+use Rattle.definitions.specs.Words.Expression.{Expr}
 use Rattle.printing.specs.Marks.{closing_of, PhysicalAt}
 use Rattle.printing.proofs.NodeFields.{kind-within}
 use Rattle.printing.proofs.Sequences.{known-fits, known-puts, mark-fits, mark-written, nothing_written}

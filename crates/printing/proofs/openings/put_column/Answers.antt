@@ -1,5 +1,5 @@
 -- `put_column`: the index between its marks, and the tag where that ended.
-use Rattle.definitions.specs.Printed.{decimal}
+use Rattle.definitions.specs.Bytes.Printed.{decimal}
 use Rattle.printing.specs.Marks.{marked}
 use Rattle.printing.proofs.Sequences.{both-written}
 use Rattle.printing.proofs.openings.put_column.Goals as goal

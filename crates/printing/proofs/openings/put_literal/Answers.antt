@@ -1,6 +1,6 @@
 -- `put_literal`: the type between its marks, and the digits where that ended.
 use native.Mathlib.Omega.{arith}
-use Rattle.definitions.specs.Program.{digits}
+use Rattle.definitions.specs.Words.Basics.{digits}
 use Rattle.hexadecimal.proofs.EncodeLaws.{length_digits}
 use Rattle.printing.specs.Marks.{marked}
 use Rattle.printing.proofs.Sequences.{second_fits, both-written}

@@ -3,7 +3,7 @@ use Prim.Native.Nat.{◌+◌, ◌≤◌}
 use native.Mathlib.Omega.{arith}
 use mathlib.Core.Path.{◌≡◌, ap}
 use lib.ListN.{get_or}
-use Rattle.definitions.specs.Printed.{decimal_width}
+use Rattle.definitions.specs.Bytes.Printed.{decimal_width}
 use Rattle.printing.proofs.NodeFields.{kind-within, tag-within}
 use Rattle.printing.proofs.SizeLaws.{width_small, few-children, short-name, own-column, own-literal, own-binary, own-call, own-other}
 use Rattle.printing.proofs.sizes.own_size.Goals as goal

@@ -3,7 +3,7 @@ use mathlib.Core.Path.{refl, sym, ap, ◌∙◌}
 use mathlib.Core.Bool.{Bool, ◌||◌}
 use lib.ListN.{get_or}
 use lib.Dec.{eqb}
-use Rattle.definitions.specs.Project as project
+use Rattle.definitions.specs.Filter.Project as project
 use Rattle.projection.proofs.PlaceLaws.{has_next}
 use Rattle.projection.proofs.places.has.Goals as goal
 

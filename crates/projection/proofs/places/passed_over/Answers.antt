@@ -2,7 +2,7 @@
 use Prim.Native.Nat.{◌+◌}
 use native.Mathlib.Omega.{arith}
 use mathlib.Core.Path.{refl, sym, ◌∙◌}
-use Rattle.definitions.specs.Project as project
+use Rattle.definitions.specs.Filter.Project as project
 use Rattle.projection.proofs.PlaceLaws.{no-place, lacks-more}
 use Rattle.projection.proofs.places.passed_over.Goals as goal
 

@@ -3,7 +3,7 @@ use Prim.Native.Nat.{◌-◌, ◌≤◌}
 use mathlib.Core.Path.{◌≡◌}
 use mathlib.Core.Option.{none}
 use lib.ListN.{length, take}
-use Rattle.definitions.specs.Project.{place_in}
+use Rattle.definitions.specs.Filter.Project.{place_in}
 use Rattle.projection.proofs.places.passed_over.Given as goal
 
 abbrev pub invariant-loop-start : goal.invariant-loop-start

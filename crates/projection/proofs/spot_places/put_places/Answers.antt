@@ -4,7 +4,7 @@ use native.Mathlib.Omega.{arith}
 use mathlib.Core.Path.{◌≡◌, sym}
 use mathlib.Core.Option.{some}
 use lib.ListN.{get_or}
-use Rattle.definitions.specs.Project.{place_in}
+use Rattle.definitions.specs.Filter.Project.{place_in}
 use Rattle.projection.proofs.PlaceLaws.{place-within}
 use Rattle.projection.proofs.PlacingLaws.{other-has, other-stays, missing-lacks, found-has, found-placed, placing-goes-on, placing-fails, placing-ends}
 use Rattle.projection.proofs.spot_places.put_places.Goals as goal

@@ -5,7 +5,7 @@ use mathlib.Core.Path.{◌≡◌, ap, ◌∙◌}
 use mathlib.Core.List.{List, []}
 use lib.ListN.{length, get_or, take}
 use lib.Seq.{length-take-le}
-use Rattle.definitions.specs.QueueBytes.{lengths_of}
+use Rattle.definitions.specs.Calls.QueueBytes.{lengths_of}
 use Rattle.theorems.proofs.QueueStates.{lengths-long}
 use Rattle.expression.specs.Places.{short_at}
 use Rattle.queues.proofs.Reading.{count-bad, none_read, length-bad, one-read, all_read, length-cut}

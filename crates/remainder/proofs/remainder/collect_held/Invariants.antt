@@ -1,6 +1,6 @@
 -- `collect_held`: the columns that the row shows outside the leaf are those of what is left, and before the loop no flag was set.
 use lib.ListN.{length}
-use Rattle.definitions.specs.Decode.{index_below}
+use Rattle.definitions.specs.Bytes.Decode.{index_below}
 use Rattle.remainder.specs.Around.{OfLeft}
 use Rattle.remainder.proofs.LeftCopies.{Marking}
 use Rattle.remainder.proofs.remainder.collect_held.Given as goal

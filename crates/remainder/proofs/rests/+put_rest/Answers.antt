@@ -4,9 +4,9 @@ use Prim.Native.Nat.{ℕ, ◌+◌, ◌<◌}
 use native.Mathlib.Omega.{arith}
 use mathlib.Core.Path.{◌≡◌, refl, ◌∙◌, subst⁻¹}
 use lib.ListN.{length}
-use Rattle.definitions.specs.Expression.{Expr, and as expr-and}
-use Rattle.definitions.specs.Encode.{expr_bytes}
-use Rattle.definitions.specs.Decode.{Columns}
+use Rattle.definitions.specs.Words.Expression.{Expr, and as expr-and}
+use Rattle.definitions.specs.Bytes.Encode.{expr_bytes}
+use Rattle.definitions.specs.Bytes.Decode.{Columns}
 use Rattle.expression.specs.Nodes.{Stands}
 use Rattle.expression.specs.Leaves.{Both}
 use Rattle.expression.proofs.Standing.{node-some, first-stands}

@@ -4,9 +4,9 @@ use native.Mathlib.Omega.{arith}
 use mathlib.Core.Path.{◌≡◌, refl, ap, ◌∙◌}
 use lib.ListN.{length}
 use Rattle.expression.proofs.Standing.{spans-between}
-use Rattle.definitions.specs.Decode.{Columns}
-use Rattle.definitions.specs.Encode.{expr_bytes}
-use Rattle.definitions.specs.Expression.{Expr}
+use Rattle.definitions.specs.Bytes.Decode.{Columns}
+use Rattle.definitions.specs.Bytes.Encode.{expr_bytes}
+use Rattle.definitions.specs.Words.Expression.{Expr}
 use Rattle.expression.specs.Nodes.{Stands}
 use Rattle.node_rows.proofs.RowLaws.{tabled-end, tabled-within}
 use Rattle.remainder.proofs.RestLaws.{leaf-goes, leaf-stays}

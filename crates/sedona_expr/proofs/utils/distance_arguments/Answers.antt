@@ -1,5 +1,5 @@
 -- `distance_arguments`: only a function has a name, and it is compared byte by byte.
-use Rattle.definitions.specs.Basics.{ascii}
+use Rattle.definitions.specs.Words.Basics.{ascii}
 use Rattle.sedona_expr.proofs.Comparing.{no_arguments, distance-named}
 use Rattle.sedona_expr.proofs.utils.distance_arguments.Goals as goal
 

@@ -1,7 +1,7 @@
 -- `parse_comparison`: the side that is read must be `st_distance`, and its first two arguments have the indexes after it.
 use native.Mathlib.Omega.{arith}
 use mathlib.Core.Path.{sym, ◌∙◌}
-use Rattle.definitions.specs.Leaves.{comparison}
+use Rattle.definitions.specs.Words.Leaves.{comparison}
 use Rattle.expression.specs.Leaves.{OfPair}
 use Rattle.node_rows.specs.Numbers.{start_at}
 use Rattle.node_rows.proofs.RowLaws.{tabled-within}

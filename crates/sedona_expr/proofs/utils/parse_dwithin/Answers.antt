@@ -1,6 +1,6 @@
 -- `parse_dwithin`: of the functions only `st_dwithin` asks for a distance, and it needs three arguments, one after the other.
 use mathlib.Core.Path.{refl}
-use Rattle.definitions.specs.Basics.{ascii}
+use Rattle.definitions.specs.Words.Basics.{ascii}
 use Rattle.sedona_expr.proofs.Distances.{not-dwithin, dwithin-too-few, two-given, third-within, dwithin-distance}
 use Rattle.sedona_expr.proofs.utils.parse_dwithin.Goals as goal
 

@@ -1,7 +1,7 @@
 -- `swap_for_swapped_children`: the geometries change places, and the side is the other.
 use mathlib.Core.Path.{sym, ap, ◌∙◌}
-use Rattle.definitions.specs.Expression.{Side, distance}
-use Rattle.definitions.specs.Exchange.{exchange_predicate}
+use Rattle.definitions.specs.Words.Expression.{Side, distance}
+use Rattle.definitions.specs.Filter.Exchange.{exchange_predicate}
 use Rattle.terms.specs.Forms.{form_number}
 use Rattle.sedona_query_planner.proofs.spatial_predicate.DistancePredicate.swap_for_swapped_children.Goals as goal
 

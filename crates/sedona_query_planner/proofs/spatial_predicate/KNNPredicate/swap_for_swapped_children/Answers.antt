@@ -1,7 +1,7 @@
 -- `swap_for_swapped_children`: query and object stay, and the probe side is the other.
 use mathlib.Core.Path.{sym, ap, ◌∙◌}
-use Rattle.definitions.specs.Expression.{Side, knn}
-use Rattle.definitions.specs.Exchange.{exchange_predicate}
+use Rattle.definitions.specs.Words.Expression.{Side, knn}
+use Rattle.definitions.specs.Filter.Exchange.{exchange_predicate}
 use Rattle.sedona_query_planner.specs.Predicates.{flag, ties_number}
 use Rattle.sedona_query_planner.proofs.spatial_predicate.KNNPredicate.swap_for_swapped_children.Goals as goal
 

@@ -1,7 +1,7 @@
 -- `swap_for_swapped_children`: the arguments change places, and the type is its inverse.
 use mathlib.Core.Path.{sym, ap, ◌∙◌}
-use Rattle.definitions.specs.Expression.{Relation, relation}
-use Rattle.definitions.specs.Exchange.{exchange_predicate}
+use Rattle.definitions.specs.Words.Expression.{Relation, relation}
+use Rattle.definitions.specs.Filter.Exchange.{exchange_predicate}
 use Rattle.sedona_query_planner.proofs.spatial_predicate.RelationPredicate.swap_for_swapped_children.Goals as goal
 
 pub returns : goal.returns

@@ -1,7 +1,7 @@
 -- The definition asks for the names in the same order.
-use Rattle.definitions.specs.Basics.{ascii, any}
-use Rattle.definitions.specs.Expression.{relations}
-use Rattle.definitions.specs.Leaves.{type_named, relation_named}
+use Rattle.definitions.specs.Words.Basics.{ascii, any}
+use Rattle.definitions.specs.Words.Expression.{relations}
+use Rattle.definitions.specs.Words.Leaves.{type_named, relation_named}
 use Rattle.sedona_query_planner.proofs.spatial_predicate.SpatialRelationType.from_name.Goals as goal
 
 pub returns-then-same_name : goal.returns-then-same_name

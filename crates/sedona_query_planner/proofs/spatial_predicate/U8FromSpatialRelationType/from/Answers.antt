@@ -2,8 +2,8 @@
 use mathlib.Core.Path.{◌≡◌, refl}
 use mathlib.Core.Bool.{decide}
 use denote.Enum.Declared.{tag_of}
-use Rattle.definitions.specs.Expression.{relations}
-use Rattle.definitions.specs.Encode.{position_in, relation_number}
+use Rattle.definitions.specs.Words.Expression.{relations}
+use Rattle.definitions.specs.Bytes.Encode.{position_in, relation_number}
 use Rattle.sedona_query_planner.specs.Relations.{relation_of}
 use Rattle.sedona_query_planner.specs.contracts.spatial_predicate.SpatialRelationType.{the_type}
 use Rattle.sedona_query_planner.specs.declared.spatial_predicate.SpatialRelationType.{SpatialRelationType}
