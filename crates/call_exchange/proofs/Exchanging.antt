@@ -22,8 +22,8 @@ use Rattle.plan_reader.specs.Plans.{HeldIs, NotHeld, no_bytes, no_good}
 use Rattle.plan_reader.specs.declared.extraction_bodies.Held.{Held}
 use Rattle.plan_reader.specs.declared.extraction_bodies.Held.TheVariants as there
 use Rattle.call_exchange.specs.Exchanged.{PlanAt, HeldPlan, PlanIs}
-use Rattle.join_filter.proofs.Refusing.{exchange-call, refuses, outcome, no-plan, empty-plan}
-use Rattle.join_filter.proofs.Keeping.{plan-length, held-is, plan-size, kept, kept-length, kept-over}
+use Rattle.call_answers.proofs.Refusing.{exchange-call, refuses, outcome, no-plan, empty-plan}
+use Rattle.call_answers.proofs.Keeping.{plan-length, held-is, plan-size, kept, kept-length, kept-over}
 
 -- A plan that an exchange takes.
 abbrev pub Exchangeable : Plan → Type 0

@@ -16,14 +16,14 @@ use Rattle.plan_reader.specs.Plans.{RemainderAt, ExtractionAt}
 use Rattle.frame_reader.specs.declared.frame_bodies.Frame.{Frame}
 use Rattle.std.specs.Prelude.{Some}
 use Rattle.plan_reader.specs.declared.extraction_bodies.Extraction.{Extraction}
-use Rattle.writing.specs.Writing.{Both, joined, same}
+use Rattle.byte_writer.specs.Writing.{Both, joined, same}
 use Rattle.sedona_query_planner.specs.Predicates.{unchanged, PredicateAt, Exchanges}
 use Rattle.sedona_query_planner.specs.declared.spatial_predicate.SpatialPredicate.{SpatialPredicate}
 use Rattle.plan_writer.specs.Predicates.{predicate_bytes, frame_head}
 use Rattle.call_exchange.specs.Held.{RecordsAt}
 use Rattle.call_exchange.specs.ExchangedBytes.{records_exchanged, frame_exchanged, remainder_exchanged, extraction_exchanged}
-use Rattle.writing.proofs.Sequence.{Headed}
-use Rattle.writing.proofs.SpanLaws.{there}
+use Rattle.byte_writer.proofs.Sequence.{Headed}
+use Rattle.byte_writer.proofs.SpanLaws.{there}
 
 pub nothing-bytes : (R : Option tree.Frame) → R ≡ none → remainder_exchanged R ≡ 0 ∷ []
 unfolding remainder_bytes

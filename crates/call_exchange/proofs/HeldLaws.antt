@@ -9,7 +9,7 @@ use Rattle.definitions.specs.Bytes.Encode.{plan_bytes}
 use Rattle.definitions.specs.Filter.Exchange.{exchange_plan}
 use Rattle.definitions.specs.Calls.Base.{written_over}
 use Rattle.theorems.proofs.ExchangeGood.{plan-as-long}
-use Rattle.writing.specs.Writing.{Room, Puts}
+use Rattle.byte_writer.specs.Writing.{Room, Puts}
 use Rattle.call_exchange.specs.ExchangedBytes.{frame_exchanged, extraction_exchanged}
 use Rattle.call_exchange.specs.Exchanged.{HeldPlan, ExchangedPlan}
 

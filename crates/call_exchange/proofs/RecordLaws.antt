@@ -13,10 +13,10 @@ use Rattle.definitions.specs.Bytes.Encode.{side_number, record_bytes, records_by
 use Rattle.definitions.specs.Bytes.Decode.{side_numbered}
 use Rattle.definitions.specs.Filter.Exchange.{negate, exchange_record}
 use Rattle.theorems.proofs.ExchangeGood.{records-length}
-use Rattle.writing.specs.Writing.{Room, Puts}
+use Rattle.byte_writer.specs.Writing.{Room, Puts}
 use Rattle.call_exchange.specs.Held.{RecordsAt}
 use Rattle.call_exchange.specs.ExchangedBytes.{records_exchanged}
-use Rattle.writing.proofs.Written.{taken}
+use Rattle.byte_writer.proofs.Written.{taken}
 
 -- The bytes of records of which the first i are exchanged.
 abbrev pub begun : ℕ → List Record → List ℕ

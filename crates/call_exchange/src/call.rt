@@ -1,12 +1,12 @@
 // The call exchange.
 ghost use Rattle.definitions.specs.Calls.Base as definitions;
-ghost use Rattle.join_filter.specs.Outcomes.{OutcomeIs};
+ghost use Rattle.call_answers.specs.Outcomes.{OutcomeIs};
 
 use super::exchanged_plans::exchange_plan;
-use join_filter::answers::Answer;
+use byte_writer::copies::copy_bytes;
+use call_answers::answers::Answer;
 use plan_reader::held_plans::held_plan;
 use terms::refusals::Refusal;
-use writing::copies::copy_bytes;
 
 // Copies a held frame or extraction to the scratch, then writes its exchange over the plan's start.
 pub fn exchange(plan: &mut [u8], n: usize, scratch: &mut [u8]) -> Answer

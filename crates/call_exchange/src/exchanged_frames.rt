@@ -2,15 +2,15 @@
 ghost use Rattle.std.specs.Prelude.{◌+◌, ◌*◌, ◌≤◌, ◌≡◌, length};
 ghost use Rattle.frame_reader.specs.Frames.{FrameAt};
 ghost use Rattle.plan_reader.specs.Plans.{RemainderAt};
-ghost use Rattle.writing.specs.Writing.{Room, Puts, PutsAt};
+ghost use Rattle.byte_writer.specs.Writing.{Room, Puts, PutsAt};
 ghost use Rattle.call_exchange.specs.Held.{RecordsAt};
 ghost use Rattle.call_exchange.specs.ExchangedBytes.{records_exchanged, frame_exchanged, remainder_exchanged};
 
+use byte_writer::copies::{copy_at, copy_bytes};
 use frame_reader::frame_bodies::Frame;
 use plan_writer::frame_heads::put_frame_head;
 use plan_writer::records::Records;
 use terms::sides::negated_number;
-use writing::copies::{copy_at, copy_bytes};
 
 // Records are copied, then the side of each is negated where it stands.
 fn put_records_exchanged(out: &mut [u8], records: Records) -> usize

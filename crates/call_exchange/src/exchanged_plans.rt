@@ -1,5 +1,5 @@
 // A held plan exchanged: written over the plan's start from a copy of the old plan, which ends at `end`.
-ghost use Rattle.writing.specs.Writing.{Room, Puts};
+ghost use Rattle.byte_writer.specs.Writing.{Room, Puts};
 ghost use Rattle.plan_reader.specs.Plans.{ExtractionAt};
 ghost use Rattle.call_exchange.specs.ExchangedBytes.{extraction_exchanged};
 ghost use Rattle.call_exchange.specs.Exchanged.{PlanAt, HeldPlan, ExchangedPlan};

@@ -3,13 +3,13 @@ ghost use Rattle.definitions.specs.Calls.Explain as definitions;
 ghost use Rattle.terms.specs.Settings.{settings_of};
 ghost use Rattle.call_explain.specs.Answers.{ExplainedIs};
 
+use byte_writer::copies::copy_bytes;
 use frame_reader::frames::physical_frame;
 use leaf_verdicts::asked::Asked;
 use leaf_verdicts::taken::{TakenLeaf, named_by};
 use leaf_verdicts::walk::put_verdicts;
 use terms::refusals::Refusal;
 use terms::settings::Settings;
-use writing::copies::copy_bytes;
 
 // How many verdicts there are, and the AND-leaf that is taken, if one is.
 #[derive(Clone, Copy)]

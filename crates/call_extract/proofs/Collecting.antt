@@ -15,7 +15,7 @@ use Rattle.frame_reader.proofs.Standing.{expr-stands}
 use Rattle.frame_reader.proofs.FrameRows.{clear-roomy}
 use Rattle.plan_reader.specs.declared.extraction_bodies.Held.TheVariants as held
 use Rattle.plan_reader.specs.Plans.{HoldsFrame, HeldIn}
-use Rattle.join_filter.proofs.Keeping.{plan-size, plan-length}
+use Rattle.call_answers.proofs.Keeping.{plan-size, plan-length}
 use Rattle.node_rows.specs.Rows.{Tabled}
 use Rattle.node_rows.proofs.NodeBytes.{nodes-by-bytes}
 use Rattle.node_rows.proofs.OneTree.{of_tree}

@@ -29,11 +29,11 @@ use Rattle.leaf_pick.specs.Picks.{TakenIs}
 use Rattle.leaf_pick.specs.declared.first_match.Pick as picks
 use Rattle.call_extract.specs.Extractions.{Taking, takes, ExtractionFits, ExtractionPut}
 use Rattle.frame_reader.proofs.Standing.{between-holds, expr-stands}
-use Rattle.join_filter.proofs.Refusing.{extract-call, outcome}
+use Rattle.call_answers.proofs.Refusing.{extract-call, outcome}
 use Rattle.terms.specs.declared.refusals.Refusal.TheVariants.{BufferTooShort, NoLeafMatches}
-use Rattle.join_filter.specs.Outcomes.{ExtractIs, unwalked}
-use Rattle.join_filter.proofs.Walking.{walk_of-frame}
-use Rattle.join_filter.proofs.Keeping.{held-is, plan-size, kept, kept-over}
+use Rattle.call_answers.specs.Outcomes.{ExtractIs, unwalked}
+use Rattle.call_answers.proofs.Walking.{walk_of-frame}
+use Rattle.call_answers.proofs.Keeping.{held-is, plan-size, kept, kept-over}
 
 -- ---- a held frame
 

@@ -14,12 +14,12 @@ use Rattle.definitions.specs.Filter.Settings.{Settings, good_settings, default_s
 use Rattle.theorems.proofs.Proved.{default-settings}
 use Rattle.definitions.specs.Bytes.Plans.{plan_of}
 use Rattle.plan_reader.specs.Plans.{NotHeld, no_bytes, no_good}
-use Rattle.join_filter.proofs.Walking.{bad-refused, empty-refused, extracted-refused, long-refused}
-use Rattle.join_filter.proofs.Settling.{lent-24, lent-settled}
+use Rattle.call_answers.proofs.Walking.{bad-refused, empty-refused, extracted-refused, long-refused}
+use Rattle.call_answers.proofs.Settling.{lent-24, lent-settled}
 use Rattle.terms.specs.declared.refusals.Refusal.{Refusal}
 use Rattle.terms.specs.declared.refusals.Refusal.TheVariants.{NoGoodPlan, AlreadyExtracted, BadSettings}
-use Rattle.join_filter.specs.Outcomes.{ExtractIs, unwalked}
-use Rattle.join_filter.specs.declared.answers.Extracted.{Extracted}
+use Rattle.call_answers.specs.Outcomes.{ExtractIs, unwalked}
+use Rattle.call_answers.specs.declared.answers.Extracted.{Extracted}
 use Rattle.std.specs.Borrow.{Bor}
 use Rattle.node_table.specs.declared.NodeRecord.{NodeRecord as Lent}
 use Rattle.node_table.specs.Records.{nodes_of}

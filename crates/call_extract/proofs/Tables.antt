@@ -22,13 +22,13 @@ use Rattle.frame_reader.specs.declared.frame_bodies.Frame.{Frame}
 use Rattle.expression.proofs.Placed.{fits}
 use Rattle.frame_reader.proofs.Standing.{expr-stands}
 use Rattle.plan_reader.specs.Plans.{HoldsFrame, NotHeld, no_bytes, no_good}
-use Rattle.join_filter.proofs.Keeping.{held-is, plan-length, plan-size}
+use Rattle.call_answers.proofs.Keeping.{held-is, plan-length, plan-size}
 use Rattle.terms.specs.declared.refusals.Refusal.{Refusal}
 use Rattle.terms.specs.declared.refusals.Refusal.TheVariants.{NoGoodPlan, PlanEmpty, AlreadyExtracted}
-use Rattle.join_filter.specs.Outcomes.{ExtractIs, unwalked}
-use Rattle.join_filter.specs.declared.answers.Extracted.{Extracted}
-use Rattle.join_filter.proofs.Walking.{bad-refused, empty-refused, extracted-refused}
-use Rattle.writing.proofs.Written.{taken}
+use Rattle.call_answers.specs.Outcomes.{ExtractIs, unwalked}
+use Rattle.call_answers.specs.declared.answers.Extracted.{Extracted}
+use Rattle.call_answers.proofs.Walking.{bad-refused, empty-refused, extracted-refused}
+use Rattle.byte_writer.proofs.Written.{taken}
 use Rattle.node_rows.specs.Numbers.{number}
 use Rattle.node_rows.specs.Rows.{Tabled}
 use Rattle.node_rows.specs.Stores.{SameIs}

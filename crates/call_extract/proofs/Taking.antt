@@ -12,9 +12,9 @@ use Rattle.expression.specs.Nodes.{Stands}
 use Rattle.frame_reader.specs.declared.frame_bodies.Frame.{Frame}
 use Rattle.sedona_query_planner.specs.Predicates.{PredicateAt}
 use Rattle.leaf_pick.specs.declared.first_match.Pick.{Pick}
-use Rattle.writing.specs.Written.{Wrote}
-use Rattle.writing.specs.Writing.{Room, Puts}
-use Rattle.writing.proofs.Written.{behind, together, behind-length, then-wrote}
+use Rattle.byte_writer.specs.Written.{Wrote}
+use Rattle.byte_writer.specs.Writing.{Room, Puts}
+use Rattle.byte_writer.proofs.Written.{behind, together, behind-length, then-wrote}
 use Rattle.plan_writer.specs.Tables.{ChildTable}
 use Rattle.plan_writer.specs.Arguments.{table_change}
 use Rattle.plan_writer.specs.Predicates.{predicate_bytes}

@@ -5,8 +5,8 @@ use Rattle.definitions.specs.Filter.Extract.{Matcher}
 use Rattle.definitions.specs.Calls.Base.{extract_by, extract_walk_by}
 use Rattle.definitions.specs.Filter.Settings.{Settings}
 use Rattle.definitions.specs.Calls.Settings.{extract_under, extract_walk_under}
-use Rattle.join_filter.specs.Outcomes.{ExtractIs}
-use Rattle.join_filter.specs.declared.answers.Extracted.{Extracted}
+use Rattle.call_answers.specs.Outcomes.{ExtractIs}
+use Rattle.call_answers.specs.declared.answers.Extracted.{Extracted}
 
 -- The extract with a matcher and a table is the definition's,
 abbrev pub ExtractsWith : Matcher → (n : ℕ) (before scratch : List ℕ) (table : List NodeRecord) (after kept : List ℕ) → Extracted → Type 0

@@ -10,7 +10,7 @@ use Rattle.frame_reader.specs.declared.frame_bodies.Frame.{Frame}
 use Rattle.sedona_query_planner.specs.Predicates.{on_children, PredicateAt}
 use Rattle.expression.specs.Cuts.{CutAt}
 use Rattle.leaf_pick.specs.declared.first_match.Pick.{Pick}
-use Rattle.writing.specs.Written.{Wrote}
+use Rattle.byte_writer.specs.Written.{Wrote}
 use Rattle.plan_writer.specs.Tables.{Entries}
 
 -- The frame F stands in s, and the pick takes its leaf at the pick's position, which is the predicate q.

@@ -5,8 +5,8 @@ use Rattle.definitions.specs.Words.Basics.{refused}
 use Rattle.definitions.specs.Filter.Extract.{Matcher}
 use Rattle.definitions.specs.Calls.Base.{Outcome, finish, extract_filled_by, walk_filled_by}
 use Rattle.definitions.specs.Filter.Settings.{Settings, good_settings, match_under}
-use Rattle.join_filter.specs.Outcomes.{ExtractIs}
-use Rattle.join_filter.specs.declared.answers.Extracted.{Extracted}
+use Rattle.call_answers.specs.Outcomes.{ExtractIs}
+use Rattle.call_answers.specs.declared.answers.Extracted.{Extracted}
 use Rattle.node_table.specs.declared.NodeRecord.{NodeRecord as Lent}
 use Rattle.node_table.specs.Records.{nodes_of}
 use Rattle.call_extract.specs.ExtractByTable.{ExtractsWith, ByTable}

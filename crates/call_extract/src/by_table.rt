@@ -4,7 +4,7 @@ ghost use Rattle.call_extract.specs.ExtractByTable.{ByTable};
 ghost use Rattle.node_table.specs.Records.{nodes_of};
 
 use super::call::extract_settled;
-use join_filter::answers::Extracted;
+use call_answers::answers::Extracted;
 use node_table::NodeRecord;
 use terms::settings::Settings;
 

@@ -4,12 +4,12 @@
 ghost use Rattle.std.specs.Prelude.{◌/◌, ◌≤◌, min, length};
 ghost use Rattle.definitions.specs.Filter.Settings.{match_under};
 ghost use Rattle.terms.specs.Settings.{settings_of};
-ghost use Rattle.join_filter.specs.Outcomes.{ExtractIs};
+ghost use Rattle.call_answers.specs.Outcomes.{ExtractIs};
 ghost use Rattle.call_extract.specs.Settled.{HeldBy, SettledBy, filled_under, walk_under};
 
 use super::compared::extract_compared;
-use super::held_frame::{Listed, extract_frame};
-use join_filter::answers::Extracted;
+use super::held_frame::{RowedFrame, extract_frame};
+use call_answers::answers::Extracted;
 use node_rows::rows::Rows;
 use node_table::NodeRecord;
 use plan_reader::extraction_bodies::Held;
@@ -41,7 +41,7 @@ fn extract_held<const N: usize>(
         numbers: &numbers,
         next: &next,
     };
-    let held = Listed { frame, rows };
+    let held = RowedFrame { frame, rows };
     match table {
         Some(table) => extract_compared(plan, n, scratch, held, table, settings),
         None => extract_frame(plan, n, scratch, held, settings),

@@ -6,8 +6,8 @@ ghost use Rattle.call_extract.specs.FrameRows.{Indexed};
 ghost use Rattle.call_extract.specs.ExtractByTable.{ExtractsWith};
 ghost use Rattle.node_table.specs.Records.{nodes_of};
 
-use super::held_frame::{Listed, extract_frame};
-use join_filter::answers::Extracted;
+use super::held_frame::{RowedFrame, extract_frame};
+use call_answers::answers::Extracted;
 use node_table::{NodeRecord, same_nodes};
 use terms::checked::Checked;
 use terms::refusals::Refusal;
@@ -17,7 +17,7 @@ pub fn extract_compared(
     plan: &mut [u8],
     n: usize,
     scratch: &mut [u8],
-    held: Listed,
+    held: RowedFrame,
     table: &[NodeRecord],
     settings: Checked,
 ) -> Extracted

@@ -2,23 +2,23 @@
 ghost use Rattle.definitions.specs.Calls.Base as definitions;
 ghost use Rattle.definitions.specs.Filter.Settings.{match_under};
 ghost use Rattle.terms.specs.Settings.{settings_of};
-ghost use Rattle.join_filter.specs.Outcomes.{ExtractIs};
+ghost use Rattle.call_answers.specs.Outcomes.{ExtractIs};
 ghost use Rattle.plan_reader.specs.Plans.{HoldsFrame};
 ghost use Rattle.call_extract.specs.FrameRows.{Indexed};
 
 use super::extraction::put_extraction;
+use byte_writer::copies::copy_bytes;
+use call_answers::answers::Extracted;
 use frame_reader::frame_bodies::Frame;
-use join_filter::answers::Extracted;
 use leaf_matching::filter::Filter;
 use leaf_pick::one_walk::extract_in_one_walk;
 use node_rows::rows::Rows;
 use terms::checked::Checked;
 use terms::refusals::Refusal;
-use writing::copies::copy_bytes;
 
 // A held frame, and the rows that its nodes are in.
 #[derive(Clone, Copy)]
-pub struct Listed<'a> {
+pub struct RowedFrame<'a> {
     pub frame: Frame,
     pub rows: Rows<'a>,
 }
@@ -28,7 +28,7 @@ pub fn extract_frame(
     plan: &mut [u8],
     n: usize,
     scratch: &mut [u8],
-    held: Listed,
+    held: RowedFrame,
     settings: Checked,
 ) -> Extracted
     requires holds_frame { HoldsFrame n plan.old held.frame }

@@ -26,8 +26,8 @@ use Rattle.theorems.proofs.Pick.{leaves-nodes}
 use Rattle.node_rows.proofs.NodeBytes.{nodes-by-bytes}
 use Rattle.expression.specs.Places.{Holds}
 use Rattle.expression.specs.Nodes.{Stands}
-use Rattle.writing.specs.Written.{Wrote}
-use Rattle.writing.proofs.Written.{taken, behind, together, behind-length, together-length, then-wrote, from_start, copied-wrote}
+use Rattle.byte_writer.specs.Written.{Wrote}
+use Rattle.byte_writer.proofs.Written.{taken, behind, together, behind-length, together-length, then-wrote, from_start, copied-wrote}
 use Rattle.frame_reader.specs.declared.frame_bodies.Frame.{Frame}
 use Rattle.frame_reader.proofs.Standing.{between-holds, expr-stands}
 use Rattle.plan_writer.specs.Tables.{Entries, ChildTable}
@@ -37,8 +37,8 @@ use Rattle.remainder.specs.Pruned.{Prunable}
 use Rattle.remainder.specs.Last.{last_bytes, Left, LastFits, LastPut}
 use Rattle.remainder.proofs.LastLaws.{wrote-there}
 use Rattle.call_extract_all.specs.Listings.{listed, match_flag, Listable, ListFits, ListIs}
-use Rattle.call_extract_all.specs.declared.listing.Listed.{Listed}
-use Rattle.call_extract_all.specs.Conjuncts.{GoodAt, Counted, left_bytes, LeftFits, LeftPut, all_bytes, AllIs, Memory}
+use Rattle.call_extract_all.specs.declared.listing.Tally.{Tally}
+use Rattle.call_extract_all.specs.Conjuncts.{GoodAt, FlaggedLeaves, last_left_bytes, LeftFits, LeftPut, all_bytes, AllIs, Memory}
 
 -- ---- flags and their number
 
@@ -76,7 +76,7 @@ abbrev without : Matcher → tree.Frame → Option tree.Frame
 without match F = Option.map (prune F.records) (without_all (goes_of match F) F.expr)
 
 by-count : (match : Matcher) (F : tree.Frame) (b : Bool) → any is_match (matched match F) ≡ b
-    → left_bytes match F ≡ remainder_bytes (if b then without match F else some F)
+    → last_left_bytes match F ≡ remainder_bytes (if b then without match F else some F)
 unfolding last_remainder matches_by
 by-count match F b e = ap (λ (x : Bool). remainder_bytes (if x then without match F else some F)) e
 
@@ -125,7 +125,7 @@ module _ {s : List ℕ} {f : Frame} {F : tree.Frame} (g : GoodAt s f F) where
 
   -- ---- the last remainder
 
-  module _ {match : Matcher} {gone : List ℕ} {rounds : ℕ} (told : Counted match gone rounds F) where
+  module _ {match : Matcher} {gone : List ℕ} {rounds : ℕ} (told : FlaggedLeaves match gone rounds F) where
     left : Left s f.records f.columns f.root gone (goes_of match F) F.records F.expr
     left = record {
       frame = prunable;
@@ -134,19 +134,19 @@ module _ {s : List ℕ} {f : Frame} {F : tree.Frame} (g : GoodAt s f F) where
     }
 
     -- Without a match it is the frame.
-    pub whole-left : rounds ≡ 0 → left_bytes match F ≡ s
+    pub whole-left : rounds ≡ 0 → last_left_bytes match F ≡ s
     whole-left e = by-count match F false (none-match (matched match F) (sym told.matching ∙ e)) ∙ whole-bytes F ∙ sym g.bytes
 
-    pub some_left : (rounds ≡ 0 → ⊥) → left_bytes match F ≡ last_bytes (goes_of match F) F.records F.expr
+    pub some_left : (rounds ≡ 0 → ⊥) → last_left_bytes match F ≡ last_bytes (goes_of match F) F.records F.expr
     some_left n = by-count match F true (some-match (matched match F) (λ e. n (told.matching ∙ e)))
 
     pub whole-put : (before after : List ℕ) → rounds ≡ 0 → after ≡ take (length s) (drop 0 s) ++ drop (length s) before
-        → (length s ≡ length (left_bytes match F)) × Wrote (left_bytes match F) before after
+        → (length s ≡ length (last_left_bytes match F)) × Wrote (last_left_bytes match F) before after
     whole-put before after e is =
         subst (λ (x : List ℕ). (length s ≡ length x) × Wrote x before after) (sym (whole-left e))
         (refl, is ∙ ap (λ (l : List ℕ). l ++ drop (length s) before) (take_all (length s) s (omega arith)))
 
-    pub last_fits : {row out : List ℕ} → (rounds ≡ 0 → ⊥) → length s ≤ length row → length (left_bytes match F) ≤ length out
+    pub last_fits : {row out : List ℕ} → (rounds ≡ 0 → ⊥) → length s ≤ length row → length (last_left_bytes match F) ≤ length out
         → LastFits s f.records f.columns f.root gone row out
     last_fits n long room = record {
       goes = goes_of match F;
@@ -159,7 +159,7 @@ module _ {s : List ℕ} {f : Frame} {F : tree.Frame} (g : GoodAt s f F) where
 
     pub last-put : (before after : List ℕ) (r : ℕ) → (rounds ≡ 0 → ⊥)
         → LastPut s f.records f.columns f.root gone before after r
-        → (r ≡ length (left_bytes match F)) × Wrote (left_bytes match F) before after
+        → (r ≡ length (last_left_bytes match F)) × Wrote (last_left_bytes match F) before after
     last-put before after r n put =
         subst (λ (x : List ℕ). (r ≡ length x) × Wrote x before after) (sym (some_left n)) (put (goes_of match F) F.records F.expr left)
 
@@ -175,16 +175,16 @@ module _ {s : List ℕ} {f : Frame} {F : tree.Frame} (g : GoodAt s f F) where
     abbrev others : List ℕ
     others = listed is_other 0 (matched match F)
 
-    parts : all_bytes match F ≡ knns ++ (others ++ left_bytes match F)
+    parts : all_bytes match F ≡ knns ++ (others ++ last_left_bytes match F)
     unfolding matches_by
     parts =
         all-taken.written F g.good
         ∙ ap (λ (n : ℕ). picks_bytes (matching is_knn (positions_from 0 n) (matched match F))
-        ++ (picks_bytes (matching is_other (positions_from 0 n) (matched match F)) ++ left_bytes match F)) (sym as-many)
+        ++ (picks_bytes (matching is_other (positions_from 0 n) (matched match F)) ++ last_left_bytes match F)) (sym as-many)
 
-    sizes : length (all_bytes match F) ≡ length knns + (length others + length (left_bytes match F))
-    sizes = ap length parts ∙ length-append knns (others ++ left_bytes match F)
-        ∙ ap (λ (n : ℕ). length knns + n) (length-append others (left_bytes match F))
+    sizes : length (all_bytes match F) ≡ length knns + (length others + length (last_left_bytes match F))
+    sizes = ap length parts ∙ length-append knns (others ++ last_left_bytes match F)
+        ∙ ap (λ (n : ℕ). length knns + n) (length-append others (last_left_bytes match F))
 
     -- All conjuncts take no more bytes than the frame.
     pub never-longer : length (all_bytes match F) ≤ length s
@@ -206,7 +206,7 @@ module _ {s : List ℕ} {f : Frame} {F : tree.Frame} (g : GoodAt s f F) where
     }
 
     -- What it wrote, and the others copied behind the KNN matches.
-    module _ {out middle row turned flags flagged : List ℕ} {r : Listed}
+    module _ {out middle row turned flags flagged : List ℕ} {r : Tally}
         (is : ListIs 0 (matched match F) out middle row turned flags flagged r)
         (same : length middle ≡ length out) (alike : length turned ≡ length row) (kept : length flagged ≡ length flags) where
       others-there : Holds turned 0 others
@@ -224,14 +224,14 @@ module _ {s : List ℕ} {f : Frame} {F : tree.Frame} (g : GoodAt s f F) where
       abbrev leaves_gone : List ℕ
       leaves_gone = take r.position flagged
 
-      pub told-after : Counted match leaves_gone r.rounds F
+      pub told-after : FlaggedLeaves match leaves_gone r.rounds F
       told-after =
-          let all : Counted match leaf_flags r.rounds F = record {
+          let all : FlaggedLeaves match leaf_flags r.rounds F = record {
             counted = omega (arith, as-many, length-map (matched match F) match_flag);
             matching = is.rounds;
             flags = record { rest = []; bytes = sym (append-nil leaf_flags); within = omega arith };
           } in
-          subst (λ (l : List ℕ). Counted match l r.rounds F) (sym flags-are) all
+          subst (λ (l : List ℕ). FlaggedLeaves match l r.rounds F) (sym flags-are) all
 
       module _ (room : length (all_bytes match F) ≤ length out) (big : length s ≤ length row) where
         pub copy-fits : (r.knn ≤ length middle) × (r.other ≤ length turned) × (r.other ≤ length (behind r.knn middle))
@@ -286,6 +286,6 @@ module _ {s : List ℕ} {f : Frame} {F : tree.Frame} (g : GoodAt s f F) where
             rounds = is.rounds ∙ sym (all-taken.how_many F g.good).0;
             size = ends;
             wrote =
-                subst (λ (x : List ℕ). Wrote x out (together w listing end)) (append_assoc knns others (left_bytes match F) ∙ sym parts)
-                (then-wrote (knns ++ others) (left_bytes match F) out listing end w both-size both-wrote (put match F g told-after).1);
+                subst (λ (x : List ℕ). Wrote x out (together w listing end)) (append_assoc knns others (last_left_bytes match F) ∙ sym parts)
+                (then-wrote (knns ++ others) (last_left_bytes match F) out listing end w both-size both-wrote (put match F g told-after).1);
           }

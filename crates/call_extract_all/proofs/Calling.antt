@@ -25,7 +25,7 @@ use Rattle.theorems.proofs.SettingsClaimed.{all-settings-hold, bad-settings-refu
 use Rattle.expression.specs.Nodes.{OfTree}
 use Rattle.node_rows.specs.Rows.{Tabled}
 use Rattle.node_rows.proofs.OneTree.{of_tree}
-use Rattle.writing.proofs.Written.{copied-wrote, from_start}
+use Rattle.byte_writer.proofs.Written.{copied-wrote, from_start}
 use Rattle.frame_reader.specs.Frames.{PhysicalIn}
 use Rattle.frame_reader.specs.declared.frame_bodies.Frame.{Frame}
 use Rattle.frame_reader.proofs.Standing.{expr-stands}

@@ -13,9 +13,9 @@ use Rattle.definitions.specs.Words.Leaves.{leaves}
 use Rattle.definitions.specs.Filter.Extract.{is_knn, Matcher}
 use Rattle.definitions.specs.Filter.Conjuncts.{positions_from, matching, is_other, match_count}
 use Rattle.definitions.specs.Calls.ExtractAll.{pick_bytes, picks_bytes}
-use Rattle.writing.specs.Written.{Wrote}
-use Rattle.writing.specs.Writing.{Room}
-use Rattle.writing.proofs.Written.{store}
+use Rattle.byte_writer.specs.Written.{Wrote}
+use Rattle.byte_writer.specs.Writing.{Room}
+use Rattle.byte_writer.proofs.Written.{store}
 use Rattle.plan_writer.specs.Predicates.{predicate_bytes}
 use Rattle.sedona_query_planner.specs.Predicates.{on_children, PredicateAt}
 use Rattle.sedona_query_planner.specs.declared.spatial_predicate.SpatialPredicate.{SpatialPredicate}
@@ -30,7 +30,7 @@ use Rattle.leaf_matching.proofs.Asked.{none-lacks}
 use Rattle.leaf_pick.specs.Picks as picks
 use Rattle.leaf_pick.specs.Picks.{matches}
 use Rattle.call_extract_all.specs.Listings.{listed, Listable, ListFits, ListIs}
-use Rattle.call_extract_all.specs.declared.listing.Listed.{Listed}
+use Rattle.call_extract_all.specs.declared.listing.Tally.{Tally}
 
 -- ---- the bytes of one match
 
@@ -165,7 +165,7 @@ module _ {match : Matcher} {s : List ℕ} {rec count at position : ℕ} {to knns
 
 -- The list of a leaf is that of its match.
 pub leaf-is : (match : Matcher) (records : List Record) {t : Expr} {position : ℕ}
-    {knns knns' others others' gone gone' : List ℕ} {r : Listed}
+    {knns knns' others others' gone gone' : List ℕ} {r : Tally}
     → leaves t ≡ t ∷ [] → (m : Option Predicate) → match records t ≡ m → ListIs position (m ∷ []) knns knns' others others' gone gone' r
     → ListIs position (matches match records t) knns knns' others others' gone gone' r
 leaf-is match records {t} {position} {knns} {knns'} {others} {others'} {gone} {gone'} {r} single m e h =

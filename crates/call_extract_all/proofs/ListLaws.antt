@@ -10,11 +10,11 @@ use Rattle.definitions.specs.Words.Leaves.{leaves}
 use Rattle.definitions.specs.Filter.Extract.{is_knn, Matcher}
 use Rattle.definitions.specs.Filter.Conjuncts.{is_other}
 use Rattle.theorems.proofs.AllParts.{bytes-append, count-append}
-use Rattle.writing.specs.Written.{Wrote, WroteAt}
-use Rattle.writing.proofs.Written.{behind, together, then-wrote, chain}
+use Rattle.byte_writer.specs.Written.{Wrote, WroteAt}
+use Rattle.byte_writer.proofs.Written.{behind, together, then-wrote, chain}
 use Rattle.leaf_pick.specs.Picks.{matches}
 use Rattle.call_extract_all.specs.Listings.{listed, match_flag, ListIs}
-use Rattle.call_extract_all.specs.declared.listing.Listed.{Listed}
+use Rattle.call_extract_all.specs.declared.listing.Tally.{Tally}
 
 pub and-matches : (match : Matcher) (records : List Record) (l r : Expr)
     → matches match records (and l r) ≡ matches match records l ++ matches match records r
@@ -23,7 +23,7 @@ and-matches match records l r = map-append (match records) (leaves l) (leaves r)
 
 -- One side and then the other.
 pub both-listed : (position : ℕ) (ms ns : List (Option Predicate)) (knns middle part others turned piece gone flagged after : List ℕ)
-    (a b : Listed)
+    (a b : Tally)
     → position ≤ length gone
     → ListIs position ms knns middle others turned gone flagged a
     → ListIs a.position ns (behind a.knn middle) part (behind a.other turned) piece flagged after b
@@ -57,7 +57,7 @@ both-listed position ms ns knns middle part others turned piece gone flagged aft
 
 -- The same of an And, whose matches are those of both.
 pub and-listed : (position : ℕ) (all ms ns : List (Option Predicate)) (knns middle part others turned piece gone flagged after : List ℕ)
-    (a b : Listed)
+    (a b : Tally)
     → all ≡ ms ++ ns → position ≤ length gone
     → ListIs position ms knns middle others turned gone flagged a
     → ListIs a.position ns (behind a.knn middle) part (behind a.other turned) piece flagged after b

@@ -16,10 +16,10 @@ use Rattle.theorems.proofs.AllParts.{bytes-append}
 use Rattle.expression.specs.Nodes.{head_bytes}
 use Rattle.expression.specs.Leaves.{Both}
 use Rattle.expression.proofs.Standing.{first-stands, rest-stands}
-use Rattle.writing.proofs.Written.{behind, behind-length}
+use Rattle.byte_writer.proofs.Written.{behind, behind-length}
 use Rattle.leaf_pick.specs.Picks.{matches}
 use Rattle.call_extract_all.specs.Listings.{listed, Listable, ListFits, ListIs}
-use Rattle.call_extract_all.specs.declared.listing.Listed.{Listed}
+use Rattle.call_extract_all.specs.declared.listing.Tally.{Tally}
 use Rattle.call_extract_all.proofs.ListLaws.{and-matches}
 
 module _ {s : List ℕ} {rec count at left : ℕ} {records : List Record} {t : Expr} (frame : Listable s rec count at records t)
@@ -66,7 +66,7 @@ module _ {match : Matcher} {s : List ℕ} {rec count at position left : ℕ} {to
     flags = omega (arith, f.flags, leaf-sum f.frame b);
   }
 
-  module _ {middle turned flagged : List ℕ} {a : Listed}
+  module _ {middle turned flagged : List ℕ} {a : Tally}
       (one : ListIs position (matches match f.records b.l) knns middle others turned gone flagged a)
       (same : length middle ≡ length knns) (alike : length turned ≡ length others) (kept : length flagged ≡ length gone) where
     pub parts-fit : (a.knn ≤ length middle) × (a.other ≤ length turned)

@@ -10,7 +10,7 @@ use Rattle.definitions.specs.Filter.Settings.{Settings, match_under, GoodSetting
 use Rattle.definitions.specs.Filter.Conjuncts.{match_count, last_remainder, conjuncts_by}
 use Rattle.definitions.specs.Calls.ExtractAll.{conjuncts_bytes}
 use Rattle.expression.specs.Places.{Holds}
-use Rattle.writing.specs.Written.{Wrote}
+use Rattle.byte_writer.specs.Written.{Wrote}
 use Rattle.frame_reader.specs.Frames.{FrameAt}
 use Rattle.frame_reader.specs.declared.frame_bodies.Frame.{Frame}
 use Rattle.leaf_pick.specs.Picks.{matches}
@@ -26,27 +26,27 @@ pub record GoodAt (s : List ℕ) (f : Frame) (F : tree.Frame) : Type 0 where
 -- ---- the last remainder
 
 -- Its AND-leaves have these flags, of which so many are 1.
-pub record Counted (match : Matcher) (gone : List ℕ) (rounds : ℕ) (F : tree.Frame) : Type 0 where
+pub record FlaggedLeaves (match : Matcher) (gone : List ℕ) (rounds : ℕ) (F : tree.Frame) : Type 0 where
   pub counted : length (leaves F.expr) ≡ length gone
   pub matching : rounds ≡ match_count (matches match F.records F.expr)
   pub flags : Holds gone 0 (map match_flag (matches match F.records F.expr))
 
-abbrev pub left_bytes : Matcher → tree.Frame → List ℕ
-left_bytes match F = remainder_bytes (last_remainder match F)
+abbrev pub last_left_bytes : Matcher → tree.Frame → List ℕ
+last_left_bytes match F = remainder_bytes (last_remainder match F)
 
 -- There is such a frame with a matcher, and room for what is left of it; it was written.
 pub record LeftFits (s : List ℕ) (f : Frame) (gone : List ℕ) (rounds : ℕ) (row out : List ℕ) : Type 0 where
   pub match : Matcher
   pub frame : tree.Frame
   pub at : GoodAt s f frame
-  pub told : Counted match gone rounds frame
+  pub told : FlaggedLeaves match gone rounds frame
   pub long : length s ≤ length row
-  pub room : length (left_bytes match frame) ≤ length out
+  pub room : length (last_left_bytes match frame) ≤ length out
 
 abbrev pub LeftPut : (s : List ℕ) (f : Frame) (gone : List ℕ) (rounds : ℕ) (before after : List ℕ) → ℕ → Type 0
 LeftPut s f gone rounds before after r =
-    (match : Matcher) (F : tree.Frame) → GoodAt s f F → Counted match gone rounds F
-    → (r ≡ length (left_bytes match F)) × Wrote (left_bytes match F) before after
+    (match : Matcher) (F : tree.Frame) → GoodAt s f F → FlaggedLeaves match gone rounds F
+    → (r ≡ length (last_left_bytes match F)) × Wrote (last_left_bytes match F) before after
 
 -- ---- all of it
 

@@ -8,10 +8,10 @@ use Rattle.definitions.specs.Filter.Extract.{is_knn, Matcher}
 use Rattle.definitions.specs.Filter.Conjuncts.{positions_from, matching, is_other, match_count}
 use Rattle.definitions.specs.Calls.ExtractAll.{picks_bytes}
 use Rattle.expression.specs.Nodes.{Stands}
-use Rattle.writing.specs.Written.{Wrote, WroteAt}
+use Rattle.byte_writer.specs.Written.{Wrote, WroteAt}
 use Rattle.plan_writer.specs.Tables.{Entries, ChildTable}
 use Rattle.leaf_pick.specs.Picks.{matches}
-use Rattle.call_extract_all.specs.declared.listing.Listed.{Listed}
+use Rattle.call_extract_all.specs.declared.listing.Tally.{Tally}
 
 -- The bytes of the matches that pass a test, the first leaf having this position.
 abbrev pub listed : (Predicate → Bool) → (position : ℕ) → List (Option Predicate) → List ℕ
@@ -40,7 +40,7 @@ pub record ListFits (match : Matcher) (s : List ℕ) (rec count at position : �
   pub flags : position + length (leaves tree) ≤ length gone
 
 -- All matches were written, the KNN ones and the others each to their buffer's start, with a flag for each leaf.
-pub record ListIs (position : ℕ) (ms : List (Option Predicate)) (knns knns' others others' gone gone' : List ℕ) (r : Listed) : Type 0 where
+pub record ListIs (position : ℕ) (ms : List (Option Predicate)) (knns knns' others others' gone gone' : List ℕ) (r : Tally) : Type 0 where
   pub counted : r.position ≡ position + length ms
   pub rounds : r.rounds ≡ match_count ms
   pub knn : r.knn ≡ length (listed is_knn position ms)
@@ -49,7 +49,7 @@ pub record ListIs (position : ℕ) (ms : List (Option Predicate)) (knns knns' ot
   pub other_wrote : Wrote (listed is_other position ms) others others'
   pub flags : WroteAt position (map match_flag ms) gone gone' r.position
 
-abbrev pub ListPut : Matcher → (s : List ℕ) (rec count at position : ℕ) (to knns knns' others others' gone gone' : List ℕ) → Listed → Type 0
+abbrev pub ListPut : Matcher → (s : List ℕ) (rec count at position : ℕ) (to knns knns' others others' gone gone' : List ℕ) → Tally → Type 0
 ListPut match s rec count at position to knns knns' others others' gone gone' r =
     (records : List Record) (t : Expr) → Listable s rec count at records t
     → ListIs position (matches match records t) knns knns' others others' gone gone' r

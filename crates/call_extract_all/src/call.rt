@@ -4,13 +4,13 @@ ghost use Rattle.definitions.specs.Calls.Settings as definitions;
 ghost use Rattle.terms.specs.Settings.{settings_of};
 ghost use Rattle.call_extract_all.specs.AllAnswers.{AllOutcomeIs};
 
-use super::conjuncts::{Given, Taken, put_all};
+use super::conjuncts::{FrameInRows, Taken, put_all};
+use byte_writer::copies::copy_bytes;
 use frame_reader::frames::physical_frame_in;
 use node_rows::rows::Rows;
 use terms::checked::Checked;
 use terms::refusals::Refusal;
 use terms::settings::Settings;
-use writing::copies::copy_bytes;
 
 // Of a frame of at most BYTES bytes and NODES nodes, if it is good. A buffer as long as the frame has room for its conjuncts; else they are
 // written to `own` first, so that nothing is written where 9 is the answer.
@@ -30,7 +30,7 @@ fn extract_all_by<const BYTES: usize, const NODES: usize>(
         numbers: &numbers,
         next: &next,
     };
-    let given = Given {
+    let given = FrameInRows {
         src: frame,
         parts,
         rows,

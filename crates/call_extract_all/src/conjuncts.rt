@@ -6,6 +6,7 @@ ghost use Rattle.node_rows.specs.Rows.{Tabled};
 ghost use Rattle.call_extract_all.specs.Conjuncts.{LeftFits, LeftPut, AllFits, AllPut};
 
 use super::listing::{Listing, list_matches};
+use byte_writer::copies::copy_bytes;
 use frame_reader::frame_bodies::Frame;
 use leaf_matching::filter::Filter;
 use leaf_pick::first_match::Stop;
@@ -14,12 +15,11 @@ use plan_writer::column_tables::child_indexes;
 use plan_writer::records::Records;
 use remainder::last::put_last;
 use terms::checked::Checked;
-use writing::copies::copy_bytes;
 
 // A frame: its bytes, where its parts stand in them, and its nodes in rows. This call reads all three; merge has no rows, and extract has
 // the bytes in a plan.
 #[derive(Clone, Copy)]
-pub struct Given<'s, 'r> {
+pub struct FrameInRows<'s, 'r> {
     pub src: &'s [u8],
     pub parts: Frame,
     pub rows: Rows<'r>,
@@ -33,7 +33,7 @@ pub struct Taken {
 }
 
 // The last remainder: without a match the frame as it is, else what is left of it, pruned, or `00`; answers its length.
-fn put_left(out: &mut [u8], row: &mut [u8], given: Given, gone: &[u8], rounds: usize) -> usize
+fn put_left(out: &mut [u8], row: &mut [u8], given: FrameInRows, gone: &[u8], rounds: usize) -> usize
     requires left_fits { LeftFits given.src.now given.parts gone.now rounds row.old out.old }
     requires of_tree { OfTree given.src.now given.parts.root
         (Tabled given.rows.numbers.now given.rows.next.now given.parts.root 0) }
@@ -59,7 +59,7 @@ pub fn put_all(
     out: &mut [u8],
     row: &mut [u8],
     gone: &mut [u8],
-    given: Given,
+    given: FrameInRows,
     settings: Checked,
 ) -> Taken
     requires all_fits { AllFits (settings_of settings.settings) given.src.now given.parts row.old gone.old out.old }

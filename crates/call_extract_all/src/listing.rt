@@ -25,7 +25,7 @@ pub struct Listing<'a> {
 
 // How many AND-leaves there are up to the end of a node, how many bytes were written of KNN and of other matches, how many matches.
 #[derive(Clone, Copy)]
-pub struct Listed {
+pub struct Tally {
     pub position: usize,
     pub knn: usize,
     pub other: usize,
@@ -40,7 +40,7 @@ fn list_leaf(
     gone: &mut [u8],
     listing: Listing,
     leaf: Leaf,
-) -> Listed
+) -> Tally
     requires list_fits { ListFits (match_under (settings_of listing.settings)) listing.filter.s.now listing.filter.rec listing.count
         leaf.stop.at leaf.stop.position listing.to.now knns.old others.old gone.old }
     requires of_tree { OfTree listing.filter.s.now leaf.stop.at
@@ -57,7 +57,7 @@ fn list_leaf(
     if let Ok(predicate) = match_knn(listing.filter, leaf, listing.settings) {
         let w = put_predicate(knns, src, predicate, position, indexes);
         gone[position] = 1;
-        return Listed {
+        return Tally {
             position: position + 1,
             knn: w,
             other: 0,
@@ -67,7 +67,7 @@ fn list_leaf(
     if let Ok(predicate) = match_other(listing.filter, leaf, listing.settings) {
         let w = put_predicate(others, src, predicate, position, indexes);
         gone[position] = 1;
-        return Listed {
+        return Tally {
             position: position + 1,
             knn: 0,
             other: w,
@@ -75,7 +75,7 @@ fn list_leaf(
         };
     }
     gone[position] = 0;
-    Listed {
+    Tally {
         position: position + 1,
         knn: 0,
         other: 0,
@@ -90,7 +90,7 @@ pub fn list_matches(
     gone: &mut [u8],
     listing: Listing,
     from: Stop,
-) -> Listed
+) -> Tally
     requires list_fits { ListFits (match_under (settings_of listing.settings)) listing.filter.s.now listing.filter.rec listing.count
         from.at from.position listing.to.now knns.old others.old gone.old }
     requires of_tree { OfTree listing.filter.s.now from.at
@@ -119,7 +119,7 @@ pub fn list_matches(
         position: one.position,
     };
     let two = list_matches(&mut knns[k..], &mut others[o..], gone, listing, second);
-    Listed {
+    Tally {
         position: two.position,
         knn: k + two.knn,
         other: o + two.other,

@@ -24,7 +24,7 @@ use Rattle.terms.specs.declared.refusals.Refusal.{Refusal}
 use Rattle.terms.specs.declared.refusals.Refusal.TheVariants.{BufferTooShort, TableTooShort}
 use Rattle.expression.specs.Filling.{Records, nothing, filled}
 use Rattle.expression.proofs.Placed.{fits}
-use Rattle.writing.proofs.Written.{taken}
+use Rattle.byte_writer.proofs.Written.{taken}
 use Rattle.node_rows.specs.Numbers.{number, numbers_from}
 use Rattle.node_rows.specs.Rows.{Tabled, RowHas}
 use Rattle.node_rows.proofs.RowLaws.{nodes-below, numbers-length}

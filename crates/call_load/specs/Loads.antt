@@ -4,8 +4,8 @@ use Rattle.definitions.specs.Bytes.NodeTable.{NodeRecord}
 use Rattle.expression.specs.Filling.{Records}
 use Rattle.node_rows.specs.Rows.{RowHas}
 use Rattle.terms.specs.declared.refusals.Refusal.{Refusal}
-use Rattle.join_filter.specs.Outcomes.{LoadIs}
-use Rattle.join_filter.specs.declared.answers.Loaded.{Loaded}
+use Rattle.call_answers.specs.Outcomes.{LoadIs}
+use Rattle.call_answers.specs.declared.answers.Loaded.{Loaded}
 
 -- For every table of this length the load is the definition's, the table filled with the records of what stands in the frame at `root`,
 -- or as it was.
@@ -17,6 +17,6 @@ LoadedIs frame before after held (Err why) =
     (table : List NodeRecord) → length table ≡ held → LoadIs frame before after table table (Err why)
 
 -- The numbers of those records are the row's first.
-abbrev pub RowIs : (frame : List ℕ) → Result Loaded Refusal → (row : List ℕ) → Type 0
-RowIs frame (Ok r) row = RowHas frame r.root r.count row
-RowIs frame (Err why) row = Unit {0}
+abbrev pub LoadedRow : (frame : List ℕ) → Result Loaded Refusal → (row : List ℕ) → Type 0
+LoadedRow frame (Ok r) row = RowHas frame r.root r.count row
+LoadedRow frame (Err why) row = Unit {0}

@@ -2,12 +2,12 @@
 #![tactic(auto)]
 
 ghost use Rattle.std.specs.Prelude.{◌≡◌, length};
-ghost use Rattle.call_load.specs.Loads.{LoadedIs, RowIs};
+ghost use Rattle.call_load.specs.Loads.{LoadedIs, LoadedRow};
 
+use byte_writer::copies::copy_bytes;
+use call_answers::answers::Loaded;
 use frame_reader::frames::physical_frame_in;
-use join_filter::answers::Loaded;
 use terms::refusals::Refusal;
-use writing::copies::copy_bytes;
 
 // Copies a good frame to the plan's start and gives its length; reads nothing of the old plan. `held` is how many records the table
 // has; its caller fills it with those of the row's first numbers, as many as the answer says. The row is lent.
@@ -18,7 +18,7 @@ pub fn load_row(
     held: usize,
 ) -> Result<Loaded, Refusal>
     requires { length row.old ≡ 1024 }
-    ensures { LoadedIs frame.now plan.old plan.new held result × RowIs frame.now result row.new }
+    ensures { LoadedIs frame.now plan.old plan.new held result × LoadedRow frame.now result row.new }
 {
     let f = physical_frame_in(row, &mut [0; 1024], frame)?;
     let length = frame.len();

@@ -10,8 +10,8 @@ use Rattle.theorems.proofs.Merged.{merged-bytes}
 use Rattle.expression.specs.Places.{Between}
 use Rattle.frame_reader.specs.Frames.{FrameAt}
 use Rattle.frame_reader.specs.declared.frame_bodies.Frame.{Frame}
-use Rattle.writing.specs.Writing.{Both, joined, same}
-use Rattle.writing.proofs.Sequence.{Headed}
+use Rattle.byte_writer.specs.Writing.{Both, joined, same}
+use Rattle.byte_writer.proofs.Sequence.{Headed}
 use Rattle.plan_writer.specs.Predicates.{frame_head}
 use Rattle.call_merge.specs.Merging.{FramesAt, merged_frame, merged_tables, merged_expr, raised_expr}
 

@@ -23,15 +23,15 @@ use Rattle.theorems.proofs.Merged.{merged-length, merged-nodes, merged-records, 
 use Rattle.frame_reader.specs.Frames.{FrameAt}
 use Rattle.frame_reader.specs.declared.frame_bodies.Frame as places
 use Rattle.plan_reader.specs.Plans.{HoldsFrame}
-use Rattle.writing.specs.Writing.{Room, Puts}
+use Rattle.byte_writer.specs.Writing.{Room, Puts}
 use Rattle.call_merge.specs.Merging.{FramesAt, merged_frame}
 use Rattle.call_merge.specs.Together.{Counts, over_together}
 use Rattle.call_merge.specs.Given.{GivenFrame}
 use Rattle.call_merge.specs.Merges.{MergedIs}
 use Rattle.terms.specs.declared.refusals.Refusal.TheVariants.{BufferTooShort, MergedTooLarge, TableTooShort}
-use Rattle.join_filter.proofs.Refusing.{merge-ends, merge-call, outcome}
+use Rattle.call_answers.proofs.Refusing.{merge-ends, merge-call, outcome}
 use Rattle.call_merge.proofs.Standing.{table-there}
-use Rattle.join_filter.proofs.Keeping.{held-is, plan-size, plan-length, kept, kept-length, kept-over}
+use Rattle.call_answers.proofs.Keeping.{held-is, plan-size, plan-length, kept, kept-length, kept-over}
 
 -- A good frame within the limits, of so many bytes.
 record Within (size : ℕ) (f : places.Frame) : Type 0 where

@@ -11,8 +11,8 @@ use Rattle.expression.specs.Nodes.{Stands}
 use Rattle.frame_reader.specs.Frames.{FrameAt}
 use Rattle.frame_reader.specs.declared.frame_bodies.Frame.{Frame}
 use Rattle.frame_reader.proofs.Standing.{expr-stands}
-use Rattle.writing.specs.Written.{Wrote}
-use Rattle.writing.specs.Writing.{Room, Puts}
+use Rattle.byte_writer.specs.Written.{Wrote}
+use Rattle.byte_writer.specs.Writing.{Room, Puts}
 use Rattle.plan_writer.specs.Tables.{RaisedTable}
 use Rattle.plan_writer.specs.Copies.{copy_of, CopyFits, NodeCopied}
 use Rattle.plan_writer.specs.declared.arguments.Copied.{Copied}

@@ -4,8 +4,8 @@ use Rattle.definitions.specs.Bytes.NodeTable.{NodeRecord}
 use Rattle.definitions.specs.Calls.Merge.{merge}
 use Rattle.expression.specs.Filling.{Records}
 use Rattle.terms.specs.declared.refusals.Refusal.{Refusal}
-use Rattle.join_filter.specs.Outcomes.{MergeIs}
-use Rattle.join_filter.specs.declared.answers.Loaded.{Loaded}
+use Rattle.call_answers.specs.Outcomes.{MergeIs}
+use Rattle.call_answers.specs.declared.answers.Loaded.{Loaded}
 
 -- For every table of this length the merge is the definition's, the table filled with the records of what stands in the plan buffer, as it
 -- is left, at `root`, or as it was.

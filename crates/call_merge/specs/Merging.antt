@@ -5,7 +5,7 @@ use Rattle.definitions.specs.Bytes.Encode.{expr_bytes, records_bytes, frame_byte
 use Rattle.definitions.specs.Filter.Merge.{raised, merge_frames}
 use Rattle.frame_reader.specs.Frames.{FrameAt}
 use Rattle.frame_reader.specs.declared.frame_bodies.Frame.{Frame}
-use Rattle.writing.specs.Writing.{Both}
+use Rattle.byte_writer.specs.Writing.{Both}
 use Rattle.plan_writer.specs.Predicates.{frame_head}
 
 -- The held frame is the whole of s, the new one the whole of t.

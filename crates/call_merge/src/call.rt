@@ -4,9 +4,9 @@ ghost use Rattle.call_merge.specs.Merges.{MergedIs};
 
 use super::given::Frames;
 use super::held_frame::merge_held;
+use call_answers::answers::Loaded;
 use frame_reader::frame_bodies::Frame;
 use frame_reader::frames::physical_frame;
-use join_filter::answers::Loaded;
 use plan_reader::extraction_bodies::Held;
 use plan_reader::held_plans::held_plan;
 use terms::refusals::Refusal;

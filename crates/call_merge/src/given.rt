@@ -12,15 +12,15 @@ pub struct Frames {
 
 // The bytes of a frame, and where its parts stand in them.
 #[derive(Clone, Copy)]
-pub struct Given<'a> {
+pub struct PlacedFrame<'a> {
     pub bytes: &'a [u8],
     pub parts: Frame,
 }
 
 // The held frame and the new one, which have no more records together than a frame may have.
 #[derive(Clone, Copy)]
-pub struct Two<'a> {
-    pub old: Given<'a>,
-    pub new: Given<'a>,
+pub struct TwoFrames<'a> {
+    pub old: PlacedFrame<'a>,
+    pub new: PlacedFrame<'a>,
     pub ghost few: { old.parts.columns + new.parts.columns ≤ 256 },
 }

@@ -3,12 +3,12 @@ ghost use Rattle.plan_reader.specs.Plans.{HoldsFrame};
 ghost use Rattle.call_merge.specs.Given.{GivenFrame};
 ghost use Rattle.call_merge.specs.Merges.{MergedIs};
 
-use super::given::{Frames, Given, Two};
+use super::given::{Frames, PlacedFrame, TwoFrames};
 use super::limits::over_limits;
 use super::merged_frames::put_merged;
-use join_filter::answers::Loaded;
+use byte_writer::copies::copy_bytes;
+use call_answers::answers::Loaded;
 use terms::refusals::Refusal;
-use writing::copies::copy_bytes;
 
 // A held frame: copies it to the scratch, then writes the merged frame over the plan's start.
 pub fn merge_held(
@@ -43,12 +43,12 @@ pub fn merge_held(
     }
     let root = old.root + new.root - 3; // after one head and both tables of records
     copy_bytes(scratch, plan, 0, n);
-    let two = Two {
-        old: Given {
+    let two = TwoFrames {
+        old: PlacedFrame {
             bytes: &scratch[..n],
             parts: old,
         },
-        new: Given {
+        new: PlacedFrame {
             bytes: frame,
             parts: new,
         },

@@ -1,17 +1,17 @@
 // The merged frame: both tables of records one after the other, then the And of the held filter and the new one.
 ghost use Rattle.std.specs.Prelude.{◌+◌, ◌≤◌, length};
 ghost use Rattle.frame_reader.specs.Frames.{FrameAt};
-ghost use Rattle.writing.specs.Writing.{Room, Puts, PutsAt};
+ghost use Rattle.byte_writer.specs.Writing.{Room, Puts, PutsAt};
 ghost use Rattle.call_merge.specs.Merging.{FramesAt, merged_frame, merged_tables, merged_expr, raised_expr};
 
-use super::given::{Given, Two};
+use super::given::{PlacedFrame, TwoFrames};
+use byte_writer::copies::copy_at;
 use plan_writer::arguments::reproject_column_references;
 use plan_writer::column_tables::raised_indexes;
 use plan_writer::frame_heads::put_frame_head;
-use writing::copies::copy_at;
 
 // The head with the sum of both counts, then the held records and the new ones as they are; answers where they end.
-fn put_tables(out: &mut [u8], two: Two) -> usize
+fn put_tables(out: &mut [u8], two: TwoFrames) -> usize
     requires { Room (FramesAt two.old.bytes.now two.old.parts two.new.bytes.now two.new.parts) merged_tables 0 out.old }
     ensures { Puts (FramesAt two.entry.old.bytes.now two.entry.old.parts two.entry.new.bytes.now two.entry.new.parts) merged_tables
         out.old out.new result }
@@ -25,7 +25,7 @@ fn put_tables(out: &mut [u8], two: Two) -> usize
 }
 
 // The frame's expression from w on, its columns renumbered by a count; answers where it ends.
-fn put_raised(out: &mut [u8], w: usize, given: Given, by: usize) -> usize
+fn put_raised(out: &mut [u8], w: usize, given: PlacedFrame, by: usize) -> usize
     requires room { Room (FrameAt given.bytes.now given.parts (length given.bytes.now)) (raised_expr by) w out.old }
     requires columns_bound { by + given.parts.columns ≤ 256 }
     ensures { PutsAt (FrameAt given.entry.bytes.now given.entry.parts (length given.entry.bytes.now)) (raised_expr by) w out.old
@@ -39,7 +39,7 @@ fn put_raised(out: &mut [u8], w: usize, given: Given, by: usize) -> usize
 }
 
 // And, the held filter as it is, the new one with its columns after the held ones; answers their length.
-fn put_and(out: &mut [u8], two: Two) -> usize
+fn put_merged_expression(out: &mut [u8], two: TwoFrames) -> usize
     requires { Room (FramesAt two.old.bytes.now two.old.parts two.new.bytes.now two.new.parts) merged_expr 0 out.old }
     ensures { Puts (FramesAt two.entry.old.bytes.now two.entry.old.parts two.entry.new.bytes.now two.entry.new.parts) merged_expr
         out.old out.new result }
@@ -53,11 +53,11 @@ fn put_and(out: &mut [u8], two: Two) -> usize
 }
 
 // The merge of two frames, to the start of `out`; answers its length.
-pub fn put_merged(out: &mut [u8], two: Two) -> usize
+pub fn put_merged(out: &mut [u8], two: TwoFrames) -> usize
     requires { Room (FramesAt two.old.bytes.now two.old.parts two.new.bytes.now two.new.parts) merged_frame 0 out.old }
     ensures { Puts (FramesAt two.entry.old.bytes.now two.entry.old.parts two.entry.new.bytes.now two.entry.new.parts) merged_frame
         out.old out.new result }
 {
     let w = put_tables(out, two);
-    w + put_and(&mut out[w..], two)
+    w + put_merged_expression(&mut out[w..], two)
 }

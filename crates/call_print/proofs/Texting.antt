@@ -21,8 +21,8 @@ use Rattle.theorems.proofs.TextLength.{text-short}
 use Rattle.frame_reader.specs.Frames.{FrameAt}
 use Rattle.frame_reader.specs.declared.frame_bodies.Frame as places
 use Rattle.frame_reader.proofs.Standing.{expr-stands}
-use Rattle.writing.specs.Writing.{Room}
-use Rattle.writing.proofs.Written.{to_start}
+use Rattle.byte_writer.specs.Writing.{Room}
+use Rattle.byte_writer.proofs.Written.{to_start}
 use Rattle.printing.specs.Marks.{PhysicalAt}
 use Rattle.printing.specs.Texts.{TextAt, TextThere, OfText, NodePrinted}
 use Rattle.printing.specs.declared.texts.Printed.{Printed}

@@ -3,11 +3,11 @@
 
 ghost use Rattle.std.specs.Prelude.{◌≤◌, ◌↔◌, length, IsTrue};
 ghost use Rattle.definitions.specs.Bytes.Printed.{printed};
-ghost use Rattle.join_filter.specs.Outcomes.{PrintIs};
+ghost use Rattle.call_answers.specs.Outcomes.{PrintIs};
 ghost use Rattle.printing.specs.Texts.{TextThere, OfText};
 
+use call_answers::answers::Answer;
 use frame_reader::frames::physical_frame;
-use join_filter::answers::Answer;
 use printing::text_size::text_size;
 use printing::texts::print_node;
 use terms::refusals::Refusal;

@@ -27,8 +27,8 @@ use Rattle.terms.specs.declared.refusals.Refusal.{Refusal}
 use Rattle.plan_reader.specs.Plans.{HeldIs, NotHeld, no_bytes, no_good}
 use Rattle.plan_reader.specs.declared.extraction_bodies.Extraction.{Extraction}
 use Rattle.plan_reader.specs.declared.extraction_bodies.Held.TheVariants as there
-use Rattle.join_filter.proofs.Keeping.{held-is, kept-over}
-use Rattle.join_filter.proofs.Refusing.{Call, refuses, finishing, outcome, no-plan, empty-plan}
+use Rattle.call_answers.proofs.Keeping.{held-is, kept-over}
+use Rattle.call_answers.proofs.Refusing.{Call, refuses, finishing, outcome, no-plan, empty-plan}
 use Rattle.projection.proofs.FewSpots.{few-spots}
 use Rattle.projection.specs.Extractions.{ExtractionFits}
 use Rattle.projection.specs.Patches.{patched}

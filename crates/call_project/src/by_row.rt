@@ -1,13 +1,13 @@
 // Project with a row for the child indexes.
 ghost use Rattle.definitions.specs.Calls.Project as definitions;
-ghost use Rattle.join_filter.specs.Outcomes.{OutcomeIs};
+ghost use Rattle.call_answers.specs.Outcomes.{OutcomeIs};
 ghost use Rattle.call_project.specs.Holding.{Ready};
 
-use join_filter::answers::Answer;
+use byte_writer::copies::copy_bytes;
+use call_answers::answers::Answer;
 use plan_reader::extraction_bodies::Extraction;
 use projection::projecting::{project_spots, put_indexes};
 use terms::refusals::Refusal;
-use writing::copies::copy_bytes;
 
 // With a row of N child indexes on the stack, of which the extraction has no more: where the lists have them all, the old plan is copied
 // to the scratch, and only then is it changed.

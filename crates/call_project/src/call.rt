@@ -1,10 +1,10 @@
 // The call project (request 7).
 ghost use Rattle.definitions.specs.Calls.Project as definitions;
-ghost use Rattle.join_filter.specs.Outcomes.{OutcomeIs};
+ghost use Rattle.call_answers.specs.Outcomes.{OutcomeIs};
 ghost use Rattle.call_project.specs.Holding.{HoldsExtraction};
 
 use super::by_row::project_by;
-use join_filter::answers::Answer;
+use call_answers::answers::Answer;
 use plan_reader::extraction_bodies::{Extraction, Held};
 use plan_reader::held_plans::held_plan;
 use terms::refusals::Refusal;

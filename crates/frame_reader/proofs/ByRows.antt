@@ -22,7 +22,7 @@ use Rattle.node_rows.specs.Numbers.{number, start_at, nexts_from, row_nexts}
 use Rattle.node_rows.specs.Rows.{Tabled, TabledAll}
 use Rattle.node_rows.proofs.RowLaws.{tabled_start, tabled-next, tabled-first, tabled-rest, nodes-below}
 use Rattle.node_rows.proofs.OneTree.{of_tree}
-use Rattle.frame_reader.specs.Arities.{Listed, Passes, into, past, PassedIs}
+use Rattle.frame_reader.specs.Arities.{Listed, Passes, into, past, ArityPassed}
 use Rattle.std.specs.Prelude.{Some, None}
 use Rattle.std.specs.Bool.{then_some}
 use Rattle.frame_reader.proofs.ArityLaws.{arity-one, plain-needs}
@@ -33,11 +33,11 @@ module _ {numbers indexes : List ℕ} {at i : ℕ} {t : Expr} (h : Tabled number
   leaf-passed : arity t ≡ true → Passes i (get_or indexes i 0) t
   leaf-passed e = past e (tabled-next h)
 
-  pub plain-passed : PlainNode t → {next : ℕ} → next ≡ get_or indexes i 0 → PassedIs i (Some next) t
+  pub plain-passed : PlainNode t → {next : ℕ} → next ≡ get_or indexes i 0 → ArityPassed i (Some next) t
   plain-passed p same = rw same (leaf-passed (arity-one t (plain-leaf p) ∙ plain-needs p))
 
   -- A leaf is passed if it has enough.
-  pub leaf-asked : (enough : Bool) → arity t ≡ enough → {next : ℕ} → next ≡ get_or indexes i 0 → PassedIs i (then_some enough next) t
+  pub leaf-asked : (enough : Bool) → arity t ≡ enough → {next : ℕ} → next ≡ get_or indexes i 0 → ArityPassed i (then_some enough next) t
   leaf-asked true e same = rw same (leaf-passed e)
   leaf-asked false e same = e
 
@@ -213,7 +213,7 @@ module _ {s numbers indexes : List ℕ} {first end : ℕ} where
         (λ t ts h. (listed h).0) inv.left (omega (arith, inv.ends)) inv.are
 
     -- The first that is left lacks an argument.
-    pub lacks : OfTree s (start_at numbers i) (PassedIs i None) → OfTree s (start_at numbers first) (λ t. false ≡ arity t)
+    pub lacks : OfTree s (start_at numbers i) (ArityPassed i None) → OfTree s (start_at numbers first) (λ t. false ≡ arity t)
     unfolding arity_all
     lacks short = some_left
         (λ ts. Left inv.columns s numbers indexes inv.place i ts → OfTree s (start_at numbers first) (λ t. arity t ≡ arity_all ts)
@@ -221,7 +221,7 @@ module _ {s numbers indexes : List ℕ} {first end : ℕ} where
         (λ t ts h rest c u stands. sym (rest c u stands ∙ rw (short inv.columns t (listed h).1)))
         inv.left (omega (arith, inv.ends)) inv.are inv.rest
 
-    pub goes_on : (k : ℕ) → OfTree s (start_at numbers i) (PassedIs i (Some k)) → (i < k) × Checking s numbers indexes first end k
+    pub goes_on : (k : ℕ) → OfTree s (start_at numbers i) (ArityPassed i (Some k)) → (i < k) × Checking s numbers indexes first end k
     goes_on k is = some_left
         (λ ts. Left inv.columns s numbers indexes inv.place i ts → i + nodes_all ts ≡ end
         → OfTree s (start_at numbers first) (λ t. arity t ≡ arity_all ts) → (i < k) × Checking s numbers indexes first end k)

@@ -17,7 +17,7 @@ use Rattle.node_rows.specs.Rows.{Tabled}
 use Rattle.node_rows.proofs.IndexLaws.{indexed}
 use Rattle.node_rows.proofs.NodeBytes.{nodes-by-bytes}
 use Rattle.node_rows.proofs.OneTree.{of_tree}
-use Rattle.node_reader.specs.Nodes.{Lent}
+use Rattle.node_reader.specs.Nodes.{LentRows}
 use Rattle.theorems.proofs.ReaderLaws.{step}
 use Rattle.theorems.proofs.InverseFrame.{opened}
 use Rattle.frame_reader.specs.declared.frame_bodies.Frame.{Frame}
@@ -32,7 +32,7 @@ unfolding opening first_of
 opened-short sort s t u e = step (first_of 0 s) _ e (λ first n₁ s₁ e₁ f₁. opened s byte e₁ (λ short g. short))
 
 module _ {s numbers indexes : List ℕ} (room : Roomy s numbers indexes) where
-  pub roomy-lent : length s ≤ 16384 → Lent s numbers indexes
+  pub roomy-lent : length s ≤ 16384 → LentRows s numbers indexes
   roomy-lent short = record { long = room.long; short = λ some. short }
 
   -- A node has three bytes at least.

@@ -23,6 +23,6 @@ pub data Passes (i next : ℕ) : Expr → Type 0 where
   into : {l r : Expr} → next ≡ i + 1 → Passes i next (and l r)
   past : {t : Expr} → arity t ≡ true → next ≡ i + nodes t → Passes i next t
 
-abbrev pub PassedIs : (i : ℕ) → Option ℕ → Expr → Type 0
-PassedIs i (Some next) t = Passes i next t
-PassedIs i None t = arity t ≡ false
+abbrev pub ArityPassed : (i : ℕ) → Option ℕ → Expr → Type 0
+ArityPassed i (Some next) t = Passes i next t
+ArityPassed i None t = arity t ≡ false

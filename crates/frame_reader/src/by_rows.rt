@@ -8,7 +8,7 @@ ghost use Rattle.expression.specs.Nodes.{OfTree};
 ghost use Rattle.expression.specs.Leaves.{Pair, OfPair};
 ghost use Rattle.node_rows.specs.Numbers.{start_at};
 ghost use Rattle.node_rows.specs.Rows.{TabledAll};
-ghost use Rattle.frame_reader.specs.Arities.{Listed, PassedIs};
+ghost use Rattle.frame_reader.specs.Arities.{Listed, ArityPassed};
 
 use super::arity::{enough_arguments, enough_to_measure};
 use expression::leaves::{Node, node_at};
@@ -32,7 +32,7 @@ fn enough_to_compare(s: &[u8], operator: u8, rows: Rows, i: usize) -> bool
 // an argument.
 fn node_arity(s: &[u8], rows: Rows, i: usize) -> Option<usize>
     requires { Listed s.now rows.numbers.now rows.next.now i }
-    ensures { OfTree s.now (start_at rows.entry.numbers.now i) (PassedIs i result) }
+    ensures { OfTree s.now (start_at rows.entry.numbers.now i) (ArityPassed i result) }
 {
     let next = rows.after(i);
     match node_at(s, rows.start(i)) {

@@ -4,7 +4,7 @@ ghost use Rattle.definitions.specs.Bytes.Decode as decode;
 ghost use Rattle.definitions.specs.Words.Leaves.{arity};
 ghost use Rattle.expression.specs.Nodes.{Tree, OfTree};
 ghost use Rattle.node_reader.specs.Fields.{FieldIs, SkippedIs};
-ghost use Rattle.node_reader.specs.Nodes.{Lent};
+ghost use Rattle.node_reader.specs.Nodes.{LentRows};
 ghost use Rattle.frame_reader.specs.Frames.{BodyIs, BodyIn, first_of, opening};
 
 use super::arity::check_arity;
@@ -41,7 +41,7 @@ pub fn frame_body_in(
     at: usize,
     nodes: usize,
 ) -> Result<Counted<Frame>, Refusal>
-    requires { (at ≤ length s.now) × Lent s.now numbers.old indexes.old }
+    requires { (at ≤ length s.now) × LentRows s.now numbers.old indexes.old }
     ensures { BodyIn s.now at nodes result decode.frame_body numbers.new indexes.new }
 {
     let (columns, first) = record_count(s, at)?;

@@ -11,7 +11,7 @@ use lib.Seq.{drop-cons, take-suc-set, drop-set-lt, drop-drop, length-take-le, ge
 use Rattle.std.specs.Simd.{first_chunks}
 use borrow.Author.Tests.{le-leb, lt-leb}
 use Rattle.hexadecimal.specs.Hex.{leading_pair, leading_bytes, decoded_to, DecodedIs}
-use Rattle.writing.specs.Written.{Wrote}
+use Rattle.byte_writer.specs.Written.{Wrote}
 use Rattle.std.specs.Prelude.{Some, None}
 use Rattle.definitions.specs.Words.Basics.{ok, refused}
 use Rattle.definitions.specs.Lists.Program.{digit_value, pair_bytes, digit_bytes, or_refused, line_bytes}

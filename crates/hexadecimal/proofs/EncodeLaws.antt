@@ -8,8 +8,8 @@ use mathlib.Core.List.{List, [], ◌∷◌, ◌++◌}
 use lib.ListN.{length, take, get_or, set, length-set, take-append-drop}
 use lib.Seq.{take-suc, length-take-le}
 use Rattle.definitions.specs.Words.Basics.{digit, digits}
-use Rattle.writing.specs.Written.{WroteAt}
-use Rattle.writing.proofs.Written.{store, chain}
+use Rattle.byte_writer.specs.Written.{WroteAt}
+use Rattle.byte_writer.proofs.Written.{store, chain}
 
 pub length_digits : (bytes : List ℕ) → length (digits bytes) ≡ 2 * length bytes
 unfolding digits

@@ -5,7 +5,7 @@ use Rattle.std.proofs.Math.Option.{none, some}
 use Rattle.definitions.specs.Words.Limits.{most_digits}
 use Rattle.definitions.specs.Words.Basics.{Result, ok, refused}
 use Rattle.definitions.specs.Lists.Program.{digit_value, line_bytes}
-use Rattle.writing.specs.Written.{Wrote}
+use Rattle.byte_writer.specs.Written.{Wrote}
 
 -- The value of a digit, if it is one.
 abbrev pub value_of : Option ℕ → maybe.Option ℕ

@@ -1,7 +1,7 @@
 // Lines out.
 ghost use Rattle.std.specs.Prelude.{[], ◌∷◌, ◌++◌, ◌+◌, ◌*◌, ◌≤◌, length};
 ghost use Rattle.definitions.specs.Words.Basics.{digits};
-ghost use Rattle.writing.specs.Written.{WroteAt};
+ghost use Rattle.byte_writer.specs.Written.{WroteAt};
 
 use super::hex::encode;
 

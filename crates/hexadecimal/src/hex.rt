@@ -4,7 +4,7 @@ ghost use Rattle.std.proofs.Math.Option.{some};
 ghost use Rattle.definitions.specs.Lists.Program as program;
 ghost use Rattle.definitions.specs.Words.Basics as basics;
 ghost use Rattle.hexadecimal.specs.Hex.{value_of, bytes_of, DecodedIs};
-ghost use Rattle.writing.specs.Written.{WroteAt};
+ghost use Rattle.byte_writer.specs.Written.{WroteAt};
 
 // The value of a digit 0-9 or a-f.
 #[tactic(auto, unfolding(definitions::specs::Lists::Program::digit_value))]

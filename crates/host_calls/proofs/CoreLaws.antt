@@ -17,22 +17,22 @@ use Rattle.definitions.specs.Lists.Machine.{extract_call}
 use Rattle.definitions.specs.Lists.Sessions.{make_by, accepted}
 use Rattle.definitions.specs.Calls.Merge.{MergeOutcome, merge}
 use Rattle.definitions.specs.Bytes.Good.{AllBytes}
-use Rattle.join_filter.proofs.Settling.{by-settings}
+use Rattle.call_answers.proofs.Settling.{by-settings}
 use Rattle.theorems.proofs.Proved.{lengths_short, merge-writes, walk-short, all-settings}
-use Rattle.join_filter.specs.Outcomes.{Answered, answer_of, ExtractIs}
-use Rattle.join_filter.specs.declared.answers.Loaded.{Loaded}
-use Rattle.call_load.specs.Loads.{LoadedIs, RowIs}
+use Rattle.call_answers.specs.Outcomes.{Answered, answer_of, ExtractIs}
+use Rattle.call_answers.specs.declared.answers.Loaded.{Loaded}
+use Rattle.call_load.specs.Loads.{LoadedIs, LoadedRow}
 use Rattle.call_merge.specs.Merges.{MergedIs}
-use Rattle.join_filter.specs.declared.answers.Extracted.{Extracted}
+use Rattle.call_answers.specs.declared.answers.Extracted.{Extracted}
 use Rattle.terms.specs.Refusals.{number_of}
 use Rattle.terms.specs.declared.refusals.Refusal.{Refusal}
-use Rattle.host_calls.specs.declared.cores.Loaded.{Loaded as HostLoaded}
+use Rattle.host_calls.specs.declared.cores.HostLoaded.{HostLoaded}
 use Rattle.node_rows.specs.Rows.{RowHas}
 use Rattle.node_rows.specs.Numbers.{number}
 use Rattle.node_rows.proofs.RowLaws.{nodes-below}
 use Rattle.expression.specs.Filling.{Records, nothing, filled}
 use Rattle.host_calls.proofs.TableRoom.{load-keeps, merge_keeps, has_room}
-use Rattle.host_calls.specs.Short.{Short, ShortLoaded, ShortWalk}
+use Rattle.host_calls.specs.Short.{ShortLength, ShortLoaded, ShortWalk}
 use Rattle.host_calls.specs.Cores.{LeftBy, LoadLeft, MergeLeft}
 
 -- A table of so many records.
@@ -95,7 +95,7 @@ module _ (frame before after : List ℕ) (held : ℕ) where
         ),
   )
 
-  pub row-left : (r : Either Loaded Refusal) (row : List ℕ) → RowIs frame r row → (left : HostLoaded) → LeftBy r left
+  pub row-left : (r : Either Loaded Refusal) (row : List ℕ) → LoadedRow frame r row → (left : HostLoaded) → LeftBy r left
       → RowHas frame left.root left.count row
   row-left (Ok r) row has left by = rw (by.1, by.2) has
   row-left (Err why) row has left by = rw (by.1, by.2) (none_has frame row)
@@ -109,7 +109,7 @@ short-by : (x : Result ℕ) → ((m : ℕ) → x ≡ ok m → m ≤ 16384) → S
 short-by (ok m) h = omega (arith, h m refl)
 short-by (refused number) h = tt
 
-answer-short : (a : Answered) → ShortAnswer (answer_of a) → Short a
+answer-short : (a : Answered) → ShortAnswer (answer_of a) → ShortLength a
 answer-short (Ok m) h = h
 answer-short (Err why) h = tt
 

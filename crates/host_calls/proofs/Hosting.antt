@@ -6,8 +6,8 @@ use lib.IntN.{ℤ}
 use Rattle.definitions.specs.Calls.Base.{Outcome}
 use Rattle.definitions.specs.Bytes.Good.{AllBytes}
 use Rattle.host_calls.specs.Hosts.{hosted, hosted_walk}
-use Rattle.join_filter.specs.Outcomes.{Answered, answer_of, OutcomeIs, ExtractIs}
-use Rattle.join_filter.specs.declared.answers.Extracted.{Extracted}
+use Rattle.call_answers.specs.Outcomes.{Answered, answer_of, OutcomeIs, ExtractIs}
+use Rattle.call_answers.specs.declared.answers.Extracted.{Extracted}
 use Rattle.host_calls.specs.Hosted.{CallHosted, ExtractHosted}
 
 pub call-hosted : (before : List ℕ) → AllBytes before → (o : Outcome) (n : ℕ) (after kept : List ℕ) (r : Answered)

@@ -16,28 +16,28 @@ use Rattle.definitions.specs.Calls.Project.{project}
 use Rattle.definitions.specs.Bytes.Good.{AllBytes}
 use Rattle.theorems.proofs.InverseFrame.{same_ok, frame_back}
 use Rattle.theorems.proofs.Proved.{lengths_short, text-is-short, print-given}
-use Rattle.join_filter.specs.Outcomes.{Answered, answer_of, OutcomeIs, PrintIs}
+use Rattle.call_answers.specs.Outcomes.{Answered, answer_of, OutcomeIs, PrintIs}
 use Rattle.host_calls.specs.Hosted.{PrintHosted}
-use Rattle.host_calls.specs.Short.{Short}
+use Rattle.host_calls.specs.Short.{ShortLength}
 
 pub exchange-short : (n : ℕ) (before scratch after kept : List ℕ) (r : Answered)
-    → OutcomeIs (exchange n before scratch) n after kept r → AllBytes before → Short r
+    → OutcomeIs (exchange n before scratch) n after kept r → AllBytes before → ShortLength r
 unfolding make_by
 exchange-short n before scratch after kept (Ok m) is bytes =
     omega (arith, lengths_short.1 exchange_call n before scratch [] m bytes (ap (λ (o : Outcome). o.answer) is))
 exchange-short n before scratch after kept (Err why) is bytes = tt
 
 pub projected-short : (n : ℕ) (before scratch of_left of_right after kept : List ℕ) (r : Answered)
-    → OutcomeIs (project n before scratch of_left of_right) n after kept r → AllBytes before → Short r
+    → OutcomeIs (project n before scratch of_left of_right) n after kept r → AllBytes before → ShortLength r
 projected-short n before scratch of_left of_right after kept (Ok m) is bytes =
     omega (arith, lengths_short.2 n before scratch of_left of_right m bytes (ap (λ (o : Outcome). o.answer) is))
 projected-short n before scratch of_left of_right after kept (Err why) is bytes = tt
 
 module _ (frame before after : List ℕ) (r : Answered) (is : PrintIs frame before after r) where
-  pub text-short : AllBytes frame → Short r
+  pub text-short : AllBytes frame → ShortLength r
   unfolding accepted
   text-short = short r is where
-    short : (r : Answered) → PrintIs frame before after r → AllBytes frame → Short r
+    short : (r : Answered) → PrintIs frame before after r → AllBytes frame → ShortLength r
     short (Ok m) is bytes =
         let (F, wrote) = print-given frame before (ap (λ (o : PrintOutcome). accepted o.answer) is) in
         let size : m ≡ length (printed F.expr) = same_ok m _ (sym (ap (λ (o : PrintOutcome). o.answer) is) ∙ wrote.answer) in

@@ -9,17 +9,17 @@ use Rattle.definitions.specs.Calls.Queues.{queue_number}
 use Rattle.definitions.specs.Calls.QueueBytes.{PutOutcome, put, ServeOutcome, serve}
 use Rattle.host_calls.specs.Hosts.{hosted, hosted_serve}
 use Rattle.theorems.proofs.Proved.{queue-lengths}
-use Rattle.join_filter.specs.Outcomes.{Answered, answer_of}
+use Rattle.call_answers.specs.Outcomes.{Answered, answer_of}
 use Rattle.queues.specs.Outcomes.{queue_is, ServeAnswered, serve_answer_of, PutIs, ServeIs}
 use Rattle.queues.specs.declared.answers.Queue.{Queue}
 use Rattle.queues.specs.declared.answers.Queue.TheVariants.{Chassis, FixedUnit}
-use Rattle.host_calls.specs.Short.{Short, ServeShort}
+use Rattle.host_calls.specs.Short.{ShortLength, ServeShort}
 use Rattle.host_calls.specs.Hosted.{PutHosted, ServeHosted}
 
 module _ (b : List ℕ) (number : ℕ) (f after : List ℕ) (r : Answered) (is : PutIs (put b number f) after r) where
-  pub put-short : Short r
+  pub put-short : ShortLength r
   put-short = short r is where
-    short : (r : Answered) → PutIs (put b number f) after r → Short r
+    short : (r : Answered) → PutIs (put b number f) after r → ShortLength r
     short (Ok n) is = omega (arith, (queue-lengths.0 b number f n (ap (λ (o : PutOutcome). o.answer) is)).1)
     short (Err why) is = tt
 

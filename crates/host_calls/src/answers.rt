@@ -2,10 +2,10 @@
 ghost use Rattle.std.specs.Prelude.{◌≡◌, ◌≤◌, pos, neg_ℤ};
 ghost use Rattle.host_calls.specs.Hosts.{hosted, hosted_walk};
 ghost use Rattle.terms.specs.Refusals.{number_of};
-ghost use Rattle.join_filter.specs.Outcomes.{answer_of};
-ghost use Rattle.host_calls.specs.Short.{Short, ShortWalk};
+ghost use Rattle.call_answers.specs.Outcomes.{answer_of};
+ghost use Rattle.host_calls.specs.Short.{ShortLength, ShortWalk};
 
-use join_filter::answers::{Answer, Extracted};
+use call_answers::answers::{Answer, Extracted};
 use terms::refusals::Refusal;
 
 // A length, or a walk or a queue and a length in one number.
@@ -45,7 +45,7 @@ pub fn walk_number(extracted: Extracted) -> i64
 
 // The length of a plan is at most 16,384, that of a text at most 26,620.
 pub fn answer_number(answer: Answer) -> i64
-    requires { Short answer }
+    requires { ShortLength answer }
     ensures { result ≡ hosted (answer_of answer) }
 {
     match answer {

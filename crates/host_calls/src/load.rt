@@ -3,11 +3,11 @@ ghost use Rattle.std.specs.Prelude.{◌≡◌, length};
 ghost use Rattle.node_rows.specs.Rows.{RowHas};
 ghost use Rattle.host_calls.specs.Cores.{LoadLeft};
 
-use super::cores::{Loaded, left_by};
+use super::cores::{HostLoaded, left_by};
 use call_load::load_row;
 
 // The numbers of these nodes are then the row's first.
-pub fn load_core(row: &mut [u32], frame: &[u8], plan: &mut [u8], held: usize) -> Loaded
+pub fn load_core(row: &mut [u32], frame: &[u8], plan: &mut [u8], held: usize) -> HostLoaded
     requires { length row.old ≡ 1024 }
     ensures { LoadLeft frame.now plan.old held plan.new result
         × RowHas frame.now result.root result.count row.new }

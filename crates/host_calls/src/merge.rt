@@ -1,7 +1,7 @@
 // All of merge but the table, the answer as a host gets it. Public for `spatialjoin_c`.
 ghost use Rattle.host_calls.specs.Cores.{MergeLeft};
 
-use super::cores::{Loaded, left_by};
+use super::cores::{HostLoaded, left_by};
 use call_merge::call::merge;
 
 pub fn merge_core(
@@ -10,7 +10,7 @@ pub fn merge_core(
     n: usize,
     scratch: &mut [u8],
     held: usize,
-) -> Loaded
+) -> HostLoaded
     ensures { MergeLeft frame.now n plan.old scratch.old held plan.new
         scratch.new result }
 {

@@ -22,7 +22,7 @@ use Rattle.theorems.proofs.InverseFrame.{same_ok, frame_back}
 use Rattle.theorems.proofs.Proved.{all-settings, bad-settings, refusals-under}
 use Rattle.host_calls.specs.Hosted.{AllHosted}
 use Rattle.host_calls.proofs.AllSmall.{all_small}
-use Rattle.host_lists.specs.Numbers.{Fits}
+use Rattle.host_lists.specs.Numbers.{SettingsFit}
 use Rattle.host_lists.specs.AllHosts.{all_answered, rounds_carried, HostAll}
 use Rattle.host_lists.proofs.Numbers.{one_of}
 
@@ -45,7 +45,7 @@ number-known rounds (refused k) (h, none) = let (a, c) = refusal-known k h in (a
 
 -- ---- the call
 
-module _ (S : Settings) (fits : Fits S) (frame before : List ℕ) where
+module _ (S : Settings) (fits : SettingsFit S) (frame before : List ℕ) where
   abbrev outcome : AllOutcome
   outcome = extract_all_under S frame before
 

@@ -21,7 +21,7 @@ use Rattle.definitions.specs.Calls.Explain.{ExplainOutcome, finish_explain, expl
 use Rattle.theorems.proofs.InverseFrame.{same_ok, frame_back}
 use Rattle.theorems.proofs.Proved.{explain-calls, answer-is-the-bill}
 use Rattle.host_calls.specs.Hosted.{ExplainHosted}
-use Rattle.host_lists.specs.Numbers.{Fits}
+use Rattle.host_lists.specs.Numbers.{SettingsFit}
 use Rattle.host_lists.specs.ExplainHosts.{explain_answered, Told, HostExplain}
 use Rattle.host_lists.proofs.Numbers.{one_of}
 
@@ -36,7 +36,7 @@ unfolding hosted all_refusals all
 number-known (ok n) h = refl
 number-known (refused k) h = refusal-known k (one_of 24 all_refusals refl k h).0
 
-explain-known : (S : Settings) → Fits S → (frame before after : List ℕ) (z : ℤ)
+explain-known : (S : Settings) → SettingsFit S → (frame before after : List ℕ) (z : ℤ)
     → ExplainHosted frame (explain S frame before) after z → explain_answered z ≡ (explain S frame before).answer
 explain-known S fits frame before after z (bytes, number, left) =
     ap explain_answered number ∙ number-known (explain S frame before).answer (explain-calls.refusals S frame before)

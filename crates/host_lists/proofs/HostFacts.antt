@@ -24,11 +24,11 @@ use Rattle.definitions.specs.Calls.Project.{project}
 use Rattle.definitions.specs.Lists.History.{Call, loading, making, merging, projecting}
 use Rattle.host_calls.specs.Hosts.{hosted, hosted_walk}
 use Rattle.theorems.proofs.Proved.{all-settings, refused-keeps, merge_keeps, project-keeps, walk-carried, walk-short}
-use Rattle.join_filter.proofs.Settling.{refused-24, by-settings}
-use Rattle.join_filter.specs.Outcomes.{Answered, answer_of}
+use Rattle.call_answers.proofs.Settling.{refused-24, by-settings}
+use Rattle.call_answers.specs.Outcomes.{Answered, answer_of}
 use Rattle.node_table.specs.Records.{nodes_of}
 use Rattle.node_table.specs.declared.NodeRecord.{NodeRecord as TableRecord}
-use Rattle.host_lists.specs.Numbers.{answered, walk_answered, walk_carried, next_n, answered_by, carried_by, number_by, IsAnswer, Fits}
+use Rattle.host_lists.specs.Numbers.{answered, walk_answered, walk_carried, next_n, answered_by, carried_by, number_by, IsAnswer, SettingsFit}
 use Rattle.host_lists.specs.HostLists.{Host, MadeHosted, HostCall}
 use Rattle.host_lists.specs.HostFacts.{HostNumbers, HostKeeps, HostWalks, HostRefuses, EveryCallRuns}
 use Rattle.host_lists.proofs.Numbers.{answers-of-calls, known}
@@ -37,7 +37,7 @@ use Rattle.host_lists.proofs.Ran.{load_same, MadeIs, made-is, project-is, merge-
 -- ---- the number
 
 -- The number by what is read off it, with its bounds.
-told : (S : Settings) → Fits S → (b : Host) (c : Call) (a : Host) (z : ℤ) → HostCall S b c a z → (x : Result ℕ)
+told : (S : Settings) → SettingsFit S → (b : Host) (c : Call) (a : Host) (z : ℤ) → HostCall S b c a z → (x : Result ℕ)
     → IsAnswer x → answered_by c z ≡ x
     → carried_by c z ≤ 2 * most_nodes - 1
     → (z ≡ number_by c (carried_by c z) (answered_by c z)) × IsAnswer (answered_by c z) × (carried_by c z ≤ 2 * most_nodes - 1)
@@ -51,7 +51,7 @@ made_bytes S extract_call b scratch after kept z is = is.0
 made_bytes S exchange_call b scratch after kept z is = is.0
 
 -- A walk is at most 2,047.
-walk-few : (S : Settings) → Fits S → (kind : Kind) (n : ℕ) (plan scratch : List ℕ) (table : List NodeRecord) → AllBytes plan
+walk-few : (S : Settings) → SettingsFit S → (kind : Kind) (n : ℕ) (plan scratch : List ℕ) (table : List NodeRecord) → AllBytes plan
     → walk_under S kind n plan scratch table ≤ 2 * most_nodes - 1
 unfolding walk_under
 walk-few S fits extract_call n plan scratch table bytes =
@@ -60,7 +60,7 @@ walk-few S fits extract_call n plan scratch table bytes =
 walk-few S fits exchange_call n plan scratch table bytes = omega arith
 
 -- A refused extract or exchange keeps what it was lent.
-made-keeps : (S : Settings) → Fits S → (kind : Kind) (n : ℕ) (plan scratch : List ℕ) (table : List NodeRecord)
+made-keeps : (S : Settings) → SettingsFit S → (kind : Kind) (n : ℕ) (plan scratch : List ℕ) (table : List NodeRecord)
     → accepted (make_under S kind n plan scratch table).answer ≡ false
     → ((make_under S kind n plan scratch table).n ≡ n) × ((make_under S kind n plan scratch table).buffer ≡ plan)
     × ((make_under S kind n plan scratch table).scratch ≡ scratch)
@@ -144,7 +144,7 @@ Carries S b o w =
 not-13 : {A : Type 0} → ◌≡◌ {A = Result ℕ} (refused 24) (refused 13) → A
 not-13 e = let z : ◌≡◌ {A = ℕ} 24 13 = cc in absurd (omega arith)
 
-carries-by : (S : Settings) → Fits S → (b : Host) (scratch : List ℕ)
+carries-by : (S : Settings) → SettingsFit S → (b : Host) (scratch : List ℕ)
     → Carries S b (extract_under S b.n b.plan scratch (nodes_of b.table))
     (extract_walk_under S b.n b.plan scratch (nodes_of b.table))
 unfolding accepted

@@ -28,10 +28,10 @@ use Rattle.definitions.specs.Lists.OddMachine.{odd_run}
 use Rattle.definitions.specs.Claims.Project.{NewColumns, project_by, OddAgree}
 use Rattle.definitions.specs.Lists.History.{making, nothing}
 use Rattle.host_calls.specs.Hosts.{hosted}
-use Rattle.join_filter.specs.Outcomes.{Answered, LoadIs, OutcomeIs, MergeIs}
-use Rattle.join_filter.specs.Lists.{Ran, given, carried, ran_to, Starts, by_load as code-by-load, by_merge as code-by-merge, CodeRun, outcome as code-outcome, DemandThree, AfterProjection, ProjectIs, CodeMeetsUnder}
-use Rattle.join_filter.specs.declared.answers.Extracted.{Extracted}
-use Rattle.join_filter.proofs.DemandThree.{code-meets-demand-three, demand-three}
+use Rattle.call_answers.specs.Outcomes.{Answered, LoadIs, OutcomeIs, MergeIs}
+use Rattle.call_answers.specs.Lists.{Ran, given, carried, ran_to, Starts, by_load as code-by-load, by_merge as code-by-merge, CodeRun, outcome as code-outcome, DemandThree, AfterProjection, ProjectIs, CodeMeetsUnder}
+use Rattle.call_answers.specs.declared.answers.Extracted.{Extracted}
+use Rattle.call_answers.proofs.DemandThree.{code-meets-demand-three, demand-three}
 use Rattle.node_table.specs.Records.{nodes_of, node_of}
 use Rattle.host_calls.specs.Hosted.{LoadHosted, MergeHosted}
 use Rattle.host_lists.specs.Numbers.{answered, walk_answered, numbers_by}

@@ -24,12 +24,12 @@ use Rattle.host_calls.specs.Hosts.{hosted, hosted_walk}
 use Rattle.theorems.proofs.Tools.{and-both}
 use Rattle.theorems.proofs.InverseFrame.{same_ok, refused_not_ok}
 use Rattle.theorems.proofs.Proved.{lengths_short, refusals-of-calls, merge-writes, all-settings, refusals-under}
-use Rattle.join_filter.proofs.Settling.{by-settings}
+use Rattle.call_answers.proofs.Settling.{by-settings}
 use Rattle.terms.specs.Refusals.{number_of}
 use Rattle.terms.specs.declared.refusals.Refusal.{Refusal}
 use Rattle.terms.specs.declared.refusals.Refusal.TheVariants.{EmptyOrTooLong, WrongFirstByte, EndsInsideField, OutOfRange, TooManyOrTooDeep, NoSuchColumn, BytesAfterEnd, TooFewArguments, BufferTooShort, NoGoodPlan, PlanEmpty, AlreadyExtracted, NoLeafMatches, NotHexadecimal, TextBufferTooShort, MergedTooLarge, TableTooShort, NotExtracted, ListTooLong, NoSuchChild, NoSuchQueue, QueuedFrameTooLong, QueueFull, BadSettings}
-use Rattle.join_filter.specs.Outcomes.{Answered, answer_of}
-use Rattle.host_lists.specs.Numbers.{answered, walk_answered, walk_carried, IsAnswer, AnswerKnown, NumbersApart, WalkKnown, WalkNumbersApart, WithoutWalk, Fits, AnswersOfCalls}
+use Rattle.call_answers.specs.Outcomes.{Answered, answer_of}
+use Rattle.host_lists.specs.Numbers.{answered, walk_answered, walk_carried, IsAnswer, AnswerKnown, NumbersApart, WalkKnown, WalkNumbersApart, WithoutWalk, SettingsFit, AnswersOfCalls}
 
 -- ---- minus a refusal's number
 
@@ -189,7 +189,7 @@ is-answer : (numbers : List ℕ) → all (in_range 24) numbers ≡ true → (x :
 is-answer numbers range (ok m) h short = short m refl
 is-answer numbers range (refused k) h short = one_of 24 numbers range k h
 
-make-answer : (S : Settings) → Fits S → (kind : Kind) (n : ℕ) (plan scratch : List ℕ) (table : List NodeRecord) → AllBytes plan
+make-answer : (S : Settings) → SettingsFit S → (kind : Kind) (n : ℕ) (plan scratch : List ℕ) (table : List NodeRecord) → AllBytes plan
     → IsAnswer (make_under S kind n plan scratch table).answer
 unfolding make_by make_under settled_refusals exchange_refusals all
 make-answer S fits extract_call n plan scratch table bytes =

@@ -22,13 +22,13 @@ use Rattle.definitions.specs.Lists.History.{Call, loading, making, merging, proj
 use Rattle.host_calls.specs.Hosts.{hosted, hosted_walk}
 use Rattle.theorems.proofs.Changes.{extract-writes}
 use Rattle.theorems.proofs.Proved.{refusals-of-calls, refusals-under}
-use Rattle.join_filter.specs.Outcomes.{Answered, answer_of, n_after, LoadIs, OutcomeIs, MergeIs}
-use Rattle.join_filter.proofs.Settling.{by-settings}
-use Rattle.join_filter.specs.Lists.{Lent, CallIs, Ran, no_call, called, given, carried, ran_to}
-use Rattle.join_filter.specs.declared.answers.Extracted.{Extracted}
+use Rattle.call_answers.specs.Outcomes.{Answered, answer_of, n_after, LoadIs, OutcomeIs, MergeIs}
+use Rattle.call_answers.proofs.Settling.{by-settings}
+use Rattle.call_answers.specs.Lists.{Lent, CallIs, Ran, no_call, called, given, carried, ran_to}
+use Rattle.call_answers.specs.declared.answers.Extracted.{Extracted}
 use Rattle.node_table.specs.Records.{nodes_of}
 use Rattle.host_calls.specs.Hosted.{LoadHosted, CallHosted, MergeHosted}
-use Rattle.host_lists.specs.Numbers.{answered, walk_answered, walk_carried, next_n, made_answered, made_carried, made_number, answered_by, carried_by, number_by, answers_by, walks_by, numbers_by, Fits}
+use Rattle.host_lists.specs.Numbers.{answered, walk_answered, walk_carried, next_n, made_answered, made_carried, made_number, answered_by, carried_by, number_by, answers_by, walks_by, numbers_by, SettingsFit}
 use Rattle.host_lists.specs.HostLists.{Host, MadeHosted, HostCall, HostRan, made_none, made_one, host_to}
 use Rattle.host_lists.proofs.Numbers.{known, walk-known, answers-of-calls, Named, answer-from, load-named, extract-named, exchange-named, merge-named, project-named}
 
@@ -122,14 +122,14 @@ pub record MadeIs (S : Settings) (kind : Kind) (b : Host) (scratch after kept : 
   pub read : made_answered kind z ≡ answer_of answer
   pub carries : made_carried kind z ≡ walk_under S kind b.n b.plan scratch (nodes_of b.table)
 
-extract-n : (S : Settings) → Fits S → (n : ℕ) (buffer scratch : List ℕ) (table : List NodeRecord)
+extract-n : (S : Settings) → SettingsFit S → (n : ℕ) (buffer scratch : List ℕ) (table : List NodeRecord)
     → (extract_under S n buffer scratch table).n ≡ next_n n (extract_under S n buffer scratch table).answer
 unfolding make_by
 extract-n S fits n buffer scratch table =
     by-settings S n buffer scratch table (λ (o : Outcome) (w : ℕ). o.n ≡ next_n n o.answer)
     (λ g. make-n _ extract_call n buffer scratch table) refl fits
 
-pub made-is : (S : Settings) → Fits S → (kind : Kind) (b : Host) (scratch after kept : List ℕ) (z : ℤ)
+pub made-is : (S : Settings) → SettingsFit S → (kind : Kind) (b : Host) (scratch after kept : List ℕ) (z : ℤ)
     → MadeHosted S kind b scratch after kept z → MadeIs S kind b scratch after kept z
 unfolding make_by make_under walk_under
 made-is S fits extract_call b scratch after kept z (bytes, same, plan, left) =
@@ -197,7 +197,7 @@ pub record OneIs (S : Settings) (b : Host) (c : Call) (a : Host) (z : ℤ) : Typ
 abbrev alone : Answered → Extracted
 alone r = record { answer = r; walk = 0 }
 
-pub one-is : (S : Settings) → Fits S → (b : Host) (c : Call) (a : Host) (z : ℤ) → HostCall S b c a z → OneIs S b c a z
+pub one-is : (S : Settings) → SettingsFit S → (b : Host) (c : Call) (a : Host) (z : ℤ) → HostCall S b c a z → OneIs S b c a z
 one-is S fits b (loading frame) a z is =
     let (r, o, same) = load_is frame b.plan (nodes_of b.table) a.plan (nodes_of a.table) z is.0 in
     let read : answered z ≡ answer_of r = ap answered same ∙ known r in
@@ -245,7 +245,7 @@ pub record RanAs (S : Settings) (b : Host) (calls : List Call) (numbers : List �
   pub read : answers_by calls numbers ≡ given answers
   pub carries : walks_by calls numbers ≡ carried answers
 
-pub host-ran : {S : Settings} → Fits S → {b last : Host} {calls : List Call} {numbers : List ℤ} → HostRan S b calls numbers last
+pub host-ran : {S : Settings} → SettingsFit S → {b last : Host} {calls : List Call} {numbers : List ℤ} → HostRan S b calls numbers last
     → RanAs S b calls numbers last
 host-ran fits made_none = record { answers = []; ran = no_call; numbered = refl; read = refl; carries = refl }
 host-ran {S} fits (made_one {b} {a} {c = c} {z = z} is more) =

@@ -24,9 +24,9 @@ use Rattle.theorems.proofs.SettingsClaimed.{same-make, same-carried}
 use Rattle.theorems.proofs.Lists.{step-walk}
 use Rattle.theorems.proofs.Histories.{HoldsState, CallAgrees, call-agrees}
 use Rattle.theorems.proofs.Proved.{walk-carried}
-use Rattle.join_filter.specs.Outcomes.{answer_of}
-use Rattle.join_filter.specs.Lists.{Lent, CallIs, Ran, no_call, called, given, carried}
-use Rattle.join_filter.specs.declared.answers.Extracted.{Extracted}
+use Rattle.call_answers.specs.Outcomes.{answer_of}
+use Rattle.call_answers.specs.Lists.{Lent, CallIs, Ran, no_call, called, given, carried}
+use Rattle.call_answers.specs.declared.answers.Extracted.{Extracted}
 use Rattle.node_table.specs.Records.{nodes_of}
 use Rattle.host_lists.specs.Numbers.{made_number, carried_by, number_by, walks_by, numbers_by}
 use Rattle.host_lists.specs.HostLists.{Host, HostCall, HostRan, made_none, made_one, made_walk, state_walk, machine_walks}

@@ -10,7 +10,7 @@ use Rattle.definitions.specs.Calls.ExtractAll.{conjuncts_bytes}
 use Rattle.definitions.specs.Filter.Settings.{Settings, match_under, GoodSettings}
 use Rattle.definitions.specs.Calls.Settings.{extract_all_under}
 use Rattle.host_calls.specs.Hosted.{AllHosted}
-use Rattle.host_lists.specs.Numbers.{Fits}
+use Rattle.host_lists.specs.Numbers.{SettingsFit}
 
 -- The answer that a host reads off its number: a length is what is left over from 65,536s, a number below 0 is minus the refusal's.
 abbrev pub all_answered : ℤ → Result ℕ
@@ -24,7 +24,7 @@ rounds_carried (negsuc less) = 0
 
 pub record HostAll : Type 0 where
   -- From the number of a call answer and rounds are known, whatever the settings of 32 bits.
-  pub known : (S : Settings) → Fits S → (frame before after : List ℕ) (z : ℤ)
+  pub known : (S : Settings) → SettingsFit S → (frame before after : List ℕ) (z : ℤ)
       → AllHosted frame (extract_all_under S frame before) after z
       → (all_answered z ≡ (extract_all_under S frame before).answer) × (rounds_carried z ≡ (extract_all_under S frame before).rounds)
   -- An accepted one had a good frame: so many of its AND-leaves match as there were rounds, the bytes at the buffer's start are those of

@@ -12,7 +12,7 @@ use Rattle.definitions.specs.Filter.Settings.{Settings, match_under, GoodSetting
 use Rattle.definitions.specs.Filter.Verdicts.{verdict_bytes}
 use Rattle.definitions.specs.Calls.Explain.{explain}
 use Rattle.host_calls.specs.Hosted.{ExplainHosted}
-use Rattle.host_lists.specs.Numbers.{Fits}
+use Rattle.host_lists.specs.Numbers.{SettingsFit}
 
 -- The answer that a host reads off its number, which is minus the refusal's below 0.
 abbrev pub explain_answered : ℤ → Result ℕ
@@ -30,7 +30,7 @@ pub record Told (S : Settings) (F : Frame) (before after : List ℕ) (number : �
 
 pub record HostExplain : Type 0 where
   -- From the number of a call its answer is known, whatever the settings of 32 bits.
-  pub known : (S : Settings) → Fits S → (frame before after : List ℕ) (z : ℤ)
+  pub known : (S : Settings) → SettingsFit S → (frame before after : List ℕ) (z : ℤ)
       → ExplainHosted frame (explain S frame before) after z → explain_answered z ≡ (explain S frame before).answer
   -- An accepted one had a good frame, and told its bill and its verdicts.
   pub tells : (S : Settings) → GoodSettings S → (frame before after : List ℕ) (number : ℕ)

@@ -11,7 +11,7 @@ use Rattle.definitions.specs.Lists.Sessions.{accepted}
 use Rattle.definitions.specs.Filter.Settings.{Settings, good_settings, match_under}
 use Rattle.definitions.specs.Lists.History.{Call, loading, making, merging, projecting, FrameIsBytes}
 use Rattle.node_table.specs.Records.{nodes_of}
-use Rattle.host_lists.specs.Numbers.{walk_answered, walk_carried, answered_by, carried_by, number_by, IsAnswer, Fits}
+use Rattle.host_lists.specs.Numbers.{walk_answered, walk_carried, answered_by, carried_by, number_by, IsAnswer, SettingsFit}
 use Rattle.host_lists.specs.HostLists.{Host, MadeHosted, HostCall}
 
 -- The scratch that a call is lent; load has none.
@@ -31,19 +31,19 @@ scratch_left S b (projecting scratch of_left of_right) a z is = is.0
 -- Demand 1: every number is that of a length of at most 16,384 or of one of the refusals 1 to 24, extract's with a walk of at most 2,047.
 abbrev pub HostNumbers : Type 0
 HostNumbers =
-    (S : Settings) → Fits S → (b : Host) (c : Call) (a : Host) (z : ℤ) → HostCall S b c a z
+    (S : Settings) → SettingsFit S → (b : Host) (c : Call) (a : Host) (z : ℤ) → HostCall S b c a z
     → (z ≡ number_by c (carried_by c z) (answered_by c z)) × IsAnswer (answered_by c z) × (carried_by c z ≤ 2 * most_nodes - 1)
 
 -- Demand 1: a refused call changes neither plan nor scratch, nor n, nor the table's records.
 abbrev pub HostKeeps : Type 0
 HostKeeps =
-    (S : Settings) → Fits S → (b : Host) (c : Call) (a : Host) (z : ℤ) (is : HostCall S b c a z) → accepted (answered_by c z) ≡ false
+    (S : Settings) → SettingsFit S → (b : Host) (c : Call) (a : Host) (z : ℤ) (is : HostCall S b c a z) → accepted (answered_by c z) ≡ false
     → (a.plan ≡ b.plan) × (scratch_left S b c a z is ≡ scratch_of c) × (a.n ≡ b.n) × (nodes_of a.table ≡ nodes_of b.table)
 
 -- Request 10: the walk that is read off an extract's number is that of the frame that is held, with a length and with 13, else 0.
 abbrev pub HostWalks : Type 0
 HostWalks =
-    (S : Settings) → Fits S → (b : Host) (scratch after kept : List ℕ) (z : ℤ) → MadeHosted S extract_call b scratch after kept z
+    (S : Settings) → SettingsFit S → (b : Host) (scratch after kept : List ℕ) (z : ℤ) → MadeHosted S extract_call b scratch after kept z
     → (accepted (walk_answered z) ≡ true → (F : Frame) × (held_plan b.n b.plan ≡ ok (held F)) × (walk_carried z ≡ walk_length_by (match_under S) F))
     × (walk_answered z ≡ refused 13 → (F : Frame) × (held_plan b.n b.plan ≡ ok (held F)) × (walk_carried z ≡ walk_length_by (match_under S) F))
     × ((number : ℕ) → walk_answered z ≡ refused number → eqb number 13 ≡ false → walk_carried z ≡ 0)

@@ -8,7 +8,7 @@ use Rattle.definitions.specs.Lists.Machine.{Kind, extract_call, exchange_call}
 use Rattle.definitions.specs.Calls.Logical.{logical, logical_bytes}
 use Rattle.definitions.specs.Lists.Program.{line_bytes, Kept, line_outcome, written_line, lines_of, output}
 use Rattle.definitions.specs.Lists.History.{Call, loading, making, State, nothing, state_plan, Answered, machine_call}
-use Rattle.lines.specs.Answers.{Answered as LineAnswered, answer_bytes, length_after, kept_as, AnswerIs}
+use Rattle.lines.specs.Answers.{LineAnswered, answer_bytes, length_after, kept_as, AnswerIs}
 
 -- ---- the machine's lines
 

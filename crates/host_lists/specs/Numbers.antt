@@ -118,14 +118,14 @@ abbrev pub WithoutWalk : Type 0
 WithoutWalk = (a : Result ℕ) → hosted_walk 0 a ≡ hosted a
 
 -- The numbers of settings are of 32 bits.
-abbrev pub Fits : Settings → Type 0
-Fits S = S.greatest_k < four_bytes
+abbrev pub SettingsFit : Settings → Type 0
+SettingsFit S = S.greatest_k < four_bytes
 
 -- Every call's answer is such a one, whatever the settings.
 abbrev pub AnswersOfCalls : Type 0
 AnswersOfCalls =
     ((frame : List ℕ) (n : ℕ) (plan : List ℕ) (table : List NodeRecord) → AllBytes frame → IsAnswer (load frame n plan table).answer)
-    × ((S : Settings) → Fits S → (kind : Kind) (n : ℕ) (plan scratch : List ℕ) (table : List NodeRecord) → AllBytes plan
+    × ((S : Settings) → SettingsFit S → (kind : Kind) (n : ℕ) (plan scratch : List ℕ) (table : List NodeRecord) → AllBytes plan
     → IsAnswer (make_under S kind n plan scratch table).answer)
     × ((frame : List ℕ) (n : ℕ) (plan scratch : List ℕ) (table : List NodeRecord) → IsAnswer (merge frame n plan scratch table).answer)
     × ((n : ℕ) (plan scratch of_left of_right : List ℕ) → AllBytes plan → IsAnswer (project n plan scratch of_left of_right).answer)

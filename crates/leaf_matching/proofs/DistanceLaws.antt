@@ -27,7 +27,7 @@ use Rattle.terms.specs.declared.sides.JoinSide.{JoinSide}
 use Rattle.terms.specs.declared.sides.JoinSide.TheVariants as lies
 use Rattle.leaf_matching.specs.declared.sides.Sides.{Sides}
 use Rattle.leaf_matching.specs.declared.sides.Sides.TheVariants.{NoColumns, AllOn, Mixed}
-use Rattle.leaf_matching.specs.declared.sides.Argument.{Argument}
+use Rattle.leaf_matching.specs.declared.sides.SidedArgument.{SidedArgument}
 use Rattle.sedona_query_planner.specs.declared.spatial_predicate.SpatialPredicate.{SpatialPredicate}
 use Rattle.sedona_query_planner.specs.declared.spatial_predicate.SpatialPredicate.TheVariants.{Distance}
 use Rattle.leaf_matching.specs.declared.matching.NoMatch.TheVariants.{Unmatched}
@@ -77,16 +77,16 @@ abbrev pub Parses : List ℕ → (at : ℕ) → ParsedDistancePredicate → Type
 Parses s at p = OfTreeIn s at (λ c t. parsed.Distance c s p (request t))
 
 -- What is known once the arguments are read.
-pub record Walked (s : List ℕ) (rec at : ℕ) (p : ParsedDistancePredicate) (x y d : Argument) : Type 0 where
+pub record Walked (s : List ℕ) (rec at : ℕ) (p : ParsedDistancePredicate) (x y d : SidedArgument) : Type 0 where
   pub asked : Parses s at p
   pub first : OfFrame s rec p.arg0 (ArgumentIs p.arg0 x)
   pub second : OfFrame s rec p.arg1 (ArgumentIs p.arg1 y)
   pub limit : OfFrame s rec p.arg_distance (ArgumentIs p.arg_distance d)
 
-module _ {s : List ℕ} {rec at : ℕ} {p : ParsedDistancePredicate} {x y d : Argument} (w : Walked s rec at p x y d)
+module _ {s : List ℕ} {rec at : ℕ} {p : ParsedDistancePredicate} {x y d : SidedArgument} (w : Walked s rec at p x y d)
     {records : List Record} {t : Expr} (over : Over s rec at records t) where
   -- What the walk of an argument says of it.
-  spans : (q : ℕ) {end : ℕ} {e : Expr} (a : Argument) → OfFrame s rec q (ArgumentIs q a) → Spans (index_below (length records)) s q end e
+  spans : (q : ℕ) {end : ℕ} {e : Expr} (a : SidedArgument) → OfFrame s rec q (ArgumentIs q a) → Spans (index_below (length records)) s q end e
       → ArgumentAt (on_children records) s q end e × (side_of records e ≡ argument_side a.side)
   spans q {e = e} a told it =
       let here : Over s rec q records e = record { entries = over.entries; tree = it.stands } in

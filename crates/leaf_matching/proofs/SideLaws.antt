@@ -9,12 +9,12 @@ use Rattle.definitions.specs.Words.Expression.{Side, left, right, no_side}
 use Rattle.definitions.specs.Words.References.{same_side}
 use Rattle.definitions.specs.Filter.Match.{all_on, mixed, common_side}
 use Rattle.theorems.proofs.VerdictSides.{of, all-left, all-right, all-mark}
-use Rattle.leaf_matching.specs.declared.sides.Seen.{Seen}
-use Rattle.leaf_matching.specs.Sides.{argument_side, nothing_seen, see, see_all, sides_by, sides_seen, flags_of}
+use Rattle.leaf_matching.specs.declared.sides.SeenSides.{SeenSides}
+use Rattle.leaf_matching.specs.Sides.{argument_side, nothing_seen, see, see_all, sides_by, sides_seen, side_flags}
 
 -- ---- all columns
 
-pub see-append : (seen : Seen) (xs ys : List Side) → see_all seen (xs ++ ys) ≡ see_all (see_all seen xs) ys
+pub see-append : (seen : SeenSides) (xs ys : List Side) → see_all seen (xs ++ ys) ≡ see_all (see_all seen xs) ys
 unfolding see_all
 see-append seen [] ys = refl
 see-append seen (x ∷ xs) ys = see-append (see seen x) xs ys
@@ -83,7 +83,7 @@ unfolding bits_of
 all-seen xs = bits-seen false false false xs
 
 -- So each flag says whether there is one of its side.
-flags-by : (l r m : Bool) → flags_of (record { bits = bits_of l r m }) ≡ record { left = l; right = r; mark = m }
+flags-by : (l r m : Bool) → side_flags (record { bits = bits_of l r m }) ≡ record { left = l; right = r; mark = m }
 unfolding bits_of
 flags-by false false false = refl
 flags-by true false false = refl
@@ -95,8 +95,8 @@ flags-by false true true = refl
 flags-by true true true = refl
 
 pub flags-seen : (xs : List Side)
-    → flags_of (see_all nothing_seen xs) ≡ record { left = of xs left; right = of xs right; mark = of xs no_side }
-flags-seen xs = ap (λ (n : ℕ). flags_of (record { bits = n })) (all-seen xs) ∙ flags-by (of xs left) (of xs right) (of xs no_side)
+    → side_flags (see_all nothing_seen xs) ≡ record { left = of xs left; right = of xs right; mark = of xs no_side }
+flags-seen xs = ap (λ (n : ℕ). side_flags (record { bits = n })) (all-seen xs) ∙ flags-by (of xs left) (of xs right) (of xs no_side)
 
 -- ---- the side of them all
 

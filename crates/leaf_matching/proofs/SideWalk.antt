@@ -21,13 +21,13 @@ use Rattle.expression.specs.declared.heads.Head.{Head}
 use Rattle.leaf_matching.specs.Frames.{Over, OverAll, Framed, OfFrame, FramedAll, OfFrameAll, OverTwo, FramedTwo, OfFrameTwo, ArgumentAt, Argued, OfArgument}
 use Rattle.terms.specs.Sides.{join_side}
 use Rattle.node_rows.specs.Rows.{Begin, TwoTabled, OfTwo, TwoAre}
-use Rattle.node_rows.specs.declared.pairs.Two.{Two}
+use Rattle.node_rows.specs.declared.pairs.TwoExpressions.{TwoExpressions}
 use Rattle.node_rows.proofs.RowLaws.{tabled-first, tabled-next, tabled-within, second-tabled}
 use Rattle.node_rows.proofs.ColumnRows.{columns_at, index_in, each-column, columns-read, Looping, loop-begins, loop-column, loop-after}
-use Rattle.leaf_matching.specs.Sides.{argument_side, order, nothing_seen, see, see_all, sides_seen, sides_in, SideIs, SidesAre, ArgumentIs, GeometriesAre}
+use Rattle.leaf_matching.specs.Sides.{argument_side, order, nothing_seen, see, see_all, sides_seen, sides_in, ReferencesIs, ReferencesAre, ArgumentIs, GeometriesAre}
 use Rattle.terms.specs.declared.sides.JoinSide.{JoinSide}
 use Rattle.leaf_matching.specs.declared.sides.Sides.{Sides}
-use Rattle.leaf_matching.specs.declared.sides.Seen.{Seen}
+use Rattle.leaf_matching.specs.declared.sides.SeenSides.{SeenSides}
 use Rattle.leaf_matching.specs.declared.sides.References.{References}
 use Rattle.leaf_matching.specs.declared.sides.Order.{Order}
 use Rattle.expression.proofs.Placed.{first}
@@ -51,22 +51,22 @@ unfolding record_bytes
 column-side {s} {rec} over e index number is =
     is ∙ ap (λ (i : ℕ). side_numbered (get_or s (rec + 5 * i) 0)) number ∙ ap side_numbered (first (column-is over e).entry) ∙ side-again _
 
-module _ {s : List ℕ} {rec at : ℕ} {seen : Seen} {records : List Record} where
+module _ {s : List ℕ} {rec at : ℕ} {seen : SeenSides} {records : List Record} where
   -- A column: its record's side is seen.
   pub side-column : (t : Expr) → Over s rec at records t → get_or s at 0 ≡ 0
       → (index : ℕ) → index ≡ short_at s (at + 1) → (side : JoinSide) → join_side side ≡ side_numbered (get_or s (rec + 5 * index) 0)
-      → (now : Seen) → now ≡ see seen (join_side side) → SideIs at seen (record { end = at + 5; seen = now }) records t
+      → (now : SeenSides) → now ≡ see seen (join_side side) → ReferencesIs at seen (record { end = at + 5; seen = now }) records t
   unfolding expr_bytes big_endian columns_of see_all
   side-column t over e index number side is now saw =
       rw (column-is over e).tree (record { end = refl; seen = saw ∙ ap (see seen) (column-side over e index number is) })
 
   -- Another node: what its children show.
   pub side-other : (t : Expr) → Over s rec at records t → (get_or s at 0 ≡ 0 → ⊥)
-      → (h : Head) → OfTree s at (HeadIs at h) → (r : References) → OfFrameAll s rec h.next h.children (SidesAre h.next seen r)
-      → SideIs at seen r records t
+      → (h : Head) → OfTree s at (HeadIs at h) → (r : References) → OfFrameAll s rec h.next h.children (ReferencesAre h.next seen r)
+      → ReferencesIs at seen r records t
   side-other t over n h its r is =
       let head : HeadIs at h t = its (index_below (length records)) t over.tree in
-      let below : SidesAre h.next seen r records (children_of t) = is records (children_of t)
+      let below : ReferencesAre h.next seen r records (children_of t) = is records (children_of t)
       (children-over over h.next h.children head.next head.children) in
       record {
         end = omega (arith, head.next, below.end, tree-length t);
@@ -77,37 +77,37 @@ module _ {s : List ℕ} {rec at : ℕ} {seen : Seen} {records : List Record} whe
 
   -- No children: nothing is seen.
   pub sides-none : {n : ℕ} (ts : Exprs) → OverAll s rec at n records ts → n ≡ 0
-      → SidesAre at seen (record { end = at; seen = seen }) records ts
+      → ReferencesAre at seen (record { end = at; seen = seen }) records ts
   unfolding exprs_bytes columns_of_all see_all
   sides-none {n} ts over e =
-      no-children (SidesAre at seen (record { end = at; seen = seen }) records) (record { end = omega arith; seen = refl }) ts
+      no-children (ReferencesAre at seen (record { end = at; seen = seen }) records) (record { end = omega arith; seen = refl }) ts
       (over.row.counted ∙ e)
 
   -- A first child, and then the others.
   pub sides-some : {n : ℕ} (ts : Exprs) → OverAll s rec at n records ts → (n ≡ 0 → ⊥)
-      → (r q : References) → OfFrame s rec at (SideIs at seen r) → OfFrameAll s rec r.end (n - 1) (SidesAre r.end r.seen q)
-      → SidesAre at seen q records ts
+      → (r q : References) → OfFrame s rec at (ReferencesIs at seen r) → OfFrameAll s rec r.end (n - 1) (ReferencesAre r.end r.seen q)
+      → ReferencesAre at seen q records ts
   unfolding exprs_bytes columns_of_all
-  sides-some {n} ts over some r q one others = some-children (λ ts. OverAll s rec at n records ts → SidesAre at seen q records ts)
+  sides-some {n} ts over some r q one others = some-children (λ ts. OverAll s rec at n records ts → ReferencesAre at seen q records ts)
       (λ t ts o.
-      let a : SideIs at seen r records t = one records t (first-over o) in
-      let b : SidesAre r.end r.seen q records ts = others records ts (rest_over o r.end (n - 1) a.end (omega (arith))) in
+      let a : ReferencesIs at seen r records t = one records t (first-over o) in
+      let b : ReferencesAre r.end r.seen q records ts = others records ts (rest_over o r.end (n - 1) a.end (omega (arith))) in
       record {
         end = simp length-append (omega (arith, a.end, b.end));
         seen = rw (sides-append records (columns_of t) (columns_of_all ts), see-append)
-            (b.seen ∙ ap (λ (x : Seen). see_all x (sides_in records (columns_of_all ts))) a.seen);
+            (b.seen ∙ ap (λ (x : SeenSides). see_all x (sides_in records (columns_of_all ts))) a.seen);
       }) ts (omega (arith, over.row.counted)) over
 
 -- ---- the loop over a row
 
 -- What it keeps: what is right for the expressions left is right for the whole row.
-pub record Seeing (s : List ℕ) (rec at n : ℕ) (seen : Seen) (left : ℕ) (walked : References) : Type 0 where
+pub record Seeing (s : List ℕ) (rec at n : ℕ) (seen : SeenSides) (left : ℕ) (walked : References) : Type 0 where
   pub there : FramedAll s rec walked.end left
   pub low : at ≤ walked.end
-  pub rest : (r : References) → OfFrameAll s rec walked.end left (SidesAre walked.end walked.seen r)
-      → OfFrameAll s rec at n (SidesAre at seen r)
+  pub rest : (r : References) → OfFrameAll s rec walked.end left (ReferencesAre walked.end walked.seen r)
+      → OfFrameAll s rec at n (ReferencesAre at seen r)
 
-module _ {s : List ℕ} {rec at n : ℕ} {seen : Seen} where
+module _ {s : List ℕ} {rec at n : ℕ} {seen : SeenSides} where
   pub seeing-begins : FramedAll s rec at n → (left : ℕ) → n ≡ left → Seeing s rec at n seen left (record { end = at; seen = seen })
   seeing-begins there left e = subst (λ (k : ℕ). Seeing s rec at n seen k (record { end = at; seen = seen })) e
       (record { there = there; low = omega arith; rest = λ r is. is })
@@ -116,7 +116,7 @@ module _ {s : List ℕ} {rec at n : ℕ} {seen : Seen} where
     pub seeing-first : 0 < left → Framed s rec walked.end
     seeing-first some = first-framed inv.there (λ z. omega arith)
 
-    pub seeing-goes-on : 0 < left → (r : References) → OfFrame s rec walked.end (SideIs walked.end walked.seen r)
+    pub seeing-goes-on : 0 < left → (r : References) → OfFrame s rec walked.end (ReferencesIs walked.end walked.seen r)
         → (fewer : ℕ) → left - 1 ≡ fewer → Seeing s rec at n seen fewer r
     seeing-goes-on some r is fewer e =
         let first = seeing-first some in
@@ -126,17 +126,17 @@ module _ {s : List ℕ} {rec at n : ℕ} {seen : Seen} where
           rest = λ q others. inv.rest q (λ records ts o. sides-some ts o (λ z. omega arith) r q is others);
         })
 
-    pub seeing-ends : left ≤ 0 → OfFrameAll s rec at n (SidesAre at seen walked)
+    pub seeing-ends : left ≤ 0 → OfFrameAll s rec at n (ReferencesAre at seen walked)
     seeing-ends none = inv.rest walked (λ records ts o. sides-none ts o (omega arith))
 
 -- What has been seen in the end is the side of the argument.
-pub side-seen : (records : List Record) (t : Expr) {sides : Sides} {seen : Seen} → sides ≡ sides_seen seen
+pub side-seen : (records : List Record) (t : Expr) {sides : Sides} {seen : SeenSides} → sides ≡ sides_seen seen
     → seen ≡ see_all nothing_seen (sides_in records (columns_of t)) → argument_side sides ≡ side_of records t
 unfolding side_of
 side-seen records t is saw =
-    ap argument_side is ∙ ap (λ (seen : Seen). argument_side (sides_seen seen)) saw ∙ seen_all (sides_in records (columns_of t))
+    ap argument_side is ∙ ap (λ (seen : SeenSides). argument_side (sides_seen seen)) saw ∙ seen_all (sides_in records (columns_of t))
 
-pub argument_is : {at : ℕ} {records : List Record} {t : Expr} (r : References) → SideIs at nothing_seen r records t
+pub argument_is : {at : ℕ} {records : List Record} {t : Expr} (r : References) → ReferencesIs at nothing_seen r records t
     → (sides : Sides) → sides ≡ sides_seen r.seen → ArgumentIs at (record { end = r.end; side = sides }) records t
 argument_is {records = records} {t = t} r saw sides is = record { end = saw.end; side = side-seen records t is saw.seen }
 
@@ -146,15 +146,15 @@ argument_is {records = records} {t = t} r saw sides is = record { end = saw.end;
 abbrev pub ColumnOver : (s : List ℕ) (rec : ℕ) (records : List Record) (at : ℕ) → Type 0
 ColumnOver s rec records at = (index : ℕ) × (tag : ℕ) × Over s rec at records (column index tag)
 
-abbrev pub see_column : (s : List ℕ) (records : List Record) → Seen → (at : ℕ) → Seen
+abbrev pub see_column : (s : List ℕ) (records : List Record) → SeenSides → (at : ℕ) → SeenSides
 see_column s records seen at = see seen (record_at records (index_in s at)).side
 
 -- What it keeps.
-abbrev pub SeesColumns : (s : List ℕ) (rec : ℕ) (numbers : List ℕ) (i end : ℕ) (now : Seen) → List Record → Expr → Type 0
+abbrev pub SeesColumns : (s : List ℕ) (rec : ℕ) (numbers : List ℕ) (i end : ℕ) (now : SeenSides) → List Record → Expr → Type 0
 SeesColumns s rec numbers i end now records t =
     Looping (ColumnOver s rec records) (see_column s records) numbers end (see_all nothing_seen (sides_in records (columns_of t))) i now
 
-seen-fold : (s : List ℕ) (records : List Record) (seen : Seen) (places : List ℕ)
+seen-fold : (s : List ℕ) (records : List Record) (seen : SeenSides) (places : List ℕ)
     → fold (see_column s records) seen places ≡ see_all seen (sides_in records (map (index_in s) places))
 unfolding see_all
 seen-fold s records seen [] = refl
@@ -163,7 +163,7 @@ seen-fold s records seen (p ∷ places) = seen-fold s records (see_column s reco
 module _ {s : List ℕ} {rec : ℕ} {numbers next : List ℕ} {first end : ℕ} where
   pub sees-begin : OfArgument s rec numbers next first end (SeesColumns s rec numbers first end nothing_seen)
   sees-begin records t a =
-      subst (λ (goal : Seen). Looping (ColumnOver s rec records) (see_column s records) numbers end goal first nothing_seen)
+      subst (λ (goal : SeenSides). Looping (ColumnOver s rec records) (see_column s records) numbers end goal first nothing_seen)
       (seen-fold s records nothing_seen (columns_at a.at t)
       ∙ ap (λ (xs : List ℕ). see_all nothing_seen (sides_in records xs)) (columns-read a.at t a.over.tree))
       (loop-begins (see_column s records) nothing_seen a.tabled a.ends (each-column (ColumnOver s rec records)
@@ -182,14 +182,14 @@ module _ {s : List ℕ} {rec at : ℕ} {records : List Record} (p : ColumnOver s
   over-entry = entry-within (records, column p.0 p.1, p.2) column-kind
 
 -- One column more, with the side that was read.
-pub sees-more : {s : List ℕ} {rec : ℕ} {numbers : List ℕ} {i end : ℕ} {seen : Seen} {records : List Record} (t : Expr)
+pub sees-more : {s : List ℕ} {rec : ℕ} {numbers : List ℕ} {i end : ℕ} {seen : SeenSides} {records : List Record} (t : Expr)
     → SeesColumns s rec numbers i end seen records t → i < end → get_or numbers i 0 < 536870912
     → (index : ℕ) → index ≡ short_at s (get_or numbers i 0 / 32768 + 1) → (side : JoinSide)
-    → join_side side ≡ side_numbered (get_or s (rec + 5 * index) 0) → (now : Seen) → now ≡ see seen (join_side side)
+    → join_side side ≡ side_numbered (get_or s (rec + 5 * index) 0) → (now : SeenSides) → now ≡ see seen (join_side side)
     → SeesColumns s rec numbers (i + 1) end now records t
 sees-more {s} {rec} {numbers} {i} {end} {seen} {records} t inv lt small index number side is now saw =
     let here : ColumnOver s rec records (get_or numbers i 0 / 32768) = loop-column inv lt small in
-    subst (λ (x : Seen). SeesColumns s rec numbers (i + 1) end x records t)
+    subst (λ (x : SeenSides). SeesColumns s rec numbers (i + 1) end x records t)
     (sym (saw ∙ ap (see seen) (column-side here.2 (column-kind here) index number is))) (loop-after inv lt small)
 
 -- ---- two arguments in a row
@@ -202,7 +202,7 @@ module _ {s : List ℕ} {rec at i : ℕ} {numbers next : List ℕ} (tabled : OfF
   pub first-within : FramedTwo s rec at → i < length next
   first-within p = (tabled-within (tabled-first (tabled p.0 p.1 p.2 p.3).1)).1
 
-  module _ {two : Two} (told : OfTwo numbers next i (TwoAre i two)) where
+  module _ {two : TwoExpressions} (told : OfTwo numbers next i (TwoAre i two)) where
     places : {records : List Record} {x y : Expr} → OverTwo s rec at records x y → TwoAre i two at x y
     places {records} {x} {y} over = let begin = tabled records x y over in told at x y begin.0 begin.1
 

@@ -9,10 +9,10 @@ use Rattle.terms.specs.Sides.{join_side}
 use Rattle.terms.specs.declared.sides.JoinSide.TheVariants as side
 use Rattle.leaf_matching.specs.declared.sides.Sides.{Sides}
 use Rattle.leaf_matching.specs.declared.sides.Sides.TheVariants.{NoColumns, AllOn, Mixed}
-use Rattle.leaf_matching.specs.declared.sides.Seen.{Seen}
-use Rattle.leaf_matching.specs.declared.sides.Flags.{Flags}
+use Rattle.leaf_matching.specs.declared.sides.SeenSides.{SeenSides}
+use Rattle.leaf_matching.specs.declared.sides.SideFlags.{SideFlags}
 use Rattle.leaf_matching.specs.declared.sides.References.{References}
-use Rattle.leaf_matching.specs.declared.sides.Argument.{Argument}
+use Rattle.leaf_matching.specs.declared.sides.SidedArgument.{SidedArgument}
 use Rattle.leaf_matching.specs.declared.sides.Geometries.{Geometries}
 use Rattle.leaf_matching.specs.declared.sides.Order.{Order}
 use Rattle.leaf_matching.specs.declared.sides.Order.TheVariants.{LeftRight, RightLeft}
@@ -30,7 +30,7 @@ order (Some RightLeft) = definition.right_left
 order None = definition.no_order
 
 -- No column yet, one column more, and a list of them.
-abbrev pub nothing_seen : Seen
+abbrev pub nothing_seen : SeenSides
 nothing_seen = record { bits = 0 }
 
 abbrev pub bit_of : Side → ℕ
@@ -38,10 +38,10 @@ bit_of left = 1
 bit_of right = 2
 bit_of no_side = 4
 
-abbrev pub see : Seen → Side → Seen
+abbrev pub see : SeenSides → Side → SeenSides
 see seen x = record { bits = bit_or seen.bits (bit_of x) }
 
-unfoldable pub see_all : Seen → List Side → Seen
+unfoldable pub see_all : SeenSides → List Side → SeenSides
 see_all seen [] = seen
 see_all seen (x ∷ xs) = see_all (see seen x) xs
 
@@ -54,12 +54,12 @@ sides_by bits =
     if eqb bits 4 then AllOn side.None else
     Mixed
 
-abbrev pub sides_seen : Seen → Sides
+abbrev pub sides_seen : SeenSides → Sides
 sides_seen seen = sides_by seen.bits
 
 -- Of which there are any.
-abbrev pub flags_of : Seen → Flags
-flags_of seen =
+abbrev pub side_flags : SeenSides → SideFlags
+side_flags seen =
     record { left = eqb (seen.bits % 2) 1; right = eqb (seen.bits / 2 % 2) 1; mark = eqb (seen.bits / 4 % 2) 1 }
 
 -- The sides of an expression's columns.
@@ -67,16 +67,16 @@ abbrev pub sides_in : List Record → List ℕ → List Side
 sides_in records indexes = map (λ index. (record_at records index).side) indexes
 
 -- Where the walk of the expression at a place ended, and what it has seen.
-pub record SideIs (at : ℕ) (before : Seen) (r : References) (records : List Record) (t : Expr) : Type 0 where
+pub record ReferencesIs (at : ℕ) (before : SeenSides) (r : References) (records : List Record) (t : Expr) : Type 0 where
   pub end : r.end ≡ at + length (expr_bytes t)
   pub seen : r.seen ≡ see_all before (sides_in records (columns_of t))
 
-pub record SidesAre (at : ℕ) (before : Seen) (r : References) (records : List Record) (ts : Exprs) : Type 0 where
+pub record ReferencesAre (at : ℕ) (before : SeenSides) (r : References) (records : List Record) (ts : Exprs) : Type 0 where
   pub end : r.end ≡ at + length (exprs_bytes ts)
   pub seen : r.seen ≡ see_all before (sides_in records (columns_of_all ts))
 
 -- Where an argument ends, and its side.
-pub record ArgumentIs (at : ℕ) (r : Argument) (records : List Record) (t : Expr) : Type 0 where
+pub record ArgumentIs (at : ℕ) (r : SidedArgument) (records : List Record) (t : Expr) : Type 0 where
   pub end : r.end ≡ at + length (expr_bytes t)
   pub side : argument_side r.side ≡ side_of records t
 

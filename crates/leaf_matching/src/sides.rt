@@ -6,7 +6,7 @@ ghost use Rattle.definitions.specs.Filter.Match.{side_of, order_of};
 ghost use Rattle.terms.specs.Sides.{join_side};
 ghost use Rattle.node_rows.specs.Rows.{Begin};
 ghost use Rattle.leaf_matching.specs.Frames.{Framed, OfFrame, FramedAll, OfFrameAll, FramedTwo, OfFrameTwo, Argued, OfArgument};
-ghost use Rattle.leaf_matching.specs.Sides.{argument_side, order, see, nothing_seen, sides_seen, flags_of, SideIs, SidesAre, ArgumentIs, GeometriesAre};
+ghost use Rattle.leaf_matching.specs.Sides.{argument_side, order, see, nothing_seen, sides_seen, side_flags, ReferencesIs, ReferencesAre, ArgumentIs, GeometriesAre};
 
 use super::filter::Filter;
 use expression::fields::short_at;
@@ -15,13 +15,13 @@ use terms::sides::JoinSide;
 
 // The columns that were seen: bit 0 for those of the left child, 1 for those of the right child, 2 for mark columns.
 #[derive(Clone, Copy)]
-pub struct Seen {
+pub struct SeenSides {
     pub bits: u8,
 }
 
 // The bits one by one.
 #[derive(Clone, Copy)]
-pub struct Flags {
+pub struct SideFlags {
     pub left: bool,
     pub right: bool,
     pub mark: bool,
@@ -39,12 +39,12 @@ pub enum Sides {
 #[derive(Clone, Copy)]
 pub struct References {
     pub end: usize,
-    pub seen: Seen,
+    pub seen: SeenSides,
 }
 
 // Where an argument ends, and the side of its columns.
 #[derive(Clone, Copy)]
-pub struct Argument {
+pub struct SidedArgument {
     pub end: usize,
     pub side: Sides,
 }
@@ -64,9 +64,9 @@ pub struct Geometries {
     pub order: Option<Order>,
 }
 
-impl Seen {
+impl SeenSides {
     // One column more.
-    fn with(self, side: JoinSide) -> Seen
+    fn with(self, side: JoinSide) -> SeenSides
         ensures { result ≡ see self (join_side side) }
     {
         let bit = match side {
@@ -74,7 +74,7 @@ impl Seen {
             JoinSide::Right => 2,
             JoinSide::None => 4,
         };
-        Seen {
+        SeenSides {
             bits: self.bits | bit,
         }
     }
@@ -93,10 +93,10 @@ impl Seen {
     }
 
     // Of which there are any.
-    pub fn flags(self) -> Flags
-        ensures { result ≡ flags_of self }
+    pub fn flags(self) -> SideFlags
+        ensures { result ≡ side_flags self }
     {
-        Flags {
+        SideFlags {
             left: self.bits % 2 == 1,
             right: self.bits / 2 % 2 == 1,
             mark: self.bits / 4 % 2 == 1,
@@ -106,9 +106,9 @@ impl Seen {
 
 // The columns of one expression, after those seen before it.
 #[cycle(collect_children_collect_column_references)]
-fn collect_column_references(s: &[u8], rec: usize, at: usize, seen: Seen) -> References
+fn collect_column_references(s: &[u8], rec: usize, at: usize, seen: SeenSides) -> References
     requires { Framed s.now rec at }
-    ensures { OfFrame s.now rec at (SideIs at seen result) }
+    ensures { OfFrame s.now rec at (ReferencesIs at seen result) }
 {
     if s[at] == 0 {
         let index = short_at(s, at + 1);
@@ -124,9 +124,9 @@ fn collect_column_references(s: &[u8], rec: usize, at: usize, seen: Seen) -> Ref
 
 // The columns of n expressions in a row.
 #[cycle(collect_children_collect_column_references)]
-fn collect_children(s: &[u8], rec: usize, at: usize, n: usize, seen: Seen) -> References
+fn collect_children(s: &[u8], rec: usize, at: usize, n: usize, seen: SeenSides) -> References
     requires { FramedAll s.now rec at n }
-    ensures { OfFrameAll s.now rec at n (SidesAre at seen result) }
+    ensures { OfFrameAll s.now rec at n (ReferencesAre at seen result) }
 {
     let mut walked = References { end: at, seen };
     for _ in 0..n {
@@ -138,18 +138,18 @@ fn collect_children(s: &[u8], rec: usize, at: usize, n: usize, seen: Seen) -> Re
 // Where the argument at a place ends, and which columns it has.
 pub fn column_references(s: &[u8], rec: usize, at: usize) -> References
     requires { Framed s.now rec at }
-    ensures { OfFrame s.now rec at (SideIs at nothing_seen result) }
+    ensures { OfFrame s.now rec at (ReferencesIs at nothing_seen result) }
 {
-    collect_column_references(s, rec, at, Seen { bits: 0 })
+    collect_column_references(s, rec, at, SeenSides { bits: 0 })
 }
 
 // Where the argument at a place ends, and the side of its columns.
-pub fn side_of_column_references(s: &[u8], rec: usize, at: usize) -> Argument
+pub fn side_of_column_references(s: &[u8], rec: usize, at: usize) -> SidedArgument
     requires { Framed s.now rec at }
     ensures { OfFrame s.now rec at (ArgumentIs at result) }
 {
     let walked = column_references(s, rec, at);
-    Argument {
+    SidedArgument {
         end: walked.end,
         side: walked.seen.sides(),
     }
@@ -173,7 +173,7 @@ fn side_by_rows(filter: Filter, first: usize, end: usize) -> Sides
     ensures { OfArgument filter.entry.s.now filter.entry.rec filter.entry.rows.numbers.now filter.entry.rows.next.now first end
         (λ records t. argument_side result ≡ side_of records t) }
 {
-    let mut seen = Seen { bits: 0 };
+    let mut seen = SeenSides { bits: 0 };
     for i in first..end {
         let number = filter.rows.numbers[i];
         if number < 536870912 {

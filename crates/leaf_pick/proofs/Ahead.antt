@@ -31,8 +31,8 @@ use Rattle.node_rows.proofs.OneTree.{of_tree}
 use Rattle.leaf_matching.specs.Frames.{Over, OverAll, Framed, OfFrame}
 use Rattle.leaf_matching.proofs.Framing.{first-over, rest_over}
 use Rattle.leaf_pick.specs.Picks.{matches}
-use Rattle.leaf_pick.specs.Walks.{Memory, Remembers, Kept, same, here, StoppedIs, GoingIs, Spot, SpotOf, WalkIs}
-use Rattle.leaf_pick.specs.declared.one_walk.Seen.{Seen}
+use Rattle.leaf_pick.specs.Walks.{Memory, Remembers, Kept, same, here, StoppedIs, GoingIs, LeafSpot, SpotOf, WalkIs}
+use Rattle.leaf_pick.specs.declared.one_walk.SeenLeaf.{SeenLeaf}
 use Rattle.leaf_pick.specs.declared.one_walk.Walk.{Walk}
 use Rattle.leaf_pick.proofs.Forests.{leaves_all, reached_all, leaves-open, reached-open, leaves-pass, reached-pass}
 use Rattle.leaf_pick.proofs.Forests.{row_open, tabled-open, nodes-open, SpotAll, spot-open, spot-here, spot-later}
@@ -40,7 +40,7 @@ use Rattle.leaf_pick.proofs.Forests.{row_open, tabled-open, nodes-open, SpotAll,
 -- ---- of a frame
 
 -- The expressions ts are ahead: they stand in a row and are in the rows of numbers; the walk goes on among them.
-pub record Ahead (match : Matcher) (s numbers next : List ℕ) (rec at last place index position : ℕ) (w : Walk Seen)
+pub record Ahead (match : Matcher) (s numbers next : List ℕ) (rec at last place index position : ℕ) (w : Walk SeenLeaf)
     (records : List Record) (t : Expr)
     (ts : Exprs) : Type 0 where
   pub row : OverAll s rec place (count ts) records ts
@@ -52,12 +52,12 @@ pub record Ahead (match : Matcher) (s numbers next : List ℕ) (rec at last plac
   pub picks : one_walk (matches match records t) ≡ walk_on (reading position first) (map (match records) (leaves_all ts))
   pub walked : walk_length_by match (record { records = records; expr = t })
       ≡ w.read + count_to is_knn_match (reached_all (match records) ts)
-  pub spots : (leaf end p : ℕ) → SpotAll leaf end ts place p → Spot leaf end t at (position + p)
+  pub spots : (leaf end p : ℕ) → SpotAll leaf end ts place p → LeafSpot leaf end t at (position + p)
 
 -- ---- it begins
 
-begins-spot : (t : Expr) (at leaf end p : ℕ) → SpotAll leaf end (cons t nil) at p → Spot leaf end t at (0 + p)
-begins-spot t at leaf end p (inl spot) = subst (Spot leaf end t at) (sym (zero-add p)) spot
+begins-spot : (t : Expr) (at leaf end p : ℕ) → SpotAll leaf end (cons t nil) at p → LeafSpot leaf end t at (0 + p)
+begins-spot t at leaf end p (inl spot) = subst (LeafSpot leaf end t at) (sym (zero-add p)) spot
 begins-spot t at leaf end p (inr (q, e, nowhere)) = absurd nowhere
 
 module _ {match : Matcher} {s numbers next : List ℕ} {rec at i last : ℕ} {records : List Record} {t : Expr} where
@@ -85,7 +85,7 @@ module _ {match : Matcher} {s numbers next : List ℕ} {rec at i last : ℕ} {re
 
 -- ---- one step
 
-module _ {match : Matcher} {s numbers next : List ℕ} {rec at last place index position : ℕ} {w : Walk Seen} {records : List
+module _ {match : Matcher} {s numbers next : List ℕ} {rec at last place index position : ℕ} {w : Walk SeenLeaf} {records : List
     Record} {t : Expr} where
   -- An And opens.
   ahead-and : {l r : Expr} {us : Exprs} → Ahead match s numbers next rec at last place index position w records t (cons (and l r) us)
@@ -123,13 +123,13 @@ module _ {match : Matcher} {s numbers next : List ℕ} {rec at last place index 
         a.walked ∙ ap (λ (ms : List (Option Predicate)). w.read + count_to is_knn_match ms) (reached-pass single us (match records))
 
     -- It is where the walk is.
-    here-spot : {leaf end : ℕ} → leaf ≡ place → end ≡ place + length (expr_bytes u) → Spot leaf end t at position
+    here-spot : {leaf end : ℕ} → leaf ≡ place → end ≡ place + length (expr_bytes u) → LeafSpot leaf end t at position
     here-spot {leaf} {end} e f =
-        subst (Spot leaf end t at) (add-zero position) (a.spots leaf end 0 (spot-here leaf end us place single e f))
+        subst (LeafSpot leaf end t at) (add-zero position) (a.spots leaf end 0 (spot-here leaf end us place single e f))
 
     kept-spot : {before after : Memory} → Kept place position u before after → SpotOf t at before → SpotOf t at after
     kept-spot same spot = spot
-    kept-spot (here {seen} h) spot = subst (Spot seen.leaf seen.end t at) (sym h.counted) (here-spot h.place h.ends)
+    kept-spot (here {seen} h) spot = subst (LeafSpot seen.leaf seen.end t at) (sym h.counted) (here-spot h.place h.ends)
 
     ahead-leaf : {kept : Memory} → GoingIs match s place position a.first w.found kept records u
         → (p k : ℕ) → p ≡ place + length (expr_bytes u) → k ≡ index + nodes u
@@ -150,11 +150,11 @@ module _ {match : Matcher} {s numbers next : List ℕ} {rec at last place index 
           ∙ ap (λ (b : Bool). w.read + suc (if b then 0 else count_to is_knn_match (reached_all (match records) us))) g.far
           ∙ omega arith;
       spots = λ leaf end q spot.
-          subst (Spot leaf end t at) (omega arith)
+          subst (LeafSpot leaf end t at) (omega arith)
           (a.spots leaf end (suc q) (spot-later leaf end us place single q (subst (λ (b : ℕ). SpotAll leaf end us b q) e spot)));
     }
 
-    leaf-stopped : {seen : Seen} → StoppedIs match s place position a.first seen records u
+    leaf-stopped : {seen : SeenLeaf} → StoppedIs match s place position a.first seen records u
         → WalkIs match s rec at (record { found = Some seen; read = w.read + 1 }) records t
     unfolding matches_by remembered walk_on
     leaf-stopped {seen} h = record {
@@ -191,13 +191,13 @@ module _ {match : Matcher} {s numbers next : List ℕ} {rec at last place index 
 -- ---- of every frame that stands there
 
 -- Some expressions are ahead.
-abbrev pub SomeAhead : Matcher → (s numbers next : List ℕ) (rec at last place index position : ℕ) (w : Walk Seen)
+abbrev pub SomeAhead : Matcher → (s numbers next : List ℕ) (rec at last place index position : ℕ) (w : Walk SeenLeaf)
     (records : List Record) → Expr → Type 0
 SomeAhead match s numbers next rec at last place index position w records t =
     (ts : Exprs) × Ahead match s numbers next rec at last place index position w records t ts
 
 -- What the loop keeps.
-pub record Along (match : Matcher) (s numbers next : List ℕ) (rec at last place index position : ℕ) (w : Walk Seen) : Type 0 where
+pub record Along (match : Matcher) (s numbers next : List ℕ) (rec at last place index position : ℕ) (w : Walk SeenLeaf) : Type 0 where
   pub there : Framed s rec at
   pub ahead : OfFrame s rec at (SomeAhead match s numbers next rec at last place index position w)
   pub few : w.read ≤ index
@@ -213,7 +213,7 @@ along-begins there tabled e = record {
   fewer = omega arith;
 }
 
-module _ {match : Matcher} {s numbers next : List ℕ} {rec at last place index position : ℕ} {w : Walk Seen}
+module _ {match : Matcher} {s numbers next : List ℕ} {rec at last place index position : ℕ} {w : Walk SeenLeaf}
     (inv : Along match s numbers next rec at last place index position w) where
   by-rest : (index < last → ⊥) → {records : List Record} {t : Expr} (ts : Exprs)
       → Ahead match s numbers next rec at last place index position w records t ts → WalkIs match s rec at w records t
@@ -292,7 +292,7 @@ module _ {match : Matcher} {s numbers next : List ℕ} {rec at last place index 
     -- ---- a leaf
 
     module _ (single : OfFrame s rec place (λ records u. leaves u ≡ u ∷ [])) where
-      pub along-stopped : {seen : Seen}
+      pub along-stopped : {seen : SeenLeaf}
           → OfFrame s rec place (λ records u. (first : Option definition.Pick) → Remembers s records w.found first
           → StoppedIs match s place position first seen records u)
           → OfFrame s rec at (WalkIs match s rec at (record { found = Some seen; read = w.read + 1 }))

@@ -20,7 +20,7 @@ use Rattle.expression.proofs.Placed as placed
 use Rattle.expression.proofs.AndLeaves.{no-and}
 use Rattle.node_rows.specs.Numbers.{number, row_numbers, nexts_from, row_nexts}
 use Rattle.node_rows.specs.Rows.{TabledAll}
-use Rattle.leaf_pick.specs.Walks.{Spot}
+use Rattle.leaf_pick.specs.Walks.{LeafSpot}
 
 -- ---- what is reached in them
 
@@ -115,7 +115,7 @@ nodes-open l r ts = omega arith
 abbrev pub SpotAll : (leaf end : ℕ) (ts : Exprs) (at position : ℕ) → Type 0
 SpotAll leaf end nil at position = ⊥
 SpotAll leaf end (cons t ts) at position =
-    Spot leaf end t at position ⊎ ((p : ℕ) × (position ≡ length (leaves t) + p) × SpotAll leaf end ts (at + length (expr_bytes t)) p)
+    LeafSpot leaf end t at position ⊎ ((p : ℕ) × (position ≡ length (leaves t) + p) × SpotAll leaf end ts (at + length (expr_bytes t)) p)
 
 module _ (leaf end : ℕ) (l r : Expr) (ts : Exprs) (at position : ℕ) where
   on-the-right : (p : ℕ) → position ≡ length (leaves l) + p → SpotAll leaf end (cons r ts) (left_of at + length (expr_bytes l)) p

@@ -17,7 +17,7 @@ use Rattle.sedona_query_planner.specs.declared.spatial_predicate.SpatialPredicat
 use Rattle.leaf_pick.specs.Picks.{is_other, LeafThere}
 use Rattle.leaf_pick.specs.Walks.{Memory, seen_here, Remembers, SeenHere, same, here, StoppedIs, GoingIs}
 use Rattle.leaf_pick.specs.declared.first_match.Leaf.{Leaf}
-use Rattle.leaf_pick.specs.declared.one_walk.Seen.{Seen}
+use Rattle.leaf_pick.specs.declared.one_walk.SeenLeaf.{SeenLeaf}
 
 -- ---- the definition's step
 
@@ -44,7 +44,7 @@ module _ {match : Matcher} {s : List ℕ} {at position : ℕ} {records : List Re
   unfolding read_leaf is_knn_match
   leaf-unmatched e first r = record { now-first = first; is = rw e; far = rw e; remembers = r; kept = same }
 
-  pub leaf-known : {known : Seen} → Lacks is_knn (match records t) → (first : Option definition.Pick)
+  pub leaf-known : {known : SeenLeaf} → Lacks is_knn (match records t) → (first : Option definition.Pick)
       → Remembers s records (Some known) first → GoingIs match s at position first (Some known) (Some known) records t
   leaf-known h first (p, e, is) = record {
     now-first = some p;

@@ -9,15 +9,15 @@ use Rattle.definitions.specs.Filter.Extract.{pick, Matcher, matches_by}
 use Rattle.expression.specs.Cuts.{CutAt}
 use Rattle.node_rows.specs.Rows.{Tabled}
 use Rattle.leaf_pick.specs.Walks.{Remembers, SpotOf, WalkIs, Spotted, ParentIs, WalkedIs}
-use Rattle.leaf_pick.specs.declared.one_walk.Seen.{Seen}
+use Rattle.leaf_pick.specs.declared.one_walk.SeenLeaf.{SeenLeaf}
 use Rattle.leaf_pick.specs.declared.one_walk.Walk.{Walk}
 
-module _ {match : Matcher} {s : List ℕ} {rec at : ℕ} {w : Walk Seen} {records : List Record} {t : Expr}
+module _ {match : Matcher} {s : List ℕ} {rec at : ℕ} {w : Walk SeenLeaf} {records : List Record} {t : Expr}
     (h : WalkIs match s rec at w records t) where
   pub walked-nothing : w.found ≡ None → WalkedIs match s rec at (record { found = None; read = w.read }) records t
   walked-nothing told = record { picked = rw told at h.remembers; walk = h.walk }
 
-  module _ {seen : Seen} (told : w.found ≡ Some seen) where
+  module _ {seen : SeenLeaf} (told : w.found ≡ Some seen) where
     found : Remembers s records (Some seen) (pick (matches_by match (record { records = records; expr = t })))
     found = rw told at h.remembers
 

@@ -20,20 +20,20 @@ use Rattle.sedona_query_planner.specs.Predicates.{on_children, PredicateAt}
 use Rattle.sedona_query_planner.specs.declared.spatial_predicate.SpatialPredicate.{SpatialPredicate}
 use Rattle.leaf_pick.specs.Picks.{PickedIs}
 use Rattle.leaf_pick.specs.declared.first_match.Leaf.{Leaf}
-use Rattle.leaf_pick.specs.declared.one_walk.Seen.{Seen}
+use Rattle.leaf_pick.specs.declared.one_walk.SeenLeaf.{SeenLeaf}
 use Rattle.leaf_pick.specs.declared.first_match.Pick.{Pick}
 use Rattle.leaf_pick.specs.declared.one_walk.Walk.{Walk}
 
 -- ---- what is remembered
 
 -- A leaf that was seen is a pick of the definitions, its predicate standing at its places.
-pub record SeenIs (s : List ℕ) (records : List Record) (seen : Seen) (p : definition.Pick) : Type 0 where
+pub record SeenIs (s : List ℕ) (records : List Record) (seen : SeenLeaf) (p : definition.Pick) : Type 0 where
   pub position : p.position ≡ seen.position
   pub stands : PredicateAt (on_children records) s seen.predicate p.predicate
 
 -- The first match, or nothing yet.
 abbrev pub Memory : Type 0
-Memory = Option Seen
+Memory = Option SeenLeaf
 
 -- So is what the walk remembers.
 abbrev pub Remembers : (s : List ℕ) (records : List Record) → Memory → optional.Option definition.Pick → Type 0
@@ -57,12 +57,12 @@ NoKnnIs node r =
     → Lacks is_knn (match_under S records t)
 
 -- The leaf with its match, as it is remembered.
-abbrev pub seen_here : (numbers : List ℕ) → Leaf → SpatialPredicate → Seen
+abbrev pub seen_here : (numbers : List ℕ) → Leaf → SpatialPredicate → SeenLeaf
 seen_here numbers leaf predicate =
     record { predicate = predicate; position = leaf.stop.position; leaf = leaf.stop.at; end = end_at numbers leaf.stop.index }
 
 -- It was seen here.
-pub record SeenHere (at position : ℕ) (seen : Seen) (t : Expr) : Type 0 where
+pub record SeenHere (at position : ℕ) (seen : SeenLeaf) (t : Expr) : Type 0 where
   pub place : seen.leaf ≡ at
   pub ends : seen.end ≡ at + length (expr_bytes t)
   pub counted : seen.position ≡ position
@@ -70,10 +70,10 @@ pub record SeenHere (at position : ℕ) (seen : Seen) (t : Expr) : Type 0 where
 -- What is remembered afterwards is what was remembered, or this leaf.
 pub data Kept (at position : ℕ) (t : Expr) (before : Memory) : Memory → Type 0 where
   same : Kept at position t before before
-  here : {seen : Seen} → SeenHere at position seen t → Kept at position t before (Some seen)
+  here : {seen : SeenLeaf} → SeenHere at position seen t → Kept at position t before (Some seen)
 
 -- A KNN match stops the walk here;
-pub record StoppedIs (match : Matcher) (s : List ℕ) (at position : ℕ) (first : optional.Option definition.Pick) (seen : Seen)
+pub record StoppedIs (match : Matcher) (s : List ℕ) (at position : ℕ) (first : optional.Option definition.Pick) (seen : SeenLeaf)
     (records : List Record) (t : Expr) : Type 0 where
   pub p : definition.Pick
   pub is : read_leaf position first (match records t) ≡ stopped p
@@ -91,7 +91,7 @@ pub record GoingIs (match : Matcher) (s : List ℕ) (at position : ℕ) (first :
   pub kept : Kept at position t before after
 
 -- For whatever the memory stands for.
-abbrev pub ReadIs : Matcher → (s : List ℕ) → Leaf → Memory → ControlFlow Seen Memory → (records : List Record) → Expr → Type 0
+abbrev pub ReadIs : Matcher → (s : List ℕ) → Leaf → Memory → ControlFlow SeenLeaf Memory → (records : List Record) → Expr → Type 0
 ReadIs match s leaf memory (Break seen) records t =
     (first : optional.Option definition.Pick) → Remembers s records memory first
     → StoppedIs match s leaf.stop.at leaf.stop.position first seen records t
@@ -102,16 +102,16 @@ ReadIs match s leaf memory (Continue after) records t =
 -- ---- the whole walk
 
 -- The AND-leaf at a position stands from one place up to another, whatever And is above the root.
-abbrev pub Spot : (leaf end : ℕ) (t : Expr) (at position : ℕ) → Type 0
-Spot leaf end t at position = (up : ℕ) → (parent : ℕ) × CutAt (record { leaf = leaf; end = end; parent = parent }) up t at position
+abbrev pub LeafSpot : (leaf end : ℕ) (t : Expr) (at position : ℕ) → Type 0
+LeafSpot leaf end t at position = (up : ℕ) → (parent : ℕ) × CutAt (record { leaf = leaf; end = end; parent = parent }) up t at position
 
 -- What is remembered does.
 abbrev pub SpotOf : (t : Expr) (at : ℕ) → Memory → Type 0
 SpotOf t at None = Unit {0}
-SpotOf t at (Some seen) = Spot seen.leaf seen.end t at seen.position
+SpotOf t at (Some seen) = LeafSpot seen.leaf seen.end t at seen.position
 
 -- The walk ended with the definitions' pick in memory, and its length is the definitions'.
-pub record WalkIs (match : Matcher) (s : List ℕ) (rec at : ℕ) (w : Walk Seen) (records : List Record) (t : Expr) : Type 0 where
+pub record WalkIs (match : Matcher) (s : List ℕ) (rec at : ℕ) (w : Walk SeenLeaf) (records : List Record) (t : Expr) : Type 0 where
   pub remembers : Remembers s records w.found (pick (matches_by match (record { records = records; expr = t })))
   pub spot : SpotOf t at w.found
   pub walk : w.read ≡ walk_length_by match (record { records = records; expr = t })

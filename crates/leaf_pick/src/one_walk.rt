@@ -25,7 +25,7 @@ use terms::settings::Settings;
 // An AND-leaf that matches: its predicate, its position among the AND-leaves, and where it stands and ends. No `Pick` yet: the And above it
 // is looked for only once the walk has ended.
 #[derive(Clone, Copy)]
-pub struct Seen {
+pub struct SeenLeaf {
     pub predicate: SpatialPredicate,
     pub position: usize,
     pub leaf: usize,
@@ -33,7 +33,7 @@ pub struct Seen {
 }
 
 // What a leaf makes of what is remembered: a KNN match stops the walk.
-pub type Read = ControlFlow<Seen, Option<Seen>>;
+pub type Read = ControlFlow<SeenLeaf, Option<SeenLeaf>>;
 
 // A walk: what it has found, a match or nothing yet, and how many And nodes and AND-leaves it has read.
 #[derive(Clone, Copy)]
@@ -67,11 +67,11 @@ fn is_passed(node: Node) -> bool
 
 // A leaf with its match, as it is remembered.
 #[inline]
-fn seen_here(rows: Rows, leaf: Leaf, predicate: SpatialPredicate) -> Seen
+fn seen_here(rows: Rows, leaf: Leaf, predicate: SpatialPredicate) -> SeenLeaf
     requires { leaf.stop.index < length rows.numbers.now }
     ensures { result ≡ seen_here rows.entry.numbers.now leaf predicate }
 {
-    Seen {
+    SeenLeaf {
         predicate,
         position: leaf.stop.position,
         leaf: leaf.stop.at,
@@ -92,7 +92,7 @@ fn is_no_knn(node: Node) -> bool
 
 // What a leaf that is no KNN match makes of what is remembered: it is remembered if it is the first other match.
 #[inline]
-fn read_other(filter: Filter, leaf: Leaf, memory: Option<Seen>, settings: Settings) -> Read
+fn read_other(filter: Filter, leaf: Leaf, memory: Option<SeenLeaf>, settings: Settings) -> Read
     requires leaf_there { LeafThere filter.s.now filter.rows.numbers.now filter.rows.next.now filter.rec leaf }
     requires no_knn { OfFrame filter.s.now filter.rec leaf.stop.at
         (λ records t. Lacks is_knn (match_under (settings_of settings) records t)) }
@@ -110,7 +110,7 @@ fn read_other(filter: Filter, leaf: Leaf, memory: Option<Seen>, settings: Settin
 
 // A KNN match stops the walk, another is remembered if it is the first.
 #[inline]
-pub fn read_leaf(filter: Filter, leaf: Leaf, memory: Option<Seen>, settings: Settings) -> Read
+pub fn read_leaf(filter: Filter, leaf: Leaf, memory: Option<SeenLeaf>, settings: Settings) -> Read
     requires { LeafThere filter.s.now filter.rows.numbers.now filter.rows.next.now filter.rec leaf }
     ensures { OfFrame filter.entry.s.now filter.entry.rec leaf.stop.at
         (ReadIs (match_under (settings_of settings)) filter.entry.s.now leaf memory result) }
@@ -129,7 +129,7 @@ pub fn read_leaf(filter: Filter, leaf: Leaf, memory: Option<Seen>, settings: Set
 }
 
 // The walk from the root to the first KNN match or to the end.
-pub fn walk_once(filter: Filter, at: usize, settings: Settings) -> Walk<Seen>
+pub fn walk_once(filter: Filter, at: usize, settings: Settings) -> Walk<SeenLeaf>
     requires framed { Framed filter.s.now filter.rec at }
     requires of_tree { OfTree filter.s.now at (Tabled filter.rows.numbers.now filter.rows.next.now at 0) }
     ensures { OfFrame filter.entry.s.now filter.entry.rec at

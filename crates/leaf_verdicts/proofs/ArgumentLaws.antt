@@ -16,7 +16,7 @@ use Rattle.expression.proofs.Parts.{two-of}
 use Rattle.leaf_matching.specs.Frames.{Over, Framed, OverAll, FramedAll, OfFrameAll, FramedTwo, OfFrameTwo}
 use Rattle.leaf_matching.proofs.Framing.{first-over, rest_over}
 use Rattle.leaf_matching.proofs.MatchLaws.{two-over}
-use Rattle.leaf_verdicts.specs.declared.geometries.Geometries.{Geometries}
+use Rattle.leaf_verdicts.specs.declared.geometries.GeometriesVerdict.{GeometriesVerdict}
 use Rattle.std.specs.Option.{unwrap_or}
 use Rattle.leaf_verdicts.specs.declared.verdict.Verdict as verdicts
 use Rattle.leaf_verdicts.specs.Cases.{verdict_of}
@@ -82,7 +82,7 @@ module _ {s : List ℕ} {rec at n : ℕ} where
   two-framed p h = two-of (λ ts. OverAll s rec at n p.0 ts → FramedTwo s rec at)
       (λ a b ts o. (p.0, a, b, two-over h o)) p.1 (omega (arith, p.2.row.counted)) p.2
 
-  module _ (g : Geometries) (is : OfFrameTwo s rec at (GeometriesTold at g)) (enough : 2 ≤ n) where
+  module _ (g : GeometriesVerdict) (is : OfFrameTwo s rec at (GeometriesTold at g)) (enough : 2 ≤ n) where
     -- What follows them stands where they end.
     after-two : {records : List Record} {a b : Expr} {more : Exprs} → OverAll s rec at n records (cons a (cons b more))
         → OverAll s rec g.end (n - 2) records more

@@ -10,16 +10,16 @@ use Rattle.definitions.specs.Bytes.Encode.{expr_bytes}
 use Rattle.leaf_matching.specs.Frames.{Over, OverTwo}
 use Rattle.definitions.specs.Filter.Verdicts.{Verdict, first_without_columns, first_of_both, first_with_mark, second_without_columns, second_of_both, second_with_mark, both_left, both_right, bound_of_both, bound_with_mark, as_distance, of_both, of_mark}
 use Rattle.theorems.proofs.VerdictSides.{of, none-by-bits, left-by-bits, right-by-bits}
-use Rattle.leaf_matching.specs.declared.sides.Flags.{Flags}
-use Rattle.leaf_matching.specs.Sides.{nothing_seen, see_all, flags_of}
+use Rattle.leaf_matching.specs.declared.sides.SideFlags.{SideFlags}
+use Rattle.leaf_matching.specs.Sides.{nothing_seen, see_all, side_flags}
 use Rattle.leaf_matching.proofs.SideLaws.{flags-seen}
 use Rattle.leaf_verdicts.specs.Columns.{order_reason, bound_reason, or_after}
 use Rattle.leaf_verdicts.specs.Cases.{verdict_of}
 use Rattle.leaf_verdicts.specs.Stages.{geometry_verdict, bound_verdict}
 
 -- The flags of what was seen of columns with these sides.
-abbrev seen : List Side → Flags
-seen ss = flags_of (see_all nothing_seen ss)
+abbrev seen : List Side → SideFlags
+seen ss = side_flags (see_all nothing_seen ss)
 
 -- ---- two geometries
 
@@ -64,7 +64,7 @@ pub geometries-told : (ss ts : List Side) (after : Verdict)
     → or_after (order_reason (seen ss) (seen ts)) after ≡ geometry_verdict ss ts after
 unfolding geometry_verdict of_both of_mark
 geometries-told ss ts after =
-    ap₂ (λ (a b : Flags). or_after (order_reason a b) after) (flags-seen ss) (flags-seen ts)
+    ap₂ (λ (a b : SideFlags). or_after (order_reason a b) after) (flags-seen ss) (flags-seen ts)
     ∙ by-flags (of ss left) (of ss right) (of ss no_side) (of ts left) (of ts right) (of ts no_side) after
     ∙ rw (none-by-bits ss, none-by-bits ts, left-by-bits ss, left-by-bits ts, right-by-bits ss, right-by-bits ts) refl
 
@@ -81,5 +81,5 @@ bound-by-flags false r false = refl
 
 pub bound-told : (ss : List Side) → verdict_of (bound_reason (seen ss)) ≡ bound_verdict ss
 unfolding bound_verdict of_both of_mark
-bound-told ss = ap (λ (a : Flags). verdict_of (bound_reason a)) (flags-seen ss)
+bound-told ss = ap (λ (a : SideFlags). verdict_of (bound_reason a)) (flags-seen ss)
     ∙ bound-by-flags (of ss left) (of ss right) (of ss no_side)

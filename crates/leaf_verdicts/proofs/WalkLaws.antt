@@ -16,7 +16,7 @@ use Rattle.expression.specs.Leaves.{Both}
 use Rattle.expression.proofs.Standing.{first-stands, rest-stands}
 use Rattle.expression.proofs.AndLeaves.{and-leaves}
 use Rattle.leaf_matching.specs.Frames.{Over}
-use Rattle.writing.proofs.Written.{behind, together, behind-length, then-wrote, store, to_start}
+use Rattle.byte_writer.proofs.Written.{behind, together, behind-length, then-wrote, store, to_start}
 use Rattle.leaf_verdicts.specs.declared.walk.Written.{Written}
 use Rattle.leaf_verdicts.specs.Walks.{tree_bytes, VerdictsFit, VerdictsAre}
 

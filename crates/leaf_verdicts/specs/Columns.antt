@@ -4,11 +4,11 @@ use Rattle.definitions.specs.Words.Expression.{Expr, Record}
 use Rattle.definitions.specs.Bytes.Encode.{expr_bytes}
 use Rattle.definitions.specs.Filter.Verdicts as definitions
 use Rattle.definitions.specs.Filter.Verdicts.{sides_of}
-use Rattle.leaf_matching.specs.declared.sides.Flags.{Flags}
+use Rattle.leaf_matching.specs.declared.sides.SideFlags.{SideFlags}
 use Rattle.leaf_verdicts.specs.Cases.{verdict_of}
 use Rattle.leaf_verdicts.specs.Stages.{geometry_verdict, bound_verdict}
 use Rattle.leaf_verdicts.specs.declared.geometries.Reasons.{Reasons}
-use Rattle.leaf_verdicts.specs.declared.geometries.Geometries.{Geometries}
+use Rattle.leaf_verdicts.specs.declared.geometries.GeometriesVerdict.{GeometriesVerdict}
 use Rattle.leaf_verdicts.specs.declared.verdict.Verdict.{Verdict}
 use Rattle.leaf_verdicts.specs.declared.verdict.Verdict.TheVariants as verdict
 
@@ -23,7 +23,7 @@ geometry_by false false true reasons = Some reasons.mark
 geometry_by true false false reasons = None
 geometry_by false true false reasons = None
 
-abbrev pub geometry_reason : Flags → Reasons → Option Verdict
+abbrev pub geometry_reason : SideFlags → Reasons → Option Verdict
 geometry_reason of reasons = geometry_by of.left of.right of.mark reasons
 
 abbrev pub same_by : (l m : Bool) → Option Verdict
@@ -32,7 +32,7 @@ same_by false false = Some verdict.BothRight
 same_by true false = None
 same_by false true = None
 
-abbrev pub same_child : (first second : Flags) → Option Verdict
+abbrev pub same_child : (first second : SideFlags) → Option Verdict
 same_child first second = same_by first.left second.left
 
 abbrev pub of_first : Reasons
@@ -46,7 +46,7 @@ abbrev pub else : Option Verdict → Option Verdict → Option Verdict
 else (Some why) other = Some why
 else None other = other
 
-abbrev pub order_reason : (first second : Flags) → Option Verdict
+abbrev pub order_reason : (first second : SideFlags) → Option Verdict
 order_reason first second = else (geometry_reason first of_first) (else (geometry_reason second of_second) (same_child first second))
 
 abbrev pub bound_by : (l r m : Bool) → Verdict
@@ -56,7 +56,7 @@ bound_by false r true = verdict.BoundWithMark
 bound_by true false false = verdict.AsDistance
 bound_by false r false = verdict.AsDistance
 
-abbrev pub bound_reason : Flags → Verdict
+abbrev pub bound_reason : SideFlags → Verdict
 bound_reason of = bound_by of.left of.right of.mark
 
 -- ---- of what stands at a place
@@ -67,7 +67,7 @@ or_after (Some why) after = verdict_of why
 or_after None after = after
 
 -- Where two geometries end, and what is wrong with them.
-pub record GeometriesTold (at : ℕ) (r : Geometries) (records : List Record) (a b : Expr) : Type 0 where
+pub record GeometriesTold (at : ℕ) (r : GeometriesVerdict) (records : List Record) (a b : Expr) : Type 0 where
   pub end : r.end ≡ at + length (expr_bytes a) + length (expr_bytes b)
   pub told : (after : definitions.Verdict) → or_after r.reason after ≡ geometry_verdict (sides_of records a) (sides_of records b) after
 

@@ -6,7 +6,7 @@ use Rattle.definitions.specs.Words.Leaves.{leaves}
 use Rattle.definitions.specs.Filter.Settings.{Settings}
 use Rattle.definitions.specs.Filter.Verdicts.{verdict_byte, verdict_under}
 use Rattle.leaf_matching.specs.Frames.{Over, OfFrame}
-use Rattle.writing.specs.Written.{Wrote}
+use Rattle.byte_writer.specs.Written.{Wrote}
 use Rattle.leaf_verdicts.specs.declared.walk.Written.{Written}
 
 -- The bytes of its AND-leaves' verdicts.

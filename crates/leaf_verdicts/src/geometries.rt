@@ -5,7 +5,7 @@ ghost use Rattle.leaf_verdicts.specs.Columns.{geometry_reason, same_child, order
 
 use super::asked::Asked;
 use super::verdict::Verdict;
-use leaf_matching::sides::{Flags, column_references};
+use leaf_matching::sides::{SideFlags, column_references};
 
 // The verdicts of a geometry: of one without columns, with columns of both children, and with a mark column.
 #[derive(Clone, Copy)]
@@ -16,7 +16,7 @@ pub struct Reasons {
 }
 
 // What is wrong with a geometry alone.
-fn geometry_reason(of: Flags, reasons: Reasons) -> Option<Verdict>
+fn geometry_reason(of: SideFlags, reasons: Reasons) -> Option<Verdict>
     ensures { result ≡ geometry_reason of reasons }
 {
     match (of.left, of.right, of.mark) {
@@ -28,7 +28,7 @@ fn geometry_reason(of: Flags, reasons: Reasons) -> Option<Verdict>
 }
 
 // Two geometries that are right alone, of one and the same child.
-fn same_child(first: Flags, second: Flags) -> Option<Verdict>
+fn same_child(first: SideFlags, second: SideFlags) -> Option<Verdict>
     ensures { result ≡ same_child first second }
 {
     match (first.left, second.left) {
@@ -39,7 +39,7 @@ fn same_child(first: Flags, second: Flags) -> Option<Verdict>
 }
 
 // What is wrong with two geometries.
-fn order_reason(first: Flags, second: Flags) -> Option<Verdict>
+fn order_reason(first: SideFlags, second: SideFlags) -> Option<Verdict>
     ensures { result ≡ order_reason first second }
 {
     let of_first = Reasons {
@@ -62,7 +62,7 @@ fn order_reason(first: Flags, second: Flags) -> Option<Verdict>
 }
 
 // What is wrong with a bound.
-fn bound_reason(of: Flags) -> Verdict
+fn bound_reason(of: SideFlags) -> Verdict
     ensures { result ≡ bound_reason of }
 {
     match (of.left, of.right, of.mark) {
@@ -74,19 +74,19 @@ fn bound_reason(of: Flags) -> Verdict
 
 // Two geometries in a row: what is wrong with them, and where they end.
 #[derive(Clone, Copy)]
-pub struct Geometries {
+pub struct GeometriesVerdict {
     pub reason: Option<Verdict>,
     pub end: usize,
 }
 
 // The geometries at a place.
-pub fn two_geometries(asked: Asked, at: usize) -> Geometries
+pub fn two_geometries(asked: Asked, at: usize) -> GeometriesVerdict
     requires { FramedTwo asked.s.now asked.rec at }
     ensures { OfFrameTwo asked.entry.s.now asked.entry.rec at (GeometriesTold at result) }
 {
     let first = column_references(asked.s, asked.rec, at);
     let second = column_references(asked.s, asked.rec, first.end);
-    Geometries {
+    GeometriesVerdict {
         reason: order_reason(first.seen.flags(), second.seen.flags()),
         end: second.end,
     }

@@ -20,10 +20,10 @@ use Rattle.definitions.specs.Lists.Program.{Kept, LineOutcome, refused_line, loa
 use Rattle.theorems.proofs.InversePlan.{refused_not_ok}
 use Rattle.terms.specs.Refusals.{number_of}
 use Rattle.terms.specs.declared.refusals.Refusal.{Refusal}
-use Rattle.join_filter.specs.Outcomes.{Answered as CallAnswered, answer_of, n_after, LoadIs, OutcomeIs}
-use Rattle.join_filter.specs.declared.answers.Loaded.{Loaded}
+use Rattle.call_answers.specs.Outcomes.{Answered as CallAnswered, answer_of, n_after, LoadIs, OutcomeIs}
+use Rattle.call_answers.specs.declared.answers.Loaded.{Loaded}
 use Rattle.call_load.specs.Loads.{LoadedIs}
-use Rattle.lines.specs.declared.answers.Given.TheVariants.{Logical}
+use Rattle.lines.specs.declared.answers.LineGiven.TheVariants.{Logical}
 use Rattle.lines.specs.Answers.{plan_length, kept_as, AnswerIs}
 use Rattle.lines.specs.Calling.{line_answer}
 use Rattle.lines.specs.Scratch.{call_scratch}

@@ -15,10 +15,10 @@ use Rattle.definitions.specs.Lists.Program.{Kept, refused_line, load_line, logic
 use Rattle.theorems.proofs.InversePlan.{refused_not_ok}
 use Rattle.terms.specs.Refusals.{number_of}
 use Rattle.terms.specs.declared.refusals.Refusal.{Refusal}
-use Rattle.lines.specs.Answers.{Answered, kept_as, AnswerIs}
+use Rattle.lines.specs.Answers.{LineAnswered, kept_as, AnswerIs}
 use Rattle.lines.specs.Scratch.{call_scratch, bytes_scratch, read_scratch, line_scratch}
 use Rattle.hexadecimal.specs.Hex.{decoded_to}
-use Rattle.writing.specs.Written.{Wrote}
+use Rattle.byte_writer.specs.Written.{Wrote}
 
 -- A refusal keeps the plan.
 pub refused-line : (n : ℕ) (plan : List ℕ) (why : Refusal) → AnswerIs (refused_line (number_of why) (kept_as n plan)) n plan (Err why)
@@ -76,7 +76,7 @@ module _ {bytes more : List ℕ} {first : ℕ} (kept : Kept) (e : bytes ≡ firs
   other-leaves s a b = rw e (simp (ne_eqb first 0x21 a, ne_eqb first 0x22 b))
 
   -- Both, of a line that calls, and of one that leaves the scratch.
-  module _ (s : List ℕ) {n : ℕ} {after : List ℕ} {r : Answered} where
+  module _ (s : List ℕ) {n : ℕ} {after : List ℕ} {r : LineAnswered} where
     pub extract-line : {t : List ℕ} → first ≡ 0x21
         → AnswerIs (call_line extract_call (drop 1 bytes) kept) n after r × (t ≡ call_scratch extract_call (drop 1 bytes) kept s)
         → AnswerIs (line_of bytes kept) n after r × (t ≡ bytes_scratch bytes kept s)

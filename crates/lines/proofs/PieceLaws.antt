@@ -7,29 +7,29 @@ use mathlib.Core.List.{List, [], ◌∷◌, ◌++◌, append_assoc, append-nil}
 use lib.ListN.{length, take}
 use lib.Dec.{eqb}
 use borrow.Author.Tests.{eqb-true, eqb-false, ne_eqb}
-use Rattle.lines.specs.Pieces.{Session, Step, end_line, join, character, piece, first_line, has_feed}
-use Rattle.lines.specs.Collecting.{taken_of}
+use Rattle.lines.specs.Pieces.{InputSession, InputStep, end_line, join, character, piece, first_line, has_feed}
+use Rattle.lines.specs.Collecting.{taken_characters}
 use Rattle.lines.proofs.CollectLaws.{no-feed}
 
-abbrev pub joined : Session → (characters : List ℕ) → Session
+abbrev pub joined : InputSession → (characters : List ℕ) → InputSession
 joined s characters = record { kept = s.kept; begun = s.begun ++ characters }
 
 -- A line feed ends the line; else the session goes on.
-abbrev pub stopped : (feed : Bool) → Session → Step
+abbrev pub stopped : (feed : Bool) → InputSession → InputStep
 stopped true s = end_line s
 stopped false s = record { out = []; after = s }
 
-joined-none : (s : Session) → s ≡ joined s []
+joined-none : (s : InputSession) → s ≡ joined s []
 joined-none s = ap (λ (l : List ℕ). record { kept = s.kept; begun = l }) (sym (append-nil s.begun))
 
-joined-more : (s : Session) (c : ℕ) (more : List ℕ) → joined (joined s (c ∷ [])) more ≡ joined s (c ∷ more)
+joined-more : (s : InputSession) (c : ℕ) (more : List ℕ) → joined (joined s (c ∷ [])) more ≡ joined s (c ∷ more)
 joined-more s c more = ap (λ (l : List ℕ). record { kept = s.kept; begun = l }) (append_assoc s.begun (c ∷ []) more)
 
 -- What holds of the characters up to a line feed, by the first of them.
 pub record Upto (p : List ℕ) : Type 0 where
-  pub within : taken_of p ≤ length p
-  pub some : 0 < length p → 0 < taken_of p
-  pub steps : (s : Session) → piece s (take (taken_of p) p) ≡ stopped (has_feed p) (joined s (first_line p))
+  pub within : taken_characters p ≤ length p
+  pub some : 0 < length p → 0 < taken_characters p
+  pub steps : (s : InputSession) → piece s (take (taken_characters p) p) ≡ stopped (has_feed p) (joined s (first_line p))
 
 upto-none : Upto []
 unfolding first_line has_feed piece
@@ -49,19 +49,19 @@ upto-feed p = record {
 }
 
 -- One character that is no line feed.
-passes : (s : Session) (c : ℕ) (characters : List ℕ) → (c ≡ 10 → ⊥) → piece s (c ∷ characters) ≡ piece (joined s (c ∷ [])) characters
+passes : (s : InputSession) (c : ℕ) (characters : List ℕ) → (c ≡ 10 → ⊥) → piece s (c ∷ characters) ≡ piece (joined s (c ∷ [])) characters
 unfolding piece character join
 passes s c characters h = simp (ne_eqb c 10 h)
 
 upto-more : (c : ℕ) (p : List ℕ) → (c ≡ 10 → ⊥) → Upto p → Upto (c ∷ p)
 upto-more c p h u =
     let same = no-feed c p h in
-    let size : taken_of (c ∷ p) ≡ suc (taken_of p) = rw (same.0, same.1) (omega arith) in
+    let size : taken_characters (c ∷ p) ≡ suc (taken_characters p) = rw (same.0, same.1) (omega arith) in
     record {
       within = omega (arith, size, u.within);
       some = λ k. omega (arith, size);
       steps = λ s.
-          ap (λ (k : ℕ). piece s (take k (c ∷ p))) size ∙ passes s c (take (taken_of p) p) h ∙ u.steps (joined s (c ∷ []))
+          ap (λ (k : ℕ). piece s (take k (c ∷ p))) size ∙ passes s c (take (taken_characters p) p) h ∙ u.steps (joined s (c ∷ []))
           ∙ rw (same.0, same.1) (ap (stopped (has_feed p)) (joined-more s c (first_line p)));
     }
 

@@ -12,16 +12,16 @@ use borrow.Author.Tests.{leb-true, leb-false, eqb-true, eqb-false}
 use Rattle.definitions.specs.Lists.Program.{Kept, line_outcome, written_line, fresh_plan}
 use Rattle.terms.specs.Refusals.{number_of}
 use Rattle.terms.specs.declared.refusals.Refusal.TheVariants.{NotHexadecimal}
-use Rattle.lines.specs.declared.answers.Given.TheVariants.{Plan, Logical}
+use Rattle.lines.specs.declared.answers.LineGiven.TheVariants.{Plan, Logical}
 use Rattle.lines.specs.declared.states.Buffers.{Buffers}
 use Rattle.lines.specs.declared.states.State.{State}
-use Rattle.writing.specs.Written.{WroteAt}
-use Rattle.lines.specs.Answers.{Answered, answer_bytes, plan_length, kept_as, length_after, AnswerIs}
-use Rattle.lines.specs.Pieces.{Session, end_line, piece, input_end, fresh_session, first_line, has_feed}
+use Rattle.byte_writer.specs.Written.{WroteAt}
+use Rattle.lines.specs.Answers.{LineAnswered, answer_bytes, plan_length, kept_as, length_after, AnswerIs}
+use Rattle.lines.specs.Pieces.{InputSession, end_line, piece, input_end, fresh_session, first_line, has_feed}
 use Rattle.lines.specs.Collecting.{Begun, CollectedIs}
 use Rattle.lines.specs.Sessions.{Stands, Makes, most_filled, EndedIs, TakenIs, FedIs, FinishedIs}
 use Rattle.lines.specs.declared.states.Fed.{Fed}
-use Rattle.lines.specs.declared.collecting.Collected.{Collected}
+use Rattle.lines.specs.declared.collecting.CollectedPiece.{CollectedPiece}
 use Rattle.hexadecimal.proofs.DecodeLaws.{long-line}
 use Rattle.hexadecimal.proofs.EncodeLaws.{length_digits, wrote_nothing}
 use Rattle.lines.proofs.PieceLaws.{joined, stopped, upto}
@@ -54,7 +54,7 @@ some-line line count false e = (
   record { held = λ h. absurd (omega (arith, leb-false count (length line) e)); long = λ h. rw length-replicate (omega arith) },
 )
 
-pub some-session : (b : Buffers) (state : State) → state.filled ≤ length b.out → (s : Session) × Stands b state s
+pub some-session : (b : Buffers) (state : State) → state.filled ≤ length b.out → (s : InputSession) × Stands b state s
 some-session b state h =
     let some = some-line b.line state.count (leb state.count (length b.line)) refl in
     (record { kept = kept_as state.n b.plan; begun = some.0 }, record { room = h; kept = refl; begun = some.1 })
@@ -66,7 +66,7 @@ too_long {begun = begun} b n plan size h =
     rw (← bad-line begun (kept_as n plan) (long-line begun (omega (arith, b.long h)))) (refused-line n plan NotHexadecimal)
 
 -- What a line gives fits the room that is asked for it.
-pub written-fits : (plan : List ℕ) (answer : Answered) → plan_length answer ≤ length plan
+pub written-fits : (plan : List ℕ) (answer : LineAnswered) → plan_length answer ≤ length plan
     → length (written_line (answer_bytes plan answer)) ≤ 2 * length plan + 11
 unfolding written_line
 written-fits plan (Ok (Plan n)) h = simp length-append (omega (arith, length_digits (0 ∷ take n plan), length-take-le n plan h))
@@ -75,7 +75,7 @@ written-fits plan (Ok (Logical high low names side)) h = simp length-append
 written-fits plan (Err why) h = simp length-append (omega (arith, length_digits (number_of why ∷ [])))
 
 -- What it gives is written, and none has begun.
-pub line-ended : {out plan line after plan-after : List ℕ} (scratch scratch_after : List ℕ) {state : State} {filled : ℕ} (answer : Answered)
+pub line-ended : {out plan line after plan-after : List ℕ} (scratch scratch_after : List ℕ) {state : State} {filled : ℕ} (answer : LineAnswered)
     → ((begun : List ℕ) → Begun line state.count begun
     → AnswerIs (line_outcome begun (kept_as state.n plan)) state.n plan-after answer)
     → WroteAt state.filled (written_line (answer_bytes plan-after answer)) out after filled
@@ -116,18 +116,18 @@ fed-none p b state h = record {
   makes = λ s stands. record { out = wrote_nothing state.filled b.out; stands = stands };
 }
 
-module _ {p line after : List ℕ} {r : Collected} (state : State) (out plan scratch : List ℕ)
+module _ {p line after : List ℕ} {r : CollectedPiece} (state : State) (out plan scratch : List ℕ)
     (is : CollectedIs p line state.count after r)
     (below : state.filled ≤ most_filled) where
   -- The state once the characters joined the line.
   abbrev joined_state : State
   joined_state = state_of state.n r.count state.filled
 
-  joined-stands : (s : Session) → Stands (lent out plan scratch line) state s
+  joined-stands : (s : InputSession) → Stands (lent out plan scratch line) state s
       → Stands (lent out plan scratch after) joined_state (joined s (first_line p))
   joined-stands s stands = record { room = stands.room; kept = stands.kept; begun = is.line s.begun stands.begun }
 
-  taken-steps : (feed : Bool) → r.ended ≡ feed → (s : Session) → piece s (take r.taken p) ≡ stopped feed (joined s (first_line p))
+  taken-steps : (feed : Bool) → r.ended ≡ feed → (s : InputSession) → piece s (take r.taken p) ≡ stopped feed (joined s (first_line p))
   taken-steps feed e s = rw (is.taken, ← e, is.ended) ((upto p).steps s)
 
   pub fed-ended : {left : Buffers} {next : State} → r.ended ≡ true → EndedIs (lent out plan scratch after) joined_state left next
@@ -215,7 +215,7 @@ finished-room {before} {after} {state} {next} is room h = finished-fits (eqb sta
 
 -- What is written at the end is what the end of the input gives.
 ends-write : {b after : Buffers} {state last : State} (none : Bool) → eqb state.count 0 ≡ none → FinishedIs b state after last
-    → (s : Session) → Stands b state s
+    → (s : InputSession) → Stands b state s
     → state.filled ≤ most_filled → WroteAt state.filled (input_end s.kept s.begun) b.out after.out last.filled
 ends-write {b} {after} {state} true e is s stands room =
     let zero : state.count ≡ 0 = eqb-true state.count 0 e in
@@ -225,7 +225,7 @@ ends-write {state = state} false e is s stands room =
     let some : (state.count ≡ 0 → ⊥) = eqb-false state.count 0 e in
     rw (end-some s.kept s.begun stands.begun some) ((is.ends some room).makes s stands).out
 
-pub at-end : {b after : Buffers} {state last : State} → FinishedIs b state after last → (s : Session) → Stands b state s
+pub at-end : {b after : Buffers} {state last : State} → FinishedIs b state after last → (s : InputSession) → Stands b state s
     → state.filled ≤ most_filled
     → WroteAt state.filled (input_end s.kept s.begun) b.out after.out last.filled
 at-end {state = state} is s stands room = ends-write (eqb state.count 0) refl is s stands room

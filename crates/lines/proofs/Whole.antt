@@ -6,7 +6,7 @@ use mathlib.Core.List.{List, [], ◌∷◌, ◌++◌, append_assoc, append-nil}
 use lib.Dec.{eqb}
 use borrow.Author.Tests.{eqb-true, eqb-false, ne_eqb}
 use Rattle.definitions.specs.Lists.Program.{Kept, into_first, lines_of, output_from, output}
-use Rattle.lines.specs.Pieces.{Session, Step, end_line, join, character, piece, input_end, fresh_session}
+use Rattle.lines.specs.Pieces.{InputSession, InputStep, end_line, join, character, piece, input_end, fresh_session}
 
 -- ---- lines
 
@@ -38,14 +38,14 @@ last_line (one {c = c} h (one {c = d} {line = line} k n)) = into-first c (d ∷ 
 -- ---- one piece
 
 -- What is still to be written when the input goes on with these characters, and what a piece of them makes of it.
-abbrev left : Session → List ℕ → List ℕ
+abbrev left : InputSession → List ℕ → List ℕ
 left s input = output_from s.kept (lines_of (s.begun ++ input))
 
-abbrev at_end : Session → List ℕ
+abbrev at_end : InputSession → List ℕ
 at_end s = input_end s.kept s.begun
 
 Whole : List ℕ → Type 0
-Whole input = (s : Session) → NoFeed s.begun → left s input ≡ (piece s input).out ++ at_end (piece s input).after
+Whole input = (s : InputSession) → NoFeed s.begun → left s input ≡ (piece s input).out ++ at_end (piece s input).after
 
 line-at-end : (kept : Kept) {begun : List ℕ} → NoFeed begun → output_from kept (lines_of begun) ≡ input_end kept begun
 unfolding input_end output_from end_line lines_of
@@ -63,14 +63,14 @@ whole-feed input ih s n =
     ∙ ap (λ (l : List ℕ). (end_line s).out ++ l) (ih (end_line s).after none)
     ∙ sym (append_assoc (end_line s).out _ _)
 
-joins : (s : Session) (c : ℕ) → (c ≡ 10 → ⊥) → join s (c ∷ []) ≡ character s c
+joins : (s : InputSession) (c : ℕ) → (c ≡ 10 → ⊥) → join s (c ∷ []) ≡ character s c
 unfolding character
 joins s c h = simp (ne_eqb c 10 h)
 
 whole-more : (c : ℕ) (input : List ℕ) → (c ≡ 10 → ⊥) → Whole input → Whole (c ∷ input)
 unfolding Whole piece join
 whole-more c input h ih s n =
-    subst (λ (one : Step). left s (c ∷ input) ≡ (one.out ++ (piece one.after input).out) ++ at_end (piece one.after input).after)
+    subst (λ (one : InputStep). left s (c ∷ input) ≡ (one.out ++ (piece one.after input).out) ++ at_end (piece one.after input).after)
     (joins s c h)
     (ap (λ (l : List ℕ). output_from s.kept (lines_of l)) (sym (append_assoc s.begun (c ∷ []) input))
     ∙ ih (join s (c ∷ [])).after (one_more n h))
@@ -85,7 +85,7 @@ whole (c ∷ input) = whole-one c input (eqb c 10) refl (whole input)
 
 -- ---- a piece that is cut
 
-pub piece-append : (s : Session) (p q : List ℕ)
+pub piece-append : (s : InputSession) (p q : List ℕ)
     → ((piece s (p ++ q)).out ≡ (piece s p).out ++ (piece (piece s p).after q).out) ×
     ((piece s (p ++ q)).after ≡ (piece (piece s p).after q).after)
 unfolding piece

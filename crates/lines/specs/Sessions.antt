@@ -1,29 +1,29 @@
 -- Which session the program's numbers and buffers stand for, and what a step makes of them.
 use Rattle.std.specs.Prelude.{ℕ, ◌<◌, ◌≤◌, ◌≡◌, List, length, take, leb, if◌then◌else◌}
 use Rattle.std.proofs.lemmas.List.Edits.{sets}
-use Rattle.writing.specs.Written.{WroteAt}
+use Rattle.byte_writer.specs.Written.{WroteAt}
 use Rattle.lines.specs.Answers.{kept_as}
 use Rattle.lines.specs.Scratch.{line_scratch}
-use Rattle.lines.specs.Pieces.{Session, Step, end_line, piece, first_line, has_feed}
-use Rattle.lines.specs.Collecting.{Begun, taken_of, count_after}
+use Rattle.lines.specs.Pieces.{InputSession, InputStep, end_line, piece, first_line, has_feed}
+use Rattle.lines.specs.Collecting.{Begun, taken_characters, count_after}
 use Rattle.lines.specs.declared.states.Buffers.{Buffers}
 use Rattle.lines.specs.declared.states.State.{State}
 use Rattle.lines.specs.declared.states.Fed.{Fed}
 
 -- n and the plan buffer are what is kept, the counted characters those of the line that has begun; what is to be written is in its buffer.
-pub record Stands (b : Buffers) (state : State) (s : Session) : Type 0 where
+pub record Stands (b : Buffers) (state : State) (s : InputSession) : Type 0 where
   pub room : state.filled ≤ length b.out
   pub kept : s.kept ≡ kept_as state.n b.plan
   pub begun : Begun b.line state.count s.begun
 
 -- A step was made: what it writes follows what was to be written, and the state stands for the session afterwards.
-pub record Made (step : Step) (before : Buffers) (state : State) (after : Buffers) (next : State) : Type 0 where
+pub record Made (step : InputStep) (before : Buffers) (state : State) (after : Buffers) (next : State) : Type 0 where
   pub out : WroteAt state.filled step.out before.out after.out next.filled
   pub stands : Stands after next step.after
 
 -- The same step of every session that the state stands for.
-abbrev pub Makes : (step : Session → Step) (before : Buffers) (state : State) (after : Buffers) (next : State) → Type 0
-Makes step before state after next = (s : Session) → Stands before state s → Made (step s) before state after next
+abbrev pub Makes : (step : InputSession → InputStep) (before : Buffers) (state : State) (after : Buffers) (next : State) → Type 0
+Makes step before state after next = (s : InputSession) → Stands before state s → Made (step s) before state after next
 
 -- The most that may wait to be written where a line is answered: a buffer's 65,536 bytes less the longest line out, that of 16,384 bytes.
 abbrev pub most_filled : ℕ
@@ -51,7 +51,7 @@ pub record Idle (before : Buffers) (state : State) (after : Buffers) (next : Sta
 
 -- A piece was taken up to its first line feed.
 pub record TakenIs (p : List ℕ) (before : Buffers) (state : State) (after : Buffers) (r : Fed) : Type 0 where
-  pub taken : r.taken ≡ taken_of p
+  pub taken : r.taken ≡ taken_characters p
   pub counts : r.state.count ≡ (if has_feed p then 0 else joined_count p before state)
   pub line : after.line ≡ sets before.line state.count (first_line p)
   pub scratch :

@@ -6,31 +6,31 @@ ghost use Rattle.lines.specs.Answers.{kept_as, AnswerIs};
 ghost use Rattle.lines.specs.Calling.{line_answer};
 ghost use Rattle.lines.specs.Scratch.{bytes_scratch, line_scratch};
 
-use super::answers::{Answer, Given};
+use super::answers::{LineAnswer, LineGiven};
+use call_answers::answers;
 use call_exchange::call::exchange;
 use call_extract::call::extract;
 use call_load::load;
 use hexadecimal::hex::decode;
-use join_filter::answers;
 use logical_filter::call::logical;
 use terms::refusals::Refusal;
 use terms::settings::default_settings;
 
 // A call's answer as that of its line.
-fn of_call(answer: answers::Answer) -> Answer
+fn of_call(answer: answers::Answer) -> LineAnswer
     ensures { result ≡ line_answer answer }
 {
-    answer.map(Given::Plan)
+    answer.map(LineGiven::Plan)
 }
 
 // `02..`: logical.
-fn logical_line(bytes: &[u8]) -> Answer
+fn logical_line(bytes: &[u8]) -> LineAnswer
     ensures { (n : ℕ) (plan : List ℕ) → AnswerIs (program.logical_line bytes.now (kept_as n plan)) n plan result }
 {
     let names = logical(bytes)?;
     let [high, low] = names.found.mask.to_be_bytes();
     let side = u8::from(names.side);
-    Ok(Given::Logical(high, low, names.found.names as u8, side))
+    Ok(LineGiven::Logical(high, low, names.found.names as u8, side))
 }
 
 // Nothing follows the one byte that asks for an extract or an exchange; else 7.
@@ -45,7 +45,7 @@ fn alone(size: usize) -> Result<(), Refusal>
 
 // The call that a line's bytes ask for; they are the first `size` of the scratch, a slice of 16,384 bytes as a call takes one. A load is as
 // with a table of 1,024 records, which none needs here: extract finds the nodes again.
-fn call_line(plan: &mut [u8], scratch: &mut [u8], size: usize, n: usize) -> Answer
+fn call_line(plan: &mut [u8], scratch: &mut [u8], size: usize, n: usize) -> LineAnswer
     requires { (size ≤ length scratch.old) × (length scratch.old ≡ 16384) }
     ensures answer_is { AnswerIs (program.line_of (take size scratch.old) (kept_as n plan.old)) n plan.new result }
     ensures scratch_after { scratch.new
@@ -57,7 +57,7 @@ fn call_line(plan: &mut [u8], scratch: &mut [u8], size: usize, n: usize) -> Answ
     match scratch[0] {
         0x01 => {
             let loaded = load(plan, &scratch[..size], 1024)?;
-            Ok(Given::Plan(loaded.length))
+            Ok(LineGiven::Plan(loaded.length))
         }
         0x02 => logical_line(&scratch[..size]),
         0x21 => {
@@ -73,7 +73,7 @@ fn call_line(plan: &mut [u8], scratch: &mut [u8], size: usize, n: usize) -> Answ
 }
 
 // What a line of characters gives. (With `ok_or` and `?` it would be no shorter.)
-pub fn answer_line(plan: &mut [u8], scratch: &mut [u8], line: &[u8], n: usize) -> Answer
+pub fn answer_line(plan: &mut [u8], scratch: &mut [u8], line: &[u8], n: usize) -> LineAnswer
     requires { length scratch.old ≡ 16384 }
     ensures answer_is { AnswerIs (program.line_outcome line.now (kept_as n plan.old)) n plan.new result }
     ensures scratch_after { scratch.new ≡ line_scratch line.now (kept_as n plan.old) scratch.old }

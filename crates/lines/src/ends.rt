@@ -5,13 +5,19 @@ ghost use Rattle.lines.specs.Answers.{plan_length, kept_as, AnswerIs};
 ghost use Rattle.lines.specs.Collecting.{Begun};
 ghost use Rattle.lines.specs.Sessions.{begun_scratch, EndedIs};
 
-use super::answers::{Answer, length_after, put_answer};
+use super::answers::{LineAnswer, length_after, put_answer};
 use super::calls::answer_line;
 use super::states::State;
 use terms::refusals::Refusal;
 
 // What the line that has begun gives; one that the buffer does not hold is too long.
-fn answer_begun(plan: &mut [u8], scratch: &mut [u8], line: &[u8], count: usize, n: usize) -> Answer
+fn answer_begun(
+    plan: &mut [u8],
+    scratch: &mut [u8],
+    line: &[u8],
+    count: usize,
+    n: usize,
+) -> LineAnswer
     requires { (length scratch.old ≡ 16384) × (length line.now ≡ 32768) }
     ensures result_in_bounds { plan_length result ≤ length plan.old }
     ensures by_index { (begun : List ℕ) → Begun line.now count begun

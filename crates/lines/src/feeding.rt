@@ -2,12 +2,12 @@
 ghost use Rattle.std.specs.Prelude.{◌≤◌};
 ghost use Rattle.lines.specs.Sessions.{EndedIs, FedIs, FinishedIs};
 
-use super::collecting::collect;
+use super::collecting::collect_piece;
 use super::ends::end_line;
 use super::states::{Buffers, Fed, MOST_FILLED, State};
 
 // The line that has begun in the buffers is at its end.
-fn end(buffers: &mut Buffers, state: State) -> State
+fn end_begun(buffers: &mut Buffers, state: State) -> State
     requires { state.filled ≤ 32757 }
     ensures { EndedIs buffers.old state buffers.new result }
 {
@@ -27,7 +27,7 @@ pub fn feed(buffers: &mut Buffers, piece: &[u8], state: State) -> Fed
     if MOST_FILLED < state.filled {
         return Fed { taken: 0, state };
     }
-    let collected = collect(&mut buffers.line, piece, state.count);
+    let collected = collect_piece(&mut buffers.line, piece, state.count);
     let joined = State {
         count: collected.count,
         ..state
@@ -35,7 +35,7 @@ pub fn feed(buffers: &mut Buffers, piece: &[u8], state: State) -> Fed
     Fed {
         taken: collected.taken,
         state: if collected.ended {
-            end(buffers, joined)
+            end_begun(buffers, joined)
         } else {
             joined
         },
@@ -49,5 +49,5 @@ pub fn finish(buffers: &mut Buffers, state: State) -> State
     if state.count == 0 || MOST_FILLED < state.filled {
         return state;
     }
-    end(buffers, state)
+    end_begun(buffers, state)
 }

@@ -24,7 +24,7 @@ use mathlib.Core.Logic.{inl, inr}
 use Rattle.expression.proofs.Parts.{left-stands, right-stands, both_ends, both_end, call-end}
 use Rattle.sedona_expr.specs.Parsed.{BothSides}
 use Rattle.logical_filter.specs.Logicals.{NamesAre}
-use Rattle.logical_filter.specs.declared.predicate_names.Collected.{Collected}
+use Rattle.logical_filter.specs.declared.predicate_names.CollectedNames.{CollectedNames}
 use Rattle.expression.proofs.AndLeaves.{and-leaves, binary-leaf, call-leaf, plain-leaf}
 use Rattle.logical_filter.proofs.NameMasks.{mask_append}
 
@@ -83,7 +83,7 @@ module _ (operator : ℕ) (l r : Expr) where
 -- ---- the walk
 
 -- The names of one leaf are those of the node.
-leaf-names : (t : Expr) {e : Expr} {end stop : ℕ} {r : Collected} → leaves t ≡ e ∷ [] → end ≡ stop → NamesAre (leaf_name e ∷ []) end r
+leaf-names : (t : Expr) {e : Expr} {end stop : ℕ} {r : CollectedNames} → leaves t ≡ e ∷ [] → end ≡ stop → NamesAre (leaf_name e ∷ []) end r
     → NamesAre (map leaf_name (leaves t)) stop r
 leaf-names t one same h = rw (one, ← same) h
 
@@ -92,7 +92,7 @@ pub plain-names : {t : Expr} → PlainNode t → (at next : ℕ) → next ≡ at
 plain-names {t} p at next e = leaf-names t (plain-leaf p) refl (record { names = unnamed (plain-name p); next = e })
 
 module _ {c : Columns} {s : List ℕ} {at : ℕ} {t : Expr} where
-  pub binary-names : {operator first : ℕ} (b : Both (binary operator) c s at first t) {r : Collected}
+  pub binary-names : {operator first : ℕ} (b : Both (binary operator) c s at first t) {r : CollectedNames}
       → NamesAre (leaf_name (binary operator b.l b.r) ∷ []) (first + length (exprs_bytes (cons b.l (cons b.r nil)))) r
       → NamesAre (map leaf_name (leaves t)) (at + length (expr_bytes t)) r
   binary-names b h = leaf-names t (binary-leaf b) (both_end b _ refl) h
@@ -107,7 +107,7 @@ module _ {c : Columns} {s : List ℕ} {at : ℕ} {t : Expr} where
     next = call-end b next (end c b.arguments b.stands.row);
   })
 
-  pub both-names : {first : ℕ} → Both and c s at first t → (x y : Collected)
+  pub both-names : {first : ℕ} → Both and c s at first t → (x y : CollectedNames)
       → OfTree s first (λ l. NamesAre (map leaf_name (leaves l)) (first + length (expr_bytes l)) x)
       → OfTree s x.next (λ r. NamesAre (map leaf_name (leaves r)) (x.next + length (expr_bytes r)) y)
       → NamesAre (map leaf_name (leaves t)) (at + length (expr_bytes t)) (record { mask = bit_or x.mask y.mask; next = y.next })

@@ -5,7 +5,7 @@ use Rattle.definitions.specs.Words.Basics.{same_name, any}
 use Rattle.definitions.specs.Words.Expression.{Expr}
 use Rattle.definitions.specs.Words.Leaves.{leaves}
 use Rattle.definitions.specs.Filter.Names.{spatial_names, leaf_name, mask, distinct}
-use Rattle.logical_filter.specs.declared.predicate_names.Collected.{Collected}
+use Rattle.logical_filter.specs.declared.predicate_names.CollectedNames.{CollectedNames}
 use Rattle.logical_filter.specs.declared.predicate_names.PredicateNames.{PredicateNames}
 
 -- The names at some references.
@@ -18,7 +18,7 @@ apart [] = true
 apart (name ∷ names) = not (any (same_name name) names) && apart names
 
 -- These names were found, and the walk ended there.
-pub record NamesAre (found : List (List ℕ)) (end : ℕ) (r : Collected) : Type 0 where
+pub record NamesAre (found : List (List ℕ)) (end : ℕ) (r : CollectedNames) : Type 0 where
   pub names : r.mask ≡ mask spatial_names found
   pub next : r.next ≡ end
 

@@ -86,13 +86,13 @@ const ST_DWITHIN: u16 = 1024;
 
 // Names that were collected, and where the walk ended.
 #[derive(Clone, Copy)]
-pub struct Collected {
+pub struct CollectedNames {
     pub mask: u16,
     pub next: usize,
 }
 
 // The names of a comparison: `st_dwithin`, where the side that is read measures a distance.
-fn collect_comparison(s: &[u8], operator: u8, left: usize) -> Collected
+fn collect_comparison(s: &[u8], operator: u8, left: usize) -> CollectedNames
     requires { Pair s.now left }
     ensures { OfPair s.now left (λ c l r.
         NamesAre (leaf_name (binary operator l r) ∷ []) (left + length (exprs_bytes (cons l (cons r nil)))) result) }
@@ -103,29 +103,29 @@ fn collect_comparison(s: &[u8], operator: u8, left: usize) -> Collected
         Some(sides) if is_distance_expr(s, sides.measured) => ST_DWITHIN,
         _ => 0,
     };
-    Collected { mask, next }
+    CollectedNames { mask, next }
 }
 
 // The names of the AND-leaves of an expression.
-fn collect(s: &[u8], at: usize) -> Collected
+fn names_at(s: &[u8], at: usize) -> CollectedNames
     requires { Tree s.now at }
     ensures { OfTree s.now at (λ t. NamesAre (map leaf_name (leaves t)) (at + length (expr_bytes t)) result) }
 {
     match node_at(s, at) {
         Node::And(first) => {
-            let left = collect(s, first);
-            let right = collect(s, left.next);
-            Collected {
+            let left = names_at(s, first);
+            let right = names_at(s, left.next);
+            CollectedNames {
                 mask: left.mask | right.mask,
                 next: right.next,
             }
         }
         Node::Binary(operator, left) => collect_comparison(s, operator, left),
-        Node::Call(call) => Collected {
+        Node::Call(call) => CollectedNames {
             mask: name_bit(call.name(s), &SPATIAL_NAMES),
             next: end_children(s, call.first, call.count),
         },
-        Node::Plain(head) => Collected {
+        Node::Plain(head) => CollectedNames {
             mask: 0,
             next: end_children(s, head.next, head.children),
         },
@@ -144,7 +144,7 @@ pub fn collect_spatial_predicate_names(s: &[u8], at: usize) -> PredicateNames
     requires { Tree s.now at }
     ensures { OfTree s.now at (PredicateNamesAre result) }
 {
-    let all = collect(s, at);
+    let all = names_at(s, at);
     PredicateNames {
         mask: all.mask,
         names: all.mask.count_ones(),

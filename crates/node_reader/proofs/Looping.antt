@@ -12,7 +12,7 @@ use Rattle.terms.specs.declared.refusals.Refusal.{Refusal}
 use Rattle.terms.specs.Refusals.{number_of}
 use Rattle.expression.specs.declared.heads.Head.{Head}
 use Rattle.node_rows.specs.Stores.{Stored}
-use Rattle.node_reader.specs.Nodes.{NodeHead, Lent}
+use Rattle.node_reader.specs.Nodes.{NodeHead, LentRows}
 use Rattle.node_reader.proofs.Storing.{Below, leaf, node-filled, lent_again}
 use Rattle.node_reader.proofs.OpenNodes.{Begun, Opened, root, unread, Noted, Closing}
 use Rattle.node_reader.proofs.OpenNodes.{noted_again, child-read, opened-below, pushed, stops, closing}
@@ -33,7 +33,7 @@ pub record InLoop (b : Begun) (more own place : List ℕ) (level next i depth : 
 
 -- The node of the beginning is open.
 pub begins : (b : Begun) (more own place : List ℕ) (head : Head) → NodeHead b.bytes b.at 64 b.count b.columns (Ok head) → 0 < head.children
-    → Lent b.bytes b.numbers b.indexes → b.at ≤ length b.bytes → Noted more own place 1 head.children b.count b.at
+    → LentRows b.bytes b.numbers b.indexes → b.at ≤ length b.bytes → Noted more own place 1 head.children b.count b.at
     → length more ≡ 65 → length own ≡ 65 → length place ≡ 65
     → InLoop b more own place 1 head.next (b.count + 1) 2 b.numbers b.indexes
 begins b more own place head above some lent within noted wide owns places = record {
@@ -53,7 +53,7 @@ begins b more own place head above some lent within noted wide owns places = rec
 
 module _ {b : Begun} {more own place : List ℕ} {level next i depth : ℕ} {numbers indexes : List ℕ}
     (r : InLoop b more own place level next i depth numbers indexes) where
-  lent-now : Lent b.bytes b.numbers b.indexes → Lent b.bytes numbers indexes
+  lent-now : LentRows b.bytes b.numbers b.indexes → LentRows b.bytes numbers indexes
   lent-now lent = lent_again r.same r.alike lent
 
   -- A child of the last open node is read.
@@ -69,7 +69,7 @@ module _ {b : Begun} {more own place : List ℕ} {level next i depth : ℕ} {num
         → node b.columns 64 b.count (drop b.at b.bytes) ≡ stopped (number_of why)
     refused why h = stops why h taken
 
-    module _ (lent : Lent b.bytes b.numbers b.indexes) (head : Head)
+    module _ (lent : LentRows b.bytes b.numbers b.indexes) (head : Head)
         (above : NodeHead b.bytes next (64 - level) i b.columns (Ok head)) where
       pub goes-down : (head.children ≡ 0 → ⊥) → (deeper : ℕ) → deeper ≡ max depth (level + 1 + 1)
           → InLoop b (set (set more level (get_or more level 0 - 1)) (level + 1) head.children) (set own (level + 1) i)

@@ -14,8 +14,8 @@ use Rattle.terms.specs.declared.refusals.Refusal.{Refusal}
 use Rattle.terms.specs.Refusals.{number_of}
 use Rattle.expression.specs.declared.heads.Head.{Head}
 use Rattle.node_reader.specs.Heads.{depth_above}
-use Rattle.node_rows.specs.Rows.{Collected, CollectedAll}
-use Rattle.node_reader.specs.Nodes.{WalkedIs, Counted, NodeHead, Lent}
+use Rattle.node_rows.specs.Rows.{NodesCollected, CollectedAll}
+use Rattle.node_reader.specs.Nodes.{WalkedIs, CountBounds, NodeHead, LentRows}
 use Rattle.node_reader.specs.declared.walk.Walked.{Walked}
 use Rattle.node_reader.proofs.Walks.{InRow, row-begins, row-goes-on, row-stops, row_ends}
 use Rattle.node_reader.proofs.Storing.{Below, inner}
@@ -34,7 +34,7 @@ pub record Begun : Type 0 where
 abbrev pub NodeWalked : (b : Begun) (levels at count : ℕ) (numbers indexes : List ℕ) → Result Walked Refusal → (numbered indexed : List ℕ)
     → Type 0
 NodeWalked b levels at count numbers indexes r numbered indexed =
-    WalkedIs b.bytes at count r (node b.columns levels) depth (length numbers) (Collected at count numbers indexes numbered indexed)
+    WalkedIs b.bytes at count r (node b.columns levels) depth (length numbers) (NodesCollected at count numbers indexes numbered indexed)
 
 -- Nothing was read: whatever is right for the node here is right for that of the beginning.
 pub record Unread (b : Begun) (next i reach : ℕ) (numbered indexed : List ℕ) : Type 0 where
@@ -47,7 +47,7 @@ pub record Unread (b : Begun) (next i reach : ℕ) (numbered indexed : List ℕ)
 pub record Whole (b : Begun) (next i reach : ℕ) (numbered indexed : List ℕ) : Type 0 where
   pub deep : 0 < reach
   pub read : NodeWalked b 64 b.at b.count b.numbers b.indexes (Ok (record { next = next; count = i; depth = reach })) numbered indexed
-  pub counted : Counted b.count 0 (Ok (record { next = next; count = i; depth = reach }))
+  pub counted : CountBounds b.count 0 (Ok (record { next = next; count = i; depth = reach }))
 
 -- The node of the beginning is being read, or was.
 pub data Root (b : Begun) (taken next i reach : ℕ) (numbered indexed : List ℕ) : Type 0 where
@@ -66,7 +66,7 @@ pub record Level : Type 0 where
 -- It has this index and stands there, and so many children are to come; the deepest node of all that was read has so many levels.
 pub record OpenNode (b : Begun) (v : Level) (l at index to_come next i reach : ℕ) (numbered indexed : List ℕ) : Type 0 where
   pub within : at ≤ length b.bytes
-  pub lent : Lent b.bytes v.numbers v.indexes
+  pub lent : LentRows b.bytes v.numbers v.indexes
   pub above : NodeHead b.bytes at (64 - l) index b.columns (Ok v.head)
   pub row : InRow b.bytes v.head.next (index + 1) v.head.children (node b.columns (64 - suc l)) v.numbers v.indexes next i v.deepest v.done
       numbered indexed
@@ -137,7 +137,7 @@ noted_again {b} {more} {own} {place} {next = next} {i} {reach} {numbered} {index
 
 -- A child was read.
 pub child-read : {b : Begun} {more own place : List ℕ} {l at index reach : ℕ} {numbers indexes numbered indexed : List ℕ} (first : Walked)
-    → NodeWalked b (64 - l) at index numbers indexes (Ok first) numbered indexed → Counted index 0 (Ok first) → 0 < first.depth
+    → NodeWalked b (64 - l) at index numbers indexes (Ok first) numbered indexed → CountBounds index 0 (Ok first) → 0 < first.depth
     → length numbered ≡ length numbers → length indexed ≡ length indexes
     → Opened b more own place 1 l at index reach numbers indexes
     → Opened b more own place 0 l first.next first.count (max reach (l + first.depth)) numbered indexed
@@ -170,7 +170,7 @@ child-read first read counted deep same alike (open_node {v = v} noted node rest
 
 -- A node with children is open once it is noted.
 pub opened-below : {b : Begun} {more own place : List ℕ} {l next i reach : ℕ} {numbered indexed : List ℕ} (head : Head)
-    → NodeHead b.bytes next (64 - l) i b.columns (Ok head) → 0 < head.children → next ≤ length b.bytes → Lent b.bytes numbered indexed
+    → NodeHead b.bytes next (64 - l) i b.columns (Ok head) → 0 < head.children → next ≤ length b.bytes → LentRows b.bytes numbered indexed
     → Noted more own place (suc l) head.children i next → Opened b more own place 1 l next i reach numbered indexed
     → Opened b more own place 0 (suc l) head.next (i + 1) (max reach (suc l)) numbered indexed
 opened-below {b} {l = l} {i = i} {reach} {numbered} {indexed} head above some within lent noted rest =
@@ -188,7 +188,7 @@ opened-below {b} {l = l} {i = i} {reach} {numbered} {indexed} head above some wi
     }) rest
 
 pub pushed : {b : Begun} {more own place : List ℕ} {l next i reach : ℕ} {numbered indexed : List ℕ} (head : Head)
-    → NodeHead b.bytes next (64 - l) i b.columns (Ok head) → 0 < head.children → next ≤ length b.bytes → Lent b.bytes numbered indexed
+    → NodeHead b.bytes next (64 - l) i b.columns (Ok head) → 0 < head.children → next ≤ length b.bytes → LentRows b.bytes numbered indexed
     → suc l < length more → suc l < length own → suc l < length place → Opened b more own place 1 l next i reach numbered indexed
     → Opened b (set more (suc l) head.children) (set own (suc l) i) (set place (suc l) next) 0 (suc l) head.next (i + 1)
     (max reach (suc l)) numbered indexed

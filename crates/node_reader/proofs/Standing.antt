@@ -14,11 +14,11 @@ use Rattle.theorems.proofs.Inverse.{NodeBack, node-back}
 use Rattle.node_reader.specs.declared.walk.Walked.{Walked}
 use Rattle.std.specs.Prelude.{Result, Ok, Err}
 use Rattle.terms.specs.declared.refusals.Refusal.{Refusal}
-use Rattle.node_reader.specs.Nodes.{WalkedIs, Counted, Lent}
+use Rattle.node_reader.specs.Nodes.{WalkedIs, CountBounds, LentRows}
 use Rattle.node_reader.specs.Places.{ExpressionIs, ExpressionIn}
 use Rattle.expression.specs.Places.{Between}
 use Rattle.expression.specs.Nodes.{Stands}
-use Rattle.node_rows.specs.Rows.{Collected}
+use Rattle.node_rows.specs.Rows.{NodesCollected}
 use Rattle.node_rows.proofs.RowLaws.{nodes-below}
 use Rattle.node_rows.proofs.TableLaws.{collected-tabled}
 
@@ -49,9 +49,9 @@ module _ (c : Columns) (s : List ℕ) (at levels count : ℕ) (bytes : AllBytes 
 
 -- The walk of a root is the reading of an expression, which stands there.
 pub expression-stands : (c : Columns) (s : List ℕ) (at before : ℕ) (r : Result Walked Refusal) (numbers indexes numbered indexed : List ℕ)
-    → AllBytes s → at ≤ length s → Lent s numbers indexes → length numbered ≡ length numbers
-    → WalkedIs s at before r (node c 64) depth (length numbers) (Collected at before numbers indexes numbered indexed)
-    → Counted before 0 r → ExpressionIn s at before r c numbered indexed
+    → AllBytes s → at ≤ length s → LentRows s numbers indexes → length numbered ≡ length numbers
+    → WalkedIs s at before r (node c 64) depth (length numbers) (NodesCollected at before numbers indexes numbered indexed)
+    → CountBounds before 0 r → ExpressionIn s at before r c numbered indexed
 unfolding expression
 expression-stands c s at before (Ok walked) numbers indexes numbered indexed bytes within lent same
     (place, e, reads, deep, filled) counted =

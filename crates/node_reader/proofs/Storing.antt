@@ -13,12 +13,12 @@ use Rattle.node_reader.specs.Heads.{depth_above}
 use Rattle.std.specs.Prelude.{Ok}
 use Rattle.expression.specs.declared.heads.Head.{Head}
 use Rattle.node_rows.specs.Numbers.{number}
-use Rattle.node_rows.specs.Rows.{Collected, CollectedAll}
+use Rattle.node_rows.specs.Rows.{NodesCollected, CollectedAll}
 use Rattle.node_rows.specs.Stores.{Storable, Stored}
 use Rattle.node_rows.specs.declared.collecting.Passed.{Passed}
 use Rattle.node_rows.proofs.RowLaws.{kind-byte, kind-small, nodes-below}
 use Rattle.node_rows.proofs.CollectWalk.{collects-own}
-use Rattle.node_reader.specs.Nodes.{WalkedIs, Counted, NodeHead, Lent}
+use Rattle.node_reader.specs.Nodes.{WalkedIs, CountBounds, NodeHead, LentRows}
 use Rattle.node_reader.specs.declared.walk.Walked.{Walked}
 use Rattle.node_reader.proofs.Standing.{There, node-there}
 use Rattle.node_reader.proofs.Walks.{its-children, node-read, node-walks, row-begins, row_ends}
@@ -30,12 +30,12 @@ pub record Below (c : Columns) (s : List ℕ) (at levels count : ℕ) (head : He
   pub above : NodeHead s at levels count c (Ok head)
   pub bytes : AllBytes s
   pub within : at ≤ length s
-  pub lent : Lent s numbers indexes
+  pub lent : LentRows s numbers indexes
   pub same : length numbers₁ ≡ length numbers
   pub alike : length indexes₁ ≡ length indexes
   pub below : WalkedIs s head.next (count + 1) (Ok walked) (repeat_exprs head.children (node c (levels - 1))) depth_above (length numbers)
       (CollectedAll head.next (count + 1) numbers indexes numbers₁ indexes₁)
-  pub counted : Counted (count + 1) 1 (Ok walked)
+  pub counted : CountBounds (count + 1) 1 (Ok walked)
 
 module _ {c : Columns} {s : List ℕ} {at levels count : ℕ} {head : Head} {numbers indexes numbers₁ indexes₁ : List ℕ} {walked : Walked}
     (b : Below c s at levels count head numbers indexes numbers₁ indexes₁ walked) where
@@ -71,7 +71,7 @@ module _ {c : Columns} {s : List ℕ} {at levels count : ℕ} {head : Head} {num
 
   collected : (numbers₂ indexes₂ : List ℕ)
       → Stored numbers₁ indexes₁ count (record { kind = get_or s at 0; start = at; end = walked.next }) walked.count numbers₂ indexes₂
-      → walked.count ≤ length numbers → Collected at count numbers indexes numbers₂ indexes₂ end itself
+      → walked.count ≤ length numbers → NodesCollected at count numbers indexes numbers₂ indexes₂ end itself
   unfolding collected-below itself end
   collected numbers₂ indexes₂ stored fits =
       let place : count < length numbers = omega (arith, nodes-below itself, there.counted) in
@@ -80,28 +80,28 @@ module _ {c : Columns} {s : List ℕ} {at levels count : ℕ} {head : Head} {num
       subst (collected-below end) (sym (its-children s at count head (node c levels) (node c (levels - 1)) b.above.1 b.above.2 b.above.3
       (length numbers) collected-below walked b.below)) (b.below.4 fits) in
       let begins : head.next ≡ at + length (head_bytes itself) = omega (arith, told.ends, there.span.ends, tree-length itself) in
-      subst (λ (l : List ℕ). Collected at count numbers indexes l indexes₂ end itself) (sym put.0)
-      (subst (λ (l : List ℕ). Collected at count numbers indexes (set numbers₁ count
+      subst (λ (l : List ℕ). NodesCollected at count numbers indexes l indexes₂ end itself) (sym put.0)
+      (subst (λ (l : List ℕ). NodesCollected at count numbers indexes (set numbers₁ count
       (number (record { kind = get_or s at 0; start = at; end = walked.next }))) l end itself) (sym put.1)
       (collects-own count there.stands begins told place (omega (arith, b.lent.long)) _ refl))
 
   pub node-filled : (numbers₂ indexes₂ : List ℕ)
       → Stored numbers₁ indexes₁ count (record { kind = get_or s at 0; start = at; end = walked.next }) walked.count numbers₂ indexes₂
-      → WalkedIs s at count (Ok walked) (node c levels) depth (length numbers) (Collected at count numbers indexes numbers₂ indexes₂)
+      → WalkedIs s at count (Ok walked) (node c levels) depth (length numbers) (NodesCollected at count numbers indexes numbers₂ indexes₂)
   unfolding collected-below itself end
   node-filled numbers₂ indexes₂ stored =
       node-walks s at count head (node c levels) (node c (levels - 1)) b.above.1 b.above.2 b.above.3 (length numbers) collected-below
-      walked b.below (Collected at count numbers indexes numbers₂ indexes₂) (collected numbers₂ indexes₂ stored)
+      walked b.below (NodesCollected at count numbers indexes numbers₂ indexes₂) (collected numbers₂ indexes₂ stored)
 
 -- A node's children were walked, or it is a leaf and has none; the rows are as they were left.
 module _ {c : Columns} {s : List ℕ} {at levels count : ℕ} {head : Head} {numbers indexes : List ℕ}
-    (above : NodeHead s at levels count c (Ok head)) (bytes : AllBytes s) (within : at ≤ length s) (lent : Lent s numbers indexes)
+    (above : NodeHead s at levels count c (Ok head)) (bytes : AllBytes s) (within : at ≤ length s) (lent : LentRows s numbers indexes)
     {numbers₁ indexes₁ : List ℕ} {walked : Walked} where
   pub inner : {numbers₂ indexes₂ : List ℕ} {below : Walked} → numbers₁ ≡ numbers₂ → indexes₁ ≡ indexes₂ → walked ≡ below
       → length numbers₂ ≡ length numbers → length indexes₂ ≡ length indexes
       → WalkedIs s head.next (count + 1) (Ok below) (repeat_exprs head.children (node c (levels - 1))) depth_above (length numbers)
       (CollectedAll head.next (count + 1) numbers indexes numbers₂ indexes₂)
-      → Counted (count + 1) 1 (Ok below) → Below c s at levels count head numbers indexes numbers₁ indexes₁ walked
+      → CountBounds (count + 1) 1 (Ok below) → Below c s at levels count head numbers indexes numbers₁ indexes₁ walked
   inner e f g same alike below counted =
       rw (e, f, g)
       (record { above = above; bytes = bytes; within = within; lent = lent; same = same; alike = alike; below = below; counted = counted })
@@ -115,5 +115,5 @@ module _ {c : Columns} {s : List ℕ} {at levels count : ℕ} {head : Head} {num
 
 -- Rows as long as those that were lent may be lent, too.
 pub lent_again : {s numbers indexes numbers₁ indexes₁ : List ℕ} → length numbers₁ ≡ length numbers → length indexes₁ ≡ length indexes
-    → Lent s numbers indexes → Lent s numbers₁ indexes₁
+    → LentRows s numbers indexes → LentRows s numbers₁ indexes₁
 lent_again same alike lent = record { long = omega (arith, lent.long); short = λ some. lent.short (omega arith) }

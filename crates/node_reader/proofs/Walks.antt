@@ -22,10 +22,10 @@ use Rattle.terms.specs.Refusals.{number_of}
 use Rattle.expression.specs.Nodes.{children_of}
 use Rattle.expression.specs.declared.heads.Head.{Head}
 use Rattle.node_reader.specs.Heads.{HeadIs, depth_above}
-use Rattle.node_rows.specs.Rows.{Collected, CollectedAll}
+use Rattle.node_rows.specs.Rows.{NodesCollected, CollectedAll}
 use Rattle.node_rows.specs.declared.collecting.Passed.{Passed}
 use Rattle.node_rows.proofs.CollectWalk.{collects-nil, collects-cons}
-use Rattle.node_reader.specs.Nodes.{WalkedIs, Counted, NodeHead}
+use Rattle.node_reader.specs.Nodes.{WalkedIs, CountBounds, NodeHead}
 use Rattle.theorems.proofs.Cases.{each}
 use Rattle.theorems.proofs.ReaderLaws.{after, halts, step, given}
 
@@ -125,14 +125,14 @@ module _ (s : List ℕ) (at count room : ℕ) (child : Reader Expr) (numbers ind
   first_stops many number e = halts _ e
 
   module _ (long : room ≤ length numbers) (wide : room ≤ length indexes) (numbers₁ indexes₁ : List ℕ) (first : Walked)
-      (one : WalkedIs s at count (Ok first) child depth room (Collected at count numbers indexes numbers₁ indexes₁))
+      (one : WalkedIs s at count (Ok first) child depth room (NodesCollected at count numbers indexes numbers₁ indexes₁))
       (deepest deeper : ℕ) (larger : deeper ≡ max deepest first.depth) (numbers₂ indexes₂ : List ℕ) where
     -- What was counted after the first was counted before it, too.
     joined : (end : Passed) (es : Exprs)
         → CollectedAll first.next first.count numbers₁ indexes₁ numbers₂ indexes₂ end es → end.index ≤ room
         → CollectedAll at count numbers indexes numbers₂ indexes₂ end (cons one.1 es)
     joined end es rest fits =
-        let here : Collected at count numbers indexes numbers₁ indexes₁ (record { end = first.next; index = first.count }) one.1 =
+        let here : NodesCollected at count numbers indexes numbers₁ indexes₁ (record { end = first.next; index = first.count }) one.1 =
         one.4 (omega (arith, rest.own.ends)) in
         collects-cons (omega (arith, rest.own.ends, here.own.ends)) (omega (arith, rest.own.ends, here.own.ends)) here rest
 
@@ -197,12 +197,12 @@ module _ {s : List ℕ} {at count many : ℕ} {child : Reader Expr} {numbers ind
 
     pub row-goes-on : length numbers ≤ length indexes → done < many → {numbers₁ indexes₁ : List ℕ}
         → length numbers₁ ≡ length numbered → length indexes₁ ≡ length indexed → (first : Walked)
-        → WalkedIs s next total (Ok first) child depth (length numbered) (Collected next total numbered indexed numbers₁ indexes₁)
-        → Counted total 0 (Ok first) → (deeper : ℕ) → deeper ≡ max deepest first.depth
+        → WalkedIs s next total (Ok first) child depth (length numbered) (NodesCollected next total numbered indexed numbers₁ indexes₁)
+        → CountBounds total 0 (Ok first) → (deeper : ℕ) → deeper ≡ max deepest first.depth
         → InRow s at count many child numbers indexes first.next first.count deeper (done + 1) numbers₁ indexes₁
     row-goes-on long some {numbers₁} {indexes₁} same alike first one counted deeper larger =
         let here = subst (λ (k : ℕ). WalkedIs s next total (Ok first) child depth k
-        (Collected next total numbered indexed numbers₁ indexes₁)) inv.same one in
+        (NodesCollected next total numbered indexed numbers₁ indexes₁)) inv.same one in
         record {
           place = one.0;
           low = omega (arith, inv.low, counted.0);

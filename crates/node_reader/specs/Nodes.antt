@@ -13,7 +13,7 @@ use Rattle.node_rows.specs.declared.collecting.Passed.{Passed}
 use Rattle.node_reader.specs.declared.walk.Walked.{Walked}
 
 -- Rows that a walk over s may fill: the second is no shorter, and if there are places, the bytes are few enough for numbers.
-pub record Lent (s numbers indexes : List ℕ) : Type 0 where
+pub record LentRows (s numbers indexes : List ℕ) : Type 0 where
   pub long : length numbers ≤ length indexes
   pub short : 0 < length numbers → length s ≤ 16384
 
@@ -37,6 +37,6 @@ WalkedIs {A = A} s at before (Ok walked) reader levels room filled =
 WalkedIs {A = A} s at before (Err why) reader levels room filled = reader before (drop at s) ≡ stopped (number_of why)
 
 -- No walk counts fewer nodes than levels, but for `above` nodes counted before it, and none past the limit.
-abbrev pub Counted : (before above : ℕ) → Result Walked Refusal → Type 0
-Counted before above (Ok walked) = (before + walked.depth ≤ walked.count + above) × (walked.count ≤ 1024)
-Counted before above (Err why) = Unit {0}
+abbrev pub CountBounds : (before above : ℕ) → Result Walked Refusal → Type 0
+CountBounds before above (Ok walked) = (before + walked.depth ≤ walked.count + above) × (walked.count ≤ 1024)
+CountBounds before above (Err why) = Unit {0}

@@ -1,7 +1,7 @@
 // Expressions of depth at most 64, read by the loop over their nodes, or by the walk in bytes that are too many for it.
 ghost use Rattle.std.specs.Prelude.{◌≤◌, length};
 ghost use Rattle.node_reader.specs.Heads.{columns_of};
-ghost use Rattle.node_reader.specs.Nodes.{Lent};
+ghost use Rattle.node_reader.specs.Nodes.{LentRows};
 ghost use Rattle.node_reader.specs.Places.{ExpressionIs, ExpressionIn};
 
 use super::call_heads::{Columns, Source};
@@ -18,7 +18,7 @@ pub fn expression_in(
     count: usize,
     columns: Columns,
 ) -> Result<Walked, Refusal>
-    requires { (at ≤ length s.now) × Lent s.now numbers.old indexes.old }
+    requires { (at ≤ length s.now) × LentRows s.now numbers.old indexes.old }
     ensures { ExpressionIn s.now at count result (columns_of columns) numbers.new indexes.new }
 {
     let source = Source { bytes: s, columns };

@@ -4,9 +4,9 @@ ghost use Rattle.std.specs.Prelude.{◌≤◌, ◌<◌, ◌+◌, length, Ok};
 ghost use Rattle.definitions.specs.Bytes.Decode as decode;
 ghost use Rattle.definitions.specs.Bytes.Good.{depth};
 ghost use Rattle.node_reader.specs.Heads.{columns_of};
-ghost use Rattle.node_rows.specs.Rows.{Collected};
+ghost use Rattle.node_rows.specs.Rows.{NodesCollected};
 ghost use Rattle.node_rows.specs.Stores.{Storable, Stored};
-ghost use Rattle.node_reader.specs.Nodes.{WalkedIs, Counted, NodeHead, Lent};
+ghost use Rattle.node_reader.specs.Nodes.{WalkedIs, CountBounds, NodeHead, LentRows};
 
 use super::call_heads::Source;
 use super::walk::{Walked, node_head};
@@ -45,13 +45,13 @@ fn read_open(
     head: Head,
     mut count: usize,
 ) -> Result<Walked, Refusal>
-    requires lent { Lent source.bytes.now numbers.old indexes.old }
+    requires lent { LentRows source.bytes.now numbers.old indexes.old }
     requires short { (at ≤ length source.bytes.now) × (length source.bytes.now ≤ 16384) }
     requires head { NodeHead source.bytes.now at 64 count (columns_of source.columns) (Ok head) × (0 < head.children) }
     ensures read { WalkedIs source.entry.bytes.now at count result (decode.node (columns_of source.entry.columns) 64) depth
         (length numbers.old)
-        (Collected at count numbers.old indexes.old numbers.new indexes.new) }
-    ensures counted { Counted count 0 result }
+        (NodesCollected at count numbers.old indexes.old numbers.new indexes.new) }
+    ensures counted { CountBounds count 0 result }
 {
     let s = source.bytes;
     let mut more = [head.children as u8; 65];
@@ -99,12 +99,12 @@ pub fn read_node(
     at: usize,
     count: usize,
 ) -> Result<Walked, Refusal>
-    requires lent { Lent source.bytes.now numbers.old indexes.old }
+    requires lent { LentRows source.bytes.now numbers.old indexes.old }
     requires short { (at ≤ length source.bytes.now) × (length source.bytes.now ≤ 16384) }
     ensures read { WalkedIs source.entry.bytes.now at count result (decode.node (columns_of source.entry.columns) 64) depth
         (length numbers.old)
-        (Collected at count numbers.old indexes.old numbers.new indexes.new) }
-    ensures counted { Counted count 0 result }
+        (NodesCollected at count numbers.old indexes.old numbers.new indexes.new) }
+    ensures counted { CountBounds count 0 result }
 {
     let head = node_head(source, at, 64, count)?;
     if head.children != 0 {

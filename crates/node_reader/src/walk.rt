@@ -4,8 +4,8 @@ ghost use Rattle.definitions.specs.Bytes.Decode as decode;
 ghost use Rattle.definitions.specs.Bytes.Decode.{repeat_exprs};
 ghost use Rattle.definitions.specs.Bytes.Good.{depth};
 ghost use Rattle.node_reader.specs.Heads.{columns_of, depth_above};
-ghost use Rattle.node_rows.specs.Rows.{Collected, CollectedAll};
-ghost use Rattle.node_reader.specs.Nodes.{WalkedIs, Counted, NodeHead, Lent};
+ghost use Rattle.node_rows.specs.Rows.{NodesCollected, CollectedAll};
+ghost use Rattle.node_reader.specs.Nodes.{WalkedIs, CountBounds, NodeHead, LentRows};
 
 use super::call_heads::Source;
 use super::head_readers::{head_of_kind, node_kind};
@@ -46,11 +46,11 @@ pub fn node(
     levels: usize,
     count: usize,
 ) -> Result<Walked, Refusal>
-    requires { (at ≤ length source.bytes.now) × Lent source.bytes.now numbers.old indexes.old }
+    requires { (at ≤ length source.bytes.now) × LentRows source.bytes.now numbers.old indexes.old }
     ensures read { WalkedIs source.entry.bytes.now at count result (decode.node (columns_of source.entry.columns) levels) depth
         (length numbers.old)
-        (Collected at count numbers.old indexes.old numbers.new indexes.new) }
-    ensures counted { Counted count 0 result }
+        (NodesCollected at count numbers.old indexes.old numbers.new indexes.new) }
+    ensures counted { CountBounds count 0 result }
 {
     let head = node_head(source, at, levels, count)?;
     // Most nodes are leaves, and need no walk of children.
@@ -82,12 +82,12 @@ pub fn nodes(
     levels: usize,
     count: usize,
 ) -> Result<Walked, Refusal>
-    requires { (head.next ≤ length source.bytes.now) × (count ≤ 1024) × Lent source.bytes.now numbers.old indexes.old }
+    requires { (head.next ≤ length source.bytes.now) × (count ≤ 1024) × LentRows source.bytes.now numbers.old indexes.old }
     ensures read { WalkedIs source.entry.bytes.now head.next count result
         (repeat_exprs head.children (decode.node (columns_of source.entry.columns) levels)) depth_above
         (length numbers.old)
         (CollectedAll head.next count numbers.old indexes.old numbers.new indexes.new) }
-    ensures counted { Counted count 1 result }
+    ensures counted { CountBounds count 1 result }
 {
     let mut next = head.next;
     let mut total = count;

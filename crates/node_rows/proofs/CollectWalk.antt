@@ -15,10 +15,10 @@ use Rattle.expression.specs.Nodes.{head_bytes, children_of, Stands, Row, OfTree,
 use Rattle.expression.specs.Heads.{HeadIs}
 use Rattle.expression.specs.declared.heads.Head.{Head}
 use Rattle.expression.proofs.Standing.{tree-length, kind-is, some_bytes, children-stand, first-stands, rest-stands, some-children, no-children}
-use Rattle.writing.specs.Written.{WroteAt}
-use Rattle.writing.proofs.Written.{chain, nothing-wrote}
+use Rattle.byte_writer.specs.Written.{WroteAt}
+use Rattle.byte_writer.proofs.Written.{chain, nothing-wrote}
 use Rattle.node_rows.specs.Numbers.{number, numbers_from, row_numbers, nexts_from, row_nexts}
-use Rattle.node_rows.specs.Rows.{Room, Fits, FitsAll, Collected, CollectedAll}
+use Rattle.node_rows.specs.Rows.{Room, Fits, FitsAll, NodesCollected, CollectedAll}
 use Rattle.node_rows.specs.declared.collecting.Passed.{Passed}
 use Rattle.node_rows.proofs.RowLaws.{nodes-split, nexts-split, nodes-below, kind-byte, kind-small, numbers-length, row-numbers-length}
 
@@ -79,7 +79,7 @@ module _ {s : List ℕ} {at first : ℕ} (i : ℕ) {numbers next numbered follow
   -- Its own number and index are stored.
   pub collects-own : i < length numbers → i < length next → (b : ℕ)
       → b ≡ number (record { kind = get_or s at 0; start = at; end = r.end })
-      → Collected at i numbers next (set numbered i b) (set followed i r.index) r t
+      → NodesCollected at i numbers next (set numbered i b) (set followed i r.index) r t
   unfolding record_of
   collects-own one two b is =
       let itself : b ≡ number (record_of at t) =
@@ -120,7 +120,7 @@ module _ {s : List ℕ} {at : ℕ} (i : ℕ) {numbers next numbered followed : L
 
   pub collects-node : Fits s at i numbers next → (b : ℕ)
       → b ≡ number (record { kind = get_or s at 0; start = at; end = r.end }) → {c : Columns} {t : Expr} → Stands c s at t → HeadIs at h t
-      → Collected at i numbers next (set numbered i b) (set followed i r.index) r t
+      → NodesCollected at i numbers next (set numbered i b) (set followed i r.index) r t
   collects-node f b is stands head =
       collects-own i stands head.next (inside stands head) (omega (arith, f.room.numbered, nodes-below f.tree))
       (omega (arith, f.room.followed, nodes-below f.tree)) b is
@@ -133,7 +133,7 @@ unfolding exprs_bytes row_from row_nexts
 collects-nil at i numbers next = record { ends = omega arith; own = nothing-wrote numbers i; after = nothing-wrote next i }
 
 pub collects-cons : {at i : ℕ} {numbers next numbers₁ next₁ numbers₂ next₂ : List ℕ} {one r : Passed} {t : Expr} {ts : Exprs}
-    → i ≤ length numbers → i ≤ length next → Collected at i numbers next numbers₁ next₁ one t
+    → i ≤ length numbers → i ≤ length next → NodesCollected at i numbers next numbers₁ next₁ one t
     → CollectedAll one.end one.index numbers₁ next₁ numbers₂ next₂ r ts → CollectedAll at i numbers next numbers₂ next₂ r (cons t ts)
 unfolding exprs_bytes row_from row_nexts
 collects-cons {at} {i} {numbers} {next} {numbers₂ = numbers₂} {next₂} {one} {r} {t} {ts} room space a b =
@@ -157,11 +157,11 @@ module _ {s : List ℕ} {at n i : ℕ} {numbers next : List ℕ} where
   -- The first, and then the others from where it ended.
   module _ {numbers₁ next₁ numbers₂ next₂ : List ℕ} {one r : Passed} (room : i ≤ length numbers) (space : i ≤ length next)
       (some : n ≡ 0 → ⊥)
-      (first : OfTree s at (Collected at i numbers next numbers₁ next₁ one))
+      (first : OfTree s at (NodesCollected at i numbers next numbers₁ next₁ one))
       (others : OfTrees s one.end (n - 1) (CollectedAll one.end one.index numbers₁ next₁ numbers₂ next₂ r)) where
     both : {c : Columns} (t : Expr) (ts : Exprs) → Row c s at n (cons t ts) → CollectedAll at i numbers next numbers₂ next₂ r (cons t ts)
     both {c} t ts row =
-        let a : Collected at i numbers next numbers₁ next₁ one t = first c t (first-stands row) in
+        let a : NodesCollected at i numbers next numbers₁ next₁ one t = first c t (first-stands row) in
         collects-cons room space a (others c ts (rest-stands row one.end (n - 1) a.ends (omega arith)))
 
     pub collects-some : {c : Columns} {ts : Exprs} → Row c s at n ts → CollectedAll at i numbers next numbers₂ next₂ r ts
@@ -189,12 +189,12 @@ module _ {s : List ℕ} {at n i : ℕ} {numbers next : List ℕ} where
       f.room
 
   module _ {numbers₁ next₁ : List ℕ} {one : Passed} (same : length numbers₁ ≡ length numbers) (alike : length next₁ ≡ length next)
-      (some : n ≡ 0 → ⊥) (first : OfTree s at (Collected at i numbers next numbers₁ next₁ one)) where
+      (some : n ≡ 0 → ⊥) (first : OfTree s at (NodesCollected at i numbers next numbers₁ next₁ one)) where
     rest_of : (c : Columns) (t : Expr) (ts : Exprs) → Row c s at n (cons t ts) → at + length (exprs_bytes (cons t ts)) ≤ 16384
         → Room numbers next (i + nodes_all (cons t ts)) → FitsAll s one.end (n - 1) one.index numbers₁ next₁
     unfolding exprs_bytes nodes_all
     rest_of c t ts row short room =
-        let a : Collected at i numbers next numbers₁ next₁ one t = first c t (first-stands row) in
+        let a : NodesCollected at i numbers next numbers₁ next₁ one t = first c t (first-stands row) in
         let index : one.index ≡ i + nodes t = omega (arith, a.own.ends, numbers-length at t) in
         record {
           columns = c;
@@ -238,7 +238,7 @@ module _ {s : List ℕ} {at n i : ℕ} {numbers next : List ℕ} where
     collecting-first some = first_fits inv.there (λ z. omega arith)
 
     pub collecting-goes-on : 0 < left → {numbers₁ next₁ : List ℕ} → length numbers₁ ≡ length numbered → length next₁ ≡ length followed
-        → {one : Passed} → OfTree s end (Collected end index numbered followed numbers₁ next₁ one) → (fewer : ℕ) → left - 1 ≡ fewer
+        → {one : Passed} → OfTree s end (NodesCollected end index numbered followed numbers₁ next₁ one) → (fewer : ℕ) → left - 1 ≡ fewer
         → Collecting s at n i numbers next one.end fewer one.index numbers₁ next₁
     collecting-goes-on some {numbers₁} {next₁} same alike {one} first fewer e =
         let f = collecting-first some in

@@ -23,7 +23,7 @@ use Rattle.expression.specs.Nodes.{head_bytes, children_of, kind_of, Stands, Row
 use Rattle.expression.proofs.Placed.{fits, front, next}
 use Rattle.expression.proofs.Records.{short-is}
 use Rattle.expression.proofs.Standing.{head-stands, children-stand, first-stands, rest-stands, some_bytes}
-use Rattle.writing.proofs.Written.{taken}
+use Rattle.byte_writer.proofs.Written.{taken}
 use Rattle.node_rows.specs.Numbers.{number, numbers_from, row_numbers}
 use Rattle.node_rows.specs.Rows.{Tabled}
 use Rattle.node_rows.proofs.NumberLaws.{number-told}

@@ -8,7 +8,7 @@ use Rattle.definitions.specs.Bytes.NodeTable.{NodeRecord}
 use Rattle.expression.specs.Nodes.{OfTree}
 use Rattle.node_rows.specs.Numbers.{number, numbers_from}
 use Rattle.expression.specs.Filling.{Records, nothing, filled}
-use Rattle.node_rows.specs.Rows.{Fits, Collected}
+use Rattle.node_rows.specs.Rows.{Fits, NodesCollected}
 use Rattle.node_rows.specs.declared.collecting.Passed.{Passed}
 use Rattle.node_rows.proofs.RowLaws.{nodes-below, numbers-length}
 
@@ -31,7 +31,7 @@ module _ {s : List ℕ} {root count : ℕ} (row : List ℕ) where
   }
 
   pub nodes-filled : {after next followed : List ℕ} {r : Passed}
-      → OfTree s root (Collected root 0 row next after followed r) → (count ≡ 0 → ⊥)
+      → OfTree s root (NodesCollected root 0 row next after followed r) → (count ≡ 0 → ⊥)
       → {records : List NodeRecord} → Records s root count records → after ≡ map number records ++ drop count row
   nodes-filled is some (nothing e) = absurd (some e)
   nodes-filled is some (filled {c} {t} stands size few short) =

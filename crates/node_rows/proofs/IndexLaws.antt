@@ -16,7 +16,7 @@ use Rattle.expression.specs.declared.leaves.Node.TheVariants.{Binary}
 use Rattle.expression.proofs.Standing.{children-stand, first-stands, rest-stands}
 use Rattle.node_rows.specs.Numbers.{start_at, end_at}
 use Rattle.node_rows.specs.Rows.{Tabled, TabledAll, Begin, TwoAre}
-use Rattle.node_rows.specs.declared.pairs.Two.{Two}
+use Rattle.node_rows.specs.declared.pairs.TwoExpressions.{TwoExpressions}
 use Rattle.node_rows.proofs.RowLaws.{tabled_start, tabled-end, tabled-next, tabled-children, tabled-first, tabled-rest, second-tabled}
 use Rattle.node_rows.proofs.OneTree.{of_tree, of-trees}
 
@@ -61,7 +61,7 @@ module _ {c : Columns} {s numbers next : List ℕ} where
 
 -- ---- two in a row, and three
 
-module _ {c : Columns} {s : List ℕ} {p n i : ℕ} {a b : Expr} {more : Exprs} (row : Row c s p n (cons a (cons b more))) {r : Two}
+module _ {c : Columns} {s : List ℕ} {p n i : ℕ} {a b : Expr} {more : Exprs} (row : Row c s p n (cons a (cons b more))) {r : TwoExpressions}
     (is : TwoAre i r p a b) where
   pub first-spans : Spans c s r.start r.middle a
   first-spans = record {
@@ -80,7 +80,7 @@ module _ {c : Columns} {s : List ℕ} {p n i : ℕ} {a b : Expr} {more : Exprs} 
   after-second h = rest-stands (after_first h) r.end (n - 2) (second-spans h).ends (omega arith)
 
 module _ {numbers next : List ℕ} {p i : ℕ} {a b d : Expr} {more : Exprs} (h : TabledAll numbers next p i (cons a (cons b (cons d more))))
-    {r : Two} (is : TwoAre i r p a b) where
+    {r : TwoExpressions} (is : TwoAre i r p a b) where
   pub third-tabled : Tabled numbers next r.end r.after d
   third-tabled =
       tabled-first (tabled-rest (tabled-rest h (p + length (expr_bytes a)) (i + nodes a) refl refl) r.end r.after is.end

@@ -18,7 +18,7 @@ use Rattle.expression.proofs.Placed as placed
 use Rattle.expression.proofs.Standing.{some_bytes, tree-length}
 use Rattle.node_rows.specs.Numbers.{number, start_at, end_at, numbers_from, row_numbers, nexts_from, row_nexts}
 use Rattle.node_rows.specs.Rows.{Tabled, TabledAll, TwoAre}
-use Rattle.node_rows.specs.declared.pairs.Two.{Two}
+use Rattle.node_rows.specs.declared.pairs.TwoExpressions.{TwoExpressions}
 use Rattle.node_rows.proofs.NumberLaws.{Told, number-end, number-start}
 
 -- ---- a node and its children
@@ -168,7 +168,7 @@ module _ {numbers next : List ℕ} {at i : ℕ} {a b : Expr} {more : Exprs} (h :
   pub second-tabled : (k : ℕ) → k ≡ i + nodes a → Tabled numbers next (at + length (expr_bytes a)) k b
   second-tabled k e = tabled-first (tabled-rest h (at + length (expr_bytes a)) k refl e)
 
-  pub two-are : (r : Two) → r.start ≡ start_at numbers i → r.middle ≡ end_at numbers i → (k : ℕ) → k ≡ get_or next i 0
+  pub two-are : (r : TwoExpressions) → r.start ≡ start_at numbers i → r.middle ≡ end_at numbers i → (k : ℕ) → k ≡ get_or next i 0
       → r.end ≡ end_at numbers k → r.after ≡ get_or next k 0 → TwoAre i r at a b
   two-are r start middle k is end after =
       let one : Tabled numbers next at i a = tabled-first h in

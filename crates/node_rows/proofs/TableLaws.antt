@@ -15,10 +15,10 @@ use Rattle.definitions.specs.Bytes.Encode.{expr_bytes, exprs_bytes}
 use Rattle.definitions.specs.Bytes.Good.{nodes}
 use Rattle.definitions.specs.Bytes.NodeTable.{NodeRecord, nodes_from, row_from}
 use Rattle.expression.specs.Places.{Holds}
-use Rattle.writing.specs.Written.{WroteAt}
-use Rattle.writing.proofs.Written.{taken}
+use Rattle.byte_writer.specs.Written.{WroteAt}
+use Rattle.byte_writer.proofs.Written.{taken}
 use Rattle.node_rows.specs.Numbers.{number, numbers_from}
-use Rattle.node_rows.specs.Rows.{Tabled, Collected}
+use Rattle.node_rows.specs.Rows.{Tabled, NodesCollected}
 use Rattle.node_rows.specs.declared.collecting.Passed.{Passed}
 use Rattle.node_rows.proofs.NumberLaws.{Told, number-told}
 use Rattle.node_rows.proofs.RowLaws.{node-told, numbers-length}
@@ -36,7 +36,7 @@ wrote-holds {i} {r} {x} {before} {after} room wrote =
     }
 
 pub collected-tabled : {at i : ℕ} {numbers next numbered followed : List ℕ} {r : Passed} {t : Expr} → i ≤ length numbers → i ≤ length next
-    → at + length (expr_bytes t) ≤ 16384 → Collected at i numbers next numbered followed r t → Tabled numbered followed at i t
+    → at + length (expr_bytes t) ≤ 16384 → NodesCollected at i numbers next numbered followed r t → Tabled numbered followed at i t
 collected-tabled room space short is =
     record { numbered = wrote-holds room is.own; followed = wrote-holds space is.after; short = short }
 

@@ -8,10 +8,10 @@ use Rattle.definitions.specs.Bytes.NodeTable.{NodeRecord}
 use Rattle.expression.specs.Places.{Holds}
 use Rattle.expression.specs.Nodes.{Stands, Row}
 use Rattle.expression.specs.Filling.{Records}
-use Rattle.writing.specs.Written.{WroteAt}
+use Rattle.byte_writer.specs.Written.{WroteAt}
 use Rattle.node_rows.specs.Numbers.{number, numbers_from, row_numbers, nexts_from, row_nexts}
 use Rattle.node_rows.specs.declared.collecting.Passed.{Passed}
-use Rattle.node_rows.specs.declared.pairs.Two.{Two}
+use Rattle.node_rows.specs.declared.pairs.TwoExpressions.{TwoExpressions}
 
 -- ---- rows that are filled
 
@@ -40,7 +40,7 @@ OfTwo numbers next i P =
     (at : ℕ) (a b : Expr) (more : Exprs) → TabledAll numbers next at i (cons a (cons b more)) → P at a b
 
 -- Where they stand, and the index after them.
-pub record TwoAre (i : ℕ) (r : Two) (at : ℕ) (a b : Expr) : Type 0 where
+pub record TwoAre (i : ℕ) (r : TwoExpressions) (at : ℕ) (a b : Expr) : Type 0 where
   pub start : r.start ≡ at
   pub middle : r.middle ≡ at + length (expr_bytes a)
   pub end : r.end ≡ at + length (expr_bytes a) + length (expr_bytes b)
@@ -71,7 +71,7 @@ pub record FitsAll (s : List ℕ) (at n i : ℕ) (numbers next : List ℕ) : Typ
   pub room : Room numbers next (i + nodes_all trees)
 
 -- Its nodes were put into the rows from index i on; where it ends, and the index after them.
-pub record Collected (at i : ℕ) (numbers next numbered followed : List ℕ) (r : Passed) (t : Expr) : Type 0 where
+pub record NodesCollected (at i : ℕ) (numbers next numbered followed : List ℕ) (r : Passed) (t : Expr) : Type 0 where
   pub ends : r.end ≡ at + length (expr_bytes t)
   pub own : WroteAt i (numbers_from at t) numbers numbered r.index
   pub after : WroteAt i (nexts_from i t) next followed r.index

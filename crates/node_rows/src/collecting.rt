@@ -1,7 +1,7 @@
 // One walk over an expression that fills both rows.
 ghost use Rattle.std.specs.Prelude.{◌≡◌, ◌≤◌, length};
 ghost use Rattle.expression.specs.Nodes.{OfTree, OfTrees};
-ghost use Rattle.node_rows.specs.Rows.{Fits, FitsAll, Collected, CollectedAll, Filling, RowIs};
+ghost use Rattle.node_rows.specs.Rows.{Fits, FitsAll, NodesCollected, CollectedAll, Filling, RowIs};
 
 use super::numbers::node_number;
 use expression::heads::head_at;
@@ -19,7 +19,7 @@ pub struct Passed {
 pub fn collect_nodes(numbers: &mut [u32], next: &mut [u16], s: &[u8], at: usize, i: usize) -> Passed
     requires { Fits s.now at i numbers.old next.old }
     ensures { OfTree s.now at
-        (Collected at i numbers.old next.old numbers.new next.new result) }
+        (NodesCollected at i numbers.old next.old numbers.new next.new result) }
 {
     let head = head_at(s, at);
     let first = head.next;

@@ -3,7 +3,7 @@ ghost use Rattle.std.specs.Prelude.{◌<◌, ◌≡◌, length, get_or};
 ghost use Rattle.node_rows.specs.Numbers.{start_at, end_at};
 ghost use Rattle.node_rows.specs.Rows.{TwoTabled, OfTwo, TwoAre};
 
-use super::pairs::Two;
+use super::pairs::TwoExpressions;
 
 // For each node its number, and the index of the node that comes after it and all below it. Two slices: a table's numbers come in place of
 // the frame's own, beside the same indexes.
@@ -39,12 +39,12 @@ impl Rows<'_> {
     }
 
     // The node of an index and the one after it.
-    pub fn two(self, i: usize) -> Two
+    pub fn two(self, i: usize) -> TwoExpressions
         requires { TwoTabled self.numbers.now self.next.now i }
         ensures { OfTwo self.entry.numbers.now self.entry.next.now i (TwoAre i result) }
     {
         let second = self.after(i);
-        Two {
+        TwoExpressions {
             start: self.start(i),
             middle: self.end(i),
             end: self.end(second),

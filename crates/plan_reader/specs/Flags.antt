@@ -7,7 +7,7 @@ use Rattle.terms.specs.Refusals.{number_of}
 use Rattle.terms.specs.Sides.{join_side}
 use Rattle.sedona_query_planner.specs.Predicates.{flag, ties_number}
 use Rattle.terms.specs.declared.refusals.Refusal.{Refusal}
-use Rattle.plan_reader.specs.declared.knn_fields.Flags.{Flags}
+use Rattle.plan_reader.specs.declared.knn_fields.HeldFlags.{HeldFlags}
 
 -- Spheroid, probe side and ties, and what comes after them.
 abbrev pub then_flags : ((spheroid : ℕ) → tree.Side → (ties : ℕ) → Reader tree.Predicate) → Reader tree.Predicate
@@ -18,7 +18,7 @@ then_flags next = do
   next spheroid probe ties
 
 -- Flags were read, and the place after them.
-abbrev pub FlagsIs : List ℕ → (at : ℕ) → Result (Flags × ℕ) Refusal → Type 0
+abbrev pub FlagsIs : List ℕ → (at : ℕ) → Result (HeldFlags × ℕ) Refusal → Type 0
 FlagsIs s at (Ok f) =
     (f.1 ≤ length s)
     × ((next : ℕ → tree.Side → ℕ → Reader tree.Predicate) (n : ℕ)

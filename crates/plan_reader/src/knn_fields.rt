@@ -12,21 +12,21 @@ use terms::sides::JoinSide;
 
 // The flags of KNN.
 #[derive(Clone, Copy)]
-pub struct Flags {
+pub struct HeldFlags {
     pub use_spheroid: bool,
     pub probe_side: JoinSide,
     pub ties: Option<bool>,
 }
 
 // Spheroid, probe side, ties, and the place after them.
-pub fn knn_flags(s: &[u8], at: usize) -> Result<(Flags, usize), Refusal>
+pub fn knn_flags(s: &[u8], at: usize) -> Result<(HeldFlags, usize), Refusal>
     requires { at ≤ length s.now }
     ensures { FlagsIs s.now at result }
 {
     let (spheroid, second) = byte_up_to(s, at, 1)?;
     let (probe_side, third) = side_up_to(s, second, 1)?;
     let (ties, end) = byte_up_to(s, third, 2)?;
-    let flags = Flags {
+    let flags = HeldFlags {
         use_spheroid: spheroid == 1,
         probe_side,
         ties: ties_numbered(ties),

@@ -10,7 +10,7 @@ use Rattle.definitions.specs.Words.Expression.{Expr}
 use Rattle.definitions.specs.Bytes.Encode.{expr_bytes}
 use Rattle.expression.specs.Places.{Between}
 use Rattle.expression.proofs.Standing.{spans-between}
-use Rattle.writing.specs.Writing.{Room, PutsAt, same}
+use Rattle.byte_writer.specs.Writing.{Room, PutsAt, same}
 use Rattle.plan_writer.specs.Arguments.{Stood, written}
 use Rattle.plan_writer.specs.declared.arguments.Argument.{Argument}
 

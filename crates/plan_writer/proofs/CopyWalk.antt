@@ -16,10 +16,10 @@ use Rattle.expression.specs.Heads.{HeadIs}
 use Rattle.expression.specs.declared.heads.Head.{Head}
 use Rattle.expression.proofs.Placed.{fits}
 use Rattle.expression.proofs.Standing.{tree-length, head-stands, kind-is, children-stand, first-stands, rest-stands, some-children, no-children, head-fits, after-node}
-use Rattle.writing.specs.Written.{Wrote, WroteAt}
+use Rattle.byte_writer.specs.Written.{Wrote, WroteAt}
 use Rattle.plan_writer.specs.Copies.{copy_of, copies_of, ColumnThere, ColumnPut, CopyFits, CopiesFit, CopyIs, NodeCopied, RowCopied}
 use Rattle.plan_writer.specs.declared.arguments.Copied.{Copied}
-use Rattle.writing.proofs.Written.{behind, together, behind-length, together-length, part-wrote, then-wrote, copied-wrote, chain, nothing-wrote}
+use Rattle.byte_writer.proofs.Written.{behind, together, behind-length, together-length, part-wrote, then-wrote, copied-wrote, chain, nothing-wrote}
 use Rattle.plan_writer.proofs.Fields.{column-is, column-size}
 
 -- ---- what is written for a node

@@ -22,10 +22,10 @@ use Rattle.sedona_query_planner.specs.declared.spatial_predicate.DistancePredica
 use Rattle.sedona_query_planner.specs.declared.spatial_predicate.KNNPredicate.{KNNPredicate}
 use Rattle.sedona_query_planner.specs.declared.spatial_predicate.SpatialPredicate.{SpatialPredicate}
 use Rattle.sedona_query_planner.specs.declared.spatial_predicate.SpatialPredicate.TheVariants.{Distance, Relation, KNearestNeighbors}
-use Rattle.writing.specs.Written.{WroteAt}
-use Rattle.writing.specs.Writing.{Both, joined}
-use Rattle.writing.proofs.Written.{chain}
-use Rattle.writing.proofs.Sequence.{stores, Headed}
+use Rattle.byte_writer.specs.Written.{WroteAt}
+use Rattle.byte_writer.specs.Writing.{Both, joined}
+use Rattle.byte_writer.proofs.Written.{chain}
+use Rattle.byte_writer.proofs.Sequence.{stores, Headed}
 use Rattle.plan_writer.specs.Arguments.{change_of, Stood, written, BothStood, both_written}
 use Rattle.plan_writer.specs.Predicates.{head_of, predicate_bytes, kind_of, knn_head}
 use Rattle.plan_writer.specs.declared.arguments.Argument.{Argument}

@@ -6,7 +6,7 @@ use Rattle.definitions.specs.Bytes.Encode.{expr_bytes}
 use Rattle.definitions.specs.Words.References.{map_columns}
 use Rattle.terms.specs.Sides.{join_side}
 use Rattle.sedona_query_planner.specs.Predicates.{Change, unchanged, ArgumentAt}
-use Rattle.writing.specs.Writing.{Both, joined}
+use Rattle.byte_writer.specs.Writing.{Both, joined}
 use Rattle.plan_writer.specs.declared.arguments.Argument.{Argument}
 
 -- A table gives each column of an argument its new index; one of side none is copied.

@@ -6,7 +6,7 @@ use Rattle.definitions.specs.Bytes.Decode.{index_below}
 use Rattle.definitions.specs.Words.References.{map_columns, map_columns_all}
 use Rattle.expression.specs.Places.{Holds}
 use Rattle.expression.specs.Nodes.{Stands, Row}
-use Rattle.writing.specs.Written.{Wrote}
+use Rattle.byte_writer.specs.Written.{Wrote}
 use Rattle.plan_writer.specs.declared.arguments.Copied.{Copied}
 
 -- The bytes of an expression whose columns have the indexes that a table gives them; of several.

@@ -2,15 +2,15 @@
 // A port of `reproject_column_references` and `reproject_column_references_for_side` of
 // rust/sedona-query-planner/src/spatial_expr_utils.rs.
 ghost use Rattle.std.specs.Prelude.{◌≤◌, length};
-ghost use Rattle.writing.specs.Writing.{Room, PutsAt};
+ghost use Rattle.byte_writer.specs.Writing.{Room, PutsAt};
 ghost use Rattle.plan_writer.specs.Copies.{ColumnThere, ColumnPut, CopyFits, NodeCopied, CopiesFit, RowCopied};
 ghost use Rattle.plan_writer.specs.Arguments.{Stood, written, BothStood, both_written};
 
+use byte_writer::copies::{copy_at, copy_bytes};
+use byte_writer::numbers::put_number;
 use expression::fields::short_at;
 use expression::heads::head_at;
 use terms::sides::JoinSide;
-use writing::copies::{copy_at, copy_bytes};
-use writing::numbers::put_number;
 
 // Where a copy read up to, and how many bytes it wrote.
 #[derive(Clone, Copy)]
@@ -20,7 +20,7 @@ pub struct Copied {
 }
 
 // Writes the column at a place with the index v.
-fn put_column(out: &mut [u8], src: &[u8], at: usize, v: u16)
+fn put_reprojected_column(out: &mut [u8], src: &[u8], at: usize, v: u16)
     requires column_there { ColumnThere src.now at }
     requires in_bounds { 5 ≤ length out.old }
     ensures { ColumnPut src.now at v out.old out.new }
@@ -36,7 +36,7 @@ pub fn reproject_column_references(out: &mut [u8], src: &[u8], at: usize, to: &[
     ensures { NodeCopied src.now at to.now out.old out.new result }
 {
     if src[at] == 0 {
-        put_column(out, src, at, to[short_at(src, at + 1)]);
+        put_reprojected_column(out, src, at, to[short_at(src, at + 1)]);
         return Copied {
             read: at + 5,
             wrote: 5,

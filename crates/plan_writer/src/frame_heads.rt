@@ -1,9 +1,9 @@
 // What frames and extractions begin with: a first byte and a number of two bytes.
 ghost use Rattle.std.specs.Prelude.{◌≤◌, length};
-ghost use Rattle.writing.specs.Written.{WroteAt};
+ghost use Rattle.byte_writer.specs.Written.{WroteAt};
 ghost use Rattle.plan_writer.specs.Predicates.{head_of, frame_head};
 
-use writing::numbers::put_number;
+use byte_writer::numbers::put_number;
 
 // A first byte and a number of two bytes; answers where they end.
 pub fn put_head(out: &mut [u8], first: u8, number: usize) -> usize

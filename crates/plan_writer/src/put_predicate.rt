@@ -2,18 +2,18 @@
 ghost use Rattle.std.specs.Prelude.{◌≡◌, ◌≤◌, length};
 ghost use Rattle.definitions.specs.Bytes.Encode.{predicate_fields};
 ghost use Rattle.sedona_query_planner.specs.Predicates.{RelationAt, DistanceAt, KnnAt, PredicateAt};
-ghost use Rattle.writing.specs.Written.{WroteAt};
-ghost use Rattle.writing.specs.Writing.{Room, Puts};
+ghost use Rattle.byte_writer.specs.Written.{WroteAt};
+ghost use Rattle.byte_writer.specs.Writing.{Room, Puts};
 ghost use Rattle.plan_writer.specs.Arguments.{change_of};
 ghost use Rattle.plan_writer.specs.Predicates.{predicate_bytes, kind_of, knn_head};
 
 use super::arguments::{Argument, put_both, reproject_column_references_for_side};
 use super::frame_heads::put_head;
+use byte_writer::numbers::put_number;
 use sedona_query_planner::spatial_predicate::{
     DistancePredicate, KNNPredicate, RelationPredicate, SpatialPredicate, ties_number,
 };
 use terms::sides::JoinSide;
-use writing::numbers::put_number;
 
 // Type, left, right. An `Argument` is written out here and below: made by a function, each proof would have to open it first.
 fn put_relation(out: &mut [u8], src: &[u8], p: RelationPredicate, indexes: Option<&[u16]>) -> usize

@@ -13,11 +13,11 @@ use Rattle.expression.specs.Places.{short_at, part}
 use Rattle.definitions.specs.Bytes.Encode.{exprs_bytes}
 use Rattle.expression.specs.Nodes.{kind_of, children_of}
 use Rattle.expression.proofs.Standing.{kind-is}
-use Rattle.printing.specs.Marks.{marked, column_text, literal_text, name_text, leading_of, opening_of, separator_of, before_of, closing_of, PhysicalAt, OfPhysical}
+use Rattle.printing.specs.Marks.{marked_number, column_text, literal_text, name_text, leading_of, opening_of, separator_of, before_of, closing_of, PhysicalAt, OfPhysical}
 use Rattle.printing.proofs.NodeFields.{column-at, literal-at, binary-at, call_at, other_at}
 
 -- A number between two characters, and a text after it.
-marked-then : (first n last : ℕ) (y : List ℕ) → marked first n last ++ y ≡ first ∷ (decimal n ++ (last ∷ y))
+marked-then : (first n last : ℕ) (y : List ℕ) → marked_number first n last ++ y ≡ first ∷ (decimal n ++ (last ∷ y))
 marked-then first n last y = ap (λ (l : List ℕ). first ∷ l) (append_assoc (decimal n) (last ∷ []) y)
 
 -- ---- before a child
@@ -44,11 +44,11 @@ module _ {s : List ℕ} {at : ℕ} where
 
   pub operator-before : (position : ℕ) → (position ≡ 0 → ⊥) → get_or s at 0 ≡ 2 → (number : ℕ)
       → OfPhysical s at (λ t. number ≡ leading_of t)
-      → (t : Expr) → PhysicalAt s at t → before_of position t ≡ 32 ∷ marked 111 number 32
+      → (t : Expr) → PhysicalAt s at t → before_of position t ≡ 32 ∷ marked_number 111 number 32
   unfolding separator_of leading_of ascii
   operator-before position later e number is t h =
       before-later position t later
-      ∙ binary-at (λ t. number ≡ leading_of t → separator_of t ≡ 32 ∷ marked 111 number 32) h e
+      ∙ binary-at (λ t. number ≡ leading_of t → separator_of t ≡ 32 ∷ marked_number 111 number 32) h e
       (λ l r n. rw n refl) (λ o l r n. rw n refl) (is t h)
 
   pub comma-before : (position : ℕ) → (position ≡ 0 → ⊥) → (get_or s at 0 ≡ 2 → ⊥) → (t : Expr) → PhysicalAt s at t
@@ -78,9 +78,9 @@ module _ {s : List ℕ} {at : ℕ} where
     call_opens e = call_at (λ t. number ≡ leading_of t → opening_of t ≡ name_text (part s (at + 2) (at + 2 + number))) h e
         (λ name args p n. rw (n, p) (sym (marked-then 102 _ 58 _))) (is t h)
 
-    pub other-opens : 3 < get_or s at 0 → opening_of t ≡ marked 120 number 91
+    pub other-opens : 3 < get_or s at 0 → opening_of t ≡ marked_number 120 number 91
     unfolding opening_of leading_of ascii
-    other-opens more = other_at (λ t. number ≡ leading_of t → opening_of t ≡ marked 120 number 91) h more (λ g cs n. rw n refl) (is t h)
+    other-opens more = other_at (λ t. number ≡ leading_of t → opening_of t ≡ marked_number 120 number 91) h more (λ g cs n. rw n refl) (is t h)
 
   -- ---- closings
 

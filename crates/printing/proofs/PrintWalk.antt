@@ -13,9 +13,9 @@ use Rattle.expression.specs.Nodes.{children_of, Row, OfTree}
 use Rattle.expression.specs.Heads.{HeadIs}
 use Rattle.expression.specs.declared.heads.Head.{Head}
 use Rattle.expression.proofs.Standing.{tree-length, children-stand, first-stands, rest-stands, no-children, some-children, after-head, after-node}
-use Rattle.writing.specs.Written.{WroteAt}
-use Rattle.writing.specs.Writing.{Room, PutsAt}
-use Rattle.writing.proofs.Written.{chain, nothing-wrote}
+use Rattle.byte_writer.specs.Written.{WroteAt}
+use Rattle.byte_writer.specs.Writing.{Room, PutsAt}
+use Rattle.byte_writer.proofs.Written.{chain, nothing-wrote}
 use Rattle.printing.specs.Marks.{opening_of, before_of, closing_of, PhysicalAt}
 use Rattle.printing.specs.Texts.{texts_from, PrintIs, NodePrinted, RowFits, RowPrinted}
 use Rattle.printing.specs.declared.texts.Printed.{Printed}

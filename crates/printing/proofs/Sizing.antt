@@ -14,7 +14,7 @@ use Rattle.expression.specs.Nodes.{head_bytes, children_of, Tree, OfTree}
 use Rattle.expression.specs.Heads.{HeadIs}
 use Rattle.expression.specs.declared.heads.Head.{Head}
 use Rattle.expression.proofs.Standing.{head-children, children-in-range, node-some, after-head}
-use Rattle.printing.specs.Marks.{own_size, PhysicalAt, Counted, OfCounted}
+use Rattle.printing.specs.Marks.{own_size, PhysicalAt, PhysicalWith, OfPhysicalWith}
 use Rattle.printing.specs.Texts.{RowToEnd, TextThere, OfText}
 use Rattle.printing.proofs.NodeTexts.{sizes, node-size}
 
@@ -123,13 +123,13 @@ module _ {s : List ℕ} {at next size : ℕ} (inv : Sizing s at next size) where
       head_of : {t : Expr} → PhysicalAt s next t → HeadIs next head t
       head_of {t} h = is (index_below h.bound) t h.stands
 
-      pub counted : Counted s next head.children
+      pub counted : PhysicalWith s next head.children
       counted = (node-there.0, node-there.1, (head_of node-there.1).children)
 
       pub head-later : next < head.next
       head-later = after-head node-there.1.stands head.next (head_of node-there.1).next
 
-      module _ (own : ℕ) (sized : OfCounted s next head.children (λ t. own ≡ own_size t)) where
+      module _ (own : ℕ) (sized : OfPhysicalWith s next head.children (λ t. own ≡ own_size t)) where
         -- One node on: its own characters are counted, its children come first among what is left.
         node-on : {bound : ℕ} {t : Expr} {us : Exprs} → RowToEnd s next bound (cons t us)
             → RowToEnd s head.next bound (and_then (children_of t) us) × (own + sizes (and_then (children_of t) us) ≡ sizes (cons t us))

@@ -7,24 +7,24 @@ use Rattle.definitions.specs.Bytes.Printed.{decimal_width, decimal, printed}
 use Rattle.expression.specs.Nodes.{children_of, Stands}
 
 -- There is room for a text from w on.
-pub record Fits (w : ℕ) (text out : List ℕ) : Type 0 where
+pub record TextFits (w : ℕ) (text out : List ℕ) : Type 0 where
   pub room : w + length text ≤ length out
 
 -- A number between two characters.
-abbrev pub marked : (first n last : ℕ) → List ℕ
-marked first n last = first ∷ (decimal n ++ (last ∷ []))
+abbrev pub marked_number : (first n last : ℕ) → List ℕ
+marked_number first n last = first ∷ (decimal n ++ (last ∷ []))
 
 -- A column: `c`, index, `:`, tag.
 abbrev pub column_text : (index tag : ℕ) → List ℕ
-column_text index tag = marked 99 index 58 ++ decimal tag
+column_text index tag = marked_number 99 index 58 ++ decimal tag
 
 -- A literal of these bytes: `#`, type, `:`, digits.
 abbrev pub literal_text : (type : ℕ) → (bytes : List ℕ) → List ℕ
-literal_text type bytes = marked 35 type 58 ++ digits bytes
+literal_text type bytes = marked_number 35 type 58 ++ digits bytes
 
 -- A function up to its arguments: `f`, name length, `:`, name, `[`.
 abbrev pub name_text : (name : List ℕ) → List ℕ
-name_text name = marked 102 (length name) 58 ++ (name ++ (91 ∷ []))
+name_text name = marked_number 102 (length name) 58 ++ (name ++ (91 ∷ []))
 
 -- The number that a node's text begins with: index, type, operator, name length or tag.
 unfoldable pub leading_of : Expr → ℕ
@@ -98,8 +98,8 @@ abbrev pub OfPhysical : (s : List ℕ) → (at : ℕ) → (Expr → Type 0) → 
 OfPhysical s at P = (t : Expr) → PhysicalAt s at t → P t
 
 -- The same of one with so many children.
-abbrev pub Counted : (s : List ℕ) → (at children : ℕ) → Type 0
-Counted s at children = (t : Expr) × PhysicalAt s at t × (children ≡ count (children_of t))
+abbrev pub PhysicalWith : (s : List ℕ) → (at children : ℕ) → Type 0
+PhysicalWith s at children = (t : Expr) × PhysicalAt s at t × (children ≡ count (children_of t))
 
-abbrev pub OfCounted : (s : List ℕ) → (at children : ℕ) → (Expr → Type 0) → Type 0
-OfCounted s at children P = OfPhysical s at (λ t. children ≡ count (children_of t) → P t)
+abbrev pub OfPhysicalWith : (s : List ℕ) → (at children : ℕ) → (Expr → Type 0) → Type 0
+OfPhysicalWith s at children P = OfPhysical s at (λ t. children ≡ count (children_of t) → P t)

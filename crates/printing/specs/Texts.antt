@@ -6,7 +6,7 @@ use Rattle.definitions.specs.Bytes.Decode.{index_below}
 use Rattle.definitions.specs.Bytes.Good.{InRangeAll}
 use Rattle.definitions.specs.Bytes.Printed.{printed}
 use Rattle.expression.specs.Nodes.{Row}
-use Rattle.writing.specs.Written.{WroteAt}
+use Rattle.byte_writer.specs.Written.{WroteAt}
 use Rattle.printing.specs.Marks.{before_of, PhysicalAt}
 use Rattle.printing.specs.declared.texts.Printed.{Printed}
 

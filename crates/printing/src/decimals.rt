@@ -1,10 +1,10 @@
 // Numbers in decimal.
 ghost use Rattle.std.specs.Prelude.{◌≡◌};
 ghost use Rattle.definitions.specs.Bytes.Printed.{decimal_width, decimal};
-ghost use Rattle.writing.specs.Written.{WroteAt};
-ghost use Rattle.printing.specs.Marks.{Fits, marked};
+ghost use Rattle.byte_writer.specs.Written.{WroteAt};
+ghost use Rattle.printing.specs.Marks.{TextFits, marked_number};
 
-use writing::numbers::put_figures;
+use byte_writer::numbers::put_figures;
 
 // How many digits a number below 100,000 has.
 #[tactic(auto, unfolding(definitions::specs::Bytes::Printed::decimal_width))]
@@ -22,7 +22,7 @@ pub fn decimal_width(n: usize) -> usize
 
 // Writes a number from w on; answers where it ends, as all writers here.
 pub fn put_decimal(out: &mut [u8], w: usize, n: usize) -> usize
-    requires { Fits w (decimal n) out.old }
+    requires { TextFits w (decimal n) out.old }
     ensures { WroteAt w (decimal n) out.old out.new result }
 {
     let width = decimal_width(n);
@@ -31,8 +31,8 @@ pub fn put_decimal(out: &mut [u8], w: usize, n: usize) -> usize
 
 // Writes a number between two characters.
 pub fn put_marked(out: &mut [u8], w: usize, first: u8, n: usize, last: u8) -> usize
-    requires { Fits w (marked first n last) out.old }
-    ensures { WroteAt w (marked first n last) out.old out.new result }
+    requires { TextFits w (marked_number first n last) out.old }
+    ensures { WroteAt w (marked_number first n last) out.old out.new result }
 {
     out[w] = first;
     let v = put_decimal(out, w + 1, n);

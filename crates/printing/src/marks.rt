@@ -1,5 +1,5 @@
 // What is written of a node before its children, before each of them and after them.
-ghost use Rattle.writing.specs.Writing.{Room, PutsAt};
+ghost use Rattle.byte_writer.specs.Writing.{Room, PutsAt};
 ghost use Rattle.printing.specs.Marks.{PhysicalAt, opening_of, before_of, closing_of};
 
 use super::decimals::put_marked;

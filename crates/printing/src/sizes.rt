@@ -1,6 +1,6 @@
 // How many characters a node has of its own.
 ghost use Rattle.std.specs.Prelude.{◌≡◌};
-ghost use Rattle.printing.specs.Marks.{Counted, OfCounted, own_size};
+ghost use Rattle.printing.specs.Marks.{PhysicalWith, OfPhysicalWith, own_size};
 
 use super::decimals::decimal_width;
 use super::fields::leading_number;
@@ -9,8 +9,8 @@ use expression::fields::short_at;
 // How many characters the node at a place, of so many children, has besides theirs.
 #[tactic(auto, using(crate::proofs::SizeLaws::width_small))]
 pub fn own_size(src: &[u8], at: usize, children: usize) -> usize
-    requires { Counted src.now at children }
-    ensures { OfCounted src.now at children (λ t. result ≡ own_size t) }
+    requires { PhysicalWith src.now at children }
+    ensures { OfPhysicalWith src.now at children (λ t. result ≡ own_size t) }
 {
     let number = leading_number(src, at);
     let width = decimal_width(number);

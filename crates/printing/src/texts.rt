@@ -1,7 +1,7 @@
 // The text of an expression.
 ghost use Rattle.std.specs.Prelude.{◌<◌, slice_index};
 ghost use Rattle.definitions.specs.Bytes.Printed as definitions;
-ghost use Rattle.writing.specs.Writing.{Room};
+ghost use Rattle.byte_writer.specs.Writing.{Room};
 ghost use Rattle.printing.specs.Marks.{PhysicalAt};
 ghost use Rattle.printing.specs.Texts.{NodePrinted, RowFits, RowPrinted};
 

@@ -10,15 +10,15 @@ use Rattle.definitions.specs.Bytes.Encode.{expr_bytes}
 use Rattle.definitions.specs.Bytes.Decode.{index_below}
 use Rattle.expression.specs.Nodes.{Stands}
 use Rattle.projection.specs.Spots.{Spot, column_spots}
-use Rattle.projection.specs.Rows.{ColumnsFit, Collected, ColumnsCollected}
+use Rattle.projection.specs.Rows.{ColumnsFit, SpotsPut, ColumnsCollected}
 use Rattle.node_rows.specs.declared.collecting.Passed.{Passed}
 use Rattle.projection.proofs.SpotWalk.{index-after, collected-both}
 use Rattle.projection.specs.PlanSpots.{both_spots}
 use Rattle.projection.specs.Arguments.{BothFit, BothCollected}
 
 -- The same walk counted from another place.
-pub counted-from : {at size i : ℕ} {x : List Spot} {before after : List ℕ} {r : Passed} → Collected at size i x before after r
-    → (from length : ℕ) → at + size ≡ from + length → Collected from length i x before after r
+pub counted-from : {at size i : ℕ} {x : List Spot} {before after : List ℕ} {r : Passed} → SpotsPut at size i x before after r
+    → (from length : ℕ) → at + size ≡ from + length → SpotsPut from length i x before after r
 counted-from c from length e = record { ends = c.ends ∙ e; put = c.put }
 
 module _ {s : List ℕ} {at : ℕ} {one two : Side} {row : List ℕ} (f : BothFit s at one two row) where
@@ -35,7 +35,7 @@ module _ {s : List ℕ} {at : ℕ} {one two : Side} {row : List ℕ} (f : BothFi
       → ColumnsFit s p.end two p.index middle
   unfolding both_spots
   second_fits middle same p is =
-      let a : Collected at (length (expr_bytes f.l)) 0 (column_spots one at f.l) row middle p = is f.l f.there.first in
+      let a : SpotsPut at (length (expr_bytes f.l)) 0 (column_spots one at f.l) row middle p = is f.l f.there.first in
       record {
         tree = f.r;
         stands = subst (λ (q : ℕ). Stands (index_below two_bytes) s q f.r) (sym a.ends) f.there.second;
@@ -49,9 +49,9 @@ pub both-collected : {s : List ℕ} {at : ℕ} (one two : Side) (before middle a
     → BothCollected s at one two before after r
 unfolding both_spots
 both-collected {s} {at} one two before middle after p r first second x y there =
-    let a : Collected at (length (expr_bytes x)) 0 (column_spots one at x) before middle p = first x there.first in
-    let b : Collected p.end (length (expr_bytes y)) p.index (column_spots two p.end y) middle after r =
+    let a : SpotsPut at (length (expr_bytes x)) 0 (column_spots one at x) before middle p = first x there.first in
+    let b : SpotsPut p.end (length (expr_bytes y)) p.index (column_spots two p.end y) middle after r =
     second y (subst (λ (q : ℕ). Stands (index_below two_bytes) s q y) (sym a.ends) there.second) in
     let size : ℕ = length (expr_bytes x) + length (expr_bytes y) in
     let all = collected-both (omega arith) a b in
-    subst (λ (q : ℕ). Collected at size 0 (column_spots one at x ++ column_spots two q y) before after r) a.ends all
+    subst (λ (q : ℕ). SpotsPut at size 0 (column_spots one at x ++ column_spots two q y) before after r) a.ends all

@@ -17,11 +17,11 @@ use Rattle.frame_reader.specs.declared.frame_bodies.Frame.{Frame}
 use Rattle.plan_reader.specs.Plans.{RemainderAt}
 use Rattle.plan_reader.specs.declared.extraction_bodies.Extraction.{Extraction}
 use Rattle.std.specs.Prelude.{Some}
-use Rattle.writing.specs.Written.{WroteAt}
-use Rattle.writing.proofs.Written.{chain}
+use Rattle.byte_writer.specs.Written.{WroteAt}
+use Rattle.byte_writer.proofs.Written.{chain}
 use Rattle.plan_writer.specs.Tables.{Entries}
 use Rattle.projection.specs.Spots.{Spot, spot_number, record_spots}
-use Rattle.projection.specs.Rows.{Collected, RecordsFit, RecordsCollected}
+use Rattle.projection.specs.Rows.{SpotsPut, RecordsFit, RecordsCollected}
 use Rattle.node_rows.specs.declared.collecting.Passed.{Passed}
 use Rattle.projection.proofs.SpotWalk.{index-after}
 use Rattle.projection.proofs.SpotLaws.{record-spots}
@@ -106,7 +106,7 @@ module _ {s : List ℕ} {x : Extraction} {row : List ℕ} (f : ExtractionFits s 
 
 module _ {s : List ℕ} {x : Extraction} (before middle : List ℕ) (p : Passed) (is : ArgumentsCollected s x.predicate before middle p)
     (X : tree.Extraction) (t : ExtractionThere s x X) where
-  first : Collected 3 (length (predicate_fields X.predicate)) 0 (predicate_spots X.predicate) before middle p
+  first : SpotsPut 3 (length (predicate_fields X.predicate)) 0 (predicate_spots X.predicate) before middle p
   first = is X.predicate (predicate-there t)
 
   pub collected-nothing : X.remainder ≡ none → WroteAt 0 (map spot_number (extraction_spots X)) before middle p.index

@@ -12,7 +12,7 @@ use lib.Seq.{take-suc, take_all, take-add, length-take-le}
 use lib.Dec.{eqb, ltb}
 use borrow.Author.Tests.{eq-eqb, ne_eqb, lt-ltb, le-ltb, ltb-true, ltb-false}
 use Rattle.definitions.specs.Filter.Project.{place_in, is_place}
-use Rattle.writing.proofs.Written.{behind}
+use Rattle.byte_writer.proofs.Written.{behind}
 use Rattle.std.specs.Prelude as optional
 use Rattle.std.specs.Prelude.{cond, ◌==◌, position, is_some, Some, None}
 use Rattle.std.specs.List.{position_or_len}

@@ -13,7 +13,7 @@ use borrow.Author.Count.{below_more}
 use Rattle.definitions.specs.Words.Basics.{all}
 use Rattle.definitions.specs.Filter.Project.{place_in, is_place, or_zero}
 use Rattle.theorems.proofs.Tools.{mapped_at}
-use Rattle.writing.proofs.Written.{write-more}
+use Rattle.byte_writer.proofs.Written.{write-more}
 use Rattle.projection.specs.Placing.{has_number, placed_number, PlacedIs}
 
 -- ---- a test of every number

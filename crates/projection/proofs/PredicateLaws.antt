@@ -21,7 +21,7 @@ use Rattle.sedona_query_planner.specs.declared.spatial_predicate.KNNPredicate.{K
 use Rattle.sedona_query_planner.specs.declared.spatial_predicate.SpatialPredicate.{SpatialPredicate}
 use Rattle.sedona_query_planner.specs.declared.spatial_predicate.SpatialPredicate.TheVariants.{Distance, Relation, KNearestNeighbors}
 use Rattle.projection.specs.Spots.{Spot, column_spots}
-use Rattle.projection.specs.Rows.{ColumnsFit, Collected, ColumnsCollected}
+use Rattle.projection.specs.Rows.{ColumnsFit, SpotsPut, ColumnsCollected}
 use Rattle.node_rows.specs.declared.collecting.Passed.{Passed}
 use Rattle.projection.proofs.SpotWalk.{index-after, collected-both}
 use Rattle.projection.specs.PlanSpots.{both_spots, predicate_spots}
@@ -92,9 +92,9 @@ module _ {s : List ℕ} {one two : Side} {skipped : ℕ} where
   }
 
   pub two-collected : (before after : List ℕ) (r : Passed) → BothCollected s (3 + skipped) one two before after r → {P : Predicate}
-      → OfTwo s P one two skipped → Collected 3 (length (predicate_fields P)) 0 (predicate_spots P) before after r
+      → OfTwo s P one two skipped → SpotsPut 3 (length (predicate_fields P)) 0 (predicate_spots P) before after r
   two-collected before after r is {P} t =
-      subst (λ (x : List Spot). Collected 3 (length (predicate_fields P)) 0 x before after r) (sym t.spots)
+      subst (λ (x : List Spot). SpotsPut 3 (length (predicate_fields P)) 0 x before after r) (sym t.spots)
       (counted-from (is t.l t.r t.there) 3 (length (predicate_fields P)) (omega (arith, t.size)))
 
 -- ---- a distance
@@ -157,11 +157,11 @@ module _ {s : List ℕ} {side : Side} where
 
   pub three-collected : (before middle after : List ℕ) (b r : Passed) → BothCollected s 5 left right before middle b
       → ColumnsCollected s b.end side b.index middle after r → {P : Predicate} → OfThree s P side
-      → Collected 3 (length (predicate_fields P)) 0 (predicate_spots P) before after r
+      → SpotsPut 3 (length (predicate_fields P)) 0 (predicate_spots P) before after r
   three-collected before middle after b r both last {P} t =
       let a = both t.l t.r t.there in
-      let c : Collected b.end (length (expr_bytes t.bound)) b.index (column_spots side b.end t.bound) middle after r =
+      let c : SpotsPut b.end (length (expr_bytes t.bound)) b.index (column_spots side b.end t.bound) middle after r =
       last t.bound (subst (λ (q : ℕ). Stands (index_below two_bytes) s q t.bound) (sym a.ends) t.after) in
-      subst (λ (x : List Spot). Collected 3 (length (predicate_fields P)) 0 x before after r)
+      subst (λ (x : List Spot). SpotsPut 3 (length (predicate_fields P)) 0 x before after r)
       (ap (λ (q : ℕ). both_spots left right 5 t.l t.r ++ column_spots side q t.bound) a.ends ∙ sym t.spots)
       (counted-from (collected-both (omega arith) a c) 3 (length (predicate_fields P)) (omega (arith, t.size)))

@@ -13,7 +13,7 @@ use Rattle.plan_reader.specs.declared.extraction_bodies.Extraction.{Extraction}
 use Rattle.projection.specs.Spots.{Spot, spot_number}
 use Rattle.projection.specs.PlanSpots.{extraction_spots}
 use Rattle.projection.specs.Extractions.{ExtractionThere}
-use Rattle.projection.specs.Patches.{patched, Within}
+use Rattle.projection.specs.Patches.{patched, PlacesWithin}
 use Rattle.projection.specs.Projected.{ListsFit, moved, PlacesAre}
 use Rattle.std.specs.Prelude.{Some}
 use Rattle.projection.proofs.SoundSpots.{AllSound, nothing, also, extraction-sound, number-place}
@@ -53,7 +53,7 @@ module _ (n : ℕ) (plan : List ℕ) {x : Extraction} {X : tree.Extraction} (fit
     counted =
         sym (length-map (moved_spots (lists_of of_left of_right) X) spot_number) ∙ ap length (sym are.2) ∙ length-take-le count row are.1
 
-    pub within : Within (take count row) plan
+    pub within : PlacesWithin (take count row) plan
     within k b =
         omega (
           arith,

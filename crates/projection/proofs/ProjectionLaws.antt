@@ -13,7 +13,7 @@ use Rattle.definitions.specs.Words.Expression.{left, right}
 use Rattle.definitions.specs.Bytes.Encode.{side_number, plan_bytes}
 use Rattle.definitions.specs.Filter.Project.{ChildLists, placed}
 use Rattle.plan_reader.specs.declared.extraction_bodies.Extraction.{Extraction}
-use Rattle.writing.specs.Written.{WroteAt}
+use Rattle.byte_writer.specs.Written.{WroteAt}
 use Rattle.projection.specs.Spots.{Spot, spot_number}
 use Rattle.projection.specs.Placing.{PlacedIs}
 use Rattle.projection.specs.PlanSpots.{extraction_spots}

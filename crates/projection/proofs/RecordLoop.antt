@@ -12,8 +12,8 @@ use Rattle.definitions.specs.Bytes.Decode.{side_numbered}
 use Rattle.theorems.proofs.RoundTripPlan.{side-again}
 use Rattle.expression.specs.Places.{short_at}
 use Rattle.expression.proofs.Placed.{first}
-use Rattle.writing.specs.Written.{WroteAt}
-use Rattle.writing.proofs.Written.{chain, store}
+use Rattle.byte_writer.specs.Written.{WroteAt}
+use Rattle.byte_writer.proofs.Written.{chain, store}
 use Rattle.plan_writer.specs.Tables.{Entry, Entries}
 use Rattle.plan_writer.proofs.TableLaws.{entry_of, entry-child}
 use Rattle.projection.specs.Spots.{Spot, spot_number, record_spots}

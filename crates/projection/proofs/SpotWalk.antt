@@ -14,26 +14,26 @@ use Rattle.expression.specs.Heads.{HeadIs}
 use Rattle.expression.specs.declared.heads.Head.{Head}
 use Rattle.expression.proofs.Placed.{fits}
 use Rattle.expression.proofs.Standing.{tree-length, kind-is, children-stand, first-stands, rest-stands, some-children, no-children, after-node}
-use Rattle.writing.specs.Written.{WroteAt}
-use Rattle.writing.proofs.Written.{chain, nothing-wrote, store}
+use Rattle.byte_writer.specs.Written.{WroteAt}
+use Rattle.byte_writer.proofs.Written.{chain, nothing-wrote, store}
 use Rattle.plan_writer.proofs.Fields.{column-is, column-size}
 use Rattle.projection.specs.Spots.{Spot, spot_number, column_spots, child_spots}
-use Rattle.projection.specs.Rows.{ColumnsFit, ChildrenFit, Collected, ColumnsCollected, ChildrenCollected}
+use Rattle.projection.specs.Rows.{ColumnsFit, ChildrenFit, SpotsPut, ColumnsCollected, ChildrenCollected}
 use Rattle.node_rows.specs.declared.collecting.Passed.{Passed}
 use Rattle.projection.proofs.SpotLaws.{no-own-spots}
 
 -- ---- one walk after another
 
 pub collected-both : {at size more i : ℕ} {x y : List Spot} {before middle after : List ℕ} {p r : Passed} → i ≤ length before
-    → Collected at size i x before middle p → Collected p.end more p.index y middle after r
-    → Collected at (size + more) i (x ++ y) before after r
+    → SpotsPut at size i x before middle p → SpotsPut p.end more p.index y middle after r
+    → SpotsPut at (size + more) i (x ++ y) before after r
 collected-both {i = i} {x} {y} {before} {middle} {after} {p} {r} room a b = record {
   ends = omega (arith, a.ends, b.ends);
   put = subst (λ (l : List ℕ). WroteAt i l before after r.index) (sym (map-append spot_number x y)) (chain room a.put b.put);
 }
 
 -- The index after a walk.
-pub index-after : {at size i : ℕ} {x : List Spot} {before after : List ℕ} {r : Passed} → Collected at size i x before after r
+pub index-after : {at size i : ℕ} {x : List Spot} {before after : List ℕ} {r : Passed} → SpotsPut at size i x before after r
     → r.index ≡ i + length x
 index-after {i = i} {x} c = c.put.ends ∙ ap (λ (n : ℕ). i + n) (length-map x spot_number)
 
@@ -42,7 +42,7 @@ index-after {i = i} {x} c = c.put.ends ∙ ap (λ (n : ℕ). i + n) (length-map 
 module _ {s : List ℕ} {at i : ℕ} (side : Side) where
   pub collect-column : (before : List ℕ) (t : Expr) → Stands (index_below two_bytes) s at t → get_or s at 0 ≡ 0 → (b : ℕ)
       → b ≡ spot_number (record { side = side; at = at + 1; child = short_at s (at + 1) }) → i < length before
-      → Collected at (length (expr_bytes t)) i (column_spots side at t) before (set before i b) (record { end = at + 5; index = i + 1 })
+      → SpotsPut at (length (expr_bytes t)) i (column_spots side at t) before (set before i b) (record { end = at + 5; index = i + 1 })
   unfolding column_spots
   collect-column before t h e b is room =
       rw (column-is h e).tree (record {
@@ -52,10 +52,10 @@ module _ {s : List ℕ} {at i : ℕ} (side : Side) where
 
   pub collect-other : (before after : List ℕ) (t : Expr) → Stands (index_below two_bytes) s at t → (get_or s at 0 ≡ 0 → ⊥) → (h : Head)
       → OfTree s at (HeadIs at h) → (r : Passed) → ChildrenCollected s h.next h.children side i before after r
-      → Collected at (length (expr_bytes t)) i (column_spots side at t) before after r
+      → SpotsPut at (length (expr_bytes t)) i (column_spots side at t) before after r
   collect-other before after t stands n h its r is =
       let head : HeadIs at h t = its (index_below two_bytes) t stands in
-      let below : Collected h.next (length (exprs_bytes (children_of t))) i (child_spots side h.next (children_of t)) before after r =
+      let below : SpotsPut h.next (length (exprs_bytes (children_of t))) i (child_spots side h.next (children_of t)) before after r =
       is (children_of t) (children-stand stands h.next h.children head.next head.children) in
       record {
         ends = omega (arith, below.ends, head.next, tree-length t);
@@ -66,25 +66,25 @@ module _ {s : List ℕ} {at i : ℕ} (side : Side) where
       }
 
   pub collects-none : (before : List ℕ) {n : ℕ} (ts : Exprs) → Row (index_below two_bytes) s at n ts → n ≡ 0
-      → Collected at (length (exprs_bytes ts)) i (child_spots side at ts) before before (record { end = at; index = i })
+      → SpotsPut at (length (exprs_bytes ts)) i (child_spots side at ts) before before (record { end = at; index = i })
   unfolding exprs_bytes child_spots
   collects-none before ts row e =
-      no-children (λ ts. Collected at (length (exprs_bytes ts)) i (child_spots side at ts) before before (record { end = at; index = i }))
+      no-children (λ ts. SpotsPut at (length (exprs_bytes ts)) i (child_spots side at ts) before before (record { end = at; index = i }))
       (record { ends = omega arith; put = nothing-wrote before i }) ts (row.counted ∙ e)
 
   pub collects-some : (before middle after : List ℕ) → i ≤ length before → {n : ℕ} (ts : Exprs)
       → Row (index_below two_bytes) s at n ts → (n ≡ 0 → ⊥) → (p r : Passed) → ColumnsCollected s at side i before middle p
       → ChildrenCollected s p.end (n - 1) side p.index middle after r
-      → Collected at (length (exprs_bytes ts)) i (child_spots side at ts) before after r
+      → SpotsPut at (length (exprs_bytes ts)) i (child_spots side at ts) before after r
   unfolding exprs_bytes child_spots
   collects-some before middle after room {n} ts row some p r one others = some-children
-      (λ ts. Row (index_below two_bytes) s at n ts → Collected at (length (exprs_bytes ts)) i (child_spots side at ts) before after r)
+      (λ ts. Row (index_below two_bytes) s at n ts → SpotsPut at (length (exprs_bytes ts)) i (child_spots side at ts) before after r)
       (λ t ts o.
-      let a : Collected at (length (expr_bytes t)) i (column_spots side at t) before middle p = one t (first-stands o) in
-      let b : Collected p.end (length (exprs_bytes ts)) p.index (child_spots side p.end ts) middle after r =
+      let a : SpotsPut at (length (expr_bytes t)) i (column_spots side at t) before middle p = one t (first-stands o) in
+      let b : SpotsPut p.end (length (exprs_bytes ts)) p.index (child_spots side p.end ts) middle after r =
       others ts (rest-stands o p.end (n - 1) a.ends (omega arith)) in
       rw length-append
-      (subst (λ (q : ℕ). Collected at (length (expr_bytes t) + length (exprs_bytes ts)) i (column_spots side at t ++ child_spots side q ts)
+      (subst (λ (q : ℕ). SpotsPut at (length (expr_bytes t) + length (exprs_bytes ts)) i (column_spots side at t ++ child_spots side q ts)
       before after r) a.ends (collected-both room a b)))
       ts (omega (arith, row.counted)) row
 
@@ -151,7 +151,7 @@ module _ {s : List ℕ} {at i : ℕ} {side : Side} where
         → ChildrenFit s p.end (n - 1) side p.index middle
     unfolding exprs_bytes child_spots
     rest_of t ts o short room =
-        let a : Collected at (length (expr_bytes t)) i (column_spots side at t) row middle p = one t (first-stands o) in
+        let a : SpotsPut at (length (expr_bytes t)) i (column_spots side at t) row middle p = one t (first-stands o) in
         record {
           trees = ts;
           stand = rest-stands o p.end (n - 1) a.ends (omega arith);

@@ -9,7 +9,7 @@ use Rattle.expression.specs.Places.{Holds}
 use Rattle.expression.specs.Nodes.{Stands}
 use Rattle.sedona_query_planner.specs.Predicates.{unchanged, PredicateAt}
 use Rattle.sedona_query_planner.specs.declared.spatial_predicate.SpatialPredicate.{SpatialPredicate}
-use Rattle.projection.specs.Rows.{Collected}
+use Rattle.projection.specs.Rows.{SpotsPut}
 use Rattle.node_rows.specs.declared.collecting.Passed.{Passed}
 use Rattle.projection.specs.PlanSpots.{both_spots, predicate_spots}
 
@@ -29,7 +29,7 @@ pub record BothFit (s : List ℕ) (at : ℕ) (one two : Side) (row : List ℕ) :
 abbrev pub BothCollected : (s : List ℕ) (at : ℕ) (one two : Side) (before after : List ℕ) → Passed → Type 0
 BothCollected s at one two before after p =
     (l r : Expr) → BothThere s at l r
-    → Collected at (length (expr_bytes l) + length (expr_bytes r)) 0 (both_spots one two at l r) before after p
+    → SpotsPut at (length (expr_bytes l) + length (expr_bytes r)) 0 (both_spots one two at l r) before after p
 
 -- The predicate P is the one that was read, and its fields stand after the first byte and the position.
 pub record PredicateThere (s : List ℕ) (p : SpatialPredicate) (P : Predicate) : Type 0 where
@@ -46,4 +46,4 @@ pub record ArgumentsFit (s : List ℕ) (p : SpatialPredicate) (row : List ℕ) :
 
 abbrev pub ArgumentsCollected : (s : List ℕ) → SpatialPredicate → (before after : List ℕ) → Passed → Type 0
 ArgumentsCollected s p before after r =
-    (P : Predicate) → PredicateThere s p P → Collected 3 (length (predicate_fields P)) 0 (predicate_spots P) before after r
+    (P : Predicate) → PredicateThere s p P → SpotsPut 3 (length (predicate_fields P)) 0 (predicate_spots P) before after r

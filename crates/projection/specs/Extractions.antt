@@ -5,7 +5,7 @@ use Rattle.definitions.specs.Bytes.Encode.{plan_bytes}
 use Rattle.definitions.specs.Bytes.Good.{GoodPlan}
 use Rattle.plan_reader.specs.Plans.{ExtractionAt}
 use Rattle.plan_reader.specs.declared.extraction_bodies.Extraction.{Extraction}
-use Rattle.writing.specs.Written.{WroteAt}
+use Rattle.byte_writer.specs.Written.{WroteAt}
 use Rattle.projection.specs.Spots.{spot_number}
 use Rattle.projection.specs.PlanSpots.{extraction_spots}
 

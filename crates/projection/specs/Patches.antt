@@ -12,8 +12,8 @@ patched [] s = s
 patched (number ∷ numbers) s = patched numbers (put_at (number / 262144) (big_endian 2 (number % 65536)) s)
 
 -- The numbers' places lie within the bytes.
-abbrev pub Within : (row s : List ℕ) → Type 0
-Within row s = (k : ℕ) → k < length row → get_or row k 0 / 262144 + 2 ≤ length s
+abbrev pub PlacesWithin : (row s : List ℕ) → Type 0
+PlacesWithin row s = (k : ℕ) → k < length row → get_or row k 0 / 262144 + 2 ≤ length s
 
 -- They were put at their places.
 abbrev pub PatchedBy : (row before after : List ℕ) → Type 0

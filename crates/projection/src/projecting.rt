@@ -1,13 +1,13 @@
 // Child indexes replaced by their places: in a row of numbers, then in the plan.
 ghost use Rattle.projection.specs.Extractions.{ExtractionFits};
-ghost use Rattle.projection.specs.Patches.{Within, PatchedBy};
+ghost use Rattle.projection.specs.Patches.{PlacesWithin, PatchedBy};
 ghost use Rattle.projection.specs.Projected.{ListsFit, ProjectedIs};
 
 use super::plan_spots::collect_extraction;
 use super::spot_places::find_places;
+use byte_writer::numbers::put_number;
 use plan_reader::extraction_bodies::Extraction;
 use terms::sides::JoinSide;
-use writing::numbers::put_number;
 
 // Fills the row's start with the child indexes of the extraction, each replaced by its place in the list of its side; answers how many
 // there are, or none where a list lacks one.
@@ -35,7 +35,7 @@ pub fn project_spots(
 
 // Puts the child index of each of the row's numbers at its place in the plan.
 pub fn put_indexes(plan: &mut [u8], row: &[u32])
-    requires { Within row.now plan.old }
+    requires { PlacesWithin row.now plan.old }
     ensures { PatchedBy row.now plan.old plan.new }
 {
     for number in row {

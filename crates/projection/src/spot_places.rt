@@ -12,7 +12,7 @@ use terms::sides::JoinSide;
 // Puts the place of its child index into each of the row's numbers that is of the side; answers whether the list has them all, a question
 // that two sides are asked. Where it lacks one, what the row then has is of no use.
 #[inline(always)]
-fn put_places(row: &mut [u32], side: JoinSide, items: &[u16], chains: Option<Chains>) -> bool
+fn put_child_places(row: &mut [u32], side: JoinSide, items: &[u16], chains: Option<Chains>) -> bool
     requires items_bound { length items.now ≤ most_items }
     requires sought { AllSought (side_number (join_side side)) items.now row.old chains }
     ensures { PlacedIs (side_number (join_side side)) items.now row.old row.new result }
@@ -51,7 +51,7 @@ pub fn find_places(row: &mut [u32], side: JoinSide, items: &[u16]) -> bool
     ensures { PlacedIs (side_number (join_side side)) items.now row.old row.new result }
 {
     if row.len() <= 16 || items.len() <= 16 {
-        return put_places(row, side, items, None);
+        return put_child_places(row, side, items, None);
     }
     let mut heads = [0u16; 1024];
     let mut nexts = [0u16; 4096];
@@ -62,5 +62,5 @@ pub fn find_places(row: &mut [u32], side: JoinSide, items: &[u16]) -> bool
         heads: &heads,
         nexts: &nexts,
     };
-    put_places(row, side, items, Some(chains))
+    put_child_places(row, side, items, Some(chains))
 }

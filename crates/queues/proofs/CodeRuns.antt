@@ -3,7 +3,7 @@ use Prim.Native.Nat.{ℕ}
 use mathlib.Core.Path.{◌≡◌, refl, ap}
 use mathlib.Core.List.{List, ◌∷◌}
 use Rattle.definitions.specs.Lists.Queues.{QueueCall, QueueMade, made_put, made_serve, QueuesRun, queues_run}
-use Rattle.join_filter.specs.Outcomes.{answer_of}
+use Rattle.call_answers.specs.Outcomes.{answer_of}
 use Rattle.queues.specs.Outcomes.{serve_answer_of}
 use Rattle.queues.specs.Lists.{Ran, no_call, put_ran, serve_ran, CodeRuns}
 

@@ -6,7 +6,7 @@ use mathlib.Core.Path.{◌≡◌, refl, sym, ap, ap₂, ◌∙◌}
 use mathlib.Core.List.{List, ◌++◌, append_assoc}
 use lib.ListN.{length, take, drop, length-append, length-drop}
 use lib.Seq.{paste, length-take-le, take-append-add, drop-append-add, take-append-le, drop-append-le, drop-drop}
-use Rattle.writing.specs.Written.{WroteAt}
+use Rattle.byte_writer.specs.Written.{WroteAt}
 
 -- Bytes copied down within a buffer were written there.
 pub moved-within : (s : List ℕ) (to from n : ℕ) {after : List ℕ} → from + n ≤ length s → after ≡ copy_within s from (from + n) to

@@ -15,8 +15,8 @@ use Rattle.theorems.proofs.QueueFrames.{lengths-slotted, places-slotted}
 use Rattle.theorems.proofs.QueueStates.{Holds, queue-holds, queue-fits, queue-same, lengths-long, places-long}
 use Rattle.theorems.proofs.QueueChanges.{fit-more}
 use Rattle.expression.specs.Places.{short_at}
-use Rattle.writing.specs.Written.{WroteAt}
-use Rattle.writing.proofs.NumberLaws.{number-length}
+use Rattle.byte_writer.specs.Written.{WroteAt}
+use Rattle.byte_writer.proofs.NumberLaws.{number-length}
 use Rattle.queues.specs.Parts.{Put, HasRoom, FrameAdded, next_frame, HasNext, FrameMoved}
 use Rattle.queues.proofs.Moving.{wrote-in, kept-behind}
 

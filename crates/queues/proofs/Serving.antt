@@ -17,7 +17,7 @@ use Rattle.theorems.proofs.QueueFrames.{At, row_at}
 use Rattle.theorems.proofs.QueueStates.{held_in, Holds, queue-holds, places-long, mark-same}
 use Rattle.expression.specs.Places.{short_at}
 use Rattle.queues.specs.Outcomes.{queue_is, ServeAnswered, ServeIs}
-use Rattle.queues.specs.Held.{Held, taken, DueOf, FirstOf, DueIs, HoldsFrame, ServedFrom}
+use Rattle.queues.specs.Held.{Held, due_from, DueOf, FirstOf, DueIs, HoldsQueued, ServedFrom}
 use Rattle.queues.specs.Parts.{HasFirst, FirstTaken}
 use Rattle.queues.specs.declared.answers.Queue as code
 use Rattle.queues.proofs.Shifting.{length-there}
@@ -127,7 +127,7 @@ module _ (b : List ℕ) (q : Queue) (at n : ℕ) (place : at ≡ start q) (size 
     frame-high : length f ≤ 1024
     frame-high = (first-at (take n (drop at b)) f later (part-size b q at n place size S (held_in b S is)) frames).high
 
-  module _ (h : HoldsFrame b q) (k : ℕ) (length-is : k ≡ short_at (take n (drop at b)) 1) where
+  module _ (h : HoldsQueued b q) (k : ℕ) (length-is : k ≡ short_at (take n (drop at b)) 1) where
     pub frame-within : 33 + k ≤ length (take n (drop at b))
     frame-within =
         omega (
@@ -141,13 +141,13 @@ module _ (b : List ℕ) (q : Queue) (at n : ℕ) (place : at ≡ start q) (size 
       k-is : length f ≡ k
       k-is = sym (frame-size S f later is first) ∙ sym length-is
 
-      pub out-short : length out < k → serve_due b out (some (taken q f later S)) ≡ record { answer = refused 9; queues = b; out = out }
+      pub out-short : length out < k → serve_due b out (some (due_from q f later S)) ≡ record { answer = refused 9; queues = b; out = out }
       unfolding serve_due
       out-short short = rw (lt-leb (length f) (length out) (omega (arith, k-is))) refl
 
       pub frame-served : k ≤ length out → AllBytes b → (out_after rest : List ℕ) (mark : ℕ) → mark ≡ mark_byte (last q)
           → out_after ≡ take k (drop 33 (take n (drop at b))) ++ drop k out → FirstTaken (take n (drop at b)) rest
-          → serve_due b out (some (taken q f later S))
+          → serve_due b out (some (due_from q f later S))
           ≡ record { answer = ok (frame_from q k); queues = set (take at b ++ (rest ++ drop n (drop at b))) 0 mark; out = out_after }
       unfolding serve_due written_over state_over
       frame-served room bytes out_after rest mark marks copied left =
@@ -178,11 +178,11 @@ module _ (b out : List ℕ) where
   serve-nothing h nothing = serve_is h none (nothing h.0 h.1)
 
   module _ (h : Held b) (q : code.Queue) (from : DueIs b (Some q)) where
-    pub holds_frame : HoldsFrame b (queue_is q)
+    pub holds_frame : HoldsQueued b (queue_is q)
     holds_frame = let one = from h.0 h.1 in record { state = h.0; frame = one.0; later = one.1; held = h.1; first = one.2 }
 
     pub serve-one : (after out_after : List ℕ) (r : ServeAnswered) → ServedFrom b (queue_is q) out after out_after r
         → ServeIs (serve b out) after out_after r
     serve-one after out_after r served =
         let one = from h.0 h.1 in
-        serve_is h (some (taken (queue_is q) one.0 one.1 h.0)) one.3 ∙ served h.0 one.0 one.1 h.1 one.2
+        serve_is h (some (due_from (queue_is q) one.0 one.1 h.0)) one.3 ∙ served h.0 one.0 one.1 h.1 one.2

@@ -20,18 +20,18 @@ abbrev pub Held : (b : List ℕ) → Type 0
 Held b = (S : State) × (state_of b ≡ ok S)
 
 -- One is, or the buffer is refused with 10 as the definition refuses it.
-abbrev pub HeldIs : (b : List ℕ) → Given Unit Refusal → Type 0
-HeldIs b (Ok held) = Held b
-HeldIs b (Err why) = (why ≡ NoGoodPlan) × (state_of b ≡ refused 10)
+abbrev pub GoodQueuesIs : (b : List ℕ) → Given Unit Refusal → Type 0
+GoodQueuesIs b (Ok held) = Held b
+GoodQueuesIs b (Err why) = (why ≡ NoGoodPlan) × (state_of b ≡ refused 10)
 
 -- What is due where a queue's oldest frame is.
-abbrev pub taken : Queue → (frame : List ℕ) → (later : Frames) → State → queues.Due
-taken queue frame later S = record { queue = queue; frame = frame; left = marked queue (with_frames queue later S) }
+abbrev pub due_from : Queue → (frame : List ℕ) → (later : Frames) → State → queues.Due
+due_from queue frame later S = record { queue = queue; frame = frame; left = marked queue (with_frames queue later S) }
 
 -- The oldest frame of a queue that holds one is due; or nothing is.
 abbrev pub DueOf : State → Option Code → Optional queues.Due → Type 0
 DueOf S (Some queue) d =
-    (frame : List ℕ) × (later : Frames) × (waiting (queue_is queue) S ≡ frame ∷ later) × (d ≡ some (taken (queue_is queue) frame later S))
+    (frame : List ℕ) × (later : Frames) × (waiting (queue_is queue) S ≡ frame ∷ later) × (d ≡ some (due_from (queue_is queue) frame later S))
 DueOf S None d = d ≡ none
 
 -- What is due where two queues are tried in this order,
@@ -44,7 +44,7 @@ abbrev pub DueIs : (b : List ℕ) → Option Code → Type 0
 DueIs b r = (S : State) → state_of b ≡ ok S → DueOf S r (due S)
 
 -- A frame is held in a queue.
-pub record HoldsFrame (b : List ℕ) (queue : Queue) : Type 0 where
+pub record HoldsQueued (b : List ℕ) (queue : Queue) : Type 0 where
   pub state : State
   pub frame : List ℕ
   pub later : Frames
@@ -55,4 +55,4 @@ pub record HoldsFrame (b : List ℕ) (queue : Queue) : Type 0 where
 abbrev pub ServedFrom : (b : List ℕ) → Queue → (out after out_after : List ℕ) → ServeAnswered → Type 0
 ServedFrom b queue out after out_after r =
     (S : State) (frame : List ℕ) (later : Frames) → state_of b ≡ ok S → waiting queue S ≡ frame ∷ later
-    → ServeIs (serve_due b out (some (taken queue frame later S))) after out_after r
+    → ServeIs (serve_due b out (some (due_from queue frame later S))) after out_after r

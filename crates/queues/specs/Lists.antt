@@ -2,7 +2,7 @@
 use Rattle.std.specs.Prelude.{ℕ, ◌≡◌, List, [], ◌∷◌}
 use Rattle.definitions.specs.Calls.QueueBytes as definitions
 use Rattle.definitions.specs.Lists.Queues.{QueueCall, put_call, serve_call, QueueMade, made_put, made_serve, queues_run}
-use Rattle.join_filter.specs.Outcomes.{Answered, answer_of}
+use Rattle.call_answers.specs.Outcomes.{Answered, answer_of}
 use Rattle.queues.specs.Outcomes.{ServeAnswered, serve_answer_of, PutIs, ServeIs}
 
 -- A list of calls was made, each on the buffer as it was left: each met its contract, and gave its answer.

@@ -6,7 +6,7 @@ use Rattle.definitions.specs.Calls.QueueBytes as bytes
 use Rattle.terms.specs.Refusals.{number_of}
 use Rattle.terms.specs.declared.refusals.Refusal.{Refusal}
 use Rattle.terms.specs.declared.refusals.Refusal.TheVariants.{NoSuchQueue}
-use Rattle.join_filter.specs.Outcomes.{Answered, answer_of}
+use Rattle.call_answers.specs.Outcomes.{Answered, answer_of}
 use Rattle.queues.specs.declared.answers.Queue.{Queue}
 use Rattle.queues.specs.declared.answers.Queue.TheVariants.{Chassis, FixedUnit}
 

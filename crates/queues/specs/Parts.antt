@@ -4,7 +4,7 @@ use Rattle.definitions.specs.Words.Basics.{ok, big_endian}
 use Rattle.definitions.specs.Calls.Queues.{Frames}
 use Rattle.definitions.specs.Calls.QueueBytes.{queue_of, queue_over}
 use Rattle.expression.specs.Places.{short_at}
-use Rattle.writing.specs.Written.{WroteAt}
+use Rattle.byte_writer.specs.Written.{WroteAt}
 
 -- Two writes, one after the other: a frame's length and its bytes, as those of place k.
 pub record Put (before : List ℕ) (k : ℕ) (frame after : List ℕ) : Type 0 where

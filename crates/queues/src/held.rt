@@ -1,7 +1,7 @@
 // Whether a buffer holds two queues.
 ghost use Rattle.std.specs.Prelude.{◌≡◌, length};
 ghost use Rattle.definitions.specs.Calls.QueueBytes.{queue_of};
-ghost use Rattle.queues.specs.Held.{GoodIs, HeldIs};
+ghost use Rattle.queues.specs.Held.{GoodIs, GoodQueuesIs};
 
 use crate::parts::{FIRST, LENGTHS, LONGEST, MOST, PLACES, SECOND, WHOLE};
 use expression::fields::short_at;
@@ -28,7 +28,7 @@ fn good_queue(part: &[u8]) -> bool
 
 // 10 unless a whole buffer is good: its length, its mark and both queues.
 pub(crate) fn good_queues(queues: &[u8]) -> Result<(), Refusal>
-    ensures { HeldIs queues.now result }
+    ensures { GoodQueuesIs queues.now result }
 {
     if queues.len() != WHOLE || 2 < queues[0] {
         return Err(Refusal::NoGoodPlan);

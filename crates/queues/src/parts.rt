@@ -5,8 +5,8 @@ ghost use Rattle.queues.specs.Outcomes.{queue_is};
 ghost use Rattle.queues.specs.Parts.{HasRoom, FrameAdded, HasNext, FrameMoved, HasFirst, FirstTaken};
 
 use crate::answers::Queue;
+use byte_writer::numbers::put_number;
 use expression::fields::short_at;
-use writing::numbers::put_number;
 
 // How many frames a queue holds at most, and how many bytes a frame has at most.
 pub(crate) const MOST: usize = 16;

@@ -5,7 +5,7 @@ ghost use Rattle.queues.specs.Outcomes.{PutIs};
 use crate::answers::Queue;
 use crate::held::good_queues;
 use crate::parts::{LONGEST, MOST, PART, add_frame, queue_start};
-use join_filter::answers::Answer;
+use call_answers::answers::Answer;
 use terms::refusals::Refusal;
 
 // Adds a frame at the end of the queue of a number; nothing looks into the frame.

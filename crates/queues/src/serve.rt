@@ -1,7 +1,7 @@
 // The call serve.
 ghost use Rattle.definitions.specs.Calls.QueueBytes as definitions;
 ghost use Rattle.queues.specs.Outcomes.{queue_is, ServeIs};
-ghost use Rattle.queues.specs.Held.{Held, FirstOf, DueIs, HoldsFrame, ServedFrom};
+ghost use Rattle.queues.specs.Held.{Held, FirstOf, DueIs, HoldsQueued, ServedFrom};
 
 use crate::answers::{Queue, ServeAnswer};
 use crate::held::good_queues;
@@ -37,7 +37,7 @@ fn find_due(queues: &[u8]) -> Option<Queue>
 
 // Gives the oldest frame of a queue that holds one.
 fn serve_from(queues: &mut [u8], queue: Queue, out: &mut [u8]) -> ServeAnswer
-    requires { HoldsFrame queues.old (queue_is queue) }
+    requires { HoldsQueued queues.old (queue_is queue) }
     ensures { ServedFrom queues.old (queue_is queue) out.old queues.new
         out.new result }
 {

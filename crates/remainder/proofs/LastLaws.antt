@@ -16,9 +16,9 @@ use Rattle.definitions.specs.Filter.Conjuncts.{and_both, unless, without_all}
 use Rattle.theorems.proofs.Tools.{by-test}
 use Rattle.theorems.proofs.Taken.{RestIs}
 use Rattle.expression.specs.Places.{Holds}
-use Rattle.writing.specs.Written.{Wrote, WroteAt}
-use Rattle.writing.proofs.Written.{to_start, store}
-use Rattle.remainder.specs.Rests.{bytes_left, left_bytes, flags_of, RestFits, RestPut}
+use Rattle.byte_writer.specs.Written.{Wrote, WroteAt}
+use Rattle.byte_writer.proofs.Written.{to_start, store}
+use Rattle.remainder.specs.Rests.{bytes_left, left_bytes, gone_flags, RestFits, RestPut}
 use Rattle.remainder.specs.declared.rests.Stays.{Stays}
 use Rattle.remainder.specs.Pruned.{Prunable, PrunedFits, PrunedPut}
 use Rattle.remainder.specs.Last.{last_bytes, Left}
@@ -78,7 +78,7 @@ module _ {s : List ℕ} {rec count at : ℕ} {gone : List ℕ} {goes : Expr → 
   module _ {before rest : List ℕ} {r : Stays} (put : RestPut (length before) (length gone) gone before rest r t)
       (same : length rest ≡ length before) where
     wrote : WroteAt r.start (left_bytes goes t) before rest (length before)
-    wrote = put.wrote goes (subst (λ (p : ℕ). Holds gone p (flags_of goes t)) (omega (arith, put.counted, left.counted)) left.flags)
+    wrote = put.wrote goes (subst (λ (p : ℕ). Holds gone p (gone_flags goes t)) (omega (arith, put.counted, left.counted)) left.flags)
 
     -- Nothing:
     module _ (e : r.start ≡ length before) where

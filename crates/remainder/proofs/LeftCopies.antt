@@ -18,9 +18,9 @@ use Rattle.theorems.proofs.Columns.{all_both, map-length}
 use Rattle.expression.specs.Places.{Holds, Between}
 use Rattle.expression.specs.declared.cuts.Cut.{Cut}
 use Rattle.expression.proofs.Placed.{fits, front, back}
-use Rattle.writing.specs.Written.{Wrote, WroteAt}
-use Rattle.writing.specs.Writing.{Room, PutsAt, same}
-use Rattle.writing.proofs.Written.{chain, to_start}
+use Rattle.byte_writer.specs.Written.{Wrote, WroteAt}
+use Rattle.byte_writer.specs.Writing.{Room, PutsAt, same}
+use Rattle.byte_writer.proofs.Written.{chain, to_start}
 use Rattle.node_rows.specs.Numbers.{start_at, end_at}
 use Rattle.node_rows.proofs.RowLaws.{tabled_start, tabled-end, tabled-next, tabled-within}
 use Rattle.node_rows.proofs.ColumnRows.{columns_at, index_in, each-column, column-index, columns-within, Looping, loop-begins, loop-after}

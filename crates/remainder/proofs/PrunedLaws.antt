@@ -11,8 +11,8 @@ use Rattle.definitions.specs.Bytes.Encode.{expr_bytes, records_bytes}
 use Rattle.definitions.specs.Words.References.{columns_of, map_columns}
 use Rattle.definitions.specs.Filter.Extract.{new_index}
 use Rattle.theorems.proofs.Columns.{columns-below}
-use Rattle.writing.specs.Written.{Wrote, WroteAt}
-use Rattle.writing.proofs.Written.{behind, together, behind-length, part-wrote, to_start, chain}
+use Rattle.byte_writer.specs.Written.{Wrote, WroteAt}
+use Rattle.byte_writer.proofs.Written.{behind, together, behind-length, part-wrote, to_start, chain}
 use Rattle.plan_writer.specs.Copies.{copy_of, CopyFits, NodeCopied}
 use Rattle.plan_writer.specs.declared.arguments.Copied.{Copied}
 use Rattle.plan_writer.proofs.Ranges.{wider-stands}

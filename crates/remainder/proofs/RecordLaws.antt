@@ -22,14 +22,14 @@ use Rattle.theorems.proofs.Pruned.{any_found}
 use Rattle.theorems.proofs.Merged.{records-both}
 use Rattle.expression.specs.Places.{short_at}
 use Rattle.expression.proofs.Placed as placed
-use Rattle.writing.specs.Written.{WroteAt}
+use Rattle.byte_writer.specs.Written.{WroteAt}
 use Rattle.plan_writer.specs.Predicates.{frame_head}
 use Rattle.plan_writer.specs.Tables.{Entry, Table}
 use Rattle.remainder.specs.Keys.{key_at, AmongIs, KeyRow}
 use Rattle.remainder.specs.Records.{stays, MarkedBy, OfMarked, Referenced, OneFits, OneKept, kept_all, RecordsKept, RecordsPut, AllFit, AllKept}
 use Rattle.theorems.proofs.ExchangeGood.{record-length}
-use Rattle.writing.proofs.Written.{behind, together, chain, copied-wrote, part-wrote, nothing-wrote, to_start, under}
-use Rattle.writing.proofs.NumberLaws.{number-length}
+use Rattle.byte_writer.proofs.Written.{behind, together, chain, copied-wrote, part-wrote, nothing-wrote, to_start, under}
+use Rattle.byte_writer.proofs.NumberLaws.{number-length}
 use Rattle.plan_writer.proofs.TableLaws.{entry_of, entry-child, table_none, table_more, table-whole}
 
 -- ---- two records

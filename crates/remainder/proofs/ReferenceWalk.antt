@@ -16,7 +16,7 @@ use Rattle.expression.specs.Heads.{HeadIs}
 use Rattle.expression.specs.declared.heads.Head.{Head}
 use Rattle.expression.proofs.Placed.{fits}
 use Rattle.expression.proofs.Standing.{tree-length, kind-is, children-stand, first-stands, rest-stands, some-children, no-children, after-node}
-use Rattle.remainder.specs.References.{marked, Collected, Flagged, NodeCollected, FlaggedAll, RowCollected}
+use Rattle.remainder.specs.References.{marked, MarksPut, Flagged, NodeCollected, FlaggedAll, RowCollected}
 use Rattle.plan_writer.proofs.Fields.{column-is, column-size}
 use Rattle.plan_writer.proofs.Ranges.{wider-row}
 
@@ -30,9 +30,9 @@ marked_append (i ∷ x) y flags = marked_append x y (set flags i true)
 -- ---- returns
 
 -- One walk after another.
-collected-both : {at p r size more : ℕ} {x y : List ℕ} {before middle after : List Bool} → Collected at size x before middle p
-    → Collected p more y middle after r
-    → Collected at (size + more) (x ++ y) before after r
+collected-both : {at p r size more : ℕ} {x y : List ℕ} {before middle after : List Bool} → MarksPut at size x before middle p
+    → MarksPut p more y middle after r
+    → MarksPut at (size + more) (x ++ y) before after r
 collected-both {at} {p} {r} {size} {more} {x} {y} {before} {middle} {after} a b = record {
   ends = omega (arith, a.ends, b.ends);
   flags = b.flags ∙ ap (marked y) a.flags ∙ sym (marked_append x y before);
@@ -41,7 +41,7 @@ collected-both {at} {p} {r} {size} {more} {x} {y} {before} {middle} {after} a b 
 module _ {s : List ℕ} {at : ℕ} where
   pub collect-column : (before : List Bool) (t : Expr) → Stands (index_below (length before)) s at t → get_or s at 0 ≡ 0 → (index : ℕ)
       → index ≡ short_at s (at + 1)
-      → Collected at (length (expr_bytes t)) (columns_of t) before (set before index true) (at + 5)
+      → MarksPut at (length (expr_bytes t)) (columns_of t) before (set before index true) (at + 5)
   unfolding columns_of marked
   collect-column before t h e index is =
       rw ((column-is h e).tree, ← is) (record {
@@ -53,10 +53,10 @@ module _ {s : List ℕ} {at : ℕ} where
   pub collect-other : (before after : List Bool) (t : Expr) → Stands (index_below (length before)) s at t
       → (get_or s at 0 ≡ 0 → ⊥) → (h : Head)
       → OfTree s at (HeadIs at h)
-      → (r : ℕ) → RowCollected s h.next h.children before after r → Collected at (length (expr_bytes t)) (columns_of t) before after r
+      → (r : ℕ) → RowCollected s h.next h.children before after r → MarksPut at (length (expr_bytes t)) (columns_of t) before after r
   collect-other before after t stands n h its r is =
       let head : HeadIs at h t = its (index_below (length before)) t stands in
-      let below : Collected h.next (length (exprs_bytes (children_of t))) (columns_of_all (children_of t)) before after r =
+      let below : MarksPut h.next (length (exprs_bytes (children_of t))) (columns_of_all (children_of t)) before after r =
       is (children_of t) (children-stand stands h.next h.children head.next head.children) in
       record {
         ends = omega (arith, below.ends, head.next, tree-length t);
@@ -64,20 +64,20 @@ module _ {s : List ℕ} {at : ℕ} where
       }
 
   pub collects-none : (before : List Bool) {n : ℕ} (ts : Exprs) → Row (index_below (length before)) s at n ts → n ≡ 0
-      → Collected at (length (exprs_bytes ts)) (columns_of_all ts) before before at
+      → MarksPut at (length (exprs_bytes ts)) (columns_of_all ts) before before at
   unfolding exprs_bytes columns_of_all marked
-  collects-none before ts row e = no-children (λ ts. Collected at (length (exprs_bytes ts)) (columns_of_all ts) before before at)
+  collects-none before ts row e = no-children (λ ts. MarksPut at (length (exprs_bytes ts)) (columns_of_all ts) before before at)
       (record { ends = omega arith; flags = refl }) ts (row.counted ∙ e)
 
   pub collects-some : (before middle after : List Bool) → length middle ≡ length before → {n : ℕ} (ts : Exprs)
       → Row (index_below (length before)) s at n ts → (n ≡ 0 → ⊥)
       → (p r : ℕ) → NodeCollected s at before middle p → RowCollected s p (n - 1) middle after r
-      → Collected at (length (exprs_bytes ts)) (columns_of_all ts) before after r
+      → MarksPut at (length (exprs_bytes ts)) (columns_of_all ts) before after r
   unfolding exprs_bytes columns_of_all
   collects-some before middle after same {n} ts row some p r one others = some-children
-      (λ ts. Row (index_below (length before)) s at n ts → Collected at (length (exprs_bytes ts)) (columns_of_all ts) before after r)
+      (λ ts. Row (index_below (length before)) s at n ts → MarksPut at (length (exprs_bytes ts)) (columns_of_all ts) before after r)
       (λ t ts o.
-      let a : Collected at (length (expr_bytes t)) (columns_of t) before middle p = one t (first-stands o) in
+      let a : MarksPut at (length (expr_bytes t)) (columns_of t) before middle p = one t (first-stands o) in
       rw length-append (collected-both a (others ts (wider-row (omega arith) (rest-stands o p (n - 1) a.ends (omega arith))))))
       ts (omega (arith, row.counted)) row
 

@@ -13,7 +13,7 @@ use Rattle.definitions.specs.Bytes.Decode.{index_below}
 use Rattle.definitions.specs.Words.References.{columns_of, map_columns}
 use Rattle.definitions.specs.Filter.Extract.{referenced, new_index, prune}
 use Rattle.theorems.proofs.Columns.{columns-below}
-use Rattle.writing.specs.Written.{Wrote, WroteAt}
+use Rattle.byte_writer.specs.Written.{Wrote, WroteAt}
 use Rattle.plan_writer.specs.Copies.{copy_of}
 use Rattle.expression.specs.Cuts.{CutAt}
 use Rattle.expression.specs.Nodes.{OfTree}
@@ -23,7 +23,7 @@ use Rattle.remainder.specs.Records.{stays, MarkedBy, kept_all, AllFit, columns_p
 use Rattle.remainder.specs.HeldIndexes.{Unmarked, Unheld, HeldMarked}
 use Rattle.remainder.specs.Remainders.{RestFits, RestCopied, FrameAt, remainder_of}
 use Rattle.expression.specs.declared.cuts.Cut.{Cut}
-use Rattle.writing.proofs.Written.{behind, together, behind-length, part-wrote, to_start, chain, store}
+use Rattle.byte_writer.proofs.Written.{behind, together, behind-length, part-wrote, to_start, chain, store}
 use Rattle.plan_writer.proofs.Ranges.{wider-stands}
 use Rattle.plan_writer.proofs.TableLaws.{table-copies}
 use Rattle.remainder.proofs.CutLaws.{Remains, nothing_left}

@@ -17,9 +17,9 @@ use Rattle.definitions.specs.Filter.Conjuncts.{and_both, unless, without_all}
 use Rattle.theorems.proofs.AllRounds.{leaves-some}
 use Rattle.expression.specs.Places.{Holds}
 use Rattle.expression.proofs.Placed.{first, front, back}
-use Rattle.writing.specs.Written.{WroteAt}
-use Rattle.writing.proofs.Written.{nothing-wrote, two-stores}
-use Rattle.remainder.specs.Rests.{bytes_left, left_bytes, flag_of, flags_of, RestPut, AndPut}
+use Rattle.byte_writer.specs.Written.{WroteAt}
+use Rattle.byte_writer.proofs.Written.{nothing-wrote, two-stores}
+use Rattle.remainder.specs.Rests.{bytes_left, left_bytes, flag_of, gone_flags, RestPut, AndPut}
 use Rattle.remainder.specs.declared.rests.Stays.{Stays}
 use Rattle.expression.proofs.Standing.{some_bytes}
 
@@ -80,7 +80,7 @@ lone goes (other tag es) e = refl
 lone goes (field b t) e = refl
 
 -- Its flag.
-flag-is : (goes : Expr → Bool) {t : Expr} → leaves t ≡ t ∷ [] → {gone : List ℕ} {at : ℕ} → Holds gone at (flags_of goes t)
+flag-is : (goes : Expr → Bool) {t : Expr} → leaves t ≡ t ∷ [] → {gone : List ℕ} {at : ℕ} → Holds gone at (gone_flags goes t)
     → get_or gone at 0 ≡ flag_of (goes t)
 flag-is goes {t} e {gone} {at} h =
     first (subst (Holds gone at) (ap (map (λ leaf. flag_of (goes leaf))) e) h)
@@ -129,22 +129,22 @@ module _ {end after middle : ℕ} {gone before turned sides out : List ℕ} {a b
   abbrev P : Type 0
   P = RestPut end after gone before out r (and l k)
 
-  flags-of : (goes : Expr → Bool) → flags_of goes (and l k) ≡ flags_of goes l ++ flags_of goes k
+  flags-of : (goes : Expr → Bool) → gone_flags goes (and l k) ≡ gone_flags goes l ++ gone_flags goes k
   unfolding leaves
   flags-of goes = map-append (λ leaf. flag_of (goes leaf)) (leaves l) (leaves k)
 
   -- Both sides, one before the other.
-  both-wrote : (goes : Expr → Bool) → Holds gone r.leaf (flags_of goes (and l k))
+  both-wrote : (goes : Expr → Bool) → Holds gone r.leaf (gone_flags goes (and l k))
       → WroteAt a.start (left_bytes goes l) turned sides middle
       × WroteAt a.start (left_bytes goes l ++ left_bytes goes k) before sides end
       × WroteAt b.start (left_bytes goes k) before turned end
   both-wrote goes h =
-      let there : Holds gone a.leaf (flags_of goes l ++ flags_of goes k) =
-      subst (λ (p : ℕ). Holds gone p (flags_of goes l ++ flags_of goes k)) head.leaf (subst (Holds gone r.leaf) (flags-of goes) h) in
+      let there : Holds gone a.leaf (gone_flags goes l ++ gone_flags goes k) =
+      subst (λ (p : ℕ). Holds gone p (gone_flags goes l ++ gone_flags goes k)) head.leaf (subst (Holds gone r.leaf) (flags-of goes) h) in
       let one : WroteAt a.start (left_bytes goes l) turned sides middle = left.wrote goes
-      (front (flags_of goes l) (flags_of goes k) there) in
+      (front (gone_flags goes l) (gone_flags goes k) there) in
       let two : WroteAt b.start (left_bytes goes k) before turned end =
-      right.wrote goes (back (flags_of goes l) (flags_of goes k) there b.leaf
+      right.wrote goes (back (gone_flags goes l) (gone_flags goes k) there b.leaf
       (omega (arith, left.counted, length-map (leaves l) (λ leaf. flag_of (goes leaf))))) in
       (one, below (omega (arith, right.high)) two (subst (WroteAt a.start (left_bytes goes l) turned sides) is one), two)
 
@@ -153,7 +153,7 @@ module _ {end after middle : ℕ} {gone before turned sides out : List ℕ} {a b
   counted-and = simp length-append (omega (arith, head.leaf, left.counted, right.counted))
 
   -- No head where a side is gone,
-  headless : (r.start ≡ a.start) × (out ≡ sides) → ((goes : Expr → Bool) → Holds gone r.leaf (flags_of goes (and l k))
+  headless : (r.start ≡ a.start) × (out ≡ sides) → ((goes : Expr → Bool) → Holds gone r.leaf (gone_flags goes (and l k))
       → left_bytes goes (and l k) ≡ left_bytes goes l ++ left_bytes goes k) → P
   unfolding expr_bytes
   headless same bytes = record {

@@ -7,8 +7,8 @@ use Rattle.definitions.specs.Words.Leaves.{leaves}
 use Rattle.definitions.specs.Filter.Extract.{prune}
 use Rattle.definitions.specs.Filter.Conjuncts.{without_all}
 use Rattle.expression.specs.Places.{Holds}
-use Rattle.writing.specs.Written.{Wrote}
-use Rattle.remainder.specs.Rests.{flags_of}
+use Rattle.byte_writer.specs.Written.{Wrote}
+use Rattle.remainder.specs.Rests.{gone_flags}
 use Rattle.remainder.specs.Pruned.{Prunable}
 
 -- Its bytes: `00`, or the frame of what stays, pruned.
@@ -20,7 +20,7 @@ pub record Left (s : List ℕ) (rec count at : ℕ) (gone : List ℕ) (goes : Ex
     : Type 0 where
   pub frame : Prunable s rec count s at records t
   pub counted : length (leaves t) ≡ length gone
-  pub flags : Holds gone 0 (flags_of goes t)
+  pub flags : Holds gone 0 (gone_flags goes t)
 
 -- There is one, room for its expression, and room for what is left; each was written.
 pub record LastFits (s : List ℕ) (rec count at : ℕ) (gone : List ℕ) (row out : List ℕ) : Type 0 where

@@ -5,7 +5,7 @@ use Rattle.definitions.specs.Bytes.Encode.{frame_bytes}
 use Rattle.definitions.specs.Bytes.Decode.{index_below}
 use Rattle.definitions.specs.Filter.Extract.{prune}
 use Rattle.expression.specs.Nodes.{Stands}
-use Rattle.writing.specs.Written.{Wrote}
+use Rattle.byte_writer.specs.Written.{Wrote}
 use Rattle.plan_writer.specs.Tables.{Entries}
 
 -- Records stand in s, and an expression over them in `from`.

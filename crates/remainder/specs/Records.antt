@@ -6,7 +6,7 @@ use Rattle.definitions.specs.Bytes.Encode.{records_bytes}
 use Rattle.definitions.specs.Words.References.{record_at}
 use Rattle.definitions.specs.Filter.Extract.{same_column, new_index}
 use Rattle.definitions.specs.Bytes.Good.{All}
-use Rattle.writing.specs.Written.{WroteAt}
+use Rattle.byte_writer.specs.Written.{WroteAt}
 use Rattle.plan_writer.specs.Tables.{Entries, Table}
 
 -- A record stays if it equals, in side and child index, one of these columns.

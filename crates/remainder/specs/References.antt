@@ -12,7 +12,7 @@ marked [] flags = flags
 marked (index ∷ columns) flags = marked columns (set flags index true)
 
 -- A walk of `size` bytes marked these columns and answers where it ended.
-pub record Collected (at size : ℕ) (columns : List ℕ) (before after : List Bool) (end : ℕ) : Type 0 where
+pub record MarksPut (at size : ℕ) (columns : List ℕ) (before after : List Bool) (end : ℕ) : Type 0 where
   pub ends : end ≡ at + size
   pub flags : after ≡ marked columns before
 
@@ -22,7 +22,7 @@ Flagged s at flags = (t : Expr) × Stands (index_below (length flags)) s at t
 
 abbrev pub NodeCollected : (s : List ℕ) (at : ℕ) (before after : List Bool) (end : ℕ) → Type 0
 NodeCollected s at before after end =
-    (t : Expr) → Stands (index_below (length before)) s at t → Collected at (length (expr_bytes t)) (columns_of t) before after end
+    (t : Expr) → Stands (index_below (length before)) s at t → MarksPut at (length (expr_bytes t)) (columns_of t) before after end
 
 -- The same of n expressions in a row.
 abbrev pub FlaggedAll : (s : List ℕ) (at n : ℕ) (flags : List Bool) → Type 0
@@ -30,4 +30,4 @@ FlaggedAll s at n flags = (ts : Exprs) × Row (index_below (length flags)) s at 
 
 abbrev pub RowCollected : (s : List ℕ) (at n : ℕ) (before after : List Bool) (end : ℕ) → Type 0
 RowCollected s at n before after end =
-    (ts : Exprs) → Row (index_below (length before)) s at n ts → Collected at (length (exprs_bytes ts)) (columns_of_all ts) before after end
+    (ts : Exprs) → Row (index_below (length before)) s at n ts → MarksPut at (length (exprs_bytes ts)) (columns_of_all ts) before after end

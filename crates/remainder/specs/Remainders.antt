@@ -6,7 +6,7 @@ use Rattle.definitions.specs.Bytes.Encode.{expr_bytes, remainder_bytes}
 use Rattle.definitions.specs.Bytes.Decode.{index_below}
 use Rattle.definitions.specs.Filter.Extract.{without, prune}
 use Rattle.expression.specs.Nodes.{Stands}
-use Rattle.writing.specs.Written.{Wrote}
+use Rattle.byte_writer.specs.Written.{Wrote}
 use Rattle.plan_writer.specs.Tables.{Entries}
 use Rattle.plan_writer.specs.Copies.{copy_of}
 use Rattle.remainder.specs.Around.{SomeLeft, OfLeft}

@@ -8,7 +8,7 @@ use Rattle.definitions.specs.Bytes.Decode.{Columns}
 use Rattle.definitions.specs.Filter.Conjuncts.{without_all}
 use Rattle.expression.specs.Places.{Holds}
 use Rattle.expression.specs.Nodes.{Stands}
-use Rattle.writing.specs.Written.{WroteAt}
+use Rattle.byte_writer.specs.Written.{WroteAt}
 use Rattle.remainder.specs.declared.rests.Stays.{Stays}
 
 -- The bytes of what stays.
@@ -24,8 +24,8 @@ abbrev pub flag_of : Bool → ℕ
 flag_of true = 1
 flag_of false = 0
 
-abbrev pub flags_of : (goes : Expr → Bool) → Expr → List ℕ
-flags_of goes t = map (λ leaf. flag_of (goes leaf)) (leaves t)
+abbrev pub gone_flags : (goes : Expr → Bool) → Expr → List ℕ
+gone_flags goes t = map (λ leaf. flag_of (goes leaf)) (leaves t)
 
 -- Some expression stands at a place, there is room for it up to `end`, and a flag for each AND-leaf up to its end.
 pub record RestFits (s : List ℕ) (at end after : ℕ) (gone out : List ℕ) : Type 0 where
@@ -42,7 +42,7 @@ pub record RestPut (end after : ℕ) (gone before out : List ℕ) (r : Stays) (t
   pub counted : r.leaf + length (leaves t) ≡ after
   pub high : r.start ≤ end
   pub low : end ≤ r.start + length (expr_bytes t)
-  pub wrote : (goes : Expr → Bool) → Holds gone r.leaf (flags_of goes t) → WroteAt r.start (left_bytes goes t) before out end
+  pub wrote : (goes : Expr → Bool) → Holds gone r.leaf (gone_flags goes t) → WroteAt r.start (left_bytes goes t) before out end
 
 -- An And's head was written before its sides, if both stay; else nothing.
 pub record AndPut (left : Stays) (middle end : ℕ) (before out : List ℕ) (r : Stays) : Type 0 where

@@ -4,8 +4,8 @@ ghost use Rattle.std.specs.Prelude.{◌≤◌, ◌<◌, length};
 ghost use Rattle.remainder.specs.Records.{Referenced, OneFits, OneKept, AllFit, RowsFit, RecordsKept, RecordsPut};
 
 use super::record_keys::{Keyed, Marked, among, marked_keys, record_key};
+use byte_writer::copies::copy_bytes;
 use plan_writer::frame_heads::put_frame_head;
-use writing::copies::copy_bytes;
 
 // Whether the record j is equal, in side and child index, to that of a marked column.
 fn is_referenced(keyed: Keyed, j: usize) -> bool

@@ -4,11 +4,11 @@ ghost use Rattle.std.specs.Prelude.{◌≡◌};
 ghost use Rattle.remainder.specs.Around.{outside, moved, Movable};
 ghost use Rattle.remainder.specs.Remainders.{PatchFits, Patched, RestFits, RestCopied};
 
+use byte_writer::copies::copy_at;
+use byte_writer::numbers::put_number;
 use expression::cuts::Cut;
 use expression::fields::short_at;
 use node_rows::rows::Rows;
-use writing::copies::copy_at;
-use writing::numbers::put_number;
 
 // Whether a place does not lie in the leaf.
 pub fn is_outside(cut: Cut, start: usize) -> bool

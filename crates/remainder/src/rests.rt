@@ -6,9 +6,9 @@ ghost use Rattle.expression.specs.Nodes.{OfTree};
 ghost use Rattle.node_rows.specs.Rows.{Tabled};
 ghost use Rattle.remainder.specs.Rests.{RestFits, RestPut, AndPut};
 
+use byte_writer::copies::copy_at;
 use expression::leaves::{Node, node_at};
 use node_rows::rows::Rows;
-use writing::copies::copy_at;
 
 // Where what stays of an expression starts, and how many AND-leaves are before the expression. Where nothing stays it starts at its end,
 // and the next one is written there without a case of its own.
@@ -58,7 +58,7 @@ fn put_leaf(
 }
 
 // The head of an And of which both sides stay: the left one stands before the right one, which ends at `end`.
-fn put_and(out: &mut [u8], left: Stays, middle: usize, end: usize) -> Stays
+fn put_and_head(out: &mut [u8], left: Stays, middle: usize, end: usize) -> Stays
     requires { (2 ≤ left.start) × (left.start ≤ length out.old) }
     ensures { AndPut left middle end out.old out.new result }
 {
@@ -102,5 +102,5 @@ pub fn put_rest(
     let right = put_rest(out, end, nodes, behind, gone, after);
     let before = Place { at: left, index };
     let first = put_rest(out, right.start, nodes, before, gone, right.leaf);
-    put_and(out, first, right.start, end)
+    put_and_head(out, first, right.start, end)
 }

@@ -22,7 +22,7 @@ use Rattle.expression.proofs.Standing.{first-stands}
 use Rattle.expression.proofs.Parts.{two-of, three-of}
 use Rattle.node_rows.specs.Numbers.{start_at, end_at}
 use Rattle.node_rows.specs.Rows.{TabledAll, TwoTabled, OfTwo, TwoAre}
-use Rattle.node_rows.specs.declared.pairs.Two.{Two}
+use Rattle.node_rows.specs.declared.pairs.TwoExpressions.{TwoExpressions}
 use Rattle.node_rows.proofs.RowLaws.{tabled-end, tabled-within}
 use Rattle.node_rows.proofs.IndexLaws.{Indexed, index-spans, index-row, first-spans, second-spans, after-second, third-tabled}
 use Rattle.terms.specs.Forms.{form_number, FormIs}
@@ -33,7 +33,7 @@ use Rattle.sedona_expr.specs.declared.utils.ParsedDistancePredicate.{ParsedDista
 use Rattle.sedona_expr.specs.Parsed.{SidesOf, Arguments, is_distance, Distance}
 
 -- A distance whose geometries are these two, and whose bound stands from d to e.
-abbrev pub distance_at : DistanceForm → Two → (d e : ℕ) → ParsedDistancePredicate
+abbrev pub distance_at : DistanceForm → TwoExpressions → (d e : ℕ) → ParsedDistancePredicate
 distance_at form r d e = record {
   form = form;
   arg0 = r.start;
@@ -119,7 +119,7 @@ module _ (form : ℕ) where
                 (index-row sides.stands_measured).1,
           ))
 
-      pub compared-distance : 2 ≤ n → {r : Two} → OfTwo numbers next (measured + 1) (TwoAre (measured + 1) r) → (kind : DistanceForm)
+      pub compared-distance : 2 ≤ n → {r : TwoExpressions} → OfTwo numbers next (measured + 1) (TwoAre (measured + 1) r) → (kind : DistanceForm)
           → form ≡ form_number kind
           → (d e : ℕ) → d ≡ start_at numbers bound → e ≡ end_at numbers bound
           → Distance c s (distance_at kind r d e) (comparison_request form q)
@@ -204,7 +204,7 @@ module _ {c : Columns} {s : List ℕ} {k : Called} {name : List ℕ} {args : Exp
     two-given {numbers} {next} {i} tabled h = two-of (λ args. TabledAll numbers next k.first i args → TwoTabled numbers next i)
         (λ a b more t. (k.first, a, b, more, t)) args (omega (arith, st.row.counted)) tabled
 
-    pub dwithin-distance : 3 ≤ k.count → {numbers next : List ℕ} {i : ℕ} → TabledAll numbers next k.first i args → {r : Two}
+    pub dwithin-distance : 3 ≤ k.count → {numbers next : List ℕ} {i : ℕ} → TabledAll numbers next k.first i args → {r : TwoExpressions}
         → OfTwo numbers next i (TwoAre i r) → (e : ℕ) → e ≡ end_at numbers r.after
         → Distance c s (distance_at Dwithin r r.end e) (call_request name args)
     unfolding dwithin_request
@@ -228,7 +228,7 @@ module _ {c : Columns} {s : List ℕ} {k : Called} {name : List ℕ} {args : Exp
         args (omega (arith, st.row.counted)) st.row tabled (dwithin-asked name args (named ∙ f))
 
     -- The third argument has a place in the rows.
-    pub third-within : 3 ≤ k.count → {numbers next : List ℕ} {i : ℕ} → TabledAll numbers next k.first i args → {r : Two}
+    pub third-within : 3 ≤ k.count → {numbers next : List ℕ} {i : ℕ} → TabledAll numbers next k.first i args → {r : TwoExpressions}
         → OfTwo numbers next i (TwoAre i r) → r.after < length numbers
     third-within h {numbers} {next} {i} tabled {r} told = three-of
         (λ args. TabledAll numbers next k.first i args → r.after < length numbers)

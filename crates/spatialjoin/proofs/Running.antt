@@ -9,7 +9,7 @@ use Rattle.lines.specs.Sessions.{Stands}
 use Rattle.lines.specs.declared.states.Buffers.{Buffers}
 use Rattle.lines.specs.declared.states.State.{State}
 use Rattle.lines.proofs.Whole.{piece-append}
-use Rattle.streams.specs.Handing.{given, TakenIn}
+use Rattle.streams.specs.Handing.{given_by_read, TakenIn}
 use Rattle.streams.specs.declared.output.Failure.{Failure}
 use Rattle.streams.specs.declared.output.Turn.{Turn}
 use Rattle.streams.specs.declared.output.Turn.TheVariants.{More, Ended}
@@ -26,8 +26,8 @@ module _ (chunk : List ℕ) {before after : Buffers} {state next : State} (r : R
       → Written turn (Ok (More next)) → Reached after next
   more_by got (Ok (More fed)) taken wrote = (
     rw wrote refl,
-    r.1 ++ given got chunk,
-    rw (wrote, (piece-append fresh_session r.1 (given got chunk)).1) (settled-stands (stands_after taken _ r.2)),
+    r.1 ++ given_by_read got chunk,
+    rw (wrote, (piece-append fresh_session r.1 (given_by_read got chunk)).1) (settled-stands (stands_after taken _ r.2)),
   )
   more_by got (Ok (Ended last)) taken wrote = cc
   more_by got (Err why) taken wrote = cc

@@ -13,7 +13,7 @@ use Rattle.node_table.specs.Numbers.{numbered}
 use Rattle.node_table.proofs.FillLaws.{filled-first}
 use Rattle.host_calls.specs.Hosted.{LoadHosted, MergeHosted}
 use Rattle.host_calls.specs.Cores.{Left, LoadLeft, MergeLeft}
-use Rattle.host_calls.specs.declared.cores.Loaded.{Loaded}
+use Rattle.host_calls.specs.declared.cores.HostLoaded.{HostLoaded}
 
 -- the records that are left to put stand there, and the table has room for them
 pub left-asks : (s : List ℕ) (root count : ℕ) (table : List NodeRecord) (filled : List nodes.NodeRecord)
@@ -24,7 +24,7 @@ left-done : (s : List ℕ) (root count : ℕ) (table filled put : List nodes.Nod
     → Left s root count table filled → FilledIs s root count table put → put ≡ filled
 left-done s root count table filled put l is = is l.records l.standing ∙ sym l.done
 
-module _ (table put : List NodeRecord) (r : Loaded) where
+module _ (table put : List NodeRecord) (r : HostLoaded) where
   pub load_asks : (frame plan after : List ℕ) → LoadLeft frame plan (length table) after r
       → (r.count ≤ length table) × Filling frame r.root r.count
   load_asks frame plan after is = left-asks frame r.root r.count table _ (is.1 0 (nodes_of table) (length-map table node_of)).2

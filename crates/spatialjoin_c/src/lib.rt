@@ -24,7 +24,7 @@ use host_calls::logical::logical_number;
 use host_calls::merge::merge_core;
 use host_calls::print::print_number;
 use host_calls::project::project_number;
-use host_calls::put::put_number;
+use host_calls::put::put_call_number;
 use host_calls::serve::serve_number;
 use host_calls::settings::host_settings;
 use node_table::{NodeRecord, fill_table, put_nodes};
@@ -127,7 +127,7 @@ pub fn spatialjoin_version() -> i64
 pub fn spatialjoin_put(queues: &mut [u8], queue: u8, frame: &[u8]) -> i64
     ensures { PutHosted (queued.put queues.old queue frame.now) queues.new result }
 {
-    put_number(queues, queue, frame)
+    put_call_number(queues, queue, frame)
 }
 
 // Gives the frame that is due: the oldest of the queue that was not served last, or of the other where that one is empty.

@@ -9,7 +9,7 @@ use lib.ListN.{length, take, drop, length-drop, take-append-drop}
 use lib.Seq.{take-length}
 use lib.Dec.{leb}
 use borrow.Author.Tests.{leb-true}
-use Rattle.lines.specs.Pieces.{Session, piece}
+use Rattle.lines.specs.Pieces.{InputSession, piece}
 use Rattle.lines.specs.Sessions.{Stands, Makes, most_filled}
 use Rattle.lines.specs.declared.states.Buffers.{Buffers}
 use Rattle.lines.specs.declared.states.State.{State}
@@ -57,10 +57,10 @@ pub has_room : (current : State) → HasRoom current (roomed current)
 has_room current = made-room current (leb current.filled most_filled) refl
 
 -- What waits plays no part in what the state stands for.
-pub settled-stands : {b : Buffers} {state : State} {s : Session} → Stands b state s → Stands b (settled state) s
+pub settled-stands : {b : Buffers} {state : State} {s : InputSession} → Stands b state s → Stands b (settled state) s
 settled-stands h = record { room = omega arith; kept = h.kept; begun = h.begun }
 
-roomed-stands : {b : Buffers} {state : State} {s : Session} (room : Bool) → Stands b state s
+roomed-stands : {b : Buffers} {state : State} {s : InputSession} (room : Bool) → Stands b state s
     → Stands b (if room then state else settled state) s
 roomed-stands true h = h
 roomed-stands false h = settled-stands h

@@ -1,6 +1,6 @@
 -- What holds once characters were handed over.
 use Rattle.std.specs.Prelude.{ℕ, ◌<◌, ◌≡◌, min, List, [], ◌++◌, take, length, Result, Ok, Err}
-use Rattle.lines.specs.Pieces.{Session, piece}
+use Rattle.lines.specs.Pieces.{InputSession, piece}
 use Rattle.lines.specs.Sessions.{Stands, Makes}
 use Rattle.lines.specs.declared.states.Buffers.{Buffers}
 use Rattle.lines.specs.declared.states.State.{State}
@@ -23,9 +23,9 @@ Handed characters before state after (Ok next) = Handing before state characters
 Handed characters before state after (Err why) = (why ≡ NotWritten) × (0 < length characters)
 
 -- The characters of a chunk that a read gave: as many as it says, no more than there are, and none where it failed.
-abbrev pub given : {E : Type 0} → (got : Result ℕ E) (chunk : List ℕ) → List ℕ
-given (Ok k) chunk = take (min k (length chunk)) chunk
-given (Err why) chunk = []
+abbrev pub given_by_read : {E : Type 0} → (got : Result ℕ E) (chunk : List ℕ) → List ℕ
+given_by_read (Ok k) chunk = take (min k (length chunk)) chunk
+given_by_read (Err why) chunk = []
 
 -- It failed.
 abbrev pub Failed : {E : Type 0} → Result ℕ E → Type 0
@@ -36,11 +36,11 @@ Failed (Err why) = Unit {0}
 -- nothing comes; then all is as it was. A write fails only where the read gave something.
 abbrev pub TakenIn : {E : Type 0} → (got : Result ℕ E) (chunk : List ℕ) (before : Buffers) (state : State) (after : Buffers)
     → Result Turn Failure → Type 0
-TakenIn got chunk before state after (Ok (More next)) = Handing before state (given got chunk) after next
+TakenIn got chunk before state after (Ok (More next)) = Handing before state (given_by_read got chunk) after next
 TakenIn got chunk before state after (Ok (Ended next)) = (got ≡ Ok 0) × (next ≡ state) × (after ≡ before)
 TakenIn got chunk before state after (Err NotRead) = Failed got × (after ≡ before)
-TakenIn got chunk before state after (Err NotWritten) = 0 < length (given got chunk)
+TakenIn got chunk before state after (Err NotWritten) = 0 < length (given_by_read got chunk)
 
 -- Every session that the one stands for, the other stands for after these characters.
 abbrev pub After : (characters : List ℕ) (before : Buffers) (state : State) (after : Buffers) (next : State) → Type 0
-After characters before state after next = (s : Session) → Stands before state s → Stands after next (piece s characters).after
+After characters before state after next = (s : InputSession) → Stands before state s → Stands after next (piece s characters).after

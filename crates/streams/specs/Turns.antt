@@ -19,6 +19,6 @@ abbrev pub roomed : State → State
 roomed state = if leb state.filled most_filled then state else settled state
 
 -- Room was made, or a write failed: one is tried only where there is no room.
-abbrev pub Roomy : State → Result State Failure → Type 0
-Roomy state (Ok next) = next ≡ roomed state
-Roomy state (Err why) = (why ≡ NotWritten) × (most_filled < state.filled)
+abbrev pub RoomMade : State → Result State Failure → Type 0
+RoomMade state (Ok next) = next ≡ roomed state
+RoomMade state (Err why) = (why ≡ NotWritten) × (most_filled < state.filled)

@@ -1,6 +1,6 @@
 // What the program writes, and what follows a read. Public for the program.
 ghost use Rattle.std.specs.Prelude.{◌≤◌, length};
-ghost use Rattle.streams.specs.Turns.{Flushed, Roomy};
+ghost use Rattle.streams.specs.Turns.{Flushed, RoomMade};
 
 use lines::states::{MOST_FILLED, State};
 use std::io::Stdout;
@@ -35,7 +35,7 @@ pub fn flush(stdout: Stdout, out: &[u8], state: State) -> Result<State, Failure>
 // Writes what waits where there is no room for what another line gives.
 pub fn make_room(stdout: Stdout, out: &[u8], state: State) -> Result<State, Failure>
     requires { state.filled ≤ length out.now }
-    ensures { Roomy state result }
+    ensures { RoomMade state result }
 {
     if MOST_FILLED < state.filled {
         flush(stdout, out, state)

@@ -2,8 +2,8 @@
 use native.Mathlib.Omega.{arith}
 use Rattle.definitions.specs.Words.Basics.{big_endian}
 use Rattle.plan_writer.specs.Predicates.{frame_head}
-use Rattle.writing.specs.Writing.{same}
-use Rattle.writing.proofs.Sequence.{first-room, second-room, both-put, head-room, rest-room, headed-put}
+use Rattle.byte_writer.specs.Writing.{same}
+use Rattle.byte_writer.proofs.Sequence.{first-room, second-room, both-put, head-room, rest-room, headed-put}
 use Rattle.call_exchange.proofs.FrameViews.{frame-view, records-there}
 use Rattle.call_exchange.proofs.RecordLaws.{records-room}
 use Rattle.call_exchange.proofs.exchanged_frames.put_frame_exchanged.Goals as goal

@@ -1,5 +1,5 @@
 -- `put_remainder_exchanged`: one byte for none, or the frame.
-use Rattle.writing.proofs.Sequence.{from_zero, known-room, known-put, stored-room, stored-put}
+use Rattle.byte_writer.proofs.Sequence.{from_zero, known-room, known-put, stored-room, stored-put}
 use Rattle.call_exchange.proofs.FrameViews.{nothing-bytes, remainder-view}
 use Rattle.call_exchange.proofs.exchanged_frames.put_remainder_exchanged.Goals as goal
 

@@ -1,6 +1,6 @@
 -- The exchanged predicate, written with its indexes kept, and the remainder where it ended.
 use native.Mathlib.Omega.{arith}
-use Rattle.writing.proofs.Sequence.{from_zero, part_room, part-put, first-room, second-room, both-put, stored-room, stored-put}
+use Rattle.byte_writer.proofs.Sequence.{from_zero, part_room, part-put, first-room, second-room, both-put, stored-room, stored-put}
 use Rattle.call_exchange.specs.ExchangedBytes.{remainder_exchanged}
 use Rattle.call_exchange.proofs.FrameViews.{ExtractionView, extraction-view}
 use Rattle.call_exchange.proofs.exchanged_plans.put_extraction_exchanged.Goals as goal

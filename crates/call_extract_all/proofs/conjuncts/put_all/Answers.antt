@@ -8,7 +8,7 @@ use Rattle.definitions.specs.Claims.All.{TakesAll}
 use Rattle.theorems.proofs.SettingsClaimed.{all-settings-hold}
 use Rattle.terms.specs.Settings.{settings_of}
 use Rattle.plan_writer.proofs.TableLaws.{records-within}
-use Rattle.writing.proofs.Written.{behind, together}
+use Rattle.byte_writer.proofs.Written.{behind, together}
 use Rattle.remainder.proofs.LastLaws.{zeros-room}
 use Rattle.call_extract_all.proofs.AllLaws.{few, entries, row-long, listable, list-fits, copy-fits, rest-starts, left-fits, ends, all-is}
 use Rattle.call_extract_all.proofs.conjuncts.put_all.Goals as goal

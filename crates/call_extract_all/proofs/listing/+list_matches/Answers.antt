@@ -17,7 +17,7 @@ use Rattle.node_rows.specs.Rows.{Tabled}
 use Rattle.node_rows.proofs.RowLaws.{tabled-end, tabled-next, tabled-within}
 use Rattle.node_rows.proofs.IndexLaws.{left-tabled, right-tabled}
 use Rattle.node_rows.proofs.OneTree.{of_tree}
-use Rattle.writing.proofs.Written.{together, together-length}
+use Rattle.byte_writer.proofs.Written.{together, together-length}
 use Rattle.expression.proofs.AndLeaves.{single-leaf}
 use Rattle.leaf_pick.specs.Picks.{matches}
 use Rattle.call_extract_all.specs.Listings.{Listable, ListIs}

@@ -1,6 +1,6 @@
 -- A frame that is refused is refused by merge; a good one is merged into what is held.
 use Rattle.node_reader.proofs.Reading.{kept}
-use Rattle.join_filter.proofs.Refusing.{frame_refused}
+use Rattle.call_answers.proofs.Refusing.{frame_refused}
 use Rattle.call_merge.proofs.call.merge.Goals as goal
 
 pub returns-in_err-new : goal.returns-in_err-new

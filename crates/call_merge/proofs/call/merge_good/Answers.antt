@@ -12,8 +12,8 @@ use Rattle.terms.specs.Refusals.{number_of}
 use Rattle.terms.specs.declared.refusals.Refusal.{Refusal}
 use Rattle.node_reader.proofs.Reading.{kept}
 use Rattle.plan_reader.specs.Plans.{NotHeld, no_bytes, no_good}
-use Rattle.join_filter.proofs.Keeping.{plan-length}
-use Rattle.join_filter.proofs.Refusing.{merge-call, merge-refuses, no-room-for-n, no-plan, empty-plan, extracted-before}
+use Rattle.call_answers.proofs.Keeping.{plan-length}
+use Rattle.call_answers.proofs.Refusing.{merge-call, merge-refuses, no-room-for-n, no-plan, empty-plan, extracted-before}
 use Rattle.call_merge.proofs.call.merge_good.Goals as goal
 
 -- Where neither a frame nor an extraction is held.

@@ -1,7 +1,7 @@
 -- `put_answer`: each answer is a line of one byte and more, `00` and the bytes or the refusal's number alone.
 use Rattle.definitions.specs.Lists.Program.{written_line}
 use Rattle.std.proofs.Common.{◌≡◌, ◌∙◌, ap, Ok}
-use Rattle.lines.specs.declared.answers.Given.TheVariants.{Plan, Logical}
+use Rattle.lines.specs.declared.answers.LineGiven.TheVariants.{Plan, Logical}
 use Rattle.lines.proofs.answers.put_answer.Goals as goal
 
 pub returns-in-Ok-Plan : goal.returns-in-Ok-Plan

@@ -8,7 +8,7 @@ returns-then-state-gt-MOST_FILLED c = fed-none _ _ _ c.if-state-gt-MOST_FILLED.t
 
 pub returns-then-collected : goal.returns-then-collected
 returns-then-collected c =
-    fed-ended c.args.state _ _ _ c.collect-collected.ensures (omega arith) c.if-collected.true c.end.ensures (omega arith)
+    fed-ended c.args.state _ _ _ c.collect_piece-collected.ensures (omega arith) c.if-collected.true c.end_begun.ensures (omega arith)
 
 pub returns-else-collected : goal.returns-else-collected
-returns-else-collected c = fed-open c.args.state _ _ _ c.collect-collected.ensures (omega arith) c.if-collected.false
+returns-else-collected c = fed-open c.args.state _ _ _ c.collect_piece-collected.ensures (omega arith) c.if-collected.false

@@ -13,7 +13,7 @@ returns-then-state-eq0 c =
 
 pub returns : goal.returns
 returns c = record {
-  ends = λ h k. c.end.ensures;
+  ends = λ h k. c.end_begun.ensures;
   none = λ h. absurd (c.if-state-eq0.false h);
   full = λ h. absurd (omega arith);
 }

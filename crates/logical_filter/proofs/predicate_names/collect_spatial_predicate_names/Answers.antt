@@ -10,5 +10,5 @@ use Rattle.logical_filter.proofs.predicate_names.collect_spatial_predicate_names
 pub returns : goal.returns
 returns c =
     λ d t h.
-    let found = (c.collect-all.ensures d t h).names in
+    let found = (c.names_at-all.ensures d t h).names in
     record { found = found; counted = ap ones found ∙ sym (names-ones spatial_names (map leaf_name (leaves t))) }

@@ -54,8 +54,8 @@ pub reproject_column_references-bounds-to-short_at : goal.reproject_column_refer
 reproject_column_references-bounds-to-short_at t c =
     omega (arith, c.short_at.ensures, (column_fits c.requires c.if-src-at-eq0.true).below)
 
-pub reproject_column_references-put_column-requires : goal.reproject_column_references-put_column-requires
-reproject_column_references-put_column-requires t c =
+pub reproject_column_references-put_reprojected_column-requires : goal.reproject_column_references-put_reprojected_column-requires
+reproject_column_references-put_reprojected_column-requires t c =
     let fits = column_fits c.requires c.if-src-at-eq0.true in
     record {
       column_there = fits.there;
@@ -67,7 +67,7 @@ reproject_column_references-returns-then-src-at-eq0 t c =
     λ t stands.
     let kind = c.if-src-at-eq0.true in
     let index = c.short_at in
-    let put = c.put_column in
+    let put = c.put_reprojected_column in
     copy-column c.args.to.now t stands kind index.result index.ensures c.args.out.now put.new.out put.ensures
 
 pub reproject_column_references-copy_bytes-requires : goal.reproject_column_references-copy_bytes-requires

@@ -1,6 +1,6 @@
 -- The second argument begins where the first ended.
 use native.Mathlib.Omega.{arith}
-use Rattle.writing.proofs.Sequence.{both-put}
+use Rattle.byte_writer.proofs.Sequence.{both-put}
 use Rattle.plan_writer.proofs.arguments.put_both.Goals as goal
 
 pub returns : goal.returns

@@ -2,7 +2,7 @@
 use native.Mathlib.Omega.{arith}
 use mathlib.Core.Path.{refl}
 use lib.ListN.{length-set}
-use Rattle.writing.proofs.Sequence.{head-room, stored-room, stored-put, first-room, second-room, both-put}
+use Rattle.byte_writer.proofs.Sequence.{head-room, stored-room, stored-put, first-room, second-room, both-put}
 use Rattle.plan_writer.specs.Arguments.{written}
 use Rattle.plan_writer.proofs.PredicateLaws.{bound, distance-view}
 use Rattle.plan_writer.proofs.put_predicate.put_distance.Goals as goal

@@ -1,6 +1,6 @@
 -- Its head, then query and object.
 use Rattle.definitions.specs.Words.Basics.{big_endian}
-use Rattle.writing.proofs.Sequence.{head-room, rest-room, headed-put}
+use Rattle.byte_writer.proofs.Sequence.{head-room, rest-room, headed-put}
 use Rattle.plan_writer.specs.Predicates.{knn_head}
 use Rattle.plan_writer.proofs.PredicateLaws.{knn-view}
 use Rattle.plan_writer.proofs.put_predicate.put_knn.Goals as goal

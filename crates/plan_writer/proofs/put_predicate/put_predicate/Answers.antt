@@ -3,8 +3,8 @@ use native.Mathlib.Omega.{arith}
 use Rattle.definitions.specs.Words.Basics.{big_endian}
 use Rattle.definitions.specs.Bytes.Encode.{predicate_fields}
 use Rattle.sedona_query_planner.specs.Predicates.{PredicateAt}
-use Rattle.writing.specs.Writing.{Room}
-use Rattle.writing.proofs.Sequence.{part_room, part-put, ends-within, head-room, rest-room, headed-put}
+use Rattle.byte_writer.specs.Writing.{Room}
+use Rattle.byte_writer.proofs.Sequence.{part_room, part-put, ends-within, head-room, rest-room, headed-put}
 use Rattle.plan_writer.specs.Arguments.{change_of}
 use Rattle.plan_writer.specs.Predicates.{head_of}
 use Rattle.plan_writer.proofs.PredicateLaws.{PredicateView, predicate-view}

@@ -1,7 +1,7 @@
 -- The number of its type, then left and right.
 use native.Mathlib.Omega.{arith}
 use mathlib.Core.Path.{refl}
-use Rattle.writing.proofs.Sequence.{head-room, stored-room, stored-put}
+use Rattle.byte_writer.proofs.Sequence.{head-room, stored-room, stored-put}
 use Rattle.plan_writer.proofs.PredicateLaws.{relation-view}
 use Rattle.plan_writer.proofs.put_predicate.put_relation.Goals as goal
 

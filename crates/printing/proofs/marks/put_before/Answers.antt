@@ -2,7 +2,7 @@
 use mathlib.Core.Path.{◌≡◌}
 use mathlib.Core.List.{◌∷◌}
 use Rattle.definitions.specs.Words.Expression.{Expr}
-use Rattle.printing.specs.Marks.{marked, before_of, PhysicalAt}
+use Rattle.printing.specs.Marks.{marked_number, before_of, PhysicalAt}
 use Rattle.printing.proofs.NodeFields.{kind-within}
 use Rattle.printing.proofs.Sequences.{known-fits, known-puts, mark-fits, mark-written, begins-within, after-fits, after-written, nothing_written}
 use Rattle.printing.proofs.MarkLaws.{nothing-before, operator-before, comma-before}
@@ -11,7 +11,7 @@ use Rattle.printing.proofs.marks.put_before.Goals.{After-leading_number-operator
 
 -- What is written before a later child of a binary.
 operator : (c : After-leading_number-operator) → let a = c.args in (t : Expr)
-    → PhysicalAt a.src.now a.at t → before_of a.position t ≡ 32 ∷ marked 111 c.leading_number-operator.result 32
+    → PhysicalAt a.src.now a.at t → before_of a.position t ≡ 32 ∷ marked_number 111 c.leading_number-operator.result 32
 operator c =
     operator-before c.args.position c.if-position-eq0.false
     c.if-src-at-eq2.true c.leading_number-operator.result c.leading_number-operator.ensures

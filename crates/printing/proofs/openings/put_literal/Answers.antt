@@ -2,7 +2,7 @@
 use native.Mathlib.Omega.{arith}
 use Rattle.definitions.specs.Words.Basics.{digits}
 use Rattle.hexadecimal.proofs.EncodeLaws.{length_digits}
-use Rattle.printing.specs.Marks.{marked}
+use Rattle.printing.specs.Marks.{marked_number}
 use Rattle.printing.proofs.Sequences.{second_fits, both-written}
 use Rattle.printing.proofs.openings.put_literal.Goals as goal
 
@@ -13,11 +13,11 @@ encode-requires c =
     omega (
       arith,
       length_digits bytes,
-      (second_fits (marked 35 c.args.sort 58) (digits bytes) c.requires put.ensures put.auto.out).room,
+      (second_fits (marked_number 35 c.args.sort 58) (digits bytes) c.requires put.ensures put.auto.out).room,
     )
 
 pub returns : goal.returns
 returns c =
     let put = c.put_marked-v in
-    both-written (marked 35 c.args.sort 58) (digits c.args.bytes.now) c.requires put.ensures
+    both-written (marked_number 35 c.args.sort 58) (digits c.args.bytes.now) c.requires put.ensures
     c.encode.ensures

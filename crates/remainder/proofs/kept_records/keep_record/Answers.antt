@@ -2,7 +2,7 @@
 use Prim.Native.Nat.{◌+◌, ◌*◌, ◌≤◌}
 use native.Mathlib.Omega.{arith}
 use lib.ListN.{length}
-use Rattle.writing.proofs.Written.{behind-length}
+use Rattle.byte_writer.proofs.Written.{behind-length}
 use Rattle.remainder.proofs.RecordLaws.{one-within, one-room, one_kept, none_kept}
 use Rattle.remainder.proofs.kept_records.keep_record.Goals as goal
 use Rattle.remainder.proofs.kept_records.keep_record.Goals.{Then-is_referenced}

@@ -3,7 +3,7 @@ use Prim.Native.Nat.{◌+◌, ◌*◌, ◌≤◌}
 use native.Mathlib.Omega.{arith}
 use mathlib.Core.Path.{◌≡◌}
 use lib.ListN.{length}
-use Rattle.writing.proofs.Written.{together, together-length}
+use Rattle.byte_writer.proofs.Written.{together, together-length}
 use Rattle.remainder.proofs.RecordLaws.{columns-put}
 use Rattle.remainder.proofs.kept_records.put_records.Goals as goal
 use Rattle.remainder.proofs.kept_records.put_records.Goals.{After-keep_records-kept}

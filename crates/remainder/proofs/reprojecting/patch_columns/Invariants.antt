@@ -1,7 +1,7 @@
 -- `patch_columns`: the columns that the row shows outside the leaf are those of what is left, and stand where they were copied to.
 use lib.ListN.{length}
 use Rattle.definitions.specs.Bytes.Decode.{index_below}
-use Rattle.writing.specs.Written.{Wrote}
+use Rattle.byte_writer.specs.Written.{Wrote}
 use Rattle.definitions.specs.Bytes.Encode.{expr_bytes}
 use Rattle.remainder.specs.Around.{OfLeft}
 use Rattle.remainder.proofs.LeftCopies.{Patching}

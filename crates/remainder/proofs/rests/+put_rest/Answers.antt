@@ -113,12 +113,12 @@ put_rest-first-requires t c =
       ),
     )
 
-pub put_and-requires : goal.put_and-requires
-put_and-requires t c =
+pub put_and_head-requires : goal.put_and_head-requires
+put_and_head-requires t c =
     let one = c.put_rest-first in
     let f = c.requires.rest_fits in
-    let both = found t (goal.at.put_and-requires t c).In-And f.columns f.tree f.stands in
-    head-fits f both (right-put t (goal.at.put_and-requires t c).After-put_rest-right f.columns f.tree f.stands) c.put_rest-right.auto.out
+    let both = found t (goal.at.put_and_head-requires t c).In-And f.columns f.tree f.stands in
+    head-fits f both (right-put t (goal.at.put_and_head-requires t c).After-put_rest-right f.columns f.tree f.stands) c.put_rest-right.auto.out
     (one.ensures _ both.l (first-stands both.row)) one.auto.out
 
 pub returns : goal.returns
@@ -129,4 +129,4 @@ returns t c =
     subst⁻¹ (RestPut _ _ _ _ _ _) both.is
     (and-put c.requires.rest_fits.within (right-put t (goal.at.returns t c).After-put_rest-right d u stands) refl
     (one.ensures d both.l (first-stands both.row))
-    c.put_and.ensures)
+    c.put_and_head.ensures)
