@@ -10,7 +10,6 @@ use Rattle.definitions.specs.Words.Basics.{big_endian}
 use Rattle.theorems.proofs.Figures.{digit-small}
 use Rattle.definitions.specs.Bytes.Printed.{figures}
 use Rattle.byte_writer.specs.Numerals.{places}
-use Rattle.byte_writer.specs.Written.{WroteAt}
 
 places-length : (base : ℕ) (sign : ℕ → ℕ) (width v : ℕ) → length (places base sign width v) ≡ width
 unfolding places

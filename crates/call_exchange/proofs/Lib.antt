@@ -1,5 +1,3 @@
 -- Laws that the proofs use: exchanged plans that were written.
 pub mod FrameViews
 pub mod RecordLaws
-pub mod HeldLaws
-pub mod Exchanging

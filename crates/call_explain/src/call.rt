@@ -8,6 +8,7 @@ use frame_reader::frames::physical_frame;
 use leaf_verdicts::asked::Asked;
 use leaf_verdicts::taken::{TakenLeaf, named_by};
 use leaf_verdicts::walk::put_verdicts;
+use node_rows::lengths::MOST_NODES;
 use terms::refusals::Refusal;
 use terms::settings::Settings;
 
@@ -30,7 +31,7 @@ pub fn explain(out: &mut [u8], frame: &[u8], settings: Settings) -> Result<Expla
         rec: parts.records,
         settings,
     };
-    let mut row = [0u8; 1024];
+    let mut row = [0u8; MOST_NODES];
     let count = put_verdicts(&mut row, asked, parts.root).count;
     if out.len() < count {
         return Err(Refusal::BufferTooShort);

@@ -14,7 +14,7 @@ use Rattle.frame_reader.specs.declared.frame_bodies.Frame.{Frame}
 use Rattle.frame_reader.proofs.Standing.{expr-stands}
 use Rattle.frame_reader.proofs.FrameRows.{clear-roomy}
 use Rattle.plan_reader.specs.declared.extraction_bodies.Held.TheVariants as held
-use Rattle.plan_reader.specs.Plans.{HoldsFrame, HeldIn}
+use Rattle.plan_reader.specs.Plans.{HoldsFrame, HeldIs}
 use Rattle.call_answers.proofs.Keeping.{plan-size, plan-length}
 use Rattle.node_rows.specs.Rows.{Tabled}
 use Rattle.node_rows.proofs.NodeBytes.{nodes-by-bytes}
@@ -27,7 +27,7 @@ clear-rows m n plan fits few = (fits, clear-roomy m (take n plan) (omega (arith,
 
 -- The frame that was read there is the one that is in the rows.
 pub held-indexed : (n : ℕ) (plan : List ℕ) {f : Frame} {numbers next : List ℕ}
-    → HeldIn (take n plan) (Ok (held.Frame f)) (plan_of (take n plan)) numbers next → Indexed n plan f numbers next
+    → HeldIs (take n plan) (Ok (held.Frame f)) (plan_of (take n plan)) (Tabled numbers next) → Indexed n plan f numbers next
 held-indexed n plan {f} {numbers} {next} read = of_tree (Tabled numbers next f.root 0) (expr-stands read.1.expr) read.3
 
 module _ (n : ℕ) (plan : List ℕ) {f : Frame} (h : HoldsFrame n plan f) (bytes : AllBytes plan) where

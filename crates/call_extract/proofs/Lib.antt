@@ -1,6 +1,4 @@
 -- Laws that the proofs use: the extract of a frame and by a table.
-pub mod Taking
-pub mod Extracting
 pub mod Collecting
 pub mod Tables
 pub mod Settling

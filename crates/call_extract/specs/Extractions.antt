@@ -1,5 +1,6 @@
 -- What the writer of an extraction is given, and what it writes.
 use Rattle.std.specs.Prelude.{ℕ, ◌≤◌, ◌≡◌, List, length}
+use Rattle.definitions.specs.Words.Limits.{most_records}
 use Rattle.std.proofs.Math.Option.{map}
 use Rattle.definitions.specs.Words.Expression as tree
 use Rattle.definitions.specs.Bytes.Encode.{extraction_bytes}
@@ -16,7 +17,7 @@ use Rattle.plan_writer.specs.Tables.{Entries}
 -- The frame F stands in s, and the pick takes its leaf at the pick's position, which is the predicate q.
 pub record Taking (s : List ℕ) (f : Frame) (p : Pick) (F : tree.Frame) (q : tree.Predicate) : Type 0 where
   pub entries : Entries s f.records f.columns F.records
-  pub few : f.columns ≤ 256
+  pub few : f.columns ≤ most_records
   pub expr : Stands (index_below (length F.records)) s f.root F.expr
   pub predicate : PredicateAt (on_children F.records) s p.predicate q
   pub cut : CutAt p.cut f.root F.expr f.root p.position

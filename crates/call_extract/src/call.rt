@@ -2,6 +2,7 @@
 // A port of `transform_join_filter` of
 // rust/sedona-query-planner/src/spatial_expr_utils.rs.
 ghost use Rattle.std.specs.Prelude.{◌/◌, ◌≤◌, min, length};
+ghost use Rattle.definitions.specs.Words.Limits.{most_nodes};
 ghost use Rattle.definitions.specs.Filter.Settings.{match_under};
 ghost use Rattle.terms.specs.Settings.{settings_of};
 ghost use Rattle.call_answers.specs.Outcomes.{ExtractIs};
@@ -10,6 +11,7 @@ ghost use Rattle.call_extract.specs.Settled.{HeldBy, SettledBy, filled_under, wa
 use super::compared::extract_compared;
 use super::held_frame::{RowedFrame, extract_frame};
 use call_answers::answers::Extracted;
+use node_rows::lengths::{MIDDLE_BYTES, MIDDLE_NODES, MOST_NODES, SHORT_BYTES, SHORT_NODES};
 use node_rows::rows::Rows;
 use node_table::NodeRecord;
 use plan_reader::extraction_bodies::Held;
@@ -27,7 +29,7 @@ fn extract_held<const N: usize>(
     settings: Checked,
 ) -> Extracted
     requires n_in_bounds { n ≤ length plan.old }
-    requires row_length { (min 1024 (n / 3) ≤ N) × (N ≤ 1024) }
+    requires row_length { (min most_nodes (n / 3) ≤ N) × (N ≤ most_nodes) }
     ensures { HeldBy (match_under (settings_of settings.settings)) n table.entry plan.old scratch.old plan.new scratch.new result }
 {
     let mut numbers = [0u32; N];
@@ -65,12 +67,12 @@ pub(crate) fn extract_settled(
     if plan.len() < n {
         return Extracted::refused(Refusal::NoGoodPlan);
     }
-    if n <= 96 {
-        extract_held::<32>(plan, n, scratch, table, settings)
-    } else if n <= 768 {
-        extract_held::<256>(plan, n, scratch, table, settings)
+    if n <= SHORT_BYTES {
+        extract_held::<SHORT_NODES>(plan, n, scratch, table, settings)
+    } else if n <= MIDDLE_BYTES {
+        extract_held::<MIDDLE_NODES>(plan, n, scratch, table, settings)
     } else {
-        extract_held::<1024>(plan, n, scratch, table, settings)
+        extract_held::<MOST_NODES>(plan, n, scratch, table, settings)
     }
 }
 

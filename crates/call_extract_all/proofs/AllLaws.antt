@@ -11,7 +11,7 @@ use lib.ListN.{length, take, drop, length-append, length-map}
 use lib.Seq.{take_all}
 use Rattle.definitions.specs.Words.Basics.{any}
 use Rattle.definitions.specs.Words.Expression as tree
-use Rattle.definitions.specs.Words.Expression.{Expr, Record, Predicate}
+use Rattle.definitions.specs.Words.Expression.{Expr, Predicate}
 use Rattle.definitions.specs.Bytes.Encode.{expr_bytes, frame_bytes, remainder_bytes, plan_bytes}
 use Rattle.definitions.specs.Words.Leaves.{leaves}
 use Rattle.definitions.specs.Bytes.Decode.{index_below}

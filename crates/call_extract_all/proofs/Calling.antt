@@ -26,7 +26,7 @@ use Rattle.expression.specs.Nodes.{OfTree}
 use Rattle.node_rows.specs.Rows.{Tabled}
 use Rattle.node_rows.proofs.OneTree.{of_tree}
 use Rattle.byte_writer.proofs.Written.{copied-wrote, from_start}
-use Rattle.frame_reader.specs.Frames.{PhysicalIn}
+use Rattle.frame_reader.specs.Frames.{PhysicalIs}
 use Rattle.frame_reader.specs.declared.frame_bodies.Frame.{Frame}
 use Rattle.frame_reader.proofs.Standing.{expr-stands}
 use Rattle.remainder.proofs.LastLaws.{wrote-there}
@@ -143,7 +143,8 @@ clear-memory m n s long flags =
     record { memory = record { long = omega arith; flags = omega arith }; holds = omega arith }
 
 -- A frame that was read is good, and its nodes are in the rows.
-module _ (s : List ℕ) (bytes : AllBytes s) {f : Frame} {numbers next : List ℕ} (h : PhysicalIn s (Ok f) (frame_of s) numbers next) where
+module _ (s : List ℕ) (bytes : AllBytes s) {f : Frame} {numbers next : List ℕ}
+    (h : PhysicalIs s (Ok f) (frame_of s) (Tabled numbers next)) where
   pub good-read : GoodFrame s f
   good-read = let back = frame_back s h.0 bytes h.2 in
       record { frame = h.0; at = record { stands = h.1; bytes = back.0; good = back.1 }; is = h.2 }

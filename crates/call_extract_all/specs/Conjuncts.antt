@@ -1,5 +1,6 @@
 -- All indexable conjuncts of a good frame, and what is written of them.
 use Rattle.std.specs.Prelude.{ℕ, ◌/◌, ◌≤◌, min, ◌≡◌, List, map, length}
+use Rattle.definitions.specs.Words.Limits.{most_bytes, most_nodes}
 use Rattle.definitions.specs.Words.Expression as tree
 use Rattle.definitions.specs.Words.Expression.{held}
 use Rattle.definitions.specs.Bytes.Encode.{frame_bytes, remainder_bytes}
@@ -61,8 +62,8 @@ pub record AllIs (match : Matcher) (F : tree.Frame) (before after : List ℕ) (r
 
 -- Memory enough for a frame of these bytes: a row as long as a good one, and a flag for each of its nodes.
 pub record Memory (s row gone : List ℕ) : Type 0 where
-  pub long : min 16384 (length s) ≤ length row
-  pub flags : min 1024 (length s / 3) ≤ length gone
+  pub long : min most_bytes (length s) ≤ length row
+  pub flags : min most_nodes (length s / 3) ≤ length gone
 
 -- There is a good frame, the settings are good, and there is room for all its conjuncts; they were written.
 pub record AllFits (S : Settings) (s : List ℕ) (f : Frame) (row gone out : List ℕ) : Type 0 where

@@ -1,5 +1,6 @@
 -- All matches of an expression's AND-leaves, and what is written of them.
 use Rattle.std.specs.Prelude.{ℕ, ◌+◌, ◌≤◌, ◌≡◌, Bool, List, map, length}
+use Rattle.definitions.specs.Words.Limits.{most_records}
 use Rattle.std.proofs.Math.Option.{Option, none, some}
 use Rattle.definitions.specs.Words.Expression.{Expr, Record, Predicate}
 use Rattle.definitions.specs.Words.Leaves.{leaves}
@@ -25,7 +26,7 @@ match_flag (some p) = 1
 -- Records stand in s, and an expression over them.
 pub record Listable (s : List ℕ) (rec count at : ℕ) (records : List Record) (t : Expr) : Type 0 where
   pub entries : Entries s rec count records
-  pub few : count ≤ 256
+  pub few : count ≤ most_records
   pub tree : Stands (index_below (length records)) s at t
 
 -- There are such, a table of their child indexes, and room for what is written.
@@ -33,7 +34,7 @@ pub record ListFits (match : Matcher) (s : List ℕ) (rec count at position : �
   pub records : List Record
   pub tree : Expr
   pub frame : Listable s rec count at records tree
-  pub wide : 256 ≤ length to
+  pub wide : most_records ≤ length to
   pub table : ChildTable s rec count to
   pub knn : length (listed is_knn position (matches match records tree)) ≤ length knns
   pub other : length (listed is_other position (matches match records tree)) ≤ length others

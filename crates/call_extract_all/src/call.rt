@@ -1,5 +1,6 @@
 // The call extract all (request 14): all indexable conjuncts of a frame at once.
 ghost use Rattle.std.specs.Prelude.{◌/◌, ◌≤◌, min, length};
+ghost use Rattle.definitions.specs.Words.Limits.{most_bytes, most_nodes};
 ghost use Rattle.definitions.specs.Calls.Settings as definitions;
 ghost use Rattle.terms.specs.Settings.{settings_of};
 ghost use Rattle.call_extract_all.specs.AllAnswers.{AllOutcomeIs};
@@ -7,6 +8,9 @@ ghost use Rattle.call_extract_all.specs.AllAnswers.{AllOutcomeIs};
 use super::conjuncts::{FrameInRows, Taken, put_all};
 use byte_writer::copies::copy_bytes;
 use frame_reader::frames::physical_frame_in;
+use node_rows::lengths::{
+    MIDDLE_BYTES, MIDDLE_NODES, MOST_BYTES, MOST_NODES, SHORT_BYTES, SHORT_NODES,
+};
 use node_rows::rows::Rows;
 use terms::checked::Checked;
 use terms::refusals::Refusal;
@@ -19,8 +23,8 @@ fn extract_all_by<const BYTES: usize, const NODES: usize>(
     frame: &[u8],
     settings: Checked,
 ) -> Result<Taken, Refusal>
-    requires bytes { (min 16384 (length frame.now) ≤ BYTES) × (BYTES ≤ 16384) }
-    requires nodes { (min 1024 (length frame.now / 3) ≤ NODES) × (NODES ≤ 1024) }
+    requires bytes { (min most_bytes (length frame.now) ≤ BYTES) × (BYTES ≤ most_bytes) }
+    requires nodes { (min most_nodes (length frame.now / 3) ≤ NODES) × (NODES ≤ most_nodes) }
     ensures { AllOutcomeIs (definitions.extract_all_under (settings_of settings.settings) frame.now out.old) out.new result }
 {
     let mut numbers = [0u32; NODES];
@@ -56,11 +60,11 @@ pub fn extract_all(out: &mut [u8], frame: &[u8], settings: Settings) -> Result<T
         out.new result }
 {
     let settings = settings.checked()?;
-    if frame.len() <= 96 {
-        extract_all_by::<96, 32>(out, frame, settings)
-    } else if frame.len() <= 768 {
-        extract_all_by::<768, 256>(out, frame, settings)
+    if frame.len() <= SHORT_BYTES {
+        extract_all_by::<SHORT_BYTES, SHORT_NODES>(out, frame, settings)
+    } else if frame.len() <= MIDDLE_BYTES {
+        extract_all_by::<MIDDLE_BYTES, MIDDLE_NODES>(out, frame, settings)
     } else {
-        extract_all_by::<16384, 1024>(out, frame, settings)
+        extract_all_by::<MOST_BYTES, MOST_NODES>(out, frame, settings)
     }
 }

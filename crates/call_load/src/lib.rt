@@ -2,11 +2,13 @@
 #![tactic(auto)]
 
 ghost use Rattle.std.specs.Prelude.{◌≡◌, length};
+ghost use Rattle.definitions.specs.Words.Limits.{most_nodes};
 ghost use Rattle.call_load.specs.Loads.{LoadedIs, LoadedRow};
 
 use byte_writer::copies::copy_bytes;
 use call_answers::answers::Loaded;
 use frame_reader::frames::physical_frame_in;
+use node_rows::lengths::MOST_NODES;
 use terms::refusals::Refusal;
 
 // Copies a good frame to the plan's start and gives its length; reads nothing of the old plan. `held` is how many records the table
@@ -17,10 +19,10 @@ pub fn load_row(
     frame: &[u8],
     held: usize,
 ) -> Result<Loaded, Refusal>
-    requires { length row.old ≡ 1024 }
+    requires { length row.old ≡ most_nodes }
     ensures { LoadedIs frame.now plan.old plan.new held result × LoadedRow frame.now result row.new }
 {
-    let f = physical_frame_in(row, &mut [0; 1024], frame)?;
+    let f = physical_frame_in(row, &mut [0; MOST_NODES], frame)?;
     let length = frame.len();
     let count = f.nodes;
     if plan.len() < length {
@@ -41,5 +43,5 @@ pub fn load_row(
 pub fn load(plan: &mut [u8], frame: &[u8], held: usize) -> Result<Loaded, Refusal>
     ensures { LoadedIs frame.now plan.old plan.new held result }
 {
-    load_row(&mut [0; 1024], plan, frame, held)
+    load_row(&mut [0; MOST_NODES], plan, frame, held)
 }

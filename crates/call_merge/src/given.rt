@@ -1,5 +1,6 @@
 // Frames that are merged.
 ghost use Rattle.std.specs.Prelude.{◌+◌, ◌≤◌};
+ghost use Rattle.definitions.specs.Words.Limits.{most_records};
 
 use frame_reader::frame_bodies::Frame;
 
@@ -22,5 +23,5 @@ pub struct PlacedFrame<'a> {
 pub struct TwoFrames<'a> {
     pub old: PlacedFrame<'a>,
     pub new: PlacedFrame<'a>,
-    pub ghost few: { old.parts.columns + new.parts.columns ≤ 256 },
+    pub ghost few: { old.parts.columns + new.parts.columns ≤ most_records },
 }

@@ -1,5 +1,6 @@
 // The merged frame: both tables of records one after the other, then the And of the held filter and the new one.
 ghost use Rattle.std.specs.Prelude.{◌+◌, ◌≤◌, length};
+ghost use Rattle.definitions.specs.Words.Limits.{most_records};
 ghost use Rattle.frame_reader.specs.Frames.{FrameAt};
 ghost use Rattle.byte_writer.specs.Writing.{Room, Puts, PutsAt};
 ghost use Rattle.call_merge.specs.Merging.{FramesAt, merged_frame, merged_tables, merged_expr, raised_expr};
@@ -27,7 +28,7 @@ fn put_tables(out: &mut [u8], two: TwoFrames) -> usize
 // The frame's expression from w on, its columns renumbered by a count; answers where it ends.
 fn put_raised(out: &mut [u8], w: usize, given: PlacedFrame, by: usize) -> usize
     requires room { Room (FrameAt given.bytes.now given.parts (length given.bytes.now)) (raised_expr by) w out.old }
-    requires columns_bound { by + given.parts.columns ≤ 256 }
+    requires columns_bound { by + given.parts.columns ≤ most_records }
     ensures { PutsAt (FrameAt given.entry.bytes.now given.entry.parts (length given.entry.bytes.now)) (raised_expr by) w out.old
         out.new result }
 {

@@ -13,7 +13,7 @@ use Rattle.definitions.specs.Bytes.Readers.{read, byte}
 use Rattle.expression.specs.Nodes.{OfTree}
 use Rattle.frame_reader.specs.Arities.{Listed}
 use Rattle.node_rows.specs.Numbers.{start_at}
-use Rattle.node_rows.specs.Rows.{Tabled}
+use Rattle.node_rows.specs.Rows.{Tabled, TabledIfRoom}
 use Rattle.node_rows.proofs.IndexLaws.{indexed}
 use Rattle.node_rows.proofs.NodeBytes.{nodes-by-bytes}
 use Rattle.node_rows.proofs.OneTree.{of_tree}
@@ -23,7 +23,7 @@ use Rattle.theorems.proofs.InverseFrame.{opened}
 use Rattle.frame_reader.specs.declared.frame_bodies.Frame.{Frame}
 use Rattle.frame_reader.specs.declared.frame_bodies.Counted.{Counted}
 use Rattle.std.specs.Prelude.{Ok}
-use Rattle.frame_reader.specs.Frames.{FrameAt, BodyIn, Roomy, first_of, opening}
+use Rattle.frame_reader.specs.Frames.{FrameAt, BodyIs, Roomy, first_of, opening}
 use Rattle.frame_reader.proofs.Standing.{expr-stands}
 
 -- Bytes that were opened are few enough.
@@ -37,7 +37,7 @@ module _ {s numbers indexes : List ℕ} (room : Roomy s numbers indexes) where
 
   -- A node has three bytes at least.
   pub body-tabled : {numbered indexed₁ : List ℕ} → length numbered ≡ length numbers → (at : ℕ) (b : Counted Frame)
-      → (body : BodyIn s at 0 (Ok b) frame_body numbered indexed₁) → Tabled numbered indexed₁ b.read.root 0 body.1.expr
+      → (body : BodyIs s at 0 (Ok b) frame_body (TabledIfRoom numbered indexed₁)) → Tabled numbered indexed₁ b.read.root 0 body.1.expr
   body-tabled same at b body =
       let stands = body.3.expr in
       body.6 (omega (

@@ -1,4 +1,5 @@
 -- A whole frame: its length and first byte, its body, its end, and what is tested last.
+mod Recorded
 use Prim.Native.Nat.{ℕ, ◌≤◌, ◌<◌}
 use native.Mathlib.Omega.{arith}
 use mathlib.Core.Path.{◌≡◌, refl, sym, ap, ◌∙◌}
@@ -20,7 +21,7 @@ use Rattle.node_reader.specs.Fields.{FieldIs, ReadsAt}
 use Rattle.node_reader.specs.Places.{ExprAt}
 use Rattle.frame_reader.specs.Frames.{FrameAt, first_of, opening}
 use Rattle.node_reader.proofs.Reading.{within, outside}
-use Rattle.frame_reader.proofs.Recorded.{recorded}
+use Rattle.frame_reader.proofs.Wholes.Recorded.{recorded}
 use Rattle.node_reader.proofs.Standing.{bytes-from, between}
 
 -- Records and an expression that were read one after the other are a frame there.

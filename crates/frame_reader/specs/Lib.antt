@@ -1,4 +1,3 @@
--- What the contracts cite: records, arity and frames that were read.
+-- What the contracts cite: arity and frames that were read.
 pub mod Arities
-pub mod Records
 pub mod Frames

@@ -3,21 +3,9 @@ ghost use Rattle.std.specs.Prelude.{◌≤◌, length};
 ghost use Rattle.definitions.specs.Bytes.Readers as readers;
 ghost use Rattle.definitions.specs.Bytes.Decode as decode;
 ghost use Rattle.node_reader.specs.Fields.{FieldIs, SkippedIs};
-ghost use Rattle.frame_reader.specs.Records.{SideIs};
 
-use node_reader::field_readers::{byte_up_to, number};
+use node_reader::field_readers::{number, side_up_to};
 use terms::refusals::Refusal;
-use terms::sides::JoinSide;
-
-// A side with a number of at most `most`.
-#[tactic(auto, unfolding(definitions::specs::Bytes::Decode::side_up_to))]
-pub fn side_up_to(s: &[u8], at: usize, most: u64) -> Result<(JoinSide, usize), Refusal>
-    requires { at ≤ length s.now }
-    ensures { SideIs s.now at result (decode.side_up_to most) }
-{
-    let (number, next) = byte_up_to(s, at, most)?;
-    Ok((JoinSide::from(number), next))
-}
 
 // A column's record: side, child index, field tag.
 #[tactic(auto, unfolding(definitions::specs::Bytes::Decode::one_record))]

@@ -5,7 +5,8 @@ ghost use Rattle.definitions.specs.Words.Leaves.{arity};
 ghost use Rattle.expression.specs.Nodes.{Tree, OfTree};
 ghost use Rattle.node_reader.specs.Fields.{FieldIs, SkippedIs};
 ghost use Rattle.node_reader.specs.Nodes.{LentRows};
-ghost use Rattle.frame_reader.specs.Frames.{BodyIs, BodyIn, first_of, opening};
+ghost use Rattle.node_rows.specs.Rows.{NoRows, TabledIfRoom};
+ghost use Rattle.frame_reader.specs.Frames.{BodyIs, first_of, opening};
 
 use super::arity::check_arity;
 use super::column_records::{record_count, records};
@@ -42,7 +43,8 @@ pub fn frame_body_in(
     nodes: usize,
 ) -> Result<Counted<Frame>, Refusal>
     requires { (at ≤ length s.now) × LentRows s.now numbers.old indexes.old }
-    ensures { BodyIn s.now at nodes result decode.frame_body numbers.new indexes.new }
+    ensures { BodyIs s.now at nodes result decode.frame_body
+        (TabledIfRoom numbers.new indexes.new) }
 {
     let (columns, first) = record_count(s, at)?;
     let root = records(s, first, columns)?;
@@ -64,7 +66,7 @@ pub fn frame_body_in(
 // The same for those who have no rows to lend: memory is fixed.
 pub fn frame_body(s: &[u8], at: usize, nodes: usize) -> Result<Counted<Frame>, Refusal>
     requires { at ≤ length s.now }
-    ensures { BodyIs s.now at nodes result decode.frame_body }
+    ensures { BodyIs s.now at nodes result decode.frame_body NoRows }
 {
     frame_body_in(&mut [], &mut [], s, at, nodes)
 }

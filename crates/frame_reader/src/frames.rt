@@ -1,12 +1,15 @@
 // Whole frames, physical and logical, the arity of AND-leaves included.
 ghost use Rattle.std.specs.Prelude.{◌≤◌, ◌/◌, min, length};
+ghost use Rattle.definitions.specs.Words.Limits.{most_nodes};
 ghost use Rattle.definitions.specs.Bytes.Plans as plans;
-ghost use Rattle.frame_reader.specs.Frames.{Roomy, PhysicalIs, PhysicalIn, LogicalIs};
+ghost use Rattle.node_rows.specs.Rows.{NoRows, Tabled};
+ghost use Rattle.frame_reader.specs.Frames.{Roomy, PhysicalIs, LogicalIs};
 
 use super::by_rows::arity_by_rows;
 use super::frame_bodies::{Frame, frame_body_in, opened};
 use node_reader::call_heads::Columns;
 use node_reader::expressions::expression;
+use node_rows::lengths::{MIDDLE_BYTES, MIDDLE_NODES, MOST_NODES, SHORT_BYTES, SHORT_NODES};
 use node_rows::rows::Rows;
 use terms::refusals::Refusal;
 
@@ -17,7 +20,8 @@ pub fn physical_frame_in(
     s: &[u8],
 ) -> Result<Frame, Refusal>
     requires { Roomy s.now numbers.old indexes.old }
-    ensures { PhysicalIn s.now result (plans.frame_of s.now) numbers.new indexes.new }
+    ensures { PhysicalIs s.now result (plans.frame_of s.now)
+        (Tabled numbers.new indexes.new) }
 {
     let at = opened(s, 1)?;
     let body = frame_body_in(numbers, indexes, s, at, 0)?;
@@ -36,8 +40,8 @@ pub fn physical_frame_in(
 
 // A whole physical frame, by rows of N places on the stack, of which its nodes need no more.
 fn physical_frame_by<const N: usize>(s: &[u8]) -> Result<Frame, Refusal>
-    requires { (min 1024 (length s.now / 3) ≤ N) × (N ≤ 1024) }
-    ensures { PhysicalIs s.now result (plans.frame_of s.now) }
+    requires { (min most_nodes (length s.now / 3) ≤ N) × (N ≤ most_nodes) }
+    ensures { PhysicalIs s.now result (plans.frame_of s.now) NoRows }
 {
     let mut numbers = [0u32; N];
     let mut indexes = [0u16; N];
@@ -47,14 +51,14 @@ fn physical_frame_by<const N: usize>(s: &[u8]) -> Result<Frame, Refusal>
 // A whole physical frame. Short rows are enough for a short one, and the longer ones cost more to clear than such a frame to read. (No
 // closure is generic in N, so that each call with rows of its own chooses, and each function of N says its bound.)
 pub fn physical_frame(s: &[u8]) -> Result<Frame, Refusal>
-    ensures { PhysicalIs s.now result (plans.frame_of s.now) }
+    ensures { PhysicalIs s.now result (plans.frame_of s.now) NoRows }
 {
-    if s.len() <= 96 {
-        physical_frame_by::<32>(s)
-    } else if s.len() <= 768 {
-        physical_frame_by::<256>(s)
+    if s.len() <= SHORT_BYTES {
+        physical_frame_by::<SHORT_NODES>(s)
+    } else if s.len() <= MIDDLE_BYTES {
+        physical_frame_by::<MIDDLE_NODES>(s)
     } else {
-        physical_frame_by::<1024>(s)
+        physical_frame_by::<MOST_NODES>(s)
     }
 }
 

@@ -1,5 +1,6 @@
 // Bytes from hexadecimal digits, and back.
 ghost use Rattle.std.specs.Prelude.{◌≡◌, [], ◌+◌, ◌*◌, ◌≤◌, ◌<◌, length};
+ghost use Rattle.definitions.specs.Words.Limits.{most_bytes};
 ghost use Rattle.std.proofs.Math.Option.{some};
 ghost use Rattle.definitions.specs.Lists.Program as program;
 ghost use Rattle.definitions.specs.Words.Basics as basics;
@@ -31,7 +32,7 @@ fn digit_pair(high: u8, low: u8) -> Option<u8>
 // The bytes of a line's digits go to the start of `out`, also those before a character that is no digit; gives how many there are, or
 // none where the line is refused, with 14. Public for the crate that answers lines.
 pub fn decode(out: &mut [u8], line: &[u8]) -> Option<usize>
-    requires { 16384 ≤ length out.old }
+    requires { most_bytes ≤ length out.old }
     ensures { DecodedIs line.now out.old out.new result }
 {
     if 32768 < line.len() {

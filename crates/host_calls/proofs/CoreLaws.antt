@@ -1,4 +1,5 @@
 -- What the answers of load, extract and merge are as one number, and what load and merge leave to be filled.
+mod TableRoom
 use Rattle.std.specs.Prelude.{Result as Either, Ok, Err}
 use Prim.Native.Nat.{ℕ, ◌<◌, ◌≤◌}
 use native.Mathlib.Omega.{arith}
@@ -8,7 +9,7 @@ use mathlib.Core.List.{List, [], ◌++◌, map}
 use lib.ListN.{length, take, drop, replicate, length-replicate}
 use Rattle.definitions.specs.Words.Basics.{Result, ok, refused}
 use Rattle.definitions.specs.Bytes.NodeTable.{NodeRecord, blank}
-use Rattle.definitions.specs.Calls.Base.{LoadOutcome, load, Outcome}
+use Rattle.definitions.specs.Calls.Base.{LoadOutcome, Outcome}
 use Rattle.host_calls.specs.Hosts.{hosted}
 use Rattle.definitions.specs.Words.Limits.{four_bytes}
 use Rattle.definitions.specs.Filter.Settings.{Settings, match_under}
@@ -19,21 +20,24 @@ use Rattle.definitions.specs.Calls.Merge.{MergeOutcome, merge}
 use Rattle.definitions.specs.Bytes.Good.{AllBytes}
 use Rattle.call_answers.proofs.Settling.{by-settings}
 use Rattle.theorems.proofs.Proved.{lengths_short, merge-writes, walk-short, all-settings}
-use Rattle.call_answers.specs.Outcomes.{Answered, answer_of, ExtractIs}
+use Rattle.call_answers.specs.Outcomes.{Answered, answer_of, LoadIs, ExtractIs, MergeIs}
 use Rattle.call_answers.specs.declared.answers.Loaded.{Loaded}
 use Rattle.call_load.specs.Loads.{LoadedIs, LoadedRow}
 use Rattle.call_merge.specs.Merges.{MergedIs}
 use Rattle.call_answers.specs.declared.answers.Extracted.{Extracted}
-use Rattle.terms.specs.Refusals.{number_of}
 use Rattle.terms.specs.declared.refusals.Refusal.{Refusal}
 use Rattle.host_calls.specs.declared.cores.HostLoaded.{HostLoaded}
-use Rattle.node_rows.specs.Rows.{RowHas}
+use Rattle.node_rows.specs.Rows.{Filling, RowHas}
 use Rattle.node_rows.specs.Numbers.{number}
 use Rattle.node_rows.proofs.RowLaws.{nodes-below}
 use Rattle.expression.specs.Filling.{Records, nothing, filled}
-use Rattle.host_calls.proofs.TableRoom.{load-keeps, merge_keeps, has_room}
+use Rattle.host_calls.proofs.CoreLaws.TableRoom.{load-keeps, merge_keeps, has_room}
 use Rattle.host_calls.specs.Short.{ShortLength, ShortLoaded, ShortWalk}
 use Rattle.host_calls.specs.Cores.{LeftBy, LoadLeft, MergeLeft}
+use Rattle.host_calls.specs.Hosted.{LoadHosted, MergeHosted}
+use Rattle.node_table.specs.Numbers.{numbered}
+use Rattle.node_table.specs.Records.{FilledIs}
+use Rattle.node_table.proofs.FillLaws.{filled-first}
 
 -- A table of so many records.
 some-table : ℕ → List NodeRecord
@@ -59,41 +63,6 @@ module _ (frame before after : List ℕ) (held : ℕ) where
         (ap (λ (o : LoadOutcome). o.answer) (is.2 (some-table held) (some-length held) 0)),
   )
   load-short (Err why) is bytes = tt
-
-  pub load-left : (r : Either Loaded Refusal) → LoadedIs frame before after held r → AllBytes frame → (left : HostLoaded)
-      → LeftBy r left → LoadLeft frame before held after left
-  unfolding hosted
-  load-left (Ok r) is bytes left by = (
-    bytes,
-    λ n table size.
-        let so : load frame n before table ≡ record {
-          answer = ok r.length;
-          n = r.length;
-          buffer = after;
-          table = is.0 ++ drop r.count table;
-        } = is.2 table size n in
-        let filled : (load frame n before table).table ≡ is.0 ++ drop r.count table = ap (λ (o : LoadOutcome). o.table) so in (
-          by.0 ∙ ap hosted (sym (ap (λ (o : LoadOutcome). o.answer) so)),
-          sym (ap (λ (o : LoadOutcome). o.buffer) so),
-          rw (by.1, by.2) (record {
-            records = is.0;
-            standing = is.1;
-            room = has_room table is.1 (sym (ap length filled) ∙ load-keeps frame n before table);
-            done = filled;
-          }),
-        ),
-  )
-  load-left (Err why) is bytes left by = (
-    bytes,
-    λ n table size.
-        let so : load frame n before table ≡ record { answer = refused (number_of why); n = n; buffer = after; table = table } =
-        is table size n in (
-          by.0 ∙ ap hosted (sym (ap (λ (o : LoadOutcome). o.answer) so)),
-          sym (ap (λ (o : LoadOutcome). o.buffer) so),
-          rw (by.1, by.2)
-              (record { records = []; standing = nothing refl; room = omega arith; done = ap (λ (o : LoadOutcome). o.table) so }),
-        ),
-  )
 
   pub row-left : (r : Either Loaded Refusal) (row : List ℕ) → LoadedRow frame r row → (left : HostLoaded) → LeftBy r left
       → RowHas frame left.root left.count row
@@ -138,35 +107,89 @@ module _ (frame : List ℕ) (n : ℕ) (before scratch after kept : List ℕ) (he
       omega (arith, wrote.short, ap (λ (o : MergeOutcome). o.n) so)
   merge-short (Err why) is = tt
 
-  pub merge-left : (r : Either Loaded Refusal) → MergedIs frame n before scratch after kept held r → AllBytes frame → AllBytes before
-      → (left : HostLoaded) → LeftBy r left → MergeLeft frame n before scratch held after kept left
-  unfolding hosted
-  merge-left (Ok r) is bytes held_bytes left by = (
-    bytes,
-    held_bytes,
-    λ table size.
-        let so = is.2 table size in
-        let filled : (merge frame n before scratch table).table ≡ is.0 ++ drop r.count table = ap (λ (o : MergeOutcome). o.table) so in (
-          by.0 ∙ ap hosted (sym (ap (λ (o : MergeOutcome). o.answer) so)),
-          sym (ap (λ (o : MergeOutcome). o.buffer) so),
-          sym (ap (λ (o : MergeOutcome). o.scratch) so),
-          rw (by.1, by.2) (record {
-            records = is.0;
-            standing = is.1;
-            room = has_room table is.1 (sym (ap length filled) ∙ merge_keeps frame n before scratch table);
-            done = filled;
-          }),
-        ),
-  )
-  merge-left (Err why) is bytes held_bytes left by = (
-    bytes,
-    held_bytes,
-    λ table size.
-        let so = is table size in (
-          by.0 ∙ ap hosted (sym (ap (λ (o : MergeOutcome). o.answer) so)),
-          sym (ap (λ (o : MergeOutcome). o.buffer) so),
-          sym (ap (λ (o : MergeOutcome). o.scratch) so),
-          rw (by.1, by.2)
-              (record { records = []; standing = nothing refl; room = omega arith; done = ap (λ (o : MergeOutcome). o.table) so }),
-        ),
-  )
+-- ---- the table
+
+-- What a load leaves to be put is there, and the table has room for it.
+module _ (frame before after : List ℕ) {held : ℕ} (left : HostLoaded) (table : List NodeRecord) (size : length table ≡ held) where
+  load-room : (r : Either Loaded Refusal) → LoadedIs frame before after held r → LeftBy r left
+      → (left.count ≤ held) × Filling frame left.root left.count
+  load-room (Ok r) is by =
+      let kept : length (is.0 ++ drop r.count table) ≡ length table =
+      sym (ap (λ (o : LoadOutcome). length o.table) (is.2 table size 0)) ∙ load-keeps frame 0 before table in
+      let room : r.count ≤ length table = has_room table is.1 kept in
+      rw (by.1, by.2) (omega (arith, room, size), (is.0, is.1))
+  load-room (Err why) is by = rw (by.1, by.2) (omega arith, ([], nothing refl))
+
+  pub load-asks : LoadLeft frame before after held left → (left.count ≤ held) × Filling frame left.root left.count
+  load-asks is = load-room is.1 is.2 is.3
+
+  -- With the records put, the load is the definition's.
+  module _ {put : List NodeRecord} (fills : FilledIs frame left.root left.count table put) where
+    load-done : AllBytes frame → (r : Either Loaded Refusal) → LoadedIs frame before after held r → LeftBy r left
+        → LoadHosted frame before after table put left.answer
+    unfolding hosted
+    load-done bytes (Ok r) is by =
+        let so : FilledIs frame r.root r.count table put = rw (by.1, by.2) at fills in (
+          bytes,
+          Ok r.length,
+          subst (λ (t : List NodeRecord). LoadIs frame before after table t (Ok r.length)) (sym (so is.0 is.1)) (is.2 table size),
+          by.0,
+        )
+    load-done bytes (Err why) is by =
+        let so : FilledIs frame 0 0 table put = rw (by.1, by.2) at fills in (
+          bytes,
+          Err why,
+          subst (λ (t : List NodeRecord). LoadIs frame before after table t (Err why)) (sym (so [] (nothing refl))) (is table size),
+          by.0,
+        )
+
+  pub load-fills : LoadLeft frame before after held left → (row : List ℕ) {put : List NodeRecord} → RowHas frame left.root left.count row
+      → put ≡ take left.count (map numbered row) ++ drop left.count table → LoadHosted frame before after table put left.answer
+  load-fills is row {put} has e = load-done (filled-first frame left.root left.count row table put has e) is.0 is.1 is.2 is.3
+
+-- A merge likewise; the records stand in the new plan.
+module _ (frame : List ℕ) (n : ℕ) (before scratch after kept : List ℕ) {held : ℕ} (left : HostLoaded)
+    (table : List NodeRecord) (size : length table ≡ held) where
+  merge-room : (r : Either Loaded Refusal) → MergedIs frame n before scratch after kept held r → LeftBy r left
+      → (left.count ≤ held) × Filling after left.root left.count
+  merge-room (Ok r) is by =
+      let same : length (is.0 ++ drop r.count table) ≡ length table =
+      sym (ap (λ (o : MergeOutcome). length o.table) (is.2 table size)) ∙ merge_keeps frame n before scratch table in
+      let room : r.count ≤ length table = has_room table is.1 same in
+      rw (by.1, by.2) (omega (arith, room, size), (is.0, is.1))
+  merge-room (Err why) is by = rw (by.1, by.2) (omega arith, ([], nothing refl))
+
+  pub merge-asks : MergeLeft frame n before scratch after kept held left → (left.count ≤ held) × Filling after left.root left.count
+  merge-asks is = merge-room is.2 is.3 is.4
+
+  module _ {put : List NodeRecord} (fills : FilledIs after left.root left.count table put) where
+    -- Whatever the answer, it and what it leaves are the outcome's.
+    merge-hosted : AllBytes frame → AllBytes before → (r : Answered) → left.answer ≡ hosted (answer_of r)
+        → MergeIs (merge frame n before scratch table) n after kept put r
+        → MergeHosted frame before (merge frame n before scratch table) after kept put left.answer
+    merge-hosted bytes held_bytes r told is = (
+      bytes,
+      held_bytes,
+      told ∙ ap hosted (sym (ap (λ (o : MergeOutcome). o.answer) is)),
+      sym (ap (λ (o : MergeOutcome). o.buffer) is),
+      sym (ap (λ (o : MergeOutcome). o.scratch) is),
+      sym (ap (λ (o : MergeOutcome). o.table) is),
+    )
+
+    merge-done : AllBytes frame → AllBytes before → (r : Either Loaded Refusal) → MergedIs frame n before scratch after kept held r
+        → LeftBy r left → MergeHosted frame before (merge frame n before scratch table) after kept put left.answer
+    unfolding hosted
+    merge-done bytes held_bytes (Ok r) is by =
+        let so : FilledIs after r.root r.count table put = rw (by.1, by.2) at fills in
+        merge-hosted bytes held_bytes (Ok r.length) by.0
+        (subst (λ (t : List NodeRecord). MergeIs (merge frame n before scratch table) n after kept t (Ok r.length)) (sym (so is.0 is.1))
+        (is.2 table size))
+    merge-done bytes held_bytes (Err why) is by =
+        let so : FilledIs after 0 0 table put = rw (by.1, by.2) at fills in
+        merge-hosted bytes held_bytes (Err why) by.0
+        (subst (λ (t : List NodeRecord). MergeIs (merge frame n before scratch table) n after kept t (Err why))
+        (sym (so [] (nothing refl))) (is table size))
+
+    pub merge-fills : MergeLeft frame n before scratch after kept held left
+        → MergeHosted frame before (merge frame n before scratch table) after kept put left.answer
+    merge-fills is = merge-done is.0 is.1 is.2 is.3 is.4

@@ -4,7 +4,5 @@ pub mod Numbers
 pub mod Hosting
 pub mod Lengths
 pub mod AllSmall
-pub mod TableRoom
 pub mod CoreLaws
 pub mod QueueHosting
-pub mod ExplainSmall

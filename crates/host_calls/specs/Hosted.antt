@@ -1,6 +1,6 @@
 -- Which definition each number is, and what the buffers and the table are; and that what was lent are bytes.
 use Rattle.std.specs.Prelude.{ℕ, ◌≡◌, List, ℤ}
-use Rattle.definitions.specs.Calls.Base.{load, Outcome}
+use Rattle.definitions.specs.Calls.Base.{Outcome}
 use Rattle.definitions.specs.Calls.Merge.{MergeOutcome}
 use Rattle.definitions.specs.Bytes.NodeTable.{NodeRecord}
 use Rattle.definitions.specs.Bytes.Good.{AllBytes}
@@ -10,13 +10,12 @@ use Rattle.definitions.specs.Calls.Print.{print}
 use Rattle.definitions.specs.Filter.Settings.{Settings}
 use Rattle.definitions.specs.Calls.QueueBytes.{PutOutcome, ServeOutcome}
 use Rattle.definitions.specs.Calls.Explain.{ExplainOutcome}
+use Rattle.call_answers.specs.Outcomes.{Answered, answer_of, LoadIs}
 
--- The load is the definition's, whatever n the host had: answer, plan buffer and table.
-abbrev pub LoadHosted : (frame before : List ℕ) (table : List NodeRecord) (after : List ℕ) (filled : List NodeRecord) → ℤ → Type 0
-LoadHosted frame before table after filled r =
-    AllBytes frame
-    × ((n : ℕ) → (r ≡ hosted (load frame n before table).answer) × (after ≡ (load frame n before table).buffer)
-    × (filled ≡ (load frame n before table).table))
+-- The load is the definition's, and the number is that of its answer.
+abbrev pub LoadHosted : (frame before after : List ℕ) → (table filled : List NodeRecord) → ℤ → Type 0
+LoadHosted frame before after table filled z =
+    AllBytes frame × (r : Answered) × LoadIs frame before after table filled r × (z ≡ hosted (answer_of r))
 
 -- The merge is the definition's: answer, both buffers and the table.
 abbrev pub MergeHosted : (frame before : List ℕ) → MergeOutcome → (after scratch : List ℕ) (filled : List NodeRecord) → ℤ → Type 0

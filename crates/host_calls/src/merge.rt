@@ -11,8 +11,8 @@ pub fn merge_core(
     scratch: &mut [u8],
     held: usize,
 ) -> HostLoaded
-    ensures { MergeLeft frame.now n plan.old scratch.old held plan.new
-        scratch.new result }
+    ensures { MergeLeft frame.now n plan.old scratch.old plan.new scratch.new
+        held result }
 {
     left_by(merge(plan, n, scratch, frame, held))
 }

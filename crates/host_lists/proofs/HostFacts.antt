@@ -23,16 +23,17 @@ use Rattle.definitions.specs.Filter.Project.{ChildLists}
 use Rattle.definitions.specs.Calls.Project.{project}
 use Rattle.definitions.specs.Lists.History.{Call, loading, making, merging, projecting}
 use Rattle.host_calls.specs.Hosts.{hosted, hosted_walk}
-use Rattle.theorems.proofs.Proved.{all-settings, refused-keeps, merge_keeps, project-keeps, walk-carried, walk-short}
+use Rattle.definitions.specs.Claims.Calls.{load_refusals}
+use Rattle.theorems.proofs.Proved.{all-settings, refusals-of-calls, refused-keeps, merge_keeps, project-keeps, walk-carried, walk-short}
 use Rattle.call_answers.proofs.Settling.{refused-24, by-settings}
-use Rattle.call_answers.specs.Outcomes.{Answered, answer_of}
+use Rattle.call_answers.specs.Outcomes.{Answered, answer_of, LoadIs}
 use Rattle.node_table.specs.Records.{nodes_of}
 use Rattle.node_table.specs.declared.NodeRecord.{NodeRecord as TableRecord}
 use Rattle.host_lists.specs.Numbers.{answered, walk_answered, walk_carried, next_n, answered_by, carried_by, number_by, IsAnswer, SettingsFit}
 use Rattle.host_lists.specs.HostLists.{Host, MadeHosted, HostCall}
 use Rattle.host_lists.specs.HostFacts.{HostNumbers, HostKeeps, HostWalks, HostRefuses, EveryCallRuns}
-use Rattle.host_lists.proofs.Numbers.{answers-of-calls, known}
-use Rattle.host_lists.proofs.Ran.{load_same, MadeIs, made-is, project-is, merge-is, load_is, OneIs, one-is}
+use Rattle.host_lists.proofs.Numbers.{answers-of-calls, known, answer-from, load-named}
+use Rattle.host_lists.proofs.Ran.{load_same, load-n, loaded-is, MadeIs, made-is, project-is, merge-is, OneIs, one-is}
 
 -- ---- the number
 
@@ -73,9 +74,8 @@ made-keeps S fits exchange_call n plan scratch table = λ e. refused-keeps.1 exc
 
 pub host-numbers : HostNumbers
 host-numbers S fits b (loading frame) a z is =
-    let (r, o, same) = load_is frame b.plan (nodes_of b.table) a.plan (nodes_of a.table) z is.0 in
     told S fits b (loading frame) a z is _ (answers-of-calls.0 frame 0 b.plan (nodes_of b.table) is.0.0)
-    (ap answered same ∙ known r ∙ sym (ap (λ (x : LoadOutcome). x.answer) (o 0))) (omega arith)
+    (ap answered is.0.3 ∙ known is.0.1 ∙ sym (ap (λ (x : LoadOutcome). x.answer) (is.0.2 0))) (omega arith)
 host-numbers S fits b (making c) a z is =
     let m : MadeIs S c.kind b c.scratch a.plan is.0 z = made-is S fits c.kind b c.scratch a.plan is.0 z is.1 in
     let bytes : AllBytes b.plan = made_bytes S c.kind b c.scratch a.plan is.0 z is.1 in
@@ -107,10 +107,14 @@ refused-is x r z e f h = ap accepted (f ∙ sym (ap answered e ∙ known r)) ∙
 
 pub host-keeps : HostKeeps
 host-keeps S fits b (loading frame) a z is h =
-    let (r, o, same) = load_is frame b.plan (nodes_of b.table) a.plan (nodes_of a.table) z is.0 in
+    let o = is.0.2 0 in
     let kept = refused-keeps.0 frame 0 b.plan (nodes_of b.table)
-    (refused-is _ r z same (ap (λ (x : LoadOutcome). x.answer) (o 0)) h) in
-    ((is.0.1 0).1 ∙ kept.1, refl, is.1 ∙ same-n b.n (answered z) h, (is.0.1 0).2 ∙ kept.2)
+    (refused-is _ is.0.1 z is.0.3 (ap (λ (x : LoadOutcome). x.answer) o) h) in (
+      sym (ap (λ (x : LoadOutcome). x.buffer) o) ∙ kept.1,
+      refl,
+      is.1 ∙ same-n b.n (answered z) h,
+      sym (ap (λ (x : LoadOutcome). x.table) o) ∙ kept.2,
+    )
 host-keeps S fits b (making c) a z is h =
     let m : MadeIs S c.kind b c.scratch a.plan is.0 z = made-is S fits c.kind b c.scratch a.plan is.0 z is.1 in
     let kept = made-keeps S fits c.kind b.n b.plan c.scratch (nodes_of b.table)
@@ -206,22 +210,28 @@ made-runs S extract_call b scratch bytes =
 made-runs S exchange_call b scratch bytes =
     let o : Outcome = exchange b.n b.plan scratch in (o.buffer, o.scratch, hosted o.answer, (bytes, refl, refl, refl))
 
+-- The definition's load is one of the code.
+load-runs : (frame before : List ℕ) (table : List NodeRecord)
+    → (r : Answered) × LoadIs frame before (load frame 0 before table).buffer table (load frame 0 before table).table r
+    × (hosted (load frame 0 before table).answer ≡ hosted (answer_of r))
+load-runs frame before table =
+    let (r, e) = answer-from load_refusals load-named (load frame 0 before table).answer (refusals-of-calls.0 frame 0 before table) in (
+      r,
+      λ n. loaded-is (load frame n before table) n _ _ r (e ∙ load_same frame 0 n before table) (load-n frame n before table)
+          (load-alike frame 0 n before table).0 (load-alike frame 0 n before table).1,
+      ap hosted (sym e),
+    )
+
 pub every-call-runs : EveryCallRuns
 every-call-runs S b (loading frame) plan-bytes bytes =
     let table : List NodeRecord = nodes_of b.table in
     let o : LoadOutcome = load frame 0 b.plan table in
-    let z : ℤ = hosted o.answer in (
+    let z : ℤ = hosted o.answer in
+    let (r, is, told) = load-runs frame b.plan table in (
       record { plan = o.buffer; n = next_n b.n (answered z); table = map raw_of o.table },
       z,
       (
-        (
-          bytes,
-          λ n. (
-            ap hosted (load_same frame 0 n b.plan table),
-            (load-alike frame 0 n b.plan table).0,
-            raw-back o.table ∙ (load-alike frame 0 n b.plan table).1,
-          ),
-        ),
+        (bytes, r, subst (λ (t : List NodeRecord). LoadIs frame b.plan o.buffer table t r) (sym (raw-back o.table)) is, told),
         refl,
       ),
     )

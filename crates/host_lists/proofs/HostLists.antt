@@ -1,4 +1,5 @@
 -- A host's run from a load or merge is the code's run, so all of demand 3 holds of it, and of any history.
+mod Walked
 use Rattle.std.specs.Prelude.{Ok}
 use Prim.Native.Nat.{ℕ}
 use mathlib.Core.Path.{◌≡◌, refl, sym, ap, ap₂, ◌∙◌, subst}
@@ -36,16 +37,15 @@ use Rattle.node_table.specs.Records.{nodes_of, node_of}
 use Rattle.host_calls.specs.Hosted.{LoadHosted, MergeHosted}
 use Rattle.host_lists.specs.Numbers.{answered, walk_answered, numbers_by}
 use Rattle.host_lists.specs.HostLists.{Host, MadeHosted, HostRan, made_to, HostStarts, by_load, by_merge, HostRun, outcome, plan, extracted, odd, ProjectHosted, HostDemandThree, HostProjected, HostsMeetUnder, HostsMeetDemandThree}
-use Rattle.host_lists.proofs.Ran.{lent_of, MadeIs, made-is, project-is, merge-is, load_is, RanAs, host-ran, frames-bytes, outcomes-same, length-told}
-use Rattle.host_lists.proofs.Walked.{none-carried, numbers-alone, Told, history-told}
+use Rattle.host_lists.proofs.Ran.{lent_of, MadeIs, made-is, project-is, merge-is, RanAs, host-ran, frames-bytes, outcomes-same, length-told}
+use Rattle.host_lists.proofs.HostLists.Walked.{none-carried, numbers-alone, Told, history-told}
 
 -- ---- a call that gave a length
 
 load-length : (frame before : List ℕ) (table : List NodeRecord) (after : List ℕ) (filled : List NodeRecord) (m : ℕ)
-    → LoadHosted frame before table after filled (pos m) → LoadIs frame before after table filled (Ok m)
+    → LoadHosted frame before after table filled (pos m) → LoadIs frame before after table filled (Ok m)
 load-length frame before table after filled m h =
-    let (r, is, same) = load_is frame before table after filled (pos m) h in
-    subst (λ (r : Answered). LoadIs frame before after table filled r) (length-told m r same) is
+    subst (λ (r : Answered). LoadIs frame before after table filled r) (length-told m h.1 h.3) h.2
 
 pub merge-length : (frame : List ℕ) (n : ℕ) (before scratch kept : List ℕ) (table : List NodeRecord) (after : List ℕ)
     (filled : List NodeRecord) (m : ℕ) → MergeHosted frame before (merge frame n before scratch table) after kept filled (pos m)

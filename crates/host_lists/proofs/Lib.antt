@@ -1,7 +1,6 @@
 -- What is claimed of a host's calls, proved.
 pub mod Numbers
 pub mod Ran
-pub mod Walked
 pub mod HostLists
 pub mod HostFacts
 pub mod HostsAgree

@@ -15,22 +15,22 @@ use Rattle.definitions.specs.Lists.Sessions.{make_by, accepted}
 use Rattle.definitions.specs.Filter.Settings.{Settings}
 use Rattle.definitions.specs.Calls.Settings.{extract_under, extract_walk_under}
 use Rattle.definitions.specs.Lists.Settings.{make_under, walk_under}
-use Rattle.definitions.specs.Claims.Calls.{settled_refusals, load_refusals, exchange_refusals, merge_refusals, project_refusals, RefusedBy}
+use Rattle.definitions.specs.Claims.Calls.{settled_refusals, exchange_refusals, merge_refusals, project_refusals, RefusedBy}
 use Rattle.definitions.specs.Calls.Merge.{MergeOutcome, with_table, merge}
 use Rattle.definitions.specs.Calls.Project.{project}
 use Rattle.definitions.specs.Lists.History.{Call, loading, making, merging, projecting, FramesAreBytes}
 use Rattle.host_calls.specs.Hosts.{hosted, hosted_walk}
 use Rattle.theorems.proofs.Changes.{extract-writes}
 use Rattle.theorems.proofs.Proved.{refusals-of-calls, refusals-under}
-use Rattle.call_answers.specs.Outcomes.{Answered, answer_of, n_after, LoadIs, OutcomeIs, MergeIs}
+use Rattle.call_answers.specs.Outcomes.{Answered, answer_of, n_after, OutcomeIs, MergeIs}
 use Rattle.call_answers.proofs.Settling.{by-settings}
 use Rattle.call_answers.specs.Lists.{Lent, CallIs, Ran, no_call, called, given, carried, ran_to}
 use Rattle.call_answers.specs.declared.answers.Extracted.{Extracted}
 use Rattle.node_table.specs.Records.{nodes_of}
-use Rattle.host_calls.specs.Hosted.{LoadHosted, CallHosted, MergeHosted}
+use Rattle.host_calls.specs.Hosted.{CallHosted, MergeHosted}
 use Rattle.host_lists.specs.Numbers.{answered, walk_answered, walk_carried, next_n, made_answered, made_carried, made_number, answered_by, carried_by, number_by, answers_by, walks_by, numbers_by, SettingsFit}
 use Rattle.host_lists.specs.HostLists.{Host, MadeHosted, HostCall, HostRan, made_none, made_one, host_to}
-use Rattle.host_lists.proofs.Numbers.{known, walk-known, answers-of-calls, Named, answer-from, load-named, extract-named, exchange-named, merge-named, project-named}
+use Rattle.host_lists.proofs.Numbers.{known, walk-known, answers-of-calls, Named, answer-from, extract-named, exchange-named, merge-named, project-named}
 
 -- What a host owns, as the code's calls are lent it.
 abbrev pub lent_of : Host → Lent
@@ -168,20 +168,10 @@ merge-is frame n buffer scratch table after kept filled z c =
     let (r, e) = answer-from merge_refusals merge-named o.answer (refusals-of-calls.5 frame n buffer scratch table) in
     (r, merged-is o n after kept filled r e (merge-n frame n buffer scratch table) c.3 c.4 c.5, c.2 ∙ ap hosted (sym e))
 
-loaded-is : (o : LoadOutcome) (n : ℕ) (after : List ℕ) (filled : List NodeRecord) (r : Answered) → answer_of r ≡ o.answer
+pub loaded-is : (o : LoadOutcome) (n : ℕ) (after : List ℕ) (filled : List NodeRecord) (r : Answered) → answer_of r ≡ o.answer
     → o.n ≡ next_n n o.answer → after ≡ o.buffer → filled ≡ o.table
     → o ≡ record { answer = answer_of r; n = n_after n r; buffer = after; table = filled }
 loaded-is o n after filled r e f g t = rw (e, n-told n o.answer o.n r e f, g, t) refl
-
-pub load_is : (frame before : List ℕ) (table : List NodeRecord) (after : List ℕ) (filled : List NodeRecord) (z : ℤ)
-    → LoadHosted frame before table after filled z → (r : Answered) × LoadIs frame before after table filled r × (z ≡ hosted (answer_of r))
-load_is frame before table after filled z c =
-    let (r, e) = answer-from load_refusals load-named (load frame 0 before table).answer (refusals-of-calls.0 frame 0 before table) in (
-      r,
-      λ n. loaded-is (load frame n before table) n after filled r (e ∙ load_same frame 0 n before table) (load-n frame n before table)
-          (c.1 n).1 (c.1 n).2,
-      (c.1 0).0 ∙ ap hosted (sym e),
-    )
 
 -- ---- lists
 
@@ -199,9 +189,9 @@ alone r = record { answer = r; walk = 0 }
 
 pub one-is : (S : Settings) → SettingsFit S → (b : Host) (c : Call) (a : Host) (z : ℤ) → HostCall S b c a z → OneIs S b c a z
 one-is S fits b (loading frame) a z is =
-    let (r, o, same) = load_is frame b.plan (nodes_of b.table) a.plan (nodes_of a.table) z is.0 in
-    let read : answered z ≡ answer_of r = ap answered same ∙ known r in
-    record { answer = alone r; is = (o, n-read b.n (answered z) a.n r read is.1); number = same; read = read; carries = refl }
+    let r : Answered = is.0.1 in
+    let read : answered z ≡ answer_of r = ap answered is.0.3 ∙ known r in
+    record { answer = alone r; is = (is.0.2, n-read b.n (answered z) a.n r read is.1); number = is.0.3; read = read; carries = refl }
 one-is S fits b (making c) a z is =
     let m : MadeIs S c.kind b c.scratch a.plan is.0 z = made-is S fits c.kind b c.scratch a.plan is.0 z is.1 in
     record {

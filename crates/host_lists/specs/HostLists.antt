@@ -51,7 +51,7 @@ MadeHosted S exchange_call b scratch after kept z = CallHosted b.plan (exchange 
 -- table and cannot write it; exchange and project are not lent it.
 abbrev pub HostCall : Settings → Host → Call → Host → ℤ → Type 0
 HostCall S b (loading frame) a z =
-    LoadHosted frame b.plan (nodes_of b.table) a.plan (nodes_of a.table) z
+    LoadHosted frame b.plan a.plan (nodes_of b.table) (nodes_of a.table) z
     × (a.n ≡ next_n b.n (answered_by (loading frame) z))
 HostCall S b (making c) a z =
     (kept : List ℕ) × MadeHosted S c.kind b c.scratch a.plan kept z
@@ -84,7 +84,7 @@ made_to calls numbers last = host_to (map making calls) numbers last
 -- A call that met its contract gave a length, which the host has as n, and left the frame F: a load of it, or a merge of two frames to it.
 pub data HostStarts (F : Frame) (a : Host) : Type 0 where
   by_load : (frame before : List ℕ) (table : List TableRecord) → frame_of frame ≡ ok F
-      → LoadHosted frame before (nodes_of table) a.plan (nodes_of a.table) (pos a.n) → HostStarts F a
+      → LoadHosted frame before a.plan (nodes_of table) (nodes_of a.table) (pos a.n) → HostStarts F a
   by_merge : (frame : List ℕ) (n : ℕ) (before scratch kept : List ℕ) (table : List TableRecord) (old new : Frame)
       → frame_of frame ≡ ok new → held_plan n before ≡ ok (held old) → merge_frames old new ≡ F
       → MergeHosted frame before (merge frame n before scratch (nodes_of table)) a.plan kept (nodes_of a.table) (pos a.n)
@@ -201,7 +201,7 @@ machine_walks S room places s (c ∷ calls) =
 pub record HostsMeetUnder (S : Settings) : Type 0 where
   -- A load that gave a length is of a good frame, for which all of this holds.
   pub after_load : (frame before : List ℕ) (table : List TableRecord) (a : Host)
-      → LoadHosted frame before (nodes_of table) a.plan (nodes_of a.table) (pos a.n)
+      → LoadHosted frame before a.plan (nodes_of table) (nodes_of a.table) (pos a.n)
       → (F : Frame) × (frame_of frame ≡ ok F) × HostStarts F a × HostDemandThree S F
   -- A merge that gave a length is of a good frame into a held one; it all holds afresh for the merged frame.
   pub after_merge : (frame : List ℕ) (n : ℕ) (before scratch kept : List ℕ) (table : List TableRecord) (a : Host)

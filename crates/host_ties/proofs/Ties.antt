@@ -55,7 +55,7 @@ module _ {M : Type 1} {𝓤 : Ura M} (𝓛 : Logic 𝓤) (mem : Memory → SProp
   pub load-ensures : (κs : Lfts (load.signature).lifetimes) (a : Args load.signature κs) (z : Res load.signature κs)
       (e : AtExit load.ended κs)
       → (load.clauses 𝓛 mem run κs a).ensures tt z e
-      ≡ says (LoadHosted a.0.now a.1.0.now (nodes_of a.1.1.0.now) e.1.0.now (nodes_of e.1.1.0.now) z)
+      ≡ says (LoadHosted a.0.now a.1.0.now e.1.0.now (nodes_of a.1.1.0.now) (nodes_of e.1.1.0.now) z)
   load-ensures κs a z e = refl
 
   pub extract-ensures : (κs : Lfts (extracting.signature).lifetimes) (a : Args extracting.signature κs)
@@ -130,7 +130,7 @@ abbrev owns : (plan : List ℕ) (n : ℕ) (table : List TableRecord) → Host
 owns plan n table = record { plan = plan; n = n; table = table }
 
 module _ (S : Settings) (plan after : List ℕ) (n : ℕ) (table filled : List TableRecord) (z : ℤ) where
-  pub load-calls : (frame : List ℕ) → LoadHosted frame plan (nodes_of table) after (nodes_of filled) z
+  pub load-calls : (frame : List ℕ) → LoadHosted frame plan after (nodes_of table) (nodes_of filled) z
       → HostCall S (owns plan n table) (loading frame) (owns after (next_n n (answered z)) filled) z
   load-calls frame is = (is, refl)
 

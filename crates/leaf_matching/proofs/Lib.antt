@@ -6,8 +6,5 @@ pub mod SideWalk
 pub mod Asked
 pub mod AllowLaws
 pub mod MatchLaws
-pub mod KnnLaws
 pub mod KnnOptionLaws
-pub mod DistanceLaws
-pub mod RelationLaws
 pub mod Missing

@@ -1,4 +1,5 @@
 -- What the loop of the walk keeps: of the expressions that are still ahead of it, what is picked and reached among them.
+mod Forests
 use Rattle.std.specs.Prelude.{if◌then◌else◌, Some, None}
 use Prim.Native.Nat.{ℕ, suc, ◌+◌, ◌≤◌, ◌<◌}
 use native.Mathlib.Omega.{arith}
@@ -34,8 +35,8 @@ use Rattle.leaf_pick.specs.Picks.{matches}
 use Rattle.leaf_pick.specs.Walks.{Memory, Remembers, Kept, same, here, StoppedIs, GoingIs, LeafSpot, SpotOf, WalkIs}
 use Rattle.leaf_pick.specs.declared.one_walk.SeenLeaf.{SeenLeaf}
 use Rattle.leaf_pick.specs.declared.one_walk.Walk.{Walk}
-use Rattle.leaf_pick.proofs.Forests.{leaves_all, reached_all, leaves-open, reached-open, leaves-pass, reached-pass}
-use Rattle.leaf_pick.proofs.Forests.{row_open, tabled-open, nodes-open, SpotAll, spot-open, spot-here, spot-later}
+use Rattle.leaf_pick.proofs.Ahead.Forests.{leaves_all, reached_all, leaves-open, reached-open, leaves-pass, reached-pass}
+use Rattle.leaf_pick.proofs.Ahead.Forests.{row_open, tabled-open, nodes-open, SpotAll, spot-open, spot-here, spot-later}
 
 -- ---- of a frame
 

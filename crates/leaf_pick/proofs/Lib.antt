@@ -1,12 +1,9 @@
 -- Laws that the proofs use: the first match, the pick and the walk.
 pub mod FirstLaws
 pub mod LeafLaws
-pub mod Defaults
 pub mod Nodes
 pub mod PickLaws
-pub mod Forests
 pub mod Ahead
 pub mod Parents
 pub mod OneWalkLeafLaws
-pub mod Taking
 pub mod Engines

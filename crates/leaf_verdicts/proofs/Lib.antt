@@ -2,9 +2,5 @@
 pub mod ColumnLaws
 pub mod OptionLaws
 pub mod ArgumentLaws
-pub mod NameLaws
 pub mod SmallLaws
-pub mod Staged
 pub mod StageLaws
-pub mod WalkLaws
-pub mod TakenLaws

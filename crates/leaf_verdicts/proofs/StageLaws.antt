@@ -1,4 +1,5 @@
 -- The stage that a leaf comes to, by what its node is.
+mod Staged
 use Rattle.std.specs.Prelude.{if◌then◌else◌}
 use Prim.Native.Nat.{ℕ}
 use mathlib.Core.Path.{◌≡◌, refl, sym, ap, ◌∙◌}
@@ -13,7 +14,7 @@ use Rattle.definitions.specs.Filter.Verdicts.{Verdict, other_case, other_side, o
 use Rattle.expression.specs.Nodes.{children_of}
 use Rattle.expression.specs.Leaves.{PlainNode, plain_column, plain_literal, plain_other, plain_field}
 use Rattle.leaf_verdicts.specs.Stages.{relation_stage, distance_stage, knn_stage, inside_stage, other_stage, operator_stage, no_stage, stage}
-use Rattle.leaf_verdicts.proofs.Staged.{verdict-staged}
+use Rattle.leaf_verdicts.proofs.StageLaws.Staged.{verdict-staged}
 
 -- ---- by the settings
 

@@ -3,6 +3,5 @@ pub mod LineLaws
 pub mod CallLaws
 pub mod CollectLaws
 pub mod Whole
-pub mod PieceLaws
 pub mod SessionLaws
 pub mod Runs

@@ -1,4 +1,5 @@
 -- A session's steps, and what they make of the numbers and buffers that stand for it.
+mod PieceLaws
 use Rattle.std.specs.Prelude.{Ok, Err}
 use Prim.Native.Nat.{ℕ, ◌+◌, ◌*◌, ◌≤◌, ◌<◌}
 use native.Mathlib.Omega.{arith}
@@ -24,7 +25,7 @@ use Rattle.lines.specs.declared.states.Fed.{Fed}
 use Rattle.lines.specs.declared.collecting.CollectedPiece.{CollectedPiece}
 use Rattle.hexadecimal.proofs.DecodeLaws.{long-line}
 use Rattle.hexadecimal.proofs.EncodeLaws.{length_digits, wrote_nothing}
-use Rattle.lines.proofs.PieceLaws.{joined, stopped, upto}
+use Rattle.lines.proofs.SessionLaws.PieceLaws.{joined, stopped, upto}
 use Rattle.lines.proofs.LineLaws.{refused-line, bad-line}
 
 -- Buffers with this in them.

@@ -1,5 +1,6 @@
 // The call that a line of the program's input asks for.
 ghost use Rattle.std.specs.Prelude.{◌≡◌, List, ℕ, ◌<◌, ◌≤◌, length, take, MatchResult};
+ghost use Rattle.definitions.specs.Words.Limits.{most_bytes};
 ghost use Rattle.definitions.specs.Lists.Program as program;
 ghost use Rattle.terms.specs.declared.refusals.Refusal.TheVariants.{BytesAfterEnd};
 ghost use Rattle.lines.specs.Answers.{kept_as, AnswerIs};
@@ -46,7 +47,7 @@ fn alone(size: usize) -> Result<(), Refusal>
 // The call that a line's bytes ask for; they are the first `size` of the scratch, a slice of 16,384 bytes as a call takes one. A load is as
 // with a table of 1,024 records, which none needs here: extract finds the nodes again.
 fn call_line(plan: &mut [u8], scratch: &mut [u8], size: usize, n: usize) -> LineAnswer
-    requires { (size ≤ length scratch.old) × (length scratch.old ≡ 16384) }
+    requires { (size ≤ length scratch.old) × (length scratch.old ≡ most_bytes) }
     ensures answer_is { AnswerIs (program.line_of (take size scratch.old) (kept_as n plan.old)) n plan.new result }
     ensures scratch_after { scratch.new
         ≡ bytes_scratch (take size scratch.old) (kept_as n plan.old) scratch.old }
@@ -74,7 +75,7 @@ fn call_line(plan: &mut [u8], scratch: &mut [u8], size: usize, n: usize) -> Line
 
 // What a line of characters gives. (With `ok_or` and `?` it would be no shorter.)
 pub fn answer_line(plan: &mut [u8], scratch: &mut [u8], line: &[u8], n: usize) -> LineAnswer
-    requires { length scratch.old ≡ 16384 }
+    requires { length scratch.old ≡ most_bytes }
     ensures answer_is { AnswerIs (program.line_outcome line.now (kept_as n plan.old)) n plan.new result }
     ensures scratch_after { scratch.new ≡ line_scratch line.now (kept_as n plan.old) scratch.old }
 {

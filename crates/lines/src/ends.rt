@@ -1,5 +1,6 @@
 // The end of a line: what it gives is written, and the state goes on.
 ghost use Rattle.std.specs.Prelude.{◌≡◌, List, ℕ, ◌+◌, ◌*◌, ◌≤◌, length};
+ghost use Rattle.definitions.specs.Words.Limits.{most_bytes, most_digits};
 ghost use Rattle.definitions.specs.Lists.Program.{line_outcome};
 ghost use Rattle.lines.specs.Answers.{plan_length, kept_as, AnswerIs};
 ghost use Rattle.lines.specs.Collecting.{Begun};
@@ -18,7 +19,7 @@ fn answer_begun(
     count: usize,
     n: usize,
 ) -> LineAnswer
-    requires { (length scratch.old ≡ 16384) × (length line.now ≡ 32768) }
+    requires { (length scratch.old ≡ most_bytes) × (length line.now ≡ most_digits) }
     ensures result_in_bounds { plan_length result ≤ length plan.old }
     ensures by_index { (begun : List ℕ) → Begun line.now count begun
         → AnswerIs (line_outcome begun (kept_as n plan.old)) n plan.new result }
@@ -38,7 +39,7 @@ pub fn end_line(
     line: &[u8],
     state: State,
 ) -> State
-    requires scratch_len { (length scratch.old ≡ 16384) × (length line.now ≡ 32768) }
+    requires scratch_len { (length scratch.old ≡ most_bytes) × (length line.now ≡ most_digits) }
     requires plan_in_bounds { state.filled + 2 * length plan.old + 11 ≤ length out.old }
     ensures { EndedIs (record { out = out.old; plan = plan.old; scratch = scratch.old; line = line.now }) state
         (record { out = out.new; plan = plan.new; scratch = scratch.new; line = line.now }) result }

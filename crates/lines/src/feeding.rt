@@ -1,6 +1,6 @@
 // What the program does with its input: lines of hexadecimal in, a line out for each. Public for the program.
 ghost use Rattle.std.specs.Prelude.{◌≤◌};
-ghost use Rattle.lines.specs.Sessions.{EndedIs, FedIs, FinishedIs};
+ghost use Rattle.lines.specs.Sessions.{EndedIs, FedIs, FinishedIs, most_filled};
 
 use super::collecting::collect_piece;
 use super::ends::end_line;
@@ -8,7 +8,7 @@ use super::states::{Buffers, Fed, MOST_FILLED, State};
 
 // The line that has begun in the buffers is at its end.
 fn end_begun(buffers: &mut Buffers, state: State) -> State
-    requires { state.filled ≤ 32757 }
+    requires { state.filled ≤ most_filled }
     ensures { EndedIs buffers.old state buffers.new result }
 {
     end_line(

@@ -1,5 +1,6 @@
 // What the program keeps between two pieces of its input.
 ghost use Rattle.std.specs.Prelude.{◌≡◌, replicate};
+ghost use Rattle.definitions.specs.Words.Limits.{most_bytes};
 ghost use Rattle.lines.specs.Pieces.{fresh_session};
 ghost use Rattle.lines.specs.Sessions.{Stands};
 ghost use Rattle.lines.specs.declared.states.Buffers.{Buffers};
@@ -35,7 +36,7 @@ pub struct Fed {
 // The state at the start, over a plan buffer of zeros.
 pub fn fresh() -> State
     ensures filled_value { result.filled ≡ 0 }
-    ensures by_index { (b : Buffers) → b.plan ≡ replicate 16384 0 → Stands b result fresh_session }
+    ensures by_index { (b : Buffers) → b.plan ≡ replicate most_bytes 0 → Stands b result fresh_session }
 {
     State {
         n: 0,

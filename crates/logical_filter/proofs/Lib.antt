@@ -2,4 +2,3 @@
 pub mod QueryWalk
 pub mod NameMasks
 pub mod NameWalk
-pub mod Naming

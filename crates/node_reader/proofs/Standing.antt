@@ -15,10 +15,10 @@ use Rattle.node_reader.specs.declared.walk.Walked.{Walked}
 use Rattle.std.specs.Prelude.{Result, Ok, Err}
 use Rattle.terms.specs.declared.refusals.Refusal.{Refusal}
 use Rattle.node_reader.specs.Nodes.{WalkedIs, CountBounds, LentRows}
-use Rattle.node_reader.specs.Places.{ExpressionIs, ExpressionIn}
+use Rattle.node_reader.specs.Places.{ExpressionIs}
 use Rattle.expression.specs.Places.{Between}
 use Rattle.expression.specs.Nodes.{Stands}
-use Rattle.node_rows.specs.Rows.{NodesCollected}
+use Rattle.node_rows.specs.Rows.{NodesCollected, NoRows, TabledIfRoom}
 use Rattle.node_rows.proofs.RowLaws.{nodes-below}
 use Rattle.node_rows.proofs.TableLaws.{collected-tabled}
 
@@ -51,7 +51,7 @@ module _ (c : Columns) (s : List ℕ) (at levels count : ℕ) (bytes : AllBytes 
 pub expression-stands : (c : Columns) (s : List ℕ) (at before : ℕ) (r : Result Walked Refusal) (numbers indexes numbered indexed : List ℕ)
     → AllBytes s → at ≤ length s → LentRows s numbers indexes → length numbered ≡ length numbers
     → WalkedIs s at before r (node c 64) depth (length numbers) (NodesCollected at before numbers indexes numbered indexed)
-    → CountBounds before 0 r → ExpressionIn s at before r c numbered indexed
+    → CountBounds before 0 r → ExpressionIs s at before r c (TabledIfRoom numbered indexed)
 unfolding expression
 expression-stands c s at before (Ok walked) numbers indexes numbered indexed bytes within lent same
     (place, e, reads, deep, filled) counted =
@@ -66,11 +66,11 @@ expression-stands c s at before (Ok walked) numbers indexes numbered indexed byt
       λ fits.
           let some : 0 < length numbers = omega (arith, nodes-below e, there.counted) in
           collected-tabled (omega arith) (omega (arith, lent.long)) (omega (arith, there.span.ends, place, lent.short some))
-          (filled (omega arith)),
+          (filled (omega (arith, there.counted))),
     )
 expression-stands c s at before (Err why) numbers indexes numbered indexed bytes within lent same stops counted = stops
 
 pub without-rows : (c : Columns) (s : List ℕ) (at before : ℕ) (r : Result Walked Refusal) (numbers indexes : List ℕ)
-    → ExpressionIn s at before r c numbers indexes → ExpressionIs s at before r c
-without-rows c s at before (Ok walked) numbers indexes h = (h.0, h.1, h.2, h.3, h.4)
+    → ExpressionIs s at before r c (TabledIfRoom numbers indexes) → ExpressionIs s at before r c NoRows
+without-rows c s at before (Ok walked) numbers indexes h = (h.0, h.1, h.2, h.3, h.4, h.5, tt)
 without-rows c s at before (Err why) numbers indexes h = h

@@ -1,9 +1,12 @@
 -- What the answers about fields say of the definitions' readers, at a place of the bytes.
 use Rattle.std.specs.Prelude.{ℕ, ◌≤◌, ◌≡◌, Bool, ◌&&◌, List, length, drop, leb, Result, Ok, Err}
 use Rattle.definitions.specs.Words.Basics.{all}
+use Rattle.definitions.specs.Words.Expression as tree
 use Rattle.definitions.specs.Bytes.Readers.{read, stopped, Reader}
 use Rattle.terms.specs.Refusals.{number_of}
 use Rattle.terms.specs.declared.refusals.Refusal.{Refusal}
+use Rattle.terms.specs.declared.sides.JoinSide.{JoinSide}
+use Rattle.terms.specs.Sides.{join_side}
 
 -- It stops there with this refusal, whatever was counted before.
 abbrev pub StopsAt : {A : Type 0} → List ℕ → (at number : ℕ) → Reader A → Type 0
@@ -17,6 +20,11 @@ ReadsAt s at next value reader = (n : ℕ) → reader n (drop at s) ≡ read val
 abbrev pub FieldIs : List ℕ → (at : ℕ) → Result (ℕ × ℕ) Refusal → Reader ℕ → Type 0
 FieldIs s at (Ok field) reader = (field.1 ≤ length s) × ReadsAt s at field.1 field.0 reader
 FieldIs s at (Err why) reader = StopsAt s at (number_of why) reader
+
+-- A side was read, and the place after it.
+abbrev pub SideIs : List ℕ → (at : ℕ) → Result (JoinSide × ℕ) Refusal → Reader tree.Side → Type 0
+SideIs s at (Ok side) reader = (side.1 ≤ length s) × ReadsAt s at side.1 (join_side side.0) reader
+SideIs s at (Err why) reader = StopsAt s at (number_of why) reader
 
 -- Whether each byte is one that a name may have.
 unfoldable pub name_like : List ℕ → Bool

@@ -1,5 +1,6 @@
 -- Where an expression stands that was read.
 use Rattle.std.specs.Prelude.{ℕ, ◌+◌, ◌≤◌, ◌≡◌, List, length, drop, Result, Ok, Err}
+use Rattle.definitions.specs.Words.Limits.{most_nodes}
 use Rattle.definitions.specs.Words.Expression.{Expr}
 use Rattle.definitions.specs.Bytes.Encode.{expr_bytes}
 use Rattle.definitions.specs.Bytes.Readers.{read, stopped}
@@ -9,7 +10,6 @@ use Rattle.definitions.specs.Bytes.Good.{Readable}
 use Rattle.terms.specs.Refusals.{number_of}
 use Rattle.terms.specs.declared.refusals.Refusal.{Refusal}
 use Rattle.expression.specs.Places.{Between}
-use Rattle.node_rows.specs.Rows.{Tabled}
 use Rattle.node_reader.specs.declared.walk.Walked.{Walked}
 
 -- The expression e stands from `at` up to `end`, its fields in their ranges and its depth at most 64.
@@ -17,17 +17,10 @@ pub record ExprAt (c : Columns) (s : List ℕ) (at end : ℕ) (e : Expr) : Type 
   pub bytes : Between s at end (expr_bytes e)
   pub readable : Readable c e
 
--- An expression was read, `before` nodes counted up to its place and its own after them.
-abbrev pub ExpressionIs : List ℕ → (at before : ℕ) → Result Walked Refusal → Columns → Type 0
-ExpressionIs s at before (Ok walked) c =
+-- An expression was read, `before` nodes counted up to its place and its own after them, from which index on rows may hold them: what is
+-- claimed of these.
+abbrev pub ExpressionIs : List ℕ → (at before : ℕ) → Result Walked Refusal → Columns → (rows : (at i : ℕ) → Expr → Type 0) → Type 0
+ExpressionIs s at before (Ok walked) c rows =
     (e : Expr) × (expression c before (drop at s) ≡ read e walked.count (drop walked.next s)) × ExprAt c s at walked.next e
-    × (walked.count ≡ before + good.nodes e) × (walked.depth ≡ good.depth e)
-ExpressionIs s at before (Err why) c = expression c before (drop at s) ≡ stopped (number_of why)
-
--- The same, and if rows have room for its nodes, they hold them from index `before` on.
-abbrev pub ExpressionIn : List ℕ → (at before : ℕ) → Result Walked Refusal → Columns → (numbers indexes : List ℕ) → Type 0
-ExpressionIn s at before (Ok walked) c numbers indexes =
-    (e : Expr) × (expression c before (drop at s) ≡ read e walked.count (drop walked.next s)) × ExprAt c s at walked.next e
-    × (walked.count ≡ before + good.nodes e) × (walked.depth ≡ good.depth e) × (walked.count ≤ 1024)
-    × (walked.count ≤ length numbers → Tabled numbers indexes at before e)
-ExpressionIn s at before (Err why) c numbers indexes = expression c before (drop at s) ≡ stopped (number_of why)
+    × (walked.count ≡ before + good.nodes e) × (walked.depth ≡ good.depth e) × (walked.count ≤ most_nodes) × rows at before e
+ExpressionIs s at before (Err why) c rows = expression c before (drop at s) ≡ stopped (number_of why)

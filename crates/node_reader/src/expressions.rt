@@ -2,7 +2,8 @@
 ghost use Rattle.std.specs.Prelude.{◌≤◌, length};
 ghost use Rattle.node_reader.specs.Heads.{columns_of};
 ghost use Rattle.node_reader.specs.Nodes.{LentRows};
-ghost use Rattle.node_reader.specs.Places.{ExpressionIs, ExpressionIn};
+ghost use Rattle.node_reader.specs.Places.{ExpressionIs};
+ghost use Rattle.node_rows.specs.Rows.{NoRows, TabledIfRoom};
 
 use super::call_heads::{Columns, Source};
 use super::reading_loop::read_node;
@@ -19,7 +20,8 @@ pub fn expression_in(
     columns: Columns,
 ) -> Result<Walked, Refusal>
     requires { (at ≤ length s.now) × LentRows s.now numbers.old indexes.old }
-    ensures { ExpressionIn s.now at count result (columns_of columns) numbers.new indexes.new }
+    ensures { ExpressionIs s.now at count result (columns_of columns)
+        (TabledIfRoom numbers.new indexes.new) }
 {
     let source = Source { bytes: s, columns };
     if s.len() <= 16384 {
@@ -32,7 +34,7 @@ pub fn expression_in(
 // An expression of depth at most 64, for those who have no rows to lend.
 pub fn expression(s: &[u8], at: usize, count: usize, columns: Columns) -> Result<Walked, Refusal>
     requires { at ≤ length s.now }
-    ensures { ExpressionIs s.now at count result (columns_of columns) }
+    ensures { ExpressionIs s.now at count result (columns_of columns) NoRows }
 {
     expression_in(&mut [], &mut [], s, at, count, columns)
 }

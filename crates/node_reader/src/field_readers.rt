@@ -1,11 +1,13 @@
-// Fields: a byte, a number of some width, a byte in a range, a name. Each reader gives what it read and the place after it. That the place
+// Fields: a byte, a number of some width, a byte in a range, a side, a name. Each reader gives what it read and the place after it. That the place
 // is within the bytes is a clause of each reader: with a ghost field of bytes and place, which was tried, each answer has to promise the
 // same bytes again.
 ghost use Rattle.std.specs.Prelude.{◌≡◌, ◌≤◌, length};
+ghost use Rattle.definitions.specs.Bytes.Decode as decode;
 ghost use Rattle.definitions.specs.Bytes.Readers as readers;
-ghost use Rattle.node_reader.specs.Fields.{FieldIs, SkippedIs, name_like};
+ghost use Rattle.node_reader.specs.Fields.{FieldIs, SideIs, SkippedIs, name_like};
 
 use terms::refusals::Refusal;
+use terms::sides::JoinSide;
 
 // A number of `width` bytes.
 pub fn number(s: &[u8], at: usize, width: usize) -> Result<(u64, usize), Refusal>
@@ -54,6 +56,16 @@ pub fn byte_between(s: &[u8], at: usize, least: u64, most: u64) -> Result<(u64, 
         return Err(Refusal::OutOfRange);
     }
     Ok((value, next))
+}
+
+// A side with a number of at most `most`.
+#[tactic(auto, unfolding(definitions::specs::Bytes::Decode::side_up_to))]
+pub fn side_up_to(s: &[u8], at: usize, most: u64) -> Result<(JoinSide, usize), Refusal>
+    requires { at ≤ length s.now }
+    ensures { SideIs s.now at result (decode.side_up_to most) }
+{
+    let (number, next) = byte_up_to(s, at, most)?;
+    Ok((JoinSide::from(number), next))
 }
 
 // Whether each byte is from 33 to 126. It looks at all of them, so that several are compared at once.

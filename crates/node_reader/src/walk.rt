@@ -1,5 +1,6 @@
 // The walk over a node and the walk over its children, which call each other. Nodes left to count fall.
 ghost use Rattle.std.specs.Prelude.{◌≤◌, length};
+ghost use Rattle.definitions.specs.Words.Limits.{most_nodes};
 ghost use Rattle.definitions.specs.Bytes.Decode as decode;
 ghost use Rattle.definitions.specs.Bytes.Decode.{repeat_exprs};
 ghost use Rattle.definitions.specs.Bytes.Good.{depth};
@@ -82,7 +83,7 @@ pub fn nodes(
     levels: usize,
     count: usize,
 ) -> Result<Walked, Refusal>
-    requires { (head.next ≤ length source.bytes.now) × (count ≤ 1024) × LentRows source.bytes.now numbers.old indexes.old }
+    requires { (head.next ≤ length source.bytes.now) × (count ≤ most_nodes) × LentRows source.bytes.now numbers.old indexes.old }
     ensures read { WalkedIs source.entry.bytes.now head.next count result
         (repeat_exprs head.children (decode.node (columns_of source.entry.columns) levels)) depth_above
         (length numbers.old)

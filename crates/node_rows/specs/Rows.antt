@@ -1,5 +1,6 @@
 -- Request 6 of document 02: rows that hold the nodes of an expression. (Ours.)
 use Rattle.std.specs.Prelude.{ℕ, ◌+◌, ◌≤◌, ◌≡◌, List, ◌++◌, map, length, take, drop}
+use Rattle.definitions.specs.Words.Limits.{most_bytes, most_nodes}
 use Rattle.definitions.specs.Words.Expression.{Expr, Exprs, cons}
 use Rattle.definitions.specs.Bytes.Encode.{expr_bytes, exprs_bytes}
 use Rattle.definitions.specs.Bytes.Decode.{Columns}
@@ -19,13 +20,21 @@ use Rattle.node_rows.specs.declared.pairs.TwoExpressions.{TwoExpressions}
 pub record Tabled (numbers next : List ℕ) (at i : ℕ) (t : Expr) : Type 0 where
   pub numbered : Holds numbers i (numbers_from at t)
   pub followed : Holds next i (nexts_from i t)
-  pub short : at + length (expr_bytes t) ≤ 16384
+  pub short : at + length (expr_bytes t) ≤ most_bytes
 
 -- The same of several expressions.
 pub record TabledAll (numbers next : List ℕ) (at i : ℕ) (ts : Exprs) : Type 0 where
   pub numbered : Holds numbers i (row_numbers at ts)
   pub followed : Holds next i (row_nexts i ts)
-  pub short : at + length (exprs_bytes ts) ≤ 16384
+  pub short : at + length (exprs_bytes ts) ≤ most_bytes
+
+-- What a reader claims of rows: nothing where it fills none,
+abbrev pub NoRows : (at i : ℕ) → Expr → Type 0
+NoRows at i t = Unit {0}
+
+-- or that they hold the nodes, if there is room for them.
+abbrev pub TabledIfRoom : (numbers next : List ℕ) → (at i : ℕ) → Expr → Type 0
+TabledIfRoom numbers next at i t = i + nodes t ≤ length numbers → Tabled numbers next at i t
 
 -- The rows hold two expressions, and perhaps more after them.
 abbrev pub Begin : (numbers next : List ℕ) (at i : ℕ) (a b : Expr) → Type 0
@@ -52,14 +61,14 @@ pub record TwoAre (i : ℕ) (r : TwoExpressions) (at : ℕ) (a b : Expr) : Type 
 pub record Room (numbers next : List ℕ) (last : ℕ) : Type 0 where
   pub numbered : last ≤ length numbers
   pub followed : last ≤ length next
-  pub few : last ≤ 1024
+  pub few : last ≤ most_nodes
 
 -- An expression stands there, and the rows have room for its nodes.
 pub record Fits (s : List ℕ) (at i : ℕ) (numbers next : List ℕ) : Type 0 where
   pub columns : Columns
   pub tree : Expr
   pub stands : Stands columns s at tree
-  pub short : at + length (expr_bytes tree) ≤ 16384
+  pub short : at + length (expr_bytes tree) ≤ most_bytes
   pub room : Room numbers next (i + nodes tree)
 
 -- The same of n expressions in a row.
@@ -67,7 +76,7 @@ pub record FitsAll (s : List ℕ) (at n i : ℕ) (numbers next : List ℕ) : Typ
   pub columns : Columns
   pub trees : Exprs
   pub row : Row columns s at n trees
-  pub short : at + length (exprs_bytes trees) ≤ 16384
+  pub short : at + length (exprs_bytes trees) ≤ most_bytes
   pub room : Room numbers next (i + nodes_all trees)
 
 -- Its nodes were put into the rows from index i on; where it ends, and the index after them.

@@ -1,5 +1,6 @@
 -- Request 6 of document 02: a node's number stored in a row, and rows compared. (Ours.)
 use Rattle.std.specs.Prelude.{ℕ, ◌≤◌, ◌<◌, ◌≡◌, Bool, true, false, List, length, take, get_or, set}
+use Rattle.definitions.specs.Words.Limits.{two_bytes}
 use Rattle.definitions.specs.Bytes.NodeTable.{NodeRecord}
 use Rattle.node_rows.specs.Numbers.{number}
 
@@ -7,7 +8,7 @@ use Rattle.node_rows.specs.Numbers.{number}
 pub record Storable (numbers next : List ℕ) (i kind start end after : ℕ) : Type 0 where
   pub followed : length numbers ≤ length next
   pub fits : i < length numbers → (kind < 7) × (start < 16384) × (end < 32768)
-  pub few : after < 65536
+  pub few : after < two_bytes
 
 -- They were stored there.
 abbrev pub Stored : (numbers next : List ℕ) (i : ℕ) → NodeRecord → (after : ℕ) → (numbered followed : List ℕ) → Type 0

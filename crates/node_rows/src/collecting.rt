@@ -1,8 +1,10 @@
 // One walk over an expression that fills both rows.
 ghost use Rattle.std.specs.Prelude.{◌≡◌, ◌≤◌, length};
+ghost use Rattle.definitions.specs.Words.Limits.{most_nodes};
 ghost use Rattle.expression.specs.Nodes.{OfTree, OfTrees};
 ghost use Rattle.node_rows.specs.Rows.{Fits, FitsAll, NodesCollected, CollectedAll, Filling, RowIs};
 
+use super::lengths::{MOST_NODES, SHORT_NODES};
 use super::numbers::node_number;
 use expression::heads::head_at;
 
@@ -63,7 +65,7 @@ fn collect_children(
 fn node_row_by<const N: usize>(row: &mut [u32], s: &[u8], root: usize, count: usize)
     requires filling { (count ≤ length row.old) × Filling s.now root count }
     requires some_nodes { count ≡ 0 → ⊥ }
-    requires places { (count ≤ 1024 → count ≤ N) × (N ≤ 1024) }
+    requires places { (count ≤ most_nodes → count ≤ N) × (N ≤ most_nodes) }
     ensures { RowIs s.now root count row.old row.new }
 {
     let mut next = [0u16; N];
@@ -79,8 +81,8 @@ pub fn node_row(row: &mut [u32], s: &[u8], root: usize, count: usize)
     if count == 0 {
         return;
     }
-    if count <= 32 {
-        return node_row_by::<32>(row, s, root, count);
+    if count <= SHORT_NODES {
+        return node_row_by::<SHORT_NODES>(row, s, root, count);
     }
-    node_row_by::<1024>(row, s, root, count)
+    node_row_by::<MOST_NODES>(row, s, root, count)
 }

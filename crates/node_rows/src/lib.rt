@@ -2,6 +2,7 @@
 #![tactic(auto)]
 
 pub mod collecting;
+pub mod lengths;
 pub mod numbers;
 pub mod pairs;
 pub mod rows;

@@ -10,6 +10,7 @@ ghost use Rattle.node_table.specs.Numbers.{numbered};
 ghost use Rattle.node_table.specs.Records.{node_of, nodes_of, FilledIs};
 
 use node_rows::collecting::node_row;
+use node_rows::lengths::MOST_NODES;
 use node_rows::numbers::node_number;
 
 #[repr(C)]
@@ -80,7 +81,7 @@ pub fn fill_table(table: &mut [NodeRecord], s: &[u8], root: usize, count: usize)
     requires { (count ≤ length table.old) × Filling s.now root count }
     ensures { FilledIs s.now root count (nodes_of table.old) (nodes_of table.new) }
 {
-    let mut row = [0; 1024];
+    let mut row = [0; MOST_NODES];
     node_row(&mut row, s, root, count);
     put_nodes(table, &row, count);
 }

@@ -10,18 +10,19 @@ use borrow.Author.Tests.{eqb-true, eqb-false, eq-eqb, ne_eqb}
 use mathlib.Core.Bool.{Bool, true, false}
 use Rattle.definitions.specs.Words.Basics as definitions
 use Rattle.definitions.specs.Words.Basics.{ok, refused, map_result}
-use Rattle.definitions.specs.Words.Expression.{Frame, Extraction, Plan, empty, held, extracted}
+use Rattle.definitions.specs.Words.Expression.{Expr, Frame, Extraction, Plan, empty, held, extracted}
 use Rattle.definitions.specs.Bytes.Readers.{Read, read, stopped, Reader, continue, ◌>>◌, give, byte, require_length, at_end, result_of}
 use Rattle.definitions.specs.Bytes.Decode.{extraction_body}
 use Rattle.definitions.specs.Bytes.Plans.{whole_extraction, frame_of, extraction_of, plan_of_kind, plan_of}
 use Rattle.theorems.proofs.ReaderLaws.{after, halts, passes, fails}
-use Rattle.frame_reader.specs.Frames.{first_of, PhysicalIs, PhysicalIn}
+use Rattle.node_rows.specs.Rows.{NoRows, Tabled}
+use Rattle.frame_reader.specs.Frames.{first_of, PhysicalIs}
 use Rattle.std.specs.Prelude.{Result, Ok, Err}
 use Rattle.std.specs.Prelude as std
 use Rattle.terms.specs.declared.refusals.Refusal.{Refusal}
 use Rattle.terms.specs.declared.refusals.Refusal.TheVariants.{PlanEmpty, NoGoodPlan}
 use Rattle.frame_reader.specs.declared.frame_bodies.Frame as frames
-use Rattle.plan_reader.specs.Plans.{RemainderIs, WholeIs, HeldIs, HeldIn, no_bytes, no_good}
+use Rattle.plan_reader.specs.Plans.{RemainderIs, WholeIs, HeldIs, no_bytes, no_good}
 use Rattle.plan_reader.specs.declared.extraction_bodies.Extraction as extractions
 use Rattle.plan_reader.specs.declared.extraction_bodies.Held.{Held}
 use Rattle.plan_reader.specs.declared.extraction_bodies.Held.TheVariants as variants
@@ -87,8 +88,8 @@ unfolding plan_of plan_of_kind
 extraction-held [] h e = absurd (omega arith)
 extraction-held (b ∷ s) h e = rw (ne_eqb b 1 e)
 
-module _ (s : List ℕ) {empty : Bool} (is : empty ≡ eqb (length s) 0) where
-  pub empty-plan : empty ≡ true → HeldIs s (Err PlanEmpty) (plan_of s)
+module _ (s : List ℕ) (rows : (at i : ℕ) → Expr → Type 0) {empty : Bool} (is : empty ≡ eqb (length s) 0) where
+  pub empty-plan : empty ≡ true → HeldIs s (Err PlanEmpty) (plan_of s) rows
   empty-plan none = no_bytes (nothing-held s (eqb-true (length s) 0 (sym is ∙ none)))
 
   module _ (some : empty ≡ false) (other : get_or s 0 0 ≡ 1 → ⊥) where
@@ -96,26 +97,22 @@ module _ (s : List ℕ) {empty : Bool} (is : empty ≡ eqb (length s) 0) where
     told = extraction-held s (omega (arith, eqb-false (length s) 0 (sym is ∙ some))) other
 
     pub extraction-plan : {x : extractions.Extraction} → WholeIs s (Ok x) (extraction_of s)
-        → HeldIs s (Ok (variants.Extraction x)) (plan_of s)
+        → HeldIs s (Ok (variants.Extraction x)) (plan_of s) rows
     extraction-plan h = (h.0, h.1, told ∙ ap (map_result extracted) h.2)
 
-    pub no-extraction : (why : Refusal) → WholeIs s (Err why) (extraction_of s) → HeldIs s (Err NoGoodPlan) (plan_of s)
+    pub no-extraction : (why : Refusal) → WholeIs s (Err why) (extraction_of s) → HeldIs s (Err NoGoodPlan) (plan_of s) rows
     no-extraction why h = no_good _ (told ∙ ap (map_result extracted) h)
 
-module _ (s : List ℕ) (first : get_or s 0 0 ≡ 1) where
-  pub frame-plan : {f : frames.Frame} → PhysicalIs s (Ok f) (frame_of s) → HeldIs s (Ok (variants.Frame f)) (plan_of s)
-  frame-plan h = (h.0, h.1, frame-held s first ∙ ap (map_result held) h.2)
+module _ (s : List ℕ) (rows : (at i : ℕ) → Expr → Type 0) (first : get_or s 0 0 ≡ 1) where
+  pub frame-plan : {f : frames.Frame} → PhysicalIs s (Ok f) (frame_of s) rows → HeldIs s (Ok (variants.Frame f)) (plan_of s) rows
+  frame-plan h = (h.0, h.1, frame-held s first ∙ ap (map_result held) h.2, h.3)
 
-  pub no-frame : (why : Refusal) → PhysicalIs s (Err why) (frame_of s) → HeldIs s (Err NoGoodPlan) (plan_of s)
+  pub no-frame : (why : Refusal) → PhysicalIs s (Err why) (frame_of s) rows → HeldIs s (Err NoGoodPlan) (plan_of s) rows
   no-frame why h = no_good _ (frame-held s first ∙ ap (map_result held) h)
-
-  pub frame-in-rows : {f : frames.Frame} {numbers indexes : List ℕ} → PhysicalIn s (Ok f) (frame_of s) numbers indexes
-      → HeldIn s (Ok (variants.Frame f)) (plan_of s) numbers indexes
-  frame-in-rows h = (h.0, h.1, frame-held s first ∙ ap (map_result held) h.2, h.3)
 
 -- What rows hold left out.
 pub in-no-rows : (s : List ℕ) (result : definitions.Result Plan) (r : Result Held Refusal)
-    → ((numbers indexes : List ℕ) → HeldIn s r result numbers indexes) → HeldIs s r result
-in-no-rows s result (Ok (variants.Frame f)) h = let frame = h [] [] in (frame.0, frame.1, frame.2)
+    → ((numbers indexes : List ℕ) → HeldIs s r result (Tabled numbers indexes)) → HeldIs s r result NoRows
+in-no-rows s result (Ok (variants.Frame f)) h = let frame = h [] [] in (frame.0, frame.1, frame.2, tt)
 in-no-rows s result (Ok (variants.Extraction x)) h = h [] []
 in-no-rows s result (Err why) h = h [] []

@@ -10,7 +10,6 @@ use Rattle.terms.specs.Refusals.{number_of}
 use Rattle.terms.specs.declared.refusals.Refusal.{Refusal}
 use Rattle.terms.specs.declared.refusals.Refusal.TheVariants.{NoGoodPlan, PlanEmpty}
 use Rattle.frame_reader.specs.Frames.{FrameAt}
-use Rattle.node_rows.specs.Rows.{Tabled}
 use Rattle.sedona_query_planner.specs.Predicates.{unchanged, PredicateAt}
 use Rattle.frame_reader.specs.declared.frame_bodies.Frame.{Frame}
 use Rattle.plan_reader.specs.declared.extraction_bodies.Extraction.{Extraction}
@@ -52,18 +51,13 @@ pub data NotHeld (result : basics.Result tree.Plan) : Refusal → Type 0 where
   no_bytes : result ≡ ok tree.empty → NotHeld result PlanEmpty
   no_good : (number : ℕ) → result ≡ refused number → NotHeld result NoGoodPlan
 
--- A held plan: what stands there is what the bytes are.
-abbrev pub HeldIs : List ℕ → Result Held Refusal → basics.Result tree.Plan → Type 0
-HeldIs s (Ok (held.Frame f)) result = (F : tree.Frame) × FrameAt s f (length s) F × (result ≡ ok (tree.held F))
-HeldIs s (Ok (held.Extraction x)) result = (X : tree.Extraction) × ExtractionAt s x (length s) X × (result ≡ ok (tree.extracted X))
-HeldIs s (Err why) result = NotHeld result why
-
--- The same, and the nodes of a frame are in the rows.
-abbrev pub HeldIn : List ℕ → Result Held Refusal → basics.Result tree.Plan → (numbers indexes : List ℕ) → Type 0
-HeldIn s (Ok (held.Frame f)) result numbers indexes =
-    (F : tree.Frame) × FrameAt s f (length s) F × (result ≡ ok (tree.held F)) × Tabled numbers indexes f.root 0 F.expr
-HeldIn s (Ok (held.Extraction x)) result numbers indexes = HeldIs s (Ok (held.Extraction x)) result
-HeldIn s (Err why) result numbers indexes = HeldIs s (Err why) result
+-- A held plan: what stands there is what the bytes are; and what is claimed of rows that may hold a frame's nodes.
+abbrev pub HeldIs : List ℕ → Result Held Refusal → basics.Result tree.Plan → (rows : (at i : ℕ) → tree.Expr → Type 0) → Type 0
+HeldIs s (Ok (held.Frame f)) result rows =
+    (F : tree.Frame) × FrameAt s f (length s) F × (result ≡ ok (tree.held F)) × rows f.root 0 F.expr
+HeldIs s (Ok (held.Extraction x)) result rows =
+    (X : tree.Extraction) × ExtractionAt s x (length s) X × (result ≡ ok (tree.extracted X))
+HeldIs s (Err why) result rows = NotHeld result why
 
 -- The plan's first n bytes are a good frame, which stands there.
 pub record HoldsFrame (n : ℕ) (plan : List ℕ) (f : Frame) : Type 0 where

@@ -2,7 +2,8 @@
 ghost use Rattle.std.specs.Prelude.{◌≡◌, ℕ, List, get_or};
 ghost use Rattle.definitions.specs.Bytes.Plans as plans;
 ghost use Rattle.frame_reader.specs.Frames.{Roomy};
-ghost use Rattle.plan_reader.specs.Plans.{WholeIs, HeldIs, HeldIn};
+ghost use Rattle.node_rows.specs.Rows.{NoRows, Tabled};
+ghost use Rattle.plan_reader.specs.Plans.{WholeIs, HeldIs};
 
 use super::extraction_bodies::{Extraction, Held, extraction_body};
 use frame_reader::frame_bodies::first_byte;
@@ -24,7 +25,8 @@ fn whole_extraction(s: &[u8]) -> Result<Extraction, Refusal>
 // What the bytes of a plan hold that is no frame. (Here and below a `match`: by `map` and `map_err` each arm would be a closure.)
 fn held_extraction(s: &[u8]) -> Result<Held, Refusal>
     requires { get_or s.now 0 0 ≡ 1 → ⊥ }
-    ensures { (numbers indexes : List ℕ) → HeldIn s.now result (plans.plan_of s.now) numbers indexes }
+    ensures { (numbers indexes : List ℕ) → HeldIs s.now result (plans.plan_of s.now)
+        (Tabled numbers indexes) }
 {
     if s.is_empty() {
         return Err(Refusal::PlanEmpty);
@@ -37,7 +39,7 @@ fn held_extraction(s: &[u8]) -> Result<Held, Refusal>
 
 // What the bytes of a plan hold; no byte is the empty plan, and all else is no good one.
 pub fn held_plan(s: &[u8]) -> Result<Held, Refusal>
-    ensures { HeldIs s.now result (plans.plan_of s.now) }
+    ensures { HeldIs s.now result (plans.plan_of s.now) NoRows }
 {
     if s.is_empty() || s[0] != 1 {
         return held_extraction(s);
@@ -52,7 +54,8 @@ pub fn held_plan(s: &[u8]) -> Result<Held, Refusal>
 // and would be no shorter.)
 pub fn held_plan_in(numbers: &mut [u32], indexes: &mut [u16], s: &[u8]) -> Result<Held, Refusal>
     requires { Roomy s.now numbers.old indexes.old }
-    ensures { HeldIn s.now result (plans.plan_of s.now) numbers.new indexes.new }
+    ensures { HeldIs s.now result (plans.plan_of s.now)
+        (Tabled numbers.new indexes.new) }
 {
     if s.is_empty() || s[0] != 1 {
         return held_extraction(s);

@@ -1,17 +1,18 @@
 // The predicate of a held extraction: which it is, and where its arguments stand.
 ghost use Rattle.std.specs.Prelude.{◌≤◌, length};
+ghost use Rattle.definitions.specs.Words.Limits.{two_bytes};
 ghost use Rattle.definitions.specs.Bytes.Decode as decode;
 ghost use Rattle.terms.specs.Forms.{form_number};
 ghost use Rattle.terms.specs.Sides.{join_side};
 ghost use Rattle.node_reader.specs.Places.{ExpressionIs};
+ghost use Rattle.node_rows.specs.Rows.{NoRows};
 ghost use Rattle.plan_reader.specs.Predicates.{PairIs, PredicateIs, distance_arguments};
 
 use super::knn_fields::{k_field, knn_flags};
-use frame_reader::column_records::side_up_to;
 use frame_reader::frame_bodies::Counted;
 use node_reader::call_heads::Columns;
 use node_reader::expressions::expression;
-use node_reader::field_readers::{byte, byte_up_to};
+use node_reader::field_readers::{byte, byte_up_to, side_up_to};
 use node_reader::walk::Walked;
 use sedona_query_planner::spatial_predicate::{
     DistancePredicate, KNNPredicate, RelationPredicate, SpatialPredicate, SpatialRelationType,
@@ -31,7 +32,7 @@ pub struct Pair {
 // An argument, whose columns have no bound but their width.
 fn argument(s: &[u8], at: usize, count: usize) -> Result<Walked, Refusal>
     requires { at ≤ length s.now }
-    ensures { ExpressionIs s.now at count result (decode.index_below 65536) }
+    ensures { ExpressionIs s.now at count result (decode.index_below two_bytes) NoRows }
 {
     expression(s, at, count, Columns::Below(65536))
 }

@@ -4,8 +4,7 @@ ghost use Rattle.definitions.specs.Bytes.Decode as decode;
 ghost use Rattle.node_reader.specs.Fields.{FieldIs};
 ghost use Rattle.plan_reader.specs.Flags.{FlagsIs};
 
-use frame_reader::column_records::side_up_to;
-use node_reader::field_readers::{byte_up_to, number};
+use node_reader::field_readers::{byte_up_to, number, side_up_to};
 use sedona_query_planner::spatial_predicate::ties_numbered;
 use terms::refusals::Refusal;
 use terms::sides::JoinSide;

@@ -2,7 +2,6 @@
 pub mod Fields
 pub mod Ranges
 pub mod CopyWalk
-pub mod ArgumentLaws
 pub mod TableLaws
 pub mod ChildLaws
 pub mod PredicateLaws

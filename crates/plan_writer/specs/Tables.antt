@@ -1,5 +1,6 @@
 -- Tables of column indexes, and the records that they are made from.
 use Rattle.std.specs.Prelude.{ℕ, ◌+◌, ◌<◌, ◌≡◌, List, length, get_or}
+use Rattle.definitions.specs.Words.Limits.{two_bytes}
 use Rattle.definitions.specs.Words.Expression.{Record}
 use Rattle.definitions.specs.Bytes.Encode.{record_bytes, records_bytes}
 use Rattle.definitions.specs.Words.References.{record_at}
@@ -13,7 +14,7 @@ pub record Table (new : ℕ → ℕ) (count : ℕ) (to : List ℕ) : Type 0 wher
 -- A record stands at a place, its child index in its range.
 pub record Entry (s : List ℕ) (at : ℕ) (r : Record) : Type 0 where
   pub bytes : Holds s at (record_bytes r)
-  pub short : r.child < 65536
+  pub short : r.child < two_bytes
 
 -- `count` records stand at a place, their fields in their ranges.
 pub record Entries (s : List ℕ) (rec count : ℕ) (records : List Record) : Type 0 where

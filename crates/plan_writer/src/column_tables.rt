@@ -1,6 +1,7 @@
 // The tables that give each column its new index: its index in its child, or its own raised by a count. Each entry is one expression, so
 // that a function over both, which would take a closure, would be no shorter.
 ghost use Rattle.std.specs.Prelude.{◌+◌, ◌≤◌, ◌≡◌, length, drop};
+ghost use Rattle.definitions.specs.Words.Limits.{two_bytes};
 ghost use Rattle.plan_writer.specs.Tables.{ChildTable, RaisedTable};
 
 use super::records::Records;
@@ -19,7 +20,7 @@ pub fn child_indexes(to: &mut [u16], records: Records)
 // Each column's index raised by a count; the table is as it was past the last column.
 pub fn raised_indexes(to: &mut [u16], by: usize, count: usize)
     requires count_in_bounds { count ≤ length to.old }
-    requires count_bound { by + count ≤ 65536 }
+    requires count_bound { by + count ≤ two_bytes }
     ensures raised_table { RaisedTable by count to.new }
     ensures to_unchanged { drop count to.new ≡ drop count to.old }
 {

@@ -1,7 +1,6 @@
 -- Laws that the proofs use: texts and their lengths.
 pub mod Sequences
 pub mod DecimalLaws
-pub mod NameLaws
 pub mod NodeFields
 pub mod MarkLaws
 pub mod SizeLaws

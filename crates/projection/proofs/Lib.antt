@@ -6,13 +6,9 @@ pub mod SpotWalk
 pub mod RecordLoop
 pub mod PlacingLaws
 pub mod BothLaws
-pub mod PredicateLaws
-pub mod ExtractionLaws
 pub mod FewSpots
 pub mod SoundSpots
 pub mod PlacedSpots
-pub mod PlacedPlans
 pub mod PatchLaws
-pub mod Moving
 pub mod ProjectionLaws
 pub mod ProjectedBytes

@@ -1,4 +1,5 @@
 -- A row that has the places of an extraction's child indexes: they lie within the plan, and once put there they make it the projection.
+mod Moving
 use Prim.Native.Nat.{ℕ, zero, suc, ◌+◌, ◌/◌, ◌≤◌, ◌<◌}
 use native.Mathlib.Omega.{arith}
 use native.Mathlib.Nat.{not-suc-le-zero}
@@ -19,7 +20,7 @@ use Rattle.std.specs.Prelude.{Some}
 use Rattle.projection.proofs.SoundSpots.{AllSound, nothing, also, extraction-sound, number-place}
 use Rattle.projection.proofs.PlacedSpots.{moved-sound}
 use Rattle.projection.proofs.PatchLaws.{patched_by, numbers-patch}
-use Rattle.projection.proofs.Moving.{extraction-moves}
+use Rattle.projection.proofs.ProjectedBytes.Moving.{extraction-moves}
 
 -- The place that the k-th number says.
 sound-inside : {end : ℕ} {es : List Spot} → AllSound end es → (k : ℕ) → k < length es → get_or (map spot_number es) k 0 / 262144 + 2 ≤ end

@@ -1,4 +1,5 @@
 -- What is found of an extraction's child indexes, one side after the other, and what putting them into the plan makes of it.
+mod PlacedPlans
 use Prim.Native.Nat.{ℕ, ◌+◌, ◌/◌, ◌%◌, ◌≤◌, ◌<◌}
 use native.Mathlib.Omega.{arith}
 use native.Mathlib.Numerals.{add-one}
@@ -22,7 +23,7 @@ use Rattle.projection.specs.Patches.{put_at, patched}
 use Rattle.projection.specs.Projected.{ListsFit, moved}
 use Rattle.projection.proofs.SoundSpots.{AllSound, extraction-sound}
 use Rattle.projection.proofs.PlacedSpots.{moved_by, has_by, still-sound, all_moved, all_have, found_all, found-not}
-use Rattle.projection.proofs.PlacedPlans.{extraction-have}
+use Rattle.projection.proofs.ProjectionLaws.PlacedPlans.{extraction-have}
 use Rattle.projection.proofs.PatchLaws.{patched-append}
 
 -- ---- places

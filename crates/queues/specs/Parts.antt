@@ -1,5 +1,6 @@
 -- What the functions on the bytes of one queue need and write.
 use Rattle.std.specs.Prelude.{ℕ, ◌+◌, ◌*◌, ◌≤◌, ◌<◌, ◌≡◌, List, [], ◌∷◌, ◌++◌, length, take, drop}
+use Rattle.definitions.specs.Words.Limits.{place_bytes}
 use Rattle.definitions.specs.Words.Basics.{ok, big_endian}
 use Rattle.definitions.specs.Calls.Queues.{Frames}
 use Rattle.definitions.specs.Calls.QueueBytes.{queue_of, queue_over}
@@ -18,7 +19,7 @@ pub record HasRoom (part : List ℕ) (count : ℕ) (frame : List ℕ) : Type 0 w
   pub long : length part ≡ 16417
   pub few : count < 16
   pub low : 1 ≤ length frame
-  pub high : length frame ≤ 1024
+  pub high : length frame ≤ place_bytes
 
 -- If these others are held, the frame was added behind them.
 abbrev pub FrameAdded : (before : List ℕ) (count : ℕ) (frame after : List ℕ) → Type 0
@@ -33,7 +34,7 @@ next_frame part k = take (short_at part (3 + 2 * k)) (drop (1057 + 1024 * k) par
 pub record HasNext (part : List ℕ) (k : ℕ) : Type 0 where
   pub long : length part ≡ 16417
   pub few : k < 15
-  pub fits : short_at part (3 + 2 * k) ≤ 1024
+  pub fits : short_at part (3 + 2 * k) ≤ place_bytes
 
 -- It was put to place k.
 abbrev pub FrameMoved : (before : List ℕ) (k : ℕ) (after : List ℕ) → Type 0

@@ -3,12 +3,10 @@ pub mod KeyLaws
 pub mod RecordLaws
 pub mod ReferenceWalk
 pub mod RestLaws
-pub mod RestWalk
 pub mod FlagLaws
 pub mod CutLaws
 pub mod LeftColumns
 pub mod PatchLaws
 pub mod LeftCopies
 pub mod RemainderLaws
-pub mod PrunedLaws
 pub mod LastLaws

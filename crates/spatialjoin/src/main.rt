@@ -10,6 +10,7 @@
 #![tactic(auto)]
 
 ghost use Rattle.std.specs.Prelude.{◌≡◌, replicate};
+ghost use Rattle.definitions.specs.Words.Limits.{most_bytes};
 ghost use Rattle.spatialjoin.specs.Runs.{ReadOn, Ran, LastIs};
 
 use lines::feeding::finish;
@@ -47,7 +48,7 @@ fn run(
     buffers: &mut Buffers,
     chunk: &mut [u8; 65536],
 ) -> Result<Turn, Failure>
-    requires { buffers.old.plan ≡ replicate 16384 0 }
+    requires { buffers.old.plan ≡ replicate most_bytes 0 }
     ensures { Ran buffers.new result }
 {
     let mut state = fresh();
@@ -76,7 +77,7 @@ fn run_to_end(
     buffers: &mut Buffers,
     chunk: &mut [u8; 65536],
 ) -> Result<(), Failure>
-    requires { buffers.old.plan ≡ replicate 16384 0 }
+    requires { buffers.old.plan ≡ replicate most_bytes 0 }
 {
     if let Turn::Ended(last) = run(stdin, stdout, buffers, chunk)? {
         write_last(stdout, buffers, last)?;

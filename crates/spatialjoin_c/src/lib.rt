@@ -27,14 +27,15 @@ use host_calls::project::project_number;
 use host_calls::put::put_call_number;
 use host_calls::serve::serve_number;
 use host_calls::settings::host_settings;
+use node_rows::lengths::MOST_NODES;
 use node_table::{NodeRecord, fill_table, put_nodes};
 
 // Loads a frame as the new plan and fills the table with its nodes; reads nothing of what both held.
 pub fn spatialjoin_load(frame: &[u8], plan: &mut [u8], table: &mut [NodeRecord]) -> i64
-    ensures { LoadHosted frame.now plan.old (nodes_of table.old) plan.new
+    ensures { LoadHosted frame.now plan.old plan.new (nodes_of table.old)
         (nodes_of table.new) result }
 {
-    let mut row = [0; 1024];
+    let mut row = [0; MOST_NODES];
     let loaded = load_core(&mut row, frame, plan, table.len());
     put_nodes(table, &row, loaded.count);
     loaded.answer

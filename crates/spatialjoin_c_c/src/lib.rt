@@ -20,7 +20,7 @@ use node_table::NodeRecord;
 // Loads a frame as the new plan and fills the table with its nodes; reads nothing of what both held.
 #[unsafe(no_mangle)]
 pub extern "C" fn spatialjoin_load(frame: &[u8], plan: &mut [u8], table: &mut [NodeRecord]) -> i64
-    ensures { LoadHosted frame.now plan.old (nodes_of table.old) plan.new
+    ensures { LoadHosted frame.now plan.old plan.new (nodes_of table.old)
         (nodes_of table.new) result }
 {
     spatialjoin_c::spatialjoin_load(frame, plan, table)

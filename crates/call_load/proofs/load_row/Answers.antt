@@ -1,8 +1,9 @@
 -- A good frame with room is copied, and its nodes are told; each refusal is the frame's own, then 9 for the room, then 17 for the table.
+mod Loading
 use native.Mathlib.Omega.{arith}
 use Rattle.node_reader.proofs.Reading.{kept}
 use Rattle.node_reader.proofs.Standing.{all-bytes}
-use Rattle.call_load.proofs.Loading.{load-refuses, load-short, load-untabled, load-copies, frame_has}
+use Rattle.call_load.proofs.load_row.Answers.Loading.{load-refuses, load-short, load-untabled, load-copies, frame_has}
 use Rattle.call_load.proofs.load_row.Goals as goal
 
 pub returns-in_err-f : goal.returns-in_err-f

@@ -1,7 +1,8 @@
 -- A good frame whose text has room is written; each refusal is the frame's own, 15 for the room.
+mod Texting
 use Rattle.node_reader.proofs.Reading.{kept}
 use Rattle.node_reader.proofs.Standing.{all-bytes}
-use Rattle.call_print.proofs.Texting.{print-refuses, text-there, print-short, text-room, print-writes}
+use Rattle.call_print.proofs.print.Answers.Texting.{print-refuses, text-there, print-short, text-room, print-writes}
 use Rattle.call_print.proofs.print.Goals as goal
 
 pub returns-in_err-f : goal.returns-in_err-f

@@ -1,5 +1,6 @@
 -- `run`: between two reads the state stands for what came before.
-use Rattle.spatialjoin.proofs.Running.{reached-none, reached-more, reached-end}
+mod Running
+use Rattle.spatialjoin.proofs.run.Answers.Running.{reached-none, reached-more, reached-end}
 use Rattle.spatialjoin.proofs.run.Goals as goal
 
 pub loop-init : goal.loop-init

@@ -2,7 +2,7 @@
 use Rattle.node_reader.proofs.Reading.{kept}
 use Rattle.node_reader.proofs.Standing.{all-bytes}
 use Rattle.call_answers.proofs.Refusing.{exchange-call, no-room-for-n}
-use Rattle.call_exchange.proofs.Exchanging.{HoldsPlan, holds_of, not-held, scratch-short, exchanges, is-exchangeable, still-there, held-there}
+use Rattle.call_exchange.proofs.call.Exchanging.{HoldsPlan, holds_of, not-held, scratch-short, exchanges, is-exchangeable, still-there, held-there}
 use Rattle.call_exchange.proofs.call.exchange.Goals as goal
 use Rattle.call_exchange.proofs.call.exchange.Goals.{In_ok-held}
 

@@ -1,6 +1,6 @@
 -- `exchange_plan`: an exchanged plan is as long as the old one, so it has room where that was.
 use Rattle.definitions.specs.Words.Expression.{held, extracted}
-use Rattle.call_exchange.proofs.HeldLaws.{held-room, held-put, frame-plan, extraction-plan}
+use Rattle.call_exchange.proofs.exchanged_plans.HeldLaws.{held-room, held-put, frame-plan, extraction-plan}
 use Rattle.call_exchange.proofs.exchanged_plans.exchange_plan.Goals as goal
 
 pub put_frame_exchanged-requires : goal.put_frame_exchanged-requires

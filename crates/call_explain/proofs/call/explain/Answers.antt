@@ -6,7 +6,7 @@ use Rattle.definitions.specs.Filter.Settings.{good_settings}
 use Rattle.terms.specs.Settings.{settings_of}
 use Rattle.node_reader.proofs.Reading.{kept}
 use Rattle.node_reader.proofs.Standing.{all-bytes}
-use Rattle.call_explain.proofs.Explaining.{explain-unsettled, explain-refused, too_short, copied, read-over, few-leaves}
+use Rattle.call_explain.proofs.call.Explaining.{explain-unsettled, explain-refused, too_short, copied, read-over, few-leaves}
 use Rattle.call_explain.proofs.call.explain.Goals as goal
 use Rattle.call_explain.proofs.call.explain.Goals.{In_ok-settings}
 

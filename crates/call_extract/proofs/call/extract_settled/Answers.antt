@@ -13,14 +13,14 @@ returns-then-plan-n c =
     rw (c.refused-then-plan-n.ensures, ← c.in-Ok.ensures)
     (by-settled _ _ _ _ c.in-Ok.checked.good a.table _ _ _ (long-by _ a.n a.plan.now a.scratch.now c.if-plan-n.true a.table))
 
-pub returns-then-n-le96 : goal.returns-then-n-le96
-returns-then-n-le96 c =
+pub returns-then-n-le-SHORT_BYTES : goal.returns-then-n-le-SHORT_BYTES
+returns-then-n-le-SHORT_BYTES c =
     rw (← c.in-Ok.ensures) (by-settled _ _ _ _ c.in-Ok.checked.good c.args.table _ _ _ c.extract_held.ensures)
 
-pub returns-then-n-le768 : goal.returns-then-n-le768
-returns-then-n-le768 c =
-    rw (← c.in-Ok.ensures) (by-settled _ _ _ _ c.in-Ok.checked.good c.args.table _ _ _ c.extract_held-then-n-le768.ensures)
+pub returns-then-n-le-MIDDLE_BYTES : goal.returns-then-n-le-MIDDLE_BYTES
+returns-then-n-le-MIDDLE_BYTES c =
+    rw (← c.in-Ok.ensures) (by-settled _ _ _ _ c.in-Ok.checked.good c.args.table _ _ _ c.extract_held-then-n-le-MIDDLE_BYTES.ensures)
 
-pub returns-else-n-le768 : goal.returns-else-n-le768
-returns-else-n-le768 c =
-    rw (← c.in-Ok.ensures) (by-settled _ _ _ _ c.in-Ok.checked.good c.args.table _ _ _ c.extract_held-else-n-le768.ensures)
+pub returns-else-n-le-MIDDLE_BYTES : goal.returns-else-n-le-MIDDLE_BYTES
+returns-else-n-le-MIDDLE_BYTES c =
+    rw (← c.in-Ok.ensures) (by-settled _ _ _ _ c.in-Ok.checked.good c.args.table _ _ _ c.extract_held-else-n-le-MIDDLE_BYTES.ensures)

@@ -3,7 +3,7 @@ use Prim.Native.Nat.{◌≤◌}
 use native.Mathlib.Omega.{arith}
 use lib.ListN.{length}
 use Rattle.plan_writer.proofs.TableLaws.{records-within}
-use Rattle.call_extract.proofs.Taking.{predicate-fits, predicate-ends, remainder-fits, extraction-is, extraction-ends}
+use Rattle.call_extract.proofs.extraction.Taking.{predicate-fits, predicate-ends, remainder-fits, extraction-is, extraction-ends}
 use Rattle.call_extract.proofs.extraction.put_extraction.Goals as goal
 use Rattle.call_extract.proofs.extraction.put_extraction.Goals.{After-child_indexes}
 

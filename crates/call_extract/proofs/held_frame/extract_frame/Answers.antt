@@ -5,7 +5,7 @@ use Rattle.terms.specs.Settings.{settings_of}
 use Rattle.theorems.proofs.SettingsLaws.{settings-laws}
 use Rattle.leaf_pick.specs.Picks.{TakenIs}
 use Rattle.node_reader.proofs.Standing.{all-bytes}
-use Rattle.call_extract.proofs.Extracting.{scratch-short, no-leaf, over, indexed-kept, extraction-fits, extracts}
+use Rattle.call_extract.proofs.held_frame.Extracting.{scratch-short, no-leaf, over, indexed-kept, extraction-fits, extracts}
 use Rattle.call_extract.proofs.held_frame.extract_frame.Goals as goal
 use Rattle.call_extract.proofs.held_frame.extract_frame.Goals.{In-Some}
 

@@ -22,7 +22,7 @@ use Rattle.expression.proofs.AndLeaves.{single-leaf}
 use Rattle.leaf_pick.specs.Picks.{matches}
 use Rattle.call_extract_all.specs.Listings.{Listable, ListIs}
 use Rattle.call_extract_all.proofs.ListLaws.{and-listed}
-use Rattle.call_extract_all.proofs.ListWalk.{left_after, left-list, right-list, both-matches, as-many, left-fits, parts-fit, right-fits, count-short}
+use Rattle.call_extract_all.proofs.listing.ListWalk.{left_after, left-list, right-list, both-matches, as-many, left-fits, parts-fit, right-fits, count-short}
 use Rattle.call_extract_all.proofs.listing.+list_matches.Goals as goal
 use Rattle.call_extract_all.proofs.listing.+list_matches.Goals.{After-end, After-list_matches-one, After-list_matches-two, In-And}
 

@@ -1,12 +1,11 @@
 -- `list_leaf`: the only AND-leaf below the node is the node: a KNN match, another, or none.
 use Prim.Native.Nat.{◌<◌}
-use native.Mathlib.Omega.{arith}
 use lib.ListN.{length}
 use Rattle.definitions.specs.Filter.Settings.{match_under}
 use Rattle.terms.specs.Settings.{settings_of}
 use Rattle.definitions.specs.Filter.Extract.{is_knn}
 use Rattle.leaf_pick.specs.Picks as picks
-use Rattle.call_extract_all.proofs.LeafList.{knn-listed, other-listed, none-is-listed, miss-lacks, both-lack, over, framed, by-table, flag-room, knn-room, other-room, leaf-is}
+use Rattle.call_extract_all.proofs.listing.LeafList.{knn-listed, other-listed, none-is-listed, miss-lacks, both-lack, over, by-table, flag-room, knn-room, other-room, leaf-is}
 use Rattle.call_extract_all.proofs.listing.list_leaf.Goals as goal
 use Rattle.call_extract_all.proofs.listing.list_leaf.Goals.{Start}
 

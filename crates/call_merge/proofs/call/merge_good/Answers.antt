@@ -1,6 +1,6 @@
 -- Each refusal is the definition's; a held frame is merged.
 use Prim.Native.Nat.{ℕ, ◌≤◌}
-use mathlib.Core.Path.{◌≡◌, refl, sym}
+use mathlib.Core.Path.{◌≡◌, refl}
 use mathlib.Core.List.{List}
 use lib.ListN.{length, take}
 use Rattle.definitions.specs.Words.Basics.{ok}
@@ -12,7 +12,6 @@ use Rattle.terms.specs.Refusals.{number_of}
 use Rattle.terms.specs.declared.refusals.Refusal.{Refusal}
 use Rattle.node_reader.proofs.Reading.{kept}
 use Rattle.plan_reader.specs.Plans.{NotHeld, no_bytes, no_good}
-use Rattle.call_answers.proofs.Keeping.{plan-length}
 use Rattle.call_answers.proofs.Refusing.{merge-call, merge-refuses, no-room-for-n, no-plan, empty-plan, extracted-before}
 use Rattle.call_merge.proofs.call.merge_good.Goals as goal
 

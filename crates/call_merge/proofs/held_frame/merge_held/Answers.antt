@@ -6,7 +6,7 @@ use mathlib.Core.Bool.{false}
 use lib.ListN.{length}
 use Rattle.node_reader.proofs.Standing.{all-bytes}
 use Rattle.call_merge.specs.Together.{over_together}
-use Rattle.call_merge.proofs.Merging.{Both, counts, not-empty, root-bounds, too_large, scratch-short, plan-short, table-short, Ready, copy-length, merged-room, merges}
+use Rattle.call_merge.proofs.held_frame.Merging.{Both, counts, not-empty, root-bounds, too_large, scratch-short, plan-short, table-short, Ready, merged-room, merges}
 use Rattle.call_merge.proofs.held_frame.merge_held.Goals as goal
 use Rattle.call_merge.proofs.held_frame.merge_held.Goals.{After-copy_bytes, After-over_limits-over, After-shared_slice_known-1}
 

@@ -1,6 +1,6 @@
 -- `put_merged`: head and tables, and the And into the part where they ended.
 use native.Mathlib.Omega.{arith}
-use Rattle.byte_writer.proofs.Sequence.{from_zero, part_room, part-put, ends-within, part-starts, first-room, second-room, both-put, stored-room, stored-put}
+use Rattle.byte_writer.proofs.Sequence.{from_zero, part_room, part-put, first-room, second-room, both-put, stored-room, stored-put}
 use Rattle.call_merge.specs.Merging.{merged_expr}
 use Rattle.call_merge.proofs.MergeViews.{merged-view}
 use Rattle.call_merge.proofs.merged_frames.put_merged.Goals as goal

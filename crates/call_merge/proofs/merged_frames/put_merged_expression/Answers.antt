@@ -1,6 +1,5 @@
 -- `put_merged_expression`: the two bytes of And, the held filter after them, the new one where that ended.
 use native.Mathlib.Omega.{arith}
-use mathlib.Core.Path.{◌∙◌}
 use lib.ListN.{length-set}
 use Rattle.byte_writer.proofs.Sequence.{first-room, second-room, both-put, head-room, stored-room, stored-put}
 use Rattle.call_merge.specs.Merging.{raised_expr}

@@ -3,7 +3,7 @@ use native.Mathlib.Omega.{arith}
 use Prim.Native.Nat.{◌≤◌}
 use lib.ListN.{length}
 use Rattle.byte_writer.proofs.Sequence.{part_room, part-put, ends-within}
-use Rattle.call_merge.proofs.RaisedLaws.{raised-fits, raised-put}
+use Rattle.call_merge.proofs.merged_frames.RaisedLaws.{raised-fits, raised-put}
 use Rattle.call_merge.proofs.merged_frames.put_raised.Goals as goal
 use Rattle.call_merge.proofs.merged_frames.put_raised.Goals.{After-raised_indexes}
 

@@ -1,10 +1,8 @@
 -- `put_tables`: first byte and the sum of the counts, the held records, the new ones where those ended.
-use borrow.Author.Rules.{rules}
 use native.Mathlib.Omega.{arith}
 use Rattle.definitions.specs.Words.Basics.{big_endian}
 use Rattle.plan_writer.specs.Predicates.{frame_head}
-use Rattle.byte_writer.specs.Writing.{same}
-use Rattle.byte_writer.proofs.Sequence.{first-room, second-room, both-put, head-room, rest-room, headed-put}
+use Rattle.byte_writer.proofs.Sequence.{second-room, both-put, head-room, rest-room, headed-put}
 use Rattle.call_merge.proofs.MergeViews.{tables-view}
 use Rattle.call_merge.proofs.merged_frames.put_tables.Goals as goal
 

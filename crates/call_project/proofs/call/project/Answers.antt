@@ -1,8 +1,6 @@
 -- Each refusal is the definition's; a held extraction is projected.
-use mathlib.Core.Path.{sym}
 use Rattle.node_reader.proofs.Reading.{kept}
 use Rattle.node_reader.proofs.Standing.{all-bytes}
-use Rattle.call_answers.proofs.Keeping.{plan-length}
 use Rattle.call_answers.proofs.Refusing.{no-room-for-n}
 use Rattle.call_project.proofs.ProjectCall.{project-call, frame-held, not-held, holds_of}
 use Rattle.call_project.proofs.call.project.Goals as goal

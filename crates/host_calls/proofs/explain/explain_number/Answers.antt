@@ -7,7 +7,7 @@ use Rattle.host_calls.specs.Hosts.{hosted}
 use Rattle.terms.specs.Settings.{settings_of}
 use Rattle.call_explain.specs.Answers.{explained_number}
 use Rattle.host_calls.proofs.Numbers.{number-is, given_back}
-use Rattle.host_calls.proofs.ExplainSmall.{explain-small, explain-hosted}
+use Rattle.host_calls.proofs.explain.ExplainSmall.{explain-small, explain-hosted}
 use Rattle.host_calls.proofs.explain.explain_number.Goals as goal
 use Rattle.host_calls.proofs.explain.explain_number.Goals.{In-Ok}
 

@@ -1,6 +1,6 @@
 -- `match_distance_predicate`: the parsed arguments stand in the frame, so their sides are those of the definition.
 use Rattle.leaf_matching.proofs.Missing.{missed}
-use Rattle.leaf_matching.proofs.DistanceLaws.{no_distance, Walked, distance-undefined, distance-neither, distance-left, distance-right}
+use Rattle.leaf_matching.proofs.distance.DistanceLaws.{no_distance, Walked, distance-undefined, distance-neither, distance-left, distance-right}
 use Rattle.leaf_matching.proofs.distance.match_distance_predicate.Goals as goal
 use Rattle.leaf_matching.proofs.distance.match_distance_predicate.Goals.{After-side_of_column_references-arg1}
 

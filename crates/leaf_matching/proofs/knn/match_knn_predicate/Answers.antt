@@ -7,7 +7,7 @@ use Rattle.definitions.specs.Words.Basics.{ascii}
 use Rattle.leaf_matching.proofs.Asked.{other_name}
 use Rattle.leaf_matching.proofs.MatchLaws.{pair-framed, pair-begins, rest-trees, named}
 use Rattle.leaf_matching.proofs.Missing.{missed}
-use Rattle.leaf_matching.proofs.KnnLaws.{few-lacks, many-lacks, Walked, knn-unread, knn-neither, knn-left, knn-right}
+use Rattle.leaf_matching.proofs.knn.KnnLaws.{few-lacks, many-lacks, Walked, knn-unread, knn-neither, knn-left, knn-right}
 use Rattle.leaf_matching.proofs.knn.match_knn_predicate.Goals as goal
 use Rattle.leaf_matching.proofs.knn.match_knn_predicate.Goals.{After-knn_options-given, in-LeftRight, in-RightLeft}
 

@@ -6,7 +6,7 @@ use Rattle.definitions.specs.Words.Leaves.{relation_named}
 use Rattle.leaf_matching.proofs.Asked.{no-relation}
 use Rattle.leaf_matching.proofs.Missing.{missed}
 use Rattle.leaf_matching.proofs.MatchLaws.{pair-framed, pair-begins}
-use Rattle.leaf_matching.proofs.RelationLaws.{few-lacks, Walked, relation-neither, relation-left, relation-right}
+use Rattle.leaf_matching.proofs.relation.RelationLaws.{few-lacks, Walked, relation-neither, relation-left, relation-right}
 use Rattle.leaf_matching.proofs.relation.match_relation_predicate.Goals as goal
 use Rattle.leaf_matching.proofs.relation.match_relation_predicate.Goals.{After-resolve_geometries-geometries}
 

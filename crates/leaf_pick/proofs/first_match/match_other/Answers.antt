@@ -2,7 +2,7 @@
 use Rattle.definitions.specs.Filter.Match.{match_leaf_by}
 use Rattle.definitions.specs.Filter.Settings.{only_if, match_under}
 use Rattle.leaf_pick.specs.Picks.{is_other}
-use Rattle.leaf_pick.proofs.Defaults.{other-default}
+use Rattle.leaf_pick.proofs.first_match.Defaults.{other-default}
 use Rattle.leaf_pick.proofs.first_match.match_other.Goals as goal
 
 pub returns : goal.returns

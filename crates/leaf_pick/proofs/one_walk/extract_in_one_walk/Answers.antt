@@ -1,5 +1,5 @@
 -- `extract_in_one_walk`: what the walk remembers is the pick, and the And above it is found.
-use Rattle.leaf_pick.proofs.Taking.{walked-nothing, walked-spotted, walked-leaf}
+use Rattle.leaf_pick.proofs.one_walk.Taking.{walked-nothing, walked-spotted, walked-leaf}
 use Rattle.leaf_pick.proofs.one_walk.extract_in_one_walk.Goals as goal
 
 pub returns-in_default : goal.returns-in_default

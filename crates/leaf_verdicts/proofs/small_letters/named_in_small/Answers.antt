@@ -1,7 +1,7 @@
 -- `named_in_small`: the spatial names are those that have a line.
 use mathlib.Core.Path.{◌∙◌}
 use Rattle.definitions.specs.Filter.Names.{lower_case}
-use Rattle.leaf_verdicts.proofs.NameLaws.{spatial-line}
+use Rattle.leaf_verdicts.proofs.small_letters.NameLaws.{spatial-line}
 use Rattle.leaf_verdicts.proofs.small_letters.named_in_small.Goals as goal
 
 pub returns : goal.returns

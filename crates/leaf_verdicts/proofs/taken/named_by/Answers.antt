@@ -3,7 +3,7 @@ use lib.Dec.{leb, eqb}
 use mathlib.Core.Option as optional
 use borrow.Author.Tests.{eqb-true}
 use Rattle.definitions.specs.Filter.Verdicts as definitions
-use Rattle.leaf_verdicts.proofs.TakenLaws.{found, missing}
+use Rattle.leaf_verdicts.proofs.taken.TakenLaws.{found, missing}
 use Rattle.leaf_verdicts.proofs.taken.named_by.Goals as goal
 
 pub returns-in-Some : goal.returns-in-Some

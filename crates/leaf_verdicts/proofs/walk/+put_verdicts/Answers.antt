@@ -7,7 +7,7 @@ use Rattle.definitions.specs.Filter.Verdicts.{verdict_byte}
 use lib.ListN.{length}
 use Rattle.expression.proofs.Standing.{node-some}
 use Rattle.expression.proofs.AndLeaves.{leaves-some, single-leaf}
-use Rattle.leaf_verdicts.proofs.WalkLaws.{left-after, left-over, right-over, left-fits, part-fits, right-fits, both-put, leaf-put}
+use Rattle.leaf_verdicts.proofs.walk.WalkLaws.{left-after, left-over, right-over, left-fits, part-fits, right-fits, both-put, leaf-put}
 use Rattle.leaf_verdicts.proofs.walk.+put_verdicts.Goals as goal
 use Rattle.leaf_verdicts.proofs.walk.+put_verdicts.Goals.{After-put_verdicts-one}
 

@@ -2,7 +2,7 @@
 use Rattle.std.proofs.lemmas.Result.{err_from_is_err_and}
 use Rattle.logical_filter.specs.QuerySides.{query_side_is}
 use Rattle.frame_reader.proofs.Standing.{expr-stands}
-use Rattle.logical_filter.proofs.Naming.{logical-refuses, logical-finds}
+use Rattle.logical_filter.proofs.call.Naming.{logical-refuses, logical-finds}
 use Rattle.logical_filter.proofs.call.logical.Goals as goal
 
 pub returns-in_err-root : goal.returns-in_err-root

@@ -5,7 +5,7 @@ use Rattle.definitions.specs.Bytes.Encode.{expr_bytes}
 use Rattle.definitions.specs.Words.Expression.{Expr}
 use Rattle.terms.specs.declared.sides.JoinSide.TheVariants.{None}
 use Rattle.plan_writer.specs.Arguments.{written}
-use Rattle.plan_writer.proofs.ArgumentLaws.{kept-room, kept_put}
+use Rattle.plan_writer.proofs.arguments.ArgumentLaws.{kept-room, kept_put}
 use Rattle.plan_writer.proofs.arguments.reproject_column_references_for_side.Goals as goal
 use Rattle.plan_writer.proofs.arguments.reproject_column_references_for_side.Goals.{In_default, in_default-via-in-Some+else-ne, in_default-via-in_default}
 

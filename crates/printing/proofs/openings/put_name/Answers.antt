@@ -1,5 +1,5 @@
 -- `put_name`: the length between its marks, the name where that ended, and the bracket where the name did.
-use Rattle.printing.proofs.NameLaws.{name-put}
+use Rattle.printing.proofs.openings.NameLaws.{name-put}
 use Rattle.printing.proofs.openings.put_name.Goals as goal
 
 pub returns : goal.returns

@@ -1,5 +1,5 @@
 -- `collect_arguments`: a relation and KNN have two arguments, a distance a third.
-use Rattle.projection.proofs.PredicateLaws.{relation-two, knn-two, two-fit, two-collected, distance-three, distance-fits, bound-fits, three-collected}
+use Rattle.projection.proofs.plan_spots.PredicateLaws.{relation-two, knn-two, two-fit, two-collected, distance-three, distance-fits, bound-fits, three-collected}
 use Rattle.projection.proofs.plan_spots.collect_arguments.Goals as goal
 
 pub collect_both-requires : goal.collect_both-requires

@@ -3,7 +3,7 @@ use Prim.Native.Nat.{◌+◌, ◌*◌, ◌≤◌}
 use native.Mathlib.Omega.{arith}
 use lib.ListN.{length}
 use Rattle.projection.specs.Rows.{RecordsFit}
-use Rattle.projection.proofs.ExtractionLaws.{arguments-fit, records-fit, collected-nothing, collected-records}
+use Rattle.projection.proofs.plan_spots.ExtractionLaws.{arguments-fit, records-fit, collected-nothing, collected-records}
 use Rattle.projection.proofs.plan_spots.collect_extraction.Goals as goal
 use Rattle.projection.proofs.plan_spots.collect_extraction.Goals.{After-struct_known-1}
 

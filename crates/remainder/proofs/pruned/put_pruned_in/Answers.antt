@@ -4,7 +4,7 @@ use native.Mathlib.Omega.{arith}
 use mathlib.Core.Bool.{false}
 use lib.ListN.{length, replicate}
 use Rattle.remainder.proofs.RemainderLaws.{clear-rows}
-use Rattle.remainder.proofs.PrunedLaws.{plain-flagged, records-fit, records-end, expr-fits, frame-put}
+use Rattle.remainder.proofs.pruned.PrunedLaws.{plain-flagged, records-fit, records-end, expr-fits, frame-put}
 use Rattle.remainder.proofs.pruned.put_pruned_in.Goals as goal
 use Rattle.remainder.proofs.pruned.put_pruned_in.Given.{Over}
 use Rattle.remainder.proofs.pruned.put_pruned_in.Goals.{After-put_records-w}

@@ -16,7 +16,7 @@ use Rattle.node_rows.proofs.IndexLaws.{left-tabled, right-tabled}
 use Rattle.node_rows.proofs.OneTree.{of_tree}
 use Rattle.remainder.specs.Rests.{RestPut}
 use Rattle.remainder.proofs.RestLaws.{and-put}
-use Rattle.remainder.proofs.RestWalk.{lone-leaf, left_after, right-stands, right-fits, left-fits, head-fits}
+use Rattle.remainder.proofs.rests.RestWalk.{lone-leaf, left_after, right-stands, right-fits, left-fits, head-fits}
 use borrow.Enum.Refused.{opened}
 use Rattle.remainder.proofs.rests.+put_rest.Goals as goal
 use Rattle.remainder.proofs.rests.+put_rest.Goals.{After-end, After-put_rest-right, In-And}

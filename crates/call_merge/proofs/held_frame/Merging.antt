@@ -30,7 +30,7 @@ use Rattle.call_merge.specs.Given.{GivenFrame}
 use Rattle.call_merge.specs.Merges.{MergedIs}
 use Rattle.terms.specs.declared.refusals.Refusal.TheVariants.{BufferTooShort, MergedTooLarge, TableTooShort}
 use Rattle.call_answers.proofs.Refusing.{merge-ends, merge-call, outcome}
-use Rattle.call_merge.proofs.Standing.{table-there}
+use Rattle.call_merge.proofs.held_frame.Standing.{table-there}
 use Rattle.call_answers.proofs.Keeping.{held-is, plan-size, plan-length, kept, kept-length, kept-over}
 
 -- A good frame within the limits, of so many bytes.

@@ -23,6 +23,7 @@ use Rattle.definitions.specs.Calls.Explain.{new_verdicts, finish_explain, explai
 use Rattle.theorems.proofs.InverseFrame.{frame_back}
 use Rattle.theorems.proofs.Pick.{leaves-nodes}
 use Rattle.leaf_matching.specs.Frames.{Over}
+use Rattle.node_rows.specs.Rows.{NoRows}
 use Rattle.frame_reader.specs.Frames.{PhysicalIs}
 use Rattle.frame_reader.specs.declared.frame_bodies.Frame.{Frame}
 use Rattle.frame_reader.proofs.Standing.{between-holds, expr-stands}
@@ -90,7 +91,7 @@ module _ (S : Settings) (good : good_settings S ≡ true) (s before : List ℕ) 
 
 -- ---- a frame that was read
 
-module _ (s : List ℕ) {f : Frame} (h : PhysicalIs s (Ok f) (frame_of s)) where
+module _ (s : List ℕ) {f : Frame} (h : PhysicalIs s (Ok f) (frame_of s) NoRows) where
   -- Its expression stands there, with its records.
   pub read-over : Over s f.records f.root h.0.records h.0.expr
   read-over = record { entries = between-holds h.1.records; tree = expr-stands h.1.expr }

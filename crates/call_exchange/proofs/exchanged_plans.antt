@@ -1,0 +1,2 @@
+-- Laws of the proofs of `exchanged_plans` alone.
+mod HeldLaws

@@ -1,2 +1,0 @@
--- Laws that the proof uses.
-pub mod Explaining

@@ -1,0 +1,2 @@
+-- Laws of the proofs of `held_frame` alone.
+mod Extracting

@@ -1,0 +1,3 @@
+-- Laws of the proofs of `listing` alone.
+mod LeafList
+mod ListWalk

@@ -1,2 +1,0 @@
--- Laws that the proofs use.
-pub mod Loading

@@ -1,0 +1,3 @@
+-- Laws of the proofs of `held_frame` alone.
+mod Merging
+mod Standing

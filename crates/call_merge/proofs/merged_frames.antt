@@ -1,0 +1,2 @@
+-- Laws of the proofs of `merged_frames` alone.
+mod RaisedLaws

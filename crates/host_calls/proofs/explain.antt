@@ -1,0 +1,2 @@
+-- Laws of the proofs of `explain` alone.
+mod ExplainSmall

@@ -1,0 +1,2 @@
+-- Laws of the proofs of `distance` alone.
+mod DistanceLaws

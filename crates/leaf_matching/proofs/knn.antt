@@ -1,0 +1,2 @@
+-- Laws of the proofs of `knn` alone.
+mod KnnLaws

@@ -1,0 +1,2 @@
+-- Laws of the proofs of `relation` alone.
+mod RelationLaws

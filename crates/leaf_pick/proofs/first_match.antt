@@ -1,0 +1,2 @@
+-- Laws of the proofs of `first_match` alone.
+mod Defaults

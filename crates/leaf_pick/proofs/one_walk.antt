@@ -1,0 +1,2 @@
+-- Laws of the proofs of `one_walk` alone.
+mod Taking

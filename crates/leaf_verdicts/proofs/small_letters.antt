@@ -1,0 +1,2 @@
+-- Laws of the proofs of `small_letters` alone.
+mod NameLaws

@@ -1,0 +1,3 @@
+-- Laws of the proofs of `plan_spots` alone.
+mod ExtractionLaws
+mod PredicateLaws

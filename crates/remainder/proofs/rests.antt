@@ -1,0 +1,2 @@
+-- Laws of the proofs of `rests` alone.
+mod RestWalk
