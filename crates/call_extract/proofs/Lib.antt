@@ -1,4 +1,3 @@
 -- Laws that the proofs use: the extract of a frame and by a table.
-pub mod Collecting
 pub mod Tables
 pub mod Settling

@@ -1,4 +1,6 @@
 -- The loops over the row mark and renumber the columns of what is left, and the three copies write its bytes.
+mod LeftColumns
+mod PatchLaws
 use Rattle.std.specs.Prelude.{if◌then◌else◌, fold}
 use Prim.Native.Nat.{ℕ, ◌+◌, ◌/◌, ◌≤◌, ◌<◌}
 use native.Mathlib.Omega.{arith}
@@ -30,8 +32,8 @@ use Rattle.remainder.specs.Around.{outside, moved, Movable, LeftAt}
 use Rattle.remainder.specs.References.{marked}
 use Rattle.remainder.specs.Remainders.{PatchFits, Patched}
 use Rattle.remainder.proofs.CutLaws.{LeftOf, left-of, left-spans, Pieces, pieces}
-use Rattle.remainder.proofs.LeftColumns.{all-kept, fold-kept, all-mapped, not-in-leaf, LeftColumns, left-columns}
-use Rattle.remainder.proofs.PatchLaws.{put_index, put_indexes, renumbered}
+use Rattle.remainder.proofs.LeftCopies.LeftColumns.{all-kept, fold-kept, all-mapped, not-in-leaf, LeftColumns, left-columns}
+use Rattle.remainder.proofs.LeftCopies.PatchLaws.{put_index, put_indexes, renumbered}
 
 -- ---- what is known of what is left
 

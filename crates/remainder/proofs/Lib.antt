@@ -5,8 +5,6 @@ pub mod ReferenceWalk
 pub mod RestLaws
 pub mod FlagLaws
 pub mod CutLaws
-pub mod LeftColumns
-pub mod PatchLaws
 pub mod LeftCopies
 pub mod RemainderLaws
 pub mod LastLaws

@@ -1,5 +1,5 @@
 -- Each refusal is the definition's; a held frame, whose nodes are in the rows, is extracted, with the lent table or without one.
-use Rattle.call_extract.proofs.Collecting.{held-indexed}
+use Rattle.call_extract.proofs.call.Collecting.{held-indexed}
 use Rattle.call_extract.proofs.Settling.{not-held-by, extracted-by}
 use Rattle.call_extract.proofs.call.extract_held.Goals as goal
 

@@ -1,0 +1,2 @@
+-- Laws of the proofs of `call` alone.
+mod Collecting
