@@ -8,6 +8,7 @@ ghost use Rattle.node_rows.specs.Rows.{NoRows, TabledIfRoom};
 use super::call_heads::{Columns, Source};
 use super::reading_loop::read_node;
 use super::walk::{Walked, node};
+use node_rows::lengths::MOST_BYTES;
 use terms::refusals::Refusal;
 
 // An expression of depth at most 64, whose nodes go into the rows from `count` on, where these are so long.
@@ -24,7 +25,7 @@ pub fn expression_in(
         (TabledIfRoom numbers.new indexes.new) }
 {
     let source = Source { bytes: s, columns };
-    if s.len() <= 16384 {
+    if s.len() <= MOST_BYTES {
         read_node(numbers, indexes, source, at, count)
     } else {
         node(numbers, indexes, source, at, 64, count)

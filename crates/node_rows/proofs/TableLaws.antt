@@ -40,25 +40,6 @@ pub collected-tabled : {at i : ℕ} {numbers next numbered followed : List ℕ} 
 collected-tabled room space short is =
     record { numbered = wrote-holds room is.own; followed = wrote-holds space is.after; short = short }
 
--- Another row that begins alike holds the same nodes.
-pub same-tabled : {own row next : List ℕ} {at : ℕ} {t : Expr} (count : ℕ) → nodes t ≤ count → take count own ≡ take count row
-    → Tabled own next at 0 t → Tabled row next at 0 t
-same-tabled {own} {row} {next} {at} {t} count few same h =
-    let x : List ℕ = numbers_from at t in
-    let long : length x ≤ count = omega (arith, numbers-length at t) in
-    let begins : take (length x) row ≡ x =
-    sym (take-take (length x) count row long) ∙ ap (take (length x)) (sym same) ∙ take-take (length x) count own long
-    ∙ taken h.numbered in
-    record {
-      numbered = record {
-        rest = drop (length x) row;
-        bytes = sym (take-append-drop (length x) row) ∙ ap (λ (l : List ℕ). l ++ drop (length x) row) begins;
-        within = omega arith;
-      };
-      followed = h.followed;
-      short = h.short;
-    }
-
 -- ---- numbers tell records apart
 
 -- Another record has another number.

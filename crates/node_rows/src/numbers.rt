@@ -1,7 +1,7 @@
 // A node as one number: its kind times 2^29, its start times 2^15, and its end.
 ghost use Rattle.std.specs.Prelude.{◌<◌, ◌≤◌, ◌≡◌, length};
 ghost use Rattle.node_rows.specs.Numbers.{number};
-ghost use Rattle.node_rows.specs.Stores.{SameIs, Storable, Stored};
+ghost use Rattle.node_rows.specs.Stores.{Storable, Stored};
 
 use super::collecting::Passed;
 
@@ -30,13 +30,4 @@ pub fn put_node(
         numbers[i] = node_number(kind, start, passed.end);
         next[i] = passed.index as u16;
     }
-}
-
-// Whether the first `count` numbers are equal. The library compares several at once.
-#[tactic(auto, using(crate::proofs::NumberLaws::same_by_eq))]
-pub fn same_numbers(a: &[u32], b: &[u32], count: usize) -> bool
-    requires { (count ≤ length a.now) × (count ≤ length b.now) }
-    ensures { SameIs a.now b.now count result }
-{
-    a[..count] == b[..count]
 }

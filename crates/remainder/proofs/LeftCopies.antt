@@ -1,5 +1,4 @@
 -- The loops over the row mark and renumber the columns of what is left, and the three copies write its bytes.
-mod LeftColumns
 mod PatchLaws
 use Rattle.std.specs.Prelude.{if◌then◌else◌, fold}
 use Prim.Native.Nat.{ℕ, ◌+◌, ◌/◌, ◌≤◌, ◌<◌}
@@ -32,7 +31,7 @@ use Rattle.remainder.specs.Around.{outside, moved, Movable, LeftAt}
 use Rattle.remainder.specs.References.{marked}
 use Rattle.remainder.specs.Remainders.{PatchFits, Patched}
 use Rattle.remainder.proofs.CutLaws.{LeftOf, left-of, left-spans, Pieces, pieces}
-use Rattle.remainder.proofs.LeftCopies.LeftColumns.{all-kept, fold-kept, all-mapped, not-in-leaf, LeftColumns, left-columns}
+use Rattle.remainder.proofs.LeftColumns.{all-kept, fold-kept, all-mapped, not-in-leaf, LeftColumns, left-columns}
 use Rattle.remainder.proofs.LeftCopies.PatchLaws.{put_index, put_indexes, renumbered}
 
 -- ---- what is known of what is left

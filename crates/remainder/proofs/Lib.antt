@@ -5,6 +5,7 @@ pub mod ReferenceWalk
 pub mod RestLaws
 pub mod FlagLaws
 pub mod CutLaws
+pub mod LeftColumns
 pub mod LeftCopies
 pub mod RemainderLaws
 pub mod LastLaws

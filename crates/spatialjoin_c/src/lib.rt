@@ -2,7 +2,8 @@
 // declares it. Each answer is a number of 64 bits; the buffers are as the definitions' calls leave them.
 #![tactic(auto)]
 
-ghost use Rattle.std.specs.Prelude.{◌≡◌, pos};
+ghost use Rattle.std.specs.Prelude.{◌/◌, ◌≤◌, ◌≡◌, min, length, pos};
+ghost use Rattle.definitions.specs.Words.Limits.{most_nodes};
 ghost use Rattle.definitions.specs.Calls.Base as definitions;
 ghost use Rattle.host_calls.specs.Hosts.{hosted_names};
 ghost use Rattle.definitions.specs.Calls.Logical as logicals;
@@ -27,18 +28,34 @@ use host_calls::project::project_number;
 use host_calls::put::put_call_number;
 use host_calls::serve::serve_number;
 use host_calls::settings::host_settings;
-use node_rows::lengths::MOST_NODES;
+use node_rows::lengths::{MIDDLE_BYTES, MIDDLE_NODES, MOST_NODES, SHORT_BYTES, SHORT_NODES};
 use node_table::{NodeRecord, fill_table, put_nodes};
 
-// Loads a frame as the new plan and fills the table with its nodes; reads nothing of what both held.
+// A load with a row of N places for the numbers of the frame's nodes, which are no more.
+fn load_by<const N: usize>(frame: &[u8], plan: &mut [u8], table: &mut [NodeRecord]) -> i64
+    requires { (min most_nodes (length frame.now / 3) ≤ N) × (N ≤ most_nodes) }
+    ensures { LoadHosted frame.now plan.old plan.new (nodes_of table.old)
+        (nodes_of table.new) result }
+{
+    let mut row = [0; N];
+    let loaded = load_core::<N>(&mut row, frame, plan, table.len());
+    put_nodes(table, &row, loaded.count);
+    loaded.answer
+}
+
+// Loads a frame as the new plan and fills the table with its nodes; reads nothing of what both held. Short rows are
+// enough for a short frame, and the longer ones cost more to clear than such a frame to read.
 pub fn spatialjoin_load(frame: &[u8], plan: &mut [u8], table: &mut [NodeRecord]) -> i64
     ensures { LoadHosted frame.now plan.old plan.new (nodes_of table.old)
         (nodes_of table.new) result }
 {
-    let mut row = [0; MOST_NODES];
-    let loaded = load_core(&mut row, frame, plan, table.len());
-    put_nodes(table, &row, loaded.count);
-    loaded.answer
+    if frame.len() <= SHORT_BYTES {
+        load_by::<SHORT_NODES>(frame, plan, table)
+    } else if frame.len() <= MIDDLE_BYTES {
+        load_by::<MIDDLE_NODES>(frame, plan, table)
+    } else {
+        load_by::<MOST_NODES>(frame, plan, table)
+    }
 }
 
 // Pulls the predicate out of the plan in the first n bytes, by the table of the nodes of the frame that is held. The settings are the kinds

@@ -7,21 +7,21 @@ use Rattle.call_load.proofs.load_row.Answers.Loading.{load-refuses, load-short, 
 use Rattle.call_load.proofs.load_row.Goals as goal
 
 pub returns-in_err-f : goal.returns-in_err-f
-returns-in_err-f c =
+returns-in_err-f g c =
     rw (kept c.from_residual.ensures) (load-refuses _ _ _ _ c.in_err-f.ensures, tt)
 
 pub returns-then-plan-length : goal.returns-then-plan-length
-returns-then-plan-length c =
+returns-then-plan-length g c =
     let good = c.in_ok-f.ensures in
     (load-short _ _ _ good.0 good.2 c.if-plan-length.true, tt)
 
 pub returns-then-held-count : goal.returns-then-held-count
-returns-then-held-count c =
+returns-then-held-count g c =
     let good = c.in_ok-f.ensures in
     (load-untabled _ _ _ good.0 good.2 c.if-plan-length.false (omega (arith, good.1.sized, c.if-held-count.true)), tt)
 
 pub returns : goal.returns
-returns c =
+returns g c =
     let good = c.in_ok-f.ensures in
     let a = c.args in (
       load-copies a.frame.now a.plan.now a.held good.0 good.2 c.if-plan-length.false _ good.1

@@ -6,15 +6,15 @@ use mir.Val.{SFits}
 use mir.Facts.{to_z-of_z}
 use Rattle.node_table.specs.Records.{node_of, nodes_of}
 use Rattle.host_calls.proofs.CoreLaws.{load-asks, load-fills}
-use Rattle.spatialjoin_c.proofs.spatialjoin_load.Goals as goal
+use Rattle.spatialjoin_c.proofs.load_by.Goals as goal
 
 pub put_nodes-requires : goal.put_nodes-requires
-put_nodes-requires c =
+put_nodes-requires g c =
     let core = c.load_core-loaded in
     ((load-asks _ _ _ core.result (nodes_of c.args.table.now) (length-map c.args.table.now node_of) core.ensures.0).0, core.ensures.1.0)
 
 pub returns : goal.returns
-returns c =
+returns g c =
     let core = c.load_core-loaded in
     let fits : SFits w64 core.result.answer = search rules in
     simp to_z-of_z (load-fills _ _ _ core.result (nodes_of c.args.table.now) (length-map c.args.table.now node_of) core.ensures.0 _ core.ensures.1
