@@ -1,6 +1,6 @@
-// Fields: a byte, a number of some width, a byte in a range, a side, a name. Each reader gives what it read and the place after it. That the place
-// is within the bytes is a clause of each reader: with a ghost field of bytes and place, which was tried, each answer has to promise the
-// same bytes again.
+// Fields: a byte, a number of some width, a byte in a range, a side, a name. Each reader gives what it read and the place after it. That
+// the place is within the bytes is a clause of each reader: with a ghost field of bytes and place, which was tried, each answer has to
+// promise the same bytes again.
 ghost use Rattle.std.specs.Prelude.{◌≡◌, ◌≤◌, length};
 ghost use Rattle.definitions.specs.Bytes.Decode as decode;
 ghost use Rattle.definitions.specs.Bytes.Readers as readers;
