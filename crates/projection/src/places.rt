@@ -87,8 +87,6 @@ pub fn fill_places(heads: &mut [u16], nexts: &mut [u16], sought: &[bool], items:
 }
 
 // By the chains, or where there are none of the list itself. (As a closure that its callers take, the clause would be said at each.)
-// Inlined, since it is asked for every child index, and its caller says which of the two it is.
-#[inline(always)]
 pub fn place_in(items: &[u16], chains: Option<Chains>, index: u16) -> Option<usize>
     requires { Sought items.now chains index }
     ensures { place_of result ≡ place_in items.now index }
