@@ -43,7 +43,8 @@ fn position_in(items: &[u16], index: u16) -> Option<usize>
     items.iter().position(|item| *item == index)
 }
 
-// By a search of the list: block by block, and then of what is left.
+// By a search of the list: block by block, and then of what is left. Inlined, for lists that are shorter than a block.
+#[inline(always)]
 fn first_place(items: &[u16], index: u16) -> Option<usize>
     ensures { place_of result ≡ place_in items.now index }
 {
@@ -87,6 +88,8 @@ pub fn fill_places(heads: &mut [u16], nexts: &mut [u16], sought: &[bool], items:
 }
 
 // By the chains, or where there are none of the list itself. (As a closure that its callers take, the clause would be said at each.)
+// Inlined, since it is asked for every child index, and its caller says which of the two it is.
+#[inline(always)]
 pub fn place_in(items: &[u16], chains: Option<Chains>, index: u16) -> Option<usize>
     requires { Sought items.now chains index }
     ensures { place_of result ≡ place_in items.now index }

@@ -45,14 +45,12 @@ fn mark_sought(sought: &mut [bool], row: &[u32], side: JoinSide)
     }
 }
 
-// Where few places are sought or the list is short, the list is searched for each; else its chains are filled first with what is sought.
-pub fn find_places(row: &mut [u32], side: JoinSide, items: &[u16]) -> bool
+// By chains, which are first filled with what is sought. A function of its own, so that a short list needs none of their memory.
+#[inline(never)]
+fn find_by_chains(row: &mut [u32], side: JoinSide, items: &[u16]) -> bool
     requires { length items.now ≤ most_items }
     ensures { PlacedIs (side_number (join_side side)) items.now row.old row.new result }
 {
-    if row.len() <= 16 || items.len() <= 16 {
-        return put_child_places(row, side, items, None);
-    }
     let mut heads = [0u16; 1024];
     let mut nexts = [0u16; 4096];
     let mut sought = [false; 4096];
@@ -63,4 +61,15 @@ pub fn find_places(row: &mut [u32], side: JoinSide, items: &[u16]) -> bool
         nexts: &nexts,
     };
     put_child_places(row, side, items, Some(chains))
+}
+
+// Where few places are sought or the list is short, the list is searched for each.
+pub fn find_places(row: &mut [u32], side: JoinSide, items: &[u16]) -> bool
+    requires { length items.now ≤ most_items }
+    ensures { PlacedIs (side_number (join_side side)) items.now row.old row.new result }
+{
+    if row.len() <= 16 || items.len() <= 16 {
+        return put_child_places(row, side, items, None);
+    }
+    find_by_chains(row, side, items)
 }

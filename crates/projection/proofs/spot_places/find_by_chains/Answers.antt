@@ -1,7 +1,7 @@
--- `find_places`: with no chains the list is searched; else the chains are filled from rows of nothing but 0.
+-- `find_by_chains`: the chains are filled from rows of nothing but 0.
 use mathlib.Core.Path.{refl}
 use Rattle.projection.proofs.ChainLaws.{zeros-unfilled}
-use Rattle.projection.proofs.spot_places.find_places.Goals as goal
+use Rattle.projection.proofs.spot_places.find_by_chains.Goals as goal
 
 pub fill_places-requires-clause-unfilled : goal.fill_places-requires-clause-unfilled
 fill_places-requires-clause-unfilled c =
