@@ -71,7 +71,7 @@ pub record Left (c : Columns) (s numbers indexes : List ℕ) (place i : ℕ) (ts
 
 module _ {c : Columns} {s numbers indexes : List ℕ} {place i : ℕ} where
   -- Past an And, its two children and what came after it.
-  left-into : {l r : Expr} {ts : Exprs} → Left c s numbers indexes place i (cons (and l r) ts)
+  pub left-into : {l r : Expr} {ts : Exprs} → Left c s numbers indexes place i (cons (and l r) ts)
       → Left c s numbers indexes (place + 2) (i + 1) (cons l (cons r ts))
   unfolding expr_bytes exprs_bytes nodes_from row_from nexts_from row_nexts nodes count
   left-into {l} {r} {ts} h =
@@ -109,13 +109,13 @@ module _ {c : Columns} {s numbers indexes : List ℕ} {place i : ℕ} where
       }
 
   -- Past all of an expression, what came after it.
-  left-past : {t : Expr} {ts : Exprs} → Left c s numbers indexes place i (cons t ts) → (k : ℕ) → k ≡ i + nodes t
+  pub left-past : {t : Expr} {ts : Exprs} → Left c s numbers indexes place i (cons t ts) → (k : ℕ) → k ≡ i + nodes t
       → Left c s numbers indexes (place + length (expr_bytes t)) k ts
   unfolding count
   left-past {t} {ts} h k e =
       record { row = rest-stands h.row _ (count ts) refl refl; tabled = tabled-rest h.tabled _ k refl e }
 
-  listed : {t : Expr} {ts : Exprs} → Left c s numbers indexes place i (cons t ts)
+  pub listed : {t : Expr} {ts : Exprs} → Left c s numbers indexes place i (cons t ts)
       → Listed s numbers indexes i × Stands c s (start_at numbers i) t
   listed {t} h =
       let one = tabled-first h.tabled in
@@ -135,7 +135,7 @@ pub record Checking (s numbers indexes : List ℕ) (first end i : ℕ) : Type 0 
   pub ends : i + nodes_all left ≡ end
   pub rest : OfTree s (start_at numbers first) (λ t. arity t ≡ arity_all left)
 
-some_left : (P : Exprs → Type 0) → ((t : Expr) (ts : Exprs) → P (cons t ts)) → (ts : Exprs) → 0 < nodes_all ts → P ts
+pub some_left : (P : Exprs → Type 0) → ((t : Expr) (ts : Exprs) → P (cons t ts)) → (ts : Exprs) → 0 < nodes_all ts → P ts
 unfolding nodes
 some_left P f nil h = absurd (omega arith)
 some_left P f (cons t ts) h = f t ts
@@ -146,7 +146,7 @@ none-left nil e = refl
 none-left (cons t ts) e = absurd (omega (arith, nodes-below t))
 
 -- At first all is left.
-alone : {c : Columns} {s numbers indexes : List ℕ} {at first : ℕ} {t : Expr} → Stands c s at t → Tabled numbers indexes at first t
+pub alone : {c : Columns} {s numbers indexes : List ℕ} {at first : ℕ} {t : Expr} → Stands c s at t → Tabled numbers indexes at first t
     → Left c s numbers indexes at first (cons t nil)
 unfolding exprs_bytes row_from row_nexts count
 alone {s = s} {numbers} {indexes} {at} {first} {t} stands h = record {

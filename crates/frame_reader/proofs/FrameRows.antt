@@ -6,7 +6,8 @@ use mathlib.Core.Bool.{Bool}
 use mathlib.Core.List.{List}
 use lib.ListN.{length, replicate, length-replicate}
 use Rattle.definitions.specs.Words.Expression as tree
-use Rattle.definitions.specs.Bytes.Decode.{frame_body}
+use Rattle.definitions.specs.Words.Expression.{Expr}
+use Rattle.definitions.specs.Bytes.Decode.{Columns, frame_body}
 use Rattle.definitions.specs.Bytes.Good.{nodes}
 use Rattle.definitions.specs.Words.Leaves.{arity}
 use Rattle.definitions.specs.Bytes.Readers.{read, byte}
@@ -18,6 +19,7 @@ use Rattle.node_rows.proofs.IndexLaws.{indexed}
 use Rattle.node_rows.proofs.NodeBytes.{nodes-by-bytes}
 use Rattle.node_rows.proofs.OneTree.{of_tree}
 use Rattle.node_reader.specs.Nodes.{LentRows}
+use Rattle.node_reader.specs.Places.{ExprAt}
 use Rattle.theorems.proofs.ReaderLaws.{step}
 use Rattle.theorems.proofs.InverseFrame.{opened}
 use Rattle.frame_reader.specs.declared.frame_bodies.Frame.{Frame}
@@ -35,22 +37,17 @@ module _ {s numbers indexes : List ℕ} (room : Roomy s numbers indexes) where
   pub roomy-lent : length s ≤ 16384 → LentRows s numbers indexes
   roomy-lent short = record { long = room.long; short = λ some. short }
 
-  -- A node has three bytes at least.
+  -- A node has three bytes at least: what was read is in the rows.
+  pub read-tabled : {numbered indexed₁ : List ℕ} → length numbered ≡ length numbers → {c : Columns} {root end count : ℕ} {e : Expr}
+      → ExprAt c s root end e → count ≡ nodes e → count ≤ 1024 → TabledIfRoom numbered indexed₁ root 0 e → Tabled numbered indexed₁ root 0 e
+  read-tabled same {c} {e = e} at counted few tabled =
+      tabled
+      (omega (arith, room.room, same, nodes-by-bytes c e at.readable.in_range, at.bytes.ends, at.bytes.within, counted, few))
+
   pub body-tabled : {numbered indexed₁ : List ℕ} → length numbered ≡ length numbers → (at : ℕ) (b : Counted Frame)
       → (body : BodyIs s at 0 (Ok b) frame_body (TabledIfRoom numbered indexed₁)) → Tabled numbered indexed₁ b.read.root 0 body.1.expr
   body-tabled same at b body =
-      let stands = body.3.expr in
-      body.6 (omega (
-        arith,
-        room.room,
-        same,
-        nodes-by-bytes (length body.1.records) body.1.expr stands.readable.in_range,
-        stands.bytes.ends,
-        stands.bytes.within,
-        body.3.sized,
-        body.4,
-        body.5,
-      ))
+      read-tabled same body.3.expr (omega (arith, body.3.sized, body.4)) body.5 body.6
 
 -- The expression of a frame by its index, for the test of its arity, and what that says of it.
 module _ {s numbers indexes : List ℕ} {f : Frame} {end : ℕ} {F : tree.Frame} (stands : FrameAt s f end F)

@@ -54,7 +54,7 @@ abbrev pub PhysicalIs : List ℕ → Result Frame Refusal → basics.Result tree
 PhysicalIs s (Ok f) result rows = (F : tree.Frame) × FrameAt s f (length s) F × (result ≡ ok F) × rows f.root 0 F.expr
 PhysicalIs s (Err why) result rows = result ≡ refused (number_of why)
 
--- A whole logical frame: where its expression starts.
-abbrev pub LogicalIs : List ℕ → Result ℕ Refusal → basics.Result tree.Expr → Type 0
-LogicalIs s (Ok root) result = (e : tree.Expr) × ExprAt fields s root (length s) e × (result ≡ ok e)
-LogicalIs s (Err why) result = result ≡ refused (number_of why)
+-- A whole logical frame: where its expression starts, and what is claimed of rows that may hold its nodes.
+abbrev pub LogicalIs : List ℕ → Result ℕ Refusal → basics.Result tree.Expr → (rows : (at i : ℕ) → tree.Expr → Type 0) → Type 0
+LogicalIs s (Ok root) result rows = (e : tree.Expr) × ExprAt fields s root (length s) e × (result ≡ ok e) × rows root 0 e
+LogicalIs s (Err why) result rows = result ≡ refused (number_of why)

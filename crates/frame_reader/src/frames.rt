@@ -8,7 +8,7 @@ ghost use Rattle.frame_reader.specs.Frames.{Roomy, PhysicalIs, LogicalIs};
 use super::by_rows::arity_by_rows;
 use super::frame_bodies::{Frame, frame_body_in, opened};
 use node_reader::call_heads::Columns;
-use node_reader::expressions::expression;
+use node_reader::expressions::expression_in;
 use node_rows::lengths::{MIDDLE_BYTES, MIDDLE_NODES, MOST_NODES, SHORT_BYTES, SHORT_NODES};
 use node_rows::rows::Rows;
 use terms::refusals::Refusal;
@@ -62,12 +62,14 @@ pub fn physical_frame(s: &[u8]) -> Result<Frame, Refusal>
     }
 }
 
-// A whole logical frame: where its expression starts.
-pub fn logical_frame(s: &[u8]) -> Result<usize, Refusal>
-    ensures { LogicalIs s.now result (plans.logical_of s.now) }
+// A whole logical frame, whose nodes go into the rows: where its expression starts.
+pub fn logical_frame(numbers: &mut [u32], indexes: &mut [u16], s: &[u8]) -> Result<usize, Refusal>
+    requires { Roomy s.now numbers.old indexes.old }
+    ensures { LogicalIs s.now result (plans.logical_of s.now)
+        (Tabled numbers.new indexes.new) }
 {
     let root = opened(s, 2)?;
-    let walked = expression(s, root, 0, Columns::Fields)?;
+    let walked = expression_in(numbers, indexes, s, root, 0, Columns::Fields)?;
     if walked.next != s.len() {
         return Err(Refusal::BytesAfterEnd);
     }

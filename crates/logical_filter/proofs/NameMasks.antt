@@ -73,7 +73,7 @@ eqb-sym : (a b : ℕ) (t : Bool) → eqb a b ≡ t → eqb b a ≡ t
 eqb-sym a b true e = eq-eqb b a (sym (eqb-true a b e))
 eqb-sym a b false e = ne_eqb b a (λ f. eqb-false a b e (sym f))
 
-same-sym : (a b : List ℕ) → same_name a b ≡ same_name b a
+pub same-sym : (a b : List ℕ) → same_name a b ≡ same_name b a
 unfolding same_name
 same-sym [] [] = refl
 same-sym [] (y ∷ b) = refl

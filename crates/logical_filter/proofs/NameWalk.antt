@@ -1,32 +1,25 @@
--- The names of AND-leaves: what each return of the walk over them answers.
+-- The name of one AND-leaf, and its bit.
 use Rattle.std.specs.Prelude.{if◌then◌else◌}
-use Prim.Native.Nat.{ℕ, ◌+◌}
-use mathlib.Core.Path.{◌≡◌, refl, sym, ap, ap₂, ◌∙◌}
+use Prim.Native.Nat.{ℕ}
+use mathlib.Core.Path.{◌≡◌, refl, sym, ap, ◌∙◌}
 use mathlib.Core.Bool.{Bool, false}
-use mathlib.Core.List.{List, [], ◌∷◌, map, map-append}
-use lib.ListN.{length}
-use lib.Bits.{bit_or}
+use mathlib.Core.List.{List, [], ◌∷◌}
 use Rattle.definitions.specs.Words.Basics.{ascii, same_name, any}
-use Rattle.definitions.specs.Words.Expression.{Expr, and, binary, nil, cons}
-use Rattle.definitions.specs.Bytes.Encode.{expr_bytes, exprs_bytes}
+use Rattle.definitions.specs.Words.Expression.{Expr, binary}
 use Rattle.definitions.specs.Words.Leaves.{leaves, no_comparison, comparison}
 use Rattle.definitions.specs.Bytes.Decode.{Columns}
 use Rattle.definitions.specs.Filter.Names.{lower_case, spatial_names, function_name, comparison_name, leaf_name, mask}
 use Rattle.theorems.proofs.Cases.{each}
 use Rattle.expression.specs.Places.{part}
-use Rattle.expression.specs.Nodes.{kind_of, Stands, OfTree, OfTrees}
+use Rattle.expression.specs.Nodes.{kind_of, Stands}
 use Rattle.expression.specs.Leaves.{NodeIs, Both, CallIs, PlainNode, plain_column, plain_literal, plain_other, plain_field}
 use Rattle.expression.specs.declared.leaves.Called.{Called}
 use Rattle.expression.specs.declared.leaves.Node.{Node}
 use Rattle.expression.specs.declared.leaves.Node.TheVariants.{And, Binary, Call, Plain}
 use Rattle.expression.proofs.LeafLaws.{no-call}
 use mathlib.Core.Logic.{inl, inr}
-use Rattle.expression.proofs.Parts.{left-stands, right-stands, both_ends, both_end, call-end}
-use Rattle.sedona_expr.specs.Parsed.{BothSides}
-use Rattle.logical_filter.specs.Logicals.{NamesAre}
-use Rattle.logical_filter.specs.declared.predicate_names.CollectedNames.{CollectedNames}
-use Rattle.expression.proofs.AndLeaves.{and-leaves, binary-leaf, call-leaf, plain-leaf}
-use Rattle.logical_filter.proofs.NameMasks.{mask_append}
+use Rattle.sedona_expr.specs.Parsed.{SidesOf}
+use Rattle.expression.proofs.AndLeaves.{binary-leaf, call-leaf}
 
 -- ---- the name of one leaf
 
@@ -52,7 +45,7 @@ pub small-name : {c : Columns} {s : List ℕ} {at : ℕ} {k : Called} {t : Expr}
 unfolding function_name
 small-name b = ap lower_case b.stands.spelling ∙ ap function_name (sym b.is)
 
-plain-name : {t : Expr} → PlainNode t → leaf_name t ≡ []
+pub plain-name : {t : Expr} → PlainNode t → leaf_name t ≡ []
 unfolding leaf_name
 plain-name plain_column = refl
 plain-name plain_literal = refl
@@ -73,49 +66,32 @@ module _ (operator : ℕ) (l r : Expr) where
   unfolding leaf_name comparison_name
   compares-nothing e = ap comparison_name e
 
-  pub compares-side : {c : Columns} {s : List ℕ} {measured bound : ℕ} (sides : BothSides c s measured bound (comparison operator l r))
+  pub compares-side : {P : ℕ → Expr → Type 0} {measured bound : ℕ} (sides : SidesOf P measured bound (comparison operator l r))
       (same : Bool)
       → same ≡ same_name (function_name sides.m) (ascii "st_distance")
       → leaf_name (binary operator l r) ≡ (if same then ascii "st_dwithin" else [])
   unfolding leaf_name comparison_name
   compares-side sides same e = ap comparison_name sides.is ∙ rw (← e)
 
--- ---- the walk
+-- ---- its bit
 
--- The names of one leaf are those of the node.
-leaf-names : (t : Expr) {e : Expr} {end stop : ℕ} {r : CollectedNames} → leaves t ≡ e ∷ [] → end ≡ stop → NamesAre (leaf_name e ∷ []) end r
-    → NamesAre (map leaf_name (leaves t)) stop r
-leaf-names t one same h = rw (one, ← same) h
-
-pub plain-names : {t : Expr} → PlainNode t → (at next : ℕ) → next ≡ at + length (expr_bytes t)
-    → NamesAre (map leaf_name (leaves t)) (at + length (expr_bytes t)) (record { mask = 0; next = next })
-plain-names {t} p at next e = leaf-names t (plain-leaf p) refl (record { names = unnamed (plain-name p); next = e })
+pub plain-bit : {t : Expr} → PlainNode t → 0 ≡ mask spatial_names (leaf_name t ∷ [])
+plain-bit p = unnamed (plain-name p)
 
 module _ {c : Columns} {s : List ℕ} {at : ℕ} {t : Expr} where
-  pub binary-names : {operator first : ℕ} (b : Both (binary operator) c s at first t) {r : CollectedNames}
-      → NamesAre (leaf_name (binary operator b.l b.r) ∷ []) (first + length (exprs_bytes (cons b.l (cons b.r nil)))) r
-      → NamesAre (map leaf_name (leaves t)) (at + length (expr_bytes t)) r
-  binary-names b h = leaf-names t (binary-leaf b) (both_end b _ refl) h
+  module _ {operator first : ℕ} (b : Both (binary operator) c s at first t) where
+    pub binary-alone : leaves t ≡ t ∷ []
+    binary-alone = binary-leaf b ∙ ap (λ (e : Expr). e ∷ []) (sym b.is)
 
-  pub call-names : {k : Called} (b : CallIs c s at k t) (bits next : ℕ)
-      → bits ≡ mask spatial_names (lower_case (part s k.name k.end) ∷ [])
-      → OfTrees s k.first k.count (λ ts. next ≡ k.first + length (exprs_bytes ts))
-      → NamesAre (map leaf_name (leaves t)) (at + length (expr_bytes t)) (record { mask = bits; next = next })
-  unfolding leaf_name
-  call-names b bits next e end = leaf-names t (call-leaf b) refl (record {
-    names = e ∙ ap (λ (n : List ℕ). mask spatial_names (lower_case n ∷ [])) b.stands.spelling;
-    next = call-end b next (end c b.arguments b.stands.row);
-  })
+    pub binary-bit : mask spatial_names (leaf_name (binary operator b.l b.r) ∷ []) ≡ mask spatial_names (leaf_name t ∷ [])
+    binary-bit = ap (λ (e : Expr). mask spatial_names (leaf_name e ∷ [])) (sym b.is)
 
-  pub both-names : {first : ℕ} → Both and c s at first t → (x y : CollectedNames)
-      → OfTree s first (λ l. NamesAre (map leaf_name (leaves l)) (first + length (expr_bytes l)) x)
-      → OfTree s x.next (λ r. NamesAre (map leaf_name (leaves r)) (x.next + length (expr_bytes r)) y)
-      → NamesAre (map leaf_name (leaves t)) (at + length (expr_bytes t)) (record { mask = bit_or x.mask y.mask; next = y.next })
-  both-names {first = first} b x y h k =
-      let ends : OfTree s first (λ l. x.next ≡ first + length (expr_bytes l)) = λ d l st. (h d l st).next in
-      record {
-        names = ap₂ bit_or (h c b.l (left-stands b)).names (k c b.r (right-stands b x.next ends)).names
-            ∙ sym (mask_append spatial_names (map leaf_name (leaves b.l)) (map leaf_name (leaves b.r)))
-            ∙ ap (mask spatial_names) (sym (map-append leaf_name (leaves b.l) (leaves b.r)) ∙ ap (map leaf_name) (sym (and-leaves b)));
-        next = both_ends b x.next y.next ends (λ d r st. (k d r st).next);
-      }
+  module _ {k : Called} (b : CallIs c s at k t) where
+    pub call-alone : leaves t ≡ t ∷ []
+    call-alone = call-leaf b ∙ ap (λ (e : Expr). e ∷ []) (sym b.is)
+
+    pub call-bit : mask spatial_names (lower_case (part s k.name k.end) ∷ []) ≡ mask spatial_names (leaf_name t ∷ [])
+    unfolding leaf_name
+    call-bit =
+        ap (λ (n : List ℕ). mask spatial_names (lower_case n ∷ [])) b.stands.spelling
+        ∙ ap (λ (e : Expr). mask spatial_names (leaf_name e ∷ [])) (sym b.is)

@@ -1,11 +1,15 @@
 // The call logical.
-ghost use Rattle.std.specs.Prelude.{◌≡◌};
+ghost use Rattle.std.specs.Prelude.{◌≡◌, ◌≤◌, ◌/◌, min, length};
+ghost use Rattle.definitions.specs.Words.Limits.{most_nodes};
 ghost use Rattle.definitions.specs.Calls.Logical as definitions;
+ghost use Rattle.frame_reader.specs.Frames.{Roomy};
 ghost use Rattle.logical_filter.specs.Found.{names_of};
 
 use super::knn_query_side::{KNNJoinQuerySide, find_knn_query_side};
 use super::predicate_names::{PredicateNames, collect_spatial_predicate_names};
 use frame_reader::frames::logical_frame;
+use node_rows::lengths::{MIDDLE_BYTES, MIDDLE_NODES, MOST_NODES, SHORT_BYTES, SHORT_NODES};
+use node_rows::rows::Rows;
 use terms::refusals::Refusal;
 
 // The names of a logical filter and its KNN query side.
@@ -15,12 +19,44 @@ pub struct Names {
     pub side: KNNJoinQuerySide,
 }
 
-// Reads a logical frame; there is no plan and nothing is written.
+// The names and the query side of a frame whose nodes go into the rows.
+fn logical_in(numbers: &mut [u32], indexes: &mut [u16], frame: &[u8]) -> Result<Names, Refusal>
+    requires { Roomy frame.now numbers.old indexes.old }
+    ensures { names_of result ≡ definitions.logical frame.now }
+{
+    logical_frame(numbers, indexes, frame)?;
+    let rows = Rows {
+        numbers,
+        next: indexes,
+    };
+    let all = collect_spatial_predicate_names(frame, rows);
+    let found = PredicateNames {
+        mask: all.mask,
+        names: all.mask.count_ones(),
+    };
+    let side = find_knn_query_side(frame, rows, all.knn);
+    Ok(Names { found, side })
+}
+
+// The same by rows of N places on the stack, of which the frame's nodes need no more.
+fn logical_by<const N: usize>(frame: &[u8]) -> Result<Names, Refusal>
+    requires { (min most_nodes (length frame.now / 3) ≤ N) × (N ≤ most_nodes) }
+    ensures { names_of result ≡ definitions.logical frame.now }
+{
+    let mut numbers = [0u32; N];
+    let mut indexes = [0u16; N];
+    logical_in(&mut numbers, &mut indexes, frame)
+}
+
+// Reads a logical frame; there is no plan and nothing is written. Short rows are enough for a short frame.
 pub fn logical(frame: &[u8]) -> Result<Names, Refusal>
     ensures { names_of result ≡ definitions.logical frame.now }
 {
-    let root = logical_frame(frame)?;
-    let found = collect_spatial_predicate_names(frame, root);
-    let side = find_knn_query_side(frame, root);
-    Ok(Names { found, side })
+    if frame.len() <= SHORT_BYTES {
+        logical_by::<SHORT_NODES>(frame)
+    } else if frame.len() <= MIDDLE_BYTES {
+        logical_by::<MIDDLE_NODES>(frame)
+    } else {
+        logical_by::<MOST_NODES>(frame)
+    }
 }

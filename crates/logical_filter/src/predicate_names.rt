@@ -1,19 +1,20 @@
 // The spatial names of a logical filter. A port of `collect_spatial_predicate_names` of
 // rust/sedona-query-planner/src/spatial_expr_utils.rs; the case of letters is ignored.
-ghost use Rattle.std.specs.Prelude.{◌≡◌, true, ◌∷◌, [], map, position, ◌+◌, ◌≤◌, length};
+ghost use Rattle.std.specs.Prelude.{◌≡◌, true, ◌∷◌, [], position, ◌≤◌, length};
 ghost use Rattle.std.specs.List.{list_any};
 ghost use Rattle.definitions.specs.Words.Basics.{ascii, same_name, any};
 ghost use Rattle.definitions.specs.Words.Expression.{binary, nil, cons};
-ghost use Rattle.definitions.specs.Bytes.Encode.{expr_bytes, exprs_bytes};
-ghost use Rattle.definitions.specs.Words.Leaves.{leaves};
 ghost use Rattle.definitions.specs.Filter.Names.{lower_case, spatial_names, function_name, leaf_name, mask};
 ghost use Rattle.expression.specs.Nodes.{Tree, OfTree};
 ghost use Rattle.expression.specs.Leaves.{Pair, OfPair};
-ghost use Rattle.logical_filter.specs.Logicals.{spellings, apart, NamesAre, PredicateNamesAre};
+ghost use Rattle.node_rows.specs.Numbers.{start_at};
+ghost use Rattle.node_rows.specs.Rows.{TabledAll};
+ghost use Rattle.frame_reader.specs.Arities.{Listed};
+ghost use Rattle.logical_filter.specs.Logicals.{spellings, apart, with_leaf, NodeCollected, CollectedIs};
 
-use expression::ends::{end_children, end_node};
 use expression::leaves::{Node, node_at};
 use expression::names::same_name_ignore_case;
+use node_rows::rows::Rows;
 use sedona_expr::utils::comparison;
 
 // Whether an expression measures a distance.
@@ -84,52 +85,81 @@ fn name_bit(name: &[u8], names: &[&[u8]]) -> u16
 // The bit of `st_dwithin`, which a comparison of a distance counts as.
 const ST_DWITHIN: u16 = 1024;
 
-// Names that were collected, and where the walk ended.
+// The bit of `st_knn`, whose first argument tells the query side.
+const ST_KNN: u16 = 2048;
+
+// The bit of a comparison: that of `st_dwithin`, where the side that is read measures a distance. Its left side has index i.
+fn comparison_bit(s: &[u8], operator: u8, rows: Rows, i: usize) -> u16
+    requires pair { Pair s.now (start_at rows.numbers.now i) }
+    requires of_pair { OfPair s.now (start_at rows.numbers.now i)
+        (λ c l r. TabledAll rows.numbers.now rows.next.now (start_at rows.numbers.now i) i (cons l (cons r nil))) }
+    ensures { OfPair s.now (start_at rows.entry.numbers.now i)
+        (λ c l r. result ≡ mask spatial_names (leaf_name (binary operator l r) ∷ [])) }
+{
+    match comparison(operator, i, rows.after(i)) {
+        Some(sides) if is_distance_expr(s, rows.start(sides.measured)) => ST_DWITHIN,
+        _ => 0,
+    }
+}
+
+// Names that were collected, the index of the first `st_knn` call, and the index to go on at.
 #[derive(Clone, Copy)]
 pub struct CollectedNames {
     pub mask: u16,
+    pub knn: Option<usize>,
     pub next: usize,
 }
 
-// The names of a comparison: `st_dwithin`, where the side that is read measures a distance.
-fn collect_comparison(s: &[u8], operator: u8, left: usize) -> CollectedNames
-    requires { Pair s.now left }
-    ensures { OfPair s.now left (λ c l r.
-        NamesAre (leaf_name (binary operator l r) ∷ []) (left + length (exprs_bytes (cons l (cons r nil)))) result) }
-{
-    let right = end_node(s, left);
-    let next = end_node(s, right);
-    let mask = match comparison(operator, left, right) {
-        Some(sides) if is_distance_expr(s, sides.measured) => ST_DWITHIN,
-        _ => 0,
-    };
-    CollectedNames { mask, next }
+impl CollectedNames {
+    // One AND-leaf more, of the index to go on at.
+    fn with(self, bit: u16, next: usize) -> CollectedNames
+        ensures { result ≡ with_leaf self bit next }
+    {
+        let knn = match self.knn {
+            None if bit == ST_KNN => Some(self.next),
+            known => known,
+        };
+        CollectedNames {
+            mask: self.mask | bit,
+            knn,
+            next,
+        }
+    }
 }
 
-// The names of the AND-leaves of an expression.
-fn names_at(s: &[u8], at: usize) -> CollectedNames
-    requires { Tree s.now at }
-    ensures { OfTree s.now at (λ t. NamesAre (map leaf_name (leaves t)) (at + length (expr_bytes t)) result) }
+// The node of the index to go on at: an And leads to its left child, an AND-leaf to what comes after it.
+fn collect_node(s: &[u8], rows: Rows, before: CollectedNames) -> CollectedNames
+    requires { Listed s.now rows.numbers.now rows.next.now before.next }
+    ensures { OfTree s.now (start_at rows.entry.numbers.now before.next) (NodeCollected before result) }
 {
-    match node_at(s, at) {
-        Node::And(first) => {
-            let left = names_at(s, first);
-            let right = names_at(s, left.next);
-            CollectedNames {
-                mask: left.mask | right.mask,
-                next: right.next,
-            }
-        }
-        Node::Binary(operator, left) => collect_comparison(s, operator, left),
-        Node::Call(call) => CollectedNames {
-            mask: name_bit(call.name(s), &SPATIAL_NAMES),
-            next: end_children(s, call.first, call.count),
+    let i = before.next;
+    let next = rows.after(i);
+    match node_at(s, rows.start(i)) {
+        Node::And(_) => CollectedNames {
+            next: i + 1,
+            ..before
         },
-        Node::Plain(head) => CollectedNames {
-            mask: 0,
-            next: end_children(s, head.next, head.children),
-        },
+        Node::Plain(_) => before.with(0, next),
+        Node::Binary(operator, _) => before.with(comparison_bit(s, operator, rows, i + 1), next),
+        Node::Call(call) => before.with(name_bit(call.name(s), &SPATIAL_NAMES), next),
     }
+}
+
+// The names of the AND-leaves of an expression that has the first rows, and the first `st_knn` call among them.
+pub fn collect_spatial_predicate_names(s: &[u8], rows: Rows) -> CollectedNames
+    requires { Listed s.now rows.numbers.now rows.next.now 0 }
+    ensures { OfTree s.now (start_at rows.entry.numbers.now 0) (CollectedIs s.now rows.entry.numbers.now rows.entry.next.now result) }
+{
+    let end = rows.after(0);
+    let mut all = CollectedNames {
+        mask: 0,
+        knn: None,
+        next: 0,
+    };
+    while all.next < end {
+        all = collect_node(s, rows, all);
+    }
+    all
 }
 
 // The mask of the names that were found, bit 0 for the first of the 15 names, and how many they are.
@@ -137,16 +167,4 @@ fn names_at(s: &[u8], at: usize) -> CollectedNames
 pub struct PredicateNames {
     pub mask: u16,
     pub names: u32,
-}
-
-// The names of an expression.
-pub fn collect_spatial_predicate_names(s: &[u8], at: usize) -> PredicateNames
-    requires { Tree s.now at }
-    ensures { OfTree s.now at (PredicateNamesAre result) }
-{
-    let all = names_at(s, at);
-    PredicateNames {
-        mask: all.mask,
-        names: all.mask.count_ones(),
-    }
 }

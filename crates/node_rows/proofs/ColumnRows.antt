@@ -350,7 +350,7 @@ abbrev pub starts_between : (numbers : List ℕ) (first end : ℕ) → List ℕ
 starts_between numbers first end = column_starts (take (end - first) (drop first numbers))
 
 module _ (numbers : List ℕ) {first end : ℕ} where
-  one-more : first < end → end ≤ length numbers
+  pub one-more : first < end → end ≤ length numbers
       → take (end - first) (drop first numbers) ≡ get_or numbers first 0 ∷ take (end - (first + 1)) (drop (first + 1) numbers)
   one-more lt room =
       let less : end - first ≡ suc (end - (first + 1)) = omega arith in

@@ -44,7 +44,7 @@ module _ (n : ℕ) (plan : List ℕ) {f : Frame} (h : HoldsFrame n plan f) (byte
   small-nodes =
       omega (
         arith,
-        nodes-by-bytes (length h.frame.records) h.frame.expr good.1.readable.expr.in_range,
+        nodes-by-bytes _ h.frame.expr good.1.readable.expr.in_range,
         h.stands.sized,
         frame-length h.frame,
         good.0,

@@ -1,0 +1,145 @@
+-- The loop over AND-leaves by rows: what it has seen are the first leaves, and what is left is a row of expressions.
+use Rattle.std.specs.Prelude.{None}
+use Prim.Native.Nat.{ℕ, ◌+◌, ◌≤◌, ◌<◌}
+use native.Mathlib.Omega.{arith}
+use mathlib.Core.Path.{◌≡◌, refl, sym, ap, ◌∙◌, subst}
+use mathlib.Core.List.{List, [], ◌∷◌, ◌++◌, map, map-append, append_assoc, append-nil}
+use lib.ListN.{length, get_or}
+use lib.Bits.{bit_or}
+use Rattle.definitions.specs.Words.Basics.{any}
+use Rattle.definitions.specs.Words.Expression.{Expr, and, Exprs, nil, cons}
+use Rattle.definitions.specs.Bytes.Encode.{expr_bytes}
+use Rattle.definitions.specs.Bytes.Decode.{Columns}
+use Rattle.definitions.specs.Bytes.Good.{nodes, nodes_all}
+use Rattle.definitions.specs.Words.Leaves.{leaves}
+use Rattle.definitions.specs.Filter.Names.{spatial_names, leaf_name, mask}
+use Rattle.expression.specs.Nodes.{OfTree}
+use Rattle.expression.specs.Leaves.{Both}
+use Rattle.node_rows.specs.Numbers.{start_at}
+use Rattle.node_rows.specs.Rows.{Tabled}
+use Rattle.node_rows.proofs.RowLaws.{tabled-next, nodes-below}
+use Rattle.frame_reader.specs.Arities.{Listed}
+use Rattle.frame_reader.proofs.ByRows.{Left, left-into, left-past, listed, some_left, alone}
+use Rattle.logical_filter.specs.Logicals.{known, with_leaf, NodeCollected, into, past, CollectedIs}
+use Rattle.logical_filter.specs.QuerySides.{first_knn, KnnIs}
+use Rattle.logical_filter.specs.declared.predicate_names.CollectedNames.{CollectedNames}
+use Rattle.logical_filter.proofs.NameMasks.{mask_append}
+use Rattle.logical_filter.proofs.QueryWalk.{knn-append}
+use Rattle.logical_filter.proofs.KnnLeaf.{knn-kept}
+
+-- ---- a node
+
+pub and-collected : {c : Columns} {s : List ℕ} {at first : ℕ} {t : Expr} {before after : CollectedNames} → Both and c s at first t
+    → after ≡ record { mask = before.mask; knn = before.knn; next = before.next + 1 } → NodeCollected before after t
+and-collected {before = before} {after} b e = subst (NodeCollected before after) (sym b.is) (into e)
+
+pub leaf-collected : {numbers indexes : List ℕ} {at : ℕ} {t : Expr} {before after : CollectedNames} → leaves t ≡ t ∷ []
+    → Tabled numbers indexes at before.next t → {bit next : ℕ} → bit ≡ mask spatial_names (leaf_name t ∷ [])
+    → next ≡ get_or indexes before.next 0 → after ≡ with_leaf before bit next → NodeCollected before after t
+leaf-collected {before = before} one h {bit} {next} is e made =
+    past next one (e ∙ tabled-next h) (made ∙ ap (λ (b : ℕ). with_leaf before b next) is)
+
+-- ---- the loop
+
+pub leaves_all : Exprs → List Expr
+leaves_all nil = []
+leaves_all (cons t ts) = leaves t ++ leaves_all ts
+
+both-leaves : (l r : Expr) (ts : Exprs) → leaves_all (cons (and l r) ts) ≡ leaves_all (cons l (cons r ts))
+unfolding leaves_all leaves
+both-leaves l r ts = append_assoc (leaves l) (leaves r) (leaves_all ts)
+
+-- What it keeps: the leaves of what is left come after those that were seen.
+pub record Collecting (s numbers indexes : List ℕ) (end : ℕ) (now : CollectedNames) (whole : Expr) : Type 0 where
+  pub columns : Columns
+  pub place : ℕ
+  pub left : Exprs
+  pub are : Left columns s numbers indexes place now.next left
+  pub ends : now.next + nodes_all left ≡ end
+  pub seen : List Expr
+  pub all : seen ++ leaves_all left ≡ leaves whole
+  pub names : now.mask ≡ mask spatial_names (map leaf_name seen)
+  pub knn : KnnIs s numbers indexes now.knn (first_knn seen)
+
+pub collecting-begins : {s numbers indexes : List ℕ} {end : ℕ} → Listed s numbers indexes 0 → end ≡ get_or indexes 0 0
+    → OfTree s (start_at numbers 0) (Collecting s numbers indexes end (record { mask = 0; knn = None; next = 0 }))
+unfolding leaves_all nodes mask spatial_names any first_knn
+collecting-begins {numbers = numbers} tabled e c t stands =
+    let h = tabled.1 c t stands in
+    record {
+      columns = c;
+      place = start_at numbers 0;
+      left = cons t nil;
+      are = alone stands h;
+      ends = omega (arith, e, tabled-next h);
+      seen = [];
+      all = append-nil (leaves t);
+      names = refl;
+      knn = refl;
+    }
+
+module _ {s numbers indexes : List ℕ} {end : ℕ} {whole : Expr} where
+  passed : {c : Columns} {place : ℕ} {t : Expr} {ts : Exprs} {before after : CollectedNames}
+      → Left c s numbers indexes place before.next (cons t ts) → before.next + nodes_all (cons t ts) ≡ end → (seen : List Expr)
+      → seen ++ leaves_all (cons t ts) ≡ leaves whole → before.mask ≡ mask spatial_names (map leaf_name seen)
+      → KnnIs s numbers indexes before.knn (first_knn seen) → NodeCollected before after t
+      → (before.next < after.next) × Collecting s numbers indexes end after whole
+  unfolding nodes leaves_all
+  passed {c} {place} {ts = ts} {before} {after} h ends seen all names knn (into {l} {r} e) = (
+    omega (arith, ap (λ (x : CollectedNames). x.next) e),
+    subst (λ (x : CollectedNames). Collecting s numbers indexes end x whole) (sym e) (record {
+      columns = c;
+      place = place + 2;
+      left = cons l (cons r ts);
+      are = left-into h;
+      ends = omega arith;
+      seen = seen;
+      all = ap (λ (x : List Expr). seen ++ x) (sym (both-leaves l r ts)) ∙ all;
+      names = names;
+      knn = knn;
+    }),
+  )
+  passed {c} {place} {ts = ts} {before} {after} h ends seen all names knn (past {t} next one e made) = (
+    omega (arith, nodes-below t, ap (λ (x : CollectedNames). x.next) made),
+    subst (λ (x : CollectedNames). Collecting s numbers indexes end x whole) (sym made) (record {
+      columns = c;
+      place = place + length (expr_bytes t);
+      left = ts;
+      are = left-past h next e;
+      ends = omega arith;
+      seen = seen ++ (t ∷ []);
+      all = append_assoc seen (t ∷ []) (leaves_all ts) ∙ ap (λ (x : List Expr). seen ++ (x ++ leaves_all ts)) (sym one) ∙ all;
+      names = ap (λ (m : ℕ). bit_or m (mask spatial_names (leaf_name t ∷ []))) names
+          ∙ sym (mask_append spatial_names (map leaf_name seen) (leaf_name t ∷ []))
+          ∙ ap (mask spatial_names) (sym (map-append leaf_name seen (t ∷ [])));
+      knn = subst (KnnIs s numbers indexes (known before.knn (mask spatial_names (leaf_name t ∷ [])) before.next))
+          (sym (knn-append seen (t ∷ []))) (knn-kept h before.knn (first_knn seen) knn);
+    }),
+  )
+
+  module _ {now : CollectedNames} (inv : Collecting s numbers indexes end now whole) where
+    module _ (more : now.next < end) where
+      pub left-listed : Listed s numbers indexes now.next
+      left-listed = some_left (λ ts. Left inv.columns s numbers indexes inv.place now.next ts → Listed s numbers indexes now.next)
+          (λ t ts h. (listed h).0) inv.left (omega (arith, inv.ends)) inv.are
+
+      pub goes_on : (after : CollectedNames) → OfTree s (start_at numbers now.next) (NodeCollected now after)
+          → (now.next < after.next) × Collecting s numbers indexes end after whole
+      goes_on after is = some_left
+          (λ ts. Left inv.columns s numbers indexes inv.place now.next ts → now.next + nodes_all ts ≡ end
+          → inv.seen ++ leaves_all ts ≡ leaves whole → (now.next < after.next) × Collecting s numbers indexes end after whole)
+          (λ t ts h ends all. passed h ends inv.seen all inv.names inv.knn (is inv.columns t (listed h).1))
+          inv.left (omega (arith, inv.ends)) inv.are inv.ends inv.all
+
+    pub all-collected : end ≤ now.next → CollectedIs s numbers indexes now whole
+    unfolding leaves_all nodes
+    all-collected done =
+        let same = seen-all inv.left (omega (arith, inv.ends)) inv.all in
+        record {
+          names = inv.names ∙ ap (λ (es : List Expr). mask spatial_names (map leaf_name es)) same;
+          knn = subst (λ (es : List Expr). KnnIs s numbers indexes now.knn (first_knn es)) same inv.knn;
+        }
+      where
+        seen-all : (ts : Exprs) → nodes_all ts ≡ 0 → inv.seen ++ leaves_all ts ≡ leaves whole → inv.seen ≡ leaves whole
+        seen-all nil e all = sym (append-nil inv.seen) ∙ all
+        seen-all (cons t ts) e all = absurd (omega (arith, nodes-below t))
