@@ -1,2 +1,3 @@
 -- Laws that the proofs use: merged frames.
 pub mod MergeViews
+pub mod JoinLaws

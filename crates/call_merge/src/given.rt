@@ -25,3 +25,11 @@ pub struct TwoFrames<'a> {
     pub new: PlacedFrame<'a>,
     pub ghost few: { old.parts.columns + new.parts.columns ≤ most_records },
 }
+
+// The new frame, and the numbers of its nodes.
+#[derive(Clone, Copy)]
+pub struct NumberedFrame<'a> {
+    pub bytes: &'a [u8],
+    pub parts: Frame,
+    pub numbers: &'a [u32],
+}

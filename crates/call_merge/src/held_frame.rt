@@ -1,7 +1,9 @@
 // Merge of a frame with a held one.
+ghost use Rattle.std.specs.Prelude.{length};
 ghost use Rattle.plan_reader.specs.Plans.{HoldsFrame};
 ghost use Rattle.call_merge.specs.Given.{GivenFrame};
 ghost use Rattle.call_merge.specs.Merges.{MergedIs};
+ghost use Rattle.call_merge.specs.Numbers.{MergedAt};
 
 use super::given::{Frames, PlacedFrame, TwoFrames};
 use super::limits::over_limits;
@@ -21,8 +23,9 @@ pub fn merge_held(
 ) -> Result<Loaded, Refusal>
     requires holds_frame { HoldsFrame n plan.old parts.old }
     requires given_frame { GivenFrame frame.now parts.new }
-    ensures { MergedIs frame.now n plan.old scratch.old plan.new scratch.new
-        held result }
+    ensures { MergedIs frame.now n plan.old scratch.old plan.new scratch.new held result
+        × ((h : HoldsFrame n plan.old parts.old) (g : GivenFrame frame.now parts.new)
+        → MergedAt h.frame g.frame parts.old parts.new n (length frame.now) plan.new result) }
 {
     let old = parts.old;
     let new = parts.new;

@@ -24,6 +24,7 @@ use Rattle.call_answers.specs.Outcomes.{Answered, answer_of, LoadIs, ExtractIs, 
 use Rattle.call_answers.specs.declared.answers.Loaded.{Loaded}
 use Rattle.call_load.specs.Loads.{LoadedIs, LoadedRow}
 use Rattle.call_merge.specs.Merges.{MergedIs}
+use Rattle.call_merge.specs.Numbers.{MergedRow}
 use Rattle.call_answers.specs.declared.answers.Extracted.{Extracted}
 use Rattle.terms.specs.declared.refusals.Refusal.{Refusal}
 use Rattle.host_calls.specs.declared.cores.HostLoaded.{HostLoaded}
@@ -64,10 +65,21 @@ module _ (frame before after : List ℕ) (held : ℕ) where
   )
   load-short (Err why) is bytes = tt
 
-  pub row-left : (r : Either Loaded Refusal) (row : List ℕ) → LoadedRow frame r row → (left : HostLoaded) → LeftBy r left
-      → RowHas frame left.root left.count row
-  row-left (Ok r) row has left by = rw (by.1, by.2) has
-  row-left (Err why) row has left by = rw (by.1, by.2) (none_has frame row)
+-- What a call leaves in the row: nothing is asked of it after a refusal.
+left-has : (s row : List ℕ) (r : Either Loaded Refusal) (left : HostLoaded) → LeftBy r left
+    → ((l : Loaded) → r ≡ Ok l → RowHas s l.root l.count row) → RowHas s left.root left.count row
+left-has s row (Ok r) left by has = rw (by.1, by.2) (has r refl)
+left-has s row (Err why) left by has = rw (by.1, by.2) (none_has s row)
+
+pub row-left : (frame : List ℕ) (r : Either Loaded Refusal) (row : List ℕ) → LoadedRow frame r row → (left : HostLoaded) → LeftBy r left
+    → RowHas frame left.root left.count row
+row-left frame r row has left by =
+    left-has frame row r left by (λ l e. subst (λ (x : Either Loaded Refusal). LoadedRow frame x row) e has)
+
+pub merged-left : (after : List ℕ) (r : Either Loaded Refusal) (row : List ℕ) → MergedRow after r row → (left : HostLoaded) → LeftBy r left
+    → RowHas after left.root left.count row
+merged-left after r row has left by =
+    left-has after row r left by (λ l e. subst (λ (x : Either Loaded Refusal). MergedRow after x row) e has)
 
 -- A length that is answered is short.
 abbrev ShortAnswer : Result ℕ → Type 0
@@ -162,6 +174,7 @@ module _ (frame : List ℕ) (n : ℕ) (before scratch after kept : List ℕ) {he
   pub merge-asks : MergeLeft frame n before scratch after kept held left → (left.count ≤ held) × Filling after left.root left.count
   merge-asks is = merge-room is.2 is.3 is.4
 
+  -- With the records put, the merge is the definition's.
   module _ {put : List NodeRecord} (fills : FilledIs after left.root left.count table put) where
     -- Whatever the answer, it and what it leaves are the outcome's.
     merge-hosted : AllBytes frame → AllBytes before → (r : Answered) → left.answer ≡ hosted (answer_of r)
@@ -190,6 +203,8 @@ module _ (frame : List ℕ) (n : ℕ) (before scratch after kept : List ℕ) {he
         (subst (λ (t : List NodeRecord). MergeIs (merge frame n before scratch table) n after kept t (Err why))
         (sym (so [] (nothing refl))) (is table size))
 
-    pub merge-fills : MergeLeft frame n before scratch after kept held left
-        → MergeHosted frame before (merge frame n before scratch table) after kept put left.answer
-    merge-fills is = merge-done is.0 is.1 is.2 is.3 is.4
+  pub merge-fills : MergeLeft frame n before scratch after kept held left → (row : List ℕ) {put : List NodeRecord}
+      → RowHas after left.root left.count row → put ≡ take left.count (map numbered row) ++ drop left.count table
+      → MergeHosted frame before (merge frame n before scratch table) after kept put left.answer
+  merge-fills is row {put} has e =
+      merge-done (filled-first after left.root left.count row table put has e) is.0 is.1 is.2 is.3 is.4

@@ -3,14 +3,18 @@ use Prim.Native.Nat.{ℕ, ◌+◌, ◌≤◌}
 use native.Mathlib.Omega.{arith}
 use mathlib.Core.Path.{◌≡◌, sym, ap, ◌∙◌}
 use mathlib.Core.List.{List, ◌++◌, map}
-use lib.ListN.{length, drop}
+use lib.ListN.{length, take, drop, length-take}
+use Rattle.definitions.specs.Words.Expression.{Expr}
+use Rattle.definitions.specs.Bytes.Decode.{Columns}
+use Rattle.definitions.specs.Bytes.Good.{nodes}
 use Rattle.definitions.specs.Bytes.NodeTable.{NodeRecord}
-use Rattle.expression.specs.Nodes.{OfTree}
+use Rattle.expression.specs.Nodes.{OfTree, Stands}
 use Rattle.node_rows.specs.Numbers.{number, numbers_from}
 use Rattle.expression.specs.Filling.{Records, nothing, filled}
-use Rattle.node_rows.specs.Rows.{Fits, NodesCollected}
+use Rattle.node_rows.specs.Rows.{Fits, NodesCollected, RowHas}
 use Rattle.node_rows.specs.declared.collecting.Passed.{Passed}
 use Rattle.node_rows.proofs.RowLaws.{nodes-below, numbers-length}
+use Rattle.node_rows.proofs.OneTree.{of_tree}
 
 module _ {s : List ℕ} {root count : ℕ} (row : List ℕ) where
   pub nothing-filled : {records : List NodeRecord} → Records s root count records → count ≡ 0
@@ -37,3 +41,14 @@ module _ {s : List ℕ} {root count : ℕ} (row : List ℕ) where
   nodes-filled is some (filled {c} {t} stands size few short) =
       let same : 0 + length (numbers_from root t) ≡ count = omega (arith, numbers-length root t) in
       (is c t stands).own.out ∙ ap (λ (k : ℕ). numbers_from root t ++ drop k row) same
+
+-- A row that begins with the numbers of the expression that stands there has those of its records.
+module _ {c : Columns} {s : List ℕ} {root count : ℕ} {t : Expr} (row : List ℕ) (stands : Stands c s root t) (size : count ≡ nodes t)
+    (there : take count row ≡ numbers_from root t) where
+  all-has : (records : List NodeRecord) → Records s root count records → take count row ≡ map number records
+  all-has records (nothing e) = absurd (omega (arith, size, nodes-below t))
+  all-has records (filled {c = d} {t = u} its same few short) = of_tree (λ u. take count row ≡ numbers_from root u) stands there d u its
+
+  pub standing-has : RowHas s root count row
+  standing-has =
+      (omega (arith, ap length there, numbers-length root t, size, length-take count row), all-has)

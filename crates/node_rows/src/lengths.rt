@@ -9,6 +9,15 @@ pub const MIDDLE_NODES: usize = 256;
 
 pub const MIDDLE_BYTES: usize = 768;
 
+// For two frames that are merged, of so many bytes together.
+pub const FEW_NODES: usize = 128;
+
+pub const FEW_BYTES: usize = 384;
+
+pub const MANY_NODES: usize = 512;
+
+pub const MANY_BYTES: usize = 1536;
+
 // Enough for any frame.
 pub const MOST_NODES: usize = 1024;
 

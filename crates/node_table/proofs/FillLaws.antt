@@ -14,7 +14,7 @@ use Rattle.node_rows.proofs.TableLaws.{nodes-told}
 use Rattle.node_table.specs.Numbers.{numbered}
 use Rattle.node_table.specs.Records.{FilledIs}
 use Rattle.node_table.proofs.NumberLaws.{numbered-numbers}
-use Rattle.node_table.proofs.Filling.{map-take}
+use Rattle.node_rows.proofs.Filling.{map-take}
 
 -- not more than a frame may have
 pub few-stand : {s : List ℕ} {root count : ℕ} {records : List NodeRecord} → Records s root count records → count ≤ 1024

@@ -10,7 +10,7 @@ use Rattle.node_rows.specs.Numbers.{number}
 use Rattle.node_table.specs.Numbers.{numbered}
 use Rattle.node_table.specs.Records.{node_of, nodes_of}
 use Rattle.node_table.specs.declared.NodeRecord.{NodeRecord}
-use Rattle.node_table.proofs.Filling.{filled, map-take, map-drop}
+use Rattle.node_rows.proofs.Filling.{filled, map-take, map-drop}
 
 abbrev pub struct_of : definitions.NodeRecord → NodeRecord
 struct_of r = record { kind = r.kind; start = r.start; end = r.end }

@@ -2,7 +2,7 @@
 // declares it. Each answer is a number of 64 bits; the buffers are as the definitions' calls leave them.
 #![tactic(auto)]
 
-ghost use Rattle.std.specs.Prelude.{◌/◌, ◌≤◌, ◌≡◌, min, length, pos};
+ghost use Rattle.std.specs.Prelude.{◌+◌, ◌/◌, ◌≤◌, ◌≡◌, min, length, pos};
 ghost use Rattle.definitions.specs.Words.Limits.{most_nodes};
 ghost use Rattle.definitions.specs.Calls.Base as definitions;
 ghost use Rattle.host_calls.specs.Hosts.{hosted_names};
@@ -28,8 +28,11 @@ use host_calls::project::project_number;
 use host_calls::put::put_call_number;
 use host_calls::serve::serve_number;
 use host_calls::settings::host_settings;
-use node_rows::lengths::{MIDDLE_BYTES, MIDDLE_NODES, MOST_NODES, SHORT_BYTES, SHORT_NODES};
-use node_table::{NodeRecord, fill_table, put_nodes};
+use node_rows::lengths::{
+    FEW_BYTES, FEW_NODES, MANY_BYTES, MANY_NODES, MIDDLE_BYTES, MIDDLE_NODES, MOST_NODES,
+    SHORT_BYTES, SHORT_NODES,
+};
+use node_table::{NodeRecord, put_nodes};
 
 // A load with a row of N places for the numbers of the frame's nodes, which are no more.
 fn load_by<const N: usize>(frame: &[u8], plan: &mut [u8], table: &mut [NodeRecord]) -> i64
@@ -102,6 +105,25 @@ pub fn spatialjoin_print(frame: &[u8], text: &mut [u8]) -> i64
     print_number(frame, text)
 }
 
+// A merge with rows of N places for the numbers of both frames' nodes and of the merged frame's, which are no more.
+fn merge_by<const N: usize>(
+    frame: &[u8],
+    plan: &mut [u8],
+    n: usize,
+    scratch: &mut [u8],
+    table: &mut [NodeRecord],
+) -> i64
+    requires { (min most_nodes ((n + length frame.now) / 3) ≤ N) × (N ≤ most_nodes) }
+    ensures { MergeHosted frame.now plan.old
+        (merges.merge frame.now n plan.old scratch.old
+        (nodes_of table.old)) plan.new scratch.new (nodes_of table.new) result }
+{
+    let mut row = [0; N];
+    let merged = merge_core::<N>(&mut row, frame, plan, n, scratch, table.len());
+    put_nodes(table, &row, merged.count);
+    merged.answer
+}
+
 // Joins a frame's filter to that of the plan in the first n bytes, and fills the table with the new plan's nodes.
 pub fn spatialjoin_merge(
     frame: &[u8],
@@ -114,9 +136,14 @@ pub fn spatialjoin_merge(
         (merges.merge frame.now n plan.old scratch.old
         (nodes_of table.old)) plan.new scratch.new (nodes_of table.new) result }
 {
-    let merged = merge_core(frame, plan, n, scratch, table.len());
-    fill_table(table, plan, merged.root, merged.count);
-    merged.answer
+    let both = n.saturating_add(frame.len());
+    if both <= FEW_BYTES {
+        merge_by::<FEW_NODES>(frame, plan, n, scratch, table)
+    } else if both <= MANY_BYTES {
+        merge_by::<MANY_NODES>(frame, plan, n, scratch, table)
+    } else {
+        merge_by::<MOST_NODES>(frame, plan, n, scratch, table)
+    }
 }
 
 // Puts the plan's extraction, in the first n bytes, on children narrowed to lists of their columns.

@@ -28,9 +28,10 @@ use Rattle.call_merge.specs.Merging.{FramesAt, merged_frame}
 use Rattle.call_merge.specs.Together.{Counts, over_together}
 use Rattle.call_merge.specs.Given.{GivenFrame}
 use Rattle.call_merge.specs.Merges.{MergedIs}
+use Rattle.call_merge.specs.Numbers.{Merged}
 use Rattle.terms.specs.declared.refusals.Refusal.TheVariants.{BufferTooShort, MergedTooLarge, TableTooShort}
 use Rattle.call_answers.proofs.Refusing.{merge-ends, merge-call, outcome}
-use Rattle.call_merge.proofs.held_frame.Standing.{table-there}
+use Rattle.call_merge.proofs.held_frame.Standing.{at-root, table-there, few-bytes, few-nodes}
 use Rattle.call_answers.proofs.Keeping.{held-is, plan-size, plan-length, kept, kept-length, kept-over}
 
 -- A good frame within the limits, of so many bytes.
@@ -250,3 +251,26 @@ module _ {frame : List ℕ} {n : ℕ} {before scratch : List ℕ} {f g : places.
           node-count r.both,
         ) refl,
   )
+
+  -- Where it stands and ends, for the numbers of its nodes.
+  pub merged-there : (written : List ℕ) (answer root : ℕ) → root ≡ f.root + g.root - 3
+      → Puts (FramesAt (take n copy) f frame g) merged_frame before written answer
+      → Merged pair.0 pair.1 f g n (length frame) written (record { length = answer; root = root; count = f.nodes + g.nodes + 1 })
+  merged-there written answer root at put =
+      let x = r.both.held.stands in
+      let y = r.both.given.stands in
+      record {
+        stands = at-root (M r.both) _ good-there (put.wrote pair frames-there) (omega (arith, at, root-there r.both));
+        begins = omega (arith, at, root-bounds r.both);
+        ends = omega (arith, at, root-there r.both, put.size pair frames-there, frame-length (M r.both));
+        size = omega (arith, put.size pair frames-there, merged-length pair.0 pair.1, (good_old r.both).0, (good_new r.both).0);
+        count = refl;
+        roots = (
+          omega (arith, (good_old r.both).0, frame-length pair.0, x.expr.bytes.ends, plan-length n before r.both.held.fits),
+          omega (arith, (good_new r.both).0, frame-length pair.1, y.expr.bytes.ends),
+        );
+        old_end = omega (arith, x.expr.bytes.ends, plan-length n before r.both.held.fits);
+        sized = (x.sized, y.sized);
+        short = omega (arith, put.size pair frames-there, few-bytes (M r.both) good-there);
+        few = omega (arith, node-count r.both, few-nodes (M r.both) good-there);
+      }

@@ -1,5 +1,5 @@
 -- A frame's expression stands in its bytes after the head and the records.
-use Prim.Native.Nat.{ℕ, ◌+◌, ◌*◌}
+use Prim.Native.Nat.{ℕ, ◌+◌, ◌*◌, ◌≤◌}
 use native.Mathlib.Omega.{arith}
 use mathlib.Core.Path.{◌≡◌, sym, ap, ◌∙◌, subst}
 use mathlib.Core.List.{List, ◌∷◌, ◌++◌, append_assoc}
@@ -14,6 +14,15 @@ use Rattle.definitions.specs.Bytes.NodeTable.{nodes_from, node_table}
 use Rattle.theorems.proofs.ExchangeGood.{frame-length}
 use Rattle.expression.specs.Nodes.{Stands}
 use Rattle.expression.specs.Filling.{Records, filled}
+
+module _ (F : Frame) where
+  pub few-bytes : GoodPlan (held F) → length (frame_bytes F) ≤ 16384
+  unfolding plan_bytes
+  few-bytes g = g.few_bytes
+
+  pub few-nodes : GoodPlan (held F) → nodes F.expr ≤ 1024
+  unfolding plan_nodes
+  few-nodes g = g.few_nodes
 
 module _ (F : Frame) (rest : List ℕ) where
   -- What stands before the expression.
@@ -49,12 +58,14 @@ module _ (F : Frame) (rest : List ℕ) where
     in_range = g.readable.expr.in_range;
   }
 
+  pub at-root : GoodPlan (held F) → {s : List ℕ} {root : ℕ} → s ≡ frame_bytes F ++ rest → root ≡ 3 + 5 * length F.records
+      → Stands (index_below (length F.records)) s root F.expr
+  at-root g {s} {root} e at = rw (e, at) (expr-there g)
+
   -- So its nodes' records are those of what stands there.
   pub table-there : GoodPlan (held F) → {s : List ℕ} {root count : ℕ} → s ≡ frame_bytes F ++ rest → root ≡ 3 + 5 * length F.records
       → count ≡ nodes F.expr → Records s root count (node_table F)
-  unfolding node_table plan_bytes plan_nodes
+  unfolding node_table
   table-there g {s} {root} {count} e at counted =
-      let root_is : ℕ = 3 + 5 * length F.records in
-      let stands : Stands (index_below (length F.records)) s root_is F.expr = rw e (expr-there g) in
-      subst (λ (k : ℕ). Records s k count (nodes_from root_is F.expr)) (sym at)
-      (filled stands counted (omega (arith, counted, g.few_nodes)) (omega (arith, frame-length F, g.few_bytes)))
+      subst (λ (k : ℕ). Records s root count (nodes_from k F.expr)) at
+      (filled (at-root g e at) counted (omega (arith, counted, few-nodes F g)) (omega (arith, at, frame-length F, few-bytes F g)))

@@ -5,7 +5,7 @@ use mathlib.Core.List.{List, ◌++◌}
 use lib.ListN.{drop, length-take}
 use Rattle.node_table.specs.Records.{nodes_of}
 use Rattle.node_table.specs.declared.NodeRecord.{NodeRecord}
-use Rattle.node_table.proofs.Filling.{by-places}
+use Rattle.node_rows.proofs.Filling.{by-places}
 use Rattle.node_table.proofs.RecordLaws.{blank, lent, put_all}
 use Rattle.node_table.proofs.put_nodes.Goals as goal
 

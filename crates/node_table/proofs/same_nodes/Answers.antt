@@ -3,7 +3,7 @@ use native.Mathlib.Omega.{arith}
 use mathlib.Core.Path.{sym, ap, ◌∙◌}
 use lib.ListN.{take, length-take}
 use lib.Seq.{get_or-take}
-use Rattle.node_table.proofs.Filling.{by-places}
+use Rattle.node_rows.proofs.Filling.{by-places}
 use Rattle.node_table.proofs.RecordLaws.{blank, number_of, numbers_of, number_at}
 use Rattle.node_table.proofs.same_nodes.Goals as goal
 

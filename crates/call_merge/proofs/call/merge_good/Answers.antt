@@ -13,6 +13,7 @@ use Rattle.terms.specs.declared.refusals.Refusal.{Refusal}
 use Rattle.node_reader.proofs.Reading.{kept}
 use Rattle.plan_reader.specs.Plans.{NotHeld, no_bytes, no_good}
 use Rattle.call_answers.proofs.Refusing.{merge-call, merge-refuses, no-room-for-n, no-plan, empty-plan, extracted-before}
+use Rattle.call_merge.proofs.JoinLaws.{both-join, both_have}
 use Rattle.call_merge.proofs.call.merge_good.Goals as goal
 
 -- Where neither a frame nor an extraction is held.
@@ -26,18 +27,40 @@ not-held frame new good n plan scratch within (no_good number e) table =
 
 pub returns-then-plan-n : goal.returns-then-plan-n
 unfolding new_after_merge
-returns-then-plan-n c =
-    let a = c.args in
-    λ table size. no-room-for-n (merge-call table a.frame.now _ c.requires.is) a.n a.plan.now a.scratch.now c.if-plan-n.true
+returns-then-plan-n g c =
+    let a = c.args in (
+      λ table size.
+          no-room-for-n (merge-call table a.new.bytes.now _ c.requires.given.given.is) a.n a.plan.now a.scratch.now c.if-plan-n.true,
+      tt,
+    )
 
-pub returns-in_err-held_plan : goal.returns-in_err-held_plan
-returns-in_err-held_plan c =
+pub returns-in_err-held_plan_in : goal.returns-in_err-held_plan_in
+returns-in_err-held_plan_in g c =
     let a = c.args in
-    rw (kept c.from_residual.ensures)
-    (λ table size. not-held a.frame.now _ c.requires.is a.n a.plan.now a.scratch.now c.if-plan-n.false c.in_err-held_plan.ensures table)
+    rw (kept c.from_residual.ensures) (
+      λ table size.
+          not-held a.new.bytes.now _ c.requires.given.given.is a.n a.plan.now a.scratch.now c.if-plan-n.false c.in_err-held_plan_in.ensures table,
+      tt,
+    )
 
 pub returns-in-Extraction : goal.returns-in-Extraction
 unfolding new_after_merge
-returns-in-Extraction c =
-    let good = rw c.in-Extraction.is at c.in_ok-held_plan.ensures in
-    λ table size. extracted-before (merge-call table _ _ c.requires.is) _ _ _ c.if-plan-n.false (λ X. refl) good.0 good.2
+returns-in-Extraction g c =
+    let good = rw c.in-Extraction.is at c.in_ok-held_plan_in.ensures in (
+      λ table size.
+          extracted-before (merge-call table _ _ c.requires.given.given.is) _ _ _ c.if-plan-n.false (λ X. refl) good.0 good.2,
+      tt,
+    )
+
+pub put_numbers-requires : goal.put_numbers-requires
+put_numbers-requires g c =
+    both-join (rw c.in-Frame.is at c.in_ok-held_plan_in.ensures) c.if-plan-n.false c.requires.given c.in_ok-merged-in-Frame.ensures.1 _
+    (rw c.requires.row_length c.requires.places.0)
+
+pub returns-in_ok-merged-in-Frame : goal.returns-in_ok-merged-in-Frame
+returns-in_ok-merged-in-Frame g c =
+    let merged = c.in_ok-merged-in-Frame.ensures in (
+      merged.0,
+      both_have (rw c.in-Frame.is at c.in_ok-held_plan_in.ensures) c.if-plan-n.false c.requires.given merged.1 _ _
+          c.put_numbers.ensures,
+    )

@@ -5,8 +5,10 @@ use mathlib.Core.Path.{◌≡◌, refl, sym, ◌∙◌}
 use mathlib.Core.Bool.{false}
 use lib.ListN.{length}
 use Rattle.node_reader.proofs.Standing.{all-bytes}
+use Rattle.plan_reader.specs.Plans.{HoldsFrame}
+use Rattle.call_merge.specs.Given.{GivenFrame}
 use Rattle.call_merge.specs.Together.{over_together}
-use Rattle.call_merge.proofs.held_frame.Merging.{Both, counts, not-empty, root-bounds, too_large, scratch-short, plan-short, table-short, Ready, merged-room, merges}
+use Rattle.call_merge.proofs.held_frame.Merging.{Both, counts, not-empty, root-bounds, too_large, scratch-short, plan-short, table-short, Ready, merged-room, merges, merged-there}
 use Rattle.call_merge.proofs.held_frame.merge_held.Goals as goal
 use Rattle.call_merge.proofs.held_frame.merge_held.Goals.{After-copy_bytes, After-over_limits-over, After-shared_slice_known-1}
 
@@ -36,15 +38,14 @@ under : (c : After-over_limits-over) → c.over_limits-over.result ≡ false
     → let a = c.args in false ≡ over_together a.n (length a.frame.now) a.parts.old a.parts.new
 under c e = sym e ∙ c.over_limits-over.ensures
 
--- Limits and room allow it, and the old plan is kept.
-ready : (c : After-copy_bytes)
-    → let a = c.args in
-    Ready a.frame.now a.n a.plan.now a.scratch.now a.parts.old a.parts.new a.held c.copy_bytes.new.out
-ready c =
+-- Limits and room allow it, and the old plan is kept, whatever says that both frames stand there.
+ready_by : (c : After-copy_bytes) → let a = c.args in (h : HoldsFrame a.n a.plan.now a.parts.old) (g : GivenFrame a.frame.now a.parts.new)
+    → Ready a.frame.now a.n a.plan.now a.scratch.now a.parts.old a.parts.new a.held c.copy_bytes.new.out
+ready_by c h g =
     record {
       both = (record {
-        held = c.requires.holds_frame;
-        given = c.requires.given_frame;
+        held = h;
+        given = g;
         bytes = all-bytes c.args.plan.now c.slice_known-1.given;
         frame_bytes = all-bytes c.args.frame.now c.shared_slice_known-1.given;
       });
@@ -55,37 +56,49 @@ ready c =
       copied = c.copy_bytes.ensures;
     }
 
+ready : (c : After-copy_bytes)
+    → let a = c.args in
+    Ready a.frame.now a.n a.plan.now a.scratch.now a.parts.old a.parts.new a.held c.copy_bytes.new.out
+ready c = ready_by c c.requires.holds_frame c.requires.given_frame
+
 pub over_limits-over-requires : goal.over_limits-over-requires
 over_limits-over-requires c =
     counts (both (goal.at.over_limits-over-requires c).After-shared_slice_known-1)
 
 pub returns-then-over : goal.returns-then-over
-returns-then-over c =
-    (too_large (both (goal.at.returns-then-over c).After-shared_slice_known-1) _ _
-    (sym c.if-over.true ∙ c.over_limits-over.ensures))
+returns-then-over c = (
+  too_large (both (goal.at.returns-then-over c).After-shared_slice_known-1) _ _ (sym c.if-over.true ∙ c.over_limits-over.ensures),
+  λ h g. tt,
+)
 
 pub returns-then-scratch-n : goal.returns-then-scratch-n
-returns-then-scratch-n c =
-    (scratch-short (both (goal.at.returns-then-scratch-n c).After-shared_slice_known-1) _ _
-    (under (goal.at.returns-then-scratch-n c).After-over_limits-over c.if-over.false) c.if-scratch-n.true)
+returns-then-scratch-n c = (
+  scratch-short (both (goal.at.returns-then-scratch-n c).After-shared_slice_known-1) _ _
+      (under (goal.at.returns-then-scratch-n c).After-over_limits-over c.if-over.false) c.if-scratch-n.true,
+  λ h g. tt,
+)
 
 pub overflow_sub-n : goal.overflow_sub-n
 overflow_sub-n c =
     omega (arith, some-length (goal.at.overflow_sub-n c).After-shared_slice_known-1)
 
 pub returns-then-plan-n : goal.returns-then-plan-n
-returns-then-plan-n c =
-    (plan-short (both (goal.at.returns-then-plan-n c).After-shared_slice_known-1) _ _
-    (under (goal.at.returns-then-plan-n c).After-over_limits-over c.if-over.false)
-    (omega (arith, c.if-scratch-n.false))
-    c.if-plan-n.true)
+returns-then-plan-n c = (
+  plan-short (both (goal.at.returns-then-plan-n c).After-shared_slice_known-1) _ _
+      (under (goal.at.returns-then-plan-n c).After-over_limits-over c.if-over.false)
+      (omega (arith, c.if-scratch-n.false))
+      c.if-plan-n.true,
+  λ h g. tt,
+)
 
 pub returns-then-held-count : goal.returns-then-held-count
-returns-then-held-count c =
-    (table-short (both (goal.at.returns-then-held-count c).After-shared_slice_known-1) _ _
-    (under (goal.at.returns-then-held-count c).After-over_limits-over c.if-over.false)
-    (omega (arith, c.if-scratch-n.false))
-    (omega (arith, c.if-plan-n.false)) c.if-held-count.true)
+returns-then-held-count c = (
+  table-short (both (goal.at.returns-then-held-count c).After-shared_slice_known-1) _ _
+      (under (goal.at.returns-then-held-count c).After-over_limits-over c.if-over.false)
+      (omega (arith, c.if-scratch-n.false))
+      (omega (arith, c.if-plan-n.false)) c.if-held-count.true,
+  λ h g. tt,
+)
 
 pub overflow_sub-root : goal.overflow_sub-root
 overflow_sub-root c =
@@ -96,6 +109,10 @@ put_merged-length-requires c =
     (merged-room (ready (goal.at.put_merged-length-requires c).After-copy_bytes)).0
 
 pub returns : goal.returns
+unfolding ready_by
 returns c =
     let wrote = c.put_merged-length in
-    merges (ready (goal.at.returns c).After-copy_bytes) wrote.new.out wrote.result _ refl wrote.ensures
+    let after = (goal.at.returns c).After-copy_bytes in (
+      merges (ready after) wrote.new.out wrote.result _ refl wrote.ensures,
+      λ h g. merged-there (ready_by after h g) wrote.new.out wrote.result _ refl wrote.ensures,
+    )

@@ -10,6 +10,6 @@ left_by-requires g c = load-short _ _ _ _ c.load_row.result c.load_row.ensures.0
 pub returns : goal.returns
 returns g c = (
   (search (rules, all-bytes), c.load_row.result, c.load_row.ensures.0, c.left_by.ensures),
-  row-left c.args.frame.now c.args.plan.now c.args.plan.now c.args.held c.load_row.result _ c.load_row.ensures.1 c.left_by.result
+  row-left c.args.frame.now c.load_row.result _ c.load_row.ensures.1 c.left_by.result
       c.left_by.ensures,
 )

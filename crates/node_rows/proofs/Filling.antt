@@ -26,11 +26,15 @@ map-drop f zero xs = refl
 map-drop f (suc n) [] = refl
 map-drop f (suc n) (x ∷ xs) = map-drop f n xs
 
+-- What stands at a place of the first elements under f is f of what stands there.
+pub get_or-first : {A B : Type 0} (f : A → B) (d : A) (e : B) (n : ℕ) (xs : List A) → n ≤ length xs → (i : ℕ) → i < n
+    → get_or (take n (map f xs)) i e ≡ f (get_or xs i d)
+get_or-first f d e n xs within i h =
+    get_or-take n (map f xs) i e h ∙ get_or_default (map f xs) i e (f d) (omega (arith, length-map xs f)) ∙ get_or-map f xs i d
+
 -- Elements that are each f of another list's at its place are f of that list's first.
 pub by-places : {A B : Type 0} (f : A → B) (d : A) (e : B) (n : ℕ) (xs : List A) (ys : List B) → length ys ≡ n → n ≤ length xs
     → ((i : ℕ) → i < n → get_or ys i e ≡ f (get_or xs i d)) → ys ≡ take n (map f xs)
 by-places f d e n xs ys long within are =
     ext_get_or e ys (take n (map f xs)) (omega (arith, length-take n (map f xs), length-map xs f))
-    (λ i h. are i (omega arith)
-    ∙ sym (get_or-take n (map f xs) i e (omega arith)
-    ∙ get_or_default (map f xs) i e (f d) (omega (arith, length-map xs f)) ∙ get_or-map f xs i d))
+    (λ i h. are i (omega arith) ∙ sym (get_or-first f d e n xs within i (omega arith)))
