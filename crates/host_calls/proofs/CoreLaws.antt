@@ -28,7 +28,7 @@ use Rattle.call_merge.specs.Numbers.{MergedRow}
 use Rattle.call_answers.specs.declared.answers.Extracted.{Extracted}
 use Rattle.terms.specs.declared.refusals.Refusal.{Refusal}
 use Rattle.host_calls.specs.declared.cores.HostLoaded.{HostLoaded}
-use Rattle.node_rows.specs.Rows.{Filling, RowHas}
+use Rattle.node_rows.specs.Rows.{RowHas}
 use Rattle.node_rows.specs.Numbers.{number}
 use Rattle.node_rows.proofs.RowLaws.{nodes-below}
 use Rattle.expression.specs.Filling.{Records, nothing, filled}
@@ -124,15 +124,15 @@ module _ (frame : List ℕ) (n : ℕ) (before scratch after kept : List ℕ) (he
 -- What a load leaves to be put is there, and the table has room for it.
 module _ (frame before after : List ℕ) {held : ℕ} (left : HostLoaded) (table : List NodeRecord) (size : length table ≡ held) where
   load-room : (r : Either Loaded Refusal) → LoadedIs frame before after held r → LeftBy r left
-      → (left.count ≤ held) × Filling frame left.root left.count
+      → left.count ≤ held
   load-room (Ok r) is by =
       let kept : length (is.0 ++ drop r.count table) ≡ length table =
       sym (ap (λ (o : LoadOutcome). length o.table) (is.2 table size 0)) ∙ load-keeps frame 0 before table in
       let room : r.count ≤ length table = has_room table is.1 kept in
-      rw (by.1, by.2) (omega (arith, room, size), (is.0, is.1))
-  load-room (Err why) is by = rw (by.1, by.2) (omega arith, ([], nothing refl))
+      rw by.2 (omega (arith, room, size))
+  load-room (Err why) is by = rw by.2 (omega arith)
 
-  pub load-asks : LoadLeft frame before after held left → (left.count ≤ held) × Filling frame left.root left.count
+  pub load-asks : LoadLeft frame before after held left → left.count ≤ held
   load-asks is = load-room is.1 is.2 is.3
 
   -- With the records put, the load is the definition's.
@@ -163,15 +163,15 @@ module _ (frame before after : List ℕ) {held : ℕ} (left : HostLoaded) (table
 module _ (frame : List ℕ) (n : ℕ) (before scratch after kept : List ℕ) {held : ℕ} (left : HostLoaded)
     (table : List NodeRecord) (size : length table ≡ held) where
   merge-room : (r : Either Loaded Refusal) → MergedIs frame n before scratch after kept held r → LeftBy r left
-      → (left.count ≤ held) × Filling after left.root left.count
+      → left.count ≤ held
   merge-room (Ok r) is by =
       let same : length (is.0 ++ drop r.count table) ≡ length table =
       sym (ap (λ (o : MergeOutcome). length o.table) (is.2 table size)) ∙ merge_keeps frame n before scratch table in
       let room : r.count ≤ length table = has_room table is.1 same in
-      rw (by.1, by.2) (omega (arith, room, size), (is.0, is.1))
-  merge-room (Err why) is by = rw (by.1, by.2) (omega arith, ([], nothing refl))
+      rw by.2 (omega (arith, room, size))
+  merge-room (Err why) is by = rw by.2 (omega arith)
 
-  pub merge-asks : MergeLeft frame n before scratch after kept held left → (left.count ≤ held) × Filling after left.root left.count
+  pub merge-asks : MergeLeft frame n before scratch after kept held left → left.count ≤ held
   merge-asks is = merge-room is.2 is.3 is.4
 
   -- With the records put, the merge is the definition's.

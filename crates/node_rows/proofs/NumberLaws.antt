@@ -1,17 +1,13 @@
 -- Laws of the numbers of node records: which number it is, that it gives the end, and that another record has another one.
 use Rattle.std.specs.Prelude.{if◌then◌else◌}
-use Prim.Native.Nat.{ℕ, zero, suc, ◌+◌, ◌*◌, ◌/◌, ◌%◌, ◌≤◌, ◌<◌}
+use Prim.Native.Nat.{ℕ, ◌+◌, ◌*◌, ◌/◌, ◌%◌, ◌<◌}
 use native.Mathlib.Omega.{arith}
-use mathlib.Core.Path.{◌≡◌, refl, sym, ap, ap₂, subst, ◌∙◌}
+use mathlib.Core.Path.{◌≡◌, refl, ap, ◌∙◌}
 use mathlib.Core.Bool.{Bool, true, false, ◌&&◌}
-use mathlib.Core.List.{List, [], ◌∷◌}
-use lib.ListN.{length, take}
-use lib.Dec.{eqb, ltb}
-use Rattle.std.specs.Cmp.Lexicographic.{pointwise}
-use borrow.Author.Tests.{lt-ltb, ltb-true, eqb-true, eqb-false}
+use lib.Dec.{ltb}
+use borrow.Author.Tests.{lt-ltb, ltb-true}
 use Rattle.definitions.specs.Bytes.NodeTable.{NodeRecord}
 use Rattle.node_rows.specs.Numbers.{number}
-use Rattle.node_rows.specs.Stores.{SameIs}
 
 -- ---- one record
 

@@ -2,26 +2,24 @@
 use Rattle.std.specs.Prelude.{if◌then◌else◌}
 use Prim.Native.Nat.{ℕ, ◌+◌, ◌*◌, ◌≤◌, ◌<◌}
 use native.Mathlib.Omega.{arith}
-use mathlib.Core.Path.{◌≡◌, refl, sym, ap, ap₂, ◌∙◌}
+use mathlib.Core.Path.{◌≡◌, refl, ap, ap₂, ◌∙◌}
 use mathlib.Core.Bool.{Bool, true, false, ◌&&◌}
 use mathlib.Core.List.{List, [], ◌∷◌, ◌++◌, map}
-use lib.ListN.{length, take, drop, length-append, take-append-drop}
-use lib.Seq.{take-take, drop_at, length-take-le}
+use lib.ListN.{length, take, drop, length-append}
+use lib.Seq.{drop_at, length-take-le}
 use lib.Dec.{ltb}
 use borrow.Author.Tests.{ltb-true}
 use Rattle.definitions.specs.Words.Basics.{big_endian}
 use Rattle.definitions.specs.Words.Expression.{Expr, column, literal, and, binary, call, other, field, Exprs, nil, cons}
 use Rattle.definitions.specs.Bytes.Encode.{expr_bytes, exprs_bytes}
-use Rattle.definitions.specs.Bytes.Good.{nodes}
 use Rattle.definitions.specs.Bytes.NodeTable.{NodeRecord, nodes_from, row_from}
 use Rattle.expression.specs.Places.{Holds}
 use Rattle.byte_writer.specs.Written.{WroteAt}
-use Rattle.byte_writer.proofs.Written.{taken}
-use Rattle.node_rows.specs.Numbers.{number, numbers_from}
+use Rattle.node_rows.specs.Numbers.{number}
 use Rattle.node_rows.specs.Rows.{Tabled, NodesCollected}
 use Rattle.node_rows.specs.declared.collecting.Passed.{Passed}
 use Rattle.node_rows.proofs.NumberLaws.{Told, number-told}
-use Rattle.node_rows.proofs.RowLaws.{node-told, numbers-length}
+use Rattle.node_rows.proofs.RowLaws.{node-told}
 
 -- ---- what was collected stands in the rows
 

@@ -1,13 +1,11 @@
 -- Request 6 of document 02: rows that hold the nodes of an expression. (Ours.)
-use Rattle.std.specs.Prelude.{ℕ, ◌+◌, ◌≤◌, ◌≡◌, List, ◌++◌, map, length, take, drop}
-use Rattle.definitions.specs.Words.Limits.{most_bytes, most_nodes}
+use Rattle.std.specs.Prelude.{ℕ, ◌+◌, ◌≤◌, ◌≡◌, List, map, length, take}
+use Rattle.definitions.specs.Words.Limits.{most_bytes}
 use Rattle.definitions.specs.Words.Expression.{Expr, Exprs, cons}
 use Rattle.definitions.specs.Bytes.Encode.{expr_bytes, exprs_bytes}
-use Rattle.definitions.specs.Bytes.Decode.{Columns}
-use Rattle.definitions.specs.Bytes.Good.{nodes, nodes_all}
+use Rattle.definitions.specs.Bytes.Good.{nodes}
 use Rattle.definitions.specs.Bytes.NodeTable.{NodeRecord}
 use Rattle.expression.specs.Places.{Holds}
-use Rattle.expression.specs.Nodes.{Stands, Row}
 use Rattle.expression.specs.Filling.{Records}
 use Rattle.byte_writer.specs.Written.{WroteAt}
 use Rattle.node_rows.specs.Numbers.{number, numbers_from, row_numbers, nexts_from, row_nexts}
@@ -55,29 +53,7 @@ pub record TwoAre (i : ℕ) (r : TwoExpressions) (at : ℕ) (a b : Expr) : Type 
   pub end : r.end ≡ at + length (expr_bytes a) + length (expr_bytes b)
   pub after : r.after ≡ i + nodes a + nodes b
 
--- ---- rows to be filled
-
--- Both rows have places up to this one.
-pub record Room (numbers next : List ℕ) (last : ℕ) : Type 0 where
-  pub numbered : last ≤ length numbers
-  pub followed : last ≤ length next
-  pub few : last ≤ most_nodes
-
--- An expression stands there, and the rows have room for its nodes.
-pub record Fits (s : List ℕ) (at i : ℕ) (numbers next : List ℕ) : Type 0 where
-  pub columns : Columns
-  pub tree : Expr
-  pub stands : Stands columns s at tree
-  pub short : at + length (expr_bytes tree) ≤ most_bytes
-  pub room : Room numbers next (i + nodes tree)
-
--- The same of n expressions in a row.
-pub record FitsAll (s : List ℕ) (at n i : ℕ) (numbers next : List ℕ) : Type 0 where
-  pub columns : Columns
-  pub trees : Exprs
-  pub row : Row columns s at n trees
-  pub short : at + length (exprs_bytes trees) ≤ most_bytes
-  pub room : Room numbers next (i + nodes_all trees)
+-- ---- rows that a walk fills
 
 -- Its nodes were put into the rows from index i on; where it ends, and the index after them.
 pub record NodesCollected (at i : ℕ) (numbers next numbered followed : List ℕ) (r : Passed) (t : Expr) : Type 0 where
@@ -93,16 +69,7 @@ pub record CollectedAll (at i : ℕ) (numbers next numbered followed : List ℕ)
 
 -- ---- a row of its own
 
--- Records stand there.
-abbrev pub Filling : List ℕ → (root count : ℕ) → Type 0
-Filling s root count = (records : List NodeRecord) × Records s root count records
-
--- Their numbers are at the row's start, those after them as they were.
-abbrev pub RowIs : List ℕ → (root count : ℕ) → (before after : List ℕ) → Type 0
-RowIs s root count before after =
-    (records : List NodeRecord) → Records s root count records → after ≡ map number records ++ drop count before
-
--- Their numbers are the row's first.
+-- The numbers of the records that stand there are the row's first.
 abbrev pub RowHas : List ℕ → (root count : ℕ) → (row : List ℕ) → Type 0
 RowHas s root count row =
     (count ≤ length row) × ((records : List NodeRecord) → Records s root count records → take count row ≡ map number records)

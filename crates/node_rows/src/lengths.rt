@@ -14,9 +14,9 @@ pub const FEW_NODES: usize = 128;
 
 pub const FEW_BYTES: usize = 384;
 
-pub const MANY_NODES: usize = 512;
+pub const MANY_NODES: usize = 704;
 
-pub const MANY_BYTES: usize = 1536;
+pub const MANY_BYTES: usize = 2112;
 
 // Enough for any frame.
 pub const MOST_NODES: usize = 1024;

@@ -2,13 +2,12 @@
 use Prim.Native.Nat.{ℕ, ◌≤◌}
 use native.Mathlib.Omega.{arith}
 use mathlib.Core.Path.{◌≡◌, refl, sym, ◌∙◌, ap}
-use mathlib.Core.List.{List, ◌++◌, map, map-append}
+use mathlib.Core.List.{List, ◌++◌, map}
 use lib.ListN.{length, drop, take, length-map}
-use lib.Seq.{take_at}
 use Rattle.definitions.specs.Bytes.NodeTable.{NodeRecord, nodes_from}
 use Rattle.node_rows.specs.Numbers.{number}
 use Rattle.expression.specs.Filling.{Records, nothing, filled}
-use Rattle.node_rows.specs.Rows.{RowIs, RowHas}
+use Rattle.node_rows.specs.Rows.{RowHas}
 use Rattle.node_rows.proofs.RowLaws.{numbers-length}
 use Rattle.node_rows.proofs.TableLaws.{nodes-told}
 use Rattle.node_table.specs.Numbers.{numbered}
@@ -30,15 +29,6 @@ numbers-back : {s : List ℕ} {root count : ℕ} {records : List NodeRecord} →
     → map numbered (map number records) ≡ records
 numbers-back (nothing e) = refl
 numbers-back {root = root} (filled {t = t} stands size few short) = numbered-numbers _ (nodes-told root t short)
-
-pub filled-table : (s : List ℕ) (root count : ℕ) (before row : List ℕ) (table put : List NodeRecord)
-    → RowIs s root count before row → put ≡ take count (map numbered row) ++ drop count table → FilledIs s root count table put
-filled-table s root count before row table put is e records so =
-    e ∙ ap (λ (l : List NodeRecord). l ++ drop count table) (ap (λ (l : List ℕ). take count (map numbered l)) (is records so)
-    ∙ ap (take count) (map-append numbered (map number records) (drop count before))
-    ∙ take_at (map numbered (map number records)) (map numbered (drop count before)) count
-    (length-map (map number records) numbered ∙ length-map records number ∙ records-count so)
-    ∙ numbers-back so)
 
 pub filled-first : (s : List ℕ) (root count : ℕ) (row : List ℕ) (table put : List NodeRecord)
     → RowHas s root count row → put ≡ take count (map numbered row) ++ drop count table → FilledIs s root count table put

@@ -4,13 +4,10 @@
 
 ghost use Rattle.std.specs.Prelude.{◌≡◌, map, ◌++◌, ◌<◌, ◌≤◌, length, take, drop};
 ghost use Rattle.node_rows.specs.Numbers.{number};
-ghost use Rattle.node_rows.specs.Rows.{Filling};
 ghost use Rattle.node_rows.specs.Stores.{SameIs};
 ghost use Rattle.node_table.specs.Numbers.{numbered};
-ghost use Rattle.node_table.specs.Records.{node_of, nodes_of, FilledIs};
+ghost use Rattle.node_table.specs.Records.{node_of, nodes_of};
 
-use node_rows::collecting::node_row;
-use node_rows::lengths::MOST_NODES;
 use node_rows::numbers::node_number;
 
 #[repr(C)]
@@ -74,16 +71,6 @@ pub fn put_nodes(table: &mut [NodeRecord], row: &[u32], count: usize)
     for (i, place) in table[..count].iter_mut().enumerate() {
         put_record(place, NodeRecord::from(row[i]));
     }
-}
-
-// Puts the records of the `count` nodes of the expression at `root` at the table's start.
-pub fn fill_table(table: &mut [NodeRecord], s: &[u8], root: usize, count: usize)
-    requires { (count ≤ length table.old) × Filling s.now root count }
-    ensures { FilledIs s.now root count (nodes_of table.old) (nodes_of table.new) }
-{
-    let mut row = [0; MOST_NODES];
-    node_row(&mut row, s, root, count);
-    put_nodes(table, &row, count);
 }
 
 // The one function that reads a lent table: whether its first records are those of the row's first numbers.

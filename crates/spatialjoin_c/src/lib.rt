@@ -139,6 +139,8 @@ pub fn spatialjoin_merge(
     let both = n.saturating_add(frame.len());
     if both <= FEW_BYTES {
         merge_by::<FEW_NODES>(frame, plan, n, scratch, table)
+    } else if both <= MIDDLE_BYTES {
+        merge_by::<MIDDLE_NODES>(frame, plan, n, scratch, table)
     } else if both <= MANY_BYTES {
         merge_by::<MANY_NODES>(frame, plan, n, scratch, table)
     } else {

@@ -11,7 +11,7 @@ use Rattle.spatialjoin_c.proofs.load_by.Goals as goal
 pub put_nodes-requires : goal.put_nodes-requires
 put_nodes-requires g c =
     let core = c.load_core-loaded in
-    ((load-asks _ _ _ core.result (nodes_of c.args.table.now) (length-map c.args.table.now node_of) core.ensures.0).0, core.ensures.1.0)
+    (load-asks _ _ _ core.result (nodes_of c.args.table.now) (length-map c.args.table.now node_of) core.ensures.0, core.ensures.1.0)
 
 pub returns : goal.returns
 returns g c =

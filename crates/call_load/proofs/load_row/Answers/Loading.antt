@@ -28,7 +28,8 @@ use Rattle.byte_writer.proofs.Written.{taken}
 use Rattle.node_rows.specs.Numbers.{number, numbers_from}
 use Rattle.node_rows.specs.Rows.{Tabled, RowHas}
 use Rattle.node_rows.proofs.RowLaws.{nodes-below, numbers-length}
-use Rattle.node_rows.proofs.OneTree.{of_tree}
+use Rattle.node_rows.proofs.FillLaws.{standing-has}
+use Rattle.node_rows.proofs.MoveLaws.{begins}
 use Rattle.frame_reader.specs.Frames.{FrameAt}
 use Rattle.frame_reader.specs.declared.frame_bodies.Frame as places
 use Rattle.frame_reader.proofs.Standing.{expr-stands}
@@ -102,12 +103,7 @@ module _ {s row indexes : List ℕ} {f : places.Frame} {end : ℕ} {F : Frame} (
     (own : Tabled row indexes f.root 0 F.expr) where
   its-numbers : take f.nodes row ≡ numbers_from f.root F.expr
   its-numbers =
-      ap (λ (k : ℕ). take k row) (stands.sized ∙ sym (numbers-length f.root F.expr)) ∙ taken own.numbered
-
-  all-has : (records : List NodeRecord) → Records s f.root f.nodes records → take f.nodes row ≡ map number records
-  all-has records (nothing e) = absurd (omega (arith, stands.sized, nodes-below F.expr))
-  all-has records (filled {c} {t} there size few short) =
-      of_tree (λ t. take f.nodes row ≡ numbers_from f.root t) (expr-stands stands.expr) its-numbers c t there
+      ap (λ (k : ℕ). take k row) stands.sized ∙ begins f.root F.expr own.numbered
 
   pub frame_has : RowHas s f.root f.nodes row
-  frame_has = (omega (arith, fits own.numbered, numbers-length f.root F.expr, stands.sized), all-has)
+  frame_has = standing-has row (expr-stands stands.expr) stands.sized its-numbers
