@@ -64,7 +64,7 @@ module _ {F G : tree.Frame} {f g : Frame} {n m : ℕ} {after : List ℕ} {r : Lo
         is.count,
         is.sized,
         merged-nodes F G,
-        nodes-by-bytes (length (merge_frames F G).records) (merge_frames F G).expr is.stands.in_range,
+        nodes-by-bytes _ (merge_frames F G).expr is.stands.in_range,
         is.ends,
         is.size,
       )
