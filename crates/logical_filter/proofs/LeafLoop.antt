@@ -1,4 +1,5 @@
 -- The loop over AND-leaves by rows: what it has seen are the first leaves, and what is left is a row of expressions.
+mod KnnLeaf
 use Rattle.std.specs.Prelude.{None}
 use Prim.Native.Nat.{ℕ, ◌+◌, ◌≤◌, ◌<◌}
 use native.Mathlib.Omega.{arith}
@@ -7,14 +8,17 @@ use mathlib.Core.List.{List, [], ◌∷◌, ◌++◌, map, map-append, append_as
 use lib.ListN.{length, get_or}
 use lib.Bits.{bit_or}
 use Rattle.definitions.specs.Words.Basics.{any}
-use Rattle.definitions.specs.Words.Expression.{Expr, and, Exprs, nil, cons}
+use Rattle.definitions.specs.Words.Expression.{Expr, and, binary, Exprs, nil, cons}
 use Rattle.definitions.specs.Bytes.Encode.{expr_bytes}
 use Rattle.definitions.specs.Bytes.Decode.{Columns}
 use Rattle.definitions.specs.Bytes.Good.{nodes, nodes_all}
 use Rattle.definitions.specs.Words.Leaves.{leaves}
-use Rattle.definitions.specs.Filter.Names.{spatial_names, leaf_name, mask}
+use Rattle.definitions.specs.Filter.Names.{lower_case, spatial_names, leaf_name, mask}
 use Rattle.expression.specs.Nodes.{OfTree}
-use Rattle.expression.specs.Leaves.{Both}
+use Rattle.expression.specs.Places.{part}
+use Rattle.expression.specs.Leaves.{Both, CallIs, PlainNode}
+use Rattle.expression.specs.declared.leaves.Called.{Called}
+use Rattle.expression.proofs.AndLeaves.{binary-leaf, call-leaf, plain-leaf}
 use Rattle.node_rows.specs.Numbers.{start_at}
 use Rattle.node_rows.specs.Rows.{Tabled}
 use Rattle.node_rows.proofs.RowLaws.{tabled-next, nodes-below}
@@ -24,8 +28,9 @@ use Rattle.logical_filter.specs.Logicals.{known, with_leaf, NodeCollected, into,
 use Rattle.logical_filter.specs.QuerySides.{first_knn, KnnIs}
 use Rattle.logical_filter.specs.declared.predicate_names.CollectedNames.{CollectedNames}
 use Rattle.logical_filter.proofs.NameMasks.{mask_append}
+use Rattle.logical_filter.proofs.NameWalk.{unnamed, plain-name}
 use Rattle.logical_filter.proofs.QueryWalk.{knn-append}
-use Rattle.logical_filter.proofs.KnnLeaf.{knn-kept}
+use Rattle.logical_filter.proofs.LeafLoop.KnnLeaf.{knn-kept}
 
 -- ---- a node
 
@@ -33,11 +38,29 @@ pub and-collected : {c : Columns} {s : List ℕ} {at first : ℕ} {t : Expr} {be
     → after ≡ record { mask = before.mask; knn = before.knn; next = before.next + 1 } → NodeCollected before after t
 and-collected {before = before} {after} b e = subst (NodeCollected before after) (sym b.is) (into e)
 
-pub leaf-collected : {numbers indexes : List ℕ} {at : ℕ} {t : Expr} {before after : CollectedNames} → leaves t ≡ t ∷ []
-    → Tabled numbers indexes at before.next t → {bit next : ℕ} → bit ≡ mask spatial_names (leaf_name t ∷ [])
-    → next ≡ get_or indexes before.next 0 → after ≡ with_leaf before bit next → NodeCollected before after t
-leaf-collected {before = before} one h {bit} {next} is e made =
-    past next one (e ∙ tabled-next h) (made ∙ ap (λ (b : ℕ). with_leaf before b next) is)
+-- An AND-leaf, with the bit of its name.
+module _ {numbers indexes : List ℕ} {at bit next : ℕ} {t : Expr} {before after : CollectedNames} (h : Tabled numbers indexes at before.next t)
+    (e : next ≡ get_or indexes before.next 0) (made : after ≡ with_leaf before bit next) where
+  leaf-collected : leaves t ≡ t ∷ [] → bit ≡ mask spatial_names (leaf_name t ∷ []) → NodeCollected before after t
+  leaf-collected one is = past next one (e ∙ tabled-next h) (made ∙ ap (λ (b : ℕ). with_leaf before b next) is)
+
+  pub plain-collected : PlainNode t → bit ≡ 0 → NodeCollected before after t
+  plain-collected p is = leaf-collected (plain-leaf p) (is ∙ unnamed (plain-name p))
+
+  module _ {c : Columns} {s : List ℕ} where
+    pub binary-collected : {operator first : ℕ} (b : Both (binary operator) c s at first t)
+        → bit ≡ mask spatial_names (leaf_name (binary operator b.l b.r) ∷ []) → NodeCollected before after t
+    binary-collected b is =
+        leaf-collected (binary-leaf b ∙ ap (λ (e : Expr). e ∷ []) (sym b.is))
+        (is ∙ ap (λ (e : Expr). mask spatial_names (leaf_name e ∷ [])) (sym b.is))
+
+    pub call-collected : {k : Called} → CallIs c s at k t → bit ≡ mask spatial_names (lower_case (part s k.name k.end) ∷ [])
+        → NodeCollected before after t
+    unfolding leaf_name
+    call-collected b is =
+        leaf-collected (call-leaf b ∙ ap (λ (e : Expr). e ∷ []) (sym b.is))
+        (is ∙ ap (λ (n : List ℕ). mask spatial_names (lower_case n ∷ [])) b.stands.spelling
+        ∙ ap (λ (e : Expr). mask spatial_names (leaf_name e ∷ [])) (sym b.is))
 
 -- ---- the loop
 

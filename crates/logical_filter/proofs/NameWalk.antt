@@ -6,20 +6,19 @@ use mathlib.Core.Bool.{Bool, false}
 use mathlib.Core.List.{List, [], ◌∷◌}
 use Rattle.definitions.specs.Words.Basics.{ascii, same_name, any}
 use Rattle.definitions.specs.Words.Expression.{Expr, binary}
-use Rattle.definitions.specs.Words.Leaves.{leaves, no_comparison, comparison}
+use Rattle.definitions.specs.Words.Leaves.{no_comparison, comparison}
 use Rattle.definitions.specs.Bytes.Decode.{Columns}
 use Rattle.definitions.specs.Filter.Names.{lower_case, spatial_names, function_name, comparison_name, leaf_name, mask}
 use Rattle.theorems.proofs.Cases.{each}
 use Rattle.expression.specs.Places.{part}
 use Rattle.expression.specs.Nodes.{kind_of, Stands}
-use Rattle.expression.specs.Leaves.{NodeIs, Both, CallIs, PlainNode, plain_column, plain_literal, plain_other, plain_field}
+use Rattle.expression.specs.Leaves.{NodeIs, CallIs, PlainNode, plain_column, plain_literal, plain_other, plain_field}
 use Rattle.expression.specs.declared.leaves.Called.{Called}
 use Rattle.expression.specs.declared.leaves.Node.{Node}
 use Rattle.expression.specs.declared.leaves.Node.TheVariants.{And, Binary, Call, Plain}
 use Rattle.expression.proofs.LeafLaws.{no-call}
 use mathlib.Core.Logic.{inl, inr}
 use Rattle.sedona_expr.specs.Parsed.{SidesOf}
-use Rattle.expression.proofs.AndLeaves.{binary-leaf, call-leaf}
 
 -- ---- the name of one leaf
 
@@ -72,26 +71,3 @@ module _ (operator : ℕ) (l r : Expr) where
       → leaf_name (binary operator l r) ≡ (if same then ascii "st_dwithin" else [])
   unfolding leaf_name comparison_name
   compares-side sides same e = ap comparison_name sides.is ∙ rw (← e)
-
--- ---- its bit
-
-pub plain-bit : {t : Expr} → PlainNode t → 0 ≡ mask spatial_names (leaf_name t ∷ [])
-plain-bit p = unnamed (plain-name p)
-
-module _ {c : Columns} {s : List ℕ} {at : ℕ} {t : Expr} where
-  module _ {operator first : ℕ} (b : Both (binary operator) c s at first t) where
-    pub binary-alone : leaves t ≡ t ∷ []
-    binary-alone = binary-leaf b ∙ ap (λ (e : Expr). e ∷ []) (sym b.is)
-
-    pub binary-bit : mask spatial_names (leaf_name (binary operator b.l b.r) ∷ []) ≡ mask spatial_names (leaf_name t ∷ [])
-    binary-bit = ap (λ (e : Expr). mask spatial_names (leaf_name e ∷ [])) (sym b.is)
-
-  module _ {k : Called} (b : CallIs c s at k t) where
-    pub call-alone : leaves t ≡ t ∷ []
-    call-alone = call-leaf b ∙ ap (λ (e : Expr). e ∷ []) (sym b.is)
-
-    pub call-bit : mask spatial_names (lower_case (part s k.name k.end) ∷ []) ≡ mask spatial_names (leaf_name t ∷ [])
-    unfolding leaf_name
-    call-bit =
-        ap (λ (n : List ℕ). mask spatial_names (lower_case n ∷ [])) b.stands.spelling
-        ∙ ap (λ (e : Expr). mask spatial_names (leaf_name e ∷ [])) (sym b.is)

@@ -1,12 +1,14 @@
 -- The first KNN call, and the schemas of its first argument by a loop over that argument's row.
+mod FieldRows
 use Rattle.std.specs.Prelude.{if◌then◌else◌}
-use Prim.Native.Nat.{ℕ, ◌+◌, ◌-◌, ◌/◌, ◌%◌, ◌≤◌, ◌<◌}
+use Prim.Native.Nat.{ℕ, zero, suc, ◌+◌, ◌-◌, ◌/◌, ◌%◌, ◌≤◌, ◌<◌}
 use native.Mathlib.Omega.{arith}
 use mathlib.Core.Path.{◌≡◌, refl, sym, ap, ap₂, ◌∙◌, subst}
-use mathlib.Core.Bool.{Bool, true, ◌&&◌, not, and_assoc, and-true}
+use mathlib.Core.Bool.{Bool, true, false, ◌&&◌, not, and_assoc, and-true}
 use mathlib.Core.List.{List, [], ◌∷◌, ◌++◌}
 use mathlib.Core.Option.{Option, none, some}
 use lib.ListN.{length, get_or, take, drop}
+use lib.Bits.{bit_and}
 use lib.Dec.{eqb}
 use Rattle.definitions.specs.Words.Basics.{all}
 use Rattle.definitions.specs.Words.Expression.{Side, left, right, no_side, Expr, Exprs, nil, cons, count}
@@ -26,7 +28,7 @@ use Rattle.frame_reader.specs.Arities.{Listed}
 use Rattle.frame_reader.proofs.ByRows.{some_left}
 use Rattle.logical_filter.specs.QuerySides.{or_else, first_knn, KnnAt, SchemasAre}
 use Rattle.logical_filter.specs.declared.knn_query_side.Schemas.{Schemas}
-use Rattle.logical_filter.proofs.FieldRows.{Fields, fields-between, first-field, past-other, no-fields}
+use Rattle.logical_filter.proofs.QueryWalk.FieldRows.{Fields, fields-between, first-field, past-other, no-fields}
 
 -- ---- the first KNN call
 
@@ -119,28 +121,69 @@ argument-side k more r is =
 numbers-fit : {numbers next : List ℕ} {at i : ℕ} {t : Expr} → Tabled numbers next at i t → i + nodes t ≤ length numbers
 numbers-fit {at = at} {t = t} h = omega (arith, fits h.numbered, numbers-length at t)
 
+-- The bits that all columns have, by whether all are in the left schema and in the right one.
+pub code : (l r : Bool) → ℕ
+code false false = 0
+code true false = 1
+code false true = 2
+code true true = 3
+
+code-left : (l r : Bool) → eqb (code l r % 2) 1 ≡ l
+unfolding code
+code-left false false = refl
+code-left true false = refl
+code-left false true = refl
+code-left true true = refl
+
+code-right : (l r : Bool) → eqb (code l r / 2) 1 ≡ r
+unfolding code
+code-right false false = refl
+code-right true false = refl
+code-right false true = refl
+code-right true true = refl
+
+below-four : (P : ℕ → Type 0) → P 0 → P 1 → P 2 → P 3 → (b : ℕ) → b ≤ 3 → P b
+below-four P p q r s zero h = p
+below-four P p q r s (suc zero) h = q
+below-four P p q r s (suc (suc zero)) h = r
+below-four P p q r s (suc (suc (suc zero))) h = s
+below-four P p q r s (suc (suc (suc (suc b)))) h = absurd (omega arith)
+
+-- One column more.
+code-more : (l r : Bool) (b : ℕ) → b ≤ 3 → bit_and (code l r) b ≡ code (l && in_left b) (r && in_right b)
+unfolding code in_left in_right
+code-more false false = below-four (λ b. bit_and 0 b ≡ code false false) refl refl refl refl
+code-more true false = below-four (λ b. bit_and 1 b ≡ code (in_left b) false) refl refl refl refl
+code-more false true = below-four (λ b. bit_and 2 b ≡ code false (in_right b)) refl refl refl refl
+code-more true true = below-four (λ b. bit_and 3 b ≡ code (in_left b) (in_right b)) refl refl refl refl
+
 -- What it keeps at index i: the bits that are left are those of the fields in the row up to `end`, and with them all are seen.
-pub record Joining (s numbers : List ℕ) (end : ℕ) (bits : List ℕ) (i : ℕ) (now : Schemas) : Type 0 where
+pub record Joining (s numbers : List ℕ) (end : ℕ) (bits : List ℕ) (i now : ℕ) : Type 0 where
   pub left : List ℕ
   pub are : Fields s (take (end - i) (drop i numbers)) left
-  pub all_left : now.left && all in_left left ≡ all in_left bits
-  pub all_right : now.right && all in_right left ≡ all in_right bits
+  pub in_both : Bool × Bool
+  pub coded : now ≡ code in_both.0 in_both.1
+  pub all_left : in_both.0 && all in_left left ≡ all in_left bits
+  pub all_right : in_both.1 && all in_right left ≡ all in_right bits
   pub within : end ≤ length numbers
 
 pub joining-begins : {s numbers next : List ℕ} {first end : ℕ} → Listed s numbers next first
     → OfTree s (start_at numbers first) (λ t. end ≡ first + nodes t)
-    → OfTree s (start_at numbers first) (λ t. Joining s numbers end (bits_of t) first (record { left = true; right = true }))
+    → OfTree s (start_at numbers first) (λ t. Joining s numbers end (bits_of t) first 3)
+unfolding code
 joining-begins {first = first} {end} listed size c t stands =
     let tabled = listed.1 c t stands in
     record {
       left = bits_of t;
       are = fields-between stands tabled (size c t stands);
+      in_both = (true, true);
+      coded = refl;
       all_left = refl;
       all_right = refl;
       within = omega (arith, size c t stands, numbers-fit tabled);
     }
 
-module _ {s numbers bits : List ℕ} {end i : ℕ} {now : Schemas} (inv : Joining s numbers end bits i now) where
+module _ {s numbers bits : List ℕ} {end i now : ℕ} (inv : Joining s numbers end bits i now) where
   module _ (lt : i < end) where
     here : Fields s (get_or numbers i 0 ∷ take (end - (i + 1)) (drop (i + 1) numbers)) inv.left
     here = subst (λ (x : List ℕ). Fields s x inv.left) (one-more numbers lt inv.within) inv.are
@@ -149,21 +192,25 @@ module _ {s numbers bits : List ℕ} {end i : ℕ} {now : Schemas} (inv : Joinin
     field-fits e = (first-field here e).0
 
     -- A field: its bits are seen.
-    pub joining-field : get_or numbers i 0 / 536870912 ≡ 5 → (b : ℕ) → b ≡ get_or s (get_or numbers i 0 / 32768 % 16384 + 1) 0
-        → Joining s numbers end bits (i + 1) (record { left = now.left && eqb (b % 2) 1; right = now.right && eqb (b / 2) 1 })
-    unfolding all in_left in_right
-    joining-field e b is =
+    pub joining-field : get_or numbers i 0 / 536870912 ≡ 5
+        → Joining s numbers end bits (i + 1) (bit_and now (get_or s (get_or numbers i 0 / 32768 % 16384 + 1) 0))
+    unfolding all
+    joining-field e =
+        let b : ℕ = get_or s (get_or numbers i 0 / 32768 % 16384 + 1) 0 in
         let first = first-field here e in
-        let split = first.2 ∙ ap (λ (x : ℕ). x ∷ first.1) (sym is) in
+        let l = inv.in_both.0 in
+        let r = inv.in_both.1 in
         record {
-          left = first.1;
-          are = first.3;
+          left = first.2;
+          are = first.4;
+          in_both = (l && in_left b, r && in_right b);
+          coded = ap (λ (n : ℕ). bit_and n b) inv.coded ∙ code-more l r b first.1;
           all_left =
-              and_assoc now.left (in_left b) (all in_left first.1)
-              ∙ ap (λ (x : List ℕ). now.left && all in_left x) (sym split) ∙ inv.all_left;
+              and_assoc l (in_left b) (all in_left first.2)
+              ∙ ap (λ (x : List ℕ). l && all in_left x) (sym first.3) ∙ inv.all_left;
           all_right =
-              and_assoc now.right (in_right b) (all in_right first.1)
-              ∙ ap (λ (x : List ℕ). now.right && all in_right x) (sym split) ∙ inv.all_right;
+              and_assoc r (in_right b) (all in_right first.2)
+              ∙ ap (λ (x : List ℕ). r && all in_right x) (sym first.3) ∙ inv.all_right;
           within = inv.within;
         }
 
@@ -172,17 +219,23 @@ module _ {s numbers bits : List ℕ} {end i : ℕ} {now : Schemas} (inv : Joinin
     joining-past e = record {
       left = inv.left;
       are = past-other here e;
+      in_both = inv.in_both;
+      coded = inv.coded;
       all_left = inv.all_left;
       all_right = inv.all_right;
       within = inv.within;
     }
 
-  pub joining-ends : end ≤ i → SchemasAre bits now
+  pub joining-ends : end ≤ i → SchemasAre bits (record { left = eqb (now % 2) 1; right = eqb (now / 2) 1 })
   unfolding all
   joining-ends done =
       let nothing : end - i ≡ 0 = omega arith in
       let none = no-fields (subst (λ (k : ℕ). Fields s (take k (drop i numbers)) inv.left) nothing inv.are) in
+      let l = inv.in_both.0 in
+      let r = inv.in_both.1 in
       record {
-        all_left = sym (and-true now.left) ∙ ap (λ (x : List ℕ). now.left && all in_left x) (sym none) ∙ inv.all_left;
-        all_right = sym (and-true now.right) ∙ ap (λ (x : List ℕ). now.right && all in_right x) (sym none) ∙ inv.all_right;
+        all_left = ap (λ (n : ℕ). eqb (n % 2) 1) inv.coded ∙ code-left l r ∙ sym (and-true l)
+            ∙ ap (λ (x : List ℕ). l && all in_left x) (sym none) ∙ inv.all_left;
+        all_right = ap (λ (n : ℕ). eqb (n / 2) 1) inv.coded ∙ code-right l r ∙ sym (and-true r)
+            ∙ ap (λ (x : List ℕ). r && all in_right x) (sym none) ∙ inv.all_right;
       }

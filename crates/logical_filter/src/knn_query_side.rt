@@ -25,21 +25,17 @@ fn column_refs(s: &[u8], rows: Rows, first: usize, end: usize) -> Schemas
     requires of_tree { OfTree s.now (start_at rows.numbers.now first) (λ t. end ≡ first + nodes t) }
     ensures { OfTree s.now (start_at rows.entry.numbers.now first) (λ t. SchemasAre (bits_of t) result) }
 {
-    let mut all = Schemas {
-        left: true,
-        right: true,
-    };
+    let mut bits: u8 = 3;
     for i in first..end {
         let number = rows.numbers[i] as usize;
         if number / 536870912 == 5 {
-            let bits = s[number / 32768 % 16384 + 1];
-            all = Schemas {
-                left: all.left & (bits % 2 == 1),
-                right: all.right & (bits / 2 == 1),
-            };
+            bits &= s[number / 32768 % 16384 + 1];
         }
     }
-    all
+    Schemas {
+        left: bits % 2 == 1,
+        right: bits / 2 == 1,
+    }
 }
 
 // The side of a KNN join whose plan has the query geometry, by document 01's number. The Rust has this enum beside `JoinSide`, and what it

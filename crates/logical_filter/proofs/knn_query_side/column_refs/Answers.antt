@@ -1,6 +1,5 @@
 -- `column_refs`: the columns of the expression are the nodes of kind 5 of its row, and the schemas of each are seen.
 use native.Mathlib.Omega.{arith}
-use mathlib.Core.Path.{refl}
 use Rattle.logical_filter.proofs.QueryWalk.{joining-begins, joining-field, joining-past, joining-ends, field-fits}
 use Rattle.logical_filter.proofs.knn_query_side.column_refs.Goals as goal
 use Rattle.logical_filter.proofs.knn_query_side.column_refs.Goals.{then-number-eq5, else-number-eq5}
@@ -18,8 +17,8 @@ loop-i-preserved c =
     λ d t h.
     let inv = c.loop-i.invariant d t h in
     elim c.if-number-eq5.branch [
-      | then-number-eq5 w ↦ rw w.all-is (joining-field inv c.loop-i-test.true w.if-number-eq5.true _ refl)
-      | else-number-eq5 w ↦ rw w.all-is (joining-past inv c.loop-i-test.true w.if-number-eq5.false)
+      | then-number-eq5 w ↦ rw w.bits-is (joining-field inv c.loop-i-test.true w.if-number-eq5.true)
+      | else-number-eq5 w ↦ rw w.bits-is (joining-past inv c.loop-i-test.true w.if-number-eq5.false)
     ]
 
 pub returns : goal.returns

@@ -7,4 +7,4 @@ use Rattle.logical_filter.proofs.knn_query_side.column_refs.Given as goal
 
 abbrev pub invariant-loop-i : goal.invariant-loop-i
 invariant-loop-i l =
-    OfTree l.s (start_at l.rows.numbers.now l.first) (λ t. Joining l.s l.rows.numbers.now l.end (bits_of t) l.i l.all)
+    OfTree l.s (start_at l.rows.numbers.now l.first) (λ t. Joining l.s l.rows.numbers.now l.end (bits_of t) l.i l.bits)

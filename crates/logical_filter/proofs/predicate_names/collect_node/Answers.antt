@@ -1,15 +1,13 @@
 -- `collect_node`: an And leads to its left child; a leaf is passed as a whole, and its bit kept.
-use mathlib.Core.Path.{refl, ◌∙◌}
+use mathlib.Core.Path.{refl}
 use native.Mathlib.Omega.{arith}
 use Rattle.definitions.specs.Words.Basics.{ascii, same_name, any}
 use Rattle.definitions.specs.Filter.Names.{spatial_names}
-use Rattle.expression.proofs.AndLeaves.{plain-leaf}
 use Rattle.expression.proofs.There.{call-there}
 use Rattle.node_rows.proofs.RowLaws.{tabled-within}
 use Rattle.node_rows.proofs.IndexLaws.{pair_row, pair-listed}
 use Rattle.logical_filter.specs.Logicals.{apart}
-use Rattle.logical_filter.proofs.NameWalk.{plain-bit, binary-bit, call-bit, binary-alone, call-alone}
-use Rattle.logical_filter.proofs.LeafLoop.{and-collected, leaf-collected}
+use Rattle.logical_filter.proofs.LeafLoop.{and-collected, plain-collected, binary-collected, call-collected}
 use Rattle.logical_filter.proofs.predicate_names.collect_node.Goals as goal
 
 pub after-next-requires : goal.after-next-requires
@@ -41,20 +39,20 @@ returns-in-And c =
 pub returns-in-Plain : goal.returns-in-Plain
 returns-in-Plain c =
     λ d t h.
-    let plain = (rw (c.start.ensures, c.in-Plain.is) at c.node_at.ensures d t h).0 in
-    leaf-collected (plain-leaf plain) (c.requires.1 d t h) (plain-bit plain) c.after-next.ensures c.with.ensures
+    let plain = rw (c.start.ensures, c.in-Plain.is) at c.node_at.ensures d t h in
+    plain-collected (c.requires.1 d t h) c.after-next.ensures c.with.ensures plain.0 refl
 
 pub returns-in-Binary : goal.returns-in-Binary
 returns-in-Binary c =
     λ d t h.
+    let tabled = c.requires.1 d t h in
     let pair = rw (c.start.ensures, c.in-Binary.is) at c.node_at.ensures d t h in
-    leaf-collected (binary-alone pair) (c.requires.1 d t h)
-    (c.comparison_bit.ensures d pair.l pair.r (pair_row (c.requires.1 d t h) pair) ∙ binary-bit pair) c.after-next.ensures c.with-in-Binary.ensures
+    binary-collected tabled c.after-next.ensures c.with-in-Binary.ensures pair
+    (c.comparison_bit.ensures d pair.l pair.r (pair_row tabled pair))
 
 pub returns-in-Call : goal.returns-in-Call
 unfolding spatial_names ascii
 returns-in-Call c =
     λ d t h.
     let call = rw (c.start.ensures, c.in-Call.is) at c.node_at.ensures d t h in
-    leaf-collected (call-alone call) (c.requires.1 d t h) ((rw c.name.ensures at c.name_bit.ensures) ∙ call-bit call)
-    c.after-next.ensures c.with-in-Call.ensures
+    call-collected (c.requires.1 d t h) c.after-next.ensures c.with-in-Call.ensures call (rw c.name.ensures at c.name_bit.ensures)

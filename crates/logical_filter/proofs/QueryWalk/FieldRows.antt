@@ -6,8 +6,8 @@ use mathlib.Core.List.{List, [], ◌∷◌, ◌++◌, map, map-append, append-ni
 use lib.ListN.{length, get_or, take, drop, length-append}
 use Rattle.definitions.specs.Words.Expression.{Expr, column, literal, and, binary, call, other, field, Exprs, nil, cons, count}
 use Rattle.definitions.specs.Bytes.Encode.{expr_bytes, exprs_bytes}
-use Rattle.definitions.specs.Bytes.Decode.{Columns}
-use Rattle.definitions.specs.Bytes.Good.{nodes}
+use Rattle.definitions.specs.Bytes.Decode.{Columns, index_below, fields}
+use Rattle.definitions.specs.Bytes.Good.{FieldInRange, nodes}
 use Rattle.definitions.specs.Bytes.NodeTable.{record_of, nodes_from, row_from}
 use Rattle.definitions.specs.Filter.Names.{bits_of, bits_of_all}
 use Rattle.theorems.proofs.Cases.{whole}
@@ -23,13 +23,14 @@ use Rattle.node_rows.proofs.RowLaws.{nodes-split, kind-byte, node-told, numbers-
 -- Numbers of nodes, and the bits of those of kind 5 among them.
 pub data Fields (s : List ℕ) : (numbers bits : List ℕ) → Type 0 where
   nothing : Fields s [] []
-  this : {n : ℕ} {ns bits : List ℕ} → n / 536870912 ≡ 5 → n / 32768 % 16384 + 1 < length s → Fields s ns bits
+  this : {n : ℕ} {ns bits : List ℕ} → n / 536870912 ≡ 5 → n / 32768 % 16384 + 1 < length s
+      → get_or s (n / 32768 % 16384 + 1) 0 ≤ 3 → Fields s ns bits
       → Fields s (n ∷ ns) (get_or s (n / 32768 % 16384 + 1) 0 ∷ bits)
   no_field : {n : ℕ} {ns bits : List ℕ} → (n / 536870912 ≡ 5 → ⊥) → Fields s ns bits → Fields s (n ∷ ns) bits
 
 join : {s x y u v : List ℕ} → Fields s x u → Fields s y v → Fields s (x ++ y) (u ++ v)
 join nothing g = g
-join (this k h f) g = this k h (join f g)
+join (this k h b f) g = this k h b (join f g)
 join (no_field k f) g = no_field k (join f g)
 
 -- ---- a node
@@ -56,6 +57,10 @@ bits_below (field b g) k = absurd (k refl)
 
 -- ---- the law
 
+few : (c : Columns) (b g : ℕ) → FieldInRange c b g → b ≤ 3
+few (index_below bound) b g h = absurd h
+few fields b g h = h.0
+
 module _ (c : Columns) (s : List ℕ) where
   abbrev Law : Expr → Type 0
   Law t = (at : ℕ) → Stands c s at t → at + length (expr_bytes t) ≤ 16384 → Fields s (numbers_from at t) (bits_of t)
@@ -79,7 +84,7 @@ module _ (c : Columns) (s : List ℕ) where
       let mine = own at (field b g) short in
       let bit = ap (λ (p : ℕ). get_or s (p + 1) 0) mine.1 ∙ byte_at (head-stands h) 1 (omega arith) in
       subst (λ (x : ℕ). Fields s (number (record_of at (field b g)) ∷ []) (x ∷ [])) bit
-      (this mine.0 (omega (arith, mine.1, head-fits h)) nothing)
+      (this mine.0 (omega (arith, mine.1, head-fits h)) (omega (arith, bit, few c b g h.in_range)) nothing)
 
   none : RowLaw nil
   unfolding row_from bits_of_all
@@ -114,12 +119,12 @@ fields-between {c} {s} {numbers} {at = at} {first} {end} {t} stands h is =
 -- ---- the first of them
 
 pub first-field : {s : List ℕ} {n : ℕ} {ns bits : List ℕ} → Fields s (n ∷ ns) bits → n / 536870912 ≡ 5
-    → (n / 32768 % 16384 + 1 < length s) × (rest : List ℕ) × (bits ≡ get_or s (n / 32768 % 16384 + 1) 0 ∷ rest) × Fields s ns rest
-first-field (this k h f) e = (h, _, refl, f)
+    → (n / 32768 % 16384 + 1 < length s) × (get_or s (n / 32768 % 16384 + 1) 0 ≤ 3) × (rest : List ℕ) × (bits ≡ get_or s (n / 32768 % 16384 + 1) 0 ∷ rest) × Fields s ns rest
+first-field (this k h b f) e = (h, b, _, refl, f)
 first-field (no_field k f) e = absurd (k e)
 
 pub past-other : {s : List ℕ} {n : ℕ} {ns bits : List ℕ} → Fields s (n ∷ ns) bits → (n / 536870912 ≡ 5 → ⊥) → Fields s ns bits
-past-other (this k h f) e = absurd (e k)
+past-other (this k h b f) e = absurd (e k)
 past-other (no_field k f) e = f
 
 pub no-fields : {s bits : List ℕ} → Fields s [] bits → bits ≡ []
