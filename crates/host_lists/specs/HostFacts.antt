@@ -44,14 +44,17 @@ HostKeeps =
 abbrev pub HostWalks : Type 0
 HostWalks =
     (S : Settings) → SettingsFit S → (b : Host) (scratch after kept : List ℕ) (z : ℤ) → MadeHosted S extract_call b scratch after kept z
-    → (accepted (walk_answered z) ≡ true → (F : Frame) × (held_plan b.n b.plan ≡ ok (held F)) × (walk_carried z ≡ walk_length_by (match_under S) F))
-    × (walk_answered z ≡ refused 13 → (F : Frame) × (held_plan b.n b.plan ≡ ok (held F)) × (walk_carried z ≡ walk_length_by (match_under S) F))
+    → (accepted (walk_answered z) ≡ true
+    → (F : Frame) × (held_plan b.n b.plan ≡ ok (held F)) × (walk_carried z ≡ walk_length_by (match_under S) F))
+    × (walk_answered z ≡ refused 13
+    → (F : Frame) × (held_plan b.n b.plan ≡ ok (held F)) × (walk_carried z ≡ walk_length_by (match_under S) F))
     × ((number : ℕ) → walk_answered z ≡ refused number → eqb number 13 ≡ false → walk_carried z ≡ 0)
 
 -- Request 13: with settings that are not good every extract gives minus 24, wherever it stands in a list, and changes nothing.
 abbrev pub HostRefuses : Type 0
 HostRefuses =
-    (S : Settings) → good_settings S ≡ false → (b : Host) (scratch after kept : List ℕ) (z : ℤ) → MadeHosted S extract_call b scratch after kept z
+    (S : Settings) → good_settings S ≡ false → (b : Host) (scratch after kept : List ℕ) (z : ℤ)
+    → MadeHosted S extract_call b scratch after kept z
     → (z ≡ neg_ℤ (pos 24)) × (after ≡ b.plan) × (kept ≡ scratch)
 
 -- From every host whose plan buffer holds bytes every call with a frame of bytes runs: what is claimed of calls is claimed of something.

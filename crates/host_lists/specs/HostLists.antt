@@ -124,9 +124,11 @@ pub record HostDemandThree (S : Settings) (F : Frame) : Type 0 where
   pub size : (calls : List Made) (r : HostRun S F calls) → r.start.n ≡ length (frame_bytes F)
   -- Every number is that of the two-bit machine's answer, an extract's with the machine's walk (request 10).
   pub numbers : (calls : List Made) (r : HostRun S F calls)
-      → r.numbers ≡ numbers_by (map making calls) (machine_after_by (match_under S) F calls).walks (machine_after_by (match_under S) F calls).answers
+      → r.numbers
+      ≡ numbers_by (map making calls) (machine_after_by (match_under S) F calls).walks (machine_after_by (match_under S) F calls).answers
   -- Plan, n, every answer and every walk that is read off are the two-bit machine's.
-  pub machine : (calls : List Made) (r : HostRun S F calls) → AgreeBy (match_under S) F (outcome r) (machine_after_by (match_under S) F calls)
+  pub machine : (calls : List Made) (r : HostRun S F calls)
+      → AgreeBy (match_under S) F (outcome r) (machine_after_by (match_under S) F calls)
   -- Two lists alike in whether an extract was accepted and in whether accepted exchanges are odd in number leave the same plan.
   pub same_plan : (calls calls' : List Made) (r : HostRun S F calls) (r' : HostRun S F calls')
       → extracted r ≡ extracted r' → odd r ≡ odd r' → plan r ≡ plan r'

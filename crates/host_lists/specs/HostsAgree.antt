@@ -16,7 +16,8 @@ pub record HostsAgreeUnder (S : Settings) : Type 0 where
   -- sets the rate, and the same position.
   pub same_leaf : (F : Frame) (calls calls' : List Made) (r : HostRun S F calls) (r' : HostRun S F calls')
       → extracted r ≡ true → extracted r' ≡ true
-      → (X : Extraction) × TookAmong (matches_by (match_under S) F) F X × (plan r ≡ plan_bytes (extracted_plan X (odd r))) × (plan r' ≡ plan_bytes (extracted_plan X (odd r')))
+      → (X : Extraction) × TookAmong (matches_by (match_under S) F) F X
+      × (plan r ≡ plan_bytes (extracted_plan X (odd r))) × (plan r' ≡ plan_bytes (extracted_plan X (odd r')))
       × (take 3 (plan r) ≡ take 3 (plan r'))
   -- Where one extracted, an extract of the other that has room is accepted: never is a join indexed on one and filtered on the other.
   pub never_mixed : (F : Frame) (calls calls' : List Made) (r : HostRun S F calls) (r' : HostRun S F calls')

@@ -17,5 +17,5 @@ pub returns : goal.returns
 returns g c =
     let core = c.load_core-loaded in
     let fits : SFits w64 core.result.answer = search rules in
-    simp to_z-of_z (load-fills _ _ _ core.result (nodes_of c.args.table.now) (length-map c.args.table.now node_of) core.ensures.0 _ core.ensures.1
-    c.put_nodes.ensures)
+    simp to_z-of_z (load-fills _ _ _ core.result (nodes_of c.args.table.now) (length-map c.args.table.now node_of) core.ensures.0 _
+    core.ensures.1 c.put_nodes.ensures)
