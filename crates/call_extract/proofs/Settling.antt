@@ -63,7 +63,8 @@ module _ (S : Settings) (n : ℕ) (before scratch : List ℕ) where
       → ExtractIs (filled_under S n before scratch) (walk_under S n before scratch) n after kept r
   filled-settled g is = rw g.good is
 
-  pub by-24 : good_settings S ≡ false → (table : Option (Bor (List Lent))) → SettledBy S n table before scratch before scratch (unwalked BadSettings)
+  pub by-24 : good_settings S ≡ false → (table : Option (Bor (List Lent)))
+      → SettledBy S n table before scratch before scratch (unwalked BadSettings)
   by-24 bad (Some table) = lent-24 S n before scratch (nodes_of table.now) bad
   by-24 bad None = filled-24 bad
 

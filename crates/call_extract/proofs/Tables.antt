@@ -68,7 +68,8 @@ unheld match n plan scratch table e fits is = by-fit match n plan scratch table 
 
 -- So where what is held is no frame: it is refused as it is without a table.
 module _ (match : Matcher) (n : ℕ) (plan scratch : List ℕ) (table : List NodeRecord) (within : n ≤ length plan) where
-  bad-lent : (number : ℕ) → plan_of (take n plan) ≡ refused number → ExtractsWith match n plan scratch table plan scratch (unwalked NoGoodPlan)
+  bad-lent : (number : ℕ) → plan_of (take n plan) ≡ refused number
+      → ExtractsWith match n plan scratch table plan scratch (unwalked NoGoodPlan)
   unfolding table_fits
   bad-lent number e = unheld match n plan scratch table (held-is n plan within e) refl (bad-refused match n plan scratch within number e)
 

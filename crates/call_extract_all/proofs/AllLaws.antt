@@ -286,6 +286,7 @@ module _ {s : List ℕ} {f : Frame} {F : tree.Frame} (g : GoodAt s f F) where
             rounds = is.rounds ∙ sym (all-taken.how_many F g.good).0;
             size = ends;
             wrote =
-                subst (λ (x : List ℕ). Wrote x out (together w listing end)) (append_assoc knns others (last_left_bytes match F) ∙ sym parts)
+                subst (λ (x : List ℕ). Wrote x out (together w listing end))
+                (append_assoc knns others (last_left_bytes match F) ∙ sym parts)
                 (then-wrote (knns ++ others) (last_left_bytes match F) out listing end w both-size both-wrote (put match F g told-after).1);
           }

@@ -76,7 +76,8 @@ written-fits plan (Ok (Logical high low names side)) h = simp length-append
 written-fits plan (Err why) h = simp length-append (omega (arith, length_digits (number_of why ∷ [])))
 
 -- What it gives is written, and none has begun.
-pub line-ended : {out plan line after plan-after : List ℕ} (scratch scratch_after : List ℕ) {state : State} {filled : ℕ} (answer : LineAnswered)
+pub line-ended : {out plan line after plan-after : List ℕ} (scratch scratch_after : List ℕ) {state : State} {filled : ℕ}
+    (answer : LineAnswered)
     → ((begun : List ℕ) → Begun line state.count begun
     → AnswerIs (line_outcome begun (kept_as state.n plan)) state.n plan-after answer)
     → WroteAt state.filled (written_line (answer_bytes plan-after answer)) out after filled

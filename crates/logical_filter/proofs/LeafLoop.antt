@@ -39,8 +39,8 @@ pub and-collected : {c : Columns} {s : List ℕ} {at first : ℕ} {t : Expr} {be
 and-collected {before = before} {after} b e = subst (NodeCollected before after) (sym b.is) (into e)
 
 -- An AND-leaf, with the bit of its name.
-module _ {numbers indexes : List ℕ} {at bit next : ℕ} {t : Expr} {before after : CollectedNames} (h : Tabled numbers indexes at before.next t)
-    (e : next ≡ get_or indexes before.next 0) (made : after ≡ with_leaf before bit next) where
+module _ {numbers indexes : List ℕ} {at bit next : ℕ} {t : Expr} {before after : CollectedNames}
+    (h : Tabled numbers indexes at before.next t) (e : next ≡ get_or indexes before.next 0) (made : after ≡ with_leaf before bit next) where
   leaf-collected : leaves t ≡ t ∷ [] → bit ≡ mask spatial_names (leaf_name t ∷ []) → NodeCollected before after t
   leaf-collected one is = past next one (e ∙ tabled-next h) (made ∙ ap (λ (b : ℕ). with_leaf before b next) is)
 

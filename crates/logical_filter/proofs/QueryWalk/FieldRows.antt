@@ -109,8 +109,8 @@ module _ (c : Columns) (s : List ℕ) where
       (λ name ts f. node (call name ts) (λ e. omega arith) f) (λ g ts f. node (other g ts) (λ e. omega arith) f) of-field none more
 
 -- The fields between two indexes are those of the expression that has these.
-pub fields-between : {c : Columns} {s numbers next : List ℕ} {at first end : ℕ} {t : Expr} → Stands c s at t → Tabled numbers next at first t
-    → end ≡ first + nodes t → Fields s (take (end - first) (drop first numbers)) (bits_of t)
+pub fields-between : {c : Columns} {s numbers next : List ℕ} {at first end : ℕ} {t : Expr} → Stands c s at t
+    → Tabled numbers next at first t → end ≡ first + nodes t → Fields s (take (end - first) (drop first numbers)) (bits_of t)
 fields-between {c} {s} {numbers} {at = at} {first} {end} {t} stands h is =
     let size : end - first ≡ length (numbers_from at t) = omega (arith, numbers-length at t) in
     subst (λ (x : List ℕ). Fields s x (bits_of t)) (sym (ap (λ (k : ℕ). take k (drop first numbers)) size ∙ taken h.numbered))
@@ -119,7 +119,8 @@ fields-between {c} {s} {numbers} {at = at} {first} {end} {t} stands h is =
 -- ---- the first of them
 
 pub first-field : {s : List ℕ} {n : ℕ} {ns bits : List ℕ} → Fields s (n ∷ ns) bits → n / 536870912 ≡ 5
-    → (n / 32768 % 16384 + 1 < length s) × (get_or s (n / 32768 % 16384 + 1) 0 ≤ 3) × (rest : List ℕ) × (bits ≡ get_or s (n / 32768 % 16384 + 1) 0 ∷ rest) × Fields s ns rest
+    → (n / 32768 % 16384 + 1 < length s) × (get_or s (n / 32768 % 16384 + 1) 0 ≤ 3)
+    × (rest : List ℕ) × (bits ≡ get_or s (n / 32768 % 16384 + 1) 0 ∷ rest) × Fields s ns rest
 first-field (this k h b f) e = (h, b, _, refl, f)
 first-field (no_field k f) e = absurd (k e)
 

@@ -39,7 +39,8 @@ returns-in_err-held_plan_in g c =
     let a = c.args in
     rw (kept c.from_residual.ensures) (
       λ table size.
-          not-held a.new.bytes.now _ c.requires.given.given.is a.n a.plan.now a.scratch.now c.if-plan-n.false c.in_err-held_plan_in.ensures table,
+          not-held a.new.bytes.now _ c.requires.given.given.is a.n a.plan.now a.scratch.now c.if-plan-n.false
+          c.in_err-held_plan_in.ensures table,
       tt,
     )
 
