@@ -95,6 +95,34 @@ from_start x before {after} e r size =
 pub to_start : {x before after : List ℕ} {r : ℕ} → WroteAt 0 x before after r → (r ≡ length x) × Wrote x before after
 to_start {x} {before} {after} {r} w = (omega (arith, w.ends), w.out ∙ ap (λ (k : ℕ). x ++ drop k before) (zero-add (length x)))
 
+-- What was written stands there, and something as long may be written over it.
+module _ {w r : ℕ} {x before middle : List ℕ} (room : w ≤ length before) (first : WroteAt w x before middle r) where
+  pub standing : Holds middle w x
+  standing = record {
+    rest = drop (w + length x) before;
+    bytes =
+        ap (drop w) first.out ∙ drop_at (take w before) (x ++ drop (w + length x) before) w (length-take-le w before room);
+    within = omega (
+      arith,
+      length-take-le w before room,
+      ap length first.out,
+      length-append (take w before) (x ++ drop (w + length x) before),
+    );
+  }
+
+  pub over : {y after : List ℕ} {k : ℕ} → length x ≡ length y → WroteAt w y middle after k → WroteAt w y before after r
+  over {y} {after} {k} same second = record {
+    ends = omega (arith, first.ends, same);
+    out =
+        second.out
+        ∙ ap₂ (λ (a z : List ℕ). a ++ (y ++ z))
+        (ap (take w) first.out ∙ take_at (take w before) (x ++ drop (w + length x) before) w (length-take-le w before room))
+        (ap₂ drop (ap (λ (n : ℕ). w + n) (sym same)) (first.out ∙ sym (append_assoc (take w before) x (drop (w + length x) before)))
+        ∙ drop_at (take w before ++ x) (drop (w + length x) before) (w + length x)
+        (omega (arith, length-append (take w before) x, length-take-le w before room))
+        ∙ ap (λ (n : ℕ). drop (w + n) before) same);
+  }
+
 -- ---- a part from w on, lent and given back
 
 -- What `&mut out[w..]` lends, and the whole once that came back as `part`.

@@ -24,7 +24,7 @@ use Rattle.theorems.proofs.InverseFrame.{frame_back}
 use Rattle.theorems.proofs.SettingsClaimed.{all-settings-hold, bad-settings-refused}
 use Rattle.expression.specs.Nodes.{OfTree}
 use Rattle.node_rows.specs.Rows.{Tabled}
-use Rattle.node_rows.proofs.OneTree.{of_tree}
+use Rattle.expression.proofs.OneTree.{of_tree}
 use Rattle.byte_writer.proofs.Written.{copied-wrote, from_start}
 use Rattle.frame_reader.specs.Frames.{PhysicalIs}
 use Rattle.frame_reader.specs.declared.frame_bodies.Frame.{Frame}

@@ -4,6 +4,8 @@ pub mod Placed
 pub mod OfKind
 pub mod Records
 pub mod Standing
+pub mod OneTree
+pub mod InOrder
 pub mod HeadLaws
 pub mod LeafLaws
 pub mod AndLeaves

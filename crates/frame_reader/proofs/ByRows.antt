@@ -21,7 +21,7 @@ use Rattle.expression.proofs.AndLeaves.{binary-leaf, call-leaf, plain-leaf, all_
 use Rattle.node_rows.specs.Numbers.{number, start_at, nexts_from, row_nexts}
 use Rattle.node_rows.specs.Rows.{Tabled, TabledAll}
 use Rattle.node_rows.proofs.RowLaws.{tabled_start, tabled-next, tabled-first, tabled-rest, nodes-below}
-use Rattle.node_rows.proofs.OneTree.{of_tree}
+use Rattle.expression.proofs.OneTree.{of_tree}
 use Rattle.frame_reader.specs.Arities.{Listed, Passes, into, past, ArityPassed}
 use Rattle.std.specs.Prelude.{Some, None}
 use Rattle.std.specs.Bool.{then_some}

@@ -17,7 +17,7 @@ use Rattle.node_rows.specs.Numbers.{start_at}
 use Rattle.node_rows.specs.Rows.{Tabled, TabledIfRoom}
 use Rattle.node_rows.proofs.IndexLaws.{indexed}
 use Rattle.node_rows.proofs.NodeBytes.{nodes-by-bytes}
-use Rattle.node_rows.proofs.OneTree.{of_tree}
+use Rattle.expression.proofs.OneTree.{of_tree}
 use Rattle.node_reader.specs.Nodes.{LentRows}
 use Rattle.node_reader.specs.Places.{ExprAt}
 use Rattle.theorems.proofs.ReaderLaws.{step}

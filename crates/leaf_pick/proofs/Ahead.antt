@@ -28,7 +28,7 @@ use Rattle.expression.specs.declared.leaves.Node.TheVariants as node
 use Rattle.node_rows.specs.Numbers.{end_at, row_nexts}
 use Rattle.node_rows.specs.Rows.{Tabled, TabledAll}
 use Rattle.node_rows.proofs.RowLaws.{tabled-end, tabled-next, tabled-within, tabled-first, tabled-rest, nodes-below}
-use Rattle.node_rows.proofs.OneTree.{of_tree}
+use Rattle.expression.proofs.OneTree.{of_tree}
 use Rattle.leaf_matching.specs.Frames.{Over, OverAll, Framed, OfFrame}
 use Rattle.leaf_matching.proofs.Framing.{first-over, rest_over}
 use Rattle.leaf_pick.specs.Picks.{matches}

@@ -28,7 +28,7 @@ use Rattle.node_rows.specs.Numbers.{end_at}
 use Rattle.node_rows.specs.Rows.{Tabled}
 use Rattle.node_rows.proofs.RowLaws.{tabled-end, tabled-next, tabled-within}
 use Rattle.node_rows.proofs.IndexLaws.{left-tabled, right-tabled}
-use Rattle.node_rows.proofs.OneTree.{of_tree}
+use Rattle.expression.proofs.OneTree.{of_tree}
 use Rattle.leaf_matching.specs.Frames.{Over, Framed, OfFrame}
 use Rattle.leaf_matching.specs.Matches.{Lacks, Matches, MatchingIs}
 use Rattle.leaf_matching.specs.declared.matching.NoMatch.{NoMatch}

@@ -22,7 +22,7 @@ use Rattle.node_rows.specs.Numbers.{start_at}
 use Rattle.node_rows.specs.Rows.{Tabled, TabledAll}
 use Rattle.node_rows.proofs.ColumnRows.{one-more}
 use Rattle.node_rows.proofs.IndexLaws.{Indexed, indexed}
-use Rattle.node_rows.proofs.OneTree.{of_tree}
+use Rattle.expression.proofs.OneTree.{of_tree}
 use Rattle.node_rows.proofs.RowLaws.{tabled-first, tabled-next, nodes-below, numbers-length}
 use Rattle.frame_reader.specs.Arities.{Listed}
 use Rattle.frame_reader.proofs.ByRows.{some_left}

@@ -13,7 +13,7 @@ use Rattle.node_rows.specs.Numbers.{number, numbers_from}
 use Rattle.expression.specs.Filling.{Records, nothing, filled}
 use Rattle.node_rows.specs.Rows.{RowHas}
 use Rattle.node_rows.proofs.RowLaws.{nodes-below, numbers-length}
-use Rattle.node_rows.proofs.OneTree.{of_tree}
+use Rattle.expression.proofs.OneTree.{of_tree}
 
 -- A row that begins with the numbers of the expression that stands there has those of its records.
 module _ {c : Columns} {s : List ℕ} {root count : ℕ} {t : Expr} (row : List ℕ) (stands : Stands c s root t) (size : count ≡ nodes t)

@@ -18,7 +18,7 @@ use Rattle.node_rows.specs.Numbers.{start_at, end_at}
 use Rattle.node_rows.specs.Rows.{Tabled, TabledAll, Begin, TwoAre}
 use Rattle.node_rows.specs.declared.pairs.TwoExpressions.{TwoExpressions}
 use Rattle.node_rows.proofs.RowLaws.{tabled_start, tabled-end, tabled-next, tabled-children, tabled-first, tabled-rest, second-tabled}
-use Rattle.node_rows.proofs.OneTree.{of_tree, of-trees}
+use Rattle.expression.proofs.OneTree.{of_tree, of-trees}
 
 -- ---- by index
 

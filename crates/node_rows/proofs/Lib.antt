@@ -7,6 +7,5 @@ pub mod CollectWalk
 pub mod FillLaws
 pub mod Filling
 pub mod TableLaws
-pub mod OneTree
 pub mod NodeBytes
 pub mod ColumnRows

@@ -1,80 +1,50 @@
 // The arguments of predicates, and copies of expressions whose columns are renumbered by a table.
 // A port of `reproject_column_references` and `reproject_column_references_for_side` of
 // rust/sedona-query-planner/src/spatial_expr_utils.rs.
-ghost use Rattle.std.specs.Prelude.{◌≤◌, length};
 ghost use Rattle.byte_writer.specs.Writing.{Room, PutsAt};
-ghost use Rattle.plan_writer.specs.Copies.{ColumnThere, ColumnPut, CopyFits, NodeCopied, CopiesFit, RowCopied};
+ghost use Rattle.plan_writer.specs.Copies.{copy_of, InTable, PatchFits, Patched};
 ghost use Rattle.plan_writer.specs.Arguments.{Stood, written, BothStood, both_written};
 
-use byte_writer::copies::{copy_at, copy_bytes};
+use byte_writer::copies::copy_at;
 use byte_writer::numbers::put_number;
 use expression::fields::short_at;
 use expression::heads::head_at;
 use terms::sides::JoinSide;
 
-// Where a copy read up to, and how many bytes it wrote.
-#[derive(Clone, Copy)]
-pub struct Copied {
-    pub read: usize,
-    pub wrote: usize,
-}
-
-// Writes the column at a place with the index v.
-fn put_reprojected_column(out: &mut [u8], src: &[u8], at: usize, v: u16)
-    requires column_there { ColumnThere src.now at }
-    requires in_bounds { 5 ≤ length out.old }
-    ensures { ColumnPut src.now at v out.old out.new }
+// Puts the new index of each column at its place in a copy that starts at w. The nodes of an expression stand one after another, so that a
+// step is as long as a node's head.
+fn patch_columns(out: &mut [u8], w: usize, src: &[u8], start: usize, end: usize, to: &[u16])
+    requires { PatchFits src.now start end to.now w out.old }
+    ensures { Patched src.now start end to.now w out.old out.new }
 {
-    copy_bytes(out, src, at, 5);
-    put_number(out, 1, 2, usize::from(v));
-}
-
-// Writes the expression at a place to the start of `out`; `to` has the new index of each column.
-#[cycle(reproject_children_reproject_column_references)]
-pub fn reproject_column_references(out: &mut [u8], src: &[u8], at: usize, to: &[u16]) -> Copied
-    requires { CopyFits src.now at to.now out.old }
-    ensures { NodeCopied src.now at to.now out.old out.new result }
-{
-    if src[at] == 0 {
-        put_reprojected_column(out, src, at, to[short_at(src, at + 1)]);
-        return Copied {
-            read: at + 5,
-            wrote: 5,
-        };
-    }
-    let head = head_at(src, at);
-    let w = head.next - at;
-    copy_bytes(out, src, at, w);
-    if head.children == 0 {
-        return Copied {
-            read: head.next,
-            wrote: w,
-        };
-    }
-    let rest = reproject_children(&mut out[w..], src, head.next, head.children, to);
-    Copied {
-        read: rest.read,
-        wrote: w + rest.wrote,
+    let mut next = start;
+    while next < end {
+        if src[next] == 0 {
+            let index = to[short_at(src, next + 1)];
+            put_number(out, w + (next - start) + 1, 2, usize::from(index));
+            next += 5;
+        } else {
+            next = head_at(src, next).next;
+        }
     }
 }
 
-// The same for n expressions in a row.
-#[cycle(reproject_children_reproject_column_references)]
-fn reproject_children(out: &mut [u8], src: &[u8], at: usize, n: usize, to: &[u16]) -> Copied
-    requires { CopiesFit src.now at n to.now out.old }
-    ensures { RowCopied src.now at n to.now out.old out.new result }
+// Writes the expression that stands from one place up to another to `out` from w on; `to` has the new index of each column. Answers where
+// it ends.
+pub fn reproject_column_references(
+    out: &mut [u8],
+    w: usize,
+    src: &[u8],
+    start: usize,
+    end: usize,
+    to: &[u16],
+) -> usize
+    requires { Room (InTable src.now start end to.now) (copy_of to.now) w out.old }
+    ensures { PutsAt (InTable src.now start end to.now) (copy_of to.now) w out.old out.new result }
 {
-    let mut next = at;
-    let mut w = 0;
-    for _ in 0..n {
-        let one = reproject_column_references(&mut out[w..], src, next, to);
-        next = one.read;
-        w += one.wrote;
-    }
-    Copied {
-        read: next,
-        wrote: w,
-    }
+    let v = copy_at(out, w, src, start, end);
+    patch_columns(out, w, src, start, end, to);
+    v
 }
 
 // An argument of a predicate: where it stands and ends, and the side of its columns.
@@ -100,8 +70,7 @@ pub fn reproject_column_references_for_side(
 {
     match indexes {
         Some(to) if argument.side != JoinSide::None => {
-            let copied = reproject_column_references(&mut out[w..], src, argument.start, to);
-            w + copied.wrote
+            reproject_column_references(out, w, src, argument.start, argument.end, to)
         }
         _ => copy_at(out, w, src, argument.start, argument.end),
     }

@@ -14,25 +14,12 @@ use Rattle.expression.specs.Nodes.{head_bytes, children_of, Tree, OfTree}
 use Rattle.expression.specs.Heads.{HeadIs}
 use Rattle.expression.specs.declared.heads.Head.{Head}
 use Rattle.expression.proofs.Standing.{head-children, children-in-range, node-some, after-head}
+use Rattle.expression.proofs.InOrder.{and_then, then-bytes, then-in-range}
 use Rattle.printing.specs.Marks.{own_size, PhysicalAt, PhysicalWith, OfPhysicalWith}
 use Rattle.printing.specs.Texts.{RowToEnd, TextThere, OfText}
 use Rattle.printing.proofs.NodeTexts.{sizes, node-size}
 
 -- ---- several expressions and then others
-
-unfoldable pub and_then : Exprs → Exprs → Exprs
-and_then nil us = us
-and_then (cons t ts) us = cons t (and_then ts us)
-
-then-bytes : (ts us : Exprs) → exprs_bytes (and_then ts us) ≡ exprs_bytes ts ++ exprs_bytes us
-unfolding and_then exprs_bytes
-then-bytes nil us = refl
-then-bytes (cons t ts) us = rw (then-bytes ts us) (sym (append_assoc (expr_bytes t) (exprs_bytes ts) (exprs_bytes us)))
-
-then-in-range : (c : Columns) (ts us : Exprs) → InRangeAll c ts → InRangeAll c us → InRangeAll c (and_then ts us)
-unfolding and_then
-then-in-range c nil us h k = k
-then-in-range c (cons t ts) us h k = (h.0, then-in-range c ts us h.1 k)
 
 then-sizes : (ts us : Exprs) → sizes (and_then ts us) ≡ sizes ts + sizes us
 unfolding and_then sizes

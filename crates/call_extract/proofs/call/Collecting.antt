@@ -18,7 +18,7 @@ use Rattle.plan_reader.specs.Plans.{HoldsFrame, HeldIs}
 use Rattle.call_answers.proofs.Keeping.{plan-size, plan-length}
 use Rattle.node_rows.specs.Rows.{Tabled}
 use Rattle.node_rows.proofs.NodeBytes.{nodes-by-bytes}
-use Rattle.node_rows.proofs.OneTree.{of_tree}
+use Rattle.expression.proofs.OneTree.{of_tree}
 use Rattle.call_extract.specs.FrameRows.{Indexed, RoomIn}
 
 -- Cleared rows of m places are enough for a plan of n bytes.

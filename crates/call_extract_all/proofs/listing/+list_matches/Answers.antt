@@ -16,7 +16,7 @@ use Rattle.expression.proofs.Standing.{node-some}
 use Rattle.node_rows.specs.Rows.{Tabled}
 use Rattle.node_rows.proofs.RowLaws.{tabled-end, tabled-next, tabled-within}
 use Rattle.node_rows.proofs.IndexLaws.{left-tabled, right-tabled}
-use Rattle.node_rows.proofs.OneTree.{of_tree}
+use Rattle.expression.proofs.OneTree.{of_tree}
 use Rattle.byte_writer.proofs.Written.{together, together-length}
 use Rattle.expression.proofs.AndLeaves.{single-leaf}
 use Rattle.leaf_pick.specs.Picks.{matches}

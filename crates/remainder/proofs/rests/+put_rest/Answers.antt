@@ -13,7 +13,7 @@ use Rattle.expression.proofs.Standing.{node-some, first-stands}
 use Rattle.node_rows.specs.Rows.{Tabled}
 use Rattle.node_rows.proofs.RowLaws.{tabled-end, tabled-next, tabled-within}
 use Rattle.node_rows.proofs.IndexLaws.{left-tabled, right-tabled}
-use Rattle.node_rows.proofs.OneTree.{of_tree}
+use Rattle.expression.proofs.OneTree.{of_tree}
 use Rattle.remainder.specs.Rests.{RestPut}
 use Rattle.remainder.proofs.RestLaws.{and-put}
 use Rattle.remainder.proofs.rests.RestWalk.{lone-leaf, left_after, right-stands, right-fits, left-fits, head-fits}
