@@ -5,8 +5,7 @@ use mathlib.Core.Path.{◌≡◌, refl, sym, ap, ◌∙◌, subst}
 use mathlib.Core.Bool.{Bool}
 use mathlib.Core.List.{List, [], ◌∷◌, ◌++◌}
 use mathlib.Core.Option.{Option, none, some, map}
-use lib.ListN.{length, take, drop, set, replicate, length-replicate}
-use lib.Seq.{drop_at, length-take-le}
+use lib.ListN.{length, set, replicate, length-replicate}
 use Rattle.definitions.specs.Words.Expression.{Expr, column, literal, and, binary, call, other, field, Record}
 use Rattle.definitions.specs.Bytes.Encode.{expr_bytes, frame_bytes, remainder_bytes}
 use Rattle.definitions.specs.Bytes.Decode.{Columns, index_below}
@@ -17,7 +16,7 @@ use Rattle.theorems.proofs.Tools.{by-test}
 use Rattle.theorems.proofs.Taken.{RestIs}
 use Rattle.expression.specs.Places.{Holds}
 use Rattle.byte_writer.specs.Written.{Wrote, WroteAt}
-use Rattle.byte_writer.proofs.Written.{to_start, store}
+use Rattle.byte_writer.proofs.Written.{to_start, store, standing as stands-written}
 use Rattle.remainder.specs.Rests.{bytes_left, left_bytes, gone_flags, RestFits, RestPut}
 use Rattle.remainder.specs.declared.rests.Stays.{Stays}
 use Rattle.remainder.specs.Pruned.{Prunable, PrunedFits, PrunedPut}
@@ -49,15 +48,6 @@ stays-in c goes (field b g) h = unless-in (InRange c) goes (field b g) h
 -- A row as it is made has so many places.
 pub zeros-room : (n : ℕ) → n ≤ length {A = ℕ} (replicate n 0)
 zeros-room n = simp length-replicate (omega arith)
-
--- What was written stands there.
-pub wrote-there : {w r : ℕ} (x before after : List ℕ) → w ≤ length before → length after ≡ length before → WroteAt w x before after r
-    → Holds after w x
-wrote-there {w} {r} x before after room same h = record {
-  rest = drop (w + length x) before;
-  bytes = ap (drop w) h.out ∙ drop_at (take w before) (x ++ drop (w + length x) before) w (length-take-le w before room);
-  within = omega arith;
-}
 
 -- ---- the frame, for `put_rest`
 
@@ -101,6 +91,7 @@ module _ {s : List ℕ} {rec count at : ℕ} {gone : List ℕ} {goes : Expr → 
       pub record Standing : Type 0 where
         pub expr : Expr
         pub prunable : Prunable s rec count rest r.start records expr
+        pub ends : length rest ≡ r.start + length (expr_bytes expr)
         pub bytes : last_bytes goes records t ≡ frame_bytes (prune records expr)
 
       standing_by : (x : Option Expr) → RestIs (InRange (index_below count)) x → WroteAt r.start (bytes_left x) before rest (length before)
@@ -112,8 +103,9 @@ module _ {s : List ℕ} {rec count at : ℕ} {gone : List ℕ} {goes : Expr → 
         prunable = record {
           entries = left.frame.entries;
           few = left.frame.few;
-          tree = record { bytes = wrote-there (expr_bytes x) before rest (omega (arith, put.high)) same w; in_range = h };
+          tree = record { bytes = stands-written (omega (arith, put.high)) w; in_range = h };
         };
+        ends = omega (arith, same, w.ends);
         bytes = sym e;
       }
 
@@ -125,6 +117,7 @@ module _ {s : List ℕ} {rec count at : ℕ} {gone : List ℕ} {goes : Expr → 
         records = records;
         tree = standing.expr;
         frame = standing.prunable;
+        ends = standing.ends;
         room = omega (arith, ap length standing.bytes);
       }
 
@@ -132,4 +125,4 @@ module _ {s : List ℕ} {rec count at : ℕ} {gone : List ℕ} {goes : Expr → 
           → (m ≡ length (last_bytes goes records t)) × Wrote (last_bytes goes records t) out after
       pruned-put out after m is =
           subst (λ (x : List ℕ). (m ≡ length x) × Wrote x out after) (sym standing.bytes)
-          (is records standing.expr standing.prunable)
+          (is records standing.expr standing.prunable standing.ends)

@@ -32,7 +32,8 @@ use Rattle.remainder.specs.References.{marked}
 use Rattle.remainder.specs.Remainders.{PatchFits, Patched}
 use Rattle.remainder.proofs.CutLaws.{LeftOf, left-of, left-spans, Pieces, pieces}
 use Rattle.remainder.proofs.LeftColumns.{all-kept, fold-kept, all-mapped, not-in-leaf, LeftColumns, left-columns}
-use Rattle.remainder.proofs.LeftCopies.PatchLaws.{put_index, put_indexes, renumbered}
+use Rattle.plan_writer.proofs.Copying.{put_index}
+use Rattle.remainder.proofs.LeftCopies.PatchLaws.{put_indexes, renumbered}
 
 -- ---- what is known of what is left
 

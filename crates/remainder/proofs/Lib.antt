@@ -1,7 +1,7 @@
 -- Laws that the proofs use: remainders and the records that stay.
 pub mod KeyLaws
 pub mod RecordLaws
-pub mod ReferenceWalk
+pub mod ReferenceLaws
 pub mod RestLaws
 pub mod FlagLaws
 pub mod CutLaws

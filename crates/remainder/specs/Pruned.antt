@@ -1,7 +1,7 @@
 -- A plain expression and the records of its columns, and the frame that is written of them.
-use Rattle.std.specs.Prelude.{ℕ, ◌≤◌, ◌≡◌, List, length}
+use Rattle.std.specs.Prelude.{ℕ, ◌+◌, ◌≤◌, ◌≡◌, List, length}
 use Rattle.definitions.specs.Words.Expression.{Expr, Record}
-use Rattle.definitions.specs.Bytes.Encode.{frame_bytes}
+use Rattle.definitions.specs.Bytes.Encode.{expr_bytes, frame_bytes}
 use Rattle.definitions.specs.Bytes.Decode.{index_below}
 use Rattle.definitions.specs.Filter.Extract.{prune}
 use Rattle.expression.specs.Nodes.{Stands}
@@ -18,14 +18,15 @@ pub record Prunable (s : List ℕ) (rec count : ℕ) (from : List ℕ) (at : ℕ
 abbrev pub pruned_bytes : List Record → Expr → List ℕ
 pruned_bytes records e = frame_bytes (prune records e)
 
--- There are such, and room for that frame; it was written.
+-- There are such, the expression up to the end, and room for that frame; it was written.
 pub record PrunedFits (s : List ℕ) (rec count : ℕ) (from : List ℕ) (at : ℕ) (out : List ℕ) : Type 0 where
   pub records : List Record
   pub tree : Expr
   pub frame : Prunable s rec count from at records tree
+  pub ends : length from ≡ at + length (expr_bytes tree)
   pub room : length (pruned_bytes records tree) ≤ length out
 
 abbrev pub PrunedPut : (s : List ℕ) (rec count : ℕ) (from : List ℕ) (at : ℕ) (before after : List ℕ) → ℕ → Type 0
 PrunedPut s rec count from at before after r =
-    (records : List Record) (e : Expr) → Prunable s rec count from at records e
+    (records : List Record) (e : Expr) → Prunable s rec count from at records e → length from ≡ at + length (expr_bytes e)
     → (r ≡ length (pruned_bytes records e)) × Wrote (pruned_bytes records e) before after

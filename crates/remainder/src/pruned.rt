@@ -1,4 +1,4 @@
-// The frame of an expression that stands elsewhere: the records that its columns refer to, and the expression over them.
+// The frame of an expression that stands at the end of other bytes: the records that its columns refer to, and the expression over them.
 ghost use Rattle.std.specs.Prelude.{◌≤◌};
 ghost use Rattle.remainder.specs.Pruned.{PrunedFits, PrunedPut};
 
@@ -18,17 +18,17 @@ fn put_pruned_in<const N: usize>(out: &mut [u8], records: Records, from: &[u8], 
     let mut used = [false; N];
     let mut to = [0u16; N];
     let mut keys = [0u32; N];
-    collect_column_references(&mut used, from, at);
+    let end = from.len();
+    collect_column_references(&mut used, from, at, end);
     let marked = Marked {
         records,
         used: &used,
     };
     let w = put_records(out, &mut to, &mut keys, marked);
-    let copied = reproject_column_references(&mut out[w..], from, at, &to);
-    w + copied.wrote
+    reproject_column_references(out, w, from, at, end, &to)
 }
 
-// Writes the frame of the expression in `from` over the records that it refers to; answers its length. Most frames have few records, and
+// Writes the frame of the expression at the end of `from` over the records that it refers to; answers its length. Most frames have few records, and
 // need no longer rows cleared.
 pub fn put_pruned(out: &mut [u8], records: Records, from: &[u8], at: usize) -> usize
     requires { PrunedFits records.src.now records.rec records.count from.now at out.old }

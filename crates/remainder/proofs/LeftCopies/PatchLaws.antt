@@ -16,13 +16,9 @@ use Rattle.expression.proofs.OfKind.{no-own-columns}
 use Rattle.expression.proofs.Standing.{head-children}
 use Rattle.node_rows.proofs.ColumnRows.{columns_at, row_columns_at, columns-count, columns-below}
 use Rattle.plan_writer.specs.Copies.{copy_of, copies_of}
-use Rattle.plan_writer.proofs.CopyWalk.{map-node}
+use Rattle.plan_writer.proofs.Copying.{map-node, put_index, column-between}
 
 -- ---- indexes put at their places
-
--- The two bytes of an index put at a place.
-abbrev pub put_index : (place index : ℕ) (s : List ℕ) → List ℕ
-put_index place index s = take place s ++ (big_endian 2 index ++ drop (place + 2) s)
 
 -- For each column at a place the index that a table has for it.
 unfoldable pub put_indexes : (to places indexes : List ℕ) (s : List ℕ) → List ℕ
@@ -38,12 +34,6 @@ put-append to [] y (a ∷ i) j s e = absurd (omega arith)
 put-append to (p ∷ x) y [] j s e = absurd (omega arith)
 put-append to (p ∷ x) y (a ∷ i) j s e = put-append to x y i j (put_index (p + 1) (get_or to a 0) s) (omega arith)
 
-put-between : (a y z : List ℕ) (w v : ℕ) → w ≡ length a → length y ≡ 2 → put_index w v (a ++ (y ++ z)) ≡ a ++ (big_endian 2 v ++ z)
-put-between a y z w v e two =
-    let size : length (a ++ y) ≡ w + 2 = omega (arith, length-append a y) in
-    ap₂ (λ (x u : List ℕ). x ++ (big_endian 2 v ++ u)) (take_at a (y ++ z) w (sym e))
-    (ap (drop (w + 2)) (sym (append_assoc a y z)) ∙ drop_at (a ++ y) z (w + 2) size)
-
 -- ---- the law
 
 module _ (to : List ℕ) where
@@ -57,13 +47,8 @@ module _ (to : List ℕ) where
       → put_indexes to (row_columns_at at ts) (columns_of_all ts) (a ++ (exprs_bytes ts ++ z)) ≡ a ++ (copies_of to ts ++ z)
 
   a-column : (i g : ℕ) → Law (column i g)
-  unfolding put_indexes columns_at columns_of expr_bytes map_columns big_endian
-  a-column i g a z at e =
-      let v : ℕ = get_or to i 0 in
-      let more : List ℕ = big_endian 2 g ++ z in
-      ap (put_index (at + 1) v) (sym (append_assoc a (0 ∷ []) (big_endian 2 i ++ more)))
-      ∙ put-between (a ++ (0 ∷ [])) (big_endian 2 i) more (at + 1) v (omega (arith, length-append a (0 ∷ []))) refl
-      ∙ append_assoc a (0 ∷ []) (big_endian 2 v ++ more)
+  unfolding put_indexes columns_at columns_of map_columns
+  a-column i g a z at e = column-between a z i g (get_or to i 0) (at + 1) (omega arith)
 
   -- A node that is no column is its head and its children.
   above : (t : Expr) → (kind_of t ≡ 0 → ⊥) → RowLaw (children_of t) → Law t

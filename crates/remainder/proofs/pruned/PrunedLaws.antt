@@ -9,15 +9,17 @@ use Rattle.definitions.specs.Words.Basics.{big_endian}
 use Rattle.definitions.specs.Words.Expression.{Expr, Record}
 use Rattle.definitions.specs.Bytes.Encode.{expr_bytes, records_bytes}
 use Rattle.definitions.specs.Words.References.{columns_of, map_columns}
+use Rattle.definitions.specs.Bytes.Decode.{index_below}
+use Rattle.expression.specs.Nodes.{Spans}
 use Rattle.definitions.specs.Filter.Extract.{new_index}
 use Rattle.theorems.proofs.Columns.{columns-below}
 use Rattle.byte_writer.specs.Written.{Wrote, WroteAt}
-use Rattle.byte_writer.proofs.Written.{behind, together, behind-length, part-wrote, to_start, chain}
-use Rattle.plan_writer.specs.Copies.{copy_of, CopyFits, NodeCopied}
-use Rattle.plan_writer.specs.declared.arguments.Copied.{Copied}
+use Rattle.byte_writer.specs.Writing.{Room, PutsAt}
+use Rattle.byte_writer.proofs.Written.{to_start, chain}
+use Rattle.plan_writer.specs.Copies.{copy_of, InTable}
 use Rattle.plan_writer.proofs.Ranges.{wider-stands}
 use Rattle.plan_writer.proofs.TableLaws.{table-copies}
-use Rattle.remainder.specs.References.{Flagged, NodeCollected}
+use Rattle.remainder.specs.References.{Flagged, Collected}
 use Rattle.remainder.specs.Records.{stays, MarkedBy, kept_all, AllFit, columns_part, RecordsPut}
 use Rattle.remainder.specs.HeldIndexes.{Unmarked, Marks}
 use Rattle.remainder.proofs.FlagLaws.{held-marks, held-flags}
@@ -25,7 +27,7 @@ use Rattle.remainder.proofs.RemainderLaws.{frame-parts}
 use Rattle.remainder.specs.Pruned.{Prunable, pruned_bytes}
 
 module _ {s : List ℕ} {rec count : ℕ} {from : List ℕ} {at : ℕ} {records : List Record} {e : Expr}
-    (f : Prunable s rec count from at records e) where
+    (f : Prunable s rec count from at records e) (ends : length from ≡ at + length (expr_bytes e)) where
   abbrev new : ℕ → ℕ
   new = new_index (stays records (columns_of e)) records
 
@@ -37,13 +39,16 @@ module _ {s : List ℕ} {rec count : ℕ} {from : List ℕ} {at : ℕ} {records 
   unfolding big_endian
   size = ap length parts ∙ simp length-append (omega arith)
 
-  pub plain-flagged : (flags : List Bool) → count ≤ length flags → Flagged from at flags
-  plain-flagged flags room = (e, wider-stands room f.tree)
+  spans : {n : ℕ} → count ≤ n → Spans (index_below n) from at (length from) e
+  spans wide = record { stands = wider-stands wide f.tree; ends = ends }
 
-  module _ (flags used : List Bool) (room : count ≤ length flags) (clear : Unmarked flags) (same : length used ≡ length flags) {r : ℕ}
-      (is : NodeCollected from at flags used r) where
+  pub plain-flagged : (flags : List Bool) → count ≤ length flags → Flagged from at (length from) flags
+  plain-flagged flags room = (e, spans room)
+
+  module _ (flags used : List Bool) (room : count ≤ length flags) (clear : Unmarked flags) (same : length used ≡ length flags)
+      (is : Collected from at (length from) flags used) where
     marks : Marks e used
-    marks = subst (Marks e) (sym (is e (wider-stands room f.tree)).flags) (held-marks e flags clear)
+    marks = subst (Marks e) (sym (is e (spans room))) (held-marks e flags clear)
 
     -- The flags mark its columns.
     plain-marked : MarkedBy s rec count used records (columns_of e)
@@ -67,18 +72,13 @@ module _ {s : List ℕ} {rec count : ℕ} {from : List ℕ} {at : ℕ} {records 
           let both = length-append (columns_part (kept_all records (columns_of e))) (expr_bytes (map_columns new e)) in
           omega (arith, written.ends, ap length parts, both)
 
-      pub expr-fits : count ≤ length to → length middle ≡ length before → length (pruned_bytes records e) ≤ length before
-          → CopyFits from at to (behind w middle)
-      expr-fits long as_long fits = record {
-        tree = e;
-        stands = wider-stands long f.tree;
-        room = omega (arith, ap length copied, records-end fits, behind-length w middle);
-      }
+      pub expr-room : count ≤ length to → length middle ≡ length before → length (pruned_bytes records e) ≤ length before
+          → Room (InTable from at (length from) to) (copy_of to) w middle
+      expr-room long as_long fits = record { it = e; stands = spans long; room = omega (arith, ap length copied, records-end fits) }
 
-      pub frame-put : (part : List ℕ) (q : Copied) → count ≤ length to → NodeCopied from at to (behind w middle) part q
-          → (w + q.wrote ≡ length (pruned_bytes records e)) × Wrote (pruned_bytes records e) before (together w middle part)
-      frame-put part q long copy =
-          let expr = copy e (wider-stands long f.tree) in
-          subst (λ (x : List ℕ). (w + q.wrote ≡ length x) × Wrote x before (together w middle part))
+      pub frame-put : {after : List ℕ} {r : ℕ} → count ≤ length to → PutsAt (InTable from at (length from) to) (copy_of to) w middle after r
+          → (r ≡ length (pruned_bytes records e)) × Wrote (pruned_bytes records e) before after
+      frame-put {after} {r} long copy =
+          subst (λ (x : List ℕ). (r ≡ length x) × Wrote x before after)
           (ap (λ (y : List ℕ). columns_part (kept_all records (columns_of e)) ++ y) copied ∙ sym parts)
-          (to_start (chain (omega arith) written (part-wrote (copy_of to e) middle part w expr.out q.wrote expr.wrote)))
+          (to_start (chain (omega arith) written (copy.wrote e (spans long))))
