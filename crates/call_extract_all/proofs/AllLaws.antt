@@ -27,7 +27,7 @@ use Rattle.node_rows.proofs.NodeBytes.{nodes-by-bytes}
 use Rattle.expression.specs.Places.{Holds}
 use Rattle.expression.specs.Nodes.{Stands}
 use Rattle.byte_writer.specs.Written.{Wrote}
-use Rattle.byte_writer.proofs.Written.{taken, behind, together, behind-length, together-length, then-wrote, from_start, copied-wrote}
+use Rattle.byte_writer.proofs.Written.{taken, behind, together, behind-length, together-length, then-wrote, from_start, copied-wrote, standing}
 use Rattle.frame_reader.specs.declared.frame_bodies.Frame.{Frame}
 use Rattle.frame_reader.proofs.Standing.{between-holds, expr-stands}
 use Rattle.plan_writer.specs.Tables.{Entries, ChildTable}
@@ -35,7 +35,6 @@ use Rattle.leaf_pick.specs.Picks.{matches}
 use Rattle.remainder.specs.Rests.{flag_of}
 use Rattle.remainder.specs.Pruned.{Prunable}
 use Rattle.remainder.specs.Last.{last_bytes, Left, LastFits, LastPut}
-use Rattle.remainder.proofs.LastLaws.{wrote-there}
 use Rattle.call_extract_all.specs.Listings.{listed, match_flag, Listable, ListFits, ListIs}
 use Rattle.call_extract_all.specs.declared.listing.Tally.{Tally}
 use Rattle.call_extract_all.specs.Conjuncts.{GoodAt, FlaggedLeaves, last_left_bytes, LeftFits, LeftPut, all_bytes, AllIs, Memory}
@@ -210,7 +209,7 @@ module _ {s : List ℕ} {f : Frame} {F : tree.Frame} (g : GoodAt s f F) where
         (is : ListIs 0 (matched match F) out middle row turned flags flagged r)
         (same : length middle ≡ length out) (alike : length turned ≡ length row) (kept : length flagged ≡ length flags) where
       others-there : Holds turned 0 others
-      others-there = wrote-there others row turned (omega arith) alike (from_start others row is.other_wrote r.other is.other)
+      others-there = standing (omega arith) (from_start others row is.other_wrote r.other is.other)
 
       abbrev leaf_flags : List ℕ
       leaf_flags = map match_flag (matched match F)
@@ -219,7 +218,7 @@ module _ {s : List ℕ} {f : Frame} {F : tree.Frame} (g : GoodAt s f F) where
       flags-are : take r.position flagged ≡ leaf_flags
       flags-are =
           ap (λ (k : ℕ). take k flagged) (omega (arith, is.counted, length-map (matched match F) match_flag))
-          ∙ taken (wrote-there leaf_flags flags flagged (omega arith) kept is.flags)
+          ∙ taken (standing (omega arith) is.flags)
 
       abbrev leaves_gone : List ℕ
       leaves_gone = take r.position flagged

@@ -25,11 +25,10 @@ use Rattle.theorems.proofs.SettingsClaimed.{all-settings-hold, bad-settings-refu
 use Rattle.expression.specs.Nodes.{OfTree}
 use Rattle.node_rows.specs.Rows.{Tabled}
 use Rattle.expression.proofs.OneTree.{of_tree}
-use Rattle.byte_writer.proofs.Written.{copied-wrote, from_start}
+use Rattle.byte_writer.proofs.Written.{copied-wrote, from_start, standing}
 use Rattle.frame_reader.specs.Frames.{PhysicalIs}
 use Rattle.frame_reader.specs.declared.frame_bodies.Frame.{Frame}
 use Rattle.frame_reader.proofs.Standing.{expr-stands}
-use Rattle.remainder.proofs.LastLaws.{wrote-there}
 use Rattle.call_extract_all.specs.Conjuncts.{GoodAt, all_bytes, AllIs, AllFits, Memory}
 use Rattle.call_extract_all.specs.declared.conjuncts.Taken.{Taken}
 use Rattle.call_extract_all.proofs.AllLaws.{few-bytes, never-longer}
@@ -129,7 +128,7 @@ module _ {S : Settings} (settings : GoodSettings S) (s before : List ℕ) where
               size = put.size;
               wrote =
                   copied-wrote before r.length
-                  (wrote-there (all_bytes match F) blank own (omega arith) same
+                  (standing (omega arith)
                   (from_start (all_bytes match F) blank put.wrote r.length put.size))
                   put.size is;
             })

@@ -35,8 +35,8 @@ fn put_raised(out: &mut [u8], w: usize, given: PlacedFrame, by: usize) -> usize
     let mut to = [0u16; 256];
     let count = given.parts.columns;
     raised_indexes(&mut to, by, count);
-    let copied = reproject_column_references(&mut out[w..], given.bytes, given.parts.root, &to);
-    w + copied.wrote
+    let bytes = given.bytes;
+    reproject_column_references(out, w, bytes, given.parts.root, bytes.len(), &to)
 }
 
 // And, the held filter as it is, the new one with its columns after the held ones; answers their length.

@@ -7,38 +7,38 @@ use lib.ListN.{length}
 use Rattle.definitions.specs.Words.Expression as tree
 use Rattle.definitions.specs.Bytes.Decode.{index_below}
 use Rattle.definitions.specs.Filter.Merge.{raised}
-use Rattle.expression.specs.Nodes.{Stands}
+use Rattle.expression.specs.Nodes.{Spans}
 use Rattle.frame_reader.specs.Frames.{FrameAt}
 use Rattle.frame_reader.specs.declared.frame_bodies.Frame.{Frame}
-use Rattle.frame_reader.proofs.Standing.{expr-stands}
-use Rattle.byte_writer.specs.Written.{Wrote}
-use Rattle.byte_writer.specs.Writing.{Room, Puts}
+use Rattle.frame_reader.proofs.Standing.{expr-spans}
+use Rattle.byte_writer.specs.Written.{WroteAt}
+use Rattle.byte_writer.specs.Writing.{Room, PutsAt}
 use Rattle.plan_writer.specs.Tables.{RaisedTable}
-use Rattle.plan_writer.specs.Copies.{copy_of, CopyFits, NodeCopied}
-use Rattle.plan_writer.specs.declared.arguments.Copied.{Copied}
+use Rattle.plan_writer.specs.Copies.{copy_of, InTable}
 use Rattle.plan_writer.proofs.Ranges.{wider-stands}
 use Rattle.plan_writer.proofs.TableLaws.{table-whole, table-copies}
 use Rattle.call_merge.specs.Merging.{raised_expr}
 
 module _ {s : List ℕ} {f : Frame} {end : ℕ} (by : ℕ) {to : List ℕ} (wide : f.columns ≤ length to)
     (table : RaisedTable by f.columns to) where
-  in_table : (F : tree.Frame) → FrameAt s f end F → Stands (index_below (length to)) s f.root F.expr
-  in_table F h = wider-stands (omega (arith, h.counted)) (expr-stands h.expr)
+  in_table : (F : tree.Frame) → FrameAt s f end F → InTable s f.root end to F.expr
+  in_table F h =
+      let spans = expr-spans h.expr in
+      record { stands = wider-stands (omega (arith, h.counted)) spans.stands; ends = spans.ends }
 
   raises : (F : tree.Frame) → FrameAt s f end F → copy_of to F.expr ≡ raised_expr by F
   unfolding raised
   raises F h = table-copies (table-whole h.counted table) F.expr h.expr.readable.in_range
 
-  pub raised-fits : {out : List ℕ} → Room (FrameAt s f end) (raised_expr by) 0 out → CopyFits s f.root to out
+  pub raised-fits : {w : ℕ} {out : List ℕ} → Room (FrameAt s f end) (raised_expr by) w out → Room (InTable s f.root end to) (copy_of to) w out
   raised-fits p = record {
-    tree = p.it.expr;
+    it = p.it.expr;
     stands = in_table p.it p.stands;
     room = omega (arith, p.room, ap length (raises p.it p.stands));
   }
 
-  pub raised-put : {before after : List ℕ} {r : Copied} → NodeCopied s f.root to before after r
-      → Puts (FrameAt s f end) (raised_expr by) before after r.wrote
-  raised-put {before} {after} is = record {
-    size = λ F h. (is F.expr (in_table F h)).wrote ∙ ap length (raises F h);
-    wrote = λ F h. subst (λ (x : List ℕ). Wrote x before after) (raises F h) (is F.expr (in_table F h)).out;
+  pub raised-put : {w : ℕ} {before after : List ℕ} {r : ℕ} → PutsAt (InTable s f.root end to) (copy_of to) w before after r
+      → PutsAt (FrameAt s f end) (raised_expr by) w before after r
+  raised-put {w} {before} {after} {r} is = record {
+    wrote = λ F h. subst (λ (x : List ℕ). WroteAt w x before after r) (raises F h) (is.wrote F.expr (in_table F h));
   }
