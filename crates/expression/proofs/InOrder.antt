@@ -2,16 +2,17 @@
 -- from head to head up to an end comes to every node.
 use Prim.Native.Nat.{ℕ, ◌+◌, ◌≤◌, ◌<◌}
 use native.Mathlib.Omega.{arith}
-use mathlib.Core.Path.{◌≡◌, refl, sym, ap, ◌∙◌}
+use mathlib.Core.Path.{◌≡◌, refl, sym, ap, ◌∙◌, subst}
 use mathlib.Core.List.{List, ◌++◌, append_assoc, append-nil}
 use lib.ListN.{length, drop, length-append}
 use lib.Seq.{drop-drop, drop-append_seam}
-use Rattle.definitions.specs.Words.Expression.{Expr, Exprs, nil, cons}
+use Rattle.definitions.specs.Words.Expression.{Expr, Exprs, nil, cons, count}
 use Rattle.definitions.specs.Bytes.Encode.{expr_bytes, exprs_bytes}
 use Rattle.definitions.specs.Bytes.Decode.{Columns}
 use Rattle.definitions.specs.Bytes.Good.{InRangeAll}
-use Rattle.expression.specs.Places.{Between}
-use Rattle.expression.specs.Nodes.{head_bytes, children_of, Stands, Spans}
+use Rattle.expression.specs.Places.{Holds, Between}
+use Rattle.expression.specs.Nodes.{head_bytes, children_of, Stands, Spans, Row}
+use Rattle.expression.proofs.Placed.{back}
 use Rattle.expression.proofs.Standing.{head-children, children-in-range, spans-between, some_bytes}
 
 -- ---- several expressions and then others
@@ -29,6 +30,33 @@ pub then-in-range : (c : Columns) (ts us : Exprs) → InRangeAll c ts → InRang
 unfolding and_then
 then-in-range c nil us h k = k
 then-in-range c (cons t ts) us h k = (h.0, then-in-range c ts us h.1 k)
+
+then-count : (ts us : Exprs) → count (and_then ts us) ≡ count ts + count us
+unfolding and_then count
+then-count nil us = omega arith
+then-count (cons t ts) us = omega (arith, then-count ts us)
+
+-- ---- the first of several in a row
+
+-- After its head come its children, and then the others.
+pub opened-row : {c : Columns} {s : List ℕ} {at n : ℕ} {t : Expr} {ts : Exprs} → Row c s at n (cons t ts) → (p m : ℕ)
+    → p ≡ at + length (head_bytes t) → m + 1 ≡ n + count (children_of t) → Row c s p m (and_then (children_of t) ts)
+unfolding exprs_bytes count
+opened-row {c} {s} {at} {n} {t} {ts} h p m e k =
+    let y : List ℕ = exprs_bytes (children_of t) ++ exprs_bytes ts in
+    record {
+      bytes = subst (Holds s p) (sym (then-bytes (children_of t) ts))
+          (back (head_bytes t) y (subst (Holds s at) (ap (λ (l : List ℕ). l ++ exprs_bytes ts) (head-children t)
+          ∙ append_assoc (head_bytes t) (exprs_bytes (children_of t)) (exprs_bytes ts)) h.bytes) p e);
+      in_range = then-in-range c (children_of t) ts (children-in-range c t h.in_range.0) h.in_range.1;
+      counted = omega (arith, then-count (children_of t) ts, h.counted);
+    }
+
+-- No more of them than bytes.
+pub as-few : (ts : Exprs) → count ts ≤ length (exprs_bytes ts)
+unfolding exprs_bytes count
+as-few nil = omega arith
+as-few (cons t ts) = omega (arith, as-few ts, some_bytes t, length-append (expr_bytes t) (exprs_bytes ts))
 
 -- ---- the first of several that stand up to an end
 

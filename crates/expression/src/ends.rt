@@ -6,31 +6,26 @@ ghost use Rattle.expression.specs.Nodes.{Tree, OfTree, Trees, OfTrees};
 
 use super::heads::head_at;
 
-// Where the expression at a place ends. A walk over a node and one over its children that call each other are the form that document 01
-// binds.
-#[cycle(end_children_end_node)]
-pub fn end_node(s: &[u8], at: usize) -> usize
-    requires { Tree s.now at }
-    ensures { OfTree s.now at (λ t. result ≡ at + length (expr_bytes t)) }
-{
-    let head = head_at(s, at);
-    let next = head.next;
-    let n = head.children;
-    if n == 0 {
-        return next;
-    }
-    end_children(s, next, n)
-}
-
-// Where n expressions in a row end.
-#[cycle(end_children_end_node)]
+// Where n expressions in a row end. Their nodes stand one after another: a step passes one, and then its children are the first that are
+// left.
 pub fn end_children(s: &[u8], at: usize, n: usize) -> usize
     requires { Trees s.now at n }
     ensures { OfTrees s.now at n (λ ts. result ≡ at + length (exprs_bytes ts)) }
 {
     let mut next = at;
-    for _ in 0..n {
-        next = end_node(s, next);
+    let mut left = n;
+    while 0 < left {
+        let head = head_at(s, next);
+        next = head.next;
+        left = left - 1 + head.children;
     }
     next
+}
+
+// Where the expression at a place ends.
+pub fn end_node(s: &[u8], at: usize) -> usize
+    requires { Tree s.now at }
+    ensures { OfTree s.now at (λ t. result ≡ at + length (expr_bytes t)) }
+{
+    end_children(s, at, 1)
 }
