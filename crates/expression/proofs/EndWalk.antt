@@ -99,7 +99,7 @@ module _ {s : List ℕ} {at : ℕ} where
   all-end {n} {r} p is = of-trees (λ ts. r ≡ at + length (exprs_bytes ts)) p.2 is
 
   -- One expression is a row of one.
-  one-row : {c : Columns} {t : Expr} → Stands c s at t → Row c s at 1 (cons t nil)
+  pub one-row : {c : Columns} {t : Expr} → Stands c s at t → Row c s at 1 (cons t nil)
   unfolding exprs_bytes count
   one-row {c} {t} h = record {
     bytes = subst (Holds s at) (sym (append-nil (expr_bytes t))) h.bytes;

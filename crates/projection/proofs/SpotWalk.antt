@@ -1,24 +1,29 @@
--- What each return of `collect_columns` and `collect_children` answers, and what their calls require.
+-- What the loop of `collect_columns` keeps: the spots of the nodes that were passed are in the row, and with those of the nodes that are left
+-- they are the expression's.
 use Prim.Native.Nat.{ℕ, ◌+◌, ◌-◌, ◌≤◌, ◌<◌}
 use native.Mathlib.Omega.{arith}
-use mathlib.Core.Path.{◌≡◌, refl, sym, ap, ◌∙◌, subst}
-use mathlib.Core.List.{List, [], ◌∷◌, ◌++◌, map, map-append}
-use lib.ListN.{length, get_or, set, length-append, length-map}
+use mathlib.Core.Path.{◌≡◌, refl, sym, ap, ap₂, ◌∙◌, subst}
+use mathlib.Core.List.{List, [], ◌∷◌, ◌++◌, map, map-append, append-nil, append_assoc}
+use lib.ListN.{length, get_or, set, length-append, length-map, length-set}
+use Rattle.definitions.specs.Words.Basics.{big_endian}
 use Rattle.definitions.specs.Words.Limits.{most_bytes, two_bytes}
-use Rattle.definitions.specs.Words.Expression.{Side, Expr, Exprs, cons}
+use Rattle.definitions.specs.Words.Expression.{Side, Expr, column, Exprs, nil, cons, count}
 use Rattle.definitions.specs.Bytes.Encode.{expr_bytes, exprs_bytes}
 use Rattle.definitions.specs.Bytes.Decode.{index_below}
-use Rattle.expression.specs.Places.{short_at}
-use Rattle.expression.specs.Nodes.{children_of, Stands, Row, OfTree}
+use Rattle.expression.specs.Places.{Holds, short_at}
+use Rattle.expression.specs.Nodes.{head_bytes, children_of, Stands, Row, Tree, OfTree}
 use Rattle.expression.specs.Heads.{HeadIs}
 use Rattle.expression.specs.declared.heads.Head.{Head}
 use Rattle.expression.proofs.Placed.{fits}
-use Rattle.expression.proofs.Standing.{tree-length, kind-is, children-stand, first-stands, rest-stands, some-children, no-children, after-node}
+use Rattle.expression.proofs.Standing.{tree-length, kind-is, first-stands, some-children, no-children, after-head}
+use Rattle.expression.proofs.EndWalk.{one-row}
+use Rattle.expression.proofs.OneTree.{of_tree}
+use Rattle.expression.proofs.InOrder.{and_then, then-bytes, opened-row, as-few}
 use Rattle.byte_writer.specs.Written.{WroteAt}
 use Rattle.byte_writer.proofs.Written.{chain, nothing-wrote, store}
 use Rattle.plan_writer.proofs.Fields.{column-is, column-size}
 use Rattle.projection.specs.Spots.{Spot, spot_number, column_spots, child_spots}
-use Rattle.projection.specs.Rows.{ColumnsFit, ChildrenFit, SpotsPut, ColumnsCollected, ChildrenCollected}
+use Rattle.projection.specs.Rows.{ColumnsFit, SpotsPut, ColumnsCollected}
 use Rattle.node_rows.specs.declared.collecting.Passed.{Passed}
 use Rattle.projection.proofs.SpotLaws.{no-own-spots}
 
@@ -37,164 +42,184 @@ pub index-after : {at size i : ℕ} {x : List Spot} {before after : List ℕ} {r
     → r.index ≡ i + length x
 index-after {i = i} {x} c = c.put.ends ∙ ap (λ (n : ℕ). i + n) (length-map x spot_number)
 
--- ---- returns
+-- ---- the loop
 
-module _ {s : List ℕ} {at i : ℕ} (side : Side) where
-  pub collect-column : (before : List ℕ) (t : Expr) → Stands (index_below two_bytes) s at t → get_or s at 0 ≡ 0 → (b : ℕ)
-      → b ≡ spot_number (record { side = side; at = at + 1; child = short_at s (at + 1) }) → i < length before
-      → SpotsPut at (length (expr_bytes t)) i (column_spots side at t) before (set before i b) (record { end = at + 5; index = i + 1 })
-  unfolding column_spots
-  collect-column before t h e b is room =
-      rw (column-is h e).tree (record {
-        ends = ap (λ (n : ℕ). at + n) (sym (column-size (short_at s (at + 1)) (short_at s (at + 3))));
-        put = subst (λ (v : ℕ). WroteAt i (v ∷ []) before (set before i b) (i + 1)) is (store before i b room);
-      })
+spots-then : (side : Side) (at : ℕ) (ts us : Exprs)
+    → child_spots side at (and_then ts us) ≡ child_spots side at ts ++ child_spots side (at + length (exprs_bytes ts)) us
+unfolding and_then child_spots exprs_bytes
+spots-then side at nil us = ap (λ (p : ℕ). child_spots side p us) (omega arith)
+spots-then side at (cons t ts) us =
+    let next : ℕ = at + length (expr_bytes t) in
+    ap (λ (l : List Spot). column_spots side at t ++ l)
+    (spots-then side next ts us ∙ ap (λ (p : ℕ). child_spots side next ts ++ child_spots side p us)
+    (omega (arith, length-append (expr_bytes t) (exprs_bytes ts))))
+    ∙ sym (append_assoc (column_spots side at t) (child_spots side next ts)
+    (child_spots side (at + length (expr_bytes t ++ exprs_bytes ts)) us))
 
-  pub collect-other : (before after : List ℕ) (t : Expr) → Stands (index_below two_bytes) s at t → (get_or s at 0 ≡ 0 → ⊥) → (h : Head)
-      → OfTree s at (HeadIs at h) → (r : Passed) → ChildrenCollected s h.next h.children side i before after r
-      → SpotsPut at (length (expr_bytes t)) i (column_spots side at t) before after r
-  collect-other before after t stands n h its r is =
-      let head : HeadIs at h t = its (index_below two_bytes) t stands in
-      let below : SpotsPut h.next (length (exprs_bytes (children_of t))) i (child_spots side h.next (children_of t)) before after r =
-      is (children_of t) (children-stand stands h.next h.children head.next head.children) in
-      record {
-        ends = omega (arith, below.ends, head.next, tree-length t);
-        put = subst (λ (x : List Spot). WroteAt i (map spot_number x) before after r.index)
-            (ap (λ (p : ℕ). child_spots side p (children_of t)) head.next
-            ∙ sym (no-own-spots side at t (λ k. n (sym (kind-is stands) ∙ k))))
-            below.put;
-      }
+-- The expressions that are left, up to `stop`; their spots and those in the row are all.
+pub record Collecting (s : List ℕ) (side : Side) (i stop : ℕ) (all : List Spot) (before : List ℕ) (end left index : ℕ) (row : List ℕ)
+    : Type 0 where
+  pub trees : Exprs
+  pub stand : Row (index_below two_bytes) s end left trees
+  pub ends : end + length (exprs_bytes trees) ≡ stop
+  pub done : List Spot
+  pub put : WroteAt i (map spot_number done) before row index
+  pub whole : all ≡ done ++ child_spots side end trees
+  pub same : length row ≡ length before
 
-  pub collects-none : (before : List ℕ) {n : ℕ} (ts : Exprs) → Row (index_below two_bytes) s at n ts → n ≡ 0
-      → SpotsPut at (length (exprs_bytes ts)) i (child_spots side at ts) before before (record { end = at; index = i })
+module _ {s : List ℕ} {at i : ℕ} {side : Side} {before : List ℕ} (p : ColumnsFit s at side i before) where
+  abbrev pub stop : ℕ
+  stop = at + length (expr_bytes p.tree)
+
+  pub collecting-begins : Collecting s side i stop (column_spots side at p.tree) before at 1 i before
   unfolding exprs_bytes child_spots
-  collects-none before ts row e =
-      no-children (λ ts. SpotsPut at (length (exprs_bytes ts)) i (child_spots side at ts) before before (record { end = at; index = i }))
-      (record { ends = omega arith; put = nothing-wrote before i }) ts (row.counted ∙ e)
-
-  pub collects-some : (before middle after : List ℕ) → i ≤ length before → {n : ℕ} (ts : Exprs)
-      → Row (index_below two_bytes) s at n ts → (n ≡ 0 → ⊥) → (p r : Passed) → ColumnsCollected s at side i before middle p
-      → ChildrenCollected s p.end (n - 1) side p.index middle after r
-      → SpotsPut at (length (exprs_bytes ts)) i (child_spots side at ts) before after r
-  unfolding exprs_bytes child_spots
-  collects-some before middle after room {n} ts row some p r one others = some-children
-      (λ ts. Row (index_below two_bytes) s at n ts → SpotsPut at (length (exprs_bytes ts)) i (child_spots side at ts) before after r)
-      (λ t ts o.
-      let a : SpotsPut at (length (expr_bytes t)) i (column_spots side at t) before middle p = one t (first-stands o) in
-      let b : SpotsPut p.end (length (exprs_bytes ts)) p.index (child_spots side p.end ts) middle after r =
-      others ts (rest-stands o p.end (n - 1) a.ends (omega arith)) in
-      rw length-append
-      (subst (λ (q : ℕ). SpotsPut at (length (expr_bytes t) + length (exprs_bytes ts)) i (column_spots side at t ++ child_spots side q ts)
-      before after r) a.ends (collected-both room a b)))
-      ts (omega (arith, row.counted)) row
-
--- ---- what the calls require
-
--- A column lies within s and within the limit, and has an entry.
-pub record Within (s : List ℕ) (at i : ℕ) (row : List ℕ) : Type 0 where
-  pub bytes : at + 5 ≤ length s
-  pub limit : at + 5 ≤ most_bytes
-  pub child : short_at s (at + 1) < two_bytes
-  pub entry : i < length row
-
-module _ {s : List ℕ} {at i : ℕ} {side : Side} where
-  pub column-within : {row : List ℕ} → ColumnsFit s at side i row → get_or s at 0 ≡ 0 → Within s at i row
-  unfolding column_spots
-  column-within {row} f e =
-      let own = column-is f.stands e in
-      let index = short_at s (at + 1) in
-      let tag = short_at s (at + 3) in
-      let size : length (expr_bytes f.tree) ≡ 5 = ap (λ (t : Expr). length (expr_bytes t)) own.tree ∙ column-size index tag in
-      let one : length (column_spots side at f.tree) ≡ 1 = ap (λ (t : Expr). length (column_spots side at t)) own.tree in
-      record {
-        bytes = omega (arith, fits own.bytes, column-size index tag);
-        limit = omega (arith, f.short);
-        child = own.below;
-        entry = omega (arith, f.room);
-      }
-
-  pub children-fit : {row : List ℕ} (f : ColumnsFit s at side i row) → (get_or s at 0 ≡ 0 → ⊥) → (h : Head) → OfTree s at (HeadIs at h)
-      → ChildrenFit s h.next h.children side i row
-  children-fit {row} f n h is =
-      let head = is (index_below two_bytes) f.tree f.stands in
-      record {
-        trees = children_of f.tree;
-        stand = children-stand f.stands h.next h.children head.next head.children;
-        short = omega (arith, f.short, head.next, tree-length f.tree);
-        room = subst (λ (x : List Spot). i + length x ≤ length row)
-            (no-own-spots side at f.tree (λ k. n (sym (kind-is f.stands) ∙ k))
-            ∙ ap (λ (p : ℕ). child_spots side p (children_of f.tree)) (sym head.next))
-            f.room;
-      }
-
-  first-of : {row : List ℕ} {n : ℕ} (t : Expr) (ts : Exprs) → Row (index_below two_bytes) s at n (cons t ts)
-      → at + length (exprs_bytes (cons t ts)) ≤ most_bytes → i + length (child_spots side at (cons t ts)) ≤ length row
-      → ColumnsFit s at side i row
-  unfolding exprs_bytes child_spots
-  first-of t ts o short room = record {
-    tree = t;
-    stands = first-stands o;
-    short = omega (arith, simp length-append at short);
-    room = omega (arith, simp length-append at room);
+  collecting-begins = record {
+    trees = cons p.tree nil;
+    stand = one-row p.stands;
+    ends = ap (λ (l : List ℕ). at + length l) (append-nil (expr_bytes p.tree));
+    done = [];
+    put = nothing-wrote before i;
+    whole = sym (append-nil (column_spots side at p.tree));
+    same = refl;
   }
 
-  pub first_fits : {row : List ℕ} {n : ℕ} → ChildrenFit s at n side i row → (n ≡ 0 → ⊥) → ColumnsFit s at side i row
-  first_fits {row} {n} f some = some-children
-      (λ ts. Row (index_below two_bytes) s at n ts → at + length (exprs_bytes ts) ≤ most_bytes
-      → i + length (child_spots side at ts) ≤ length row → ColumnsFit s at side i row)
-      (λ t ts o short room. first-of t ts o short room) f.trees (omega (arith, f.stand.counted)) f.stand f.short f.room
+  -- A column lies within s and within the limit, and has an entry.
+  pub record Within (end index : ℕ) (row : List ℕ) : Type 0 where
+    pub bytes : end + 5 ≤ length s
+    pub limit : end + 5 ≤ most_bytes
+    pub child : short_at s (end + 1) < two_bytes
+    pub entry : index < length row
 
-  module _ {row middle : List ℕ} {n : ℕ} (same : length middle ≡ length row) (some : n ≡ 0 → ⊥) (p : Passed)
-      (one : ColumnsCollected s at side i row middle p) where
-    rest_of : (t : Expr) (ts : Exprs) → Row (index_below two_bytes) s at n (cons t ts)
-        → at + length (exprs_bytes (cons t ts)) ≤ most_bytes → i + length (child_spots side at (cons t ts)) ≤ length row
-        → ChildrenFit s p.end (n - 1) side p.index middle
+  module _ {end left index : ℕ} {row : List ℕ}
+      (inv : Collecting s side i stop (column_spots side at p.tree) before end left index row) where
+    index-is : index ≡ i + length inv.done
+    index-is = inv.put.ends ∙ ap (λ (n : ℕ). i + n) (length-map inv.done spot_number)
+
+    pub collecting-ends : left ≤ 0 → ColumnsCollected s at side i before row (record { end = end; index = index })
     unfolding exprs_bytes child_spots
-    rest_of t ts o short room =
-        let a : SpotsPut at (length (expr_bytes t)) i (column_spots side at t) row middle p = one t (first-stands o) in
-        record {
-          trees = ts;
-          stand = rest-stands o p.end (n - 1) a.ends (omega arith);
-          short = omega (arith, a.ends, simp length-append at short);
-          room = subst (λ (q : ℕ). p.index + length (child_spots side q ts) ≤ length middle) (sym a.ends)
-              (omega (arith, index-after a, simp length-append at room));
-        }
+    collecting-ends none t h =
+        of_tree (λ t. SpotsPut at (length (expr_bytes t)) i (column_spots side at t) before row (record { end = end; index = index }))
+        p.stands
+        (no-children (λ ts. end + length (exprs_bytes ts) ≡ stop → column_spots side at p.tree ≡ inv.done ++ child_spots side end ts
+        → SpotsPut at (length (expr_bytes p.tree)) i (column_spots side at p.tree) before row (record { end = end; index = index }))
+        (λ e k. record {
+          ends = omega (arith, e);
+          put = subst (λ (x : List Spot). WroteAt i (map spot_number x) before row index) (sym (k ∙ append-nil inv.done)) inv.put;
+        }) inv.trees (omega (arith, inv.stand.counted)) inv.ends inv.whole)
+        (index_below two_bytes) t h
 
-    pub rest-fits : ChildrenFit s at n side i row → ChildrenFit s p.end (n - 1) side p.index middle
-    rest-fits f = some-children
-        (λ ts. Row (index_below two_bytes) s at n ts → at + length (exprs_bytes ts) ≤ most_bytes
-        → i + length (child_spots side at ts) ≤ length row → ChildrenFit s p.end (n - 1) side p.index middle)
-        (λ t ts o short room. rest_of t ts o short room) f.trees (omega (arith, f.stand.counted)) f.stand f.short f.room
+    module _ (some : 0 < left) where
+      by-first : (P : Exprs → Type 0) → ((t : Expr) (ts : Exprs) → P (cons t ts)) → P inv.trees
+      by-first P f = some-children P f inv.trees (omega (arith, inv.stand.counted))
 
--- ---- the loop over a row
+      pub collecting-tree : (t : Expr) × Stands (index_below two_bytes) s end t
+      collecting-tree = by-first (λ ts. Row (index_below two_bytes) s end left ts → (t : Expr) × Stands (index_below two_bytes) s end t)
+          (λ t ts w. (t, first-stands w)) inv.stand
 
--- What it keeps: what is right for the expressions left is right for all of them.
-pub record Collecting (s : List ℕ) (at n : ℕ) (side : Side) (i : ℕ) (before : List ℕ) (end left index : ℕ) (row : List ℕ) : Type 0 where
-  pub there : ChildrenFit s end left side index row
-  pub low : at ≤ end
-  pub same : length row ≡ length before
-  pub rest : (after : List ℕ) (r : Passed) → ChildrenCollected s end left side index row after r
-      → ChildrenCollected s at n side i before after r
+      pub tree-there : Tree s end
+      tree-there = (index_below two_bytes, collecting-tree.0, collecting-tree.1)
 
-module _ {s : List ℕ} {at n i : ℕ} {side : Side} {before : List ℕ} where
-  pub collecting-begins : ChildrenFit s at n side i before → Collecting s at n side i before at n i before
-  collecting-begins there = record { there = there; low = omega arith; same = refl; rest = λ after r is. is }
+      module _ (zero : get_or s end 0 ≡ 0) where
+        abbrev child : ℕ
+        child = short_at s (end + 1)
 
-  module _ {end left index : ℕ} {row : List ℕ} (inv : Collecting s at n side i before end left index row) where
-    pub collecting-first : 0 < left → ColumnsFit s end side index row
-    collecting-first some = first_fits inv.there (λ z. omega arith)
+        abbrev spot : Spot
+        spot = record { side = side; at = end + 1; child = child }
 
-    pub collecting-goes-on : 0 < left → (middle : List ℕ) → length middle ≡ length row → (p : Passed)
-        → ColumnsCollected s end side index row middle p → Collecting s at n side i before p.end (left - 1) p.index middle
-    collecting-goes-on some middle kept p is =
-        let f = collecting-first some in
-        record {
-          there = rest-fits kept (λ z. omega arith) p is inv.there;
-          low = omega (arith, inv.low, after-node f.stands p.end (is f.tree f.stands).ends);
-          same = kept ∙ inv.same;
-          rest = λ after r others. inv.rest after r
-              (λ ts o. collects-some side row middle after (omega (arith, inv.there.room)) ts o (λ z. omega arith) p r is others);
-        }
+        -- A column is the first.
+        one-column : (P : Exprs → Type 0)
+            → ((g : ℕ) (ts : Exprs) → Row (index_below two_bytes) s end left (cons (column child g) ts)
+            → end + length (exprs_bytes (cons (column child g) ts)) ≡ stop
+            → column_spots side at p.tree ≡ inv.done ++ child_spots side end (cons (column child g) ts) → P (cons (column child g) ts))
+            → P inv.trees
+        one-column P f = by-first (λ ts. Row (index_below two_bytes) s end left ts → end + length (exprs_bytes ts) ≡ stop
+            → column_spots side at p.tree ≡ inv.done ++ child_spots side end ts → P ts)
+            (λ t ts w. subst (λ (t : Expr). Row (index_below two_bytes) s end left (cons t ts)
+            → end + length (exprs_bytes (cons t ts)) ≡ stop
+            → column_spots side at p.tree ≡ inv.done ++ child_spots side end (cons t ts) → P (cons t ts))
+            (sym (column-is (first-stands w) zero).tree) (f (short_at s (end + 3)) ts) w)
+            inv.stand inv.ends inv.whole
 
-    pub collecting-ends : left ≤ 0 → ChildrenCollected s at n side i before row (record { end = end; index = index })
-    collecting-ends none = inv.rest row (record { end = end; index = index }) (λ ts o. collects-none side row ts o (omega arith))
+        pub column-within : Within end index row
+        unfolding exprs_bytes child_spots column_spots
+        column-within = one-column (λ ts. Within end index row) (λ g ts w e k.
+            let own = column-is collecting-tree.1 zero in
+            record {
+              bytes = omega (arith, fits own.bytes, column-size child (short_at s (end + 3)));
+              limit =
+                  omega (arith, e, p.short, length-append (expr_bytes (column child g)) (exprs_bytes ts), column-size child g);
+              child = own.below;
+              entry = omega (
+                arith,
+                index-is,
+                inv.same,
+                p.room,
+                ap length k,
+                length-append inv.done (spot ∷ child_spots side (end + length (expr_bytes (column child g))) ts),
+              );
+            })
+
+        pub column-passed : (b : ℕ) → b ≡ spot_number spot
+            → Collecting s side i stop (column_spots side at p.tree) before (end + 5) (left - 1) (index + 1) (set row index b)
+        unfolding exprs_bytes child_spots column_spots children_of and_then head_bytes big_endian count
+        column-passed b is = one-column
+            (λ ts. Collecting s side i stop (column_spots side at p.tree) before (end + 5) (left - 1) (index + 1) (set row index b))
+            (λ g ts w e k. record {
+              trees = ts;
+              stand = opened-row w (end + 5) (left - 1) refl (omega arith);
+              ends = omega (arith, e, length-append (expr_bytes (column child g)) (exprs_bytes ts), column-size child g);
+              done = inv.done ++ (spot ∷ []);
+              put = subst (λ (x : List ℕ). WroteAt i x before (set row index b) (index + 1))
+                  (ap (λ (v : ℕ). map spot_number inv.done ++ (v ∷ [])) is ∙ sym (map-append spot_number inv.done (spot ∷ [])))
+                  (chain (omega (arith, p.room)) inv.put (store row index b column-within.entry));
+              whole =
+                  k ∙ sym (append_assoc inv.done (spot ∷ []) (child_spots side (end + length (expr_bytes (column child g))) ts))
+                  ∙ ap (λ (n : ℕ). (inv.done ++ (spot ∷ [])) ++ child_spots side (end + n) ts) (column-size child g);
+              same = simp length-set inv.same;
+            })
+
+      -- Any other node: its head is passed.
+      module _ (other : get_or s end 0 ≡ 0 → ⊥) (head : Head) (is : OfTree s end (HeadIs end head)) where
+        pub head-later : end < head.next
+        head-later = after-head collecting-tree.1 head.next (is (index_below two_bytes) collecting-tree.0 collecting-tree.1).next
+
+        pub head-passed
+            : Collecting s side i stop (column_spots side at p.tree) before head.next (left - 1 + head.children) index row
+        unfolding exprs_bytes child_spots
+        head-passed = by-first
+            (λ ts. Row (index_below two_bytes) s end left ts → end + length (exprs_bytes ts) ≡ stop
+            → column_spots side at p.tree ≡ inv.done ++ child_spots side end ts
+            → Collecting s side i stop (column_spots side at p.tree) before head.next (left - 1 + head.children) index row)
+            (λ t ts w e k.
+            let h = is (index_below two_bytes) t (first-stands w) in
+            let below : Exprs = children_of t in
+            let size : length (expr_bytes t ++ exprs_bytes ts) ≡ length (expr_bytes t) + length (exprs_bytes ts) =
+            length-append (expr_bytes t) (exprs_bytes ts) in
+            record {
+              trees = and_then below ts;
+              stand = opened-row w head.next (left - 1 + head.children) h.next (omega (arith, h.children));
+              ends = omega (
+                arith,
+                e,
+                h.next,
+                size,
+                tree-length t,
+                ap length (then-bytes below ts),
+                length-append (exprs_bytes below) (exprs_bytes ts),
+              );
+              done = inv.done;
+              put = inv.put;
+              whole =
+                  k ∙ ap (λ (l : List Spot). inv.done ++ l)
+                  (ap₂ ◌++◌ (no-own-spots side end t (λ z. other (sym (kind-is (first-stands w)) ∙ z))
+                  ∙ ap (λ (n : ℕ). child_spots side n below) (sym h.next))
+                  (ap (λ (n : ℕ). child_spots side n ts) (omega (arith, h.next, tree-length t)))
+                  ∙ sym (spots-then side head.next below ts));
+              same = inv.same;
+            }) inv.stand inv.ends inv.whole
+
+        -- They are no more than the bytes.
+        pub left-few : left - 1 + head.children ≤ length s
+        left-few =
+            let on = head-passed in
+            omega (arith, on.stand.counted, as-few on.trees, fits on.stand.bytes)

@@ -1,13 +1,13 @@
 -- Rows that child indexes are put into. (Ours.)
 use Rattle.std.specs.Prelude.{ℕ, ◌+◌, ◌*◌, ◌≤◌, ◌≡◌, List, map, length}
 use Rattle.definitions.specs.Words.Limits.{most_bytes, two_bytes}
-use Rattle.definitions.specs.Words.Expression.{Side, Expr, Exprs, Record}
-use Rattle.definitions.specs.Bytes.Encode.{expr_bytes, exprs_bytes}
+use Rattle.definitions.specs.Words.Expression.{Side, Expr, Record}
+use Rattle.definitions.specs.Bytes.Encode.{expr_bytes}
 use Rattle.definitions.specs.Bytes.Decode.{index_below}
-use Rattle.expression.specs.Nodes.{Stands, Row}
+use Rattle.expression.specs.Nodes.{Stands}
 use Rattle.byte_writer.specs.Written.{WroteAt}
 use Rattle.plan_writer.specs.Tables.{Entries}
-use Rattle.projection.specs.Spots.{Spot, spot_number, column_spots, child_spots, record_spots}
+use Rattle.projection.specs.Spots.{Spot, spot_number, column_spots, record_spots}
 use Rattle.node_rows.specs.declared.collecting.Passed.{Passed}
 
 -- ---- columns
@@ -19,26 +19,15 @@ pub record ColumnsFit (s : List ℕ) (at : ℕ) (side : Side) (i : ℕ) (row : L
   pub short : at + length (expr_bytes tree) ≤ most_bytes
   pub room : i + length (column_spots side at tree) ≤ length row
 
--- The same of n expressions in a row.
-pub record ChildrenFit (s : List ℕ) (at n : ℕ) (side : Side) (i : ℕ) (row : List ℕ) : Type 0 where
-  pub trees : Exprs
-  pub stand : Row (index_below two_bytes) s at n trees
-  pub short : at + length (exprs_bytes trees) ≤ most_bytes
-  pub room : i + length (child_spots side at trees) ≤ length row
-
 -- A walk of `size` bytes put these into the row from index i on; where it ended, and the index after them.
 pub record SpotsPut (at size i : ℕ) (spots : List Spot) (before after : List ℕ) (r : Passed) : Type 0 where
   pub ends : r.end ≡ at + size
   pub put : WroteAt i (map spot_number spots) before after r.index
 
--- What was put of the expression at a place, and of n expressions in a row.
+-- What was put of the expression at a place.
 abbrev pub ColumnsCollected : (s : List ℕ) (at : ℕ) (side : Side) (i : ℕ) (before after : List ℕ) → Passed → Type 0
 ColumnsCollected s at side i before after r =
     (t : Expr) → Stands (index_below two_bytes) s at t → SpotsPut at (length (expr_bytes t)) i (column_spots side at t) before after r
-
-abbrev pub ChildrenCollected : (s : List ℕ) (at n : ℕ) (side : Side) (i : ℕ) (before after : List ℕ) → Passed → Type 0
-ChildrenCollected s at n side i before after r =
-    (ts : Exprs) → Row (index_below two_bytes) s at n ts → SpotsPut at (length (exprs_bytes ts)) i (child_spots side at ts) before after r
 
 -- ---- records
 

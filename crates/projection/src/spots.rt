@@ -2,7 +2,7 @@
 ghost use Rattle.std.specs.Prelude.{◌<◌, ◌≡◌};
 ghost use Rattle.terms.specs.Sides.{join_side};
 ghost use Rattle.projection.specs.Spots.{spot_number};
-ghost use Rattle.projection.specs.Rows.{ColumnsFit, ColumnsCollected, ChildrenFit, ChildrenCollected, RecordsFit, RecordsCollected};
+ghost use Rattle.projection.specs.Rows.{ColumnsFit, ColumnsCollected, RecordsFit, RecordsCollected};
 
 use expression::fields::short_at;
 use expression::heads::head_at;
@@ -18,48 +18,26 @@ fn spot_number(side: JoinSide, at: usize, child: usize) -> u32
     ((at * 4 + usize::from(u8::from(side))) * 65536 + child) as u32
 }
 
-// Puts the columns of the expression at a place, an argument's of a side, into the row from index i on.
-#[cycle(collect_children_collect_columns)]
+// Puts the columns of the expression at a place, an argument's of a side, into the row from index i on. Its nodes stand one after another: a
+// step passes one, and then its children are the first that are left.
 pub fn collect_columns(row: &mut [u32], src: &[u8], at: usize, side: JoinSide, i: usize) -> Passed
     requires { ColumnsFit src.now at (join_side side) i row.old }
     ensures { ColumnsCollected src.now at (join_side side) i row.old row.new result }
 {
-    if src[at] == 0 {
-        row[i] = spot_number(side, at + 1, short_at(src, at + 1));
-        return Passed {
-            end: at + 5,
-            index: i + 1,
-        };
-    }
-    let head = head_at(src, at);
-    if head.children == 0 {
-        return Passed {
-            end: head.next,
-            index: i,
-        };
-    }
-    collect_children(row, src, head.next, head.children, side, i)
-}
-
-// The same for n expressions in a row.
-#[cycle(collect_children_collect_columns)]
-fn collect_children(
-    row: &mut [u32],
-    src: &[u8],
-    at: usize,
-    n: usize,
-    side: JoinSide,
-    i: usize,
-) -> Passed
-    requires { ChildrenFit src.now at n (join_side side) i row.old }
-    ensures { ChildrenCollected src.now at n (join_side side) i row.old row.new result }
-{
     let mut end = at;
     let mut index = i;
-    for _ in 0..n {
-        let one = collect_columns(row, src, end, side, index);
-        end = one.end;
-        index = one.index;
+    let mut left: usize = 1;
+    while 0 < left {
+        if src[end] == 0 {
+            row[index] = spot_number(side, end + 1, short_at(src, end + 1));
+            index += 1;
+            end += 5;
+            left -= 1;
+        } else {
+            let head = head_at(src, end);
+            end = head.next;
+            left = left - 1 + head.children;
+        }
     }
     Passed { end, index }
 }
