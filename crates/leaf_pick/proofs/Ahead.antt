@@ -10,43 +10,41 @@ use mathlib.Core.List.{List, [], ◌∷◌, map, append-nil}
 use mathlib.Core.Logic.{inl, inr}
 use mathlib.Core.Option.{Option, none}
 use lib.ListN.{length, get_or}
-use Rattle.definitions.specs.Words.Expression.{Expr, and, Exprs, nil, cons, count, Record, Predicate}
-use Rattle.definitions.specs.Bytes.Encode.{expr_bytes, exprs_bytes}
+use Rattle.definitions.specs.Words.Expression.{Expr, and, Exprs, nil, cons, Record, Predicate}
+use Rattle.definitions.specs.Bytes.Encode.{expr_bytes, records_bytes}
 use Rattle.definitions.specs.Words.Leaves.{leaves}
 use Rattle.definitions.specs.Bytes.Decode.{index_below}
-use Rattle.definitions.specs.Bytes.Good.{nodes, nodes_all}
-use Rattle.definitions.specs.Bytes.NodeTable.{row_from}
 use Rattle.definitions.specs.Filter.Extract as definition
 use Rattle.definitions.specs.Filter.Extract.{is_knn_match, Matcher, matches_by}
 use Rattle.definitions.specs.Filter.OneWalk as walks
 use Rattle.definitions.specs.Filter.OneWalk.{reading, stopped, read_leaf, walk_on, one_walk, remembered, count_to, walk_length_by}
 use Rattle.theorems.proofs.Proved.{one-walk-is-pick}
-use Rattle.expression.specs.Nodes.{head_bytes, left_of, OfTree, OfTreeIn}
+use Rattle.expression.specs.Places.{Holds}
+use Rattle.expression.specs.Nodes.{left_of, OfTree, OfTreeIn}
 use Rattle.expression.specs.Leaves.{Both, NodeIs}
 use Rattle.expression.specs.declared.leaves.Node.{Node}
 use Rattle.expression.specs.declared.leaves.Node.TheVariants as node
-use Rattle.node_rows.specs.Numbers.{end_at, row_nexts}
-use Rattle.node_rows.specs.Rows.{Tabled, TabledAll}
-use Rattle.node_rows.proofs.RowLaws.{tabled-end, tabled-next, tabled-within, tabled-first, tabled-rest, nodes-below}
+use Rattle.node_rows.specs.Numbers.{end_at}
+use Rattle.node_rows.specs.Rows.{Tabled}
+use Rattle.node_rows.proofs.RowLaws.{tabled-end, tabled-within}
 use Rattle.expression.proofs.OneTree.{of_tree}
-use Rattle.leaf_matching.specs.Frames.{Over, OverAll, Framed, OfFrame}
-use Rattle.leaf_matching.proofs.Framing.{first-over, rest_over}
+use Rattle.leaf_matching.specs.Frames.{Over, Framed, OfFrame}
 use Rattle.leaf_pick.specs.Picks.{matches}
 use Rattle.leaf_pick.specs.Walks.{Memory, Remembers, Kept, same, here, StoppedIs, GoingIs, LeafSpot, SpotOf, WalkIs}
 use Rattle.leaf_pick.specs.declared.one_walk.SeenLeaf.{SeenLeaf}
 use Rattle.leaf_pick.specs.declared.one_walk.Walk.{Walk}
-use Rattle.leaf_pick.proofs.Ahead.Forests.{leaves_all, reached_all, leaves-open, reached-open, leaves-pass, reached-pass}
-use Rattle.leaf_pick.proofs.Ahead.Forests.{row_open, tabled-open, nodes-open, SpotAll, spot-open, spot-here, spot-later}
+use Rattle.leaf_pick.proofs.Coming.{leaves_all, leaves-open, leaves-pass, left-begins, Coming, coming-begins, none-come, one-comes}
+use Rattle.leaf_pick.proofs.Coming.{next-stands, next-tabled, index-goes-on, coming-opens, coming-passes}
+use Rattle.leaf_pick.proofs.Ahead.Forests.{reached_all, reached-open, reached-pass, SpotAll, spot-open, spot-here, spot-later}
 
 -- ---- of a frame
 
--- The expressions ts are ahead: they stand in a row and are in the rows of numbers; the walk goes on among them.
+-- The expressions ts are ahead, over their records; the walk goes on among them.
 pub record Ahead (match : Matcher) (s numbers next : List ℕ) (rec at last place index position : ℕ) (w : Walk SeenLeaf)
     (records : List Record) (t : Expr)
     (ts : Exprs) : Type 0 where
-  pub row : OverAll s rec place (count ts) records ts
-  pub tabled : TabledAll numbers next place index ts
-  pub left : index + nodes_all ts ≡ last
+  pub entries : Holds s rec (records_bytes records)
+  pub coming : Coming (index_below (length records)) s numbers next last place index ts
   pub first : Option definition.Pick
   pub remembers : Remembers s records w.found first
   pub spot : SpotOf t at w.found
@@ -64,18 +62,10 @@ begins-spot t at leaf end p (inr (q, e, nowhere)) = absurd nowhere
 module _ {match : Matcher} {s numbers next : List ℕ} {rec at i last : ℕ} {records : List Record} {t : Expr} where
   ahead-begins : Over s rec at records t → Tabled numbers next at i t → last ≡ get_or next i 0
       → Ahead match s numbers next rec at last at i 0 (record { found = None; read = 0 }) records t (cons t nil)
-  unfolding one_walk walk_length_by leaves_all reached_all exprs_bytes row_from row_nexts nodes_all count
+  unfolding one_walk walk_length_by leaves_all reached_all
   ahead-begins over h e = record {
-    row = record {
-      entries = over.entries;
-      row = record { bytes = rw append-nil over.tree.bytes; in_range = (over.tree.in_range, tt); counted = refl };
-    };
-    tabled = record {
-      numbered = rw append-nil h.numbered;
-      followed = rw append-nil h.followed;
-      short = rw append-nil h.short;
-    };
-    left = omega (arith, e, tabled-next h);
+    entries = over.entries;
+    coming = coming-begins over.tree h e;
     first = none;
     remembers = refl;
     spot = tt;
@@ -95,9 +85,8 @@ module _ {match : Matcher} {s numbers next : List ℕ} {rec at last place index 
       (cons l (cons r us))
   unfolding count_to is_knn_match
   ahead-and {l} {r} {us} a = record {
-    row = record { entries = a.row.entries; row = row_open place l r us a.row.row };
-    tabled = tabled-open place l r us a.tabled;
-    left = omega (arith, a.left, nodes-open l r us);
+    entries = a.entries;
+    coming = coming-opens a.coming;
     first = a.first;
     remembers = a.remembers;
     spot = a.spot;
@@ -133,13 +122,11 @@ module _ {match : Matcher} {s numbers next : List ℕ} {rec at last place index 
     kept-spot (here {seen} h) spot = subst (LeafSpot seen.leaf seen.end t at) (sym h.counted) (here-spot h.place h.ends)
 
     ahead-leaf : {kept : Memory} → GoingIs match s place position a.first w.found kept records u
-        → (p k : ℕ) → p ≡ place + length (expr_bytes u) → k ≡ index + nodes u
+        → (p k : ℕ) → p ≡ end_at numbers index → k ≡ get_or next index 0
         → Ahead match s numbers next rec at last p k (position + 1) (record { found = kept; read = w.read + 1 }) records t us
-    unfolding count nodes_all
     ahead-leaf {kept} g p k e f = record {
-      row = rest_over a.row p (count us) e refl;
-      tabled = tabled-rest a.tabled p k e f;
-      left = omega (arith, a.left, f);
+      entries = a.entries;
+      coming = coming-passes a.coming p k e f;
       first = g.now-first;
       remembers = g.remembers;
       spot = kept-spot g.kept a.spot;
@@ -152,7 +139,8 @@ module _ {match : Matcher} {s numbers next : List ℕ} {rec at last place index 
           ∙ omega arith;
       spots = λ leaf end q spot.
           subst (LeafSpot leaf end t at) (omega arith)
-          (a.spots leaf end (suc q) (spot-later leaf end us place single q (subst (λ (b : ℕ). SpotAll leaf end us b q) e spot)));
+          (a.spots leaf end (suc q) (spot-later leaf end us place single q
+          (subst (λ (b : ℕ). SpotAll leaf end us b q) (e ∙ tabled-end (next-tabled a.coming)) spot)));
     }
 
     leaf-stopped : {seen : SeenLeaf} → StoppedIs match s place position a.first seen records u
@@ -216,14 +204,11 @@ along-begins there tabled e = record {
 
 module _ {match : Matcher} {s numbers next : List ℕ} {rec at last place index position : ℕ} {w : Walk SeenLeaf}
     (inv : Along match s numbers next rec at last place index position w) where
-  by-rest : (index < last → ⊥) → {records : List Record} {t : Expr} (ts : Exprs)
-      → Ahead match s numbers next rec at last place index position w records t ts → WalkIs match s rec at w records t
-  unfolding nodes_all
-  by-rest end nil a = ahead-ends a
-  by-rest end (cons u us) a = absurd (end (omega (arith, a.left, nodes-below u)))
-
   pub along-ends : (index < last → ⊥) → OfFrame s rec at (WalkIs match s rec at w)
-  along-ends end records t over = let some = inv.ahead records t over in by-rest end some.0 some.1
+  along-ends end records t over =
+      let some = inv.ahead records t over in
+      ahead-ends (subst (Ahead match s numbers next rec at last place index position w records t) (none-come end some.0 some.1.coming)
+      some.1)
 
   module _ (more : index < last) where
     -- The first of those ahead, and the others.
@@ -232,23 +217,27 @@ module _ {match : Matcher} {s numbers next : List ℕ} {rec at last place index 
       pub us : Exprs
       pub ahead : Ahead match s numbers next rec at last place index position w records t (cons u us)
 
-    now-in : {records : List Record} {t : Expr} (ts : Exprs) → Ahead match s numbers next rec at last place index position w records t ts
-        → Now records t
-    unfolding nodes_all
-    now-in nil a = absurd (omega (arith, a.left, more))
-    now-in (cons u us) a = record { u = u; us = us; ahead = a }
-
     now : {records : List Record} {t : Expr} → Over s rec at records t → Now records t
-    now {records} {t} over = let some = inv.ahead records t over in now-in some.0 some.1
+    now {records} {t} over =
+        let some = inv.ahead records t over in
+        let first = one-comes more some.0 some.1.coming in
+        record {
+          u = first.u;
+          us = first.us;
+          ahead = subst (Ahead match s numbers next rec at last place index position w records t) first.is some.1;
+        }
+
+    over-now : {records : List Record} {t : Expr} (n : Now records t) → Over s rec place records n.u
+    over-now n = record { entries = n.ahead.entries; tree = next-stands n.ahead.coming }
 
     here-now : Now inv.there.0 inv.there.1
     here-now = now inv.there.2
 
     pub here-framed : Framed s rec place
-    here-framed = (inv.there.0, here-now.u, first-over here-now.ahead.row)
+    here-framed = (inv.there.0, here-now.u, over-now here-now)
 
     own : Tabled numbers next place index here-now.u
-    own = tabled-first here-now.ahead.tabled
+    own = next-tabled here-now.ahead.coming
 
     pub here-tabled : OfTree s place (Tabled numbers next place index)
     unfolding here-framed here-now
@@ -259,24 +248,22 @@ module _ {match : Matcher} {s numbers next : List ℕ} {rec at last place index 
 
     -- The index goes on.
     pub next-index : (k : ℕ) → k ≡ get_or next index 0 → index < k
-    next-index k f = omega (arith, f, tabled-next own, nodes-below here-now.u)
+    next-index = index-goes-on here-now.ahead.coming
 
     -- ---- an And
 
     module _ {left : ℕ} {found : Node} (is : OfTreeIn s place (λ c t. NodeIs c s place found t)) (told : found ≡ node.And left) where
       opened : (records : List Record) (t : Expr) → Over s rec at records t
           → SomeAhead match s numbers next rec at last left (index + 1) position (record { found = w.found; read = w.read + 1 }) records t
-      unfolding head_bytes
       opened records t over =
           let n : Now records t = now over in
           let b : Both and (index_below (length records)) s place left n.u =
-          rw told at (is (index_below (length records)) n.u (first-over n.ahead.row).tree) in
-          let begins : left ≡ left_of place = b.begins ∙ ap (λ (t : Expr). place + length (head_bytes t)) b.is in (
+          rw told at (is (index_below (length records)) n.u (next-stands n.ahead.coming)) in (
             cons b.l (cons b.r n.us),
             subst
                 (λ (p : ℕ). Ahead match s numbers next rec at last p (index + 1) position (record { found = w.found; read = w.read + 1 })
                 records t (cons b.l (cons b.r n.us)))
-                (sym begins)
+                (sym (left-begins b))
                 (ahead-and
                 (subst (λ (x : Expr). Ahead match s numbers next rec at last place index position w records t (cons x n.us)) b.is
                 n.ahead)),
@@ -299,7 +286,7 @@ module _ {match : Matcher} {s numbers next : List ℕ} {rec at last place index 
           → OfFrame s rec at (WalkIs match s rec at (record { found = Some seen; read = w.read + 1 }))
       along-stopped inner records t over =
           let n : Now records t = now over in
-          let o : Over s rec place records n.u = first-over n.ahead.row in
+          let o : Over s rec place records n.u = over-now n in
           leaf-stopped n.ahead (single records n.u o) (inner records n.u o n.ahead.first n.ahead.remembers)
 
       module _ {kept : Memory}
@@ -310,11 +297,9 @@ module _ {match : Matcher} {s numbers next : List ℕ} {rec at last place index 
             → SomeAhead match s numbers next rec at last p k (position + 1) (record { found = kept; read = w.read + 1 }) records t
         passed p k e f records t over =
             let n : Now records t = now over in
-            let o : Over s rec place records n.u = first-over n.ahead.row in
-            let h : Tabled numbers next place index n.u = tabled-first n.ahead.tabled in (
+            let o : Over s rec place records n.u = over-now n in (
               n.us,
-              ahead-leaf n.ahead (single records n.u o) (inner records n.u o n.ahead.first n.ahead.remembers) p k
-                  (e ∙ tabled-end h) (f ∙ tabled-next h),
+              ahead-leaf n.ahead (single records n.u o) (inner records n.u o n.ahead.first n.ahead.remembers) p k e f,
             )
 
         pub along-going : (p k : ℕ) → p ≡ end_at numbers index → k ≡ get_or next index 0

@@ -3,6 +3,7 @@ pub mod FirstLaws
 pub mod LeafLaws
 pub mod Nodes
 pub mod PickLaws
+pub mod Coming
 pub mod Ahead
 pub mod Parents
 pub mod OneWalkLeafLaws

@@ -1,47 +1,32 @@
--- Expressions in a row: an And opens into its sides, and where a leaf is among them.
+-- Expressions in a row: what is reached in them, and where a leaf is among them.
 use Prim.Native.Nat.{ℕ, suc, ◌+◌}
 use native.Mathlib.Omega.{arith}
-use mathlib.Core.Path.{◌≡◌, refl, sym, ap, ◌∙◌, subst}
-use mathlib.Core.List.{List, [], ◌∷◌, ◌++◌, map, append_assoc}
+use mathlib.Core.Path.{◌≡◌, refl, sym, ap, subst}
+use mathlib.Core.List.{List, [], ◌∷◌, ◌++◌, append_assoc}
 use mathlib.Core.Logic.{◌⊎◌, inl, inr}
 use mathlib.Core.Option.{Option, none}
 use lib.ListN.{length, length-append}
-use Rattle.definitions.specs.Words.Expression.{Expr, column, literal, and, binary, call, other, field, Exprs, nil, cons, count, Predicate}
-use Rattle.definitions.specs.Bytes.Encode.{expr_bytes, exprs_bytes}
+use Rattle.definitions.specs.Words.Expression.{Expr, column, literal, and, binary, call, other, field, Exprs, nil, cons, Predicate}
+use Rattle.definitions.specs.Bytes.Encode.{expr_bytes}
 use Rattle.definitions.specs.Words.Leaves.{leaves}
-use Rattle.definitions.specs.Bytes.Decode.{Columns}
-use Rattle.definitions.specs.Bytes.Good.{nodes, nodes_all}
-use Rattle.definitions.specs.Bytes.NodeTable.{NodeRecord, record_of, nodes_from, row_from}
 use Rattle.definitions.specs.Filter.OneWalk.{reached}
-use Rattle.expression.specs.Places.{Holds}
-use Rattle.expression.specs.Nodes.{Row, left_of}
+use Rattle.expression.specs.Nodes.{left_of}
 use Rattle.expression.specs.Cuts.{CutAt, here, in_left, in_right}
-use Rattle.expression.proofs.Placed as placed
 use Rattle.expression.proofs.AndLeaves.{no-and}
-use Rattle.node_rows.specs.Numbers.{number, row_numbers, nexts_from, row_nexts}
-use Rattle.node_rows.specs.Rows.{TabledAll}
 use Rattle.leaf_pick.specs.Walks.{LeafSpot}
+use Rattle.leaf_pick.proofs.Coming.{and-size}
 
 -- ---- what is reached in them
-
-unfoldable pub leaves_all : Exprs → List Expr
-leaves_all nil = []
-leaves_all (cons t ts) = leaves t ++ leaves_all ts
 
 unfoldable pub reached_all : (Expr → Option Predicate) → Exprs → List (Option Predicate)
 reached_all match nil = []
 reached_all match (cons t ts) = reached match t ++ reached_all match ts
 
-module _ (l r : Expr) (ts : Exprs) where
-  pub leaves-open : leaves_all (cons (and l r) ts) ≡ leaves_all (cons l (cons r ts))
-  unfolding leaves_all leaves
-  leaves-open = append_assoc (leaves l) (leaves r) (leaves_all ts)
-
-  pub reached-open : (match : Expr → Option Predicate)
-      → reached_all match (cons (and l r) ts) ≡ none ∷ reached_all match (cons l (cons r ts))
-  unfolding reached_all reached
-  reached-open match =
-      ap {B = List (Option Predicate)} (λ ms. none ∷ ms) (append_assoc (reached match l) (reached match r) (reached_all match ts))
+pub reached-open : (l r : Expr) (ts : Exprs) (match : Expr → Option Predicate)
+    → reached_all match (cons (and l r) ts) ≡ none ∷ reached_all match (cons l (cons r ts))
+unfolding reached_all reached
+reached-open l r ts match =
+    ap {B = List (Option Predicate)} (λ ms. none ∷ ms) (append_assoc (reached match l) (reached match r) (reached_all match ts))
 
 -- A leaf is the only node that is reached in it.
 leaf-reached : (match : Expr → Option Predicate) (t : Expr) → leaves t ≡ t ∷ [] → reached match t ≡ match t ∷ []
@@ -54,61 +39,10 @@ leaf-reached match (call n ts) e = refl
 leaf-reached match (other g ts) e = refl
 leaf-reached match (field b g) e = refl
 
-module _ {t : Expr} (single : leaves t ≡ t ∷ []) (ts : Exprs) where
-  pub leaves-pass : leaves_all (cons t ts) ≡ t ∷ leaves_all ts
-  unfolding leaves_all
-  leaves-pass = ap (λ (ls : List Expr). ls ++ leaves_all ts) single
-
-  pub reached-pass : (match : Expr → Option Predicate) → reached_all match (cons t ts) ≡ match t ∷ reached_all match ts
-  unfolding reached_all
-  reached-pass match = ap (λ (ms : List (Option Predicate)). ms ++ reached_all match ts) (leaf-reached match t single)
-
--- ---- where they stand
-
-and-size : (at : ℕ) (l r : Expr) → left_of at + length (expr_bytes l) + length (expr_bytes r) ≡ at + length (expr_bytes (and l r))
-unfolding expr_bytes
-and-size at l r = simp length-append (omega arith)
-
-module _ (at : ℕ) (l r : Expr) (ts : Exprs) where
-  pub row_open : {c : Columns} {s : List ℕ} → Row c s at (count (cons (and l r) ts)) (cons (and l r) ts)
-      → Row c s (left_of at) (count (cons l (cons r ts))) (cons l (cons r ts))
-  unfolding expr_bytes
-  row_open {c} {s} h = record {
-    bytes = rw append_assoc at (placed.next (placed.next h.bytes (at + 1) refl) (left_of at) (omega arith));
-    in_range = (h.in_range.0.0, (h.in_range.0.1, h.in_range.1));
-    counted = refl;
-  }
-
-  numbers-open : row_numbers at (cons (and l r) ts) ≡ number (record_of at (and l r)) ∷ row_numbers (left_of at) (cons l (cons r ts))
-  unfolding row_from
-  numbers-open =
-      ap (λ (rs : List NodeRecord). map number (record_of at (and l r) ∷ rs))
-      (append_assoc (nodes_from (at + 2) l) (nodes_from (at + 2 + length (expr_bytes l)) r)
-      (row_from (at + length (expr_bytes (and l r))) ts)
-      ∙ ap (λ (p : ℕ). nodes_from (at + 2) l ++ (nodes_from (at + 2 + length (expr_bytes l)) r ++ row_from p ts)) (sym (and-size at l r)))
-
-  nexts-open : (i : ℕ) → row_nexts i (cons (and l r) ts) ≡ (i + nodes (and l r)) ∷ row_nexts (i + 1) (cons l (cons r ts))
-  unfolding nexts_from nodes
-  nexts-open i =
-      ap (λ (k : List ℕ). (i + nodes (and l r)) ∷ k)
-      (append_assoc (nexts_from (i + 1) l) (nexts_from (i + 1 + nodes l) r) (row_nexts (i + nodes (and l r)) ts)
-      ∙ ap (λ (p : ℕ). nexts_from (i + 1) l ++ (nexts_from (i + 1 + nodes l) r ++ row_nexts p ts)) (omega arith))
-
-  size-open : at + length (exprs_bytes (cons (and l r) ts)) ≡ left_of at + length (exprs_bytes (cons l (cons r ts)))
-  unfolding expr_bytes
-  size-open = simp length-append (omega arith)
-
-  pub tabled-open : {numbers next : List ℕ} {i : ℕ} → TabledAll numbers next at i (cons (and l r) ts)
-      → TabledAll numbers next (left_of at) (i + 1) (cons l (cons r ts))
-  tabled-open {numbers} {next} {i} h = record {
-    numbered = placed.next (subst (Holds numbers i) numbers-open h.numbered) (i + 1) refl;
-    followed = placed.next (subst (Holds next i) (nexts-open i) h.followed) (i + 1) refl;
-    short = omega (arith, h.short, size-open);
-  }
-
-pub nodes-open : (l r : Expr) (ts : Exprs) → nodes_all (cons (and l r) ts) ≡ suc (nodes_all (cons l (cons r ts)))
-unfolding nodes
-nodes-open l r ts = omega arith
+pub reached-pass : {t : Expr} → leaves t ≡ t ∷ [] → (ts : Exprs) (match : Expr → Option Predicate)
+    → reached_all match (cons t ts) ≡ match t ∷ reached_all match ts
+unfolding reached_all
+reached-pass {t} single ts match = ap (λ (ms : List (Option Predicate)). ms ++ reached_all match ts) (leaf-reached match t single)
 
 -- ---- where a leaf is among them
 
