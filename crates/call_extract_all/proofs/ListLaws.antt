@@ -1,27 +1,20 @@
--- The matches of both sides of an And, one after the other.
+-- What was listed of some matches, and behind it of others.
 use Prim.Native.Nat.{ℕ, ◌+◌, ◌≤◌}
 use native.Mathlib.Omega.{arith}
-use mathlib.Core.Path.{◌≡◌, sym, ap, subst}
+use mathlib.Core.Path.{sym, ap, subst}
 use mathlib.Core.List.{List, ◌++◌, map-append}
 use mathlib.Core.Option.{Option}
 use lib.ListN.{length, length-append}
-use Rattle.definitions.specs.Words.Expression.{Expr, and, Record, Predicate}
-use Rattle.definitions.specs.Words.Leaves.{leaves}
-use Rattle.definitions.specs.Filter.Extract.{is_knn, Matcher}
+use Rattle.definitions.specs.Words.Expression.{Predicate}
+use Rattle.definitions.specs.Filter.Extract.{is_knn}
 use Rattle.definitions.specs.Filter.Conjuncts.{is_other}
 use Rattle.theorems.proofs.AllParts.{bytes-append, count-append}
 use Rattle.byte_writer.specs.Written.{Wrote, WroteAt}
 use Rattle.byte_writer.proofs.Written.{behind, together, then-wrote, chain}
-use Rattle.leaf_pick.specs.Picks.{matches}
 use Rattle.call_extract_all.specs.Listings.{listed, match_flag, ListIs}
 use Rattle.call_extract_all.specs.declared.listing.Tally.{Tally}
 
-pub and-matches : (match : Matcher) (records : List Record) (l r : Expr)
-    → matches match records (and l r) ≡ matches match records l ++ matches match records r
-unfolding leaves
-and-matches match records l r = map-append (match records) (leaves l) (leaves r)
-
--- One side and then the other.
+-- Both are listed.
 pub both-listed : (position : ℕ) (ms ns : List (Option Predicate)) (knns middle part others turned piece gone flagged after : List ℕ)
     (a b : Tally)
     → position ≤ length gone
@@ -54,16 +47,3 @@ both-listed position ms ns knns middle part others turned piece gone flagged aft
       flags = subst (λ (x : List ℕ). WroteAt position x gone after b.position) (sym (map-append match_flag ms ns))
           (chain room one.flags two.flags);
     }
-
--- The same of an And, whose matches are those of both.
-pub and-listed : (position : ℕ) (all ms ns : List (Option Predicate)) (knns middle part others turned piece gone flagged after : List ℕ)
-    (a b : Tally)
-    → all ≡ ms ++ ns → position ≤ length gone
-    → ListIs position ms knns middle others turned gone flagged a
-    → ListIs a.position ns (behind a.knn middle) part (behind a.other turned) piece flagged after b
-    → ListIs position all knns (together a.knn middle part) others (together a.other turned piece) gone after
-    (record { position = b.position; knn = a.knn + b.knn; other = a.other + b.other; rounds = a.rounds + b.rounds })
-and-listed position all ms ns knns middle part others turned piece gone flagged after a b e room one two =
-    subst (λ (x : List (Option Predicate)). ListIs position x knns (together a.knn middle part) others (together a.other turned piece)
-    gone after (record { position = b.position; knn = a.knn + b.knn; other = a.other + b.other; rounds = a.rounds + b.rounds }))
-    (sym e) (both-listed position ms ns knns middle part others turned piece gone flagged after a b room one two)

@@ -32,8 +32,7 @@ pub struct Tally {
     pub rounds: usize,
 }
 
-// A node that is no And. A function of its own once compiled too: inlined, it would give each level of the walk its room on the stack.
-#[inline(never)]
+// A node that is no And.
 fn list_leaf(
     knns: &mut [u8],
     others: &mut [u8],
@@ -83,7 +82,8 @@ fn list_leaf(
     }
 }
 
-// All AND-leaves below a node.
+// All AND-leaves below a node, by a loop: the rows have the And nodes and AND-leaves in prefix order, so after an And comes its left side,
+// and after a leaf the node that comes after all below it. A turn writes behind what the turns before it wrote.
 pub fn list_matches(
     knns: &mut [u8],
     others: &mut [u8],
@@ -99,30 +99,39 @@ pub fn list_matches(
         listing.entry.count from.at from.position listing.entry.to.now knns.old knns.new others.old others.new gone.old gone.new result }
 {
     let rows = listing.filter.rows;
-    let node = node_at(listing.filter.s, from.at);
-    let Node::And(left) = node else {
-        let leaf = Leaf { stop: from, node };
-        return list_leaf(knns, others, gone, listing, leaf);
-    };
-    let below = from.index + 1;
-    let first = Stop {
-        at: left,
-        index: below,
+    let last = rows.after(from.index);
+    let mut place = from.at;
+    let mut index = from.index;
+    let mut tally = Tally {
         position: from.position,
+        knn: 0,
+        other: 0,
+        rounds: 0,
     };
-    let one = list_matches(knns, others, gone, listing, first);
-    let k = one.knn;
-    let o = one.other;
-    let second = Stop {
-        at: rows.end(below),
-        index: rows.after(below),
-        position: one.position,
-    };
-    let two = list_matches(&mut knns[k..], &mut others[o..], gone, listing, second);
-    Tally {
-        position: two.position,
-        knn: k + two.knn,
-        other: o + two.other,
-        rounds: one.rounds + two.rounds,
+    while index < last {
+        let node = node_at(listing.filter.s, place);
+        if let Node::And(left) = node {
+            place = left;
+            index += 1;
+        } else {
+            let stop = Stop {
+                at: place,
+                index,
+                position: tally.position,
+            };
+            let leaf = Leaf { stop, node };
+            let k = tally.knn;
+            let o = tally.other;
+            let one = list_leaf(&mut knns[k..], &mut others[o..], gone, listing, leaf);
+            tally = Tally {
+                position: one.position,
+                knn: k + one.knn,
+                other: o + one.other,
+                rounds: tally.rounds + one.rounds,
+            };
+            place = rows.end(index);
+            index = rows.after(index);
+        }
     }
+    tally
 }
