@@ -21,7 +21,7 @@ use Rattle.expression.specs.declared.leaves.Node.TheVariants as node
 use Rattle.node_rows.specs.Numbers.{end_at}
 use Rattle.node_rows.specs.Rows.{Tabled}
 use Rattle.node_rows.proofs.RowLaws.{tabled-within}
-use Rattle.node_rows.proofs.OneTree.{of_tree}
+use Rattle.expression.proofs.OneTree.{of_tree}
 use Rattle.byte_writer.proofs.Written.{behind, together, behind-length, nothing-wrote}
 use Rattle.leaf_pick.specs.Picks.{matches}
 use Rattle.leaf_pick.proofs.Coming.{leaves_all, leaves-open, left-begins, Coming, coming-begins, none-come, one-comes}
