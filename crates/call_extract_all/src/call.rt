@@ -9,7 +9,7 @@ use super::conjuncts::{FrameInRows, Taken, put_all};
 use byte_writer::copies::copy_bytes;
 use frame_reader::frames::physical_frame_in;
 use node_rows::lengths::{
-    MIDDLE_BYTES, MIDDLE_NODES, MOST_BYTES, MOST_NODES, SHORT_BYTES, SHORT_NODES,
+    LONG_BYTES, MIDDLE_BYTES, MIDDLE_NODES, MOST_BYTES, MOST_NODES, SHORT_BYTES, SHORT_NODES,
 };
 use node_rows::rows::Rows;
 use terms::checked::Checked;
@@ -64,6 +64,8 @@ pub fn extract_all(out: &mut [u8], frame: &[u8], settings: Settings) -> Result<T
         extract_all_by::<SHORT_BYTES, SHORT_NODES>(out, frame, settings)
     } else if frame.len() <= MIDDLE_BYTES {
         extract_all_by::<MIDDLE_BYTES, MIDDLE_NODES>(out, frame, settings)
+    } else if frame.len() <= LONG_BYTES {
+        extract_all_by::<LONG_BYTES, MOST_NODES>(out, frame, settings)
     } else {
         extract_all_by::<MOST_BYTES, MOST_NODES>(out, frame, settings)
     }

@@ -10,8 +10,10 @@ ghost use Rattle.call_extract_all.specs.Listings.{ListFits, ListPut};
 
 use expression::leaves::{Node, node_at};
 use leaf_matching::filter::Filter;
-use leaf_pick::first_match::{Leaf, Stop, match_knn, match_other};
+use leaf_pick::any_match::match_leaf;
+use leaf_pick::first_match::{Leaf, Stop};
 use plan_writer::put_predicate::put_predicate;
+use sedona_query_planner::spatial_predicate::SpatialPredicate;
 use terms::settings::Settings;
 
 // A frame's filter with the number of its records, their child indexes as a table, and the settings that it is listed under.
@@ -53,33 +55,24 @@ fn list_leaf(
     let src = listing.filter.s;
     let indexes = Some(listing.to);
     let position = leaf.stop.position;
-    if let Ok(predicate) = match_knn(listing.filter, leaf, listing.settings) {
-        let w = put_predicate(knns, src, predicate, position, indexes);
-        gone[position] = 1;
-        return Tally {
-            position: position + 1,
-            knn: w,
-            other: 0,
-            rounds: 1,
-        };
-    }
-    if let Ok(predicate) = match_other(listing.filter, leaf, listing.settings) {
-        let w = put_predicate(others, src, predicate, position, indexes);
-        gone[position] = 1;
-        return Tally {
-            position: position + 1,
-            knn: 0,
-            other: w,
-            rounds: 1,
-        };
-    }
-    gone[position] = 0;
-    Tally {
+    let mut tally = Tally {
         position: position + 1,
         knn: 0,
         other: 0,
         rounds: 0,
+    };
+    let Some(predicate) = match_leaf(listing.filter, leaf, listing.settings) else {
+        gone[position] = 0;
+        return tally;
+    };
+    gone[position] = 1;
+    tally.rounds = 1;
+    if let SpatialPredicate::KNearestNeighbors(_) = predicate {
+        tally.knn = put_predicate(knns, src, predicate, position, indexes);
+    } else {
+        tally.other = put_predicate(others, src, predicate, position, indexes);
     }
+    tally
 }
 
 // All AND-leaves below a node, by a loop: the rows have the And nodes and AND-leaves in prefix order, so after an And comes its left side,

@@ -32,7 +32,7 @@ unfolding read_leaf first_of
 read_known n p none h = refl
 read_known n p (some q) h = rw h
 
-no-match : (m : Option Predicate) → Lacks is_knn m → Lacks is_other m → m ≡ none
+pub no-match : (m : Option Predicate) → Lacks is_knn m → Lacks is_other m → m ≡ none
 no-match none h k = refl
 no-match (some q) h k = absurd (false≢true (sym k ∙ ap not h))
 

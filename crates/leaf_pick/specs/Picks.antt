@@ -14,6 +14,7 @@ use Rattle.node_rows.specs.Rows.{Tabled}
 use Rattle.leaf_matching.specs.Frames.{Framed}
 use Rattle.leaf_matching.specs.Matches.{Matching, MatchingIs}
 use Rattle.sedona_query_planner.specs.Predicates.{on_children, PredicateAt}
+use Rattle.sedona_query_planner.specs.declared.spatial_predicate.SpatialPredicate.{SpatialPredicate}
 use Rattle.leaf_pick.specs.declared.first_match.Wanted.{Wanted}
 use Rattle.leaf_pick.specs.declared.first_match.Wanted.TheVariants.{Knn, Other}
 use Rattle.leaf_pick.specs.declared.first_match.Leaf.{Leaf}
@@ -44,6 +45,12 @@ pub record LeafThere (s numbers next : List ℕ) (rec : ℕ) (leaf : Leaf) : Typ
 abbrev pub LeafMatched : Matcher → (kind : Predicate → Bool) (s : List ℕ) (rec : ℕ) → Matching
     → (records : List Record) (leaf : Expr) → Type 0
 LeafMatched match kind s rec r records leaf = MatchingIs kind s rec records (match records leaf) r
+
+-- Whatever a leaf matches.
+abbrev pub AnyMatchIs : Matcher → (s : List ℕ) → Option SpatialPredicate → (records : List Record) (leaf : Expr) → Type 0
+AnyMatchIs match s (Some p) records leaf =
+    (q : Predicate) × (match records leaf ≡ optional.some q) × PredicateAt (on_children records) s p q
+AnyMatchIs match s None records leaf = match records leaf ≡ optional.none
 
 -- ---- the answers
 

@@ -54,7 +54,7 @@ fn is_passed_call(called: Called) -> bool
 // Whether the node alone tells that a leaf matches nothing: only the first four operators can match, and functions with a name as long as
 // one of those that do. So most leaves are passed without a call of a matcher.
 #[inline]
-fn is_passed(node: Node) -> bool
+pub(crate) fn is_passed(node: Node) -> bool
     ensures { PassedIs node result }
 {
     match node {
@@ -81,7 +81,7 @@ fn seen_here(rows: Rows, leaf: Leaf, predicate: SpatialPredicate) -> SeenLeaf
 
 // Whether the node alone tells that a leaf is no KNN match: only functions with a name as long as `st_knn` can be one.
 #[inline]
-fn is_no_knn(node: Node) -> bool
+pub(crate) fn is_no_knn(node: Node) -> bool
     ensures { NoKnnIs node result }
 {
     let Node::Call(called) = node else {

@@ -9,6 +9,9 @@ pub const MIDDLE_NODES: usize = 256;
 
 pub const MIDDLE_BYTES: usize = 768;
 
+// Enough bytes for most frames, of which the most nodes may be: where a row of bytes is cleared too.
+pub const LONG_BYTES: usize = 4096;
+
 // For two frames that are merged, of so many bytes together.
 pub const FEW_NODES: usize = 128;
 

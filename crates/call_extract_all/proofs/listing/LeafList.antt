@@ -3,7 +3,7 @@ use Rattle.std.specs.Prelude.{if◌then◌else◌}
 use Prim.Native.Nat.{ℕ, ◌+◌, ◌≤◌, ◌<◌}
 use native.Mathlib.Omega.{arith}
 use mathlib.Core.Path.{◌≡◌, refl, sym, ap, ◌∙◌, subst}
-use mathlib.Core.Bool.{Bool, true, false, not, false≢true}
+use mathlib.Core.Bool.{Bool, true, false, not}
 use mathlib.Core.List.{List, [], ◌∷◌, map, append-nil}
 use mathlib.Core.Option.{Option, none, some}
 use lib.ListN.{length, set}
@@ -19,15 +19,11 @@ use Rattle.byte_writer.proofs.Written.{store}
 use Rattle.plan_writer.specs.Predicates.{predicate_bytes}
 use Rattle.sedona_query_planner.specs.Predicates.{on_children, PredicateAt}
 use Rattle.sedona_query_planner.specs.declared.spatial_predicate.SpatialPredicate.{SpatialPredicate}
+use Rattle.sedona_query_planner.specs.declared.spatial_predicate.SpatialPredicate.TheVariants.{Distance, Relation, KNearestNeighbors}
+use Rattle.sedona_query_planner.specs.declared.spatial_predicate.KNNPredicate.{KNNPredicate}
 use Rattle.plan_writer.specs.Arguments.{table_change}
 use Rattle.plan_writer.proofs.ChildLaws.{by-children}
 use Rattle.leaf_matching.specs.Frames.{Over, Framed}
-use Rattle.leaf_matching.specs.Matches.{Lacks, Matches, MatchingIs}
-use Rattle.leaf_matching.specs.declared.matching.NoMatch.{NoMatch}
-use Rattle.leaf_matching.specs.declared.matching.NoMatch.TheVariants.{Unmatched, NotAsked}
-use Rattle.std.specs.Prelude.{Err}
-use Rattle.leaf_matching.proofs.Asked.{none-lacks}
-use Rattle.leaf_pick.specs.Picks as picks
 use Rattle.leaf_pick.specs.Picks.{matches}
 use Rattle.call_extract_all.specs.Listings.{listed, Listable, ListFits, ListIs}
 use Rattle.call_extract_all.specs.declared.listing.Tally.{Tally}
@@ -49,11 +45,6 @@ not-other : (q : Predicate) → is_knn q ≡ true → is_other q ≡ false
 unfolding is_other
 not-other q e = ap not e
 
--- Another predicate, as first_match has it, is one.
-other-is : (q : Predicate) → picks.is_other q ≡ true → is_other q ≡ true
-unfolding is_other
-other-is q e = e
-
 -- ---- what is written of a leaf
 
 module _ {position : ℕ} {knns others gone : List ℕ} (room : position < length gone) where
@@ -72,21 +63,20 @@ module _ {position : ℕ} {knns others gone : List ℕ} (room : position < lengt
     flags = store gone position 1 room;
   }
 
-  pub other-listed : {others' : List ℕ} (q : Predicate) (w : ℕ) → picks.is_other q ≡ true → w ≡ length (predicate_bytes position q)
+  pub other-listed : {others' : List ℕ} (q : Predicate) (w : ℕ) → is_other q ≡ true → w ≡ length (predicate_bytes position q)
       → Wrote (predicate_bytes position q) others others'
       → ListIs position (some q ∷ []) knns knns others others' gone (set gone position 1)
       (record { position = position + 1; knn = 0; other = w; rounds = 1 })
-  unfolding match_count
+  unfolding match_count is_knn is_other
   other-listed {others'} q w e size wrote =
       let no : is_knn q ≡ false = not-true (is_knn q) e in
-      let yes : is_other q ≡ true = other-is q e in
       record {
         counted = refl;
         rounds = refl;
         knn = ap length (sym (none-listed is_knn position q no));
-        other = size ∙ ap length (sym (one-listed is_other position q yes));
+        other = size ∙ ap length (sym (one-listed is_other position q e));
         knn_wrote = subst (λ (x : List ℕ). Wrote x knns knns) (sym (none-listed is_knn position q no)) refl;
-        other_wrote = subst (λ (x : List ℕ). Wrote x others others') (sym (one-listed is_other position q yes)) wrote;
+        other_wrote = subst (λ (x : List ℕ). Wrote x others others') (sym (one-listed is_other position q e)) wrote;
         flags = store gone position 1 room;
       }
 
@@ -103,16 +93,19 @@ module _ {position : ℕ} {knns others gone : List ℕ} (room : position < lengt
     flags = store gone position 0 room;
   }
 
--- ---- matching
+-- ---- which kind it is
 
-pub miss-lacks : (kind : Predicate → Bool) (s : List ℕ) (rec : ℕ) (records : List Record) (m : Option Predicate) (why : NoMatch)
-    → MatchingIs kind s rec records m (Err why) → Lacks kind m
-miss-lacks kind s rec records m Unmatched h = none-lacks kind m h
-miss-lacks kind s rec records m NotAsked h = h
+pub knn-is : (s : List ℕ) (records : List Record) (p : KNNPredicate) (q : Predicate)
+    → PredicateAt (on_children records) s (KNearestNeighbors p) q → is_knn q ≡ true
+unfolding is_knn
+knn-is s records p q h = rw h.is refl
 
-pub both-lack : (m : Option Predicate) → Lacks is_knn m → Lacks picks.is_other m → m ≡ none
-both-lack none h k = refl
-both-lack (some q) h k = absurd (false≢true (sym k ∙ ap not h))
+pub other_is : (s : List ℕ) (records : List Record) (p : SpatialPredicate) (q : Predicate)
+    → ((k : KNNPredicate) → p ≡ KNearestNeighbors k → ⊥) → PredicateAt (on_children records) s p q → is_other q ≡ true
+unfolding is_knn is_other
+other_is s records (Relation p) q n h = rw h.is refl
+other_is s records (Distance p) q n h = rw h.is refl
+other_is s records (KNearestNeighbors p) q n h = absurd (n p refl)
 
 -- ---- a leaf in its frame
 
@@ -139,29 +132,21 @@ module _ {match : Matcher} {s : List ℕ} {rec count at position : ℕ} {to knns
     flag-room = omega (arith, f.flags, ap length single)
 
     -- A match has room where what is listed of the leaf has.
-    match-room : {kind : Predicate → Bool} {out : List ℕ} (test : Predicate → Bool)
-        → length (listed test position (matches match f.records f.tree)) ≤ length out → (p : SpatialPredicate)
-        → (m : Matches kind s rec f.records p (match f.records f.tree)) → test m.q ≡ true
+    pub match-room : {out : List ℕ} (test : Predicate → Bool)
+        → length (listed test position (matches match f.records f.tree)) ≤ length out → (p : SpatialPredicate) {q : Predicate}
+        → match f.records f.tree ≡ some q → PredicateAt (on_children f.records) s p q → test q ≡ true
         → Room (PredicateAt (table_change to) s p) (predicate_bytes position) 0 out
-    match-room test room p m passes = record {
-      it = m.q;
-      stands = by-table f.frame p m.q m.stands;
+    match-room test room p {q} is stands passes = record {
+      it = q;
+      stands = by-table f.frame p q stands;
       room = omega (
         arith,
         room,
         ap (λ (x : List (Option Predicate)). length (listed test position x))
-            (leaf-match ∙ ap (λ (x : Option Predicate). x ∷ []) m.is),
-        ap length (one-listed test position m.q passes),
+            (leaf-match ∙ ap (λ (x : Option Predicate). x ∷ []) is),
+        ap length (one-listed test position q passes),
       );
     }
-
-    pub knn-room : (p : SpatialPredicate) → Matches is_knn s rec f.records p (match f.records f.tree)
-        → Room (PredicateAt (table_change to) s p) (predicate_bytes position) 0 knns
-    knn-room p m = match-room is_knn f.knn p m m.passes
-
-    pub other-room : (p : SpatialPredicate) → Matches picks.is_other s rec f.records p (match f.records f.tree)
-        → Room (PredicateAt (table_change to) s p) (predicate_bytes position) 0 others
-    other-room p m = match-room is_other f.other p m (other-is m.q m.passes)
 
 -- The list of a leaf is that of its match.
 pub leaf-is : (match : Matcher) (records : List Record) {t : Expr} {position : ℕ}
