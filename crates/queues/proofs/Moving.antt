@@ -1,23 +1,28 @@
--- Bytes moved down inside one buffer, and bytes written to a part of it.
-use Rattle.std.specs.List.{copy_within}
+-- Bytes copied down inside one buffer, and bytes written to a part of it.
 use Prim.Native.Nat.{ℕ, ◌+◌, ◌-◌, ◌≤◌}
 use native.Mathlib.Omega.{arith}
 use mathlib.Core.Path.{◌≡◌, refl, sym, ap, ap₂, ◌∙◌}
 use mathlib.Core.List.{List, ◌++◌, append_assoc}
 use lib.ListN.{length, take, drop, length-append, length-drop}
-use lib.Seq.{paste, length-take-le, take-append-add, drop-append-add, take-append-le, drop-append-le, drop-drop}
+use lib.Seq.{length-take-le, take-append-add, drop-append-add, take-append-le, drop-append-le, drop-drop}
 use Rattle.byte_writer.specs.Written.{WroteAt}
 
--- Bytes copied down within a buffer were written there.
-pub moved-within : (s : List ℕ) (to from n : ℕ) {after : List ℕ} → from + n ≤ length s → after ≡ copy_within s from (from + n) to
+-- Bytes copied from behind a place of a buffer to before it were written there.
+pub copied-down : (s front back : List ℕ) (to from n : ℕ) {part after : List ℕ} → s ≡ front ++ back → length front ≡ from → back ≡ drop from s
+    → to + n ≤ from → n ≤ length back → part ≡ take n back → after ≡ (take to front ++ (part ++ drop n (drop to front))) ++ back
     → WroteAt to (take n (drop from s)) s after (to + n)
-moved-within s to from n {after} room e =
-    let size : length (take n (drop from s)) ≡ n = length-take-le n (drop from s) (simp length-drop (omega arith)) in
-    let count : from + n - from ≡ n = omega arith in
+copied-down s front back to from n {part} {after} whole long behind below room same e =
+    let x : List ℕ = take n (drop from s) in
+    let size : length x ≡ n = length-take-le n (drop from s) (omega (arith, room, ap length behind)) in
+    let rest : drop n (drop to front) ++ back ≡ drop (to + length x) s =
+    ap (λ (l : List ℕ). l ++ back) (drop-drop n to front) ∙ sym (drop-append-le (to + n) front back (omega arith))
+    ∙ ap₂ (λ (k : ℕ) (l : List ℕ). drop (to + k) l) (sym size) (sym whole) in
     record {
       ends = ap (λ (k : ℕ). to + k) (sym size);
-      out = e ∙ ap (paste s to (drop from s)) count ∙ append_assoc (take to s) (take n (drop from s)) _
-          ∙ ap (λ (k : ℕ). take to s ++ (take n (drop from s) ++ drop (to + k) s)) (sym size);
+      out =
+          e ∙ append_assoc (take to front) (part ++ drop n (drop to front)) back
+          ∙ ap₂ ◌++◌ (sym (take-append-le to front back (omega arith)) ∙ ap (take to) (sym whole))
+          (append_assoc part (drop n (drop to front)) back ∙ ap₂ ◌++◌ (same ∙ ap (take n) behind) rest);
     }
 
 -- What is written to a part of a buffer leaves what is around the part.

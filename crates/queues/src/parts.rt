@@ -22,8 +22,6 @@ pub(crate) const PART: usize = PLACES + LONGEST * MOST;
 
 const SECOND_LENGTH: usize = LENGTHS + 2;
 
-const SECOND_PLACE: usize = PLACES + LONGEST;
-
 // Where the queues begin, behind the mark, and how many bytes both have with it.
 pub(crate) const FIRST: usize = 1;
 
@@ -53,15 +51,16 @@ pub(crate) fn add_frame(part: &mut [u8], count: usize, frame: &[u8])
     part[0] = (count + 1) as u8;
 }
 
-// Moves the frame of place k + 1 to place k.
+// Moves the frame of place k + 1 to place k. The places lie apart, so that the bytes are copied and not moved one by one.
 fn move_frame(part: &mut [u8], k: usize)
     requires { HasNext part.old k }
     ensures { FrameMoved part.old k part.new }
 {
     let n = short_at(part, SECOND_LENGTH + 2 * k);
     put_number(part, LENGTHS + 2 * k, 2, n);
-    let from = SECOND_PLACE + LONGEST * k;
-    part.copy_within(from..from + n, PLACES + LONGEST * k);
+    let to = PLACES + LONGEST * k;
+    let (front, back) = part.split_at_mut(to + LONGEST);
+    front[to..to + n].copy_from_slice(&back[..n]);
 }
 
 // Takes the oldest frame out: moves the later ones down by one place.
