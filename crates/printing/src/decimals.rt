@@ -20,13 +20,26 @@ pub fn decimal_width(n: usize) -> usize
     }
 }
 
-// Writes a number from w on; answers where it ends, as all writers here.
+// Writes a number from w on; answers where it ends, as all writers here. Most numbers of a frame have one or two digits.
 pub fn put_decimal(out: &mut [u8], w: usize, n: usize) -> usize
     requires { TextFits w (decimal n) out.old }
     ensures { WroteAt w (decimal n) out.old out.new result }
 {
-    let width = decimal_width(n);
-    put_figures(out, w, width, n)
+    match n {
+        0..=9 => {
+            out[w] = n as u8 + 48;
+            w + 1
+        }
+        10..=99 => {
+            out[w] = (n / 10) as u8 + 48;
+            out[w + 1] = (n % 10) as u8 + 48;
+            w + 2
+        }
+        _ => {
+            let width = decimal_width(n);
+            put_figures(out, w, width, n)
+        }
+    }
 }
 
 // Writes a number between two characters.
