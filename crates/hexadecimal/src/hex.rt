@@ -48,17 +48,14 @@ pub fn decode(out: &mut [u8], line: &[u8]) -> Option<usize>
     Some(pairs.len())
 }
 
-// The digit of a value below 16.
-#[tactic(auto, unfolding(definitions::specs::Words::Basics::digit))]
+const DIGITS: [u8; 16] = *b"0123456789abcdef";
+
+// The digit of a value below 16. From a table, since a test for each costs more.
 fn digit(value: u8) -> u8
     requires { value < 16 }
     ensures { result ≡ basics.digit value }
 {
-    if value < 10 {
-        b'0' + value
-    } else {
-        b'a' + (value - 10)
-    }
+    DIGITS[usize::from(value)]
 }
 
 // The digits of bytes go to `out` from a place on; gives where they end. Public for the crate that prints literals.

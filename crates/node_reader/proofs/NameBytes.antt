@@ -1,5 +1,5 @@
 -- The bytes of a name, read one after the other, and looked at all at once.
-use Prim.Native.Nat.{ℕ, zero, suc, ◌+◌, ◌-◌, ◌≤◌, ◌<◌, min}
+use Prim.Native.Nat.{ℕ, zero, suc, ◌+◌, ◌-◌, ◌%◌, ◌≤◌, ◌<◌, min}
 use native.Mathlib.Numerals.{add-one}
 use native.Mathlib.Omega.{arith}
 use mathlib.Core.Path.{◌≡◌, refl, sym, ap, ◌∙◌}
@@ -7,6 +7,7 @@ use mathlib.Core.Bool.{Bool, true, false, ◌&&◌, false≢true}
 use mathlib.Core.List.{List, [], ◌∷◌, ◌++◌}
 use lib.ListN.{length, take, drop, get_or, length-drop}
 use lib.Dec.{leb}
+use borrow.Author.Tests.{leb-true, leb-false, le-leb, lt-leb}
 use lib.Seq.{take-suc, drop-drop}
 use Rattle.std.proofs.lemmas.List.{take_all}
 use Rattle.definitions.specs.Words.Basics.{all}
@@ -22,24 +23,34 @@ may b = leb 33 b && leb b 126
 
 -- ---- the loop
 
-all-one-more : (l : List ℕ) (b : ℕ) → name_like (l ++ (b ∷ [])) ≡ (name_like l && leb 33 b) && leb b 126
+all-one-more : (l : List ℕ) (b : ℕ) → name_like (l ++ (b ∷ [])) ≡ name_like l && may b
 unfolding name_like all
-all-one-more [] b = last (leb 33 b) (leb b 126)
+all-one-more [] b = last (may b)
   where
-    last : (x y : Bool) → (x && y) && true ≡ (true && x) && y
-    last true true = refl
-    last true false = refl
-    last false y = refl
-all-one-more (a ∷ l) b = ap (λ (t : Bool). may a && t) (all-one-more l b) ∙ shift (may a) (all may l) (leb 33 b) (leb b 126)
+    last : (x : Bool) → x && true ≡ true && x
+    last true = refl
+    last false = refl
+all-one-more (a ∷ l) b = ap (λ (t : Bool). may a && t) (all-one-more l b) ∙ shift (may a) (all may l) (may b)
   where
-    shift : (w x y z : Bool) → w && ((x && y) && z) ≡ ((w && x) && y) && z
-    shift true x y z = refl
-    shift false x y z = refl
+    shift : (x y z : Bool) → x && (y && z) ≡ (x && y) && z
+    shift true y z = refl
+    shift false y z = refl
+
+-- Both tests of a byte in one.
+one-test : (b : ℕ) → b < 256 → leb ((b + 223) % 256) 93 ≡ leb 33 b && leb b 126
+one-test b h = elim (leb 33 b) as (λ t. leb 33 b ≡ t → leb ((b + 223) % 256) 93 ≡ t && leb b 126) [
+  | true ↦ λ e. elim (leb b 126) as (λ u. leb b 126 ≡ u → leb ((b + 223) % 256) 93 ≡ u) [
+    | true ↦ λ k. le-leb ((b + 223) % 256) 93 (omega (arith, leb-true 33 b e, leb-true b 126 k))
+    | false ↦ λ k. lt-leb ((b + 223) % 256) 93 (omega (arith, h, leb-false b 126 k))
+  ] refl
+  | false ↦ λ e. lt-leb ((b + 223) % 256) 93 (omega (arith, h, leb-false 33 b e))
+] refl
 
 -- One byte more.
-pub like-more : (s : List ℕ) (i : ℕ) → i < length s
-    → (name_like (take i s) && leb 33 (get_or s i 0)) && leb (get_or s i 0) 126 ≡ name_like (take (i + 1) s)
-like-more s i h = rw (add-one i, take-suc s i 0) (sym (all-one-more (take i s) (get_or s i 0)))
+pub like-more : (s : List ℕ) (i : ℕ) → i < length s → get_or s i 0 < 256
+    → name_like (take i s) && leb ((get_or s i 0 + 223) % 256) 93 ≡ name_like (take (i + 1) s)
+like-more s i h k = rw (add-one i, take-suc s i 0) (ap (λ (t : Bool). name_like (take i s) && t) (one-test (get_or s i 0) k)
+    ∙ sym (all-one-more (take i s) (get_or s i 0)))
 
 pub like-none : (s : List ℕ) → true ≡ name_like (take 0 s)
 unfolding name_like all

@@ -74,7 +74,7 @@ fn name_like(bytes: &[u8]) -> bool
 {
     let mut like = true;
     for b in bytes {
-        like = like & (33 <= *b) & (*b <= 126);
+        like = like & (b.wrapping_sub(33) <= 93);
     }
     like
 }

@@ -1,4 +1,6 @@
 -- `name_like`: one byte more at each turn.
+use Rattle.std.proofs.Common.{rules}
+use Rattle.theorems.proofs.Tools.{all-bytes}
 use Rattle.node_reader.proofs.NameBytes.{like-none, like-more}
 use Rattle.node_reader.proofs.field_readers.name_like.Goals as goal
 
@@ -8,4 +10,4 @@ loop-b-init c =
 
 pub loop-b-preserved : goal.loop-b-preserved
 loop-b-preserved c =
-    rw c.loop-b.invariant (like-more _ _ c.loop-b-test.true)
+    rw c.loop-b.invariant (like-more _ _ c.loop-b-test.true (search (rules, all-bytes)))
