@@ -46,7 +46,7 @@ module _ (S : Settings) where
   module _ (p : SpatialPredicate) (told : Bool) (is : AllowedIs S p told) where
     pub stays : told ≡ true → Allows S (Ok p) (Ok p)
     unfolding passing
-    stays e kind s rec records match m =
+    stays e kind s records match m =
         record {
           q = m.q;
           is = ap (passing (allowed S)) m.is
@@ -57,13 +57,13 @@ module _ (S : Settings) where
 
     pub goes : told ≡ false → Allows S (Ok p) (Err Unmatched)
     unfolding passing
-    goes e kind s rec records match m =
+    goes e kind s records match m =
         ap (passing (allowed S)) m.is
         ∙ ap (λ (b : Bool). if b then some m.q else none) (sym (is (on_children records) s m.q m.stands) ∙ e)
 
   none_stays : Allows S (Err Unmatched) (Err Unmatched)
   unfolding passing
-  none_stays kind s rec records match m = ap (passing (allowed S)) m
+  none_stays kind s records match m = ap (passing (allowed S)) m
 
   -- What passes a test or not is still not of a kind.
   pub passing-lacks : (kind : Predicate → Bool) (match : Option Predicate) → Lacks kind match → Lacks kind (passing (allowed S) match)
@@ -76,7 +76,7 @@ module _ (S : Settings) where
       by false = tt
 
   lacks-stays : Allows S (Err NotAsked) (Err NotAsked)
-  lacks-stays kind s rec records match m = passing-lacks kind match m
+  lacks-stays kind s records match m = passing-lacks kind match m
 
   pub no-match_stays : (why : NoMatch) → Allows S (Err why) (Err why)
   no-match_stays Unmatched = none_stays

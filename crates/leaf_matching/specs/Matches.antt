@@ -27,7 +27,7 @@ Lacks kind none = Unit {0}
 Lacks kind (some q) = kind q ≡ false
 
 -- A leaf's match is of this kind, and is what p says.
-pub record Matches (kind : Predicate → Bool) (s : List ℕ) (rec : ℕ) (records : List Record) (p : SpatialPredicate)
+pub record Matches (kind : Predicate → Bool) (s : List ℕ) (records : List Record) (p : SpatialPredicate)
     (match : Option Predicate) : Type 0 where
   pub q : Predicate
   pub is : match ≡ some q
@@ -39,26 +39,26 @@ abbrev pub Matching : Type 0
 Matching = Result SpatialPredicate NoMatch
 
 -- The answer for a leaf with this match.
-abbrev pub MatchingIs : (kind : Predicate → Bool) (s : List ℕ) (rec : ℕ) (records : List Record) (match : Option Predicate)
+abbrev pub MatchingIs : (kind : Predicate → Bool) (s : List ℕ) (records : List Record) (match : Option Predicate)
     → Matching → Type 0
-MatchingIs kind s rec records match (Ok p) = Matches kind s rec records p match
-MatchingIs kind s rec records match (Err Unmatched) = match ≡ none
-MatchingIs kind s rec records match (Err NotAsked) = Lacks kind match
+MatchingIs kind s records match (Ok p) = Matches kind s records p match
+MatchingIs kind s records match (Err Unmatched) = match ≡ none
+MatchingIs kind s records match (Err NotAsked) = Lacks kind match
 
 -- The answer for a leaf, and for one that is a function, with this default k.
-abbrev pub LeafMatchingBy : (default_k : ℕ) (kind : Predicate → Bool) (s : List ℕ) (rec : ℕ) → Matching
+abbrev pub LeafMatchingBy : (default_k : ℕ) (kind : Predicate → Bool) (s : List ℕ) → Matching
     → (records : List Record) (leaf : Expr) → Type 0
-LeafMatchingBy default_k kind s rec r records leaf = MatchingIs kind s rec records (match_leaf_by default_k records leaf) r
+LeafMatchingBy default_k kind s r records leaf = MatchingIs kind s records (match_leaf_by default_k records leaf) r
 
-abbrev pub CallMatchingBy : (default_k : ℕ) (kind : Predicate → Bool) (s : List ℕ) (rec : ℕ) → Matching
+abbrev pub CallMatchingBy : (default_k : ℕ) (kind : Predicate → Bool) (s : List ℕ) → Matching
     → (records : List Record) (name : List ℕ) (arguments : Exprs) → Type 0
-CallMatchingBy default_k kind s rec r records name arguments = LeafMatchingBy default_k kind s rec r records (call name arguments)
+CallMatchingBy default_k kind s r records name arguments = LeafMatchingBy default_k kind s r records (call name arguments)
 
 -- With 1, as 01 has it: a relation and a distance are the same with any (`Defaults`).
-abbrev pub LeafMatching : (kind : Predicate → Bool) (s : List ℕ) (rec : ℕ) → Matching → (records : List Record) (leaf : Expr) → Type 0
+abbrev pub LeafMatching : (kind : Predicate → Bool) (s : List ℕ) → Matching → (records : List Record) (leaf : Expr) → Type 0
 LeafMatching = LeafMatchingBy 1
 
-abbrev pub CallMatching : (kind : Predicate → Bool) (s : List ℕ) (rec : ℕ) → Matching
+abbrev pub CallMatching : (kind : Predicate → Bool) (s : List ℕ) → Matching
     → (records : List Record) (name : List ℕ) (arguments : Exprs) → Type 0
 CallMatching = CallMatchingBy 1
 
@@ -71,5 +71,5 @@ AllowedIs S p r = (change : Change) (s : List ℕ) (q : Predicate) → Predicate
 -- Whatever a leaf's match, r says of what of it is left under the settings what m says of it.
 abbrev pub Allows : Settings → (m r : Matching) → Type 0
 Allows S m r =
-    (kind : Predicate → Bool) (s : List ℕ) (rec : ℕ) (records : List Record) (match : Option Predicate)
-    → MatchingIs kind s rec records match m → MatchingIs kind s rec records (passing (allowed S) match) r
+    (kind : Predicate → Bool) (s : List ℕ) (records : List Record) (match : Option Predicate)
+    → MatchingIs kind s records match m → MatchingIs kind s records (passing (allowed S) match) r

@@ -33,7 +33,7 @@ fn side_of_distance(of: Sides) -> Option<JoinSide>
 pub fn match_distance_predicate(filter: Filter, at: usize, i: usize) -> Matching
     requires framed { Framed filter.s.now filter.rec at }
     requires of_tree { OfTree filter.s.now at (Tabled filter.rows.numbers.now filter.rows.next.now at i) }
-    ensures { OfFrame filter.entry.s.now filter.entry.rec at (LeafMatching is_distance filter.entry.s.now filter.entry.rec result) }
+    ensures { OfFrame filter.entry.s.now filter.entry.rec at (LeafMatching is_distance filter.entry.s.now result) }
 {
     let parsed = parse_distance_predicate(filter.s, at, filter.rows, i).ok_or(NoMatch::NotAsked)?;
     let distance = side_of_column_references(filter.s, filter.rec, parsed.arg_distance);

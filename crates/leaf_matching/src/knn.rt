@@ -82,7 +82,7 @@ pub fn match_knn_predicate(filter: Filter, called: Called, i: usize, default_k: 
     requires call_framed { CallFramed filter.s.now filter.rec called }
     requires of_call { OfCall filter.s.now called (λ c name. TabledAll filter.rows.numbers.now filter.rows.next.now called.first i) }
     ensures { OfCallFrame filter.entry.s.now filter.entry.rec called
-        (CallMatchingBy default_k is_knn filter.entry.s.now filter.entry.rec result) }
+        (CallMatchingBy default_k is_knn filter.entry.s.now result) }
 {
     if !same_name(called.name(filter.s), b"st_knn") {
         return Err(NoMatch::NotAsked);

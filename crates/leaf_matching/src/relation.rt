@@ -20,7 +20,7 @@ pub fn match_relation_predicate(filter: Filter, called: Called, i: usize) -> Mat
     requires call_framed { CallFramed filter.s.now filter.rec called }
     requires of_call { OfCall filter.s.now called (λ c name. TabledAll filter.rows.numbers.now filter.rows.next.now called.first i) }
     ensures { OfCallFrame filter.entry.s.now filter.entry.rec called
-        (CallMatching is_relation filter.entry.s.now filter.entry.rec result) }
+        (CallMatching is_relation filter.entry.s.now result) }
 {
     let named = SpatialRelationType::from_name(called.name(filter.s));
     let relation_type = named.ok_or(NoMatch::NotAsked)?;

@@ -144,7 +144,7 @@ module _ {match : Matcher} {s numbers next : List ℕ} {rec at last place index 
     }
 
     leaf-stopped : {seen : SeenLeaf} → StoppedIs match s place position a.first seen records u
-        → WalkIs match s rec at (record { found = Some seen; read = w.read + 1 }) records t
+        → WalkIs match s at (record { found = Some seen; read = w.read + 1 }) records t
     unfolding matches_by remembered walk_on
     leaf-stopped {seen} h = record {
       remembers = (
@@ -168,7 +168,7 @@ module _ {match : Matcher} {s numbers next : List ℕ} {rec at last place index 
 
   -- ---- it ends
 
-  ahead-ends : Ahead match s numbers next rec at last place index position w records t nil → WalkIs match s rec at w records t
+  ahead-ends : Ahead match s numbers next rec at last place index position w records t nil → WalkIs match s at w records t
   unfolding matches_by remembered walk_on leaves_all reached_all count_to
   ahead-ends a = record {
     remembers =
@@ -204,7 +204,7 @@ along-begins there tabled e = record {
 
 module _ {match : Matcher} {s numbers next : List ℕ} {rec at last place index position : ℕ} {w : Walk SeenLeaf}
     (inv : Along match s numbers next rec at last place index position w) where
-  pub along-ends : (index < last → ⊥) → OfFrame s rec at (WalkIs match s rec at w)
+  pub along-ends : (index < last → ⊥) → OfFrame s rec at (WalkIs match s at w)
   along-ends end records t over =
       let some = inv.ahead records t over in
       ahead-ends (subst (Ahead match s numbers next rec at last place index position w records t) (none-come end some.0 some.1.coming)
@@ -283,7 +283,7 @@ module _ {match : Matcher} {s numbers next : List ℕ} {rec at last place index 
       pub along-stopped : {seen : SeenLeaf}
           → OfFrame s rec place (λ records u. (first : Option definition.Pick) → Remembers s records w.found first
           → StoppedIs match s place position first seen records u)
-          → OfFrame s rec at (WalkIs match s rec at (record { found = Some seen; read = w.read + 1 }))
+          → OfFrame s rec at (WalkIs match s at (record { found = Some seen; read = w.read + 1 }))
       along-stopped inner records t over =
           let n : Now records t = now over in
           let o : Over s rec place records n.u = over-now n in

@@ -30,7 +30,7 @@ one-cut e (in_right {position = p} more) (in_right {position = q} more') = one-c
 -- ---- the picks
 
 pub engines-agree : EnginesAgree
-engines-agree match s rec at (Some p) (Some q) records t a b =
+engines-agree match s at (Some p) (Some q) records t a b =
     let one : ◌≡◌ {A = definition.Pick} (record { position = p.position; predicate = a.q })
     (record { position = q.position; predicate = b.q }) = cc (a.is, b.is) in
     let same : p.position ≡ q.position = ap (λ (x : definition.Pick). x.position) one in
@@ -41,6 +41,6 @@ engines-agree match s rec at (Some p) (Some q) records t a b =
       one = a.stands;
       other = rw (ap (λ (x : definition.Pick). x.predicate) one) b.stands;
     }
-engines-agree match s rec at (Some p) None records t a b = let z : ◌≡◌ {A = ℕ} 0 1 = cc (a.is, b) in absurd (omega arith)
-engines-agree match s rec at None (Some q) records t a b = let z : ◌≡◌ {A = ℕ} 0 1 = cc (a, b.is) in absurd (omega arith)
-engines-agree match s rec at None None records t a b = tt
+engines-agree match s at (Some p) None records t a b = let z : ◌≡◌ {A = ℕ} 0 1 = cc (a.is, b) in absurd (omega arith)
+engines-agree match s at None (Some q) records t a b = let z : ◌≡◌ {A = ℕ} 0 1 = cc (a, b.is) in absurd (omega arith)
+engines-agree match s at None None records t a b = tt

@@ -71,16 +71,16 @@ one-match : (match : Matcher) (records : List Record) (t : Expr) → leaves t �
 one-match match records t single = ap (map (match records)) single
 
 -- Whyever a leaf has no match, it has none of the kind.
-pub no-match_lacks : (kind : Predicate → Bool) (s : List ℕ) (rec : ℕ) (records : List Record) (found : Option Predicate) (why : NoMatch)
-    → MatchingIs kind s rec records found (Err why) → Lacks kind found
-no-match_lacks kind s rec records found Unmatched m = none-lacks kind found m
-no-match_lacks kind s rec records found NotAsked m = m
+pub no-match_lacks : (kind : Predicate → Bool) (s : List ℕ) (records : List Record) (found : Option Predicate) (why : NoMatch)
+    → MatchingIs kind s records found (Err why) → Lacks kind found
+no-match_lacks kind s records found Unmatched m = none-lacks kind found m
+no-match_lacks kind s records found NotAsked m = m
 
 module _ {match : Matcher} (wanted : Wanted) {s : List ℕ} {rec at : ℕ} {records : List Record} {t : Expr} (over : Over s rec at records t)
     (single : leaves t ≡ t ∷ []) where
   pub leaf-matched : {before up : ℕ} (p : SpatialPredicate) (end : ℕ)
-      → Matches (wants wanted) s rec records p (match records t) → end ≡ at + length (expr_bytes t)
-      → FirstIs match wanted s rec at before up
+      → Matches (wants wanted) s records p (match records t) → end ≡ at + length (expr_bytes t)
+      → FirstIs match wanted s at before up
       (record { predicate = p; position = before; cut = record { leaf = at; end = end; parent = up } }) records t
   leaf-matched {before} p end m ends = record {
     i = 0;
@@ -132,12 +132,12 @@ module _ {s : List ℕ} {rec at left : ℕ} {found : Node} (is : OfTreeIn s at (
   left_after p = omega (arith, (its-children p.2).begins)
 
   module _ {match : Matcher} {wanted : Wanted} {before : ℕ} where
-    pub match-left : {up : ℕ} {p : Pick} → OfFrame s rec left (FirstIs match wanted s rec left before at p)
-        → OfFrame s rec at (FirstIs match wanted s rec at before up p)
+    pub match-left : {up : ℕ} {p : Pick} → OfFrame s rec left (FirstIs match wanted s left before at p)
+        → OfFrame s rec at (FirstIs match wanted s at before up p)
     match-left {up} {p} inner records t over =
         let c : Children s rec at left records t = its-children over in
-        let f : FirstIs match wanted s rec left before at p records c.l = inner records c.l c.first in
-        subst⁻¹ (FirstIs match wanted s rec at before up p records) c.is (record {
+        let f : FirstIs match wanted s left before at p records c.l = inner records c.l c.first in
+        subst⁻¹ (FirstIs match wanted s at before up p records) c.is (record {
           i = f.i;
           q = f.q;
           first = and-left match (wants wanted) records c.l c.r f.first;
@@ -158,16 +158,16 @@ module _ {s : List ℕ} {rec at left : ℕ} {found : Node} (is : OfTreeIn s at (
             omega (arith, c.begins, e, n.counted, leaves-few c.l),
           )
 
-      pub match-right : (up : ℕ) (r : Found) → OfFrame s rec right (FoundIs match wanted s rec right count at r)
-          → OfFrame s rec at (FoundIs match wanted s rec at before up r)
+      pub match-right : (up : ℕ) (r : Found) → OfFrame s rec right (FoundIs match wanted s right count at r)
+          → OfFrame s rec at (FoundIs match wanted s at before up r)
       unfolding moved leaves
       match-right up (Break p) outer records t over =
           let c : Children s rec at left records t = its-children over in
           let n : NothingIs match wanted before count records c.l = inner records c.l c.first in
           let e : right ≡ left + length (expr_bytes c.l) = ends _ c.l c.first.tree in
-          let f : FirstIs match wanted s rec right count at p records c.r = outer records c.r (c.second right e) in
+          let f : FirstIs match wanted s right count at p records c.r = outer records c.r (c.second right e) in
           let place : right ≡ right_of at c.l = e ∙ ap (λ (a : ℕ). a + length (expr_bytes c.l)) c.begins in
-          subst⁻¹ (FirstIs match wanted s rec at before up p records) c.is (record {
+          subst⁻¹ (FirstIs match wanted s at before up p records) c.is (record {
             i = length (leaves c.l) + f.i;
             q = f.q;
             first = and-right match (wants wanted) records c.l c.r n.first ∙ ap (moved (length (leaves c.l))) f.first;
@@ -192,8 +192,8 @@ pub record Along (match : Matcher) (wanted : Wanted) (s numbers next : List ℕ)
   pub tabled : OfTree s stop.at (Tabled numbers next stop.at stop.index)
   pub low : from.at ≤ stop.at
   pub few : stop.position ≤ stop.at
-  pub rest : (r : Found) → OfFrame s rec stop.at (FoundIs match wanted s rec stop.at stop.position above r)
-      → OfFrame s rec from.at (FoundIs match wanted s rec from.at from.position parent r)
+  pub rest : (r : Found) → OfFrame s rec stop.at (FoundIs match wanted s stop.at stop.position above r)
+      → OfFrame s rec from.at (FoundIs match wanted s from.at from.position parent r)
 
 module _ {match : Matcher} {wanted : Wanted} {s numbers next : List ℕ} {rec : ℕ} {from : Stop} {parent : ℕ} where
   pub along-begins : Framed s rec from.at → OfTree s from.at (Tabled numbers next from.at from.index) → from.position ≤ from.at
@@ -225,8 +225,8 @@ module _ {match : Matcher} {wanted : Wanted} {s numbers next : List ℕ} {rec : 
             (left-framed is told inv.there, omega (arith, after, inv.few)),
           )
 
-      pub along-left : {p : Pick} → OfFrame s rec left (FirstIs match wanted s rec left stop.position stop.at p)
-          → OfFrame s rec from.at (FirstIs match wanted s rec from.at from.position parent p)
+      pub along-left : {p : Pick} → OfFrame s rec left (FirstIs match wanted s left stop.position stop.at p)
+          → OfFrame s rec from.at (FirstIs match wanted s from.at from.position parent p)
       along-left {p} inner = inv.rest (Break p) (match-left is told inner)
 
       module _ {right counted : ℕ} (inner : OfFrame s rec left (NothingIs match wanted stop.position counted))
@@ -259,11 +259,11 @@ module _ {match : Matcher} {wanted : Wanted} {s numbers next : List ℕ} {rec : 
 -- ---- two passes
 
 -- The first match of a pass is the pick.
-pub taken_is : {match : Matcher} {s : List ℕ} {rec at : ℕ} {wanted : Wanted} {p : Pick} {records : List Record} {t : Expr}
-    → FirstIs match wanted s rec at 0 at p records t
-    → definition.pick (matches match records t) ≡ first_match (wants wanted) (matches match records t) → TakenIs match s rec at p records t
+pub taken_is : {match : Matcher} {s : List ℕ} {at : ℕ} {wanted : Wanted} {p : Pick} {records : List Record} {t : Expr}
+    → FirstIs match wanted s at 0 at p records t
+    → definition.pick (matches match records t) ≡ first_match (wants wanted) (matches match records t) → TakenIs match s at p records t
 unfolding matches_by
-taken_is {match} {s} {rec} {at} {wanted} {p} {records} {t} f e =
+taken_is {match} {s} {at} {wanted} {p} {records} {t} f e =
     let same : p.position ≡ f.i = f.counted ∙ zero-add f.i in
     record {
       q = f.q;
@@ -273,9 +273,9 @@ taken_is {match} {s} {rec} {at} {wanted} {p} {records} {t} f e =
     }
 
 -- After a pass for KNN that found nothing, what the other finds is the pick.
-pub second-pass : (match : Matcher) (s : List ℕ) (rec at : ℕ) (records : List Record) (t : Expr) (found : Found)
-    → first_match is_knn (matches match records t) ≡ none → FoundIs match Other s rec at 0 at found records t
-    → PickedIs match s rec at (break_value found) records t
+pub second-pass : (match : Matcher) (s : List ℕ) (at : ℕ) (records : List Record) (t : Expr) (found : Found)
+    → first_match is_knn (matches match records t) ≡ none → FoundIs match Other s at 0 at found records t
+    → PickedIs match s at (break_value found) records t
 unfolding matches_by
-second-pass match s rec at records t (Break p) lacks f = taken_is f (pick_other _ lacks)
-second-pass match s rec at records t (Continue count) lacks f = pick_other _ lacks ∙ f.first
+second-pass match s at records t (Break p) lacks f = taken_is f (pick_other _ lacks)
+second-pass match s at records t (Continue count) lacks f = pick_other _ lacks ∙ f.first

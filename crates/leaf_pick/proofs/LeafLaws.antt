@@ -42,11 +42,11 @@ module _ {s numbers next : List ℕ} {rec : ℕ} {leaf : Leaf} (there : LeafTher
       → CallOver s rec k records (its-call over).name (its-call over).arguments
   call-over over = record { entries = over.entries; stands = (its-call over).stands }
 
-  pub call-leaf : (d : ℕ) (kind : Predicate → Bool) (r : Matching) → OfCallFrame s rec k (CallMatchingBy d kind s rec r)
-      → {records : List Record} {t : Expr} → Over s rec leaf.stop.at records t → LeafMatchingBy d kind s rec r records t
+  pub call-leaf : (d : ℕ) (kind : Predicate → Bool) (r : Matching) → OfCallFrame s rec k (CallMatchingBy d kind s r)
+      → {records : List Record} {t : Expr} → Over s rec leaf.stop.at records t → LeafMatchingBy d kind s r records t
   call-leaf d kind r answer {records} {t} over =
       let it : CallIs (index_below (length records)) s leaf.stop.at k t = its-call over in
-      subst (λ (t : Expr). MatchingIs kind s rec records (match_leaf_by d records t) r) (sym it.is)
+      subst (λ (t : Expr). MatchingIs kind s records (match_leaf_by d records t) r) (sym it.is)
       (answer records it.name it.arguments (call-over over))
 
   -- Its arguments stand there, and are in the rows after it.
@@ -83,20 +83,20 @@ lacks-other none e f = tt
 lacks-other (some q) e f = neither-other q e f
 
 module _ {s : List ℕ} {rec at : ℕ} {records : List Record} {t : Expr} (over : Over s rec at records t) where
-  relation-matched : (p : SpatialPredicate) → LeafMatching is_relation s rec (Ok p) records t
-      → LeafMatching is_other s rec (Ok p) records t
+  relation-matched : (p : SpatialPredicate) → LeafMatching is_relation s (Ok p) records t
+      → LeafMatching is_other s (Ok p) records t
   relation-matched p m = record { q = m.q; is = m.is; passes = relation-other _ m.passes; stands = m.stands }
 
   -- What is asked of the relations is answered.
-  pub asked-matched : (r : Matching) → LeafMatching is_relation s rec r records t → (r ≡ Err NotAsked → ⊥)
-      → LeafMatching is_other s rec r records t
+  pub asked-matched : (r : Matching) → LeafMatching is_relation s r records t → (r ≡ Err NotAsked → ⊥)
+      → LeafMatching is_other s r records t
   asked-matched (Ok p) m asked = relation-matched p m
   asked-matched (Err Unmatched) m asked = m
   asked-matched (Err NotAsked) m asked = absurd (asked refl)
 
   -- A leaf that is no relation is of a kind that is not KNN if it is a distance.
-  pub distance-matching : (r : Matching) → Lacks is_relation (match_leaf records t) → LeafMatching is_distance s rec r records t
-      → LeafMatching is_other s rec r records t
+  pub distance-matching : (r : Matching) → Lacks is_relation (match_leaf records t) → LeafMatching is_distance s r records t
+      → LeafMatching is_other s r records t
   distance-matching (Ok p) e m = record { q = m.q; is = m.is; passes = distance-other _ m.passes; stands = m.stands }
   distance-matching (Err Unmatched) e m = m
   distance-matching (Err NotAsked) e m = lacks-other (match_leaf records t) e m

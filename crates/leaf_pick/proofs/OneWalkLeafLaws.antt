@@ -65,7 +65,7 @@ module _ {s numbers next : List ℕ} {rec : ℕ} {leaf : Leaf} (there : LeafTher
 
 module _ {match : Matcher} {s numbers next : List ℕ} {rec : ℕ} {leaf : Leaf} (there : LeafThere s numbers next rec leaf)
     {records : List Record} {t : Expr} (over : Over s rec leaf.stop.at records t) where
-  pub leaf-stops : (predicate : SpatialPredicate) → Matches is_knn s rec records predicate (match records t)
+  pub leaf-stops : (predicate : SpatialPredicate) → Matches is_knn s records predicate (match records t)
       → (first : Option definition.Pick)
       → StoppedIs match s leaf.stop.at leaf.stop.position first (seen_here numbers leaf predicate) records t
   unfolding read_leaf is_knn_match
@@ -77,7 +77,7 @@ module _ {match : Matcher} {s numbers next : List ℕ} {rec : ℕ} {leaf : Leaf}
     seen_here = here-seen there over predicate;
   }
 
-  pub leaf_first : (predicate : SpatialPredicate) → Matches is_other s rec records predicate (match records t)
+  pub leaf_first : (predicate : SpatialPredicate) → Matches is_other s records predicate (match records t)
       → (first : Option definition.Pick) → Remembers s records None first
       → GoingIs match s leaf.stop.at leaf.stop.position first None (Some (seen_here numbers leaf predicate)) records t
   unfolding read_leaf is_knn_match first_of

@@ -24,5 +24,5 @@ Alike s None None records = Unit {0}
 -- Whatever two engines answer by `PickedIs`, which the two passes and the one walk both ensure, they answer alike.
 abbrev pub EnginesAgree : Type 0
 EnginesAgree =
-    (match : Matcher) (s : List ℕ) (rec at : ℕ) (a b : Option Pick) (records : List Record) (t : Expr) → PickedIs match s rec at a records t
-    → PickedIs match s rec at b records t → Alike s a b records
+    (match : Matcher) (s : List ℕ) (at : ℕ) (a b : Option Pick) (records : List Record) (t : Expr) → PickedIs match s at a records t
+    → PickedIs match s at b records t → Alike s a b records

@@ -42,9 +42,9 @@ pub record LeafThere (s numbers next : List ℕ) (rec : ℕ) (leaf : Leaf) : Typ
   pub is : OfTreeIn s leaf.stop.at (λ c t. NodeIs c s leaf.stop.at leaf.node t)
 
 -- The answer for a leaf.
-abbrev pub LeafMatched : Matcher → (kind : Predicate → Bool) (s : List ℕ) (rec : ℕ) → Matching
+abbrev pub LeafMatched : Matcher → (kind : Predicate → Bool) (s : List ℕ) → Matching
     → (records : List Record) (leaf : Expr) → Type 0
-LeafMatched match kind s rec r records leaf = MatchingIs kind s rec records (match records leaf) r
+LeafMatched match kind s r records leaf = MatchingIs kind s records (match records leaf) r
 
 -- Whatever a leaf matches.
 abbrev pub AnyMatchIs : Matcher → (s : List ℕ) → Option SpatialPredicate → (records : List Record) (leaf : Expr) → Type 0
@@ -55,7 +55,7 @@ AnyMatchIs match s None records leaf = match records leaf ≡ optional.none
 -- ---- the answers
 
 -- The first match that is wanted below a node, `before` AND-leaves being before it.
-pub record FirstIs (match : Matcher) (wanted : Wanted) (s : List ℕ) (rec at before up : ℕ) (p : Pick) (records : List Record) (t : Expr)
+pub record FirstIs (match : Matcher) (wanted : Wanted) (s : List ℕ) (at before up : ℕ) (p : Pick) (records : List Record) (t : Expr)
     : Type 0 where
   pub i : ℕ
   pub q : Predicate
@@ -72,18 +72,18 @@ pub record NothingIs (match : Matcher) (wanted : Wanted) (before count : ℕ) (r
 abbrev pub Found : Type 0
 Found = ControlFlow Pick ℕ
 
-abbrev pub FoundIs : Matcher → Wanted → (s : List ℕ) (rec at before up : ℕ) → Found → (records : List Record) → Expr → Type 0
-FoundIs match wanted s rec at before up (Break p) records t = FirstIs match wanted s rec at before up p records t
-FoundIs match wanted s rec at before up (Continue count) records t = NothingIs match wanted before count records t
+abbrev pub FoundIs : Matcher → Wanted → (s : List ℕ) (at before up : ℕ) → Found → (records : List Record) → Expr → Type 0
+FoundIs match wanted s at before up (Break p) records t = FirstIs match wanted s at before up p records t
+FoundIs match wanted s at before up (Continue count) records t = NothingIs match wanted before count records t
 
 -- The definitions' pick, with its place; the root is its own parent.
-pub record TakenIs (match : Matcher) (s : List ℕ) (rec at : ℕ) (p : Pick) (records : List Record) (t : Expr) : Type 0 where
+pub record TakenIs (match : Matcher) (s : List ℕ) (at : ℕ) (p : Pick) (records : List Record) (t : Expr) : Type 0 where
   pub q : Predicate
   pub is : definition.pick (matches_by match (record { records = records; expr = t }))
       ≡ optional.some (record { position = p.position; predicate = q })
   pub stands : PredicateAt (on_children records) s p.predicate q
   pub cut : CutAt p.cut at t at p.position
 
-abbrev pub PickedIs : Matcher → (s : List ℕ) (rec at : ℕ) → Option Pick → (records : List Record) → Expr → Type 0
-PickedIs match s rec at (Some p) records t = TakenIs match s rec at p records t
-PickedIs match s rec at None records t = definition.pick (matches_by match (record { records = records; expr = t })) ≡ optional.none
+abbrev pub PickedIs : Matcher → (s : List ℕ) (at : ℕ) → Option Pick → (records : List Record) → Expr → Type 0
+PickedIs match s at (Some p) records t = TakenIs match s at p records t
+PickedIs match s at None records t = definition.pick (matches_by match (record { records = records; expr = t })) ≡ optional.none

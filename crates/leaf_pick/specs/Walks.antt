@@ -111,7 +111,7 @@ SpotOf t at None = Unit {0}
 SpotOf t at (Some seen) = LeafSpot seen.leaf seen.end t at seen.position
 
 -- The walk ended with the definitions' pick in memory, and its length is the definitions'.
-pub record WalkIs (match : Matcher) (s : List ℕ) (rec at : ℕ) (w : Walk SeenLeaf) (records : List Record) (t : Expr) : Type 0 where
+pub record WalkIs (match : Matcher) (s : List ℕ) (at : ℕ) (w : Walk SeenLeaf) (records : List Record) (t : Expr) : Type 0 where
   pub remembers : Remembers s records w.found (pick (matches_by match (record { records = records; expr = t })))
   pub spot : SpotOf t at w.found
   pub walk : w.read ≡ walk_length_by match (record { records = records; expr = t })
@@ -132,6 +132,6 @@ ParentIs numbers next at leaf r =
 -- ---- the answer
 
 -- The definitions' pick, as the engine of two passes gives it, and the walk's length.
-pub record WalkedIs (match : Matcher) (s : List ℕ) (rec at : ℕ) (w : Walk Pick) (records : List Record) (t : Expr) : Type 0 where
-  pub picked : PickedIs match s rec at w.found records t
+pub record WalkedIs (match : Matcher) (s : List ℕ) (at : ℕ) (w : Walk Pick) (records : List Record) (t : Expr) : Type 0 where
+  pub picked : PickedIs match s at w.found records t
   pub walk : w.read ≡ walk_length_by match (record { records = records; expr = t })

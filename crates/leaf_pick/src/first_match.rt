@@ -70,7 +70,7 @@ pub struct Leaf {
 pub fn match_knn(filter: Filter, leaf: Leaf, settings: Settings) -> Matching
     requires { LeafThere filter.s.now filter.rows.numbers.now filter.rows.next.now filter.rec leaf }
     ensures { OfFrame filter.entry.s.now filter.entry.rec leaf.stop.at
-        (LeafMatched (match_under (settings_of settings)) is_knn filter.entry.s.now filter.entry.rec result) }
+        (LeafMatched (match_under (settings_of settings)) is_knn filter.entry.s.now result) }
 {
     let Node::Call(called) = leaf.node else {
         return Err(NoMatch::NotAsked);
@@ -84,7 +84,7 @@ pub fn match_knn(filter: Filter, leaf: Leaf, settings: Settings) -> Matching
 fn match_relation_or_distance(filter: Filter, leaf: Leaf) -> Matching
     requires { LeafThere filter.s.now filter.rows.numbers.now filter.rows.next.now filter.rec leaf }
     ensures { OfFrame filter.entry.s.now filter.entry.rec leaf.stop.at
-        (LeafMatching is_other filter.entry.s.now filter.entry.rec result) }
+        (LeafMatching is_other filter.entry.s.now result) }
 {
     let Node::Call(called) = leaf.node else {
         return match_distance_predicate(filter, leaf.stop.at, leaf.stop.index);
@@ -100,7 +100,7 @@ fn match_relation_or_distance(filter: Filter, leaf: Leaf) -> Matching
 pub fn match_other(filter: Filter, leaf: Leaf, settings: Settings) -> Matching
     requires { LeafThere filter.s.now filter.rows.numbers.now filter.rows.next.now filter.rec leaf }
     ensures { OfFrame filter.entry.s.now filter.entry.rec leaf.stop.at
-        (LeafMatched (match_under (settings_of settings)) is_other filter.entry.s.now filter.entry.rec result) }
+        (LeafMatched (match_under (settings_of settings)) is_other filter.entry.s.now result) }
 {
     only_allowed(settings, match_relation_or_distance(filter, leaf))
 }
@@ -109,7 +109,7 @@ pub fn match_other(filter: Filter, leaf: Leaf, settings: Settings) -> Matching
 pub fn match_wanted(filter: Filter, leaf: Leaf, pass: Pass) -> Matching
     requires { LeafThere filter.s.now filter.rows.numbers.now filter.rows.next.now filter.rec leaf }
     ensures { OfFrame filter.entry.s.now filter.entry.rec leaf.stop.at
-        (LeafMatched (match_under (settings_of pass.settings)) (wants pass.wanted) filter.entry.s.now filter.entry.rec result) }
+        (LeafMatched (match_under (settings_of pass.settings)) (wants pass.wanted) filter.entry.s.now result) }
 {
     match pass.wanted {
         Wanted::Knn => match_knn(filter, leaf, pass.settings),
@@ -123,7 +123,7 @@ pub fn leaf_match(filter: Filter, leaf: Leaf, pass: Pass, parent: usize) -> Foun
     requires of_frame { OfFrame filter.s.now filter.rec leaf.stop.at (λ records t. leaves t ≡ t ∷ []) }
     requires position_le_at { leaf.stop.position ≤ leaf.stop.at }
     ensures { OfFrame filter.entry.s.now filter.entry.rec leaf.stop.at
-        (FoundIs (match_under (settings_of pass.settings)) pass.wanted filter.entry.s.now filter.entry.rec
+        (FoundIs (match_under (settings_of pass.settings)) pass.wanted filter.entry.s.now
         leaf.stop.at leaf.stop.position parent result) }
 {
     match match_wanted(filter, leaf, pass) {
@@ -147,7 +147,7 @@ pub fn first_match(filter: Filter, pass: Pass, from: Stop, parent: usize) -> Fou
     requires of_tree { OfTree filter.s.now from.at (Tabled filter.rows.numbers.now filter.rows.next.now from.at from.index) }
     requires position_le_at { from.position ≤ from.at }
     ensures { OfFrame filter.entry.s.now filter.entry.rec from.at
-        (FoundIs (match_under (settings_of pass.settings)) pass.wanted filter.entry.s.now filter.entry.rec
+        (FoundIs (match_under (settings_of pass.settings)) pass.wanted filter.entry.s.now
         from.at from.position parent result) }
 {
     let mut stop = from;

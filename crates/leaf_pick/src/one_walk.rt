@@ -133,7 +133,7 @@ pub fn walk_once(filter: Filter, at: usize, settings: Settings) -> Walk<SeenLeaf
     requires framed { Framed filter.s.now filter.rec at }
     requires of_tree { OfTree filter.s.now at (Tabled filter.rows.numbers.now filter.rows.next.now at 0) }
     ensures { OfFrame filter.entry.s.now filter.entry.rec at
-        (WalkIs (match_under (settings_of settings)) filter.entry.s.now filter.entry.rec at result) }
+        (WalkIs (match_under (settings_of settings)) filter.entry.s.now at result) }
 {
     let last = filter.rows.after(0);
     let mut place = at;
@@ -198,7 +198,7 @@ pub fn extract_in_one_walk(filter: Filter, at: usize, settings: Settings) -> Wal
     requires framed { Framed filter.s.now filter.rec at }
     requires of_tree { OfTree filter.s.now at (Tabled filter.rows.numbers.now filter.rows.next.now at 0) }
     ensures { OfFrame filter.entry.s.now filter.entry.rec at
-        (WalkedIs (match_under (settings_of settings)) filter.entry.s.now filter.entry.rec at result) }
+        (WalkedIs (match_under (settings_of settings)) filter.entry.s.now at result) }
 {
     let walk = walk_once(filter, at, settings);
     let Some(seen) = walk.found else {

@@ -20,7 +20,7 @@ fn from_root(filter: Filter, at: usize, i: usize, pass: Pass) -> Found
     requires framed { Framed filter.s.now filter.rec at }
     requires of_tree { OfTree filter.s.now at (Tabled filter.rows.numbers.now filter.rows.next.now at i) }
     ensures { OfFrame filter.entry.s.now filter.entry.rec at
-        (FoundIs (match_under (settings_of pass.settings)) pass.wanted filter.entry.s.now filter.entry.rec at 0 at result) }
+        (FoundIs (match_under (settings_of pass.settings)) pass.wanted filter.entry.s.now at 0 at result) }
 {
     let root = Stop {
         at,
@@ -40,7 +40,7 @@ fn extract_knn_predicate_prioritized(
     requires framed { Framed filter.s.now filter.rec at }
     requires of_tree { OfTree filter.s.now at (Tabled filter.rows.numbers.now filter.rows.next.now at i) }
     ensures { OfFrame filter.entry.s.now filter.entry.rec at
-        (FoundIs (match_under (settings_of settings)) Wanted.Knn filter.entry.s.now filter.entry.rec at 0 at result) }
+        (FoundIs (match_under (settings_of settings)) Wanted.Knn filter.entry.s.now at 0 at result) }
 {
     let wanted = Wanted::Knn;
     from_root(filter, at, i, Pass { wanted, settings })
@@ -56,7 +56,7 @@ pub fn extract_spatial_predicate(
     requires framed { Framed filter.s.now filter.rec at }
     requires of_tree { OfTree filter.s.now at (Tabled filter.rows.numbers.now filter.rows.next.now at i) }
     ensures { OfFrame filter.entry.s.now filter.entry.rec at
-        (PickedIs (match_under (settings_of settings)) filter.entry.s.now filter.entry.rec at result) }
+        (PickedIs (match_under (settings_of settings)) filter.entry.s.now at result) }
 {
     if let ControlFlow::Break(pick) = extract_knn_predicate_prioritized(filter, at, i, settings) {
         return Some(pick);

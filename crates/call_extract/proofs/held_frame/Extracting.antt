@@ -82,7 +82,7 @@ module _ (match : Matcher) (n : ℕ) (before scratch : List ℕ) {f : places.Fra
       subst (λ (s : List ℕ). OfTree s f.root (Tabled numbers next f.root 0)) (sym (kept n before h.fits scratch after copied)) indexed
 
   module _ {Asks : Meaning → Type 0} (laws : Lawful match Asks) (bytes : AllBytes before) (p : picks.Pick)
-      (t : TakenIs match (take n before) f.records f.root p F.records F.expr) where
+      (t : TakenIs match (take n before) f.root p F.records F.expr) where
     abbrev X : Extraction
     X = takes F p t.q
 

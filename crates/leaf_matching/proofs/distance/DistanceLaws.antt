@@ -103,7 +103,7 @@ module _ {s : List ℕ} {rec at : ℕ} {p : ParsedDistancePredicate} {x y d : Si
       ∙ ap₂ (match_distance records (form_number p.form) (on_child records it.a) (on_child records it.b) it.bound)
       (spans _ d w.limit it.arg_distance).1 (ap₂ order_of (spans _ x w.first it.arg0).1 (spans _ y w.second it.arg1).1)
 
-  pub distance-undefined : None ≡ distance_side d.side → LeafMatching is_distance s rec (Err Unmatched) records t
+  pub distance-undefined : None ≡ distance_side d.side → LeafMatching is_distance s (Err Unmatched) records t
   distance-undefined k = distance-match ∙ undefined-match _ _ _ _ _ d.side _ k
 
   module _ {side : JoinSide} (known : Some side ≡ distance_side d.side) where
@@ -115,7 +115,7 @@ module _ {s : List ℕ} {rec at : ℕ} {p : ParsedDistancePredicate} {x y d : Si
         (bound_on records (join_side side) it.bound)) (sym lie)
 
     pub distance-neither : definition.no_order ≡ order_of (argument_side x.side) (argument_side y.side)
-        → LeafMatching is_distance s rec (Err Unmatched) records t
+        → LeafMatching is_distance s (Err Unmatched) records t
     unfolding store_distance
     distance-neither lie = known-match lie
 
@@ -137,7 +137,7 @@ module _ {s : List ℕ} {rec at : ℕ} {p : ParsedDistancePredicate} {x y d : Si
         → match_leaf records t
         ≡ some (distance (form_number p.form) (join_side side) (on_child records l) (on_child records r)
         (bound_on records (join_side side) it.bound))
-        → LeafMatching is_distance s rec (Ok (distance_at left left_end right right_end)) records t
+        → LeafMatching is_distance s (Ok (distance_at left left_end right right_end)) records t
     unfolding is_distance bound_on
     stored {l} {r} a b m =
         record {
@@ -150,11 +150,11 @@ module _ {s : List ℕ} {rec at : ℕ} {p : ParsedDistancePredicate} {x y d : Si
         }
 
     pub distance-left : definition.left_right ≡ order_of (argument_side x.side) (argument_side y.side)
-        → LeafMatching is_distance s rec (Ok (distance_at p.arg0 p.arg1 p.arg1 p.arg1_end)) records t
+        → LeafMatching is_distance s (Ok (distance_at p.arg0 p.arg1 p.arg1 p.arg1_end)) records t
     unfolding store_distance
     distance-left lie = stored (spans _ x w.first it.arg0).0 (spans _ y w.second it.arg1).0 (known-match lie)
 
     pub distance-right : definition.right_left ≡ order_of (argument_side x.side) (argument_side y.side)
-        → LeafMatching is_distance s rec (Ok (distance_at p.arg1 p.arg1_end p.arg0 p.arg1)) records t
+        → LeafMatching is_distance s (Ok (distance_at p.arg1 p.arg1_end p.arg0 p.arg1)) records t
     unfolding store_distance
     distance-right lie = stored (spans _ y w.second it.arg1).0 (spans _ x w.first it.arg0).0 (known-match lie)

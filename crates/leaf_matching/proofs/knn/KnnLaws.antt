@@ -95,7 +95,7 @@ module _ {d : ℕ} {s : List ℕ} {rec : ℕ} {k : Called} {g : Geometries} {rea
   knn-asks = knn-leaf d records name ts (named over true (ascii "st_knn") w.same)
       ∙ ap (match_request records) (ap (knn_request_by d) pair.is ∙ w.options _ pair.more pair.rest pair.a pair.b)
 
-  pub knn-unread : read ≡ None → CallMatchingBy d is_knn s rec (Err Unmatched) records name ts
+  pub knn-unread : read ≡ None → CallMatchingBy d is_knn s (Err Unmatched) records name ts
   unfolding match_request
   knn-unread e = knn-asks ∙ ap (λ (o : Option KnnOptions). match_request records (asked o pair.a pair.b)) e
 
@@ -116,7 +116,7 @@ module _ {d : ℕ} {s : List ℕ} {rec : ℕ} {k : Called} {g : Geometries} {rea
         ∙ ap (match_knn n spheroid ties (on_child records pair.a) (on_child records pair.b))
         (sym pair.lie ∙ ap order f)
 
-    pub knn-neither : g.order ≡ None → CallMatchingBy d is_knn s rec (Err Unmatched) records name ts
+    pub knn-neither : g.order ≡ None → CallMatchingBy d is_knn s (Err Unmatched) records name ts
     unfolding match_knn
     knn-neither f = knn-match None f
 
@@ -126,7 +126,7 @@ module _ {d : ℕ} {s : List ℕ} {rec : ℕ} {k : Called} {g : Geometries} {rea
         ≡ some (knn n spheroid (join_side side) ties (on_child records pair.a) (on_child records pair.b))
         → ((e : Expr) → (bound_on records (join_side side) e ≡ on_child records e)
         × (bound_on records (negate (join_side side)) e ≡ on_child records e))
-        → CallMatchingBy d is_knn s rec (Ok (knn_at k.first g options side)) records name ts
+        → CallMatchingBy d is_knn s (Ok (knn_at k.first g options side)) records name ts
     unfolding is_knn
     knn-matched side m on =
         record {
@@ -146,11 +146,11 @@ module _ {d : ℕ} {s : List ℕ} {rec : ℕ} {k : Called} {g : Geometries} {rea
           };
         }
 
-    pub knn-left : g.order ≡ Some LeftRight → CallMatchingBy d is_knn s rec (Ok (knn_at k.first g options Left)) records name ts
+    pub knn-left : g.order ≡ Some LeftRight → CallMatchingBy d is_knn s (Ok (knn_at k.first g options Left)) records name ts
     unfolding match_knn bound_on negate
     knn-left f = knn-matched Left (knn-match (Some LeftRight) f) (λ e. (refl, refl))
 
     pub knn-right : g.order ≡ Some RightLeft
-        → CallMatchingBy d is_knn s rec (Ok (knn_at k.first g options Right)) records name ts
+        → CallMatchingBy d is_knn s (Ok (knn_at k.first g options Right)) records name ts
     unfolding match_knn bound_on negate
     knn-right f = knn-matched Right (knn-match (Some RightLeft) f) (λ e. (refl, refl))

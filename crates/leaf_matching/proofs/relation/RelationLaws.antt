@@ -85,12 +85,12 @@ module _ {s : List ℕ} {rec : ℕ} {k : Called} {g : Geometries} {type : Spatia
       ∙ ap (λ (ts : Exprs). match_request records (relation_request (some (relation_of type)) ts)) pair.is
       ∙ ap (match_relation (relation_of type) (on_child records pair.a) (on_child records pair.b)) (sym pair.lie ∙ ap order f)
 
-  pub relation-neither : g.order ≡ None → CallMatching is_relation s rec (Err Unmatched) records name ts
+  pub relation-neither : g.order ≡ None → CallMatching is_relation s (Err Unmatched) records name ts
   unfolding match_relation
   relation-neither f = relation-match None f
 
   pub relation-left : g.order ≡ Some LeftRight
-      → CallMatching is_relation s rec (Ok (relation_at k.first g.second g.second g.end type)) records name ts
+      → CallMatching is_relation s (Ok (relation_at k.first g.second g.second g.end type)) records name ts
   unfolding match_relation is_relation bound_on
   relation-left f =
       record {
@@ -101,7 +101,7 @@ module _ {s : List ℕ} {rec : ℕ} {k : Called} {g : Geometries} {type : Spatia
       }
 
   pub relation-right : (inverse : SpatialRelationType) → relation_of inverse ≡ invert (relation_of type) → g.order ≡ Some RightLeft
-      → CallMatching is_relation s rec (Ok (relation_at g.second g.end k.first g.second inverse)) records name ts
+      → CallMatching is_relation s (Ok (relation_at g.second g.end k.first g.second inverse)) records name ts
   unfolding match_relation is_relation bound_on
   relation-right inverse i f =
       record {

@@ -48,9 +48,9 @@ module _ (d d' : ℕ) where
   unfolding is_knn
   found-knn q k probe a b e h = let same : q ≡ knn k 0 probe 2 a b = cc in false≢true (sym (ap is_other same) ∙ h)
 
-  module _ (s : List ℕ) (rec : ℕ) (records : List Record) where
-    knn-other : (a b : Expr) (o : Order) (r : Matching) → MatchingIs is_other s rec records (match_knn d 0 2 a b o) r
-        → MatchingIs is_other s rec records (match_knn d' 0 2 a b o) r
+  module _ (s : List ℕ) (records : List Record) where
+    knn-other : (a b : Expr) (o : Order) (r : Matching) → MatchingIs is_other s records (match_knn d 0 2 a b o) r
+        → MatchingIs is_other s records (match_knn d' 0 2 a b o) r
     unfolding match_knn is_knn
     knn-other a b no_order r m = m
     knn-other a b left_right (Ok p) m = absurd (found-knn m.q d _ a b m.is m.passes)
@@ -60,16 +60,16 @@ module _ (d d' : ℕ) where
     knn-other a b right_left (Err Unmatched) m = absurd (some-ne-none _ m)
     knn-other a b right_left (Err NotAsked) m = refl
 
-    request-other : (x y : Request) → Alike d d' x y → (r : Matching) → MatchingIs is_other s rec records (match_request records x) r
-        → MatchingIs is_other s rec records (match_request records y) r
+    request-other : (x y : Request) → Alike d d' x y → (r : Matching) → MatchingIs is_other s records (match_request records x) r
+        → MatchingIs is_other s records (match_request records y) r
     unfolding match_request
-    request-other x y (inl e) r m = subst (λ (q : Request). MatchingIs is_other s rec records (match_request records q) r) e m
+    request-other x y (inl e) r m = subst (λ (q : Request). MatchingIs is_other s records (match_request records q) r) e m
     request-other x y (inr (a, b, e, f)) r m =
-        subst (λ (q : Request). MatchingIs is_other s rec records (match_request records q) r) (sym f)
+        subst (λ (q : Request). MatchingIs is_other s records (match_request records q) r) (sym f)
         (knn-other (on_child records a) (on_child records b) (order_of (side_of records a) (side_of records b)) r
-        (subst (λ (q : Request). MatchingIs is_other s rec records (match_request records q) r) e m))
+        (subst (λ (q : Request). MatchingIs is_other s records (match_request records q) r) e m))
 
-    pub other-default : (t : Expr) (r : Matching) → LeafMatchingBy d is_other s rec r records t
-        → LeafMatchingBy d' is_other s rec r records t
+    pub other-default : (t : Expr) (r : Matching) → LeafMatchingBy d is_other s r records t
+        → LeafMatchingBy d' is_other s r records t
     unfolding match_leaf_by
     other-default t r m = request-other (request_by d t) (request_by d' t) (asks-alike t) r m

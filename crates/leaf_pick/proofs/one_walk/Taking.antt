@@ -12,9 +12,9 @@ use Rattle.leaf_pick.specs.Walks.{Remembers, SpotOf, WalkIs, Spotted, ParentIs, 
 use Rattle.leaf_pick.specs.declared.one_walk.SeenLeaf.{SeenLeaf}
 use Rattle.leaf_pick.specs.declared.one_walk.Walk.{Walk}
 
-module _ {match : Matcher} {s : List ℕ} {rec at : ℕ} {w : Walk SeenLeaf} {records : List Record} {t : Expr}
-    (h : WalkIs match s rec at w records t) where
-  pub walked-nothing : w.found ≡ None → WalkedIs match s rec at (record { found = None; read = w.read }) records t
+module _ {match : Matcher} {s : List ℕ} {at : ℕ} {w : Walk SeenLeaf} {records : List Record} {t : Expr}
+    (h : WalkIs match s at w records t) where
+  pub walked-nothing : w.found ≡ None → WalkedIs match s at (record { found = None; read = w.read }) records t
   walked-nothing told = record { picked = rw told at h.remembers; walk = h.walk }
 
   module _ {seen : SeenLeaf} (told : w.found ≡ Some seen) where
@@ -28,7 +28,7 @@ module _ {match : Matcher} {s : List ℕ} {rec at : ℕ} {w : Walk SeenLeaf} {re
     walked-spotted tabled = (t, seen.end, seen.position, (spot at).0, tabled, (spot at).1)
 
     pub walked-leaf : {numbers next : List ℕ} {parent : ℕ} → Tabled numbers next at 0 t → ParentIs numbers next at seen.leaf parent
-        → WalkedIs match s rec at
+        → WalkedIs match s at
         (record {
           found = Some (record {
             predicate = seen.predicate;

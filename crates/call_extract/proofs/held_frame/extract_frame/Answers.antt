@@ -12,8 +12,7 @@ use Rattle.call_extract.proofs.held_frame.extract_frame.Goals.{In-Some}
 -- What the pick took, of the held frame.
 taken : (c : In-Some)
     → let h = c.requires.holds_frame in
-    TakenIs (match_under (settings_of c.args.settings.settings)) (take c.args.n c.args.plan.now) c.args.held.frame.records
-    c.args.held.frame.root c.in-Some.pick
+    TakenIs (match_under (settings_of c.args.settings.settings)) (take c.args.n c.args.plan.now) c.args.held.frame.root c.in-Some.pick
     h.frame.records h.frame.expr
 taken c =
     rw c.in-Some.is at

@@ -22,5 +22,5 @@ pub returns-in-Err : goal.returns-in-Err
 returns-in-Err c =
     λ records u over.
     leaf-lacks c.args.pass.wanted over (c.requires.of_frame records u over)
-    (no-match_lacks (wants c.args.pass.wanted) c.args.filter.s.now c.args.filter.rec records
+    (no-match_lacks (wants c.args.pass.wanted) c.args.filter.s.now records
     (match_under (settings_of c.args.pass.settings) records u) c.in-Err.field-0 (c.in-Err.ensures records u over))

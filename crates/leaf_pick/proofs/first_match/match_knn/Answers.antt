@@ -26,6 +26,6 @@ returns c =
     λ records t over.
     let a = c.args in
     let k = a.settings.default_k in
-    c.only_allowed.ensures is_knn a.filter.s.now a.filter.rec records (match_leaf_by k records t)
+    c.only_allowed.ensures is_knn a.filter.s.now records (match_leaf_by k records t)
     (call-leaf c.requires c.in-Call.is k is_knn c.match_knn_predicate-matching.result
     c.match_knn_predicate-matching.ensures over)

@@ -24,5 +24,5 @@ pub returns-in-Err : goal.returns-in-Err
 returns-in-Err c =
     λ records t over.
     leaf-neither (c.requires.no_knn records t over)
-    (no-match_lacks is_other c.args.filter.s.now c.args.filter.rec records
+    (no-match_lacks is_other c.args.filter.s.now records
     (match_under (settings_of c.args.settings) records t) c.in-Err.field-0 (c.in-Err.ensures records t over))
