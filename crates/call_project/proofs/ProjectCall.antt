@@ -129,7 +129,7 @@ pub holds_of : (n : ℕ) (before : List ℕ) (x : Extraction) → n ≤ length b
     → HeldIs (take n before) (Ok (there.Extraction x)) (plan_of (take n before)) NoRows → HoldsExtraction n before x
 holds_of n before x fits bytes good =
     let back = plan-back (take n before) (extracted good.0) (bytes-up-to n before bytes) good.2 in
-    record { X = good.0; fits = fits; there = record { bytes = back.0; good = back.1; read = good.1 }; is = good.2 }
+    record { X = good.0; fits = fits; there = record { bytes = back.0; good = back.1; read = good.1; in_row = good.3 }; is = good.2 }
 
 pub extraction-fits : {n : ℕ} {plan scratch of_left of_right : List ℕ} {places : ℕ} {x : Extraction}
     → Ready n plan scratch x of_left of_right places → (row : List ℕ) → length row ≡ places → ExtractionFits (take n plan) x row

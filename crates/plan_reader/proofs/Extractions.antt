@@ -1,20 +1,28 @@
 -- Whole extractions and held plans: the predicate, the remainder, the end.
-use Prim.Native.Nat.{ℕ, ◌≤◌, ◌<◌}
+use Prim.Native.Nat.{ℕ, ◌+◌, ◌≤◌, ◌<◌}
 use native.Mathlib.Omega.{arith}
-use mathlib.Core.Path.{◌≡◌, refl, sym, ap, ◌∙◌}
-use mathlib.Core.List.{List, [], ◌∷◌}
+use mathlib.Core.Path.{◌≡◌, refl, sym, ap, ◌∙◌, subst}
+use mathlib.Core.List.{List, [], ◌∷◌, ◌++◌}
 use mathlib.Core.Option.{Option}
-use lib.ListN.{length, drop, get_or}
+use lib.ListN.{length, length-append, length-drop, drop, get_or}
 use lib.Dec.{eqb}
 use borrow.Author.Tests.{eqb-true, eqb-false, eq-eqb, ne_eqb}
 use mathlib.Core.Bool.{Bool, true, false}
 use Rattle.definitions.specs.Words.Basics as definitions
-use Rattle.definitions.specs.Words.Basics.{ok, refused, map_result}
-use Rattle.definitions.specs.Words.Expression.{Expr, Frame, Extraction, Plan, empty, held, extracted}
-use Rattle.definitions.specs.Bytes.Readers.{Read, read, stopped, Reader, continue, ◌>>◌, give, byte, require_length, at_end, result_of}
-use Rattle.definitions.specs.Bytes.Decode.{extraction_body}
+use Rattle.definitions.specs.Words.Basics.{ok, refused, map_result, big_endian}
+use Rattle.definitions.specs.Words.Expression.{Expr, Frame, Predicate, Extraction, Plan, empty, held, extracted}
+use Rattle.definitions.specs.Bytes.Encode.{predicate_fields}
+use Rattle.definitions.specs.Bytes.Good.{AllBytes}
+use Rattle.definitions.specs.Bytes.Readers.{Read, read, stopped, Reader, continue, ◌>>◌, give, byte, number, require_length, at_end, result_of}
+use Rattle.definitions.specs.Bytes.Decode.{predicate_of_kind, extraction_body}
 use Rattle.definitions.specs.Bytes.Plans.{whole_extraction, frame_of, extraction_of, plan_of_kind, plan_of}
 use Rattle.theorems.proofs.ReaderLaws.{after, halts, passes, fails}
+use Rattle.theorems.proofs.Tools.{bytes-from}
+use Rattle.theorems.proofs.Inverse.{byte-back, number-back}
+use Rattle.theorems.proofs.InverseFrame.{opened}
+use Rattle.theorems.proofs.InversePlan.{predicate-bytes}
+use Rattle.sedona_query_planner.specs.declared.spatial_predicate.SpatialPredicate.{SpatialPredicate}
+use Rattle.node_reader.specs.Fields.{ReadsAt}
 use Rattle.node_rows.specs.Rows.{NoRows, Tabled}
 use Rattle.frame_reader.specs.Frames.{first_of, PhysicalIs}
 use Rattle.std.specs.Prelude.{Result, Ok, Err}
@@ -22,6 +30,7 @@ use Rattle.std.specs.Prelude as std
 use Rattle.terms.specs.declared.refusals.Refusal.{Refusal}
 use Rattle.terms.specs.declared.refusals.Refusal.TheVariants.{PlanEmpty, NoGoodPlan}
 use Rattle.frame_reader.specs.declared.frame_bodies.Frame as frames
+use Rattle.plan_reader.specs.Predicates.{InRow}
 use Rattle.plan_reader.specs.Plans.{RemainderIs, WholeIs, HeldIs, no_bytes, no_good}
 use Rattle.plan_reader.specs.declared.extraction_bodies.Extraction as extractions
 use Rattle.plan_reader.specs.declared.extraction_bodies.Held.{Held}
@@ -35,6 +44,33 @@ pub follows : (s : List ℕ) (at place before : ℕ) (whole rest : Reader (Optio
     → whole before (drop at s) ≡ rest before (drop place s) → RemainderIs s place before r rest → RemainderIs s at before r whole
 follows s at place before whole rest (Ok r) e h = (h.0, h.1, h.2, h.3, e ∙ h.4)
 follows s at place before whole rest (Err why) e h = e ∙ h
+
+-- ---- places
+
+-- What stands before the bytes from a place on ends there.
+ends-at : (s x : List ℕ) (at next : ℕ) → at ≤ length s → next ≤ length s → drop at s ≡ x ++ drop next s → next ≡ at + length x
+ends-at s x at next low high e =
+    omega (arith, low, high, ap length e, length-append x (drop next s), length-drop at s, length-drop next s)
+
+-- A predicate after a number of two bytes ends after its fields.
+pub predicate-ends : (s : List ℕ) (at value start kind : ℕ) (p : SpatialPredicate) {count next : ℕ} {P : Predicate} → AllBytes s
+    → at ≤ length s → (start ≤ length s) × ReadsAt s at start value (number 2) → next ≤ length s
+    → predicate_of_kind kind 0 (drop start s) ≡ read P count (drop next s) → InRow p next
+    → InRow p (at + 2 + length (predicate_fields P))
+unfolding big_endian
+predicate-ends s at value start kind p {count} {next} {P} bytes low (within, position) high predicate row =
+    let two : start ≡ at + 2 =
+    ends-at s (big_endian 2 value) at start low within (number-back 2 0 0 value _ _ (bytes-from at s bytes) (position 0)).0 in
+    let fields : next ≡ start + length (predicate_fields P) =
+    ends-at s (predicate_fields P) start next within high
+    (predicate-bytes 0 count kind _ _ P (bytes-from start s bytes) (omega arith) predicate) in
+    subst (InRow p) (fields ∙ ap (λ (n : ℕ). n + length (predicate_fields P)) two) row
+
+-- The first byte ends at 1.
+pub first-place : (s : List ℕ) (first at : ℕ) → at ≤ length s → first_of 0 s ≡ read first 0 (drop at s) → at ≡ 1
+unfolding first_of
+first-place s first at low e =
+    opened s byte e (λ short read. ends-at s (first ∷ []) 0 at (omega arith) low (byte-back 0 0 first s _ read).0)
 
 -- ---- whole extractions
 
@@ -98,7 +134,7 @@ module _ (s : List ℕ) (rows : (at i : ℕ) → Expr → Type 0) {empty : Bool}
 
     pub extraction-plan : {x : extractions.Extraction} → WholeIs s (Ok x) (extraction_of s)
         → HeldIs s (Ok (variants.Extraction x)) (plan_of s) rows
-    extraction-plan h = (h.0, h.1, told ∙ ap (map_result extracted) h.2)
+    extraction-plan h = (h.0, h.1, told ∙ ap (map_result extracted) h.2, h.3)
 
     pub no-extraction : (why : Refusal) → WholeIs s (Err why) (extraction_of s) → HeldIs s (Err NoGoodPlan) (plan_of s) rows
     no-extraction why h = no_good _ (told ∙ ap (map_result extracted) h)

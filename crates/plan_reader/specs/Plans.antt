@@ -1,10 +1,11 @@
 -- What the answers about held plans say.
-use Rattle.std.specs.Prelude.{ℕ, ◌≤◌, ◌≡◌, List, length, take, drop, Option, Some, None, Result, Ok, Err}
+use Rattle.std.specs.Prelude.{ℕ, ◌+◌, ◌≤◌, ◌≡◌, List, length, take, drop, Option, Some, None, Result, Ok, Err}
 use Rattle.std.proofs.Math.Option as optional
 use Rattle.definitions.specs.Words.Basics as basics
 use Rattle.definitions.specs.Words.Basics.{ok, refused}
 use Rattle.definitions.specs.Words.Expression as tree
 use Rattle.definitions.specs.Bytes.Readers.{read, stopped, Reader}
+use Rattle.definitions.specs.Bytes.Encode.{predicate_fields}
 use Rattle.definitions.specs.Bytes.Plans.{plan_of}
 use Rattle.terms.specs.Refusals.{number_of}
 use Rattle.terms.specs.declared.refusals.Refusal.{Refusal}
@@ -15,6 +16,7 @@ use Rattle.frame_reader.specs.declared.frame_bodies.Frame.{Frame}
 use Rattle.plan_reader.specs.declared.extraction_bodies.Extraction.{Extraction}
 use Rattle.plan_reader.specs.declared.extraction_bodies.Held.{Held}
 use Rattle.plan_reader.specs.declared.extraction_bodies.Held.TheVariants as held
+use Rattle.plan_reader.specs.Predicates.{InRow}
 
 -- The remainder R stands in s up to `end`.
 abbrev pub RemainderAt : List ℕ → Option Frame → (end : ℕ) → optional.Option tree.Frame → Type 0
@@ -34,16 +36,20 @@ pub record ExtractionAt (s : List ℕ) (x : Extraction) (end : ℕ) (X : tree.Ex
   pub predicate : PredicateAt unchanged s x.predicate X.predicate
   pub remainder : RemainderAt s x.remainder end X.remainder
 
--- An extraction after its first byte was read, and the place after it.
+-- An extraction after its first byte was read, and the place after it. The fields of its predicate stand after the two bytes of its position,
+-- the arguments in a row at their end.
 abbrev pub ExtractionIs : List ℕ → (at : ℕ) → Result (Extraction × ℕ) Refusal → Reader tree.Extraction → Type 0
 ExtractionIs s at (Ok x) reader =
     (x.1 ≤ length s) × (X : tree.Extraction) × ExtractionAt s x.0 x.1 X × (count : ℕ)
     × (reader 0 (drop at s) ≡ read X count (drop x.1 s))
+    × InRow x.0.predicate (at + 2 + length (predicate_fields X.predicate))
 ExtractionIs s at (Err why) reader = reader 0 (drop at s) ≡ stopped (number_of why)
 
 -- A whole extraction.
 abbrev pub WholeIs : List ℕ → Result Extraction Refusal → basics.Result tree.Extraction → Type 0
-WholeIs s (Ok x) result = (X : tree.Extraction) × ExtractionAt s x (length s) X × (result ≡ ok X)
+WholeIs s (Ok x) result =
+    (X : tree.Extraction) × ExtractionAt s x (length s) X × (result ≡ ok X)
+    × InRow x.predicate (3 + length (predicate_fields X.predicate))
 WholeIs s (Err why) result = result ≡ refused (number_of why)
 
 -- Why bytes hold neither a frame nor an extraction: there are none, or they are no good plan.
@@ -57,6 +63,7 @@ HeldIs s (Ok (held.Frame f)) result rows =
     (F : tree.Frame) × FrameAt s f (length s) F × (result ≡ ok (tree.held F)) × rows f.root 0 F.expr
 HeldIs s (Ok (held.Extraction x)) result rows =
     (X : tree.Extraction) × ExtractionAt s x (length s) X × (result ≡ ok (tree.extracted X))
+    × InRow x.predicate (3 + length (predicate_fields X.predicate))
 HeldIs s (Err why) result rows = NotHeld result why
 
 -- The plan's first n bytes are a good frame, which stands there.

@@ -8,6 +8,7 @@ use Rattle.terms.specs.Refusals.{number_of}
 use Rattle.terms.specs.declared.refusals.Refusal.{Refusal}
 use Rattle.sedona_query_planner.specs.Predicates.{unchanged, ArgumentAt, PredicateAt}
 use Rattle.sedona_query_planner.specs.declared.spatial_predicate.SpatialPredicate.{SpatialPredicate}
+use Rattle.sedona_query_planner.specs.declared.spatial_predicate.SpatialPredicate.TheVariants.{Distance, Relation, KNearestNeighbors}
 use Rattle.frame_reader.specs.declared.frame_bodies.Counted.{Counted}
 use Rattle.plan_reader.specs.declared.held_predicates.Pair.{Pair}
 
@@ -33,9 +34,15 @@ PairIs s at (Err why) = (next : Expr → Expr → Reader tree.Predicate) → the
 abbrev pub distance_arguments : (form : ℕ) → tree.Side → Reader tree.Predicate
 distance_arguments form side = then_both (λ l r. argument >>= λ bound. give (tree.distance form side l r bound))
 
+-- Each argument stands where the one before it ends, and the last one up to this end.
+abbrev pub InRow : SpatialPredicate → (end : ℕ) → Type 0
+InRow (Relation p) end = (p.right ≡ p.left_end) × (end ≡ p.right_end)
+InRow (Distance p) end = (p.right ≡ p.left_end) × (p.distance ≡ p.right_end) × (end ≡ p.distance_end)
+InRow (KNearestNeighbors p) end = (p.right ≡ p.left_end) × (end ≡ p.right_end)
+
 -- A predicate was read.
 abbrev pub PredicateIs : List ℕ → (at : ℕ) → Result (Counted SpatialPredicate) Refusal → Reader tree.Predicate → Type 0
 PredicateIs s at (Ok p) reader =
     (p.next ≤ length s) × (P : tree.Predicate) × PredicateAt unchanged s p.read P
-    × (reader 0 (drop at s) ≡ read P p.count (drop p.next s))
+    × (reader 0 (drop at s) ≡ read P p.count (drop p.next s)) × InRow p.read p.next
 PredicateIs s at (Err why) reader = reader 0 (drop at s) ≡ stopped (number_of why)

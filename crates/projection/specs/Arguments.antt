@@ -4,11 +4,10 @@ use Rattle.definitions.specs.Words.Limits.{most_bytes, two_bytes}
 use Rattle.definitions.specs.Words.Expression.{Side, Expr, Predicate}
 use Rattle.definitions.specs.Bytes.Encode.{expr_bytes, predicate_fields}
 use Rattle.definitions.specs.Bytes.Decode.{index_below}
-use Rattle.definitions.specs.Bytes.Good.{ReadablePredicate}
-use Rattle.expression.specs.Places.{Holds}
 use Rattle.expression.specs.Nodes.{Stands}
 use Rattle.sedona_query_planner.specs.Predicates.{unchanged, PredicateAt}
 use Rattle.sedona_query_planner.specs.declared.spatial_predicate.SpatialPredicate.{SpatialPredicate}
+use Rattle.plan_reader.specs.Predicates.{InRow}
 use Rattle.projection.specs.Rows.{SpotsPut}
 use Rattle.node_rows.specs.declared.collecting.Passed.{Passed}
 use Rattle.projection.specs.PlanSpots.{both_spots, predicate_spots}
@@ -31,11 +30,11 @@ BothCollected s at one two before after p =
     (l r : Expr) → BothThere s at l r
     → SpotsPut at (length (expr_bytes l) + length (expr_bytes r)) 0 (both_spots one two at l r) before after p
 
--- The predicate P is the one that was read, and its fields stand after the first byte and the position.
+-- The predicate P is the one that was read; its arguments stand in a row at the end of its fields, which begin after the first byte and the
+-- position.
 pub record PredicateThere (s : List ℕ) (p : SpatialPredicate) (P : Predicate) : Type 0 where
   pub read : PredicateAt unchanged s p P
-  pub fields : Holds s 3 (predicate_fields P)
-  pub readable : ReadablePredicate P
+  pub in_row : InRow p (3 + length (predicate_fields P))
 
 -- There is such a one, and the row has room; what is collected of it.
 pub record ArgumentsFit (s : List ℕ) (p : SpatialPredicate) (row : List ℕ) : Type 0 where

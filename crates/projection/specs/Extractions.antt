@@ -1,8 +1,9 @@
 -- What is collected of an extraction. (Ours.)
-use Rattle.std.specs.Prelude.{ℕ, ◌≤◌, ◌≡◌, List, map, length}
+use Rattle.std.specs.Prelude.{ℕ, ◌+◌, ◌≤◌, ◌≡◌, List, map, length}
 use Rattle.definitions.specs.Words.Expression as tree
-use Rattle.definitions.specs.Bytes.Encode.{plan_bytes}
+use Rattle.definitions.specs.Bytes.Encode.{predicate_fields, plan_bytes}
 use Rattle.definitions.specs.Bytes.Good.{GoodPlan}
+use Rattle.plan_reader.specs.Predicates.{InRow}
 use Rattle.plan_reader.specs.Plans.{ExtractionAt}
 use Rattle.plan_reader.specs.declared.extraction_bodies.Extraction.{Extraction}
 use Rattle.byte_writer.specs.Written.{WroteAt}
@@ -14,6 +15,7 @@ pub record ExtractionThere (s : List ℕ) (x : Extraction) (X : tree.Extraction)
   pub bytes : s ≡ plan_bytes (tree.extracted X)
   pub good : GoodPlan (tree.extracted X)
   pub read : ExtractionAt s x (length s) X
+  pub in_row : InRow x.predicate (3 + length (predicate_fields X.predicate))
 
 -- There is such a one, and the row has room for its child indexes; what is collected of it.
 pub record ExtractionFits (s : List ℕ) (x : Extraction) (row : List ℕ) : Type 0 where

@@ -20,21 +20,21 @@ fn collect_both(row: &mut [u32], src: &[u8], at: usize, one: JoinSide, two: Join
     collect_columns(row, src, first.end, two, first.index)
 }
 
-// The arguments of the predicate, which stand after its other fields.
+// The arguments of the predicate, which stand in a row after its other fields.
 fn collect_arguments(row: &mut [u32], src: &[u8], p: SpatialPredicate) -> Passed
     requires { ArgumentsFit src.now p row.old }
     ensures { ArgumentsCollected src.now p row.old row.new result }
 {
     match p {
-        SpatialPredicate::Relation(_) => {
-            collect_both(row, src, 4, JoinSide::Left, JoinSide::Right)
+        SpatialPredicate::Relation(q) => {
+            collect_both(row, src, q.left, JoinSide::Left, JoinSide::Right)
         }
         SpatialPredicate::Distance(q) => {
-            let both = collect_both(row, src, 5, JoinSide::Left, JoinSide::Right);
+            let both = collect_both(row, src, q.left, JoinSide::Left, JoinSide::Right);
             collect_columns(row, src, both.end, q.distance_side, both.index)
         }
         SpatialPredicate::KNearestNeighbors(q) => {
-            collect_both(row, src, 10, q.probe_side, q.probe_side.negate())
+            collect_both(row, src, q.left, q.probe_side, q.probe_side.negate())
         }
     }
 }

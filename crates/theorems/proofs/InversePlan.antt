@@ -173,6 +173,10 @@ unfolding predicate_of_kind
 predicate-back n m kind s t p h k eq =
     predicate-kind-back n m kind s t p h k (eqb kind 0x11) (eqb kind 0x12) (eqb kind 0x13) refl refl refl eq
 
+pub predicate-bytes : (n m kind : ℕ) (s t : List ℕ) (p : Predicate) → AllBytes s → n ≤ 1024 → predicate_of_kind kind n s ≡ read p m t
+    → s ≡ predicate_fields p ++ t
+predicate-bytes n m kind s t p h k eq = (predicate-back n m kind s t p h k eq).bytes
+
 -- What is known of a remainder that was read.
 record RemainderBack (n m : ℕ) (s t : List ℕ) (R : Option Frame) : Type 0 where
   bytes : s ≡ remainder_bytes R ++ t

@@ -40,15 +40,14 @@ module _ {s : List ℕ} {x : Extraction} {X : tree.Extraction} (t : ExtractionTh
   after-position = back (big_endian 2 X.position) _ (next (whole t.bytes) 1 refl) 3 refl
 
   pub predicate-there : PredicateThere s x.predicate X.predicate
-  predicate-there = record {
-    read = t.read.predicate;
-    fields = front (predicate_fields X.predicate) (remainder_bytes X.remainder) after-position;
-    readable = t.good.readable.1;
-  }
+  predicate-there = record { read = t.read.predicate; in_row = t.in_row }
 
   -- The remainder stands there, and everything ends within the limit.
   remainder-there : Holds s (3 + length (predicate_fields X.predicate)) (remainder_bytes X.remainder)
   remainder-there = back (predicate_fields X.predicate) (remainder_bytes X.remainder) after-position _ refl
+
+  predicate_fits : 3 + length (predicate_fields X.predicate) ≤ length s
+  predicate_fits = fits (front (predicate_fields X.predicate) (remainder_bytes X.remainder) after-position)
 
   short : length s ≤ most_bytes
   short = omega (arith, ap length t.bytes, t.good.few_bytes)
@@ -76,7 +75,7 @@ module _ {s : List ℕ} {x : Extraction} {row : List ℕ} (f : ExtractionFits s 
   arguments-fit = record {
     P = f.X.predicate;
     there = predicate-there f.there;
-    short = omega (arith, fits (predicate-there f.there).fields, short f.there);
+    short = omega (arith, predicate_fits f.there, short f.there);
     room = omega (arith, simp length-append at f.room);
   }
 

@@ -1,6 +1,6 @@
 -- An extraction after its first byte, up to the end.
 use Rattle.node_reader.proofs.Reading.{kept}
-use Rattle.plan_reader.proofs.Extractions.{unopened, body-stops, ends, goes_on}
+use Rattle.plan_reader.proofs.Extractions.{unopened, body-stops, ends, goes_on, first-place}
 use Rattle.plan_reader.proofs.held_plans.whole_extraction.Goals as goal
 
 pub returns-in_err-first : goal.returns-in_err-first
@@ -20,4 +20,9 @@ returns-then-end-s c =
 pub returns : goal.returns
 returns c =
     let x = c.in_ok-extraction.ensures in
-    (x.1, rw c.if-end-s.false at x.2, ends _ _ c.in_ok-first.at (c.in_ok-first.ensures.1 0) x.1 _ _ x.4 c.if-end-s.false)
+    let first = c.in_ok-first.ensures in (
+      x.1,
+      rw c.if-end-s.false at x.2,
+      ends _ _ c.in_ok-first.at (first.1 0) x.1 _ _ x.4 c.if-end-s.false,
+      rw (first-place c.args.s.now _ _ first.0 (first.1 0)) at x.5,
+    )

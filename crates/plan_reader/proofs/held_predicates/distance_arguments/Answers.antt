@@ -20,4 +20,5 @@ returns c =
       _,
       record { l = both.1; r = both.2; bound = bound.0; left = both.3; right = both.4; limit = expr-spans bound.2; is = refl },
       both.5 _ ∙ after _ bound.1,
+      (refl, refl, refl),
     )

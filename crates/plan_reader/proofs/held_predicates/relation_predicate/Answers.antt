@@ -1,5 +1,5 @@
 -- A relation is its type and then two arguments.
-use mathlib.Core.Path.{sym, ap, ◌∙◌}
+use mathlib.Core.Path.{refl, sym, ap, ◌∙◌}
 use Rattle.definitions.specs.Words.Expression as tree
 use Rattle.definitions.specs.Bytes.Decode.{relation_predicate}
 use Rattle.theorems.proofs.ReaderLaws.{after}
@@ -21,4 +21,5 @@ returns c =
       _,
       record { l = both.1; r = both.2; left = both.3; right = both.4; is = same },
       after _ (c.in_ok-number.ensures.1 0) ∙ both.5 _,
+      (refl, refl),
     )
