@@ -34,11 +34,6 @@ module _ {A : Type 0} {At : A → Type 0} {bytes : A → List ℕ} where
   pub ends-within : {w r : ℕ} {out after : List ℕ} → Room At bytes w out → PutsAt At bytes w out after r → r ≤ length out
   ends-within p put = omega (arith, p.room, (put.wrote p.it p.stands).ends)
 
-  -- So a lent part may start there.
-  pub part-starts : {w r : ℕ} {out after : List ℕ} → Room At bytes w out → PutsAt At bytes w out after r → length after ≡ length out
-      → r ≤ length after
-  part-starts p put e = omega (arith, ends-within p put, e)
-
 -- ---- one after another
 
 pub first-room : {A B : Type 0} {One : A → Type 0} {Two : B → Type 0} {f : A → List ℕ} (g : B → List ℕ) {w : ℕ} {out : List ℕ}

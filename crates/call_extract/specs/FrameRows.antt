@@ -1,14 +1,9 @@
 -- Request 6 of document 02: a held frame whose nodes are in rows. (Ours.)
-use Rattle.std.specs.Prelude.{ℕ, ◌≤◌, List, length, take}
+use Rattle.std.specs.Prelude.{ℕ, List, take}
 use Rattle.expression.specs.Nodes.{OfTree}
 use Rattle.frame_reader.specs.declared.frame_bodies.Frame.{Frame}
-use Rattle.frame_reader.specs.Frames.{Roomy}
 use Rattle.node_rows.specs.Rows.{Tabled}
 
 -- The nodes of the frame in the plan's first n bytes are in the rows.
 abbrev pub Indexed : (n : ℕ) (plan : List ℕ) (f : Frame) (numbers next : List ℕ) → Type 0
 Indexed n plan f numbers next = OfTree (take n plan) f.root (Tabled numbers next f.root 0)
-
--- There is room for those of any frame in the plan's first n bytes.
-abbrev pub RoomIn : (n : ℕ) (plan numbers next : List ℕ) → Type 0
-RoomIn n plan numbers next = (n ≤ length plan) × Roomy (take n plan) numbers next

@@ -140,7 +140,3 @@ extraction-fits {n} {plan} r row long =
       there = h.there;
       room = omega (arith, few-spots h.X, size n plan h.fits h.there, r.room, long);
     }
-
--- A held extraction is within the limit.
-pub held-short : {n : ℕ} {plan : List ℕ} {x : Extraction} → HoldsExtraction n plan x → n ≤ 16384
-held-short {n} {plan} h = omega (arith, size n plan h.fits h.there, h.there.good.few_bytes)

@@ -12,5 +12,4 @@ pub mod AndLeaves
 pub mod EndWalk
 pub mod Parts
 pub mod There
-pub mod Cycles
 pub mod NameLaws

@@ -1,5 +1,5 @@
 -- What is required of the places that `node_at` found.
-use Prim.Native.Nat.{ℕ, ◌+◌, ◌-◌, ◌≤◌, ◌<◌}
+use Prim.Native.Nat.{ℕ, ◌+◌, ◌-◌, ◌<◌}
 use mathlib.Core.Path.{◌≡◌}
 use mathlib.Core.List.{List}
 use lib.ListN.{length}
@@ -10,7 +10,7 @@ use Rattle.expression.specs.Leaves.{Pair, Calls, NodeIs}
 use Rattle.expression.specs.declared.heads.Head.{Head}
 use Rattle.expression.specs.declared.leaves.Called.{Called}
 use Rattle.expression.specs.declared.leaves.Node.{Node}
-use Rattle.expression.specs.declared.leaves.Node.TheVariants.{And, Binary, Call, Plain}
+use Rattle.expression.specs.declared.leaves.Node.TheVariants.{And, Call, Plain}
 use Rattle.expression.proofs.Standing.{first-stands}
 use Rattle.expression.proofs.EndWalk.{children-there}
 use Rattle.expression.proofs.Parts.{pair-right, left_there, right_there}
@@ -25,15 +25,8 @@ module _ {s : List ℕ} {at : ℕ} (tree : Tree s at) {r : Node} (is : OfTreeIn 
       → (length s - p < m) × Tree s p
   and-right-there e left p ends = right_there tree.2 (rw e at (is tree.0 tree.1 tree.2)) left p ends
 
-  pub pair-there : {operator first : ℕ} → r ≡ Binary operator first → Pair s first
-  pair-there e = let b = rw e at (is tree.0 tree.1 tree.2) in (tree.0, b.l, b.r, b.row)
-
   pub call-there : {k : Called} → r ≡ Call k → Calls s k
   call-there e = let b = rw e at (is tree.0 tree.1 tree.2) in (tree.0, b.name, b.arguments, b.stands)
-
-  -- Its arguments.
-  pub arguments-there : {k : Called} → r ≡ Call k → Trees s k.first k.count
-  arguments-there e = let call = call-there e in (call.0, call.2, call.3.row)
 
   pub plain-there : {head : Head} → r ≡ Plain head → Trees s head.next head.children
   plain-there e = children-there tree _ (rw e at (is tree.0 tree.1 tree.2)).1

@@ -1,18 +1,15 @@
 -- A put or serve that met its contract gives the definition's answer, with a short length, and that, as one number, is the host's.
 use Rattle.std.specs.Prelude.{Some, None, Ok, Err}
-use Prim.Native.Nat.{ℕ, ◌≤◌}
+use Prim.Native.Nat.{ℕ}
 use native.Mathlib.Omega.{arith}
 use mathlib.Core.Path.{◌≡◌, refl, ap}
 use mathlib.Core.List.{List}
 use lib.IntN.{ℤ}
-use Rattle.definitions.specs.Calls.Queues.{queue_number}
 use Rattle.definitions.specs.Calls.QueueBytes.{PutOutcome, put, ServeOutcome, serve}
 use Rattle.host_calls.specs.Hosts.{hosted, hosted_serve}
 use Rattle.theorems.proofs.Proved.{queue-lengths}
 use Rattle.call_answers.specs.Outcomes.{Answered, answer_of}
 use Rattle.queues.specs.Outcomes.{queue_is, ServeAnswered, serve_answer_of, PutIs, ServeIs}
-use Rattle.queues.specs.declared.answers.Queue.{Queue}
-use Rattle.queues.specs.declared.answers.Queue.TheVariants.{Chassis, FixedUnit}
 use Rattle.host_calls.specs.Short.{ShortLength, ServeShort}
 use Rattle.host_calls.specs.Hosted.{PutHosted, ServeHosted}
 
@@ -36,7 +33,3 @@ module _ (b out after out_after : List ℕ) (r : ServeAnswered) (is : ServeIs (s
 
   pub serve-hosted : (z : ℤ) → z ≡ hosted_serve (serve_answer_of r) → ServeHosted (serve b out) after out_after z
   serve-hosted z e = rw (e, is) (refl, refl, refl)
-
-pub queue-low : (q : Queue) → queue_number (queue_is q) ≤ 1
-queue-low Chassis = omega arith
-queue-low FixedUnit = omega arith

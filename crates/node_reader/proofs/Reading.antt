@@ -4,11 +4,11 @@ use native.Mathlib.Numerals.{add-one}
 use mathlib.Core.Path.{◌≡◌, ap, ◌∙◌}
 use mathlib.Core.Bool.{true, false, ◌&&◌}
 use mathlib.Core.List.{List}
-use lib.ListN.{length, drop, get_or, drop_of_length-le}
+use lib.ListN.{length, drop, get_or}
 use lib.Seq.{drop-cons}
 use lib.Dec.{leb}
 use borrow.Author.Tests.{le-leb, lt-leb}
-use Rattle.definitions.specs.Bytes.Readers.{read, stopped, byte}
+use Rattle.definitions.specs.Bytes.Readers.{read, byte}
 use Rattle.std.proofs.Common.{◌⊎◌, inl, inr}
 use Rattle.std.specs.Prelude.{Result, Err}
 use Rattle.std.specs.Result.{IsErr, IsErrAnd}
@@ -31,6 +31,3 @@ module _ (least b most : ℕ) where
 -- The byte at a place.
 pub there : (s : List ℕ) (at b n : ℕ) → at < length s → b ≡ get_or s at 0 → byte n (drop at s) ≡ read b n (drop (at + 1) s)
 there s at b n h e = rw (add-one, drop-cons s at 0 h, e)
-
-pub missing : (s : List ℕ) (at n : ℕ) → length s ≤ at → byte n (drop at s) ≡ stopped 3
-missing s at n h = rw (drop_of_length-le s h)

@@ -1,6 +1,5 @@
 -- The same thing several times, by a loop: whatever is right for what is left is right for the whole.
 use Prim.Native.Nat.{ℕ, suc, ◌+◌, ◌-◌, ◌≤◌, ◌<◌}
-use native.Mathlib.Nat.{sub-zero}
 use native.Mathlib.Omega.{arith}
 use mathlib.Core.Path.{◌≡◌, refl, ◌∙◌}
 use mathlib.Core.List.{List, [], ◌∷◌}
@@ -18,9 +17,6 @@ Left s at times one next done =
     (r : Result ℕ Refusal) → SkippedIs s next r (repeat (times - done) one) → SkippedIs s at r (repeat times one)
 
 module _ {A : Type 0} (s : List ℕ) (at times : ℕ) (one : Reader A) where
-  pub all-left : Left s at times one at 0
-  all-left r h = rw sub-zero at h
-
   -- One more in front of those that are right.
   in-front : (k next place : ℕ) (a : A) → ((n : ℕ) → one n (drop next s) ≡ read a n (drop place s))
       → (r : Result ℕ Refusal) → SkippedIs s place r (repeat k one) → SkippedIs s next r (repeat (suc k) one)

@@ -18,7 +18,7 @@ use Rattle.node_reader.specs.Nodes.{WalkedIs, CountBounds, LentRows}
 use Rattle.node_reader.specs.Places.{ExpressionIs}
 use Rattle.expression.specs.Places.{Between}
 use Rattle.expression.specs.Nodes.{Stands}
-use Rattle.node_rows.specs.Rows.{NodesCollected, NoRows, TabledIfRoom}
+use Rattle.node_rows.specs.Rows.{NodesCollected, TabledIfRoom}
 use Rattle.node_rows.proofs.RowLaws.{nodes-below}
 use Rattle.node_rows.proofs.TableLaws.{collected-tabled}
 
@@ -69,8 +69,3 @@ expression-stands c s at before (Ok walked) numbers indexes numbered indexed byt
           (filled (omega (arith, there.counted))),
     )
 expression-stands c s at before (Err why) numbers indexes numbered indexed bytes within lent same stops counted = stops
-
-pub without-rows : (c : Columns) (s : List ℕ) (at before : ℕ) (r : Result Walked Refusal) (numbers indexes : List ℕ)
-    → ExpressionIs s at before r c (TabledIfRoom numbers indexes) → ExpressionIs s at before r c NoRows
-without-rows c s at before (Ok walked) numbers indexes h = (h.0, h.1, h.2, h.3, h.4, h.5, tt)
-without-rows c s at before (Err why) numbers indexes h = h

@@ -1,20 +1,15 @@
 -- A list whose first elements are overwritten, one after another, by those of another list under a function.
 use mathlib.Core.Path.{◌≡◌, refl, sym, ap, ◌∙◌}
 use Prim.Native.Nat.{ℕ, zero, suc, ◌<◌, ◌≤◌}
-use native.Mathlib.Nat.{zero-add}
 use native.Mathlib.Omega.{arith}
 use mathlib.Core.List.{List, [], ◌∷◌, ◌++◌, map}
 use lib.ListN.{length, get_or, take, drop, length-map, length-take, get_or-map}
-use lib.Seq.{length-paste}
 use Rattle.std.proofs.lemmas.List.{ext_get_or, get_or-take, get_or_default}
 
 module _ {A B : Type 0} (f : A → B) (xs : List A) (ys : List B) where
   -- the list after i elements were overwritten
   abbrev pub filled : ℕ → List B
   filled i = take i (map f xs) ++ drop i ys
-
-  pub filled-length : (i : ℕ) → i ≤ length xs → i ≤ length ys → length (filled i) ≡ length ys
-  filled-length i l m = simp zero-add at (length-paste ys 0 (map f xs) i (omega arith) (omega (arith, length-map xs f)))
 
 pub map-take : {A B : Type 0} (f : A → B) (n : ℕ) (xs : List A) → map f (take n xs) ≡ take n (map f xs)
 map-take f zero xs = refl

@@ -1,6 +1,5 @@
 -- A table that is filled from a row of the numbers of records that stand at a place begins with those records.
-use Prim.Native.Nat.{ℕ, ◌≤◌}
-use native.Mathlib.Omega.{arith}
+use Prim.Native.Nat.{ℕ}
 use mathlib.Core.Path.{◌≡◌, refl, sym, ◌∙◌, ap}
 use mathlib.Core.List.{List, ◌++◌, map}
 use lib.ListN.{length, drop, take, length-map}
@@ -14,11 +13,6 @@ use Rattle.node_table.specs.Numbers.{numbered}
 use Rattle.node_table.specs.Records.{FilledIs}
 use Rattle.node_table.proofs.NumberLaws.{numbered-numbers}
 use Rattle.node_rows.proofs.Filling.{map-take}
-
--- not more than a frame may have
-pub few-stand : {s : List ℕ} {root count : ℕ} {records : List NodeRecord} → Records s root count records → count ≤ 1024
-few-stand (nothing e) = omega (arith, e)
-few-stand (filled stands size few short) = few
 
 pub records-count : {s : List ℕ} {root count : ℕ} {records : List NodeRecord} → Records s root count records → length records ≡ count
 records-count (nothing e) = sym e

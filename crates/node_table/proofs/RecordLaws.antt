@@ -22,9 +22,6 @@ blank = record { kind = 0; start = 0; end = 0 }
 abbrev pub lent : ℕ → NodeRecord
 lent n = struct_of (numbered n)
 
-pub lent_again : (r : NodeRecord) (n : ℕ) → node_of r ≡ numbered n → r ≡ lent n
-lent_again r n e = ap struct_of e
-
 -- the table after n records of the row's numbers were put, as records
 pub put_all : (n : ℕ) (row : List ℕ) (xs : List NodeRecord)
     → nodes_of (filled lent row xs n) ≡ take n (map numbered row) ++ drop n (nodes_of xs)

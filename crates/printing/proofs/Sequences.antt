@@ -12,9 +12,6 @@ pub use Rattle.byte_writer.proofs.Written.{nothing-wrote as nothing_written}
 use Rattle.printing.specs.Marks.{TextFits, PhysicalAt}
 
 module _ (x y : List ℕ) {w : ℕ} {before : List ℕ} (fits : TextFits w (x ++ y) before) where
-  pub first_fits : TextFits w x before
-  first_fits = record { room = omega (arith, fits.room, length-append x y) }
-
   module _ {v : ℕ} {middle : List ℕ} (first : WroteAt w x before middle v) where
     pub second_fits : length middle ≡ length before → TextFits v y middle
     second_fits kept = record { room = omega (arith, fits.room, length-append x y, first.ends) }

@@ -164,24 +164,6 @@ module _ (items : List ℕ) (item start : ℕ) (lacks : place_in (take start ite
   place-from within p e = ap (λ (q : optional.Option ℕ). map (λ n. start + n) (place_of q)) e
       ∙ ap (map (λ n. start + n)) (position-is (behind start items) item) ∙ sym (place-behind within)
 
--- ---- the whole list
-
--- Where an item is found among the first, it is found there.
-abbrev Kept : (first whole : Option ℕ) → Type 0
-Kept none whole = Unit {0}
-Kept (some place) whole = whole ≡ some place
-
-kept_by : (t : Bool) (p q : Option ℕ) → Kept p q
-    → Kept (if t then some 0 else map suc p) (if t then some 0 else map suc q)
-kept_by true p q h = refl
-kept_by false none q h = tt
-kept_by false (some place) q h = ap (map suc) h
-
-kept : (x y : List ℕ) (item : ℕ) → Kept (place_in x item) (place_in (x ++ y) item)
-unfolding place_in
-kept [] y item = tt
-kept (b ∷ x) y item = kept_by (eqb b item) (place_in x item) (place_in (x ++ y) item) (kept x y item)
-
 -- ---- a place is one of the list
 
 abbrev Within : (size : ℕ) → Option ℕ → Type 0

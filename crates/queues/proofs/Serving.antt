@@ -5,8 +5,7 @@ use native.Mathlib.Omega.{arith}
 use mathlib.Core.Path.{◌≡◌, refl, sym, ap, ◌∙◌}
 use mathlib.Core.List.{List, [], ◌∷◌, ◌++◌}
 use mathlib.Core.Option.{Option, none, some}
-use lib.ListN.{length, take, drop, get_or, set, length-append}
-use lib.Seq.{length-take-le}
+use lib.ListN.{length, take, drop, get_or, set}
 use borrow.Author.Tests.{le-leb, lt-leb}
 use Rattle.definitions.specs.Words.Basics.{ok, refused}
 use Rattle.definitions.specs.Calls.Base.{written_over}
@@ -101,14 +100,6 @@ module _ (part : List ℕ) (f : List ℕ) (later : Frames) (long : length part �
 
   pub first-size : short_at part 1 ≡ length f
   first-size = sym (length-there part 0 (omega arith)) ∙ first-at.size
-
--- The mark's byte is there, whatever a queue's bytes are.
-pub some_byte : (b rest : List ℕ) (q : Queue) (at n : ℕ) → at ≡ start q → at + 16417 ≤ length b
-    → 0 < length (take at b ++ (rest ++ drop n (drop at b)))
-some_byte b rest q at n place room = simp length-append (omega (arith, length-take-le at b (omega arith), start-high q)) where
-  start-high : (q : Queue) → 1 ≤ start q
-  start-high chassis = omega arith
-  start-high fixed_unit = omega arith
 
 module _ (b : List ℕ) (q : Queue) (at n : ℕ) (place : at ≡ start q) (size : n ≡ 16417) where
   module _ (S : State) (f : List ℕ) (later : Frames) (is : state_of b ≡ ok S) (first : waiting q S ≡ f ∷ later) where

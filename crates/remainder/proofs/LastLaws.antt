@@ -17,7 +17,7 @@ use Rattle.theorems.proofs.Taken.{RestIs}
 use Rattle.expression.specs.Places.{Holds}
 use Rattle.byte_writer.specs.Written.{Wrote, WroteAt}
 use Rattle.byte_writer.proofs.Written.{to_start, store, standing as stands-written}
-use Rattle.remainder.specs.Rests.{bytes_left, left_bytes, gone_flags, RestFits, RestPut}
+use Rattle.remainder.specs.Rests.{bytes_left, left_bytes, gone_flags, RestPut}
 use Rattle.remainder.specs.declared.rests.Stays.{Stays}
 use Rattle.remainder.specs.Pruned.{Prunable, PrunedFits, PrunedPut}
 use Rattle.remainder.specs.Last.{last_bytes, Left}
@@ -53,17 +53,6 @@ zeros-room n = simp length-replicate (omega arith)
 
 module _ {s : List ℕ} {rec count at : ℕ} {gone : List ℕ} {goes : Expr → Bool} {records : List Record} {t : Expr}
     (left : Left s rec count at gone goes records t) where
-  pub rest-fits : (rest : List ℕ) → length (expr_bytes t) ≤ length rest → RestFits s at (length rest) (length gone) gone rest
-  rest-fits rest room = record {
-    columns = index_below count;
-    tree = t;
-    stands = left.frame.tree;
-    room = room;
-    within = omega arith;
-    counted = omega (arith, left.counted);
-    flagged = omega arith;
-  }
-
   -- What it left.
   module _ {before rest : List ℕ} {r : Stays} (put : RestPut (length before) (length gone) gone before rest r t)
       (same : length rest ≡ length before) where

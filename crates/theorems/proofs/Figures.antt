@@ -25,9 +25,6 @@ first-same e = cc
 pub rest-same : {a b : ℕ} {s t : List ℕ} → a ∷ s ≡ b ∷ t → s ≡ t
 rest-same e = cc
 
-nil-not-cons : {b : ℕ} {t : List ℕ} → ◌≡◌ {A = List ℕ} [] (b ∷ t) → ⊥
-nil-not-cons e = let z : ◌≡◌ {A = ℕ} 0 1 = cc in omega arith
-
 -- Parts of the same length before equal texts.
 pub parts_same : (a b s t : List ℕ) → length a ≡ length b → a ++ s ≡ b ++ t → (a ≡ b) × (s ≡ t)
 parts_same [] [] s t h e = (refl, e)

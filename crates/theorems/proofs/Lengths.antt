@@ -123,12 +123,6 @@ module _ {match : Matcher} {Asks : Meaning → Type 0} (laws : Lawful match Asks
   extract-short n room (ok (extracted X)) g = tt
   extract-short n room (refused number) g = tt
 
-  pub filled-short : (n : ℕ) (buffer scratch : List ℕ) (m : ℕ) → AllBytes buffer → (extract_filled_by match n buffer scratch).answer ≡ ok m
-      → m ≤ 16384
-  unfolding extract_filled_by
-  filled-short n buffer scratch m bytes e =
-      finish-short n buffer scratch _ (extract-short n (length scratch) _ (held-good n buffer bytes)) e
-
   -- The table decides between what is written and 10.
   tabled-short : (n : ℕ) (buffer scratch : List ℕ) (b : Bool) (x : Result (List ℕ)) {m : ℕ} → Short x
       → (if b then finish n buffer scratch x else finish n buffer scratch (refused 10)).answer ≡ ok m → m ≤ 16384

@@ -1,10 +1,10 @@
 -- A verdict's byte is the line of the leaf's match, or above all lines: so the first lines among the bytes are the first matches.
 use Rattle.std.specs.Prelude.{if◌then◌else◌}
-use Prim.Native.Nat.{ℕ, suc, ◌+◌, ◌*◌, ◌/◌, ◌%◌, ◌<◌}
+use Prim.Native.Nat.{ℕ, ◌+◌, ◌*◌, ◌/◌, ◌%◌, ◌<◌}
 use native.Mathlib.Omega.{arith}
 use mathlib.Core.Path.{◌≡◌, refl, sym, ap, ap₂, ◌∙◌, subst}
 use mathlib.Core.Bool.{Bool, true, false}
-use mathlib.Core.List.{List, [], ◌∷◌, ◌++◌, map}
+use mathlib.Core.List.{List, [], ◌∷◌, map}
 use mathlib.Core.Option
 use mathlib.Core.Option.{Option, none, some}
 use lib.ListN.{length, take, length-map}
@@ -191,46 +191,3 @@ module _ (S : Settings) (good : GoodSettings S) (F : Frame) (g : GoodPlan (held 
 
 pub bill-answered : AnswerIsTheBill
 bill-answered = the-bill
-
--- ---- for a walk over an And: the bytes of its left side, then those of its right side
-
--- One found among bytes that stand after so many others.
-unfoldable pub shifted : (before : ℕ) → Option TakenLeaf → Option TakenLeaf
-shifted k none = none
-shifted k (some t) = some (record { position = k + t.position; line = t.line })
-
--- That position and line.
-abbrev at : (position line : ℕ) → Option TakenLeaf
-at position line = some (record { position = position; line = line })
-
-at-same : (a b line : ℕ) → a ≡ b → at a line ≡ at b line
-at-same a b line e = ap (λ (n : ℕ). at n line) e
-
-shifted-none : (x : Option TakenLeaf) → x ≡ shifted 0 x
-unfolding shifted
-shifted-none none = refl
-shifted-none (some t) = at-same t.position (0 + t.position) t.line (omega arith)
-
-shifted-on : (k : ℕ) (x : Option TakenLeaf) → Option.map one_on (shifted k x) ≡ shifted (suc k) x
-unfolding shifted one_on
-shifted-on k none = refl
-shifted-on k (some t) = at-same (suc (k + t.position)) (suc k + t.position) t.line (omega arith)
-
-on-or : (k : ℕ) (x y : Option TakenLeaf)
-    → Option.map one_on (Option.or_else x (shifted k y)) ≡ Option.or_else (Option.map one_on x) (shifted (suc k) y)
-unfolding Option.or_else one_on
-on-or k none y = shifted-on k y
-on-or k (some t) y = refl
-
-pub first-append : (t : ℕ → Bool) (xs ys : List ℕ)
-    → first_passing t (xs ++ ys) ≡ Option.or_else (first_passing t xs) (shifted (length xs) (first_passing t ys))
-unfolding first_passing Option.or_else
-first-append t [] ys = shifted-none (first_passing t ys)
-first-append t (x ∷ xs) ys = by-head (t x) (first-append t xs ys)
-  where
-    by-head : (b : Bool) → first_passing t (xs ++ ys) ≡ Option.or_else (first_passing t xs) (shifted (length xs) (first_passing t ys))
-        → (if b then some (record { position = 0; line = x }) else Option.map one_on (first_passing t (xs ++ ys)))
-        ≡ Option.or_else (if b then some (record { position = 0; line = x }) else Option.map one_on (first_passing t xs))
-        (shifted (suc (length xs)) (first_passing t ys))
-    by-head true h = refl
-    by-head false h = ap (Option.map one_on) h ∙ on-or (length xs) (first_passing t xs) (first_passing t ys)

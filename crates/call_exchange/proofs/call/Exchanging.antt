@@ -24,7 +24,7 @@ use Rattle.plan_reader.specs.declared.extraction_bodies.Held.{Held}
 use Rattle.plan_reader.specs.declared.extraction_bodies.Held.TheVariants as there
 use Rattle.call_exchange.specs.Exchanged.{PlanAt, HeldPlan, PlanIs}
 use Rattle.call_answers.proofs.Refusing.{exchange-call, refuses, outcome, no-plan, empty-plan}
-use Rattle.call_answers.proofs.Keeping.{plan-length, held-is, plan-size, kept, kept-length, kept-over}
+use Rattle.call_answers.proofs.Keeping.{plan-length, held-is, plan-size, kept, kept-over}
 
 -- A plan that an exchange takes.
 abbrev pub Exchangeable : Plan → Type 0
@@ -92,9 +92,6 @@ is-exchangeable {n} {before} {h} holds = exchangeable (take n before) h (length 
 
 module _ {n : ℕ} {before : List ℕ} {h : Held} (holds : HoldsPlan n before h) (scratch after : List ℕ)
     (copied : after ≡ take n (drop 0 before) ++ drop n scratch) where
-  pub copy-length : n ≡ length (take n after)
-  copy-length = kept-length n before holds.fits scratch after copied
-
   pub still-there : PlanAt (take n after) h n holds.it
   still-there = rw (kept n before holds.fits scratch after copied) (rw (plan-length n before holds.fits) at holds.stands)
 

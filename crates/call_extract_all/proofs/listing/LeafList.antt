@@ -23,7 +23,7 @@ use Rattle.sedona_query_planner.specs.declared.spatial_predicate.SpatialPredicat
 use Rattle.sedona_query_planner.specs.declared.spatial_predicate.KNNPredicate.{KNNPredicate}
 use Rattle.plan_writer.specs.Arguments.{table_change}
 use Rattle.plan_writer.proofs.ChildLaws.{by-children}
-use Rattle.leaf_matching.specs.Frames.{Over, Framed}
+use Rattle.leaf_matching.specs.Frames.{Over}
 use Rattle.leaf_pick.specs.Picks.{matches}
 use Rattle.call_extract_all.specs.Listings.{listed, Listable, ListFits, ListIs}
 use Rattle.call_extract_all.specs.declared.listing.Tally.{Tally}
@@ -113,9 +113,6 @@ module _ {match : Matcher} {s : List ℕ} {rec count at position : ℕ} {to knns
     (f : ListFits match s rec count at position to knns others gone) where
   pub over : {records : List Record} {t : Expr} → Listable s rec count at records t → Over s rec at records t
   over l = record { entries = l.entries.bytes; tree = l.tree }
-
-  pub framed : Framed s rec at
-  framed = (f.records, f.tree, over f.frame)
 
   -- A match of its leaf, by the table.
   pub by-table : {records : List Record} {t : Expr} → Listable s rec count at records t → (p : SpatialPredicate) (q : Predicate)

@@ -32,7 +32,7 @@ use Rattle.call_merge.specs.Numbers.{Merged}
 use Rattle.terms.specs.declared.refusals.Refusal.TheVariants.{BufferTooShort, MergedTooLarge, TableTooShort}
 use Rattle.call_answers.proofs.Refusing.{merge-ends, merge-call, outcome}
 use Rattle.call_merge.proofs.held_frame.Standing.{at-root, table-there, few-bytes, few-nodes}
-use Rattle.call_answers.proofs.Keeping.{held-is, plan-size, plan-length, kept, kept-length, kept-over}
+use Rattle.call_answers.proofs.Keeping.{held-is, plan-size, plan-length, kept, kept-over}
 
 -- A good frame within the limits, of so many bytes.
 record Within (size : ℕ) (f : places.Frame) : Type 0 where
@@ -199,9 +199,6 @@ module _ {frame : List ℕ} {n : ℕ} {before scratch : List ℕ} {f g : places.
     (r : Ready frame n before scratch f g lent copy) where
   there : take n copy ≡ take n before
   there = kept n before r.both.held.fits scratch copy r.copied
-
-  pub copy-length : n ≡ length (take n copy)
-  copy-length = kept-length n before r.both.held.fits scratch copy r.copied
 
   abbrev pair : Frame × Frame
   pair = (r.both.held.frame, r.both.given.frame)
