@@ -17,7 +17,7 @@ use Rattle.definitions.specs.Bytes.Decode.{index_below}
 use Rattle.definitions.specs.Filter.Extract as definition
 use Rattle.definitions.specs.Filter.Extract.{is_knn_match, Matcher, matches_by}
 use Rattle.definitions.specs.Filter.OneWalk as walks
-use Rattle.definitions.specs.Filter.OneWalk.{reading, stopped, read_leaf, walk_on, one_walk, remembered, count_to, walk_length_by}
+use Rattle.definitions.specs.Filter.OneWalk.{reading, stopped_at, read_leaf, walk_on, one_walk, remembered, count_to, walk_length_by}
 use Rattle.theorems.proofs.Proved.{one-walk-is-pick}
 use Rattle.expression.specs.Places.{Holds}
 use Rattle.expression.specs.Nodes.{left_of, OfTree, OfTreeIn}
@@ -162,7 +162,7 @@ module _ {match : Matcher} {s numbers next : List ℕ} {rec at last place index 
           ∙ omega arith);
     }
       where
-        stays : (p : definition.Pick) (ms : List (Option Predicate)) → walk_on (stopped p) ms ≡ stopped p
+        stays : (p : definition.Pick) (ms : List (Option Predicate)) → walk_on (stopped_at p) ms ≡ stopped_at p
         stays p [] = refl
         stays p (m ∷ ms) = refl
 

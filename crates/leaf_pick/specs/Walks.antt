@@ -8,7 +8,7 @@ use Rattle.definitions.specs.Bytes.Encode.{expr_bytes}
 use Rattle.definitions.specs.Bytes.Decode.{Columns}
 use Rattle.definitions.specs.Filter.Extract as definition
 use Rattle.definitions.specs.Filter.Extract.{is_knn, is_knn_match, pick, Matcher, matches_by}
-use Rattle.definitions.specs.Filter.OneWalk.{reading, stopped, read_leaf, walk_length_by}
+use Rattle.definitions.specs.Filter.OneWalk.{reading, stopped_at, read_leaf, walk_length_by}
 use Rattle.definitions.specs.Filter.Settings.{Settings, match_under}
 use Rattle.expression.specs.Leaves.{NodeIs}
 use Rattle.leaf_matching.specs.Matches.{Lacks}
@@ -76,7 +76,7 @@ pub data Kept (at position : ℕ) (t : Expr) (before : Memory) : Memory → Type
 pub record StoppedIs (match : Matcher) (s : List ℕ) (at position : ℕ) (first : optional.Option definition.Pick) (seen : SeenLeaf)
     (records : List Record) (t : Expr) : Type 0 where
   pub p : definition.Pick
-  pub is : read_leaf position first (match records t) ≡ stopped p
+  pub is : read_leaf position first (match records t) ≡ stopped_at p
   pub near : is_knn_match (match records t) ≡ true
   pub seen-is : SeenIs s records seen p
   pub seen_here : SeenHere at position seen t

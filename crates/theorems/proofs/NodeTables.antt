@@ -12,10 +12,10 @@ use Rattle.definitions.specs.Words.Expression.{Expr, column, literal, and, binar
 use Rattle.definitions.specs.Words.Limits.{most_bytes}
 use Rattle.definitions.specs.Bytes.Encode.{expr_bytes, exprs_bytes, frame_bytes, plan_bytes}
 use Rattle.definitions.specs.Filter.Exchange.{exchange_record, exchange_frame}
-use Rattle.definitions.specs.Bytes.Good.{nodes, nodes_all, GoodPlan}
+use Rattle.definitions.specs.Bytes.Good.{nodes, nodes_all}
 use Rattle.definitions.specs.Bytes.NodeTable.{NodeRecord, kind_byte, record_of, nodes_from, row_from, node_table, same_record, begins_with}
 use Rattle.definitions.specs.Calls.Base.{written_over}
-use Rattle.definitions.specs.Claims.Table.{Nested, nothing, node, Rising, TableNests, Within, PositionsFit, TableExchanged, BeginsExactly}
+use Rattle.definitions.specs.Claims.Table.{Nested, no_node, first_node, Rising, TableNests, Within, PositionsFit, TableExchanged, BeginsExactly}
 use Rattle.theorems.proofs.Tools.{and-both}
 use Rattle.theorems.proofs.ExchangeGood.{frame-length}
 
@@ -54,7 +54,7 @@ headed : (at head : ℕ) (e : Expr) (end : ℕ) (inside more : List NodeRecord) 
     → Nested (at + head) (at + length (expr_bytes e)) inside → Nested (at + length (expr_bytes e)) end more
     → Nested at end (record_of at e ∷ (inside ++ more))
 unfolding record_of
-headed at head e end inside more some within after = node {start = at} {first = at + head} (kind_byte e) (omega arith) within after
+headed at head e end inside more some within after = first_node {start = at} {first = at + head} (kind_byte e) (omega arith) within after
 
 -- An expression's records before others; both sides of a binary node.
 abbrev Before : (at : ℕ) → Expr → Type 0
@@ -67,7 +67,7 @@ nested-both at l r left right =
     let place : ℕ = at + 2 + length (expr_bytes l) in
     let alone : Nested place (place + length (expr_bytes r)) (nodes_from place r) =
     subst (Nested place (place + length (expr_bytes r))) (append-nil (nodes_from place r))
-    (right (place + length (expr_bytes r)) [] nothing) in
+    (right (place + length (expr_bytes r)) [] no_node) in
     moved refl (simp length-append (omega arith)) (left (place + length (expr_bytes r)) (nodes_from place r) alone)
 
 mutual
@@ -75,8 +75,8 @@ mutual
 
   nested-node : (at : ℕ) (e : Expr) (end : ℕ) (more : List NodeRecord) → Nested (at + length (expr_bytes e)) end more
       → Nested at end (nodes_from at e ++ more)
-  nested-node at (column index tag) end more h = headed at 5 (column index tag) end [] more (omega arith) nothing h
-  nested-node at (literal type bytes) end more h = headed at 10 (literal type bytes) end [] more (omega arith) nothing h
+  nested-node at (column index tag) end more h = headed at 5 (column index tag) end [] more (omega arith) no_node h
+  nested-node at (literal type bytes) end more h = headed at 10 (literal type bytes) end [] more (omega arith) no_node h
   nested-node at (and l r) end more h =
       headed at 2 (and l r) end _ more (omega arith)
       (nested-both at l r (λ z t k. nested-node (at + 2) l z t k) (λ z t k. nested-node (at + 2 + length (expr_bytes l)) r z t k)) h
@@ -89,10 +89,10 @@ mutual
   nested-node at (other tag children) end more h =
       headed at 4 (other tag children) end _ more (omega arith)
       (moved refl (simp length-append (omega arith)) (nested-row (at + 4) children)) h
-  nested-node at (field bits tag) end more h = headed at 4 (field bits tag) end [] more (omega arith) nothing h
+  nested-node at (field bits tag) end more h = headed at 4 (field bits tag) end [] more (omega arith) no_node h
 
   nested-row : (at : ℕ) (es : Exprs) → Nested at (at + length (exprs_bytes es)) (row_from at es)
-  nested-row at nil = moved refl (omega arith) nothing
+  nested-row at nil = moved refl (omega arith) no_node
   nested-row at (cons e es) =
       nested-node at e _ _
       (moved refl (simp length-append (omega arith)) (nested-row (at + length (expr_bytes e)) es))
@@ -109,8 +109,8 @@ lower low low' [] h f = tt
 lower low low' (a ∷ more) h f = (omega (arith, h, f.0), f.1)
 
 nested-from : {a b : ℕ} {t : List NodeRecord} → Nested a b t → (rest : List NodeRecord) → From b rest → From a (t ++ rest)
-nested-from nothing rest f = f
-nested-from (node {start} {first} {inside = inside} {more} kind below inner after) rest f = (
+nested-from no_node rest f = f
+nested-from (first_node {start} {first} {inside = inside} {more} kind below inner after) rest f = (
   omega arith,
   lower first (suc start) ((inside ++ more) ++ rest) (omega (arith, below))
       (rw (append_assoc inside more rest) (nested-from inner (more ++ rest) (nested-from after rest f))),
@@ -129,7 +129,7 @@ table-nests-by F =
     let root : ℕ = 3 + 5 * length F.records in
     let all : Nested root (length (frame_bytes F)) (nodes_from root F.expr) =
     subst (Nested root (length (frame_bytes F))) (append-nil (nodes_from root F.expr))
-    (nested-node root F.expr (length (frame_bytes F)) [] (moved (frame-length F) refl nothing)) in (
+    (nested-node root F.expr (length (frame_bytes F)) [] (moved (frame-length F) refl no_node)) in (
       node-count root F.expr,
       all,
       rising root (nodes_from root F.expr)
@@ -191,16 +191,16 @@ begins-filled records table = begins-self records (drop (length records) table)
 -- ---- request 11
 
 nested-low : {a b : ℕ} {t : List NodeRecord} → Nested a b t → a ≤ b
-nested-low nothing = omega arith
-nested-low (node kind below inner after) = omega (arith, nested-low inner, nested-low after)
+nested-low no_node = omega arith
+nested-low (first_node kind below inner after) = omega (arith, nested-low inner, nested-low after)
 
 within_both : (most : ℕ) (s t : List NodeRecord) → Within most s → Within most t → Within most (s ++ t)
 within_both most [] t f g = g
 within_both most (r ∷ s) t f g = (f.0, f.1, within_both most s t f.2 g)
 
 nested-within : {a b : ℕ} {t : List NodeRecord} (most : ℕ) → Nested a b t → b ≤ most → Within most t
-nested-within most nothing h = tt
-nested-within most (node {inside = inside} {more} kind below inner after) h =
+nested-within most no_node h = tt
+nested-within most (first_node {inside = inside} {more} kind below inner after) h =
     let low = nested-low inner in
     let high = nested-low after in (
       omega arith,

@@ -15,7 +15,7 @@ use Rattle.definitions.specs.Calls.Base.{written_over}
 use Rattle.definitions.specs.Calls.Queues.{Queue, chassis, fixed_unit, queue_number, other_queue, Frames, State, waiting, with_frames, marked, put_in, Due, first_tried, oldest, due}
 use Rattle.definitions.specs.Calls.QueueBytes.{state_over, queue_numbered, put_done, put, frame_from, both_empty, ServeOutcome, serve_due, serve_held, serve}
 use Rattle.definitions.specs.Lists.Queues.{QueueCall, put_call, serve_call, QueueMade, made_put, made_serve, QueuesRun, queues_run}
-use Rattle.definitions.specs.Claims.Queues.{FramesFit, Fits}
+use Rattle.definitions.specs.Claims.Queues.{FramesFit, QueuesFit}
 use Rattle.theorems.proofs.InverseFrame.{same_ok}
 use Rattle.theorems.proofs.Changes.{over_first}
 use Rattle.theorems.proofs.QueueFrames.{passed}
@@ -67,13 +67,13 @@ pub fit-more : (fs : Frames) (f : List ℕ) → FramesFit fs → 1 ≤ length f 
 fit-more [] f fit low high = (low, high, tt)
 fit-more (g ∷ fs) f fit low high = (fit.0, fit.1, fit-more fs f fit.2 low high)
 
-fits-with : (q : Queue) (fs : Frames) (S : State) → Fits S → length fs ≤ 16 → FramesFit fs → Fits (with_frames q fs S)
+fits-with : (q : Queue) (fs : Frames) (S : State) → QueuesFit S → length fs ≤ 16 → FramesFit fs → QueuesFit (with_frames q fs S)
 fits-with chassis fs S fits few fit = elim [ chassis ↦ (few, fit) | fixed_unit ↦ fits fixed_unit ]
 fits-with fixed_unit fs S fits few fit = elim [ chassis ↦ fits chassis | fixed_unit ↦ (few, fit) ]
 
-pub fits-added : {q : Queue} {f : List ℕ} {S T : State} → Fits S → Added q f S T → Fits T
+pub fits-added : {q : Queue} {f : List ℕ} {S T : State} → QueuesFit S → Added q f S T → QueuesFit T
 fits-added {q} {f} {S} fits a =
-    subst Fits a.is
+    subst QueuesFit a.is
     (fits-with q (waiting q S ++ (f ∷ [])) S fits (simp length-append (omega (arith, a.room)))
     (fit-more (waiting q S) f (fits q).1 a.low a.high))
 
@@ -126,12 +126,12 @@ is-due S =
     first q t [] e [] e' = nothing (both q e e')
 
 -- The state without the oldest frame of a queue fits too.
-pub fits-left : (q : Queue) (f : List ℕ) (later : Frames) (S : State) → Fits S → waiting q S ≡ f ∷ later
-    → Fits (marked q (with_frames q later S))
+pub fits-left : (q : Queue) (f : List ℕ) (later : Frames) (S : State) → QueuesFit S → waiting q S ≡ f ∷ later
+    → QueuesFit (marked q (with_frames q later S))
 fits-left q f later S fits e =
     let some : (length (f ∷ later) ≤ 16) × FramesFit (f ∷ later) =
     subst (λ (fs : Frames). (length fs ≤ 16) × FramesFit fs) e (fits q) in
-    let rest : Fits (with_frames q later S) = fits-with q later S fits (omega (arith, some.0)) some.1.2 in
+    let rest : QueuesFit (with_frames q later S) = fits-with q later S fits (omega (arith, some.0)) some.1.2 in
     elim [ chassis ↦ rest chassis | fixed_unit ↦ rest fixed_unit ]
 
 module _ (S : State) (b out : List ℕ) (h : HeldIn b S) where

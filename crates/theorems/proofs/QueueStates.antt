@@ -11,7 +11,7 @@ use Rattle.definitions.specs.Words.Basics.{ok}
 use Rattle.definitions.specs.Bytes.Good.{AllBytes}
 use Rattle.definitions.specs.Calls.Queues.{Queue, chassis, fixed_unit, Mark, nobody, last, Frames, State, waiting, with_frames}
 use Rattle.definitions.specs.Calls.QueueBytes.{start, part_of, lengths_of, places_of, mark_of, queue_of, state_of, mark_byte, in_slots, length_bytes, queue_over, state_over}
-use Rattle.definitions.specs.Claims.Queues.{FramesFit, Fits, StateReadBack, StateHeld}
+use Rattle.definitions.specs.Claims.Queues.{FramesFit, QueuesFit, StateReadBack, StateHeld}
 use Rattle.theorems.proofs.Slots.{slots_length}
 use Rattle.theorems.proofs.Tools.{bytes-from}
 use Rattle.theorems.proofs.InverseFrame.{refused_not_ok, same_ok}
@@ -132,7 +132,7 @@ pub in_held : (b : List ℕ) (S : State) → HeldIn b S → state_of b ≡ ok S
 unfolding state_of
 in_held b S h = rw (eq-eqb (length b) 32835 h.long, h.mark, h.queue chassis, h.queue fixed_unit)
 
-module _ (S : State) (b : List ℕ) (fits : Fits S) (long : length b ≡ 32835) where
+module _ (S : State) (b : List ℕ) (fits : QueuesFit S) (long : length b ≡ 32835) where
   over-part : (q : Queue) → length (queue_over (waiting q S) (part_of q b)) ≡ 16417
   over-part q = over-long (part_of q b) (part-long q b long) (waiting q S) (fits q).0 (fits q).1
 
@@ -165,7 +165,7 @@ module _ (S : State) (b : List ℕ) (h : HeldIn b S) where
   pub part-holds : (q : Queue) → Holds (part_of q b) (waiting q S)
   part-holds q = queue-holds (part_of q b) (part-long q b h.long) (waiting q S) (h.queue q)
 
-  pub held_fits : Fits S
+  pub held_fits : QueuesFit S
   held_fits q = ((part-holds q).few, queue-fits (part_of q b) (part-long q b h.long) (part-holds q))
 
 -- ---- a queue's bytes replaced

@@ -1,6 +1,6 @@
 -- One walk remembers the first other match and stops at a KNN match, so its pick is the two passes' pick; how long it is, exchanged or not.
 use Rattle.std.specs.Prelude.{if◌then◌else◌}
-use Prim.Native.Nat.{ℕ, suc, ◌+◌, ◌*◌, ◌-◌, ◌≤◌}
+use Prim.Native.Nat.{ℕ, suc, ◌+◌, ◌*◌, ◌≤◌}
 use native.Mathlib.Omega.{arith}
 use mathlib.Core.Path.{◌≡◌, refl, sym, ap, ap₂, ◌∙◌}
 use mathlib.Core.Bool.{Bool, true, false, ◌||◌, not, false≢true}
@@ -12,7 +12,7 @@ use Rattle.definitions.specs.Words.Basics.{Result, ok, refused, any}
 use Rattle.definitions.specs.Words.Expression.{Expr, column, literal, and, binary, call, other, field, Record, Frame, Predicate, Extraction, Plan, empty, held, extracted}
 use Rattle.definitions.specs.Words.Leaves.{leaves}
 use Rattle.definitions.specs.Filter.Extract.{Pick, is_knn, is_knn_match, later, first_match, first_of, pick, Matcher, matches_by, extraction_by}
-use Rattle.definitions.specs.Filter.OneWalk.{Memory, reading, stopped, read_leaf, walk_on, one_walk, remembered, reached, count_to, walk_length_by}
+use Rattle.definitions.specs.Filter.OneWalk.{Memory, reading, stopped_at, read_leaf, walk_on, one_walk, remembered, reached, count_to, walk_length_by}
 use Rattle.definitions.specs.Filter.Exchange.{exchange_frame}
 use Rattle.definitions.specs.Calls.Base.{finish, held_plan, matched_bytes, new_after_extract_by, extract_filled_by, extract_by, table_fits, walked_by, walk_filled_by, extract_walk_by}
 use Rattle.definitions.specs.Bytes.NodeTable.{NodeRecord}
@@ -20,7 +20,6 @@ use Rattle.definitions.specs.Lists.Sessions.{accepted}
 use Rattle.definitions.specs.Meaning.Values.{Meaning}
 use Rattle.definitions.specs.Meaning.Matchers.{Lawful}
 use Rattle.definitions.specs.Claims.Walk.{RemembersFirst, StopsAtKnn, OneWalkIsPick, WalkBounded, WalkWhole, WalkUnmatched, WalkExchanged, WalkCarried}
-use Rattle.theorems.proofs.Cases.{each}
 use Rattle.theorems.proofs.Tools.{by-test}
 use Rattle.theorems.proofs.Exchange.{swapped}
 use Rattle.theorems.proofs.ExtractExchange.{exchanged, knn-exchanged}
@@ -77,7 +76,7 @@ moved_here n p = ap (λ (i : ℕ). some (record { position = i; predicate = p })
 
 -- ---- what the walk remembers
 
-stays-stopped : (p : Pick) (ms : List (Option Predicate)) → walk_on (stopped p) ms ≡ stopped p
+stays-stopped : (p : Pick) (ms : List (Option Predicate)) → walk_on (stopped_at p) ms ≡ stopped_at p
 unfolding walk_on
 stays-stopped p [] = refl
 stays-stopped p (m ∷ ms) = refl
@@ -89,7 +88,7 @@ unfolding read_leaf
 read-other n first p e = rw e
 
 read-knn : (n : ℕ) (first : Option Pick) (p : Predicate) → is_knn p ≡ true
-    → read_leaf n first (some p) ≡ stopped (record { position = n; predicate = p })
+    → read_leaf n first (some p) ≡ stopped_at (record { position = n; predicate = p })
 unfolding read_leaf
 read-knn n first p e = rw e
 
@@ -130,7 +129,7 @@ remembers-first-by matches many e =
 walk-append : (xs ys : List (Option Predicate)) (m : Memory) → walk_on m (xs ++ ys) ≡ walk_on (walk_on m xs) ys
 unfolding walk_on
 walk-append [] ys m = refl
-walk-append (x ∷ xs) ys (stopped p) = sym (stays-stopped p ys)
+walk-append (x ∷ xs) ys (stopped_at p) = sym (stays-stopped p ys)
 walk-append (x ∷ xs) ys (reading n first) = walk-append xs ys (read_leaf n first x)
 
 pub stops-at-knn-by : StopsAtKnn
@@ -140,7 +139,7 @@ stops-at-knn-by before p after e k =
     ∙ ap (λ (m : Memory). walk_on m (some p ∷ after)) (remembers before 0 none e)
     ∙ ap (λ (m : Memory). walk_on m after) (read-knn (0 + length before) _ p k)
     ∙ stays-stopped _ after
-    ∙ ap (λ (i : ℕ). stopped (record { position = i; predicate = p })) (omega arith)
+    ∙ ap (λ (i : ℕ). stopped_at (record { position = i; predicate = p })) (omega arith)
 
 -- ---- its pick
 

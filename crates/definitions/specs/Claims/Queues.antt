@@ -17,16 +17,16 @@ FramesFit [] = Unit {0}
 FramesFit (frame ∷ frames) = (1 ≤ length frame) × (length frame ≤ place_bytes) × FramesFit frames
 
 -- Each queue has at most 16 frames, each of 1 to 1,024 bytes.
-abbrev pub Fits : State → Type 0
-Fits S = (queue : Queue) → (length (waiting queue S) ≤ queue_places) × FramesFit (waiting queue S)
+abbrev pub QueuesFit : State → Type 0
+QueuesFit S = (queue : Queue) → (length (waiting queue S) ≤ queue_places) × FramesFit (waiting queue S)
 
 -- A state that fits, written to a buffer, is read back.
 abbrev pub StateReadBack : Type 0
-StateReadBack = (S : State) (queues : List ℕ) → Fits S → length queues ≡ queues_bytes → state_of (state_over S queues) ≡ ok S
+StateReadBack = (S : State) (queues : List ℕ) → QueuesFit S → length queues ≡ queues_bytes → state_of (state_over S queues) ≡ ok S
 
 -- A state that is held fits, and writing it where it is held changes nothing.
 abbrev pub StateHeld : Type 0
-StateHeld = (S : State) (queues : List ℕ) → AllBytes queues → state_of queues ≡ ok S → Fits S × (state_over S queues ≡ queues)
+StateHeld = (S : State) (queues : List ℕ) → AllBytes queues → state_of queues ≡ ok S → QueuesFit S × (state_over S queues ≡ queues)
 
 -- ---- one call, on any buffer
 

@@ -17,8 +17,8 @@ use Rattle.definitions.specs.Meaning.Matchers.{Lawful}
 -- Records that fill the bytes from one place to another: none, or a node, inside it after its head those of its children, which end
 -- where it ends, and then those that begin there.
 pub data Nested : (start end : ℕ) → List NodeRecord → Type 0 where
-  nothing : {at : ℕ} → Nested at at []
-  node : {start first next end : ℕ} {inside more : List NodeRecord} (kind : ℕ) → start < first → Nested first next inside
+  no_node : {at : ℕ} → Nested at at []
+  first_node : {start first next end : ℕ} {inside more : List NodeRecord} (kind : ℕ) → start < first → Nested first next inside
       → Nested next end more → Nested start end (record { kind = kind; start = start; end = next } ∷ (inside ++ more))
 
 -- Each record starts after the one before it.

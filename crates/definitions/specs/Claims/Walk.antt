@@ -8,7 +8,7 @@ use Rattle.definitions.specs.Words.Leaves.{leaves}
 use Rattle.definitions.specs.Bytes.Good.{AllBytes}
 use Rattle.definitions.specs.Bytes.NodeTable.{NodeRecord}
 use Rattle.definitions.specs.Filter.Extract.{is_knn, is_knn_match, first_match, pick, Matcher, matches_by, extraction_by}
-use Rattle.definitions.specs.Filter.OneWalk.{reading, stopped, one_walk, remembered, walk_length_by}
+use Rattle.definitions.specs.Filter.OneWalk.{reading, stopped_at, one_walk, remembered, walk_length_by}
 use Rattle.definitions.specs.Filter.Exchange.{exchange_frame}
 use Rattle.definitions.specs.Calls.Base.{held_plan, extract_by, extract_walk_by}
 use Rattle.definitions.specs.Lists.Sessions.{accepted}
@@ -27,7 +27,7 @@ RemembersFirst =
 abbrev pub StopsAtKnn : Type 0
 StopsAtKnn =
     (before : List (Option Predicate)) (p : Predicate) (after : List (Option Predicate)) → any is_knn_match before ≡ false → is_knn p ≡ true
-    → one_walk (before ++ (some p ∷ after)) ≡ stopped (record { position = length before; predicate = p })
+    → one_walk (before ++ (some p ∷ after)) ≡ stopped_at (record { position = length before; predicate = p })
 
 -- Its pick is the two passes' pick.
 abbrev pub OneWalkIsPick : Type 0

@@ -11,19 +11,19 @@ use Rattle.definitions.specs.Filter.Extract.{Pick, is_knn, is_knn_match, first_o
 -- KNN match.
 pub data Memory : Type 0 where
   reading : (leaves : ℕ) → (first : Option Pick) → Memory
-  stopped : Pick → Memory
+  stopped_at : Pick → Memory
 
 -- One leaf more, after so many: a KNN match stops the walk; another match is remembered if none was before it.
 unfoldable pub read_leaf : (leaves : ℕ) → (first : Option Pick) → Option Predicate → Memory
 read_leaf n first none = reading (suc n) first
 read_leaf n first (some p) =
-    if is_knn p then stopped (record { position = n; predicate = p })
+    if is_knn p then stopped_at (record { position = n; predicate = p })
     else reading (suc n) (first_of first (some (record { position = n; predicate = p })))
 
 -- The leaves one after another; a walk that has stopped reads no more.
 unfoldable pub walk_on : Memory → (matches : List (Option Predicate)) → Memory
 walk_on memory [] = memory
-walk_on (stopped p) (m ∷ matches) = stopped p
+walk_on (stopped_at p) (m ∷ matches) = stopped_at p
 walk_on (reading n first) (m ∷ matches) = walk_on (read_leaf n first m) matches
 
 -- The walk from the first leaf on.
@@ -33,7 +33,7 @@ one_walk matches = walk_on (reading 0 none) matches
 -- What is picked where the walk ends.
 unfoldable pub remembered : Memory → Option Pick
 remembered (reading n first) = first
-remembered (stopped p) = some p
+remembered (stopped_at p) = some p
 
 -- ---- how many nodes it reads (request 10)
 

@@ -8,7 +8,7 @@ use Rattle.definitions.specs.Bytes.NodeTable.{node_table}
 use Rattle.definitions.specs.Filter.Extract.{holds}
 use Rattle.definitions.specs.Calls.Base.{exchange, extract_by}
 use Rattle.definitions.specs.Meaning.Values.{and_value}
-use Rattle.definitions.specs.Rows.Ten.{plan_or_refusal, extract_after, exchange_after, extract_of, worked_frame, L, R, on_both, child_l, child_r, two, knn_of, int32, alone, with_rest}
+use Rattle.definitions.specs.Rows.Ten.{plan_or_refusal, extract_after, exchange_after, extract_of, worked_frame, L, R, on_both, child_l, child_r, pair, knn_of, int32, alone, with_rest}
 
 -- The bytes of the worked run's frame.
 abbrev pub worked : List ℕ
@@ -16,10 +16,10 @@ worked = frame_bytes worked_frame
 
 pub record FurtherRows : Type 0 where
   -- the first of two matches; of two KNN matches the first, and the second stays
-  pub first_taken : extract_of (on_both (and (call (ascii "st_within") (two L R)) (call (ascii "st_intersects") (two L R))))
-      ≡ with_rest 0 (relation within child_l child_r) (on_both (call (ascii "st_intersects") (two L R)))
-  pub second-stays : extract_of (on_both (and (and (call (ascii "st_intersects") (two L R)) (knn_of (int32 2))) (knn_of (int32 3))))
-      ≡ with_rest 1 (knn 2 0 left 2 child_l child_r) (on_both (and (call (ascii "st_intersects") (two L R)) (knn_of (int32 3))))
+  pub first_taken : extract_of (on_both (and (call (ascii "st_within") (pair L R)) (call (ascii "st_intersects") (pair L R))))
+      ≡ with_rest 0 (relation within child_l child_r) (on_both (call (ascii "st_intersects") (pair L R)))
+  pub second-stays : extract_of (on_both (and (and (call (ascii "st_intersects") (pair L R)) (knn_of (int32 2))) (knn_of (int32 3))))
+      ≡ with_rest 1 (knn 2 0 left 2 child_l child_r) (on_both (and (call (ascii "st_intersects") (pair L R)) (knn_of (int32 3))))
   -- exchange negates the probe side of KNN and swaps nothing
   pub knn-exchanged : plan_or_refusal (exchange_after (extract_after (frame_bytes (on_both (knn_of (int32 2))))))
       ≡ alone (knn 2 0 right 2 child_l child_r)

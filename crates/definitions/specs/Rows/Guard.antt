@@ -13,7 +13,7 @@ use Rattle.definitions.specs.Calls.Base.{load, matched_bytes}
 use Rattle.definitions.specs.Calls.Logical.{logical, logical_bytes}
 use Rattle.definitions.specs.Lists.Sessions.{calls_run}
 use Rattle.definitions.specs.Lists.Program.{output}
-use Rattle.definitions.specs.Rows.Ten.{extract_of, L, R, on_both, two, int32, int64}
+use Rattle.definitions.specs.Rows.Ten.{extract_of, L, R, on_both, pair, int32, int64}
 use Rattle.definitions.specs.Rows.Refusals.{Rows, EachGiven, frame, extract_in, exchange_in, lines}
 
 -- ---- relations
@@ -31,11 +31,11 @@ type_in X = map_result (λ bytes. get_or bytes 3 0) (matched_bytes X)
 
 -- The type that is stored for a function of the right column and the left one.
 abbrev pub turned : (name : List ℕ) → Result ℕ
-turned name = type_in (extraction (on_both (call name (two R L))))
+turned name = type_in (extraction (on_both (call name (pair R L))))
 
 -- The type that is stored for one of the left and the right column, after an exchange.
 abbrev pub exchanged_once : (name : List ℕ) → Result ℕ
-exchanged_once name = type_in (Option.map exchange_extraction (extraction (on_both (call name (two L R)))))
+exchanged_once name = type_in (Option.map exchange_extraction (extraction (on_both (call name (pair L R)))))
 
 -- ---- KNN
 
@@ -83,7 +83,7 @@ found e = map_result logical_bytes (logical (2 ∷ expr_bytes e))
 
 -- A function of a field that only the left schema has and one that only the right schema has.
 abbrev pub of_fields : (name : String) → Expr
-of_fields name = call (ascii name) (two (field 1 7) (field 2 8))
+of_fields name = call (ascii name) (pair (field 1 7) (field 2 8))
 
 -- Of the 15 names `st_dwithin` alone is found, and no side.
 abbrev pub dwithin_found : Result (List ℕ)
@@ -121,7 +121,7 @@ pub record GuardRows : Type 0 where
       ≡ nothing_found ∷ nothing_found ∷ dwithin_found ∷ dwithin_found ∷ nothing_found ∷ []
   pub compared-capitals : found (binary 1 (of_fields "ST_Distance") five) ≡ dwithin_found
   -- the first `st_knn` is asked for the side and no later one: here its first argument is in both schemas, or missing
-  pub first-in-both : found (and (call (ascii "st_knn") (two (field 3 7) (field 2 8))) (of_fields "st_knn")) ≡ knn_without_side
+  pub first-in-both : found (and (call (ascii "st_knn") (pair (field 3 7) (field 2 8))) (of_fields "st_knn")) ≡ knn_without_side
   pub first-without : found (and (call (ascii "st_knn") nil) (of_fields "st_knn")) ≡ knn_without_side
   -- the last line counts without a line feed; an empty input has no line
   pub last_line : output (ascii "21") ≡ lines (ascii "0b" ∷ [])

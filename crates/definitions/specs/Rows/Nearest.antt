@@ -8,7 +8,7 @@ use Rattle.definitions.specs.Bytes.Plans.{plan_of}
 use Rattle.definitions.specs.Bytes.Good.{GoodPlan}
 use Rattle.definitions.specs.Calls.Base.{extract, exchange}
 use Rattle.definitions.specs.Calls.Merge.{merge}
-use Rattle.definitions.specs.Rows.Ten.{extract_of, worked_frame, L, R, on_both, child_l, child_r, two, knn_of, int32, alone, with_rest}
+use Rattle.definitions.specs.Rows.Ten.{extract_of, worked_frame, L, R, on_both, child_l, child_r, pair, knn_of, int32, alone, with_rest}
 
 -- `st_knn` of both columns, this k and both flags, which are true.
 abbrev pub knn_flagged : Expr → Expr
@@ -29,9 +29,9 @@ pub record NearestRows : Type 0 where
   pub minus_one : extract_of (on_both (knn_of (int32 18446744073709551615))) ≡ refused 13
   pub one-flagged : extract_of (on_both (knn_flagged (int32 1))) ≡ alone (knn 1 1 left 1 child_l child_r)
   -- a k that is missing is 1
-  pub missing : extract_of (on_both (call (ascii "st_knn") (two L R))) ≡ alone (knn 1 0 left 2 child_l child_r)
+  pub missing : extract_of (on_both (call (ascii "st_knn") (pair L R))) ≡ alone (knn 1 0 left 2 child_l child_r)
   -- the call stays in the remainder: a relation is taken, or a later KNN
-  pub relation-taken : extract_of (on_both (and (knn_of (int32 0)) (call (ascii "st_intersects") (two L R))))
+  pub relation-taken : extract_of (on_both (and (knn_of (int32 0)) (call (ascii "st_intersects") (pair L R))))
       ≡ with_rest 1 (relation intersects child_l child_r) (on_both (knn_of (int32 0)))
   pub later-taken : extract_of (on_both (and (knn_of (int32 0)) (knn_of (int32 2))))
       ≡ with_rest 1 (knn 2 0 left 2 child_l child_r) (on_both (knn_of (int32 0)))

@@ -7,7 +7,7 @@ use Rattle.definitions.specs.Bytes.Encode.{frame_bytes, extraction_bytes}
 use Rattle.definitions.specs.Bytes.Plans.{plan_of}
 use Rattle.definitions.specs.Filter.Extract.{extraction}
 use Rattle.definitions.specs.Calls.Base.{exchange}
-use Rattle.definitions.specs.Rows.Ten.{plan_or_refusal, extract_after, exchange_after, extract_of, worked_frame, L, R, on_both, two}
+use Rattle.definitions.specs.Rows.Ten.{plan_or_refusal, extract_after, exchange_after, extract_of, worked_frame, L, R, on_both, pair}
 use Rattle.definitions.specs.Rows.Refusals.{tree}
 
 -- First byte and position of a plan.
@@ -16,15 +16,15 @@ first_three plan = map_result (take 3) plan
 
 -- A relation and then a KNN, which is taken.
 abbrev pub knn_second : Frame
-knn_second = on_both (and (call (ascii "st_intersects") (two L R)) (call (ascii "st_knn") (two L R)))
+knn_second = on_both (and (call (ascii "st_intersects") (pair L R)) (call (ascii "st_knn") (pair L R)))
 
 -- A KNN of two arguments beside a leaf that keeps both records.
 abbrev pub tight_frame : Frame
-tight_frame = on_both (and (call (ascii "st_knn") (two L R)) (binary 5 L R))
+tight_frame = on_both (and (call (ascii "st_knn") (pair L R)) (binary 5 L R))
 
 -- 256 leaves that do not match, and then one that does.
 abbrev pub many_leaves : Frame
-many_leaves = on_both (and (tree 8) (call (ascii "st_within") (two L R)))
+many_leaves = on_both (and (tree 8) (call (ascii "st_within") (pair L R)))
 
 -- A relation without remainder, at this position of whatever frame.
 abbrev pub placed_at : (position : ℕ) → Extraction

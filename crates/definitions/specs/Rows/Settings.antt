@@ -7,7 +7,7 @@ use Rattle.definitions.specs.Bytes.Encode.{frame_bytes}
 use Rattle.definitions.specs.Bytes.NodeTable.{node_table}
 use Rattle.definitions.specs.Filter.Settings.{Settings, good_settings, match_under}
 use Rattle.definitions.specs.Calls.Settings.{extract_under, extract_walk_under, extract_all_under}
-use Rattle.definitions.specs.Rows.Ten.{L, R, on_both, child_l, child_r, two, knn_of, int32}
+use Rattle.definitions.specs.Rows.Ten.{L, R, on_both, child_l, child_r, pair, knn_of, int32}
 
 -- These kinds, default k and greatest k.
 abbrev pub with : (kinds default_k greatest_k : ℕ) → Settings
@@ -19,13 +19,13 @@ under S e = match_under S (on_both e).records e
 
 -- A relation, a distance and a KNN of two arguments.
 abbrev pub relation_leaf : Expr
-relation_leaf = call (ascii "st_intersects") (two L R)
+relation_leaf = call (ascii "st_intersects") (pair L R)
 
 abbrev pub distance_leaf : Expr
 distance_leaf = call (ascii "st_dwithin") (cons L (cons R (cons (literal 2 5) nil)))
 
 abbrev pub knn_leaf : Expr
-knn_leaf = call (ascii "st_knn") (two L R)
+knn_leaf = call (ascii "st_knn") (pair L R)
 
 -- What they match as; KNN with this k.
 abbrev pub a_relation : Option Predicate

@@ -78,8 +78,8 @@ abbrev pub child_r : Expr
 child_r = column 4 8
 
 -- Two arguments.
-abbrev pub two : Expr → Expr → Exprs
-two a b = cons a (cons b nil)
+abbrev pub pair : Expr → Expr → Exprs
+pair a b = cons a (cons b nil)
 
 -- `st_knn` of both columns and this k.
 abbrev pub knn_of : Expr → Expr
@@ -108,7 +108,7 @@ RowNine =
       records =
           record { side = left; child = 4; tag = 1 } ∷ record { side = left; child = 4; tag = 2 } ∷
           record { side = right; child = 0; tag = 3 } ∷ [];
-      expr = and (call (ascii "st_intersects") (two (column 0 1) (column 2 3))) (column 1 2);
+      expr = and (call (ascii "st_intersects") (pair (column 0 1) (column 2 3))) (column 1 2);
     })
     ≡ with_rest 0 (relation intersects (column 4 1) (column 0 3)) (record {
       records = record { side = left; child = 4; tag = 1 } ∷ record { side = left; child = 4; tag = 2 } ∷ [];
@@ -125,19 +125,19 @@ pub record TenRows : Type 0 where
   pub row3-does-not : extract_of (on_both (knn_of (int64 4294967296))) ≡ refused 13
   pub row4-matches : extract_of (on_both (knn_of (int32 1))) ≡ alone (knn 1 0 left 2 child_l child_r)
   pub row4-does-not : extract_of (on_both (knn_of (int32 0))) ≡ refused 13
-  pub row5 : extract_of (on_both (and (call (ascii "st_intersects") (two L R)) (call (ascii "st_knn") (two L R))))
-      ≡ with_rest 1 (knn 1 0 left 2 child_l child_r) (on_both (call (ascii "st_intersects") (two L R)))
-  pub row6 : extract_of (on_both (and (call (ascii "st_knn") (two L L)) (call (ascii "st_intersects") (two L R))))
+  pub row5 : extract_of (on_both (and (call (ascii "st_intersects") (pair L R)) (call (ascii "st_knn") (pair L R))))
+      ≡ with_rest 1 (knn 1 0 left 2 child_l child_r) (on_both (call (ascii "st_intersects") (pair L R)))
+  pub row6 : extract_of (on_both (and (call (ascii "st_knn") (pair L L)) (call (ascii "st_intersects") (pair L R))))
       ≡ with_rest 1 (relation intersects child_l child_r) (record {
         records = record { side = left; child = 3; tag = 7 } ∷ [];
-        expr = call (ascii "st_knn") (two L L);
+        expr = call (ascii "st_knn") (pair L L);
       })
-  pub row7 : extract_of (on_both (call (ascii "st_intersects") (two L (literal 0 0)))) ≡ refused 13
-  pub row8-first : extract_of (on_both (binary 5 (call (ascii "st_intersects") (two L R)) (call (ascii "st_knn") (two L R)))) ≡ refused 13
-  pub row8-last : extract_of (on_both (binary 63 (call (ascii "st_intersects") (two L R)) (call (ascii "st_knn") (two L R)))) ≡ refused 13
+  pub row7 : extract_of (on_both (call (ascii "st_intersects") (pair L (literal 0 0)))) ≡ refused 13
+  pub row8-first : extract_of (on_both (binary 5 (call (ascii "st_intersects") (pair L R)) (call (ascii "st_knn") (pair L R)))) ≡ refused 13
+  pub row8-last : extract_of (on_both (binary 63 (call (ascii "st_intersects") (pair L R)) (call (ascii "st_knn") (pair L R)))) ≡ refused 13
   pub row8 : (operator : ℕ) → 5 ≤ operator → (records : List Record) (l r : Expr)
       → extraction (record { records = records; expr = binary operator l r }) ≡ none
   pub row9 : RowNine
-  pub row10-physical : extract_of (on_both (call (ascii "ST_KNN") (two L R))) ≡ refused 13
-  pub row10-logical : map_result logical_bytes (logical (2 ∷ expr_bytes (call (ascii "ST_KNN") (two (field 1 7) (field 2 8)))))
+  pub row10-physical : extract_of (on_both (call (ascii "ST_KNN") (pair L R))) ≡ refused 13
+  pub row10-logical : map_result logical_bytes (logical (2 ∷ expr_bytes (call (ascii "ST_KNN") (pair (field 1 7) (field 2 8)))))
       ≡ ok (0x08 ∷ 0x00 ∷ 1 ∷ 0 ∷ [])

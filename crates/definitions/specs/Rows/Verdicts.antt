@@ -7,7 +7,7 @@ use Rattle.definitions.specs.Bytes.Encode.{frame_bytes}
 use Rattle.definitions.specs.Filter.Settings.{Settings, default_settings}
 use Rattle.definitions.specs.Filter.Verdicts.{Verdict, as_relation, as_distance, as_knn, other_case, other_side, other_operator, inside_another, nothing_of_ours, kind_left_out, too_few_arguments, too_many_arguments, first_without_columns, first_of_both, first_with_mark, second_without_columns, second_of_both, second_with_mark, both_left, both_right, bound_of_both, bound_with_mark, k_no_number, k_below_one, k_above_greatest, spheroid_no_flag, ties_no_flag, verdict_under, verdicts_under, named_by, explained, exchange_verdict}
 use Rattle.definitions.specs.Calls.Explain.{explain}
-use Rattle.definitions.specs.Rows.Ten.{two, int32, int64}
+use Rattle.definitions.specs.Rows.Ten.{pair, int32, int64}
 use Rattle.definitions.specs.Rows.Settings.{with}
 
 -- Two columns of the left child, two of the right, and a mark column.
@@ -38,10 +38,10 @@ plus a b = binary 9 a b
 
 -- Functions of two, of three, and of more arguments.
 abbrev pub intersects_of : (a b : Expr) → Expr
-intersects_of a b = call (ascii "st_intersects") (two a b)
+intersects_of a b = call (ascii "st_intersects") (pair a b)
 
 abbrev pub distance_of : (a b : Expr) → Expr
-distance_of a b = call (ascii "st_distance") (two a b)
+distance_of a b = call (ascii "st_distance") (pair a b)
 
 abbrev pub dwithin_of : (a b bound : Expr) → Expr
 dwithin_of a b bound = call (ascii "st_dwithin") (cons a (cons b (cons bound nil)))
@@ -70,16 +70,16 @@ pub record VerdictRows : Type 0 where
   pub distance : said (binary 1 (distance_of R0 L0) L1) ≡ as_distance
   pub knn : said (knn_with nil) ≡ as_knn
   -- what the leaf is
-  pub other-case : said (call (ascii "ST_Intersects") (two L0 R0)) ≡ other_case
-  pub other-case-compared : said (binary 1 (call (ascii "ST_Distance") (two L0 R0)) (int32 5)) ≡ other_case
+  pub other-case : said (call (ascii "ST_Intersects") (pair L0 R0)) ≡ other_case
+  pub other-case-compared : said (binary 1 (call (ascii "ST_Distance") (pair L0 R0)) (int32 5)) ≡ other_case
   pub other-side : map said (binary 1 (int32 5) (distance_of L0 R0) ∷ binary 4 (distance_of L0 R0) (int32 5) ∷ [])
       ≡ other_side ∷ other_side ∷ []
   pub other-operator : map said (binary 5 (distance_of L0 R0) (int32 5) ∷ binary 5 (int32 5) (distance_of L0 R0) ∷ [])
       ≡ other_operator ∷ other_operator ∷ []
   pub inside-another : map said (binary 6 (intersects_of L0 R0) (knn_with nil) ∷ other 1 (cons (intersects_of L0 R0) nil) ∷ [])
       ≡ inside_another ∷ inside_another ∷ []
-  pub other-side-and-case : said (binary 1 (int32 5) (call (ascii "ST_Distance") (two L0 R0))) ≡ other_side
-  pub inside-and-case : said (binary 6 (call (ascii "ST_Intersects") (two L0 R0)) L1) ≡ inside_another
+  pub other-side-and-case : said (binary 1 (int32 5) (call (ascii "ST_Distance") (pair L0 R0))) ≡ other_side
+  pub inside-and-case : said (binary 6 (call (ascii "ST_Intersects") (pair L0 R0)) L1) ≡ inside_another
   pub nothing-of-ours : map said (L0 ∷ call (ascii "region") (cons L1 nil) ∷ distance_of L0 R0 ∷ [])
       ≡ nothing_of_ours ∷ nothing_of_ours ∷ nothing_of_ours ∷ []
   -- the settings
@@ -94,7 +94,7 @@ pub record VerdictRows : Type 0 where
   pub first-with-mark : map said (intersects_of M0 R0 ∷ intersects_of (plus L0 M0) R0 ∷ []) ≡ first_with_mark ∷ first_with_mark ∷ []
   pub second-without-columns : said (intersects_of L0 (literal 0 0)) ≡ second_without_columns
   pub second-of-both : said (dwithin_of L0 (plus R0 L1) (int32 5)) ≡ second_of_both
-  pub second-with-mark : said (call (ascii "st_knn") (two L0 (plus M0 R0))) ≡ second_with_mark
+  pub second-with-mark : said (call (ascii "st_knn") (pair L0 (plus M0 R0))) ≡ second_with_mark
   pub both-left : said (intersects_of L0 L1) ≡ both_left
   pub both-right : said (intersects_of R0 R1) ≡ both_right
   -- the bound; one of the left child alone, or without columns, is fine

@@ -6,9 +6,9 @@ use Rattle.definitions.specs.Words.Expression.{left, within, Expr, and, binary, 
 use Rattle.definitions.specs.Bytes.Encode.{frame_bytes, extraction_bytes}
 use Rattle.definitions.specs.Bytes.NodeTable.{node_table}
 use Rattle.definitions.specs.Filter.Extract.{Pick}
-use Rattle.definitions.specs.Filter.OneWalk.{reading, stopped, one_walk, walk_length}
+use Rattle.definitions.specs.Filter.OneWalk.{reading, stopped_at, one_walk, walk_length}
 use Rattle.definitions.specs.Calls.Base.{extract_walk}
-use Rattle.definitions.specs.Rows.Ten.{worked_frame, L, R, on_both, two}
+use Rattle.definitions.specs.Rows.Ten.{worked_frame, L, R, on_both, pair}
 use Rattle.definitions.specs.Rows.Position.{placed_at}
 
 -- A KNN match, a relation, and a leaf that does not match.
@@ -19,10 +19,10 @@ abbrev pub inside : Predicate
 inside = relation within L R
 
 abbrev pub near_leaf : Expr
-near_leaf = call (ascii "st_knn") (two L R)
+near_leaf = call (ascii "st_knn") (pair L R)
 
 abbrev pub inside_leaf : Expr
-inside_leaf = call (ascii "st_within") (two L R)
+inside_leaf = call (ascii "st_within") (pair L R)
 
 abbrev pub plain_leaf : Expr
 plain_leaf = binary 5 L R
@@ -38,7 +38,7 @@ pub record WalkRows : Type 0 where
   -- nothing, the first other match and not the last, and a KNN match after it, where it stops
   pub nothing_yet : one_walk (none ∷ none ∷ []) ≡ reading 2 none
   pub first-other : one_walk (none ∷ some inside ∷ some (relation within R L) ∷ []) ≡ reading 3 (some (picked_at 1 inside))
-  pub at-knn : one_walk (some inside ∷ some near ∷ some (knn 2 0 left 2 L R) ∷ []) ≡ stopped (picked_at 1 near)
+  pub at-knn : one_walk (some inside ∷ some near ∷ some (knn 2 0 left 2 L R) ∷ []) ≡ stopped_at (picked_at 1 near)
   -- one leaf; three of them, without a KNN match and with one as the first, the second and the last
   pub one-leaf : walk_length (on_both inside_leaf) ≡ 1
   pub worked : walk_length worked_frame ≡ 3
