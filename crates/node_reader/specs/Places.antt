@@ -1,5 +1,5 @@
 -- Where an expression stands that was read.
-use Rattle.std.specs.Prelude.{ℕ, ◌+◌, ◌≤◌, ◌≡◌, List, length, drop, Result, Ok, Err}
+use Rattle.std.specs.Prelude.{ℕ, ◌+◌, ◌≤◌, ◌≡◌, List, drop, Result, Ok, Err}
 use Rattle.definitions.specs.Words.Limits.{most_nodes}
 use Rattle.definitions.specs.Words.Expression.{Expr}
 use Rattle.definitions.specs.Bytes.Encode.{expr_bytes}

@@ -1,5 +1,5 @@
 // A node as one number: its kind times 2^29, its start times 2^15, and its end.
-ghost use Rattle.std.specs.Prelude.{◌<◌, ◌≤◌, ◌≡◌, length};
+ghost use Rattle.std.specs.Prelude.{◌<◌, ◌≡◌};
 ghost use Rattle.node_rows.specs.Numbers.{number};
 ghost use Rattle.node_rows.specs.Stores.{Storable, Stored};
 

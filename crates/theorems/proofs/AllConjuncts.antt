@@ -7,7 +7,7 @@ use mathlib.Core.Bool.{Bool, true, false, ◌&&◌, ◌||◌, not, and_assoc, fa
 use mathlib.Core.List.{List, [], ◌∷◌, ◌++◌, map, map-append, append-nil, append_assoc}
 use mathlib.Core.Option
 use mathlib.Core.Option.{Option, none, some}
-use lib.ListN.{length, take, get_or, length-map}
+use lib.ListN.{length, get_or, length-map}
 use lib.Dec.{leb}
 use borrow.Author.Tests.{le-leb, leb-true}
 use Rattle.definitions.specs.Words.Limits.{most_bytes, most_nodes}
@@ -19,14 +19,13 @@ use Rattle.definitions.specs.Bytes.Plans.{frame_of}
 use Rattle.definitions.specs.Filter.Extract.{Pick, is_knn, prune, Matcher, matches_by, extraction_by, is_match}
 use Rattle.definitions.specs.Bytes.Good.{AllBytes, plan_nodes, GoodPlan}
 use Rattle.definitions.specs.Lists.Sessions.{accepted}
-use Rattle.definitions.specs.Meaning.Values.{Valuation, Meaning, frame_value}
+use Rattle.definitions.specs.Meaning.Values.{Meaning}
 use Rattle.definitions.specs.Meaning.Matchers.{Lawful}
 use Rattle.definitions.specs.Claims.Lists.{some_leaf_matches_by}
-use Rattle.definitions.specs.Claims.Pick.{TookAmong}
 use Rattle.definitions.specs.Filter.Conjuncts.{Conjuncts, no_round, round_then, but, in_first, round, rounds, positions_from, positions_of, conjuncts_by, matching, is_other, knn_first, match_count, and_both, unless, without_all, last_remainder}
 use Rattle.definitions.specs.Calls.ExtractAll.{pick_bytes, picks_bytes, conjuncts_bytes, new_conjuncts, finish_all, extract_all_by}
 use Rattle.definitions.specs.Meaning.Conjuncts.{conjuncts_value}
-use Rattle.definitions.specs.Claims.All.{EveryPick, TakenInOrder, leaves_left, LeavesThatStay, GoodRest, AllWrote, AllKept, TakesAll, AllCall, AnyMatcherAll}
+use Rattle.definitions.specs.Claims.All.{TakenInOrder, leaves_left, LeavesThatStay, GoodRest, AllWrote, AllKept, TakesAll, AllCall, AnyMatcherAll}
 use Rattle.theorems.proofs.Taken.{and-both}
 use Rattle.theorems.proofs.Pick.{takes-by, position-of-leaf, leaves-nodes}
 use Rattle.theorems.proofs.RoundTripPlan.{frame-reads}

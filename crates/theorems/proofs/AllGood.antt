@@ -9,11 +9,11 @@ use mathlib.Core.Option.{Option, none, some, map}
 use lib.ListN.{length, get_or, length-append}
 use Rattle.definitions.specs.Words.Basics.{any}
 use Rattle.definitions.specs.Words.Expression.{Expr, column, literal, and, binary, call, other, field, Frame, Predicate, Extraction, held, extracted}
-use Rattle.definitions.specs.Bytes.Encode.{expr_bytes, remainder_bytes, extraction_bytes, plan_bytes}
+use Rattle.definitions.specs.Bytes.Encode.{expr_bytes, remainder_bytes, plan_bytes}
 use Rattle.definitions.specs.Words.Leaves.{arity}
 use Rattle.definitions.specs.Bytes.Decode.{Columns, index_below}
 use Rattle.definitions.specs.Filter.Extract.{Pick, prune, Matcher, matches_by, is_match}
-use Rattle.definitions.specs.Bytes.Good.{nodes, depth, InRange, ReadableFrame, plan_nodes, predicate_nodes, remainder_nodes, GoodPlan}
+use Rattle.definitions.specs.Bytes.Good.{nodes, depth, InRange, ReadableFrame, plan_nodes, remainder_nodes, GoodPlan}
 use Rattle.definitions.specs.Filter.Conjuncts.{and_both, unless, without_all, last_remainder}
 use Rattle.definitions.specs.Claims.All.{EveryPick, GoodRest}
 use Rattle.theorems.proofs.Tools.{by-test}

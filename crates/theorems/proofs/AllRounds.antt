@@ -21,7 +21,7 @@ use Rattle.definitions.specs.Filter.Extract.{Pick, pick, and_left, and_right, wi
 use Rattle.definitions.specs.Bytes.Good.{InRange, GoodPlan}
 use Rattle.definitions.specs.Meaning.Values.{Meaning}
 use Rattle.definitions.specs.Meaning.Matchers.{Lawful}
-use Rattle.definitions.specs.Filter.Conjuncts.{Conjuncts, no_round, round_then, but, in_first, round, rounds, positions_from, positions_of, conjuncts_by, matching, knn_first, and_both, unless, without_all, last_remainder}
+use Rattle.definitions.specs.Filter.Conjuncts.{Conjuncts, no_round, round_then, but, in_first, round, rounds, positions_of, conjuncts_by, matching, knn_first, and_both, unless, without_all, last_remainder}
 use Rattle.theorems.proofs.Tools.{by-test, mapped_at}
 use Rattle.theorems.proofs.Taken.{Taken, taken, rest_leaves, less, RestIs, rest-in-range}
 use Rattle.theorems.proofs.Pick.{any_none, any_some}

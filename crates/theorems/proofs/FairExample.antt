@@ -16,7 +16,7 @@ use Rattle.definitions.specs.Words.Leaves.{relation_named}
 use Rattle.definitions.specs.Filter.Match.{literal_u32, literal_k, literal_bool, knn_literals, knn_request_by, match_leaf_by}
 use Rattle.definitions.specs.Filter.Extract.{Matcher}
 use Rattle.definitions.specs.Meaning.Values.{Valuation, Meaning, value, frame_columns, FairBy, Fair}
-use Rattle.definitions.specs.Filter.Settings.{Settings, default_settings, allowed, only_if, match_under}
+use Rattle.definitions.specs.Filter.Settings.{default_settings, allowed, only_if, match_under}
 use Rattle.definitions.specs.Claims.Settings.{FairMeaningUnder}
 use Rattle.definitions.specs.Claims.Values.{FairMeaning, marked_frame, mark_copied, MarksStay}
 use Rattle.definitions.proofs.Everything.{everything}

@@ -11,7 +11,7 @@ use borrow.Author.Tests.{ltb-true, ltb-false, lt-ltb, le-ltb}
 use Rattle.definitions.specs.Words.Basics.{big_endian}
 use Rattle.definitions.specs.Words.Expression.{no_side, Expr, Record, Frame, held}
 use Rattle.definitions.specs.Bytes.Encode.{expr_bytes, record_bytes, records_bytes, frame_bytes, plan_bytes}
-use Rattle.definitions.specs.Words.Leaves.{leaves, arity}
+use Rattle.definitions.specs.Words.Leaves.{leaves}
 use Rattle.definitions.specs.Bytes.Decode.{index_below}
 use Rattle.definitions.specs.Words.References.{columns_of, map_columns, record_at}
 use Rattle.definitions.specs.Filter.Extract.{Matcher, matches_by}

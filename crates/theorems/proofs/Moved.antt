@@ -13,7 +13,7 @@ use Rattle.definitions.specs.Words.Expression.{Side, left, right, no_side, Relat
 use Rattle.definitions.specs.Words.Leaves.{relation_named, Comparison, compares, no_comparison, comparison, distance_arguments}
 use Rattle.definitions.specs.Bytes.Decode.{index_below}
 use Rattle.definitions.specs.Words.References.{columns_of, columns_of_all, map_columns, map_columns_all, record_at}
-use Rattle.definitions.specs.Filter.Match.{ArgumentSide, no_columns, all_on, mixed, common_side, side_of, on_child, Order, literal_u32, literal_k, literal_bool, Request, ask_relation, ask_distance, ask_knn, ask_nothing, relation_request, dwithin_request, knn_literals, knn_request_by, call_request_by, distance_request, comparison_request, request, request_by, store_distance, match_distance, match_request, match_leaf_by}
+use Rattle.definitions.specs.Filter.Match.{ArgumentSide, no_columns, all_on, mixed, common_side, side_of, on_child, Order, literal_u32, literal_k, literal_bool, Request, ask_relation, ask_distance, ask_knn, ask_nothing, relation_request, dwithin_request, knn_literals, knn_request_by, call_request_by, distance_request, comparison_request, request_by, store_distance, match_distance, match_request, match_leaf_by}
 use Rattle.definitions.specs.Words.Literals.{is_k}
 use Rattle.definitions.specs.Bytes.Good.{All, InRange}
 use Rattle.theorems.proofs.Cases.{each}

@@ -14,7 +14,7 @@ use Rattle.definitions.specs.Words.Literals.{literal_in_range, is_k, only_k, num
 use Rattle.definitions.specs.Bytes.Encode.{expr_bytes, exprs_bytes}
 use Rattle.definitions.specs.Words.Leaves.{relation_named, Comparison, compares, no_comparison, comparison, distance_arguments}
 use Rattle.definitions.specs.Bytes.Decode.{Columns}
-use Rattle.definitions.specs.Filter.Match.{literal_u32, literal_k, literal_bool, Request, ask_relation, ask_distance, ask_knn, ask_nothing, relation_request, dwithin_request, knn_literals, knn_request_by, call_request_by, distance_request, comparison_request, request, request_by}
+use Rattle.definitions.specs.Filter.Match.{literal_u32, literal_k, literal_bool, Request, ask_relation, ask_distance, ask_knn, ask_nothing, relation_request, dwithin_request, knn_literals, knn_request_by, call_request_by, distance_request, comparison_request, request_by}
 use Rattle.definitions.specs.Bytes.Good.{nodes, nodes_all, depth, depth_all, InRange, InRangeAll}
 pub use Rattle.theorems.proofs.Tools.{by-test, same-name}
 

@@ -13,7 +13,6 @@ use Rattle.definitions.specs.Words.Basics.{big_endian, ok, map_result}
 use Rattle.definitions.specs.Words.Expression.{Side, left, right, no_side, Relation, intersects, contains, within, covers, covered_by, touches, crosses, overlaps, equals, relations, Expr, Record, Frame, Predicate, relation, distance, knn, Extraction, Plan, empty, held, extracted}
 use Rattle.definitions.specs.Words.Literals.{is_k}
 use Rattle.definitions.specs.Bytes.Encode.{expr_bytes, side_number, position_in, relation_number, record_bytes, records_bytes, frame_bytes, predicate_kind, predicate_fields, remainder_bytes, extraction_bytes, plan_bytes}
-use Rattle.definitions.specs.Words.Leaves.{arity}
 use Rattle.definitions.specs.Bytes.Readers.{require_length, none_left, result_of, read, Reader, continue, give, repeat, at_end}
 use Rattle.definitions.specs.Bytes.Decode.{Columns, index_below, expression, side_numbered, side_up_to, one_record, record_count, frame_body, relation_numbered, relation_predicate, distance_predicate, k_field, knn_predicate, predicate_of_kind, some_remainder, remainder_of_kind, remainder, extraction_body, argument}
 use Rattle.definitions.specs.Bytes.Plans.{physical_frame, whole_extraction, frame_of, extraction_of, plan_of_kind, plan_of}

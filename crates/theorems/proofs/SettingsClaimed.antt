@@ -3,30 +3,29 @@ use Rattle.std.specs.Prelude.{if◌then◌else◌}
 use Prim.Native.Nat.{ℕ}
 use native.Mathlib.Omega.{arith}
 use mathlib.Core.Path.{◌≡◌, refl, sym, ap, ap₂, ◌∙◌}
-use mathlib.Core.Bool.{Bool, true, false, ◌&&◌, false≢true}
+use mathlib.Core.Bool.{Bool, true, false, ◌&&◌}
 use mathlib.Core.List.{List, [], ◌∷◌}
 use mathlib.Core.Option.{Option, none, some}
 use lib.Dec.{leb}
 use borrow.Author.Tests.{leb-true, le-leb}
-use Rattle.definitions.specs.Words.Basics.{Result, refused}
-use Rattle.definitions.specs.Words.Expression.{Expr, Record, Predicate, relation, distance, knn}
+use Rattle.definitions.specs.Words.Basics.{refused}
+use Rattle.definitions.specs.Words.Expression.{Predicate, relation, distance, knn}
 use Rattle.definitions.specs.Filter.Match.{match_leaf_by}
 use Rattle.definitions.specs.Filter.Extract.{Matcher}
 use Rattle.definitions.specs.Calls.Base.{Outcome, finish, extract_by, extract_walk_by}
 use Rattle.definitions.specs.Bytes.NodeTable.{NodeRecord}
 use Rattle.definitions.specs.Lists.Machine.{Kind, extract_call, exchange_call}
 use Rattle.definitions.specs.Lists.Sessions.{Made, make_by, walk_by, ListOutcome, calls_run_by}
-use Rattle.definitions.specs.Calls.ExtractAll.{AllOutcome, finish_all, extract_all_by}
+use Rattle.definitions.specs.Calls.ExtractAll.{finish_all, extract_all_by}
 use Rattle.definitions.specs.Claims.AnyMatcher.{Extracts, OneCall, Lists}
 use Rattle.definitions.specs.Claims.All.{TakesAll, AllCall}
-use Rattle.definitions.specs.Claims.Merge.{MergedLeavesBy, ListAfterMergeBy, HistoryOfCallsBy}
 use Rattle.definitions.specs.Meaning.Matchers.{Lawful}
-use Rattle.definitions.specs.Filter.Settings.{Settings, good_settings, default_settings, has_bit, allowed, passing, only_if, match_under, GoodSettings}
+use Rattle.definitions.specs.Filter.Settings.{Settings, good_settings, default_settings, has_bit, allowed, passing, only_if, match_under}
 use Rattle.definitions.specs.Meaning.Values.{FairUnder}
 use Rattle.definitions.specs.Calls.Settings.{extract_under, extract_walk_under, extract_all_under}
 use Rattle.definitions.specs.Lists.Settings.{make_under, walk_under, calls_run_under}
-use Rattle.definitions.specs.Claims.Settings.{UnderSettings, AllSettings, BadSettings, DefaultSettings, Narrower, KindsNarrow}
-use Rattle.theorems.proofs.Tools.{by-test, and-both}
+use Rattle.definitions.specs.Claims.Settings.{AllSettings, BadSettings, DefaultSettings, Narrower, KindsNarrow}
+use Rattle.theorems.proofs.Tools.{and-both}
 use Rattle.theorems.proofs.Truth.{fair-symmetric}
 use Rattle.theorems.proofs.AnyMatchers.{any-matcher-is}
 use Rattle.theorems.proofs.Merged.{merged-leaves-are}

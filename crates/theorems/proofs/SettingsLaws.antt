@@ -1,18 +1,18 @@
 -- Matching under settings obeys the laws of a matcher, and with the default settings it is 01's.
 use Rattle.std.specs.Prelude.{if◌then◌else◌}
-use Prim.Native.Nat.{ℕ, ◌≤◌, ◌<◌}
+use Prim.Native.Nat.{ℕ, ◌≤◌}
 use native.Mathlib.Omega.{arith}
-use mathlib.Core.Path.{◌≡◌, refl, sym, ap, ap₂, ◌∙◌, fun_ext, subst}
-use mathlib.Core.Bool.{Bool, true, false, ◌&&◌, ◌||◌, false≢true}
+use mathlib.Core.Path.{◌≡◌, refl, ap, ◌∙◌, fun_ext}
+use mathlib.Core.Bool.{Bool, true}
 use mathlib.Core.List.{List}
 use mathlib.Core.Option.{Option, none, some}
-use lib.Dec.{leb, ltb, eqb}
-use borrow.Author.Tests.{leb-true, le-leb, ltb-true, lt-ltb}
+use lib.Dec.{leb}
+use borrow.Author.Tests.{leb-true, le-leb, ltb-true}
 use Rattle.definitions.specs.Words.Basics.{given◌then◌else◌, ascii, same_name}
-use Rattle.definitions.specs.Words.Expression.{Side, Relation, Expr, column, literal, and, binary, call, other, field, Exprs, nil, cons, Record, Predicate, relation, distance, knn}
-use Rattle.definitions.specs.Words.Literals.{is_k, only_k}
+use Rattle.definitions.specs.Words.Expression.{Relation, Expr, column, literal, and, binary, call, other, field, Exprs, nil, cons, Record, Predicate, relation, distance, knn}
+use Rattle.definitions.specs.Words.Literals.{is_k}
 use Rattle.definitions.specs.Words.Leaves.{relation_named, Comparison, compares, no_comparison, comparison, distance_arguments}
-use Rattle.definitions.specs.Filter.Match.{literal_u32, literal_k, literal_bool, Request, ask_relation, ask_distance, ask_knn, ask_nothing, relation_request, dwithin_request, knn_literals, knn_request_by, call_request_by, distance_request, comparison_request, request_by, match_request, match_leaf_by, match_leaf}
+use Rattle.definitions.specs.Filter.Match.{literal_k, relation_request, dwithin_request, knn_literals, knn_request_by, call_request_by, distance_request, comparison_request, request_by, match_request, match_leaf_by, match_leaf}
 use Rattle.definitions.specs.Filter.Exchange.{exchange_predicate}
 use Rattle.definitions.specs.Meaning.Matchers.{Fits, Lawful}
 use Rattle.definitions.specs.Filter.Settings.{Settings, good_settings, default_settings, has_bit, allowed, passing, only_if, match_under, GoodSettings}

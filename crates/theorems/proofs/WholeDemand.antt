@@ -1,6 +1,6 @@
 -- Demand 3 whole: an accepted load leaves a session of its frame, whatever the settings.
 use Prim.Native.Nat.{ℕ}
-use mathlib.Core.Path.{◌≡◌, refl, sym, ap, ◌∙◌, subst}
+use mathlib.Core.Path.{◌≡◌, sym, ap, ◌∙◌, subst}
 use mathlib.Core.Bool.{true, ◌&&◌, not}
 use mathlib.Core.List.{List}
 use lib.ListN.{length}

@@ -5,7 +5,7 @@ use Rattle.definitions.specs.Words.Expression.{Frame}
 use Rattle.definitions.specs.Bytes.Encode.{predicate_kind, predicate_fields, remainder_bytes}
 use Rattle.definitions.specs.Bytes.Plans.{frame_of}
 use Rattle.definitions.specs.Filter.Extract.{Pick, Matcher}
-use Rattle.definitions.specs.Filter.Conjuncts.{Conjuncts, rounds, conjuncts_by}
+use Rattle.definitions.specs.Filter.Conjuncts.{Conjuncts, conjuncts_by}
 use Rattle.definitions.specs.Calls.Base.{written_over}
 
 -- ---- the bytes

@@ -12,7 +12,7 @@ use Rattle.definitions.specs.Filter.Extract.{Matcher, extraction_by}
 use Rattle.definitions.specs.Filter.Exchange.{exchange_plan}
 use Rattle.definitions.specs.Calls.Base.{LoadOutcome, load, Outcome, held_plan}
 use Rattle.definitions.specs.Lists.Machine.{Kind, extract_call, exchange_call}
-use Rattle.definitions.specs.Lists.Sessions.{make, accepted, after}
+use Rattle.definitions.specs.Lists.Sessions.{make, accepted}
 
 -- A refused load keeps n, the plan buffer and the table; a refused extract or exchange keeps n and both buffers.
 abbrev pub RefusedKeeps : Type 0

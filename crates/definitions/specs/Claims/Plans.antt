@@ -1,7 +1,7 @@
 -- What is claimed of plans, demand 2: exchanged, read back from their bytes, good, and how long.
 use Rattle.std.specs.Prelude.{ℕ, ◌+◌, ◌≤◌, ◌≡◌, List, ◌++◌, length}
 use Rattle.std.proofs.Math.Option
-use Rattle.std.proofs.Math.Option.{Option, some}
+use Rattle.std.proofs.Math.Option.{some}
 use Rattle.definitions.specs.Words.Basics.{ok}
 use Rattle.definitions.specs.Words.Limits.{most_nodes}
 use Rattle.definitions.specs.Words.Expression.{Expr, Frame, Extraction, Plan, held, extracted}

@@ -3,7 +3,7 @@ use Rattle.std.specs.Prelude.{ℕ, ◌+◌, ◌*◌, ◌/◌, ◌%◌, Bool, ◌
 use Rattle.std.proofs.Math.Option.{Option, none, some}
 use Rattle.definitions.specs.Words.Basics.{given◌then◌else◌, ascii, same_name, any, all}
 use Rattle.definitions.specs.Words.Expression.{Side, left, right, no_side, Expr, column, literal, and, binary, call, other, field, Exprs, nil, cons, function_of, binary_of}
-use Rattle.definitions.specs.Words.Leaves.{leaves, Comparison, compares, no_comparison, comparison}
+use Rattle.definitions.specs.Words.Leaves.{Comparison, compares, no_comparison, comparison}
 
 -- A name with its letters A to Z made small.
 unfoldable pub lower_case : List ℕ → List ℕ

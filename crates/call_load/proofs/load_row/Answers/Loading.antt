@@ -2,9 +2,9 @@
 use Rattle.std.specs.Prelude.{if◌then◌else◌, Ok, Err}
 use Prim.Native.Nat.{ℕ, ◌≤◌, ◌<◌}
 use native.Mathlib.Omega.{arith}
-use mathlib.Core.Path.{◌≡◌, refl, sym, ap, ap₂, ◌∙◌}
+use mathlib.Core.Path.{◌≡◌, refl, ap, ap₂, ◌∙◌}
 use mathlib.Core.Bool.{Bool, true, false}
-use mathlib.Core.List.{List, ◌++◌, map}
+use mathlib.Core.List.{List, ◌++◌}
 use lib.ListN.{length, take, drop}
 use lib.Seq.{take-length}
 use lib.Dec.{leb}
@@ -22,12 +22,9 @@ use Rattle.theorems.proofs.NodeTables.{table-nests-by}
 use Rattle.terms.specs.Refusals.{number_of}
 use Rattle.terms.specs.declared.refusals.Refusal.{Refusal}
 use Rattle.terms.specs.declared.refusals.Refusal.TheVariants.{BufferTooShort, TableTooShort}
-use Rattle.expression.specs.Filling.{Records, nothing, filled}
-use Rattle.expression.proofs.Placed.{fits}
-use Rattle.byte_writer.proofs.Written.{taken}
-use Rattle.node_rows.specs.Numbers.{number, numbers_from}
+use Rattle.expression.specs.Filling.{Records, filled}
+use Rattle.node_rows.specs.Numbers.{numbers_from}
 use Rattle.node_rows.specs.Rows.{Tabled, RowHas}
-use Rattle.node_rows.proofs.RowLaws.{nodes-below, numbers-length}
 use Rattle.node_rows.proofs.FillLaws.{standing-has}
 use Rattle.node_rows.proofs.MoveLaws.{begins}
 use Rattle.frame_reader.specs.Frames.{FrameAt}

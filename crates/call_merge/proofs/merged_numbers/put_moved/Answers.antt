@@ -1,9 +1,9 @@
 -- Right because a turn puts the number at place i, moved, at place i of the row.
 use native.Mathlib.Omega.{arith}
-use mathlib.Core.Path.{sym, ap, ap₂, ◌∙◌}
+use mathlib.Core.Path.{ap₂}
 use mathlib.Core.List.{List, ◌++◌, map}
 use Prim.Native.Nat.{ℕ}
-use lib.ListN.{drop, take, length-take, length-map}
+use lib.ListN.{drop, length-take, length-map}
 use Rattle.node_rows.specs.Moves.{further}
 use Rattle.node_rows.proofs.Filling.{by-places}
 use Rattle.call_merge.proofs.merged_numbers.put_moved.Goals as goal

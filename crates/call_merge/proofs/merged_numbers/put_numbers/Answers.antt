@@ -1,8 +1,8 @@
 -- Right because the And's number is stored first, and each frame's numbers are put, moved, where those before them end.
 use native.Mathlib.Omega.{arith}
 use lib.ListN.{length-take, length-map}
-use Prim.Native.Nat.{◌+◌, ◌-◌}
-use mathlib.Core.List.{List, map}
+use Prim.Native.Nat.{◌-◌}
+use mathlib.Core.List.{map}
 use lib.ListN.{take}
 use Rattle.node_rows.specs.Moves.{further}
 use Rattle.call_merge.proofs.JoinLaws.{parts-wrote}
