@@ -56,8 +56,9 @@ unfolding Literals.signed Literals.is_int32 Literals.literal_in_range Literals.u
 literals = 0
 
 unfoldable pub encode : ℕ
-unfolding Bool.decide Encode.side_number Encode.position_in Encode.relation_number Encode.expr_bytes Encode.record_bytes Encode.records_bytes
-    Encode.frame_bytes Encode.predicate_kind Encode.predicate_fields Encode.remainder_bytes Encode.extraction_bytes Encode.plan_bytes
+unfolding Bool.decide Encode.side_number Encode.position_in Encode.relation_number Encode.expr_bytes Encode.record_bytes
+    Encode.records_bytes Encode.frame_bytes Encode.predicate_kind Encode.predicate_fields Encode.remainder_bytes Encode.extraction_bytes
+    Encode.plan_bytes
 encode = 0
 
 unfoldable pub leaves : ℕ
@@ -66,21 +67,21 @@ unfolding Leaves.leaves Leaves.type_named Leaves.relation_named Leaves.compariso
 leaves = 0
 
 unfoldable pub readers : ℕ
-unfolding Readers.byte_up_to Readers.byte_between Readers.number_after Readers.number Readers.repeat Readers.require_length Readers.none_left
-    Readers.at_end Readers.result_of
+unfolding Readers.byte_up_to Readers.byte_between Readers.number_after Readers.number Readers.repeat Readers.require_length
+    Readers.none_left Readers.at_end Readers.result_of
 readers = 0
 
 unfoldable pub decode : ℕ
-unfolding Decode.allowed_kind Decode.column_node Decode.field_node Decode.literal_node Decode.binary_expr Decode.binary_node Decode.repeat_exprs
-    Decode.call_node Decode.other_node Decode.any_column Decode.node_of_kind Decode.node_kind Decode.node Decode.expression Decode.side_numbered
-    Decode.side_up_to Decode.one_record Decode.record_count Decode.frame_body Decode.argument Decode.relation_numbered Decode.relation_predicate
-    Decode.distance_predicate Decode.k_field Decode.knn_predicate Decode.predicate_of_kind Decode.some_remainder Decode.remainder_of_kind
-    Decode.remainder Decode.extraction_body
+unfolding Decode.allowed_kind Decode.column_node Decode.field_node Decode.literal_node Decode.binary_expr Decode.binary_node
+    Decode.repeat_exprs Decode.call_node Decode.other_node Decode.any_column Decode.node_of_kind Decode.node_kind Decode.node
+    Decode.expression Decode.side_numbered Decode.side_up_to Decode.one_record Decode.record_count Decode.frame_body Decode.argument
+    Decode.relation_numbered Decode.relation_predicate Decode.distance_predicate Decode.k_field Decode.knn_predicate
+    Decode.predicate_of_kind Decode.some_remainder Decode.remainder_of_kind Decode.remainder Decode.extraction_body
 decode = 0
 
 unfoldable pub plans : ℕ
-unfolding Plans.physical_frame Plans.logical_frame Plans.whole_extraction Plans.frame_of Plans.logical_of Plans.extraction_of Plans.plan_of_kind
-    Plans.plan_of
+unfolding Plans.physical_frame Plans.logical_frame Plans.whole_extraction Plans.frame_of Plans.logical_of Plans.extraction_of
+    Plans.plan_of_kind Plans.plan_of
 plans = 0
 
 unfoldable pub references : ℕ
@@ -88,15 +89,16 @@ unfolding References.columns_of References.record_at References.same_side Refere
 references = 0
 
 unfoldable pub match : ℕ
-unfolding Match.relation_request Match.dwithin_request Match.literal_u32 Match.literal_k Match.literal_bool Match.knn_literals Match.knn_request_by
-    Match.call_request_by Match.distance_request Match.comparison_request Match.request_by Match.common_side Match.side_of Match.is_side Match.order_of
-    Match.on_child Match.match_relation Match.store_distance Match.match_distance Match.match_knn Match.match_request Match.match_leaf_by
+unfolding Match.relation_request Match.dwithin_request Match.literal_u32 Match.literal_k Match.literal_bool Match.knn_literals
+    Match.knn_request_by Match.call_request_by Match.distance_request Match.comparison_request Match.request_by Match.common_side
+    Match.side_of Match.is_side Match.order_of Match.on_child Match.match_relation Match.store_distance Match.match_distance Match.match_knn
+    Match.match_request Match.match_leaf_by
 match = 0
 
 unfoldable pub extract : ℕ
-unfolding Extract.is_knn Extract.is_knn_match Extract.later Extract.first_match Extract.first_of Extract.pick Extract.and_left Extract.and_right
-    Extract.without Extract.same_column Extract.referenced Extract.new_index Extract.prune Extract.holds Extract.take_pick Extract.matches_by
-    Extract.extraction_by
+unfolding Extract.is_knn Extract.is_knn_match Extract.later Extract.first_match Extract.first_of Extract.pick Extract.and_left
+    Extract.and_right Extract.without Extract.same_column Extract.referenced Extract.new_index Extract.prune Extract.holds Extract.take_pick
+    Extract.matches_by Extract.extraction_by
 extract = 0
 
 unfoldable pub walk : ℕ
@@ -115,8 +117,8 @@ tables = 0
 
 unfoldable pub calls : ℕ
 unfolding Calls.written_over Calls.tabled Calls.filled_by Calls.table_fits Calls.new_after_load Calls.finish_load Calls.load Calls.finish
-    Calls.held_plan Calls.new_after_exchange Calls.exchange Calls.matched_bytes Calls.new_after_extract_by Calls.extract_filled_by Calls.extract_by
-    Calls.walked_by Calls.walk_filled_by Calls.extract_walk_by
+    Calls.held_plan Calls.new_after_exchange Calls.exchange Calls.matched_bytes Calls.new_after_extract_by Calls.extract_filled_by
+    Calls.extract_by Calls.walked_by Calls.walk_filled_by Calls.extract_walk_by
 calls = 0
 
 unfoldable pub machine : ℕ
@@ -125,8 +127,8 @@ unfolding Machine.extraction_or Machine.machine_plan Machine.machine_length Mach
 machine = 0
 
 unfoldable pub sessions : ℕ
-unfolding Sessions.make_by Sessions.walk_by Sessions.calls_run_by Sessions.fed Sessions.accepted Sessions.is_extract Sessions.extract_accepted
-    Sessions.exchanges_odd
+unfolding Sessions.make_by Sessions.walk_by Sessions.calls_run_by Sessions.fed Sessions.accepted Sessions.is_extract
+    Sessions.extract_accepted Sessions.exchanges_odd
 sessions = 0
 
 unfoldable pub meaning : ℕ
@@ -135,9 +137,9 @@ unfolding Meaning.and_value Meaning.value Meaning.frame_columns Meaning.frame_va
 meaning = 0
 
 unfoldable pub logical : ℕ
-unfolding Logical.lower_case Logical.spatial_names Logical.function_name Logical.comparison_name Logical.leaf_name Logical.mask Logical.distinct
-    Logical.bits_of Logical.in_left Logical.in_right Logical.schema_side Logical.first_argument_side Logical.knn_arguments Logical.query_side_from
-    Logical.query_side CallsLogical.logical_answer CallsLogical.logical CallsLogical.logical_bytes
+unfolding Logical.lower_case Logical.spatial_names Logical.function_name Logical.comparison_name Logical.leaf_name Logical.mask
+    Logical.distinct Logical.bits_of Logical.in_left Logical.in_right Logical.schema_side Logical.first_argument_side Logical.knn_arguments
+    Logical.query_side_from Logical.query_side CallsLogical.logical_answer CallsLogical.logical CallsLogical.logical_bytes
 logical = 0
 
 unfoldable pub program : ℕ
@@ -157,10 +159,11 @@ unfolding Good.nodes Good.depth FilterMerge.raised FilterMerge.merge_frames Filt
 merging = 0
 
 unfoldable pub projecting : ℕ
-unfolding FilterProject.place_in FilterProject.place_of FilterProject.is_place FilterProject.or_zero FilterProject.new_place FilterProject.has_place FilterProject.project_expr
-    FilterProject.placed_expr FilterProject.project_predicate FilterProject.placed_predicate FilterProject.project_record FilterProject.placed_record FilterProject.project_frame
-    FilterProject.placed_remainder FilterProject.project_extraction FilterProject.placed FilterProject.projection Project.short_lists Project.projected_bytes
-    Project.new_after_project Project.project OddMachine.odd_length OddMachine.odd_step OddMachine.odd_run
+unfolding FilterProject.place_in FilterProject.place_of FilterProject.is_place FilterProject.or_zero FilterProject.new_place
+    FilterProject.has_place FilterProject.project_expr FilterProject.placed_expr FilterProject.project_predicate
+    FilterProject.placed_predicate FilterProject.project_record FilterProject.placed_record FilterProject.project_frame
+    FilterProject.placed_remainder FilterProject.project_extraction FilterProject.placed FilterProject.projection Project.short_lists
+    Project.projected_bytes Project.new_after_project Project.project OddMachine.odd_length OddMachine.odd_step OddMachine.odd_run
 projecting = 0
 
 unfoldable pub queues : ℕ
@@ -173,13 +176,14 @@ queues = 0
 unfoldable pub listing : ℕ
 unfolding ExtractAll.no_round ExtractAll.round_then ExtractAll.but ExtractAll.in_first ExtractAll.round ExtractAll.rounds
     ExtractAll.positions_from ExtractAll.conjuncts_by CallsExtractAll.pick_bytes CallsExtractAll.picks_bytes CallsExtractAll.conjuncts_bytes
-    CallsExtractAll.new_conjuncts CallsExtractAll.finish_all CallsExtractAll.extract_all_by ExtractAll.exchange_pick ExtractAll.exchange_conjuncts
+    CallsExtractAll.new_conjuncts CallsExtractAll.finish_all CallsExtractAll.extract_all_by ExtractAll.exchange_pick
+    ExtractAll.exchange_conjuncts
 listing = 0
 
 unfoldable pub settings : ℕ
 unfolding Settings.good_settings Settings.default_settings Settings.has_bit Settings.allowed Settings.passing Settings.only_if
-    Settings.match_under CallsSettings.extract_under CallsSettings.extract_walk_under CallsSettings.extract_all_under ListsSettings.make_under ListsSettings.walk_under
-    ListsSettings.calls_run_under
+    Settings.match_under CallsSettings.extract_under CallsSettings.extract_walk_under CallsSettings.extract_all_under
+    ListsSettings.make_under ListsSettings.walk_under ListsSettings.calls_run_under
 settings = 0
 
 unfoldable pub verdicts : ℕ

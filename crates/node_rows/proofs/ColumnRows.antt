@@ -120,7 +120,8 @@ module _ {c : Columns} {s : List ℕ} where
   -- Their indexes are the expression's.
   pub column-index : {at : ℕ} (i g : ℕ) → Stands c s at (column i g) → index_in s at ≡ i
   unfolding head_bytes
-  column-index {at} i g h = short-is (front (big_endian 2 i) (big_endian 2 g) (next (head-stands h) (at + 1) refl)) (index-short c i g h.in_range)
+  column-index {at} i g h =
+      short-is (front (big_endian 2 i) (big_endian 2 g) (next (head-stands h) (at + 1) refl)) (index-short c i g h.in_range)
 
   mutual
     unfolding columns_at row_columns_at columns_of columns_of_all
@@ -330,7 +331,8 @@ mutual
       (columns_at (at + 2 + length (expr_bytes l)) r) (starts-are (at + 2) l (omega (arith, k)))
       (starts-are (at + 2 + length (expr_bytes l)) r (omega (arith, k)))
   starts-are at (call name ts) h =
-      no-start at (call name ts) (row_numbers (at + (3 + length name)) ts) h (omega arith) ∙ row-starts (at + (3 + length name)) ts (omega (arith, simp length-append at h))
+      no-start at (call name ts) (row_numbers (at + (3 + length name)) ts) h (omega arith)
+      ∙ row-starts (at + (3 + length name)) ts (omega (arith, simp length-append at h))
   starts-are at (other g ts) h =
       no-start at (other g ts) (row_numbers (at + 4) ts) h (omega arith) ∙ row-starts (at + 4) ts (omega (arith, simp length-append at h))
   starts-are at (field b g) h = no-start at (field b g) [] h (omega arith)

@@ -32,8 +32,8 @@ number-moves d at to t e h =
     ∙ omega (arith, e, number-told (record_of at t) (node-told at t (omega (arith, e, h))))
 
 -- Those of two lists of records.
-both-move : (d : ℕ) (x y u v : List NodeRecord) → map number x ≡ map (further d) (map number u) → map number y ≡ map (further d) (map number v)
-    → map number (x ++ y) ≡ map (further d) (map number (u ++ v))
+both-move : (d : ℕ) (x y u v : List NodeRecord) → map number x ≡ map (further d) (map number u)
+    → map number y ≡ map (further d) (map number v) → map number (x ++ y) ≡ map (further d) (map number (u ++ v))
 both-move d x y u v e f =
     map-append number x y ∙ ap₂ ◌++◌ e f ∙ sym (map-append (further d) (map number u) (map number v))
     ∙ ap (map (further d)) (sym (map-append number u v))

@@ -36,8 +36,8 @@ pub record ExtractionAt (s : List ℕ) (x : Extraction) (end : ℕ) (X : tree.Ex
   pub predicate : PredicateAt unchanged s x.predicate X.predicate
   pub remainder : RemainderAt s x.remainder end X.remainder
 
--- An extraction after its first byte was read, and the place after it. The fields of its predicate stand after the two bytes of its position,
--- the arguments in a row at their end.
+-- An extraction after its first byte was read, and the place after it. The fields of its predicate stand after the two bytes of its
+-- position, the arguments in a row at their end.
 abbrev pub ExtractionIs : List ℕ → (at : ℕ) → Result (Extraction × ℕ) Refusal → Reader tree.Extraction → Type 0
 ExtractionIs s at (Ok x) reader =
     (x.1 ≤ length s) × (X : tree.Extraction) × ExtractionAt s x.0 x.1 X × (count : ℕ)

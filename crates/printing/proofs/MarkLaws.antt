@@ -80,7 +80,8 @@ module _ {s : List ℕ} {at : ℕ} where
 
     pub other-opens : 3 < get_or s at 0 → opening_of t ≡ marked_number 120 number 91
     unfolding opening_of leading_of ascii
-    other-opens more = other_at (λ t. number ≡ leading_of t → opening_of t ≡ marked_number 120 number 91) h more (λ g cs n. rw n refl) (is t h)
+    other-opens more =
+        other_at (λ t. number ≡ leading_of t → opening_of t ≡ marked_number 120 number 91) h more (λ g cs n. rw n refl) (is t h)
 
   -- ---- closings
 

@@ -31,7 +31,8 @@ due_from queue frame later S = record { queue = queue; frame = frame; left = mar
 -- The oldest frame of a queue that holds one is due; or nothing is.
 abbrev pub DueOf : State → Option Code → Optional queues.Due → Type 0
 DueOf S (Some queue) d =
-    (frame : List ℕ) × (later : Frames) × (waiting (queue_is queue) S ≡ frame ∷ later) × (d ≡ some (due_from (queue_is queue) frame later S))
+    (frame : List ℕ) × (later : Frames) × (waiting (queue_is queue) S ≡ frame ∷ later)
+    × (d ≡ some (due_from (queue_is queue) frame later S))
 DueOf S None d = d ≡ none
 
 -- What is due where two queues are tried in this order,

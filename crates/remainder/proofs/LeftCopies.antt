@@ -264,7 +264,8 @@ module _ (to : List ℕ) {s numbers next : List ℕ} {cut : Cut} {at : ℕ} {t e
             spans-wrote =
                 subst (λ (x : List ℕ). (r ≡ length x) × Wrote x out three) (append_assoc p.before p.between p.behind ∙ sym p.of_left)
                 (to_start (chain (omega arith)
-                (chain (omega arith) (first.wrote p.before before-span) (second.wrote p.between between-span)) (third.wrote p.behind behind-span)))
+                (chain (omega arith) (first.wrote p.before before-span) (second.wrote p.between between-span))
+                (third.wrote p.behind behind-span)))
 
             pub patch-fits : PatchFits s numbers next to cut three
             patch-fits = (at, t, e, h, begins-still (expr_bytes e) out spans-wrote.1)

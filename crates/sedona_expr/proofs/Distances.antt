@@ -119,8 +119,8 @@ module _ (form : ℕ) where
                 (index-row sides.stands_measured).1,
           ))
 
-      pub compared-distance : 2 ≤ n → {r : TwoExpressions} → OfTwo numbers next (measured + 1) (TwoAre (measured + 1) r) → (kind : DistanceForm)
-          → form ≡ form_number kind
+      pub compared-distance : 2 ≤ n → {r : TwoExpressions} → OfTwo numbers next (measured + 1) (TwoAre (measured + 1) r)
+          → (kind : DistanceForm) → form ≡ form_number kind
           → (d e : ℕ) → d ≡ start_at numbers bound → e ≡ end_at numbers bound
           → Distance c s (distance_at kind r d e) (comparison_request form q)
       unfolding distance_request

@@ -282,7 +282,8 @@ module _ {match : Matcher} {Asks : Meaning → Type 0} (laws : Lawful match Asks
 
     -- ---- project
 
-    module _ (lists : ChildLists) (s : State) (n : ℕ) (buffer scratch : List ℕ) (table : List NodeRecord) (h : HoldsState s n buffer table) where
+    module _ (lists : ChildLists) (s : State) (n : ℕ) (buffer scratch : List ℕ) (table : List NodeRecord)
+        (h : HoldsState s n buffer table) where
       refuses-project : (number : ℕ) → CallAgrees (refuse_call s number) (but_scratch (finish n buffer scratch (refused number)) table)
       unfolding finish
       refuses-project number = refuses s n buffer table number h

@@ -91,8 +91,8 @@ pub record Lists (match : Matcher) (Asks : Meaning → Type 0) : Type 0 where
   -- and an exchanged frame is on the same.
   pub line_exchanged : (F : Frame) → price_line_by match (exchange_frame F) ≡ price_line_by match F
   -- Two machines that both extracted hold the extraction of one leaf, exchanged or not, with the same first byte and position.
-  pub same_leaf : (F : Frame) (s t : SessionBy match F) (calls calls' : List Made) → extracted_in s calls ≡ true → extracted_in t calls' ≡ true
-      → (X : Extraction) × TookAmong (matches_by match F) F X
+  pub same_leaf : (F : Frame) (s t : SessionBy match F) (calls calls' : List Made) → extracted_in s calls ≡ true
+      → extracted_in t calls' ≡ true → (X : Extraction) × TookAmong (matches_by match F) F X
       × (plan_after s calls ≡ plan_bytes (extracted_plan X (odd_in s calls)))
       × (plan_after t calls' ≡ plan_bytes (extracted_plan X (odd_in t calls')))
       × (take 3 (plan_after s calls) ≡ take 3 (plan_after t calls'))

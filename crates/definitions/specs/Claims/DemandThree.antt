@@ -77,7 +77,8 @@ pub record DemandThree (S : Settings) (l : LoadTaken) (F : Frame) : Type 0 where
       ≡ (leb (list_after S l calls).n (length scratch) && (not (extracted_then S l calls) && some_leaf_matches_by (match_under S) F))
   -- "An accepted extract takes the first KNN match, failing that the first match."
   pub pick : (calls : List Made) → extracted_then S l calls ≡ true
-      → (X : Extraction) × TookAmong (matches_by (match_under S) F) F X × (plan_then S l calls ≡ plan_bytes (extracted_plan X (odd_then S l calls)))
+      → (X : Extraction) × TookAmong (matches_by (match_under S) F) F X
+      × (plan_then S l calls ≡ plan_bytes (extracted_plan X (odd_then S l calls)))
 
 -- It holds of every accepted load, under all settings that do not get 24.
 abbrev pub MeetsDemandThree : Type 0

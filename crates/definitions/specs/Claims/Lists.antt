@@ -54,7 +54,8 @@ ListOfCalls = (F : Frame) (s : Session F) (calls : List Made) → Agree F (after
 abbrev pub AnswersInPlace : Type 0
 AnswersInPlace =
     (F : Frame) (s : Session F) (before : List Made) (c : Made) (later : List Made)
-    → (others : List (Result ℕ)) × ((after s (before ++ (c ∷ later))).answers ≡ (after s before).answers ++ (answer_after s before c ∷ others))
+    → (others : List (Result ℕ))
+    × ((after s (before ++ (c ∷ later))).answers ≡ (after s before).answers ++ (answer_after s before c ∷ others))
 
 -- Two lists from the same frame that are alike in both leave the same plan.
 abbrev pub SamePlan : Type 0

@@ -148,7 +148,8 @@ ListAfterProjection =
     → ValueFrom match o table calls lists M v w (extraction_value M v X))
 
 -- A projection that is made after a list of calls.
-abbrev pub project_after : {match : Matcher} {F : Frame} → SessionBy match F → (before : List Made) → ChildLists → (scratch : List ℕ) → Outcome
+abbrev pub project_after : {match : Matcher} {F : Frame} → SessionBy match F → (before : List Made) → ChildLists → (scratch : List ℕ)
+    → Outcome
 project_after s before lists scratch = project_by lists (after s before).n (after s before).buffer scratch
 
 -- From a held frame: after any list of calls, an accepted projection and any list after it, with any table, the plan has over the new

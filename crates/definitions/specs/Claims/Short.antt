@@ -42,7 +42,8 @@ ExchangeKeepsPosition =
 -- A projection keeps the first three bytes: the price line and the position of the leaf.
 abbrev pub ProjectionKeepsLine : Type 0
 ProjectionKeepsLine =
-    (lists : ChildLists) (X Y : Extraction) → projection lists X ≡ some Y → take 3 (plan_bytes (extracted Y)) ≡ take 3 (plan_bytes (extracted X))
+    (lists : ChildLists) (X Y : Extraction) → projection lists X ≡ some Y
+    → take 3 (plan_bytes (extracted Y)) ≡ take 3 (plan_bytes (extracted X))
 
 -- So does an accepted call of project.
 abbrev pub ProjectKeepsLine : Type 0

@@ -1,4 +1,5 @@
--- The laws of a matcher: under every one that obeys them hold the claims of extractions and of calls (Claims/AnyMatcher). (All of this is ours.)
+-- The laws of a matcher: under every one that obeys them hold the claims of extractions and of calls (Claims/AnyMatcher). (All of this is
+-- ours.)
 use Rattle.std.specs.Prelude.{ℕ, suc, ◌≤◌, ◌<◌, ◌≡◌, List, map, length}
 use Rattle.std.proofs.Math.Option
 use Rattle.std.proofs.Math.Option.{Option, none, some}

@@ -89,9 +89,11 @@ pub record QueueAnswers : Type 0 where
   -- a refused serve is not counted, one that finds both empty is; a refused put adds nothing
   pub serves-counted :
       served
-      (made_serve (refused 9) one ∷ made_serve (ok both_empty) one ∷ made_put 0 one (ok 1) ∷ made_serve (ok (frame_from chassis 2)) three ∷ [])
+      (made_serve (refused 9) one ∷ made_serve (ok both_empty) one ∷ made_put 0 one (ok 1)
+      ∷ made_serve (ok (frame_from chassis 2)) three ∷ [])
       ≡ none ∷ some (record { queue = chassis; frame = 9 ∷ 9 ∷ [] }) ∷ []
-  pub puts-counted : added chassis (made_put 0 one (ok 1) ∷ made_put 1 two (ok 2) ∷ made_put 0 three (refused 23) ∷ made_put 0 two (ok 2) ∷ [])
+  pub puts-counted :
+      added chassis (made_put 0 one (ok 1) ∷ made_put 1 two (ok 2) ∷ made_put 0 three (refused 23) ∷ made_put 0 two (ok 2) ∷ [])
       ≡ one ∷ two ∷ []
 
 -- ---- whole buffers

@@ -37,7 +37,8 @@ pub record TableRows : Type 0 where
   -- a child's children before the next child
   pub prefix-order : node_table parents ≡ entry 4 3 25 ∷ entry 3 7 21 ∷ entry 1 11 21 ∷ entry 4 21 25 ∷ []
   -- a binary node that is no And
-  pub binary-node : node_table (record { records = []; expr = binary 5 (other 0 nil) (literal 0 0) }) ≡ entry 2 3 19 ∷ entry 4 5 9 ∷ entry 1 9 19 ∷ []
+  pub binary-node : node_table (record { records = []; expr = binary 5 (other 0 nil) (literal 0 0) })
+      ≡ entry 2 3 19 ∷ entry 4 5 9 ∷ entry 1 9 19 ∷ []
   -- a load fills the table and keeps the records past the frame's; 17 where it is shorter, after 9; a refusal changes none
   pub loaded : (parents_in 25 6).table ≡ node_table parents ++ (blank ∷ blank ∷ [])
   pub just_enough : (parents_in 25 4).answer ≡ ok 25

@@ -86,7 +86,8 @@ pub record Walked (s : List ℕ) (rec at : ℕ) (p : ParsedDistancePredicate) (x
 module _ {s : List ℕ} {rec at : ℕ} {p : ParsedDistancePredicate} {x y d : SidedArgument} (w : Walked s rec at p x y d)
     {records : List Record} {t : Expr} (over : Over s rec at records t) where
   -- What the walk of an argument says of it.
-  spans : (q : ℕ) {end : ℕ} {e : Expr} (a : SidedArgument) → OfFrame s rec q (ArgumentIs q a) → Spans (index_below (length records)) s q end e
+  spans : (q : ℕ) {end : ℕ} {e : Expr} (a : SidedArgument) → OfFrame s rec q (ArgumentIs q a)
+      → Spans (index_below (length records)) s q end e
       → ArgumentAt (on_children records) s q end e × (side_of records e ≡ argument_side a.side)
   spans q {e = e} a told it =
       let here : Over s rec q records e = record { entries = over.entries; tree = it.stands } in

@@ -25,7 +25,8 @@ no-comparison o h l r = rw (other 1 (omega arith), other 2 (omega arith), other 
 
 other-operator : (operator : ℕ) → 5 ≤ operator → (records : List Record) (l r : Expr)
     → extraction (record { records = records; expr = binary operator l r }) ≡ none
-unfolding extraction_by matches_by leaves match_leaf_by request_by comparison_request match_request pick first_match later first_of take_pick
+unfolding extraction_by matches_by leaves match_leaf_by request_by comparison_request match_request pick first_match later first_of
+    take_pick
 other-operator o h records l r =
     ap (λ (c : Comparison). take_pick (record { records = records; expr = binary o l r })
     (pick (match_request records (comparison_request o c) ∷ []))) (no-comparison o h l r)

@@ -1,4 +1,5 @@
--- A frame of the sort 2 whose body is an expression with fields of the schemas; nothing is left to test, and there was room for it in the rows.
+-- A frame of the sort 2 whose body is an expression with fields of the schemas; nothing is left to test, and there was room for it in the
+-- rows.
 use native.Mathlib.Omega.{arith}
 use mathlib.Core.Path.{ap}
 use Rattle.definitions.specs.Bytes.Readers.{give, result_of}

@@ -118,8 +118,8 @@ put_and_head-requires t c =
     let one = c.put_rest-first in
     let f = c.requires.rest_fits in
     let both = found t (goal.at.put_and_head-requires t c).In-And f.columns f.tree f.stands in
-    head-fits f both (right-put t (goal.at.put_and_head-requires t c).After-put_rest-right f.columns f.tree f.stands) c.put_rest-right.auto.out
-    (one.ensures _ both.l (first-stands both.row)) one.auto.out
+    head-fits f both (right-put t (goal.at.put_and_head-requires t c).After-put_rest-right f.columns f.tree f.stands)
+    c.put_rest-right.auto.out (one.ensures _ both.l (first-stands both.row)) one.auto.out
 
 pub returns : goal.returns
 returns t c =
