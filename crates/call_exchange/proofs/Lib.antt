@@ -1,3 +1,5 @@
--- Laws that the proofs use: exchanged plans that were written.
-pub mod FrameViews
+-- Laws that the proofs use: bytes that became others where they stood.
+pub mod TurnedLaws
 pub mod RecordLaws
+pub mod PredicateLaws
+pub mod PlanLaws

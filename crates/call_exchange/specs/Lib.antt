@@ -1,4 +1,4 @@
--- What the contracts cite: exchanged plans that were written.
-pub mod Held
+-- What the contracts cite: what stood in a plan, and its exchange that stands there now.
 pub mod ExchangedBytes
+pub mod Turned
 pub mod Exchanged

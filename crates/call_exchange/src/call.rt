@@ -8,7 +8,7 @@ use call_answers::answers::Answer;
 use plan_reader::held_plans::held_plan;
 use terms::refusals::Refusal;
 
-// Copies a held frame or extraction to the scratch, then writes its exchange over the plan's start.
+// Copies a held frame or extraction to the scratch, then exchanges it where it stands.
 pub fn exchange(plan: &mut [u8], n: usize, scratch: &mut [u8]) -> Answer
     ensures { OutcomeIs (definitions.exchange n plan.old scratch.old) n plan.new
         scratch.new result }
@@ -21,5 +21,6 @@ pub fn exchange(plan: &mut [u8], n: usize, scratch: &mut [u8]) -> Answer
         return Err(Refusal::BufferTooShort);
     }
     copy_bytes(scratch, plan, 0, n);
-    Ok(exchange_plan(plan, &scratch[..n], held, n))
+    exchange_plan(plan, &scratch[..n], held);
+    Ok(n)
 }

@@ -1,33 +1,21 @@
-// A held plan exchanged: written over the plan's start from a copy of the old plan, which ends at `end`.
-ghost use Rattle.byte_writer.specs.Writing.{Room, Puts};
-ghost use Rattle.plan_reader.specs.Plans.{ExtractionAt};
-ghost use Rattle.call_exchange.specs.ExchangedBytes.{extraction_exchanged};
-ghost use Rattle.call_exchange.specs.Exchanged.{PlanAt, HeldPlan, ExchangedPlan};
+// A held plan exchanged where it stands, beside a copy of the old one.
+ghost use Rattle.call_exchange.specs.Exchanged.{HeldPlan, ExchangedPlan};
 
-use super::exchanged_frames::{put_frame_exchanged, put_remainder_exchanged};
-use plan_reader::extraction_bodies::{Extraction, Held};
-use plan_writer::put_predicate::put_predicate;
+use super::exchanged_frames::{negate_remainder, negate_sides};
+use super::exchanged_predicates::put_swapped;
+use plan_reader::extraction_bodies::Held;
 
-// The extraction exchanged, its position kept, its remainder where the predicate ended.
-fn put_extraction_exchanged(out: &mut [u8], src: &[u8], x: Extraction, end: usize) -> usize
-    requires { Room (ExtractionAt src.now x end) extraction_exchanged 0 out.old }
-    ensures { Puts (ExtractionAt src.now x end) extraction_exchanged out.old out.new result }
-{
-    let predicate = x.predicate;
-    let swapped = predicate.swap_for_swapped_children();
-    let position = x.position;
-    let rest = x.remainder;
-    let w = put_predicate(out, src, swapped, position, None);
-    w + put_remainder_exchanged(&mut out[w..], src, rest, end)
-}
-
-// A held frame or extraction: answers its length.
-pub fn exchange_plan(plan: &mut [u8], src: &[u8], held: Held, end: usize) -> usize
-    requires { HeldPlan (PlanAt src.now held end) plan.old }
-    ensures { ExchangedPlan (PlanAt src.now held end) plan.old plan.new result }
+// Of a frame and of a remainder the records' sides are negated; a predicate is swapped, and no longer than it was.
+pub fn exchange_plan(plan: &mut [u8], src: &[u8], held: Held)
+    requires { HeldPlan src.now held plan.old }
+    ensures { ExchangedPlan src.now held plan.old plan.new }
 {
     match held {
-        Held::Frame(f) => put_frame_exchanged(plan, src, f, end),
-        Held::Extraction(x) => put_extraction_exchanged(plan, src, x, end),
+        Held::Frame(f) => negate_sides(plan, f.records, f.columns),
+        Held::Extraction(x) => {
+            let swapped = x.predicate.swap_for_swapped_children();
+            put_swapped(plan, src, swapped);
+            negate_remainder(plan, x.remainder);
+        }
     }
 }

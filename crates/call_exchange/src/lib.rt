@@ -1,6 +1,7 @@
-// The call exchange: of a frame, of an extraction, and of what is held.
+// The call exchange: of a frame, of a predicate, and of what is held.
 #![tactic(auto)]
 
 pub mod call;
 pub mod exchanged_frames;
 pub mod exchanged_plans;
+pub mod exchanged_predicates;

@@ -2,10 +2,10 @@
 use Rattle.std.specs.Prelude.{if◌then◌else◌}
 use Prim.Native.Nat.{ℕ, ◌≤◌, ◌<◌}
 use native.Mathlib.Omega.{arith}
-use mathlib.Core.Path.{◌≡◌, refl, ap, ◌∙◌}
+use mathlib.Core.Path.{◌≡◌, refl, sym, ap, ◌∙◌}
 use mathlib.Core.Bool.{Bool, true, false}
 use mathlib.Core.List.{List, ◌++◌}
-use lib.ListN.{length, take, drop}
+use lib.ListN.{length, take, drop, take-append-drop}
 use lib.Dec.{leb}
 use borrow.Author.Tests.{le-leb, lt-leb}
 use Rattle.definitions.specs.Words.Basics.{ok, refused}
@@ -13,7 +13,7 @@ use Rattle.definitions.specs.Words.Expression.{Plan, empty, held, extracted}
 use Rattle.definitions.specs.Bytes.Encode.{plan_bytes}
 use Rattle.definitions.specs.Bytes.Plans.{plan_of}
 use Rattle.definitions.specs.Filter.Exchange.{exchange_plan}
-use Rattle.definitions.specs.Calls.Base.{finish, new_after_exchange, exchange}
+use Rattle.definitions.specs.Calls.Base.{written_over, finish, new_after_exchange, exchange}
 use Rattle.definitions.specs.Bytes.Good.{AllBytes}
 use Rattle.std.specs.Prelude.{Ok}
 use Rattle.terms.specs.Refusals.{number_of}
@@ -22,9 +22,13 @@ use Rattle.node_rows.specs.Rows.{NoRows}
 use Rattle.plan_reader.specs.Plans.{HeldIs, NotHeld, no_bytes, no_good}
 use Rattle.plan_reader.specs.declared.extraction_bodies.Held.{Held}
 use Rattle.plan_reader.specs.declared.extraction_bodies.Held.TheVariants as there
-use Rattle.call_exchange.specs.Exchanged.{PlanAt, HeldPlan, PlanIs}
+use Rattle.call_exchange.specs.Turned.{Turned}
+use Rattle.call_exchange.specs.Exchanged.{PlanAt, HeldPlan}
 use Rattle.call_answers.proofs.Refusing.{exchange-call, refuses, outcome, no-plan, empty-plan}
-use Rattle.call_answers.proofs.Keeping.{plan-length, held-is, plan-size, kept, kept-over}
+use Rattle.theorems.proofs.InversePlan.{plan-back}
+use Rattle.theorems.proofs.Lengths.{bytes-up-to}
+use Rattle.theorems.proofs.ExchangeGood.{plan-as-long}
+use Rattle.call_answers.proofs.Keeping.{held-is, plan-size, kept, kept-length, kept-over}
 
 -- A plan that an exchange takes.
 abbrev pub Exchangeable : Plan → Type 0
@@ -51,13 +55,17 @@ module _ (n : ℕ) (before scratch : List ℕ) (fits : n ≤ length before) (p :
   unfolding finish
   scratch-short h = by-test false (lt-leb n (length scratch) h)
 
-  pub exchanges : n ≤ length scratch → (after scratch_after : List ℕ) (answer : ℕ) → PlanIs p before after answer
-      → scratch_after ≡ take n (drop 0 before) ++ drop n scratch
-      → exchange n before scratch ≡ record { answer = ok answer; n = answer; buffer = after; scratch = scratch_after }
-  unfolding finish
-  exchanges h after scratch_after answer x copied =
+  -- The exchanged plan is over the old one, and what was behind that is behind it.
+  pub exchanges : n ≤ length scratch → AllBytes before → (after scratch_after : List ℕ)
+      → Turned (plan_bytes p) (plan_bytes (exchange_plan p)) before after → scratch_after ≡ take n (drop 0 before) ++ drop n scratch
+      → exchange n before scratch ≡ record { answer = ok n; n = n; buffer = after; scratch = scratch_after }
+  unfolding finish written_over
+  exchanges h bytes after scratch_after turned copied =
+      let size : length (plan_bytes (exchange_plan p)) ≡ n = plan-as-long p ∙ (plan-size n before fits bytes is).0 in
+      let old : take n before ≡ plan_bytes p = (plan-back (take n before) p (bytes-up-to n before bytes) is).0 in
+      let stood : before ≡ plan_bytes p ++ drop n before = sym (take-append-drop n before) ∙ ap (λ (l : List ℕ). l ++ drop n before) old in
       by-test true (le-leb n (length scratch) h)
-      ∙ rw (← x.size, ← x.buffer, kept-over n before fits scratch scratch_after copied) refl
+      ∙ rw (size, turned (drop n before) stood, kept-over n before fits scratch scratch_after copied) refl
 
 -- ---- what the writer requires
 
@@ -65,7 +73,7 @@ module _ (n : ℕ) (before scratch : List ℕ) (fits : n ≤ length before) (p :
 pub record HoldsPlan (n : ℕ) (plan : List ℕ) (h : Held) : Type 0 where
   pub it : Plan
   pub fits : n ≤ length plan
-  pub stands : PlanAt (take n plan) h (length (take n plan)) it
+  pub stands : PlanAt (take n plan) h it
   pub is : plan_of (take n plan) ≡ ok it
 
 -- A frame or an extraction that was read is held.
@@ -83,18 +91,25 @@ not-held n before scratch fits (no_bytes e) = empty-plan exchange-call n before 
 not-held n before scratch fits (no_good number e) = no-plan exchange-call n before scratch fits number e
 
 -- What stands there is a frame or an extraction.
-exchangeable : (s : List ℕ) (h : Held) (end : ℕ) (p : Plan) → PlanAt s h end p → Exchangeable p
-exchangeable s (there.Frame f) end p stands = rw stands.1 tt
-exchangeable s (there.Extraction x) end p stands = rw stands.1 tt
+exchangeable : (s : List ℕ) (h : Held) (p : Plan) → PlanAt s h p → Exchangeable p
+exchangeable s (there.Frame f) p stands = rw stands.1 tt
+exchangeable s (there.Extraction x) p stands = rw stands.1 tt
 
 pub is-exchangeable : {n : ℕ} {before : List ℕ} {h : Held} → (holds : HoldsPlan n before h) → Exchangeable holds.it
-is-exchangeable {n} {before} {h} holds = exchangeable (take n before) h (length (take n before)) holds.it holds.stands
+is-exchangeable {n} {before} {h} holds = exchangeable (take n before) h holds.it holds.stands
 
 module _ {n : ℕ} {before : List ℕ} {h : Held} (holds : HoldsPlan n before h) (scratch after : List ℕ)
     (copied : after ≡ take n (drop 0 before) ++ drop n scratch) where
-  pub still-there : PlanAt (take n after) h n holds.it
-  still-there = rw (kept n before holds.fits scratch after copied) (rw (plan-length n before holds.fits) at holds.stands)
+  pub still-there : PlanAt (take n after) h holds.it
+  still-there = rw (kept n before holds.fits scratch after copied) holds.stands
 
-  pub held-there : AllBytes before → HeldPlan (PlanAt (take n after) h n) before
-  held-there bytes =
-      record { it = holds.it; stands = still-there; room = omega (arith, (plan-size n before holds.fits bytes holds.is).0) }
+  pub still-all : AllBytes before → length (take n after) ≡ length (plan_bytes holds.it)
+  still-all bytes = omega (arith, kept-length n before holds.fits scratch after copied, (plan-size n before holds.fits bytes holds.is).0)
+
+  pub held-there : AllBytes before → HeldPlan (take n after) h before
+  held-there bytes = record {
+    it = holds.it;
+    stands = still-there;
+    size = still-all bytes;
+    room = omega (arith, kept-length n before holds.fits scratch after copied, holds.fits);
+  }

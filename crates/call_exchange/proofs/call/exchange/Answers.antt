@@ -1,8 +1,8 @@
--- Each refusal is the definition's; a held frame or extraction is kept in the scratch, and its exchange written from there.
+-- Each refusal is the definition's; a held frame or extraction is kept in the scratch, and exchanged where it stands.
 use Rattle.node_reader.proofs.Reading.{kept}
 use Rattle.node_reader.proofs.Standing.{all-bytes}
 use Rattle.call_answers.proofs.Refusing.{exchange-call, no-room-for-n}
-use Rattle.call_exchange.proofs.call.Exchanging.{HoldsPlan, holds_of, not-held, scratch-short, exchanges, is-exchangeable, still-there, held-there}
+use Rattle.call_exchange.proofs.call.Exchanging.{HoldsPlan, holds_of, not-held, scratch-short, exchanges, is-exchangeable, still-there, still-all, held-there}
 use Rattle.call_exchange.proofs.call.exchange.Goals as goal
 use Rattle.call_exchange.proofs.call.exchange.Goals.{In_ok-held}
 
@@ -31,10 +31,10 @@ exchange_plan-requires c =
 
 pub returns : goal.returns
 returns c =
-    let wrote = c.exchange_plan in
     let a = c.args in
     let h = holds (goal.at.returns c).In_ok-held in
     let at = c.copy_bytes.new.out in
-    let there = still-there h a.scratch.now at c.copy_bytes.ensures in
-    exchanges a.n a.plan.now a.scratch.now h.fits h.it (is-exchangeable h) h.is c.if-scratch-n.false
-    wrote.new.plan at wrote.result (wrote.ensures h.it there) c.copy_bytes.ensures
+    let copied = c.copy_bytes.ensures in
+    let bytes = all-bytes a.plan.now c.slice_known-1.given in
+    exchanges a.n a.plan.now a.scratch.now h.fits h.it (is-exchangeable h) h.is c.if-scratch-n.false bytes c.exchange_plan.new.plan at
+    (c.exchange_plan.ensures h.it (still-there h a.scratch.now at copied) (still-all h a.scratch.now at copied bytes)) copied

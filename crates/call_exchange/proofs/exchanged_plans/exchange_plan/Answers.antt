@@ -1,24 +1,26 @@
--- `exchange_plan`: an exchanged plan is as long as the old one, so it has room where that was.
-use Rattle.definitions.specs.Words.Expression.{held, extracted}
-use Rattle.call_exchange.proofs.exchanged_plans.HeldLaws.{held-room, held-put, frame-plan, extraction-plan}
+-- `exchange_plan`: what stands there is a frame or an extraction, and what is written makes the exchanged one of it.
+use Rattle.call_exchange.proofs.PlanLaws.{frame-within, remainder-within, swapped-room, frame-exchanged, extraction-exchanged}
 use Rattle.call_exchange.proofs.exchanged_plans.exchange_plan.Goals as goal
 
-pub put_frame_exchanged-requires : goal.put_frame_exchanged-requires
-put_frame_exchanged-requires c =
-    held-room held frame-plan (λ p stands. stands)
-    (rw c.in-Frame.is at c.requires)
+pub negate_sides-requires : goal.negate_sides-requires
+negate_sides-requires c =
+    frame-within c.args.src.now (rw c.in-Frame.is at c.requires)
 
-pub put_extraction_exchanged-requires : goal.put_extraction_exchanged-requires
-put_extraction_exchanged-requires c =
-    held-room extracted extraction-plan (λ p stands. stands)
-    (rw c.in-Extraction.is at c.requires)
+pub put_swapped-requires : goal.put_swapped-requires
+put_swapped-requires c =
+    swapped-room c.args.src.now (rw c.in-Extraction.is at c.requires) _ c.swap_for_swapped_children-swapped.ensures
+
+pub negate_remainder-requires : goal.negate_remainder-requires
+negate_remainder-requires c =
+    remainder-within c.args.src.now (rw c.in-Extraction.is at c.requires) c.put_swapped.new.plan c.put_swapped.auto.plan
 
 pub returns-in-Frame : goal.returns-in-Frame
 returns-in-Frame c =
-    rw c.in-Frame.is
-    (held-put held frame-plan (λ p stands. stands) c.put_frame_exchanged.ensures)
+    rw c.in-Frame.is (frame-exchanged c.args.src.now c.negate_sides.ensures)
 
 pub returns-in-Extraction : goal.returns-in-Extraction
 returns-in-Extraction c =
+    let swapped = c.swap_for_swapped_children-swapped in
     rw c.in-Extraction.is
-    (held-put extracted extraction-plan (λ p stands. stands) c.put_extraction_exchanged.ensures)
+    (extraction-exchanged c.args.src.now c.in-Extraction.x swapped.result _ c.put_swapped.new.plan _ swapped.ensures c.put_swapped.ensures
+    c.negate_remainder.ensures)

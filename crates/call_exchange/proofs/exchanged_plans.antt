@@ -1,2 +1,0 @@
--- Laws of the proofs of `exchanged_plans` alone.
-mod HeldLaws
