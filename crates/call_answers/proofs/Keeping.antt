@@ -37,6 +37,9 @@ module _ (n : ℕ) (before : List ℕ) (fits : n ≤ length before) where
         ∙ ap (λ (k : ℕ). take k (take n before ++ drop n scratch)) (sym plan-length)
         ∙ take-append_seam (take n before) (drop n scratch)
 
+    pub kept-length : n ≡ length (take n after)
+    kept-length = sym (ap length kept ∙ plan-length)
+
     pub kept-over : written_over (take n before) scratch ≡ after
     unfolding written_over
     kept-over = ap (λ (k : ℕ). take n before ++ drop k scratch) plan-length ∙ sym is
