@@ -1,14 +1,17 @@
 // The call explain: a verdict of each conjunct.
+ghost use Rattle.std.specs.Prelude.{◌/◌, ◌≤◌, min, length};
+ghost use Rattle.definitions.specs.Words.Limits.{most_nodes};
 ghost use Rattle.definitions.specs.Calls.Explain as definitions;
 ghost use Rattle.terms.specs.Settings.{settings_of};
 ghost use Rattle.call_explain.specs.Answers.{ExplainedIs};
 
 use byte_writer::copies::copy_bytes;
-use frame_reader::frames::physical_frame;
-use leaf_verdicts::asked::Asked;
+use frame_reader::frames::physical_frame_in;
 use leaf_verdicts::taken::{TakenLeaf, named_by};
 use leaf_verdicts::walk::put_verdicts;
-use node_rows::lengths::MOST_NODES;
+use node_rows::lengths::{MIDDLE_BYTES, MIDDLE_NODES, MOST_NODES, SHORT_BYTES, SHORT_NODES};
+use node_rows::rows::Rows;
+use terms::checked::Checked;
 use terms::refusals::Refusal;
 use terms::settings::Settings;
 
@@ -19,20 +22,25 @@ pub struct Explained {
     pub taken: Option<TakenLeaf>,
 }
 
-// Writes the verdict of each AND-leaf of a frame to the buffer's start. They are written to a row of this call's own first, so that nothing
-// is written where 9 is the answer; each is of a node, of which there are at most 1,024.
-pub fn explain(out: &mut [u8], frame: &[u8], settings: Settings) -> Result<Explained, Refusal>
-    ensures { ExplainedIs (definitions.explain (settings_of settings) frame.now out.old) out.new result }
+// Of a frame of at most NODES nodes, if it is good. The verdicts are written to a row of this call's own first, so that nothing is written
+// where 9 is the answer; each is of a node.
+fn explain_by<const NODES: usize>(
+    out: &mut [u8],
+    frame: &[u8],
+    settings: Checked,
+) -> Result<Explained, Refusal>
+    requires { (min most_nodes (length frame.now / 3) ≤ NODES) × (NODES ≤ most_nodes) }
+    ensures { ExplainedIs (definitions.explain (settings_of settings.settings) frame.now out.old) out.new result }
 {
-    let settings = settings.checked()?.settings;
-    let parts = physical_frame(frame)?;
-    let asked = Asked {
-        s: frame,
-        rec: parts.records,
-        settings,
+    let mut numbers = [0u32; NODES];
+    let mut next = [0u16; NODES];
+    let parts = physical_frame_in(&mut numbers, &mut next, frame)?;
+    let rows = Rows {
+        numbers: &numbers,
+        next: &next,
     };
-    let mut row = [0u8; MOST_NODES];
-    let count = put_verdicts(&mut row, asked, parts.root).count;
+    let mut row = [0u8; NODES];
+    let count = put_verdicts(&mut row, frame, parts.records, rows, settings.settings);
     if out.len() < count {
         return Err(Refusal::BufferTooShort);
     }
@@ -41,4 +49,19 @@ pub fn explain(out: &mut [u8], frame: &[u8], settings: Settings) -> Result<Expla
         count,
         taken: named_by(&row[..count]),
     })
+}
+
+// Writes the verdict of each AND-leaf of a frame to the buffer's start. Short rows are enough for a short frame, and the longer ones cost
+// more to clear than such a frame to read.
+pub fn explain(out: &mut [u8], frame: &[u8], settings: Settings) -> Result<Explained, Refusal>
+    ensures { ExplainedIs (definitions.explain (settings_of settings) frame.now out.old) out.new result }
+{
+    let settings = settings.checked()?;
+    if frame.len() <= SHORT_BYTES {
+        explain_by::<SHORT_NODES>(out, frame, settings)
+    } else if frame.len() <= MIDDLE_BYTES {
+        explain_by::<MIDDLE_NODES>(out, frame, settings)
+    } else {
+        explain_by::<MOST_NODES>(out, frame, settings)
+    }
 }

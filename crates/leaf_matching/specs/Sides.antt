@@ -66,6 +66,10 @@ side_flags seen =
 abbrev pub sides_in : List Record → List ℕ → List Side
 sides_in records indexes = map (λ index. (record_at records index).side) indexes
 
+-- What was seen are its columns.
+abbrev pub ColumnsSeen : SeenSides → List Record → Expr → Type 0
+ColumnsSeen r records t = r ≡ see_all nothing_seen (sides_in records (columns_of t))
+
 -- Where the walk of the expression at a place ended, and what it has seen.
 pub record ReferencesIs (at : ℕ) (before : SeenSides) (r : References) (records : List Record) (t : Expr) : Type 0 where
   pub end : r.end ≡ at + length (expr_bytes t)

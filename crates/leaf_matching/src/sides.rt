@@ -6,7 +6,7 @@ ghost use Rattle.definitions.specs.Filter.Match.{side_of, order_of};
 ghost use Rattle.terms.specs.Sides.{join_side};
 ghost use Rattle.node_rows.specs.Rows.{Begin};
 ghost use Rattle.leaf_matching.specs.Frames.{Framed, OfFrame, FramedAll, OfFrameAll, FramedTwo, OfFrameTwo, Argued, OfArgument};
-ghost use Rattle.leaf_matching.specs.Sides.{argument_side, order, see, nothing_seen, sides_seen, side_flags, ReferencesIs, ReferencesAre, ArgumentIs, GeometriesAre};
+ghost use Rattle.leaf_matching.specs.Sides.{argument_side, order, see, nothing_seen, sides_seen, side_flags, ColumnsSeen, ReferencesIs, ReferencesAre, ArgumentIs, GeometriesAre};
 
 use super::filter::Filter;
 use expression::fields::short_at;
@@ -167,11 +167,11 @@ pub fn resolve_column_reference_sides(first: Sides, second: Sides) -> Option<Ord
     }
 }
 
-// The side of the columns of an argument that has the nodes from one index up to another: its columns are those of the row.
-fn side_by_rows(filter: Filter, first: usize, end: usize) -> Sides
+// The columns of an argument that has the nodes from one index up to another: they are those of the row.
+pub fn seen_by_rows(filter: Filter, first: usize, end: usize) -> SeenSides
     requires { Argued filter.s.now filter.rec filter.rows.numbers.now filter.rows.next.now first end }
     ensures { OfArgument filter.entry.s.now filter.entry.rec filter.entry.rows.numbers.now filter.entry.rows.next.now first end
-        (λ records t. argument_side result ≡ side_of records t) }
+        (ColumnsSeen result) }
 {
     let mut seen = SeenSides { bits: 0 };
     for i in first..end {
@@ -182,7 +182,16 @@ fn side_by_rows(filter: Filter, first: usize, end: usize) -> Sides
             seen = seen.with(side);
         }
     }
-    seen.sides()
+    seen
+}
+
+// The side of these columns.
+fn side_by_rows(filter: Filter, first: usize, end: usize) -> Sides
+    requires { Argued filter.s.now filter.rec filter.rows.numbers.now filter.rows.next.now first end }
+    ensures { OfArgument filter.entry.s.now filter.entry.rec filter.entry.rows.numbers.now filter.entry.rows.next.now first end
+        (λ records t. argument_side result ≡ side_of records t) }
+{
+    seen_by_rows(filter, first, end).sides()
 }
 
 // The geometries at a place and after it, the first of which has index i. Where they end, and their columns, are read from the rows.

@@ -13,9 +13,9 @@ use Rattle.definitions.specs.Filter.Verdicts.{Verdict, as_relation, too_few_argu
 use Rattle.expression.specs.Nodes.{Row, Trees}
 use Rattle.expression.proofs.Standing.{some-children}
 use Rattle.expression.proofs.Parts.{two-of}
-use Rattle.leaf_matching.specs.Frames.{Over, Framed, OverAll, FramedAll, OfFrameAll, FramedTwo, OfFrameTwo}
-use Rattle.leaf_matching.proofs.Framing.{first-over, rest_over}
-use Rattle.leaf_matching.proofs.MatchLaws.{two-over}
+use Rattle.definitions.specs.Bytes.Good.{nodes}
+use Rattle.leaf_verdicts.specs.Laid.{Laid, LaidAll, AtIndex, RowAt, OfRow, OfTwoAt}
+use Rattle.leaf_verdicts.proofs.LaidLaws.{first-laid, rest-laid, first-at}
 use Rattle.leaf_verdicts.specs.declared.geometries.GeometriesVerdict.{GeometriesVerdict}
 use Rattle.std.specs.Option.{unwrap_or}
 use Rattle.leaf_verdicts.specs.declared.verdict.Verdict as verdicts
@@ -77,69 +77,69 @@ or-else None v = refl
 
 -- ---- the geometries first
 
-module _ {s : List ℕ} {rec at n : ℕ} where
-  pub two-framed : FramedAll s rec at n → 2 ≤ n → FramedTwo s rec at
-  two-framed p h = two-of (λ ts. OverAll s rec at n p.0 ts → FramedTwo s rec at)
-      (λ a b ts o. (p.0, a, b, two-over h o)) p.1 (omega (arith, p.2.row.counted)) p.2
+module _ {s : List ℕ} {rec : ℕ} {numbers next : List ℕ} {i n : ℕ} (g : GeometriesVerdict)
+    (is : OfTwoAt s rec numbers next i (GeometriesTold i g)) (enough : 2 ≤ n) where
+  -- What follows them stands where they end.
+  after-two : {at : ℕ} {records : List Record} {a b : Expr} {more : Exprs} → LaidAll s rec numbers next at i n records (cons a (cons b more))
+      → LaidAll s rec numbers next g.end g.after (n - 2) records more
+  after-two {at} {records} {a} {b} {more} h =
+      let told = is at n records a b more h in
+      rest-laid (rest-laid h (at + length (expr_bytes a)) (i + nodes a) (n - 1) refl refl (omega arith)) g.end g.after (n - 2)
+      told.end told.after (omega arith)
 
-  module _ (g : GeometriesVerdict) (is : OfFrameTwo s rec at (GeometriesTold at g)) (enough : 2 ≤ n) where
-    -- What follows them stands where they end.
-    after-two : {records : List Record} {a b : Expr} {more : Exprs} → OverAll s rec at n records (cons a (cons b more))
-        → OverAll s rec g.end (n - 2) records more
-    after-two {records} {a} {b} o =
-        rest_over (rest_over o (at + length (expr_bytes a)) (n - 1) refl (omega arith)) g.end (n - 2)
-        (is records a b (two-over enough o)).end (omega arith)
+  -- Whatever the verdict after them is.
+  told : {at : ℕ} {records : List Record} {a b : Expr} {more : Exprs} → LaidAll s rec numbers next at i n records (cons a (cons b more))
+      → (after : Verdict) → or_after g.reason after ≡ geometry_verdict (sides_of records a) (sides_of records b) after
+  told {at} {records} {a} {b} {more} h = (is at n records a b more h).told
 
-    -- Whatever the verdict after them is.
-    told : {records : List Record} {a b : Expr} {more : Exprs} → OverAll s rec at n records (cons a (cons b more)) → (after : Verdict)
-        → or_after g.reason after ≡ geometry_verdict (sides_of records a) (sides_of records b) after
-    told {records} {a} {b} o = (is records a b (two-over enough o)).told
+  by-two : (P : List Record → Exprs → Type 0) → ((at : ℕ) (records : List Record) (a b : Expr) (more : Exprs)
+      → LaidAll s rec numbers next at i n records (cons a (cons b more)) → P records (cons a (cons b more))) → OfRow s rec numbers next i n P
+  by-two P f at records ts h =
+      two-of (λ ts. LaidAll s rec numbers next at i n records ts → P records ts) (f at records) ts (omega (arith, h.over.row.counted)) h
 
-    by-two : (P : List Record → Exprs → Type 0) → ((records : List Record) (a b : Expr) (more : Exprs)
-        → OverAll s rec at n records (cons a (cons b more)) → P records (cons a (cons b more))) → OfFrameAll s rec at n P
-    by-two P f records ts o = two-of (λ ts. OverAll s rec at n records ts → P records ts) (f records) ts (omega (arith, o.row.counted)) o
+  pub relation-told : OfRow s rec numbers next i n (λ records ts. or_after g.reason as_relation ≡ relation_stage records ts)
+  unfolding relation_stage
+  relation-told = by-two (λ records ts. or_after g.reason as_relation ≡ relation_stage records ts)
+      (λ at records a b more h. told h as_relation)
 
-    pub relation-told : OfFrameAll s rec at n (λ records ts. or_after g.reason as_relation ≡ relation_stage records ts)
-    unfolding relation_stage
-    relation-told = by-two (λ records ts. or_after g.reason as_relation ≡ relation_stage records ts)
-        (λ records a b more o. told o as_relation)
+  pub measured-told : (v : Verdict) (q : ℕ)
+      → ((at : ℕ) (records : List Record) (d : Expr) → Laid s rec numbers next at q records d
+      → v ≡ or_after g.reason (bound_verdict (sides_of records d)))
+      → OfRow s rec numbers next i n (λ records ts. (at : ℕ) (d : Expr) → Laid s rec numbers next at q records d
+      → v ≡ distance_stage records (with_bound d ts))
+  unfolding distance_stage with_bound
+  measured-told v q e = by-two
+      (λ records ts. (at : ℕ) (d : Expr) → Laid s rec numbers next at q records d → v ≡ distance_stage records (with_bound d ts))
+      (λ at records a b more h p d bound. e p records d bound ∙ told h (bound_verdict (sides_of records d)))
 
-    pub measured-told : (v : Verdict) (q : ℕ)
-        → ((records : List Record) (d : Expr) → Over s rec q records d → v ≡ or_after g.reason (bound_verdict (sides_of records d)))
-        → OfFrameAll s rec at n (λ records ts. (d : Expr) → Over s rec q records d → v ≡ distance_stage records (with_bound d ts))
-    unfolding distance_stage with_bound
-    measured-told v q e = by-two (λ records ts. (d : Expr) → Over s rec q records d → v ≡ distance_stage records (with_bound d ts))
-        (λ records a b more o d over. e records d over ∙ told o (bound_verdict (sides_of records d)))
+  -- The bound after them.
+  pub third-at : RowAt s rec numbers next i n → 3 ≤ n → AtIndex s rec numbers next g.after
+  third-at p h = two-of (λ ts. LaidAll s rec numbers next p.0 i n p.1 ts → AtIndex s rec numbers next g.after)
+      (λ a b more o. first-at (g.end, p.1, more, after-two o) (omega arith)) p.2 (omega (arith, p.3.over.row.counted)) p.3
 
-    -- The bound after them.
-    pub third-framed : FramedAll s rec at n → 3 ≤ n → Framed s rec g.end
-    third-framed p h = two-of (λ ts. OverAll s rec at n p.0 ts → Framed s rec g.end)
-        (λ a b more o. some-children (λ more. OverAll s rec g.end (n - 2) p.0 more → Framed s rec g.end)
-        (λ d ts o. (p.0, d, first-over o)) more (omega (arith, (after-two o).row.counted)) (after-two o))
-        p.1 (omega (arith, p.2.row.counted)) p.2
+  pub distance-told : 3 ≤ n → (v : Verdict)
+      → ((at : ℕ) (records : List Record) (d : Expr) → Laid s rec numbers next at g.after records d
+      → v ≡ or_after g.reason (bound_verdict (sides_of records d)))
+      → OfRow s rec numbers next i n (λ records ts. v ≡ distance_stage records ts)
+  unfolding distance_stage
+  distance-told h v e = by-two (λ records ts. v ≡ distance_stage records ts)
+      (λ at records a b more o. some-children
+      (λ more. LaidAll s rec numbers next g.end g.after (n - 2) records more
+      → ((after : Verdict) → or_after g.reason after ≡ geometry_verdict (sides_of records a) (sides_of records b) after)
+      → v ≡ distance_stage records (cons a (cons b more)))
+      (λ d ts rest told. e g.end records d (first-laid rest) ∙ told (bound_verdict (sides_of records d)))
+      more (omega (arith, (after-two o).over.row.counted)) (after-two o) (told o))
 
-    pub distance-told : 3 ≤ n → (v : Verdict)
-        → ((records : List Record) (d : Expr) → Over s rec g.end records d → v ≡ or_after g.reason (bound_verdict (sides_of records d)))
-        → OfFrameAll s rec at n (λ records ts. v ≡ distance_stage records ts)
-    unfolding distance_stage
-    distance-told h v e = by-two (λ records ts. v ≡ distance_stage records ts)
-        (λ records a b more o. some-children
-        (λ more. OverAll s rec g.end (n - 2) records more
-        → ((after : Verdict) → or_after g.reason after ≡ geometry_verdict (sides_of records a) (sides_of records b) after)
-        → v ≡ distance_stage records (cons a (cons b more)))
-        (λ d ts rest told. e records d (first-over rest) ∙ told (bound_verdict (sides_of records d)))
-        more (omega (arith, (after-two o).row.counted)) (after-two o) (told o))
+  -- The options after them.
+  pub options-there : RowAt s rec numbers next i n → Trees s g.end (n - 2)
+  options-there p = two-of (λ ts. LaidAll s rec numbers next p.0 i n p.1 ts → Trees s g.end (n - 2))
+      (λ a b more o. (index_below (length p.1), more, (after-two o).over.row)) p.2 (omega (arith, p.3.over.row.counted)) p.3
 
-    -- The options after them.
-    pub options-there : FramedAll s rec at n → Trees s g.end (n - 2)
-    options-there p = two-of (λ ts. OverAll s rec at n p.0 ts → Trees s g.end (n - 2))
-        (λ a b more o. (index_below (length p.0), more, (after-two o).row)) p.1 (omega (arith, p.2.row.counted)) p.2
-
-    pub knn-told : n ≤ 5 → (greatest : ℕ) (v : Verdict)
-        → ((c : Columns) (more : Exprs) → Row c s g.end (n - 2) more → v ≡ or_after g.reason (options_stage greatest more))
-        → OfFrameAll s rec at n (λ records ts. v ≡ knn_stage greatest records ts)
-    unfolding knn_stage
-    knn-told few greatest v e = by-two (λ records ts. v ≡ knn_stage greatest records ts)
-        (λ records a b more o.
-        rw (no-sixth more (omega (arith, (after-two o).row.counted)))
-        (e (index_below (length records)) more (after-two o).row ∙ told o (options_stage greatest more)))
+  pub knn-told : n ≤ 5 → (greatest : ℕ) (v : Verdict)
+      → ((c : Columns) (more : Exprs) → Row c s g.end (n - 2) more → v ≡ or_after g.reason (options_stage greatest more))
+      → OfRow s rec numbers next i n (λ records ts. v ≡ knn_stage greatest records ts)
+  unfolding knn_stage
+  knn-told few greatest v e = by-two (λ records ts. v ≡ knn_stage greatest records ts)
+      (λ at records a b more o.
+      rw (no-sixth more (omega (arith, (after-two o).over.row.counted)))
+      (e (index_below (length records)) more (after-two o).over.row ∙ told o (options_stage greatest more)))

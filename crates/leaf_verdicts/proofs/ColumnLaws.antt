@@ -3,11 +3,7 @@ use Rattle.std.specs.Prelude.{if◌then◌else◌}
 use mathlib.Core.Path.{◌≡◌, refl, ap, ap₂, ◌∙◌}
 use mathlib.Core.Bool.{Bool, true, false, ◌&&◌, ◌||◌, not}
 use mathlib.Core.List.{List}
-use Prim.Native.Nat.{ℕ, ◌+◌}
-use lib.ListN.{length}
-use Rattle.definitions.specs.Words.Expression.{Side, left, right, no_side, Expr, Record}
-use Rattle.definitions.specs.Bytes.Encode.{expr_bytes}
-use Rattle.leaf_matching.specs.Frames.{Over, OverTwo}
+use Rattle.definitions.specs.Words.Expression.{Side, left, right, no_side}
 use Rattle.definitions.specs.Filter.Verdicts.{Verdict, first_without_columns, first_of_both, first_with_mark, second_without_columns, second_of_both, second_with_mark, both_left, both_right, bound_of_both, bound_with_mark, as_distance, of_both, of_mark}
 use Rattle.theorems.proofs.VerdictSides.{of, none-by-bits, left-by-bits, right-by-bits}
 use Rattle.leaf_matching.specs.declared.sides.SideFlags.{SideFlags}
@@ -22,11 +18,6 @@ abbrev seen : List Side → SideFlags
 seen ss = side_flags (see_all nothing_seen ss)
 
 -- ---- two geometries
-
--- The second stands where the first ends.
-pub second-over : {s : List ℕ} {rec at end : ℕ} {records : List Record} {a b : Expr} → OverTwo s rec at records a b
-    → end ≡ at + length (expr_bytes a) → Over s rec end records b
-second-over over e = rw e over.two
 
 -- Their verdict by the flags of each: by those of the first, and where it is right by those of the second.
 by-flags : (l r m l' r' m' : Bool) (after : Verdict)

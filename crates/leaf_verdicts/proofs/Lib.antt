@@ -1,4 +1,5 @@
 -- Laws that the proofs of several functions cite.
+pub mod LaidLaws
 pub mod ColumnLaws
 pub mod OptionLaws
 pub mod ArgumentLaws

@@ -4,24 +4,22 @@ use native.Mathlib.Omega.{arith}
 use mathlib.Core.Path.{◌≡◌, refl, sym, ap, ◌∙◌, subst}
 use mathlib.Core.Bool.{Bool, true, false, ◌||◌}
 use mathlib.Core.List.{List}
-use lib.ListN.{length}
+use lib.ListN.{length, get_or}
 use Rattle.definitions.specs.Bytes.Encode.{expr_bytes}
-use Rattle.definitions.specs.Words.Basics.{ascii, same_name}
 use Rattle.definitions.specs.Words.Expression.{Expr, binary}
 use Rattle.definitions.specs.Words.Leaves.{comparison, no_comparison}
-use Rattle.definitions.specs.Filter.Names.{function_name}
 use Rattle.definitions.specs.Filter.Verdicts.{is_distance_call, measured_in_small, ours_in_small, some_of_ours}
-use Rattle.definitions.specs.Bytes.Decode.{Columns}
-use Rattle.expression.specs.Nodes.{Tree, OfTree, Trees, OfTrees, Row}
 use Rattle.expression.specs.Leaves.{PlainNode, plain_column, plain_literal, plain_other, plain_field}
-use Rattle.expression.proofs.Standing.{no-children, some-children, first-stands, rest-stands}
-use Rattle.expression.proofs.EndWalk.{first-there, rest-there}
-use Rattle.sedona_expr.specs.Parsed.{BothSides}
+use Rattle.expression.proofs.Standing.{no-children, some-children}
+use Rattle.node_rows.proofs.RowLaws.{tabled-next}
+use Rattle.sedona_expr.specs.Parsed.{SidesOf}
+use Rattle.leaf_verdicts.specs.Laid.{LaidAll, AtIndex, OfIndex, RowAt, OfRow}
+use Rattle.leaf_verdicts.proofs.LaidLaws.{first-laid, rest-laid, first-at, rest-at}
 
 module _ (operator : ℕ) (l r : Expr) where
-  pub compares-small : {c : Columns} {s : List ℕ} {measured bound : ℕ} (sides : BothSides c s measured bound (comparison operator l r))
-      (small : Bool) → small ≡ same_name (function_name sides.m) (ascii "st_distance") → small ≡ ours_in_small (binary operator l r)
-  unfolding ours_in_small measured_in_small is_distance_call
+  pub compares-small : {P : ℕ → Expr → Type 0} {measured bound : ℕ} (sides : SidesOf P measured bound (comparison operator l r))
+      (small : Bool) → small ≡ is_distance_call sides.m → small ≡ ours_in_small (binary operator l r)
+  unfolding ours_in_small measured_in_small
   compares-small sides small e = e ∙ sym (ap measured_in_small sides.is)
 
   pub compares-nothing : comparison operator l r ≡ no_comparison → false ≡ ours_in_small (binary operator l r)
@@ -38,38 +36,44 @@ plain-small plain_field = refl
 -- ---- the loop over a row
 
 -- What it keeps, where so many expressions are left: an answer that is right for them is right for all.
-pub record Looking (s : List ℕ) (at n left next : ℕ) : Type 0 where
-  pub there : Trees s next left
-  pub rest : (r : Bool) → OfTrees s next left (λ ts. r ≡ some_of_ours ts) → OfTrees s at n (λ ts. r ≡ some_of_ours ts)
+pub record Looking (s : List ℕ) (rec : ℕ) (numbers next : List ℕ) (i n left k : ℕ) : Type 0 where
+  pub there : RowAt s rec numbers next k left
+  pub rest : (r : Bool) → OfRow s rec numbers next k left (λ records ts. r ≡ some_of_ours ts)
+      → OfRow s rec numbers next i n (λ records ts. r ≡ some_of_ours ts)
 
-module _ {s : List ℕ} {at n : ℕ} where
-  pub looking-begins : Trees s at n → (left : ℕ) → n ≡ left → Looking s at n left at
-  looking-begins there left e = subst (λ (k : ℕ). Looking s at n k at) e (record { there = there; rest = λ r is. is })
+module _ {s : List ℕ} {rec : ℕ} {numbers next : List ℕ} {i n : ℕ} where
+  pub looking-begins : RowAt s rec numbers next i n → (left : ℕ) → n ≡ left → Looking s rec numbers next i n left i
+  looking-begins there left e =
+      subst (λ (k : ℕ). Looking s rec numbers next i n k i) e (record { there = there; rest = λ r is. is })
 
-  module _ {left next : ℕ} (inv : Looking s at n left next) where
-    pub looking-ends : left ≤ 0 → OfTrees s at n (λ ts. false ≡ some_of_ours ts)
+  module _ {left k : ℕ} (inv : Looking s rec numbers next i n left k) where
+    pub looking-ends : left ≤ 0 → OfRow s rec numbers next i n (λ records ts. false ≡ some_of_ours ts)
     unfolding some_of_ours
     looking-ends none = inv.rest false
-        (λ c ts row. no-children (λ ts. false ≡ some_of_ours ts) refl ts (omega (arith, none, row.counted)))
+        (λ at records ts h. no-children (λ ts. false ≡ some_of_ours ts) refl ts (omega (arith, none, h.over.row.counted)))
 
     module _ (some : 0 < left) where
-      pub looking-first : Tree s next
-      looking-first = first-there inv.there (λ z. omega (arith, z, some))
+      pub looking-first : AtIndex s rec numbers next k
+      looking-first = first-at inv.there some
 
-      module _ {ours : Bool} (is : OfTree s next (λ t. ours ≡ ours_in_small t)) where
-        pub looking-found : ours ≡ true → OfTrees s at n (λ ts. true ≡ some_of_ours ts)
+      module _ {ours : Bool} (is : OfIndex s rec numbers next k (λ records t. ours ≡ ours_in_small t)) where
+        pub looking-found : ours ≡ true → OfRow s rec numbers next i n (λ records ts. true ≡ some_of_ours ts)
         unfolding some_of_ours
-        looking-found e = inv.rest true (λ c ts row. some-children (λ ts. Row c s next left ts → true ≡ some_of_ours ts)
-            (λ t ts w. ap (λ (b : Bool). b || some_of_ours ts) (sym e ∙ is c t (first-stands w)))
-            ts (omega (arith, some, row.counted)) row)
+        looking-found e = inv.rest true (λ at records ts h. some-children
+            (λ ts. LaidAll s rec numbers next at k left records ts → true ≡ some_of_ours ts)
+            (λ t ts w. ap (λ (b : Bool). b || some_of_ours ts) (sym e ∙ is at records t (first-laid w)))
+            ts (omega (arith, some, h.over.row.counted)) h)
 
-        pub looking-goes-on : ours ≡ false → (after : ℕ) → OfTree s next (λ t. after ≡ next + length (expr_bytes t))
-            → (fewer : ℕ) → left - 1 ≡ fewer → Looking s at n fewer after
+        pub looking-goes-on : ours ≡ false → (after : ℕ) → after ≡ get_or next k 0 → (fewer : ℕ) → left - 1 ≡ fewer
+            → Looking s rec numbers next i n fewer after
         unfolding some_of_ours
-        looking-goes-on e after ends fewer k = subst (λ (m : ℕ). Looking s at n m after) k (record {
-          there = rest-there inv.there (λ z. omega (arith, z, some)) after ends;
-          rest = λ r others. inv.rest r (λ c ts row. some-children (λ ts. Row c s next left ts → r ≡ some_of_ours ts)
-              (λ t ts w. others c ts (rest-stands w after (left - 1) (ends c t (first-stands w)) (omega (arith, some)))
-              ∙ ap (λ (b : Bool). b || some_of_ours ts) (sym e ∙ is c t (first-stands w)))
-              ts (omega (arith, some, row.counted)) row);
+        looking-goes-on e after ends fewer f = subst (λ (m : ℕ). Looking s rec numbers next i n m after) f (record {
+          there = rest-at inv.there some after ends;
+          rest = λ r others. inv.rest r (λ at records ts h. some-children
+              (λ ts. LaidAll s rec numbers next at k left records ts → r ≡ some_of_ours ts)
+              (λ t ts w. others _ records ts
+              (rest-laid w (at + length (expr_bytes t)) after (left - 1) refl (ends ∙ tabled-next (first-laid w).tabled)
+              (omega (arith, some)))
+              ∙ ap (λ (b : Bool). b || some_of_ours ts) (sym e ∙ is at records t (first-laid w)))
+              ts (omega (arith, some, h.over.row.counted)) h);
         })

@@ -3,6 +3,6 @@ pub mod Cases
 pub mod Stages
 pub mod Columns
 pub mod Options
-pub mod Pairs
+pub mod Laid
 pub mod Walks
 pub mod Taken

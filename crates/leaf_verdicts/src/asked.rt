@@ -1,10 +1,10 @@
 // What verdicts are asked of.
+use leaf_matching::filter::Filter;
 use terms::settings::Settings;
 
-// The bytes of a frame, where the records of its columns begin, and the settings.
+// The filter of a frame, and the settings.
 #[derive(Clone, Copy)]
 pub struct Asked<'a> {
-    pub s: &'a [u8],
-    pub rec: usize,
+    pub filter: Filter<'a>,
     pub settings: Settings,
 }

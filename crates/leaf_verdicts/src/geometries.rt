@@ -1,11 +1,11 @@
 // What is wrong with the columns of geometries and bounds.
 ghost use Rattle.std.specs.Prelude.{◌≡◌};
-ghost use Rattle.leaf_matching.specs.Frames.{Framed, OfFrame, FramedTwo, OfFrameTwo};
+ghost use Rattle.leaf_verdicts.specs.Laid.{AtIndex, OfIndex, TwoAt, OfTwoAt};
 ghost use Rattle.leaf_verdicts.specs.Columns.{geometry_reason, same_child, order_reason, bound_reason, GeometriesTold, BoundTold};
 
-use super::asked::Asked;
 use super::verdict::Verdict;
-use leaf_matching::sides::{SideFlags, column_references};
+use leaf_matching::filter::Filter;
+use leaf_matching::sides::{SideFlags, seen_by_rows};
 
 // The verdicts of a geometry: of one without columns, with columns of both children, and with a mark column.
 #[derive(Clone, Copy)]
@@ -72,30 +72,35 @@ fn bound_reason(of: SideFlags) -> Verdict
     }
 }
 
-// Two geometries in a row: what is wrong with them, and where they end.
+// Two geometries in a row: what is wrong with them, where they end, and the index after them.
 #[derive(Clone, Copy)]
 pub struct GeometriesVerdict {
     pub reason: Option<Verdict>,
     pub end: usize,
+    pub after: usize,
 }
 
-// The geometries at a place.
-pub fn two_geometries(asked: Asked, at: usize) -> GeometriesVerdict
-    requires { FramedTwo asked.s.now asked.rec at }
-    ensures { OfFrameTwo asked.entry.s.now asked.entry.rec at (GeometriesTold at result) }
+// The geometries of an index and of the one after it.
+pub fn two_geometries(filter: Filter, i: usize) -> GeometriesVerdict
+    requires { TwoAt filter.s.now filter.rec filter.rows.numbers.now filter.rows.next.now i }
+    ensures { OfTwoAt filter.entry.s.now filter.entry.rec filter.entry.rows.numbers.now filter.entry.rows.next.now i (GeometriesTold i result) }
 {
-    let first = column_references(asked.s, asked.rec, at);
-    let second = column_references(asked.s, asked.rec, first.end);
+    let two = filter.rows.two(i);
+    let middle = filter.rows.after(i);
+    let first = seen_by_rows(filter, i, middle);
+    let second = seen_by_rows(filter, middle, two.after);
     GeometriesVerdict {
-        reason: order_reason(first.seen.flags(), second.seen.flags()),
-        end: second.end,
+        reason: order_reason(first.flags(), second.flags()),
+        end: two.end,
+        after: two.after,
     }
 }
 
-// The verdict of the bound at a place, where the geometries are right.
-pub fn bound_verdict(asked: Asked, at: usize) -> Verdict
-    requires { Framed asked.s.now asked.rec at }
-    ensures { OfFrame asked.entry.s.now asked.entry.rec at (BoundTold result) }
+// The verdict of the bound of an index, where the geometries are right.
+pub fn bound_verdict(filter: Filter, i: usize) -> Verdict
+    requires { AtIndex filter.s.now filter.rec filter.rows.numbers.now filter.rows.next.now i }
+    ensures { OfIndex filter.entry.s.now filter.entry.rec filter.entry.rows.numbers.now filter.entry.rows.next.now i (BoundTold result) }
 {
-    bound_reason(column_references(asked.s, asked.rec, at).seen.flags())
+    let end = filter.rows.after(i);
+    bound_reason(seen_by_rows(filter, i, end).flags())
 }

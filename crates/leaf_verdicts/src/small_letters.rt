@@ -3,11 +3,10 @@ ghost use Rattle.std.specs.Prelude.{◌≡◌, not};
 ghost use Rattle.definitions.specs.Filter.Names.{lower_case};
 ghost use Rattle.definitions.specs.Words.Expression.{binary};
 ghost use Rattle.definitions.specs.Filter.Verdicts as definitions;
-ghost use Rattle.expression.specs.Nodes.{Tree, OfTree, Trees, OfTrees};
-ghost use Rattle.expression.specs.Leaves.{Pair, OfPair};
+ghost use Rattle.leaf_verdicts.specs.Laid.{AtIndex, OfIndex, RowAt, OfRow, PairAt, OfPairAt};
 
-use expression::ends::end_node;
 use expression::leaves::{Node, node_at};
+use leaf_matching::filter::Filter;
 use logical_filter::predicate_names::{is_distance_expr, is_spatial_name};
 use sedona_expr::utils::comparison;
 
@@ -18,41 +17,52 @@ pub fn named_in_small(name: &[u8]) -> bool
     is_spatial_name(name)
 }
 
-// Whether a comparison looks at `st_distance`, letter case aside; its left side stands at a place.
-fn measured_in_small(s: &[u8], operator: u8, left: usize) -> bool
-    requires { Pair s.now left }
-    ensures { OfPair s.now left (λ c l r. result ≡ definitions.ours_in_small (binary operator l r)) }
+// Whether the node of an index is an `st_distance`, letter case aside.
+pub fn is_distance(filter: Filter, i: usize) -> bool
+    requires { AtIndex filter.s.now filter.rec filter.rows.numbers.now filter.rows.next.now i }
+    ensures { OfIndex filter.entry.s.now filter.entry.rec filter.entry.rows.numbers.now filter.entry.rows.next.now i
+        (λ records t. result ≡ definitions.is_distance_call t) }
 {
-    let right = end_node(s, left);
-    match comparison(operator, left, right) {
-        Some(sides) => is_distance_expr(s, sides.measured),
+    is_distance_expr(filter.s, filter.rows.start(i))
+}
+
+// Whether a comparison looks at `st_distance`, letter case aside; its left side has an index.
+fn measured_in_small(filter: Filter, operator: u8, left: usize) -> bool
+    requires { PairAt filter.s.now filter.rec filter.rows.numbers.now filter.rows.next.now left }
+    ensures { OfPairAt filter.entry.s.now filter.entry.rec filter.entry.rows.numbers.now filter.entry.rows.next.now left
+        (λ records l r. result ≡ definitions.ours_in_small (binary operator l r)) }
+{
+    match comparison(operator, left, filter.rows.after(left)) {
+        Some(sides) => is_distance(filter, sides.measured),
         None => false,
     }
 }
 
-// Whether an expression would be meant for a line.
-fn ours_in_small(s: &[u8], at: usize) -> bool
-    requires { Tree s.now at }
-    ensures { OfTree s.now at (λ t. result ≡ definitions.ours_in_small t) }
+// Whether the expression of an index would be meant for a line.
+fn ours_in_small(filter: Filter, i: usize) -> bool
+    requires { AtIndex filter.s.now filter.rec filter.rows.numbers.now filter.rows.next.now i }
+    ensures { OfIndex filter.entry.s.now filter.entry.rec filter.entry.rows.numbers.now filter.entry.rows.next.now i
+        (λ records t. result ≡ definitions.ours_in_small t) }
 {
-    match node_at(s, at) {
-        Node::Call(called) => named_in_small(called.name(s)),
-        Node::Binary(operator, left) => measured_in_small(s, operator, left),
+    match node_at(filter.s, filter.rows.start(i)) {
+        Node::Call(called) => named_in_small(called.name(filter.s)),
+        Node::Binary(operator, _) => measured_in_small(filter, operator, i + 1),
         Node::And(_) | Node::Plain(_) => false,
     }
 }
 
-// Whether one of n expressions in a row would.
-pub fn some_of_ours(s: &[u8], at: usize, n: usize) -> bool
-    requires { Trees s.now at n }
-    ensures { OfTrees s.now at n (λ ts. result ≡ definitions.some_of_ours ts) }
+// Whether one of n expressions in a row would, the first of which has index i.
+pub fn some_of_ours(filter: Filter, i: usize, n: usize) -> bool
+    requires { RowAt filter.s.now filter.rec filter.rows.numbers.now filter.rows.next.now i n }
+    ensures { OfRow filter.entry.s.now filter.entry.rec filter.entry.rows.numbers.now filter.entry.rows.next.now i n
+        (λ records ts. result ≡ definitions.some_of_ours ts) }
 {
-    let mut next = at;
+    let mut next = i;
     for _ in 0..n {
-        if ours_in_small(s, next) {
+        if ours_in_small(filter, next) {
             return true;
         }
-        next = end_node(s, next);
+        next = filter.rows.after(next);
     }
     false
 }

@@ -1,35 +1,35 @@
 // The verdicts of all AND-leaves.
+// The rows have the And nodes and AND-leaves in prefix order: after an And comes its left side, after a leaf the node that comes after all
+// below it.
 ghost use Rattle.terms.specs.Settings.{settings_of};
 ghost use Rattle.leaf_verdicts.specs.Walks.{VerdictsFit, VerdictsPut};
 
 use super::asked::Asked;
 use super::leaf::leaf_verdict;
-use expression::ends::end_node;
 use expression::leaves::{Node, node_at};
+use leaf_matching::filter::Filter;
+use node_rows::rows::Rows;
+use terms::settings::Settings;
 
-// How many AND-leaves there are, and where the expression ends.
-#[derive(Clone, Copy)]
-pub struct Written {
-    pub count: usize,
-    pub end: usize,
-}
-
-// Writes a byte for each AND-leaf of the expression at a place; those of an And's right side start where its left side's ended.
-pub fn put_verdicts(out: &mut [u8], asked: Asked, at: usize) -> Written
-    requires { VerdictsFit asked.s.now asked.rec at out.old }
-    ensures { VerdictsPut (settings_of asked.entry.settings) asked.entry.s.now asked.entry.rec at out.old out.new result }
+// Writes a byte for each AND-leaf of the expression that has the first rows, and gives how many they are.
+pub fn put_verdicts(out: &mut [u8], s: &[u8], rec: usize, rows: Rows, settings: Settings) -> usize
+    requires { VerdictsFit s.now rec rows.numbers.now rows.next.now out.old }
+    ensures { VerdictsPut (settings_of settings) s.now rec rows.entry.numbers.now rows.entry.next.now out.old out.new result }
 {
-    if let Node::And(left) = node_at(asked.s, at) {
-        let one = put_verdicts(out, asked, left);
-        let two = put_verdicts(&mut out[one.count..], asked, one.end);
-        return Written {
-            count: one.count + two.count,
-            end: two.end,
-        };
+    let filter = Filter { s, rec, rows };
+    let asked = Asked { filter, settings };
+    let last = rows.after(0);
+    let mut index = 0;
+    let mut count = 0;
+    while index < last {
+        let node = node_at(s, rows.start(index));
+        if let Node::And(_) = node {
+            index += 1;
+        } else {
+            out[count] = u8::from(leaf_verdict(asked, node, index));
+            count += 1;
+            index = rows.after(index);
+        }
     }
-    out[0] = u8::from(leaf_verdict(asked, at));
-    Written {
-        count: 1,
-        end: end_node(asked.s, at),
-    }
+    count
 }

@@ -64,13 +64,19 @@ module _ {numbers indexes : List ℕ} {at bit next : ℕ} {t : Expr} {before aft
 
 -- ---- the loop
 
-pub leaves_all : Exprs → List Expr
+unfoldable pub leaves_all : Exprs → List Expr
 leaves_all nil = []
 leaves_all (cons t ts) = leaves t ++ leaves_all ts
 
-both-leaves : (l r : Expr) (ts : Exprs) → leaves_all (cons (and l r) ts) ≡ leaves_all (cons l (cons r ts))
+pub both-leaves : (l r : Expr) (ts : Exprs) → leaves_all (cons (and l r) ts) ≡ leaves_all (cons l (cons r ts))
 unfolding leaves_all leaves
 both-leaves l r ts = append_assoc (leaves l) (leaves r) (leaves_all ts)
+
+-- Where nothing is left, these are all leaves.
+pub all-seen : {seen all : List Expr} (ts : Exprs) → nodes_all ts ≡ 0 → seen ++ leaves_all ts ≡ all → seen ≡ all
+unfolding leaves_all nodes
+all-seen {seen} nil e is = sym (append-nil seen) ∙ is
+all-seen (cons t ts) e is = absurd (omega (arith, nodes-below t))
 
 -- What it keeps: the leaves of what is left come after those that were seen.
 pub record Collecting (s numbers indexes : List ℕ) (end : ℕ) (now : CollectedNames) (whole : Expr) : Type 0 where
@@ -155,14 +161,9 @@ module _ {s numbers indexes : List ℕ} {end : ℕ} {whole : Expr} where
           inv.left (omega (arith, inv.ends)) inv.are inv.ends inv.all
 
     pub all-collected : end ≤ now.next → CollectedIs s numbers indexes now whole
-    unfolding leaves_all nodes
     all-collected done =
-        let same = seen-all inv.left (omega (arith, inv.ends)) inv.all in
+        let same = all-seen inv.left (omega (arith, inv.ends)) inv.all in
         record {
           names = inv.names ∙ ap (λ (es : List Expr). mask spatial_names (map leaf_name es)) same;
           knn = subst (λ (es : List Expr). KnnIs s numbers indexes now.knn (first_knn es)) same inv.knn;
         }
-      where
-        seen-all : (ts : Exprs) → nodes_all ts ≡ 0 → inv.seen ++ leaves_all ts ≡ leaves whole → inv.seen ≡ leaves whole
-        seen-all nil e all = sym (append-nil inv.seen) ∙ all
-        seen-all (cons t ts) e all = absurd (omega (arith, nodes-below t))

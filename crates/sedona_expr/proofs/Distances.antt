@@ -64,7 +64,7 @@ chosen true args all e = cc
 chosen false args all e = absurd (none-ne-some _ e)
 
 -- The arguments of `st_distance` are its children.
-argument-children : (t : Expr) (all : Exprs) → distance_arguments t ≡ some all → children_of t ≡ all
+pub argument-children : (t : Expr) (all : Exprs) → distance_arguments t ≡ some all → children_of t ≡ all
 unfolding distance_arguments children_of
 argument-children (column i g) all e = absurd (none-ne-some _ e)
 argument-children (literal y v) all e = absurd (none-ne-some _ e)

@@ -16,18 +16,17 @@ use Rattle.definitions.specs.Words.Expression.{Expr}
 use Rattle.definitions.specs.Words.Leaves.{leaves}
 use Rattle.definitions.specs.Bytes.Plans.{frame_of}
 use Rattle.definitions.specs.Calls.Base.{written_over}
-use Rattle.definitions.specs.Bytes.Good.{AllBytes, nodes, plan_nodes}
 use Rattle.definitions.specs.Filter.Settings.{Settings, good_settings}
 use Rattle.definitions.specs.Filter.Verdicts.{verdict_byte, verdict_under, verdicts_under, verdict_bytes, named_by, bill_number, explained, TakenLeaf}
 use Rattle.definitions.specs.Calls.Explain.{new_verdicts, finish_explain, explain}
-use Rattle.theorems.proofs.InverseFrame.{frame_back}
 use Rattle.theorems.proofs.Pick.{leaves-nodes}
-use Rattle.leaf_matching.specs.Frames.{Over}
-use Rattle.node_rows.specs.Rows.{NoRows}
+use Rattle.expression.proofs.Placed.{fits}
+use Rattle.node_rows.specs.Rows.{Tabled}
+use Rattle.node_rows.proofs.RowLaws.{numbers-length}
 use Rattle.frame_reader.specs.Frames.{PhysicalIs}
 use Rattle.frame_reader.specs.declared.frame_bodies.Frame.{Frame}
 use Rattle.frame_reader.proofs.Standing.{between-holds, expr-stands}
-use Rattle.leaf_verdicts.specs.declared.walk.Written as walk
+use Rattle.leaf_verdicts.specs.Laid.{Laid}
 use Rattle.leaf_verdicts.specs.Taken.{taken_of}
 use Rattle.leaf_verdicts.specs.Walks.{tree_bytes, VerdictsAre}
 use Rattle.call_explain.specs.declared.call.Explained.{Explained}
@@ -72,34 +71,33 @@ module _ (S : Settings) (good : good_settings S ≡ true) (s before : List ℕ) 
     too_short short = by-room false (lt-leb (length (verdict_bytes S F)) (length before) (omega (arith, short, as-many)))
 
     -- What was written to a row, and copied from there.
-    module _ {at : ℕ} {blank row : List ℕ} {w : walk.Written} (put : VerdictsAre S at blank row w F.records F.expr) where
-      row-has : take w.count row ≡ verdict_bytes S F
+    module _ {blank row : List ℕ} {count : ℕ} (put : VerdictsAre S blank row count F.records F.expr) where
+      row-has : take count row ≡ verdict_bytes S F
       row-has =
           ap₂ take (put.counted ∙ sym (length-map (leaves F.expr) _)) put.wrote
           ∙ take-append_seam (tree_bytes S F.records F.expr) _ ∙ sym bytes-are
 
-      pub copied : w.count ≤ length before → (after : List ℕ) → after ≡ take w.count (drop 0 row) ++ drop w.count before
-          → (e : Explained) → e.count ≡ w.count → taken_of e.taken ≡ named_by (take w.count row)
+      pub copied : count ≤ length before → (after : List ℕ) → after ≡ take count (drop 0 row) ++ drop count before
+          → (e : Explained) → e.count ≡ count → taken_of e.taken ≡ named_by (take count row)
           → explain S s before ≡ record { answer = ok (explained_number e); buffer = after }
       unfolding finish_explain written_over explained
-      copied room after copy e count taken =
+      copied room after copy e counted taken =
           by-room true (le-leb (length (verdict_bytes S F)) (length before) (omega (arith, room, as-many, put.counted)))
           ∙ ap₂ (λ (n : ℕ) (buffer : List ℕ). record { answer = ok n; buffer = buffer })
           (ap₂ (λ (t : optional.Option TakenLeaf) (n : ℕ). bill_number t * 65536 + n)
-          (sym (taken ∙ ap named_by row-has)) (as-many ∙ sym put.counted ∙ sym count))
+          (sym (taken ∙ ap named_by row-has)) (as-many ∙ sym put.counted ∙ sym counted))
           (sym (copy ∙ ap₂ (λ (xs : List ℕ) (n : ℕ). xs ++ drop n before) row-has (put.counted ∙ sym as-many)))
 
 -- ---- a frame that was read
 
-module _ (s : List ℕ) {f : Frame} (h : PhysicalIs s (Ok f) (frame_of s) NoRows) where
-  -- Its expression stands there, with its records.
-  pub read-over : Over s f.records f.root h.0.records h.0.expr
-  read-over = record { entries = between-holds h.1.records; tree = expr-stands h.1.expr }
+module _ (s : List ℕ) {f : Frame} {numbers next : List ℕ} (h : PhysicalIs s (Ok f) (frame_of s) (Tabled numbers next)) where
+  -- Its expression stands there, with its records, and has the first rows.
+  pub read-laid : Laid s f.records numbers next f.root 0 h.0.records h.0.expr
+  read-laid = record {
+    over = record { entries = between-holds h.1.records; tree = expr-stands h.1.expr };
+    tabled = h.3;
+  }
 
-  -- It has at most 1,024 conjuncts.
-  pub few-leaves : AllBytes s → length (leaves h.0.expr) ≤ 1024
-  unfolding plan_nodes
-  few-leaves bytes =
-      let back = frame_back s h.0 bytes h.2 in
-      let few : nodes h.0.expr ≤ 1024 = back.1.few_nodes in
-      omega (arith, leaves-nodes h.0.expr, few)
+  -- It has no more conjuncts than rows.
+  pub few-leaves : length (leaves h.0.expr) ≤ length numbers
+  few-leaves = omega (arith, leaves-nodes h.0.expr, fits h.3.numbered, numbers-length f.root h.0.expr)

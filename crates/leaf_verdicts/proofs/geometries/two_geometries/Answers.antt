@@ -1,21 +1,34 @@
--- `two_geometries`: the flags of both walks say what is asked of the sides of their columns.
-use native.Mathlib.Omega.{arith}
+-- `two_geometries`: the columns of both are in the rows, and their flags say what is asked of their sides.
 use Rattle.definitions.specs.Filter.Verdicts.{sides_of}
-use Rattle.leaf_verdicts.proofs.ColumnLaws.{second-over, geometries-told}
+use Rattle.leaf_verdicts.proofs.LaidLaws.{two-tabled, two-within, first-argument, second-argument}
+use Rattle.leaf_verdicts.proofs.ColumnLaws.{geometries-told}
 use Rattle.leaf_verdicts.proofs.geometries.two_geometries.Goals as goal
 
-pub column_references-second-requires : goal.column_references-second-requires
-column_references-second-requires c =
-    let over = c.requires.3 in
-    (c.requires.0, c.requires.2, second-over over (c.column_references-first.ensures _ _ over.one).end)
+pub two-two-requires : goal.two-two-requires
+two-two-requires c = two-tabled c.requires
+
+pub after-middle-requires : goal.after-middle-requires
+after-middle-requires c = two-within c.requires
+
+pub seen_by_rows-first-requires : goal.seen_by_rows-first-requires
+seen_by_rows-first-requires c =
+    let p = c.requires in
+    (p.2, p.3, first-argument p.6 _ c.after-middle.ensures)
+
+pub seen_by_rows-second-requires : goal.seen_by_rows-second-requires
+seen_by_rows-second-requires c =
+    let p = c.requires in
+    (p.2, p.4, second-argument p.6 _ c.after-middle.ensures _ (c.two-two.ensures p.0 p.3 p.4 p.5 p.6.tabled).after)
 
 pub returns : goal.returns
 unfolding sides_of
 returns c =
-    λ records a b over.
-    let first = c.column_references-first.ensures records a over.one in
-    let second = c.column_references-second.ensures records b (second-over over first.end) in
+    λ at n records a b more h.
+    let two = c.two-two.ensures at a b more h.tabled in
+    let first = c.seen_by_rows-first.ensures records a (first-argument h _ c.after-middle.ensures) in
+    let second = c.seen_by_rows-second.ensures records b (second-argument h _ c.after-middle.ensures _ two.after) in
     record {
-      end = omega (arith, first.end, second.end);
-      told = λ after. rw (c.order_reason.ensures, c.flags.ensures, c.flags-2.ensures, first.seen, second.seen) (geometries-told _ _ after);
+      end = two.end;
+      after = two.after;
+      told = λ after. rw (c.order_reason.ensures, c.flags.ensures, c.flags-2.ensures, first, second) (geometries-told _ _ after);
     }

@@ -1,87 +1,99 @@
 -- `binary_verdict`: a comparison is asked on the side that is looked at, and any other operator is no comparison.
 use native.Mathlib.Omega.{arith}
+use Prim.Native.Nat.{ℕ}
 use mathlib.Core.Path.{sym, ◌∙◌}
 use mathlib.Core.Bool.{true, false}
 use mathlib.Core.List.{List}
 use Rattle.definitions.specs.Words.Expression.{Expr, nil, cons, Record}
 use Rattle.definitions.specs.Words.Leaves.{comparison}
-use Rattle.expression.proofs.There.{first-of-pair}
 use Rattle.sedona_expr.specs.Parsed.{ComparedIs}
-use Rattle.sedona_expr.proofs.Comparing.{told-sides, sides-found}
-use Rattle.leaf_matching.specs.Frames.{Over, OverAll}
-use Rattle.leaf_matching.proofs.Framing.{first-over, rest_over}
+use Rattle.leaf_verdicts.specs.Laid.{Laid, LaidAll}
+use Rattle.leaf_verdicts.proofs.LaidLaws.{index-within, laid-stands, pair-first, pair-row, laid-sides, laid-arguments}
 use Rattle.leaf_verdicts.proofs.StageLaws.{operator-told, other-told, distance-told}
 use Rattle.leaf_verdicts.proofs.leaf.binary_verdict.Goals as goal
 use Rattle.leaf_verdicts.proofs.leaf.binary_verdict.Goals.{After-comparison}
 
--- Both sides with the records.
-sides : (c : After-comparison) {records : List Record} {l r : Expr}
-    → OverAll c.args.asked.s.now c.args.asked.rec c.args.left 2 records (cons l (cons r nil))
-    → ComparedIs (λ q e. Over c.args.asked.s.now c.args.asked.rec q records e) c.comparison.result (comparison c.args.operator l r)
-sides c {records} {l} {r} over =
-    let first = first-over over in
-    let right = c.end_node-right.ensures _ l first.tree in
-    told-sides (λ q e. Over c.args.asked.s.now c.args.asked.rec q records e) first
-    (first-over (rest_over over c.end_node-right.result 1 right (omega arith))) c.args.operator c.comparison.ensures
+-- Both sides, by their indexes.
+sides : (c : After-comparison) {at : ℕ} {records : List Record} {l r : Expr}
+    → let f = c.args.asked.filter in
+    LaidAll f.s.now f.rec f.rows.numbers.now f.rows.next.now at c.args.left 2 records (cons l (cons r nil))
+    → ComparedIs (λ k e. (p : ℕ) × Laid f.s.now f.rec f.rows.numbers.now f.rows.next.now p k records e) c.comparison.result
+    (comparison c.args.operator l r)
+sides c h = laid-sides h c.args.operator _ c.after.ensures c.comparison.ensures
 
-pub end_node-right-requires : goal.end_node-right-requires
-end_node-right-requires c = first-of-pair (_, c.requires.1, c.requires.2, c.requires.3.row)
-
-pub operator_verdict-requires-clause-pair : goal.operator_verdict-requires-clause-pair
-operator_verdict-requires-clause-pair c = (_, c.requires.1, c.requires.2, c.requires.3.row)
-
-pub other_comparison_verdict-requires-clause-pair : goal.other_comparison_verdict-requires-clause-pair
-other_comparison_verdict-requires-clause-pair c = (_, c.requires.1, c.requires.2, c.requires.3.row)
+pub after-requires : goal.after-requires
+after-requires c = (index-within (pair-first c.requires)).1
 
 pub returns-in_default : goal.returns-in_default
 returns-in_default c =
-    λ records l r over.
-    c.operator_verdict.ensures _ l r over.row
+    λ at records l r h.
+    c.operator_verdict.ensures at records l r h
     ∙ sym (operator-told _ records c.args.operator l r
-    (rw c.in_default.is at (sides (goal.at.returns-in_default c).After-comparison over)))
+    (rw c.in_default.is at (sides (goal.at.returns-in_default c).After-comparison h)))
+
+pub start-measured-requires : goal.start-measured-requires
+start-measured-requires c =
+    let both = rw c.in-Some.is at (sides (goal.at.start-measured-requires c).After-comparison c.requires.4) in
+    (index-within (both.stands_measured.0, c.requires.1, both.m, both.stands_measured.1)).0
 
 pub distance_arguments-requires : goal.distance_arguments-requires
 distance_arguments-requires c =
-    let both = rw c.in-Some.is at (sides (goal.at.distance_arguments-requires c).After-comparison c.requires.3) in
-    (_, both.m, both.stands_measured.tree)
+    let both = rw c.in-Some.is at (sides (goal.at.distance_arguments-requires c).After-comparison c.requires.4) in
+    (_, both.m, laid-stands both.stands_measured.1 _ c.start-measured.ensures)
 
-pub other_comparison_verdict-requires-clause-of_pair : goal.other_comparison_verdict-requires-clause-of_pair
-other_comparison_verdict-requires-clause-of_pair c =
-    λ d l r row.
-    let both = sides-found row c.end_node-right.result c.end_node-right.ensures _ c.in-Some.ensures in
-    (both.m, both.b, both.stands_measured, both.stands_bound)
+pub other_comparison_verdict-requires-clause-row : goal.other_comparison_verdict-requires-clause-row
+other_comparison_verdict-requires-clause-row c = pair-row c.requires
+
+pub other_comparison_verdict-requires-clause-measured : goal.other_comparison_verdict-requires-clause-measured
+other_comparison_verdict-requires-clause-measured c =
+    let both =
+    rw c.in-Some.is at (sides (goal.at.other_comparison_verdict-requires-clause-measured c).After-comparison c.requires.4) in
+    (both.stands_measured.0, c.requires.1, both.m, both.stands_measured.1)
+
+pub other_comparison_verdict-requires-clause-bound : goal.other_comparison_verdict-requires-clause-bound
+other_comparison_verdict-requires-clause-bound c =
+    let both = rw c.in-Some.is at (sides (goal.at.other_comparison_verdict-requires-clause-bound c).After-comparison c.requires.4) in
+    (both.stands_bound.0, c.requires.1, both.b, both.stands_bound.1)
 
 pub returns-in_default-distance_arguments : goal.returns-in_default-distance_arguments
 returns-in_default-distance_arguments c =
-    λ records l r over.
-    let both = rw c.in-Some.is at (sides (goal.at.returns-in_default-distance_arguments c).After-comparison over) in
-    c.other_comparison_verdict.ensures _ l r over.row both.m both.b both.stands_measured.tree both.stands_bound.tree
+    λ at records l r h.
+    let both = rw c.in-Some.is at (sides (goal.at.returns-in_default-distance_arguments c).After-comparison h) in
+    c.other_comparison_verdict.ensures at records _ h _ both.m both.stands_measured.1 _ both.b both.stands_bound.1
     ∙ sym (other-told _ records c.args.operator l r both.is
-    (c.in_default-distance_arguments.ensures _ both.m both.stands_measured.tree))
+    (c.in_default-distance_arguments.ensures _ both.m (laid-stands both.stands_measured.1 _ c.start-measured.ensures)))
 
 pub returns-then-left_out : goal.returns-then-left_out
 returns-then-left_out c =
-    λ records l r over.
-    let both = rw c.in-Some.is at (sides (goal.at.returns-then-left_out c).After-comparison over) in
-    let arguments = c.in-Some-distance_arguments.ensures _ both.m both.stands_measured.tree in
+    λ at records l r h.
+    let both = rw c.in-Some.is at (sides (goal.at.returns-then-left_out c).After-comparison h) in
+    let arguments =
+    c.in-Some-distance_arguments.ensures _ both.m (laid-stands both.stands_measured.1 _ c.start-measured.ensures) in
     sym (distance-told _ records c.args.operator l r both.is arguments.all arguments.is true (sym c.left_out.ensures ∙ c.if-left_out.true))
 
-pub measured_verdict-requires-clause-framed_all : goal.measured_verdict-requires-clause-framed_all
-measured_verdict-requires-clause-framed_all c =
-    let both = rw c.in-Some.is at (sides (goal.at.measured_verdict-requires-clause-framed_all c).After-comparison c.requires.3) in
-    let arguments = c.in-Some-distance_arguments.ensures _ both.m both.stands_measured.tree in
-    (c.requires.0, arguments.all, record { entries = c.requires.3.entries; row = arguments.row })
+pub overflow_add-sides : goal.overflow_add-sides
+overflow_add-sides c =
+    let both = rw c.in-Some.is at (sides (goal.at.overflow_add-sides c).After-comparison c.requires.4) in
+    omega (arith, (index-within (both.stands_measured.0, c.requires.1, both.m, both.stands_measured.1)).0, c.well_formed)
 
-pub measured_verdict-requires-clause-framed : goal.measured_verdict-requires-clause-framed
-measured_verdict-requires-clause-framed c =
-    let both = rw c.in-Some.is at (sides (goal.at.measured_verdict-requires-clause-framed c).After-comparison c.requires.3) in
-    (c.requires.0, both.b, both.stands_bound)
+pub measured_verdict-requires-clause-row : goal.measured_verdict-requires-clause-row
+measured_verdict-requires-clause-row c =
+    let both = rw c.in-Some.is at (sides (goal.at.measured_verdict-requires-clause-row c).After-comparison c.requires.4) in
+    let arguments =
+    c.in-Some-distance_arguments.ensures _ both.m (laid-stands both.stands_measured.1 _ c.start-measured.ensures) in
+    (_, c.requires.1, arguments.all, laid-arguments both.stands_measured.1 arguments)
+
+pub measured_verdict-requires-clause-bound : goal.measured_verdict-requires-clause-bound
+measured_verdict-requires-clause-bound c =
+    let both = rw c.in-Some.is at (sides (goal.at.measured_verdict-requires-clause-bound c).After-comparison c.requires.4) in
+    (both.stands_bound.0, c.requires.1, both.b, both.stands_bound.1)
 
 pub returns : goal.returns
 returns c =
-    λ records l r over.
-    let both = rw c.in-Some.is at (sides (goal.at.returns c).After-comparison over) in
-    let arguments = c.in-Some-distance_arguments.ensures _ both.m both.stands_measured.tree in
-    c.measured_verdict.ensures records arguments.all (record { entries = over.entries; row = arguments.row }) both.b both.stands_bound
+    λ at records l r h.
+    let both = rw c.in-Some.is at (sides (goal.at.returns c).After-comparison h) in
+    let arguments =
+    c.in-Some-distance_arguments.ensures _ both.m (laid-stands both.stands_measured.1 _ c.start-measured.ensures) in
+    c.measured_verdict.ensures _ records arguments.all (laid-arguments both.stands_measured.1 arguments) _ both.b both.stands_bound.1
     ∙ sym (distance-told _ records c.args.operator l r both.is arguments.all arguments.is false
     (sym c.left_out.ensures ∙ c.if-left_out.false))

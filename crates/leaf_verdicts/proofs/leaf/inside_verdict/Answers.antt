@@ -5,9 +5,9 @@ use Rattle.leaf_verdicts.proofs.leaf.inside_verdict.Goals as goal
 pub returns-then-some_of_ours : goal.returns-then-some_of_ours
 unfolding inside_stage
 returns-then-some_of_ours c =
-    λ d ts row. rw (← c.some_of_ours.ensures d ts row, c.if-some_of_ours.true)
+    λ at records ts h. rw (← c.some_of_ours.ensures at records ts h, c.if-some_of_ours.true)
 
 pub returns-else-some_of_ours : goal.returns-else-some_of_ours
 unfolding inside_stage
 returns-else-some_of_ours c =
-    λ d ts row. rw (← c.some_of_ours.ensures d ts row, c.if-some_of_ours.false)
+    λ at records ts h. rw (← c.some_of_ours.ensures at records ts h, c.if-some_of_ours.false)

@@ -1,45 +1,44 @@
 -- `operator_verdict`: `st_distance` on either side, else what stands below it.
-use Rattle.expression.proofs.There.{first-of-pair, second-of-pair, both-there}
-use Rattle.expression.proofs.Standing.{first-stands}
-use Rattle.expression.proofs.Parts.{pair-right}
-use Rattle.definitions.specs.Words.Expression.{nil, cons}
-use Rattle.definitions.specs.Filter.Verdicts.{is_distance_call}
 use Rattle.leaf_verdicts.specs.Stages.{operator_stage}
+use Rattle.leaf_verdicts.proofs.LaidLaws.{index-within, first-laid, second-laid, pair-first, pair-second, pair-row}
 use Rattle.leaf_verdicts.proofs.leaf.operator_verdict.Goals as goal
-use Rattle.leaf_verdicts.proofs.leaf.operator_verdict.Goals.{then-is_distance_expr-via-then-is_distance_expr, then-is_distance_expr-via-else-is_distance_expr+then-is_distance_expr-2}
+use Rattle.leaf_verdicts.proofs.leaf.operator_verdict.Goals.{then-is_distance-via-then-is_distance, then-is_distance-via-else-is_distance+then-is_distance-2}
 
-pub is_distance_expr-requires : goal.is_distance_expr-requires
-is_distance_expr-requires c = first-of-pair c.requires.pair
+pub is_distance-requires : goal.is_distance-requires
+is_distance-requires c = pair-first c.requires
 
-pub is_distance_expr-requires-else-is_distance_expr : goal.is_distance_expr-requires-else-is_distance_expr
-is_distance_expr-requires-else-is_distance_expr c = second-of-pair c.requires.pair _ c.requires.of_tree
+pub after-requires : goal.after-requires
+after-requires c = (index-within (pair-first c.requires)).1
+
+pub is_distance-requires-else-is_distance : goal.is_distance-requires-else-is_distance
+is_distance-requires-else-is_distance c = pair-second c.requires _ c.after.ensures
 
 pub inside_verdict-requires : goal.inside_verdict-requires
-inside_verdict-requires c = both-there c.requires.pair
+inside_verdict-requires c = pair-row c.requires
 
-pub returns-then-is_distance_expr : goal.returns-then-is_distance_expr
-unfolding operator_stage is_distance_call
-returns-then-is_distance_expr c =
-    λ d l r row. elim c.then-is_distance_expr.branch [
-      | then-is_distance_expr-via-then-is_distance_expr w ↦
-          rw (← c.is_distance_expr.ensures d l (first-stands row), w.if-is_distance_expr.true)
-      | then-is_distance_expr-via-else-is_distance_expr+then-is_distance_expr-2 w ↦
+pub returns-then-is_distance : goal.returns-then-is_distance
+unfolding operator_stage
+returns-then-is_distance c =
+    λ at records l r h. elim c.then-is_distance.branch [
+      | then-is_distance-via-then-is_distance w ↦
+          rw (← c.is_distance.ensures at records l (first-laid h), w.if-is_distance.true)
+      | then-is_distance-via-else-is_distance+then-is_distance-2 w ↦
           rw (
-            ← c.is_distance_expr.ensures d l (first-stands row),
-            w.if-is_distance_expr.false,
-            ← w.is_distance_expr-else-is_distance_expr.ensures d r (pair-right row _ c.requires.of_tree),
-            w.if-is_distance_expr-2.true,
+            ← c.is_distance.ensures at records l (first-laid h),
+            w.if-is_distance.false,
+            ← w.is_distance-else-is_distance.ensures _ records r (second-laid h _ w.after.ensures),
+            w.if-is_distance-2.true,
           )
     ]
 
 pub returns : goal.returns
-unfolding operator_stage is_distance_call
+unfolding operator_stage
 returns c =
-    λ d l r row.
+    λ at records l r h.
     rw (
-      ← c.is_distance_expr.ensures d l (first-stands row),
-      c.if-is_distance_expr.false,
-      ← c.is_distance_expr-else-is_distance_expr.ensures d r (pair-right row _ c.requires.of_tree),
-      c.if-is_distance_expr-2.false,
+      ← c.is_distance.ensures at records l (first-laid h),
+      c.if-is_distance.false,
+      ← c.is_distance-else-is_distance.ensures _ records r (second-laid h _ c.after.ensures),
+      c.if-is_distance-2.false,
     )
-    (c.inside_verdict.ensures d (cons l (cons r nil)) row)
+    (c.inside_verdict.ensures at records _ h)

@@ -2,26 +2,44 @@
 use mathlib.Core.Path.{sym, ap}
 use Rattle.std.proofs.Common.{inl, inr}
 use Rattle.definitions.specs.Filter.Verdicts as definitions
+use Rattle.expression.proofs.There.{call-there}
+use Rattle.leaf_verdicts.proofs.LaidLaws.{index-within, laid-stands, laid-pair}
 use Rattle.leaf_verdicts.proofs.SmallLaws.{plain-small}
 use Rattle.leaf_verdicts.proofs.small_letters.ours_in_small.Goals as goal
 
+pub start-requires : goal.start-requires
+start-requires c = (index-within c.requires).0
+
+pub node_at-requires : goal.node_at-requires
+node_at-requires c = (_, c.requires.2, laid-stands c.requires.3 _ c.start.ensures)
+
+pub name-requires : goal.name-requires
+name-requires c = call-there (_, c.requires.2, laid-stands c.requires.3 _ c.start.ensures) c.node_at.ensures c.in-Call.is
+
+pub measured_in_small-requires : goal.measured_in_small-requires
+measured_in_small-requires c =
+    let both = c.in-Binary.ensures _ c.requires.2 (laid-stands c.requires.3 _ c.start.ensures) in
+    (_, c.requires.1, both.l, both.r, laid-pair c.requires.3 both)
+
 pub returns-in-Binary : goal.returns-in-Binary
 returns-in-Binary c =
-    λ d t h.
-    let pair = c.in-Binary.ensures d t h in
-    rw pair.is (c.measured_in_small.ensures d pair.l pair.r pair.row)
+    λ at records t h.
+    let both = c.in-Binary.ensures _ t (laid-stands h _ c.start.ensures) in
+    rw both.is (c.measured_in_small.ensures _ records both.l both.r (laid-pair h both))
 
 pub returns-in-Call : goal.returns-in-Call
 unfolding definitions.ours_in_small
 returns-in-Call c =
-    λ d t h.
-    let call = c.in-Call.ensures d t h in
+    λ at records t h.
+    let call = c.in-Call.ensures _ t (laid-stands h _ c.start.ensures) in
     rw call.is (rw (c.name.ensures, call.stands.spelling) at c.named_in_small.ensures)
 
 pub returns-in-And : goal.returns-in-And
 unfolding definitions.ours_in_small
 returns-in-And c =
-    λ d t h. elim c.in-And.is [
-      | inl e ↦ sym (ap definitions.ours_in_small (rw e.1 at (c.node_at.ensures d t h)).is)
-      | inr e ↦ plain-small (rw e.1 at (c.node_at.ensures d t h)).0
+    λ at records t h.
+    let stands = laid-stands h _ c.start.ensures in
+    elim c.in-And.is [
+      | inl e ↦ sym (ap definitions.ours_in_small (rw e.1 at (c.node_at.ensures _ t stands)).is)
+      | inr e ↦ plain-small (rw e.1 at (c.node_at.ensures _ t stands)).0
     ]

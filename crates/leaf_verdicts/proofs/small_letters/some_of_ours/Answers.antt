@@ -1,5 +1,6 @@
 -- `some_of_ours`: the first that would be ours decides; without one the row has none.
 use native.Mathlib.Omega.{arith}
+use Rattle.leaf_verdicts.proofs.LaidLaws.{index-within}
 use Rattle.leaf_verdicts.proofs.SmallLaws.{looking-begins, looking-first, looking-found, looking-goes-on, looking-ends}
 use Rattle.leaf_verdicts.proofs.small_letters.some_of_ours.Goals as goal
 
@@ -13,13 +14,13 @@ pub returns-then-ours_in_small : goal.returns-then-ours_in_small
 returns-then-ours_in_small c =
     looking-found c.loop.invariant (omega (arith, c.loop-test.true)) c.ours_in_small.ensures c.if-ours_in_small.true
 
-pub end_node-next-requires : goal.end_node-next-requires
-end_node-next-requires c = looking-first c.loop.invariant (omega (arith, c.loop-test.true))
+pub after-next-requires : goal.after-next-requires
+after-next-requires c = (index-within (looking-first c.loop.invariant (omega (arith, c.loop-test.true)))).1
 
 pub loop-preserved : goal.loop-preserved
 loop-preserved c =
     looking-goes-on c.loop.invariant (omega (arith, c.loop-test.true)) c.ours_in_small.ensures c.if-ours_in_small.false
-    c.end_node-next.result c.end_node-next.ensures _ (omega arith)
+    _ c.after-next.ensures _ (omega arith)
 
 pub returns : goal.returns
 returns c = looking-ends c.loop.invariant (omega (arith, c.loop-test.false))

@@ -5,4 +5,5 @@ use Rattle.leaf_verdicts.proofs.small_letters.some_of_ours.Given as goal
 
 abbrev pub invariant-loop : goal.invariant-loop
 invariant-loop l =
-    Looking l.s l.at l.n (l.n - l.counter) l.next
+    let f = l.filter in
+    Looking f.s.now f.rec f.rows.numbers.now f.rows.next.now l.i l.n (l.n - l.counter) l.next

@@ -1,7 +1,7 @@
--- `side_by_rows`: the columns of the argument are those of the row, and the side of each is seen.
+-- `seen_by_rows`: the columns of the argument are those of the row, and the side of each is seen.
 use Rattle.leaf_matching.specs.Frames.{OfArgument}
 use Rattle.leaf_matching.proofs.SideWalk.{SeesColumns}
-use Rattle.leaf_matching.proofs.sides.side_by_rows.Given as goal
+use Rattle.leaf_matching.proofs.sides.seen_by_rows.Given as goal
 
 abbrev pub invariant-loop-i : goal.invariant-loop-i
 invariant-loop-i l =
