@@ -1,5 +1,5 @@
 -- Laws of an expression with its records: from a node to its column's record, and to its children.
-use Prim.Native.Nat.{ℕ, suc, ◌+◌, ◌*◌, ◌-◌, ◌≤◌}
+use Prim.Native.Nat.{ℕ, suc, ◌+◌, ◌*◌, ◌≤◌}
 use native.Mathlib.Omega.{arith}
 use mathlib.Core.Path.{◌≡◌, refl, sym, ap₂, ◌∙◌}
 use mathlib.Core.List.{List, ◌∷◌, ◌++◌}
@@ -11,14 +11,12 @@ use Rattle.definitions.specs.Bytes.Encode.{expr_bytes, record_bytes}
 use Rattle.definitions.specs.Bytes.Decode.{index_below}
 use Rattle.definitions.specs.Words.References.{record_at}
 use Rattle.expression.specs.Places.{Holds, short_at}
-use Rattle.expression.specs.Nodes.{head_bytes, children_of, Tree, OfTree}
-use Rattle.leaf_matching.specs.Frames.{Over, OverAll, Framed, FramedAll, OfFrame}
-use Rattle.expression.specs.Heads.{HeadIs}
-use Rattle.expression.specs.declared.heads.Head.{Head}
+use Rattle.expression.specs.Nodes.{head_bytes, children_of, Tree}
+use Rattle.leaf_matching.specs.Frames.{Over, OverAll, Framed}
 use Rattle.expression.proofs.Placed.{fits, front, back, next}
 use Rattle.expression.proofs.OfKind.{a-column}
 use Rattle.expression.proofs.HeadLaws.{head-column}
-use Rattle.expression.proofs.Standing.{children-stand, first-stands, rest-stands, some-children, head-stands, head-fits, kind-is}
+use Rattle.expression.proofs.Standing.{children-stand, first-stands, rest-stands, head-stands, head-fits, kind-is}
 use Rattle.theorems.proofs.ExchangeGood.{record-length}
 use Rattle.expression.proofs.Records.{short-is, short-length, entry_at}
 
@@ -70,20 +68,3 @@ module _ {s : List ℕ} {rec at : ℕ} where
 
   pub entry-within : Framed s rec at → get_or s at 0 ≡ 0 → rec + 5 * short_at s (at + 1) + 5 ≤ length s
   entry-within p e = omega (arith, fits (column-is p.2 e).entry, record-length (record_at p.0 (short_at s (at + 1))))
-
-  -- After the head stand the children.
-  pub children-framed : Framed s rec at → (r : Head) → OfTree s at (HeadIs at r) → FramedAll s rec r.next r.children
-  children-framed p r is =
-      let head = is (index_below (length p.0)) p.1 p.2.tree in
-      (p.0, children_of p.1, children-over p.2 r.next r.children head.next head.children)
-
-  -- The first of several stands there, and the others where a walk of it ended.
-  pub first-framed : {n : ℕ} → FramedAll s rec at n → (n ≡ 0 → ⊥) → Framed s rec at
-  first-framed {n} p some = some-children (λ ts. OverAll s rec at n p.0 ts → Framed s rec at)
-      (λ t ts o. (p.0, t, first-over o)) p.1 (omega (arith, p.2.row.counted)) p.2
-
-  pub rest-framed : {n : ℕ} → FramedAll s rec at n → (n ≡ 0 → ⊥) → (q : ℕ) → OfFrame s rec at (λ records t. q ≡ at + length (expr_bytes t))
-      → FramedAll s rec q (n - 1)
-  rest-framed {n} p some q is = some-children (λ ts. OverAll s rec at n p.0 ts → FramedAll s rec q (n - 1))
-      (λ t ts o. (p.0, ts, rest_over o q (n - 1) (is p.0 t (first-over o)) (omega arith))) p.1 (omega (arith, p.2.row.counted))
-      p.2

@@ -3,21 +3,13 @@ use Rattle.std.specs.Prelude.{ℕ, bit_or, if◌then◌else◌}
 use mathlib.Core.Path.{◌≡◌, refl, sym, ap, ◌∙◌}
 use mathlib.Core.Bool.{Bool, true, false, ◌||◌, not}
 use Rattle.std.proofs.Math.Bool.{or-true, or-false}
-use mathlib.Core.List.{List, [], ◌∷◌, ◌++◌}
+use mathlib.Core.List.{List, [], ◌∷◌}
 use Rattle.definitions.specs.Words.Basics.{any}
 use Rattle.definitions.specs.Words.Expression.{Side, left, right, no_side}
 use Rattle.definitions.specs.Words.References.{same_side}
 use Rattle.definitions.specs.Filter.Match.{all_on, mixed, common_side}
 use Rattle.theorems.proofs.VerdictSides.{of, all-left, all-right, all-mark}
-use Rattle.leaf_matching.specs.declared.sides.SeenSides.{SeenSides}
-use Rattle.leaf_matching.specs.Sides.{argument_side, nothing_seen, see, see_all, sides_by, sides_seen, side_flags}
-
--- ---- all columns
-
-pub see-append : (seen : SeenSides) (xs ys : List Side) → see_all seen (xs ++ ys) ≡ see_all (see_all seen xs) ys
-unfolding see_all
-see-append seen [] ys = refl
-see-append seen (x ∷ xs) ys = see-append (see seen x) xs ys
+use Rattle.leaf_matching.specs.Sides.{argument_side, nothing_seen, see_all, sides_by, sides_seen, side_flags}
 
 -- The bits by whether there are columns of the left child, of the right child, and mark columns.
 unfoldable pub bits_of : (l r m : Bool) → ℕ

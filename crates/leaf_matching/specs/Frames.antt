@@ -27,12 +27,6 @@ Framed s rec at = (records : List Record) × (t : Expr) × Over s rec at records
 abbrev pub OfFrame : List ℕ → ℕ → ℕ → (List Record → Expr → Type 0) → Type 0
 OfFrame s rec at P = (records : List Record) (t : Expr) → Over s rec at records t → P records t
 
-abbrev pub FramedAll : List ℕ → ℕ → ℕ → ℕ → Type 0
-FramedAll s rec at n = (records : List Record) × (ts : Exprs) × OverAll s rec at n records ts
-
-abbrev pub OfFrameAll : List ℕ → ℕ → ℕ → ℕ → (List Record → Exprs → Type 0) → Type 0
-OfFrameAll s rec at n P = (records : List Record) (ts : Exprs) → OverAll s rec at n records ts → P records ts
-
 -- Two expressions in a row, and the records of their columns.
 pub record OverTwo (s : List ℕ) (rec at : ℕ) (records : List Record) (a b : Expr) : Type 0 where
   pub one : Over s rec at records a

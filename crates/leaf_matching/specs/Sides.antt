@@ -1,9 +1,9 @@
 -- What the answers about sides mean.
 use Rattle.std.specs.Prelude.{ℕ, ◌+◌, ◌/◌, ◌%◌, ◌≡◌, eqb, bit_or, if◌then◌else◌, List, [], ◌∷◌, map, length, Option, Some, None}
-use Rattle.definitions.specs.Words.Expression.{Side, left, right, no_side, Expr, Exprs, Record}
-use Rattle.definitions.specs.Bytes.Encode.{expr_bytes, exprs_bytes}
+use Rattle.definitions.specs.Words.Expression.{Side, left, right, no_side, Expr, Record}
+use Rattle.definitions.specs.Bytes.Encode.{expr_bytes}
 use Rattle.definitions.specs.Filter.Match as definition
-use Rattle.definitions.specs.Words.References.{columns_of, columns_of_all, record_at}
+use Rattle.definitions.specs.Words.References.{columns_of, record_at}
 use Rattle.definitions.specs.Filter.Match.{ArgumentSide, no_columns, all_on, mixed, side_of, order_of}
 use Rattle.terms.specs.Sides.{join_side}
 use Rattle.terms.specs.declared.sides.JoinSide.TheVariants as side
@@ -11,8 +11,6 @@ use Rattle.leaf_matching.specs.declared.sides.Sides.{Sides}
 use Rattle.leaf_matching.specs.declared.sides.Sides.TheVariants.{NoColumns, AllOn, Mixed}
 use Rattle.leaf_matching.specs.declared.sides.SeenSides.{SeenSides}
 use Rattle.leaf_matching.specs.declared.sides.SideFlags.{SideFlags}
-use Rattle.leaf_matching.specs.declared.sides.References.{References}
-use Rattle.leaf_matching.specs.declared.sides.SidedArgument.{SidedArgument}
 use Rattle.leaf_matching.specs.declared.sides.Geometries.{Geometries}
 use Rattle.leaf_matching.specs.declared.sides.Order.{Order}
 use Rattle.leaf_matching.specs.declared.sides.Order.TheVariants.{LeftRight, RightLeft}
@@ -69,20 +67,6 @@ sides_in records indexes = map (λ index. (record_at records index).side) indexe
 -- What was seen are its columns.
 abbrev pub ColumnsSeen : SeenSides → List Record → Expr → Type 0
 ColumnsSeen r records t = r ≡ see_all nothing_seen (sides_in records (columns_of t))
-
--- Where the walk of the expression at a place ended, and what it has seen.
-pub record ReferencesIs (at : ℕ) (before : SeenSides) (r : References) (records : List Record) (t : Expr) : Type 0 where
-  pub end : r.end ≡ at + length (expr_bytes t)
-  pub seen : r.seen ≡ see_all before (sides_in records (columns_of t))
-
-pub record ReferencesAre (at : ℕ) (before : SeenSides) (r : References) (records : List Record) (ts : Exprs) : Type 0 where
-  pub end : r.end ≡ at + length (exprs_bytes ts)
-  pub seen : r.seen ≡ see_all before (sides_in records (columns_of_all ts))
-
--- Where an argument ends, and its side.
-pub record ArgumentIs (at : ℕ) (r : SidedArgument) (records : List Record) (t : Expr) : Type 0 where
-  pub end : r.end ≡ at + length (expr_bytes t)
-  pub side : argument_side r.side ≡ side_of records t
 
 -- Where the second of two geometries begins, where it ends, and how the two lie.
 pub record GeometriesAre (at : ℕ) (r : Geometries) (records : List Record) (a b : Expr) : Type 0 where

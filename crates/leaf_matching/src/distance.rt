@@ -36,11 +36,12 @@ pub fn match_distance_predicate(filter: Filter, at: usize, i: usize) -> Matching
     ensures { OfFrame filter.entry.s.now filter.entry.rec at (LeafMatching is_distance filter.entry.s.now result) }
 {
     let parsed = parse_distance_predicate(filter.s, at, filter.rows, i).ok_or(NoMatch::NotAsked)?;
-    let distance = side_of_column_references(filter.s, filter.rec, parsed.arg_distance);
-    let arg0 = side_of_column_references(filter.s, filter.rec, parsed.arg0);
-    let arg1 = side_of_column_references(filter.s, filter.rec, parsed.arg1);
-    let distance_side = side_of_distance(distance.side).ok_or(NoMatch::Unmatched)?;
-    let order = resolve_column_reference_sides(arg0.side, arg1.side).ok_or(NoMatch::Unmatched)?;
+    let distance = side_of_column_references(filter, parsed.distance_index);
+    let arg1_index = filter.rows.after(parsed.arg0_index);
+    let arg0 = side_of_column_references(filter, parsed.arg0_index);
+    let arg1 = side_of_column_references(filter, arg1_index);
+    let distance_side = side_of_distance(distance).ok_or(NoMatch::Unmatched)?;
+    let order = resolve_column_reference_sides(arg0, arg1).ok_or(NoMatch::Unmatched)?;
     let predicate = DistancePredicate {
         left: parsed.arg0,
         left_end: parsed.arg1,

@@ -1,16 +1,15 @@
 // The side of the columns that an argument references.
 // A port of `collect_column_references`, `side_of_column_references` and `resolve_column_reference_sides` of
 // rust/sedona-query-planner/src/spatial_expr_utils.rs.
-ghost use Rattle.std.specs.Prelude.{◌≡◌};
+ghost use Rattle.std.specs.Prelude.{◌≡◌, get_or};
 ghost use Rattle.definitions.specs.Filter.Match.{side_of, order_of};
 ghost use Rattle.terms.specs.Sides.{join_side};
 ghost use Rattle.node_rows.specs.Rows.{Begin};
-ghost use Rattle.leaf_matching.specs.Frames.{Framed, OfFrame, FramedAll, OfFrameAll, FramedTwo, OfFrameTwo, Argued, OfArgument};
-ghost use Rattle.leaf_matching.specs.Sides.{argument_side, order, see, nothing_seen, sides_seen, side_flags, ColumnsSeen, ReferencesIs, ReferencesAre, ArgumentIs, GeometriesAre};
+ghost use Rattle.leaf_matching.specs.Frames.{FramedTwo, OfFrameTwo, Argued, OfArgument};
+ghost use Rattle.leaf_matching.specs.Sides.{argument_side, order, see, sides_seen, side_flags, ColumnsSeen, GeometriesAre};
 
 use super::filter::Filter;
 use expression::fields::short_at;
-use expression::heads::head_at;
 use terms::sides::JoinSide;
 
 // The columns that were seen: bit 0 for those of the left child, 1 for those of the right child, 2 for mark columns.
@@ -33,20 +32,6 @@ pub enum Sides {
     NoColumns,
     AllOn(JoinSide),
     Mixed,
-}
-
-// Where the walk of an expression ended, and the columns that it saw.
-#[derive(Clone, Copy)]
-pub struct References {
-    pub end: usize,
-    pub seen: SeenSides,
-}
-
-// Where an argument ends, and the side of its columns.
-#[derive(Clone, Copy)]
-pub struct SidedArgument {
-    pub end: usize,
-    pub side: Sides,
 }
 
 // How two geometries lie: the first left and the second right, or the other way round.
@@ -104,57 +89,6 @@ impl SeenSides {
     }
 }
 
-// The columns of one expression, after those seen before it.
-#[cycle(collect_children_collect_column_references)]
-fn collect_column_references(s: &[u8], rec: usize, at: usize, seen: SeenSides) -> References
-    requires { Framed s.now rec at }
-    ensures { OfFrame s.now rec at (ReferencesIs at seen result) }
-{
-    if s[at] == 0 {
-        let index = short_at(s, at + 1);
-        let side = JoinSide::from(u64::from(s[rec + 5 * index]));
-        return References {
-            end: at + 5,
-            seen: seen.with(side),
-        };
-    }
-    let head = head_at(s, at);
-    collect_children(s, rec, head.next, head.children, seen)
-}
-
-// The columns of n expressions in a row.
-#[cycle(collect_children_collect_column_references)]
-fn collect_children(s: &[u8], rec: usize, at: usize, n: usize, seen: SeenSides) -> References
-    requires { FramedAll s.now rec at n }
-    ensures { OfFrameAll s.now rec at n (ReferencesAre at seen result) }
-{
-    let mut walked = References { end: at, seen };
-    for _ in 0..n {
-        walked = collect_column_references(s, rec, walked.end, walked.seen);
-    }
-    walked
-}
-
-// Where the argument at a place ends, and which columns it has.
-pub fn column_references(s: &[u8], rec: usize, at: usize) -> References
-    requires { Framed s.now rec at }
-    ensures { OfFrame s.now rec at (ReferencesIs at nothing_seen result) }
-{
-    collect_column_references(s, rec, at, SeenSides { bits: 0 })
-}
-
-// Where the argument at a place ends, and the side of its columns.
-pub fn side_of_column_references(s: &[u8], rec: usize, at: usize) -> SidedArgument
-    requires { Framed s.now rec at }
-    ensures { OfFrame s.now rec at (ArgumentIs at result) }
-{
-    let walked = column_references(s, rec, at);
-    SidedArgument {
-        end: walked.end,
-        side: walked.seen.sides(),
-    }
-}
-
 // In which order two arguments have their sides, if each is of one child and they are of both.
 #[tactic(auto, unfolding(definitions::specs::Filter::Match::order_of, definitions::specs::Filter::Match::is_side, definitions::specs::Words::References::same_side))]
 pub fn resolve_column_reference_sides(first: Sides, second: Sides) -> Option<Order>
@@ -192,6 +126,15 @@ fn side_by_rows(filter: Filter, first: usize, end: usize) -> Sides
         (λ records t. argument_side result ≡ side_of records t) }
 {
     seen_by_rows(filter, first, end).sides()
+}
+
+// The side of the columns of the argument of an index.
+pub fn side_of_column_references(filter: Filter, i: usize) -> Sides
+    requires { Argued filter.s.now filter.rec filter.rows.numbers.now filter.rows.next.now i (get_or filter.rows.next.now i 0) }
+    ensures { OfArgument filter.entry.s.now filter.entry.rec filter.entry.rows.numbers.now filter.entry.rows.next.now i
+        (get_or filter.entry.rows.next.now i 0) (λ records t. argument_side result ≡ side_of records t) }
+{
+    side_by_rows(filter, i, filter.rows.after(i))
 }
 
 // The geometries at a place and after it, the first of which has index i. Where they end, and their columns, are read from the rows.

@@ -1,11 +1,12 @@
 // What is wrong with the columns of geometries and bounds.
 ghost use Rattle.std.specs.Prelude.{◌≡◌};
+ghost use Rattle.leaf_matching.specs.Sides.{side_flags};
 ghost use Rattle.leaf_verdicts.specs.Laid.{AtIndex, OfIndex, TwoAt, OfTwoAt};
 ghost use Rattle.leaf_verdicts.specs.Columns.{geometry_reason, same_child, order_reason, bound_reason, GeometriesTold, BoundTold};
 
 use super::verdict::Verdict;
 use leaf_matching::filter::Filter;
-use leaf_matching::sides::{SideFlags, seen_by_rows};
+use leaf_matching::sides::{SeenSides, SideFlags, seen_by_rows};
 
 // The verdicts of a geometry: of one without columns, with columns of both children, and with a mark column.
 #[derive(Clone, Copy)]
@@ -72,6 +73,16 @@ fn bound_reason(of: SideFlags) -> Verdict
     }
 }
 
+// What is wrong with two geometries by the columns that were seen of each; nothing, where each has columns of one child and not of the same.
+fn seen_reason(first: SeenSides, second: SeenSides) -> Option<Verdict>
+    ensures { result ≡ order_reason (side_flags first) (side_flags second) }
+{
+    match (first.bits, second.bits) {
+        (1, 2) | (2, 1) => None,
+        _ => order_reason(first.flags(), second.flags()),
+    }
+}
+
 // Two geometries in a row: what is wrong with them, where they end, and the index after them.
 #[derive(Clone, Copy)]
 pub struct GeometriesVerdict {
@@ -90,7 +101,7 @@ pub fn two_geometries(filter: Filter, i: usize) -> GeometriesVerdict
     let first = seen_by_rows(filter, i, middle);
     let second = seen_by_rows(filter, middle, two.after);
     GeometriesVerdict {
-        reason: order_reason(first.flags(), second.flags()),
+        reason: seen_reason(first, second),
         end: two.end,
         after: two.after,
     }

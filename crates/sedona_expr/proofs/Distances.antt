@@ -7,7 +7,7 @@ use mathlib.Core.Path.{◌≡◌, refl, sym, ap, ◌∙◌, subst}
 use mathlib.Core.Bool.{Bool, true, false}
 use mathlib.Core.List.{List}
 use mathlib.Core.Option.{Option, none, some, none-ne-some}
-use lib.ListN.{length}
+use lib.ListN.{length, get_or}
 use Rattle.definitions.specs.Words.Basics.{ascii, same_name}
 use Rattle.definitions.specs.Words.Expression.{Relation, Expr, column, literal, and, binary, call, other, field, Exprs, nil, cons, count}
 use Rattle.definitions.specs.Words.Leaves.{Comparison, no_comparison, comparison, distance_arguments, relation_named}
@@ -21,9 +21,9 @@ use Rattle.expression.specs.declared.leaves.Called.{Called}
 use Rattle.expression.proofs.Standing.{first-stands}
 use Rattle.expression.proofs.Parts.{two-of, three-of}
 use Rattle.node_rows.specs.Numbers.{start_at, end_at}
-use Rattle.node_rows.specs.Rows.{TabledAll, TwoTabled, OfTwo, TwoAre}
+use Rattle.node_rows.specs.Rows.{Tabled, TabledAll, TwoTabled, OfTwo, TwoAre}
 use Rattle.node_rows.specs.declared.pairs.TwoExpressions.{TwoExpressions}
-use Rattle.node_rows.proofs.RowLaws.{tabled-end, tabled-within}
+use Rattle.node_rows.proofs.RowLaws.{tabled-end, tabled-next, tabled-within, tabled-first, second-tabled}
 use Rattle.node_rows.proofs.IndexLaws.{Indexed, index-spans, index-row, first-spans, second-spans, after-second, third-tabled}
 use Rattle.terms.specs.Forms.{form_number, FormIs}
 use Rattle.terms.specs.declared.refusals.Refusal.{Refusal}
@@ -32,16 +32,28 @@ use Rattle.terms.specs.declared.forms.DistanceForm.TheVariants.{Dwithin}
 use Rattle.sedona_expr.specs.declared.utils.ParsedDistancePredicate.{ParsedDistancePredicate}
 use Rattle.sedona_expr.specs.Parsed.{SidesOf, Arguments, is_distance, Distance}
 
--- A distance whose geometries are these two, and whose bound stands from d to e.
-abbrev pub distance_at : DistanceForm → TwoExpressions → (d e : ℕ) → ParsedDistancePredicate
-distance_at form r d e = record {
+-- A distance whose geometries are these two, and whose bound stands from d to e; the first geometry has index i, the bound k.
+abbrev pub distance_at : DistanceForm → TwoExpressions → (d e i k : ℕ) → ParsedDistancePredicate
+distance_at form r d e i k = record {
   form = form;
   arg0 = r.start;
   arg1 = r.middle;
   arg1_end = r.end;
   arg_distance = d;
   distance_end = e;
+  arg0_index = i;
+  distance_index = k;
 }
+
+-- Both geometries are in the rows there.
+module _ {numbers next : List ℕ} {at i : ℕ} {a b : Expr} {more : Exprs} (h : TabledAll numbers next at i (cons a (cons b more)))
+    {r : TwoExpressions} (two : TwoAre i r at a b) where
+  first-rows : Tabled numbers next r.start i a
+  first-rows = subst (λ (p : ℕ). Tabled numbers next p i a) (sym two.start) (tabled-first h)
+
+  second-rows : Tabled numbers next r.middle (get_or next i 0) b
+  second-rows = subst (λ (p : ℕ). Tabled numbers next p (get_or next i 0) b) (sym two.middle)
+      (second-tabled h (get_or next i 0) (tabled-next (tabled-first h)))
 
 -- A form is the operator that it was read from, and none is read above 4.
 pub form-read : {n : ℕ} (read : Result DistanceForm Refusal) {form : DistanceForm} → FormIs n read → Some form ≡ result_ok read
@@ -122,15 +134,16 @@ module _ (form : ℕ) where
       pub compared-distance : 2 ≤ n → {r : TwoExpressions} → OfTwo numbers next (measured + 1) (TwoAre (measured + 1) r)
           → (kind : DistanceForm) → form ≡ form_number kind
           → (d e : ℕ) → d ≡ start_at numbers bound → e ≡ end_at numbers bound
-          → Distance c s (distance_at kind r d e) (comparison_request form q)
+          → Distance c s numbers next (distance_at kind r d e (measured + 1) bound) (comparison_request form q)
       unfolding distance_request
       compared-distance h {r} told kind named d e start end = measured-two
-          (λ args. Distance c s (distance_at kind r d e) (comparison_request form q))
+          (λ args. Distance c s numbers next (distance_at kind r d e (measured + 1) bound) (comparison_request form q))
           (λ a b more is same.
           let place : ℕ = start_at numbers measured + length (head_bytes sides.m) in
           let both = index-row sides.stands_measured in
-          let two : TwoAre (measured + 1) r place a b =
-          told place a b more (subst (TabledAll numbers next place (measured + 1)) same both.1) in
+          let tabled : TabledAll numbers next place (measured + 1) (cons a (cons b more)) =
+          subst (TabledAll numbers next place (measured + 1)) same both.1 in
+          let two : TwoAre (measured + 1) r place a b = told place a b more tabled in
           let row : Row c s place (count (children_of sides.m)) (cons a (cons b more)) =
           subst (Row c s place (count (children_of sides.m))) same both.0 in
           record {
@@ -141,6 +154,9 @@ module _ (form : ℕ) where
             arg0 = first-spans row two;
             arg1 = second-spans row two (omega (arith, ap count same, more-count a b more));
             arg_distance = index-spans sides.stands_bound d e start end;
+            arg0_rows = first-rows tabled two;
+            arg1_rows = second-rows tabled two;
+            distance_rows = subst (λ (p : ℕ). Tabled numbers next p bound sides.b) (sym start) sides.stands_bound.tabled;
           }) h
 
 -- ---- functions
@@ -206,11 +222,11 @@ module _ {c : Columns} {s : List ℕ} {k : Called} {name : List ℕ} {args : Exp
 
     pub dwithin-distance : 3 ≤ k.count → {numbers next : List ℕ} {i : ℕ} → TabledAll numbers next k.first i args → {r : TwoExpressions}
         → OfTwo numbers next i (TwoAre i r) → (e : ℕ) → e ≡ end_at numbers r.after
-        → Distance c s (distance_at Dwithin r r.end e) (call_request name args)
+        → Distance c s numbers next (distance_at Dwithin r r.end e i r.after) (call_request name args)
     unfolding dwithin_request
     dwithin-distance h {numbers} {next} {i} tabled {r} told e end = three-of
         (λ args. Row c s k.first k.count args → TabledAll numbers next k.first i args → call_request name args ≡ dwithin_request args
-        → Distance c s (distance_at Dwithin r r.end e) (call_request name args))
+        → Distance c s numbers next (distance_at Dwithin r r.end e i r.after) (call_request name args))
         (λ a b d more row t is.
         let two : TwoAre i r k.first a b = told k.first a b (cons d more) t in
         record {
@@ -224,6 +240,9 @@ module _ {c : Columns} {s : List ℕ} {k : Called} {name : List ℕ} {args : Exp
             stands = first-stands (after-second row two (omega arith));
             ends = end ∙ tabled-end (third-tabled t two);
           };
+          arg0_rows = first-rows t two;
+          arg1_rows = second-rows t two;
+          distance_rows = third-tabled t two;
         })
         args (omega (arith, st.row.counted)) st.row tabled (dwithin-asked name args (named ∙ f))
 

@@ -1,5 +1,5 @@
 -- What the answers about distances say of the definitions' requests.
-use Rattle.std.specs.Prelude.{ℕ, ◌≡◌, Bool, true, false, ◌||◌, List, eqb, if◌then◌else◌, Option, Some, None}
+use Rattle.std.specs.Prelude.{ℕ, ◌≡◌, get_or, Bool, true, false, ◌||◌, List, eqb, if◌then◌else◌, Option, Some, None}
 use Rattle.std.proofs.Math.Option as optional
 use Rattle.definitions.specs.Words.Expression.{Expr, Exprs}
 use Rattle.definitions.specs.Words.Leaves as definitions
@@ -7,6 +7,7 @@ use Rattle.definitions.specs.Filter.Match.{Request, ask_relation, ask_distance, 
 use Rattle.definitions.specs.Bytes.Decode.{Columns}
 use Rattle.terms.specs.Forms.{form_number}
 use Rattle.expression.specs.Nodes.{Stands, Spans, Row}
+use Rattle.node_rows.specs.Rows.{Tabled}
 use Rattle.expression.specs.declared.leaves.Called.{Called}
 use Rattle.sedona_expr.specs.declared.utils.Compared.{Compared}
 use Rattle.sedona_expr.specs.declared.utils.ParsedDistancePredicate.{ParsedDistancePredicate}
@@ -32,10 +33,6 @@ abbrev pub ComparedIs : (ℕ → Expr → Type 0) → Option Compared → defini
 ComparedIs P (Some sides) q = SidesOf P sides.measured sides.bound q
 ComparedIs P None q = q ≡ definitions.no_comparison
 
--- Both sides stand at these places.
-abbrev pub BothSides : Columns → List ℕ → (measured bound : ℕ) → definitions.Comparison → Type 0
-BothSides c s = SidesOf (Stands c s)
-
 -- ---- the arguments of `st_distance`
 
 pub record Arguments (c : Columns) (s : List ℕ) (first count : ℕ) (q : optional.Option Exprs) : Type 0 where
@@ -56,8 +53,8 @@ is_distance (ask_distance form a b bound) = true
 is_distance (ask_knn k spheroid ties a b) = false
 is_distance ask_nothing = false
 
--- A distance of this form whose arguments stand at these places.
-pub record Distance (c : Columns) (s : List ℕ) (p : ParsedDistancePredicate) (q : Request) : Type 0 where
+-- A distance of this form whose arguments stand at these places, and are in the rows at these indexes.
+pub record Distance (c : Columns) (s numbers next : List ℕ) (p : ParsedDistancePredicate) (q : Request) : Type 0 where
   pub a : Expr
   pub b : Expr
   pub bound : Expr
@@ -65,7 +62,10 @@ pub record Distance (c : Columns) (s : List ℕ) (p : ParsedDistancePredicate) (
   pub arg0 : Spans c s p.arg0 p.arg1 a
   pub arg1 : Spans c s p.arg1 p.arg1_end b
   pub arg_distance : Spans c s p.arg_distance p.distance_end bound
+  pub arg0_rows : Tabled numbers next p.arg0 p.arg0_index a
+  pub arg1_rows : Tabled numbers next p.arg1 (get_or next p.arg0_index 0) b
+  pub distance_rows : Tabled numbers next p.arg_distance p.distance_index bound
 
-abbrev pub ParsedIs : Columns → List ℕ → Option ParsedDistancePredicate → Request → Type 0
-ParsedIs c s (Some p) q = Distance c s p q
-ParsedIs c s None q = is_distance q ≡ false
+abbrev pub ParsedIs : Columns → (s numbers next : List ℕ) → Option ParsedDistancePredicate → Request → Type 0
+ParsedIs c s numbers next (Some p) q = Distance c s numbers next p q
+ParsedIs c s numbers next None q = is_distance q ≡ false

@@ -22,7 +22,8 @@ pub struct Compared {
     pub bound: usize,
 }
 
-// The places of both geometries, the first of which ends where the second starts, and of the distance.
+// The places of both geometries, the first of which ends where the second starts, and of the distance; the indexes of the first geometry
+// and of the distance.
 #[derive(Clone, Copy)]
 pub struct ParsedDistancePredicate {
     pub form: DistanceForm,
@@ -31,6 +32,8 @@ pub struct ParsedDistancePredicate {
     pub arg1_end: usize,
     pub arg_distance: usize,
     pub distance_end: usize,
+    pub arg0_index: usize,
+    pub distance_index: usize,
 }
 
 // The side of a comparison that is read, and the other; none, if the operator is no order.
@@ -71,7 +74,7 @@ fn parse_comparison(s: &[u8], operator: u8, rows: Rows, i: usize) -> Option<Pars
     requires of_pair { OfPair s.now (start_at rows.numbers.now i)
         (λ c l r. TabledAll rows.numbers.now rows.next.now (start_at rows.numbers.now i) i (cons l (cons r nil))) }
     ensures { OfPair s.now (start_at rows.entry.numbers.now i)
-        (λ c l r. ParsedIs c s.now result (comparison_request operator (definitions.comparison operator l r))) }
+        (λ c l r. ParsedIs c s.now rows.entry.numbers.now rows.entry.next.now result (comparison_request operator (definitions.comparison operator l r))) }
 {
     let form = DistanceForm::try_from(u64::from(operator)).ok()?;
     let sides = comparison(operator, i, rows.after(i))?;
@@ -79,7 +82,8 @@ fn parse_comparison(s: &[u8], operator: u8, rows: Rows, i: usize) -> Option<Pars
     if call.count < 2 {
         return None;
     }
-    let geometries = rows.two(sides.measured + 1);
+    let arg0_index = sides.measured + 1;
+    let geometries = rows.two(arg0_index);
     Some(ParsedDistancePredicate {
         form,
         arg0: geometries.start,
@@ -87,6 +91,8 @@ fn parse_comparison(s: &[u8], operator: u8, rows: Rows, i: usize) -> Option<Pars
         arg1_end: geometries.end,
         arg_distance: rows.start(sides.bound),
         distance_end: rows.end(sides.bound),
+        arg0_index,
+        distance_index: sides.bound,
     })
 }
 
@@ -95,7 +101,7 @@ fn parse_comparison(s: &[u8], operator: u8, rows: Rows, i: usize) -> Option<Pars
 fn parse_dwithin(s: &[u8], call: Called, rows: Rows, i: usize) -> Option<ParsedDistancePredicate>
     requires calls { Calls s.now call }
     requires of_call { OfCall s.now call (λ c name arguments. TabledAll rows.numbers.now rows.next.now call.first i arguments) }
-    ensures { OfCall s.now call (λ c name arguments. ParsedIs c s.now result (call_request name arguments)) }
+    ensures { OfCall s.now call (λ c name arguments. ParsedIs c s.now rows.entry.numbers.now rows.entry.next.now result (call_request name arguments)) }
 {
     if !same_name(call.name(s), b"st_dwithin") {
         return None;
@@ -111,6 +117,8 @@ fn parse_dwithin(s: &[u8], call: Called, rows: Rows, i: usize) -> Option<ParsedD
         arg1_end: geometries.end,
         arg_distance: geometries.end,
         distance_end: rows.end(geometries.after),
+        arg0_index: i,
+        distance_index: geometries.after,
     })
 }
 
@@ -124,7 +132,7 @@ pub fn parse_distance_predicate(
 ) -> Option<ParsedDistancePredicate>
     requires tree { Tree s.now at }
     requires of_tree { OfTree s.now at (Tabled rows.numbers.now rows.next.now at i) }
-    ensures { OfTreeIn s.now at (λ c t. ParsedIs c s.now result (request t)) }
+    ensures { OfTreeIn s.now at (λ c t. ParsedIs c s.now rows.entry.numbers.now rows.entry.next.now result (request t)) }
 {
     match node_at(s, at) {
         Node::Binary(operator, _) => parse_comparison(s, operator, rows, i + 1),

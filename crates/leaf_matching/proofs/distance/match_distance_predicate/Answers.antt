@@ -1,21 +1,40 @@
 -- `match_distance_predicate`: the parsed arguments stand in the frame, so their sides are those of the definition.
 use Rattle.leaf_matching.proofs.Missing.{missed}
-use Rattle.leaf_matching.proofs.distance.DistanceLaws.{no_distance, Walked, distance-undefined, distance-neither, distance-left, distance-right}
+use Rattle.leaf_matching.proofs.distance.DistanceLaws.{no_distance, Parses, Walked, distance-argued, arg0-within, arg0-argued, arg1-argued, distance-undefined, distance-neither, distance-left, distance-right}
 use Rattle.leaf_matching.proofs.distance.match_distance_predicate.Goals as goal
-use Rattle.leaf_matching.proofs.distance.match_distance_predicate.Goals.{After-side_of_column_references-arg1}
+use Rattle.leaf_matching.proofs.distance.match_distance_predicate.Goals.{In_ok-parsed, After-side_of_column_references-arg1}
+
+asked : (c : In_ok-parsed)
+    → let f = c.args.filter in Parses f.s.now f.rows.numbers.now f.rows.next.now c.args.at c.in_ok-parsed.parsed
+asked c = rw c.in_ok-parsed.ensures.ok_part at c.parse_distance_predicate.ensures
 
 walked : (c : After-side_of_column_references-arg1)
-    → let start = c.args in
-    Walked start.filter.s.now start.filter.rec start.at c.in_ok-parsed.parsed
-    c.side_of_column_references-arg0.result
+    → let f = c.args.filter in
+    Walked f.s.now f.rows.numbers.now f.rows.next.now f.rec c.args.at c.in_ok-parsed.parsed c.side_of_column_references-arg0.result
     c.side_of_column_references-arg1.result c.side_of_column_references-distance.result
 walked c =
     record {
       asked = rw c.in_ok-parsed.ensures.ok_part at c.parse_distance_predicate.ensures;
       first = c.side_of_column_references-arg0.ensures;
-      second = c.side_of_column_references-arg1.ensures;
+      second = rw c.after-arg1_index.ensures at c.side_of_column_references-arg1.ensures;
       limit = c.side_of_column_references-distance.ensures;
     }
+
+pub side_of_column_references-distance-requires : goal.side_of_column_references-distance-requires
+side_of_column_references-distance-requires c =
+    distance-argued (asked (goal.at.side_of_column_references-distance-requires c).In_ok-parsed) c.requires.framed
+
+pub after-arg1_index-requires : goal.after-arg1_index-requires
+after-arg1_index-requires c =
+    arg0-within (asked (goal.at.after-arg1_index-requires c).In_ok-parsed) c.requires.framed
+
+pub side_of_column_references-arg0-requires : goal.side_of_column_references-arg0-requires
+side_of_column_references-arg0-requires c =
+    arg0-argued (asked (goal.at.side_of_column_references-arg0-requires c).In_ok-parsed) c.requires.framed
+
+pub side_of_column_references-arg1-requires : goal.side_of_column_references-arg1-requires
+side_of_column_references-arg1-requires c =
+    arg1-argued (asked (goal.at.side_of_column_references-arg1-requires c).In_ok-parsed) c.requires.framed _ c.after-arg1_index.ensures
 
 pub returns-in_err-parsed : goal.returns-in_err-parsed
 returns-in_err-parsed c =

@@ -30,5 +30,5 @@ returns c =
     record {
       end = two.end;
       after = two.after;
-      told = λ after. rw (c.order_reason.ensures, c.flags.ensures, c.flags-2.ensures, first, second) (geometries-told _ _ after);
+      told = λ after. rw (c.seen_reason.ensures, first, second) (geometries-told _ _ after);
     }

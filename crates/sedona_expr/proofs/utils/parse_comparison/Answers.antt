@@ -57,9 +57,9 @@ returns-then-call-lt2 c =
     let both = sides (goal.at.returns-then-call-lt2 c).In_ok-sides d l r row in
     too_few _ both (c.in_ok-call.ensures d both.m (starts both.stands_measured c.start.ensures)) c.if-call-lt2.true
 
-pub overflow_add-sides : goal.overflow_add-sides
-overflow_add-sides c =
-    let both = sides (goal.at.overflow_add-sides c).In_ok-sides _ _ _ c.requires.pair.3 in
+pub overflow_add-arg0_index : goal.overflow_add-arg0_index
+overflow_add-arg0_index c =
+    let both = sides (goal.at.overflow_add-arg0_index c).In_ok-sides _ _ _ c.requires.pair.3 in
     omega (arith, (tabled-within both.stands_measured.tabled).0, c.well_formed)
 
 pub two-geometries-requires : goal.two-geometries-requires
