@@ -40,12 +40,12 @@ small-low b false e = rw (lt-ltb b 65 (leb-false 65 b e), e)
 pub small : (b : ℕ) → to_ascii_lowercase b ≡ letter b
 small b = small-low b (leb 65 b) refl
 
-small-length : (x : List ℕ) → length (lower_case x) ≡ length x
+pub small-length : (x : List ℕ) → length (lower_case x) ≡ length x
 unfolding lower_case
 small-length [] = refl
 small-length (b ∷ x) = ap suc (small-length x)
 
-small_at : (x : List ℕ) (i : ℕ) → get_or (lower_case x) i 0 ≡ letter (get_or x i 0)
+pub small_at : (x : List ℕ) (i : ℕ) → get_or (lower_case x) i 0 ≡ letter (get_or x i 0)
 unfolding lower_case
 small_at [] i = refl
 small_at (b ∷ x) zero = refl
@@ -59,15 +59,6 @@ unlike [] [] h = absurd (h refl)
 unlike [] (y ∷ b) h = refl
 unlike (x ∷ a) [] h = refl
 unlike (x ∷ a) (y ∷ b) h = rw (unlike a b (λ e. h (ap suc e))) (and-false (eqb x y))
-
--- Lists that differ at an index.
-unlike-at : (a b : List ℕ) (i : ℕ) → (get_or a i 0 ≡ get_or b i 0 → ⊥) → same_name a b ≡ false
-unfolding same_name
-unlike-at [] [] i h = absurd (h refl)
-unlike-at [] (y ∷ b) i h = refl
-unlike-at (x ∷ a) [] i h = refl
-unlike-at (x ∷ a) (y ∷ b) zero h = rw (ne_eqb x y h) refl
-unlike-at (x ∷ a) (y ∷ b) (suc i) h = rw (unlike-at a b i h) (and-false (eqb x y))
 
 -- What the loop keeps: the first i bytes are the same, so the rest decides.
 abbrev pub SoFar : (a b : List ℕ) (i : ℕ) → Type 0
@@ -84,9 +75,6 @@ ahead a b i h k t e = rw (add-one, drop-cons a i 0 h, drop-cons b i 0 k, e)
 module _ (x name : List ℕ) where
   pub other_length : (length x ≡ length name → ⊥) → same_name (lower_case x) name ≡ false
   other_length h = unlike (lower_case x) name (λ e. h (sym (small-length x) ∙ e))
-
-  pub other-letter : (i b : ℕ) → b ≡ letter (get_or x i 0) → (b ≡ get_or name i 0 → ⊥) → same_name (lower_case x) name ≡ false
-  other-letter i b e h = unlike-at (lower_case x) name i (λ f. h (e ∙ sym (small_at x i) ∙ f))
 
   module _ (long : length x ≡ length name) (i : ℕ) (inv : SoFar (lower_case x) name i) where
     pub same-all : length name ≤ i → same_name (lower_case x) name ≡ true

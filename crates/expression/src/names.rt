@@ -12,15 +12,11 @@ pub fn same_name(name: &[u8], other: &[u8]) -> bool
 }
 
 // The same without regard to the case of ASCII letters; `other` has small ones. (The library's comparison takes capital letters of both
-// sides as small.) Names that are known begin alike, so the last letter is asked first.
+// sides as small.)
 pub fn same_name_ignore_case(name: &[u8], other: &[u8]) -> bool
     ensures { result ≡ same_name (lower_case name.now) other.now }
 {
     if name.len() != other.len() {
-        return false;
-    }
-    let last = other.len().saturating_sub(1);
-    if last < name.len() && name[last].to_ascii_lowercase() != other[last] {
         return false;
     }
     for (i, c) in other.iter().enumerate() {

@@ -1,6 +1,6 @@
 // The spatial names of a logical filter. A port of `collect_spatial_predicate_names` of
 // rust/sedona-query-planner/src/spatial_expr_utils.rs; the case of letters is ignored.
-ghost use Rattle.std.specs.Prelude.{◌≡◌, true, ◌∷◌, [], position, ◌≤◌, length};
+ghost use Rattle.std.specs.Prelude.{◌≡◌, true, false, ◌∷◌, [], position, ◌≤◌, length};
 ghost use Rattle.std.specs.List.{list_any};
 ghost use Rattle.definitions.specs.Words.Basics.{ascii, same_name, any};
 ghost use Rattle.definitions.specs.Words.Expression.{binary, nil, cons};
@@ -54,11 +54,26 @@ fn is_among(name: &[u8], names: &[&[u8]]) -> bool
     names.iter().any(|other| same_name_ignore_case(name, other))
 }
 
+// Whether a name is as long as one of the 15 and ends with the letter of one, n, s or y. Few others do.
+fn may_be_spatial(name: &[u8]) -> bool
+    ensures { result ≡ false → any (same_name (lower_case name.now)) spatial_names ≡ false }
+{
+    let n = name.len();
+    if n != 6 && (n < 9 || 13 < n) {
+        return false;
+    }
+    let last = name[n - 1].to_ascii_lowercase();
+    if last != b'n' && last != b's' && last != b'y' {
+        return false;
+    }
+    true
+}
+
 // Whether it is one of the 15.
 pub fn is_spatial_name(name: &[u8]) -> bool
     ensures { result ≡ any (same_name (lower_case name.now)) spatial_names }
 {
-    is_among(name, &SPATIAL_NAMES)
+    may_be_spatial(name) && is_among(name, &SPATIAL_NAMES)
 }
 
 // Which of these names it is, from 0.
