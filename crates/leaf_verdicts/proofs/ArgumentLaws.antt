@@ -80,8 +80,8 @@ or-else None v = refl
 module _ {s : List ℕ} {rec : ℕ} {numbers next : List ℕ} {i n : ℕ} (g : GeometriesVerdict)
     (is : OfTwoAt s rec numbers next i (GeometriesTold i g)) (enough : 2 ≤ n) where
   -- What follows them stands where they end.
-  after-two : {at : ℕ} {records : List Record} {a b : Expr} {more : Exprs} → LaidAll s rec numbers next at i n records (cons a (cons b more))
-      → LaidAll s rec numbers next g.end g.after (n - 2) records more
+  after-two : {at : ℕ} {records : List Record} {a b : Expr} {more : Exprs}
+      → LaidAll s rec numbers next at i n records (cons a (cons b more)) → LaidAll s rec numbers next g.end g.after (n - 2) records more
   after-two {at} {records} {a} {b} {more} h =
       let told = is at n records a b more h in
       rest-laid (rest-laid h (at + length (expr_bytes a)) (i + nodes a) (n - 1) refl refl (omega arith)) g.end g.after (n - 2)
@@ -93,7 +93,8 @@ module _ {s : List ℕ} {rec : ℕ} {numbers next : List ℕ} {i n : ℕ} (g : G
   told {at} {records} {a} {b} {more} h = (is at n records a b more h).told
 
   by-two : (P : List Record → Exprs → Type 0) → ((at : ℕ) (records : List Record) (a b : Expr) (more : Exprs)
-      → LaidAll s rec numbers next at i n records (cons a (cons b more)) → P records (cons a (cons b more))) → OfRow s rec numbers next i n P
+      → LaidAll s rec numbers next at i n records (cons a (cons b more)) → P records (cons a (cons b more)))
+      → OfRow s rec numbers next i n P
   by-two P f at records ts h =
       two-of (λ ts. LaidAll s rec numbers next at i n records ts → P records ts) (f at records) ts (omega (arith, h.over.row.counted)) h
 

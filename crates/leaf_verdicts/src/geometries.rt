@@ -73,7 +73,7 @@ fn bound_reason(of: SideFlags) -> Verdict
     }
 }
 
-// What is wrong with two geometries by the columns that were seen of each; nothing, where each has columns of one child and not of the same.
+// What is wrong with two geometries by the columns that were seen of each. Most have columns of one child, each of its own, and are right.
 fn seen_reason(first: SeenSides, second: SeenSides) -> Option<Verdict>
     ensures { result ≡ order_reason (side_flags first) (side_flags second) }
 {
@@ -94,7 +94,8 @@ pub struct GeometriesVerdict {
 // The geometries of an index and of the one after it.
 pub fn two_geometries(filter: Filter, i: usize) -> GeometriesVerdict
     requires { TwoAt filter.s.now filter.rec filter.rows.numbers.now filter.rows.next.now i }
-    ensures { OfTwoAt filter.entry.s.now filter.entry.rec filter.entry.rows.numbers.now filter.entry.rows.next.now i (GeometriesTold i result) }
+    ensures { OfTwoAt filter.entry.s.now filter.entry.rec filter.entry.rows.numbers.now filter.entry.rows.next.now i
+        (GeometriesTold i result) }
 {
     let two = filter.rows.two(i);
     let middle = filter.rows.after(i);

@@ -98,7 +98,8 @@ fn other_call_verdict(filter: Filter, called: Called, i: usize) -> Verdict
 // A function whose first argument has index i.
 fn call_verdict(asked: Asked, called: Called, i: usize) -> Verdict
     requires { CallAt asked.filter.s.now asked.filter.rec asked.filter.rows.numbers.now asked.filter.rows.next.now called i }
-    ensures { OfCallAt asked.entry.filter.s.now asked.entry.filter.rec asked.entry.filter.rows.numbers.now asked.entry.filter.rows.next.now called i
+    ensures { OfCallAt asked.entry.filter.s.now asked.entry.filter.rec asked.entry.filter.rows.numbers.now asked.entry.filter.rows.next.now
+        called i
         (λ records name ts. verdict_of result ≡ verdict_under (settings_of asked.entry.settings) records (call name ts)) }
 {
     let line = line_named(called.name(asked.filter.s));
@@ -118,7 +119,8 @@ fn measured_verdict(filter: Filter, i: usize, n: usize, bound: usize) -> Verdict
     requires row { RowAt filter.s.now filter.rec filter.rows.numbers.now filter.rows.next.now i n }
     requires bound { AtIndex filter.s.now filter.rec filter.rows.numbers.now filter.rows.next.now bound }
     ensures { OfRow filter.entry.s.now filter.entry.rec filter.entry.rows.numbers.now filter.entry.rows.next.now i n (λ records ts.
-        (at : _) (d : Expr) → Laid filter.entry.s.now filter.entry.rec filter.entry.rows.numbers.now filter.entry.rows.next.now at bound records d
+        (at : _) (d : Expr) → Laid filter.entry.s.now filter.entry.rec filter.entry.rows.numbers.now filter.entry.rows.next.now
+        at bound records d
         → verdict_of result ≡ distance_stage records (with_bound d ts)) }
 {
     if n < 2 {
@@ -136,8 +138,10 @@ fn other_comparison_verdict(filter: Filter, sides: Compared, left: usize) -> Ver
     requires measured { AtIndex filter.s.now filter.rec filter.rows.numbers.now filter.rows.next.now sides.measured }
     requires bound { AtIndex filter.s.now filter.rec filter.rows.numbers.now filter.rows.next.now sides.bound }
     ensures { OfRow filter.entry.s.now filter.entry.rec filter.entry.rows.numbers.now filter.entry.rows.next.now left 2 (λ records es.
-        (p : _) (m : Expr) → Laid filter.entry.s.now filter.entry.rec filter.entry.rows.numbers.now filter.entry.rows.next.now p sides.measured records m
-        → (q : _) (b : Expr) → Laid filter.entry.s.now filter.entry.rec filter.entry.rows.numbers.now filter.entry.rows.next.now q sides.bound records b
+        (p : _) (m : Expr) → Laid filter.entry.s.now filter.entry.rec filter.entry.rows.numbers.now filter.entry.rows.next.now
+        p sides.measured records m
+        → (q : _) (b : Expr) → Laid filter.entry.s.now filter.entry.rec filter.entry.rows.numbers.now filter.entry.rows.next.now
+        q sides.bound records b
         → verdict_of result ≡ other_stage m b es) }
 {
     if is_distance(filter, sides.measured) {
@@ -164,7 +168,8 @@ fn operator_verdict(filter: Filter, left: usize) -> Verdict
 // An operator whose left side has an index.
 fn binary_verdict(asked: Asked, operator: u8, left: usize) -> Verdict
     requires { PairAt asked.filter.s.now asked.filter.rec asked.filter.rows.numbers.now asked.filter.rows.next.now left }
-    ensures { OfPairAt asked.entry.filter.s.now asked.entry.filter.rec asked.entry.filter.rows.numbers.now asked.entry.filter.rows.next.now left
+    ensures { OfPairAt asked.entry.filter.s.now asked.entry.filter.rec asked.entry.filter.rows.numbers.now asked.entry.filter.rows.next.now
+        left
         (λ records l r. verdict_of result ≡ verdict_under (settings_of asked.entry.settings) records (binary operator l r)) }
 {
     let filter = asked.filter;

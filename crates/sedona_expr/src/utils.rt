@@ -74,7 +74,8 @@ fn parse_comparison(s: &[u8], operator: u8, rows: Rows, i: usize) -> Option<Pars
     requires of_pair { OfPair s.now (start_at rows.numbers.now i)
         (λ c l r. TabledAll rows.numbers.now rows.next.now (start_at rows.numbers.now i) i (cons l (cons r nil))) }
     ensures { OfPair s.now (start_at rows.entry.numbers.now i)
-        (λ c l r. ParsedIs c s.now rows.entry.numbers.now rows.entry.next.now result (comparison_request operator (definitions.comparison operator l r))) }
+        (λ c l r. ParsedIs c s.now rows.entry.numbers.now rows.entry.next.now result
+        (comparison_request operator (definitions.comparison operator l r))) }
 {
     let form = DistanceForm::try_from(u64::from(operator)).ok()?;
     let sides = comparison(operator, i, rows.after(i))?;
@@ -101,7 +102,8 @@ fn parse_comparison(s: &[u8], operator: u8, rows: Rows, i: usize) -> Option<Pars
 fn parse_dwithin(s: &[u8], call: Called, rows: Rows, i: usize) -> Option<ParsedDistancePredicate>
     requires calls { Calls s.now call }
     requires of_call { OfCall s.now call (λ c name arguments. TabledAll rows.numbers.now rows.next.now call.first i arguments) }
-    ensures { OfCall s.now call (λ c name arguments. ParsedIs c s.now rows.entry.numbers.now rows.entry.next.now result (call_request name arguments)) }
+    ensures { OfCall s.now call (λ c name arguments. ParsedIs c s.now rows.entry.numbers.now rows.entry.next.now
+        result (call_request name arguments)) }
 {
     if !same_name(call.name(s), b"st_dwithin") {
         return None;
