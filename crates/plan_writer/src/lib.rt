@@ -1,4 +1,4 @@
-// Writing plans: the one cycle that copies expressions, tables of new column indexes, heads, and predicates.
+// Writing plans: expressions whose columns get other indexes, tables of new column indexes, heads, and predicates.
 #![tactic(auto)]
 
 pub mod arguments;
