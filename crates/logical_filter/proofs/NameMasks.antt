@@ -110,6 +110,9 @@ module _ (x : List ℕ) where
       let f = or_parts (same_name x name) (any (same_name x) names) e in
       one name names false f.0 ∙ omega (arith, none names f.1)
 
+  pub unnamed-bit : (names : List (List ℕ)) → any (same_name x) names ≡ false → 0 ≡ mask names (x ∷ [])
+  unnamed-bit names e = sym (none names e)
+
   missing : (names : List (List ℕ)) → length names ≤ position_or_len (same_name x) names → any (same_name x) names ≡ false
   unfolding any
   missing [] h = refl

@@ -97,6 +97,16 @@ fn name_bit(name: &[u8], names: &[&[u8]]) -> u16
     }
 }
 
+// The bit of a name among the 15.
+fn spatial_bit(name: &[u8]) -> u16
+    ensures { result ≡ mask spatial_names (lower_case name.now ∷ []) }
+{
+    if !may_be_spatial(name) {
+        return 0;
+    }
+    name_bit(name, &SPATIAL_NAMES)
+}
+
 // The bit of `st_dwithin`, which a comparison of a distance counts as.
 const ST_DWITHIN: u16 = 1024;
 
@@ -156,7 +166,7 @@ fn collect_node(s: &[u8], rows: Rows, before: CollectedNames) -> CollectedNames
         },
         Node::Plain(_) => before.with(0, next),
         Node::Binary(operator, _) => before.with(comparison_bit(s, operator, rows, i + 1), next),
-        Node::Call(call) => before.with(name_bit(call.name(s), &SPATIAL_NAMES), next),
+        Node::Call(call) => before.with(spatial_bit(call.name(s)), next),
     }
 }
 

@@ -1,12 +1,8 @@
 -- `collect_node`: an And leads to its left child; a leaf is passed as a whole, and its bit kept.
 use mathlib.Core.Path.{refl}
-use native.Mathlib.Omega.{arith}
-use Rattle.definitions.specs.Words.Basics.{ascii, same_name, any}
-use Rattle.definitions.specs.Filter.Names.{spatial_names}
 use Rattle.expression.proofs.There.{call-there}
 use Rattle.node_rows.proofs.RowLaws.{tabled-within}
 use Rattle.node_rows.proofs.IndexLaws.{pair_row, pair-listed}
-use Rattle.logical_filter.specs.Logicals.{apart}
 use Rattle.logical_filter.proofs.LeafLoop.{and-collected, plain-collected, binary-collected, call-collected}
 use Rattle.logical_filter.proofs.predicate_names.collect_node.Goals as goal
 
@@ -24,10 +20,6 @@ pub comparison_bit-requires : goal.comparison_bit-requires
 comparison_bit-requires c =
     let both = pair-listed c.requires.0 c.requires.1 (rw c.start.ensures at c.node_at.ensures) c.in-Binary.is in
     record { pair = both.0; of_pair = both.1 }
-
-pub name_bit-requires : goal.name_bit-requires
-unfolding apart ascii spatial_names same_name any
-name_bit-requires c = record { few = omega arith; apart = refl }
 
 pub name-requires : goal.name-requires
 name-requires c = call-there c.requires.0 (rw c.start.ensures at c.node_at.ensures) c.in-Call.is
@@ -51,8 +43,7 @@ returns-in-Binary c =
     (c.comparison_bit.ensures d pair.l pair.r (pair_row tabled pair))
 
 pub returns-in-Call : goal.returns-in-Call
-unfolding spatial_names ascii
 returns-in-Call c =
     λ d t h.
     let call = rw (c.start.ensures, c.in-Call.is) at c.node_at.ensures d t h in
-    call-collected (c.requires.1 d t h) c.after-next.ensures c.with-in-Call.ensures call (rw c.name.ensures at c.name_bit.ensures)
+    call-collected (c.requires.1 d t h) c.after-next.ensures c.with-in-Call.ensures call (rw c.name.ensures at c.spatial_bit.ensures)
