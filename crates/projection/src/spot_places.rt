@@ -45,14 +45,15 @@ fn mark_sought(sought: &mut [bool], row: &[u32], side: JoinSide)
     }
 }
 
-// By chains, which are first filled with what is sought. A function of its own, so that a short list needs none of their memory.
+// By chains, which are first filled with what is sought, with a link for each of at most N items. A function of its own, so that a short
+// list needs none of their memory.
 #[inline(never)]
-fn find_by_chains(row: &mut [u32], side: JoinSide, items: &[u16]) -> bool
-    requires { length items.now ≤ most_items }
+fn find_by_chains<const N: usize>(row: &mut [u32], side: JoinSide, items: &[u16]) -> bool
+    requires { (length items.now ≤ N) × (N ≤ most_items) }
     ensures { PlacedIs (side_number (join_side side)) items.now row.old row.new result }
 {
     let mut heads = [0u16; 1024];
-    let mut nexts = [0u16; 4096];
+    let mut nexts = [0u16; N];
     let mut sought = [false; 4096];
     mark_sought(&mut sought, row, side);
     fill_places(&mut heads, &mut nexts, &sought, items);
@@ -71,5 +72,8 @@ pub fn find_places(row: &mut [u32], side: JoinSide, items: &[u16]) -> bool
     if row.len() <= 16 || items.len() <= 16 {
         return put_child_places(row, side, items, None);
     }
-    find_by_chains(row, side, items)
+    if items.len() <= 256 {
+        return find_by_chains::<256>(row, side, items);
+    }
+    find_by_chains::<4096>(row, side, items)
 }
