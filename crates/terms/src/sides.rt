@@ -51,8 +51,8 @@ impl From<JoinSide> for u8 {
     }
 }
 
-// The number of the other side, of a number: for the bytes of records, which are no sides until they are read. (By `From` and `negate` the
-// loop over records took two and a half times the steps.)
+// The number of the other side, of a number: for the bytes of records, which are no sides until they are read. (By `From` and `negate` a
+// turn of the loop over records took five times the instructions.)
 #[tactic(auto, unfolding(definitions::specs::Filter::Exchange::negate, definitions::specs::Bytes::Decode::side_numbered, definitions::specs::Bytes::Encode::side_number))]
 pub fn negated_number(number: u8) -> u8
     ensures { result ≡ side_number (definitions.negate (side_numbered number)) }
