@@ -30,7 +30,7 @@ use Rattle.plan_reader.specs.declared.extraction_bodies.Extraction.{Extraction}
 use Rattle.plan_reader.specs.declared.extraction_bodies.Held.TheVariants as there
 use Rattle.call_answers.proofs.Keeping.{held-is, kept-over}
 use Rattle.call_answers.proofs.Refusing.{Call, refuses, finishing, outcome, no-plan, empty-plan}
-use Rattle.projection.proofs.FewSpots.{few-spots}
+use Rattle.projection.proofs.FewSpots.{few-spots, fewer-spots}
 use Rattle.projection.specs.Extractions.{ExtractionFits}
 use Rattle.projection.specs.Patches.{patched}
 use Rattle.projection.specs.Projected.{ListsFit, PlacesAre}
@@ -138,5 +138,5 @@ extraction-fits {n} {plan} r row long =
     record {
       X = h.X;
       there = h.there;
-      room = omega (arith, few-spots h.X, size n plan h.fits h.there, r.room, long);
+      room = omega (arith, few-spots h.X, fewer-spots h.X h.there.good, size n plan h.fits h.there, r.room, long);
     }

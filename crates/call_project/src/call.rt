@@ -28,11 +28,11 @@ fn project_held(
     if scratch.len() < n {
         return Err(Refusal::BufferTooShort);
     }
-    // A child index comes with five bytes, so a short plan needs no long row cleared.
+    // A child index comes with five bytes, so a short plan needs no long row cleared; and with a node or a record, so no plan a longer one.
     match n {
         0..=320 => project_by::<64>(plan, n, scratch, x, left, right),
         321..=1280 => project_by::<256>(plan, n, scratch, x, left, right),
-        _ => project_by::<3277>(plan, n, scratch, x, left, right),
+        _ => project_by::<1280>(plan, n, scratch, x, left, right),
     }
 }
 

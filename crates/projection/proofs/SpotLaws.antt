@@ -6,6 +6,7 @@ use mathlib.Core.List.{List, [], ◌∷◌, ◌++◌, append-nil}
 use lib.ListN.{length, get_or, length-append}
 use Rattle.definitions.specs.Words.Basics.{big_endian}
 use Rattle.definitions.specs.Words.Expression.{Side, left, right, no_side, Expr, column, literal, and, binary, call, other, field, Exprs, nil, cons, Record}
+use Rattle.definitions.specs.Bytes.Good.{nodes, nodes_all}
 use Rattle.definitions.specs.Bytes.Encode.{side_number, expr_bytes, exprs_bytes}
 use Rattle.definitions.specs.Words.References.{record_at}
 use Rattle.expression.specs.Nodes.{head_bytes, children_of, kind_of}
@@ -52,6 +53,26 @@ mutual
   few-children side at nil = omega arith
   few-children side at (cons t ts) =
       simp length-append (omega (arith, few-columns side at t, few-children side (at + length (expr_bytes t)) ts))
+
+-- Each is a node.
+mutual
+  unfolding column_spots child_spots nodes
+
+  pub nodes-enough : (side : Side) (at : ℕ) (t : Expr) → length (column_spots side at t) ≤ nodes t
+  nodes-enough side at (column i g) = omega arith
+  nodes-enough side at (literal y v) = omega arith
+  nodes-enough side at (and l r) =
+      simp length-append (omega (arith, nodes-enough side (at + 2) l, nodes-enough side (at + 2 + length (expr_bytes l)) r))
+  nodes-enough side at (binary o l r) =
+      simp length-append (omega (arith, nodes-enough side (at + 2) l, nodes-enough side (at + 2 + length (expr_bytes l)) r))
+  nodes-enough side at (call name ts) = omega (arith, nodes-enough-all side (at + (3 + length name)) ts)
+  nodes-enough side at (other g ts) = omega (arith, nodes-enough-all side (at + 4) ts)
+  nodes-enough side at (field b g) = omega arith
+
+  nodes-enough-all : (side : Side) (at : ℕ) (ts : Exprs) → length (child_spots side at ts) ≤ nodes_all ts
+  nodes-enough-all side at nil = omega arith
+  nodes-enough-all side at (cons t ts) =
+      simp length-append (omega (arith, nodes-enough side at t, nodes-enough-all side (at + length (expr_bytes t)) ts))
 
 -- ---- records
 
