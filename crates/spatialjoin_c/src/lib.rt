@@ -167,7 +167,7 @@ pub fn spatialjoin_project(
 pub fn spatialjoin_version() -> i64
     ensures { result ≡ pos version }
 {
-    0 * 65536 + 15 * 256 + 0
+    0 * 65536 + 15 * 256 + 1
 }
 
 // Adds a frame at the end of a queue of two that share a buffer; nothing looks into the frame.

@@ -64,7 +64,7 @@ def written(*buffers):
 
 
 def version():
-    """The library's version, as 0.15.0."""
+    """The library's version, as 0.15.1."""
     return words(C.version())
 
 

@@ -103,7 +103,7 @@ const _: () = {
 };
 
 /// The most bytes of stack that a call needs.
-pub const STACK_BYTES: usize = 131_072;
+pub const STACK_BYTES: usize = 65_536;
 
 /// The names in the order of their bits in [`Names::mask`], bit 0 first: that of the original's
 /// `collect_spatial_predicate_names`.
