@@ -13,6 +13,10 @@ pub const MIDDLE_BYTES: usize = 768;
 pub const LONG_BYTES: usize = 4096;
 
 // For two frames that are merged, of so many bytes together.
+pub const FEWEST_NODES: usize = 48;
+
+pub const FEWEST_BYTES: usize = 144;
+
 pub const FEW_NODES: usize = 128;
 
 pub const FEW_BYTES: usize = 384;

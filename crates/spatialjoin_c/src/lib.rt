@@ -29,8 +29,8 @@ use host_calls::put::put_call_number;
 use host_calls::serve::serve_number;
 use host_calls::settings::host_settings;
 use node_rows::lengths::{
-    FEW_BYTES, FEW_NODES, MANY_BYTES, MANY_NODES, MIDDLE_BYTES, MIDDLE_NODES, MOST_NODES,
-    SHORT_BYTES, SHORT_NODES,
+    FEW_BYTES, FEW_NODES, FEWEST_BYTES, FEWEST_NODES, MANY_BYTES, MANY_NODES, MIDDLE_BYTES,
+    MIDDLE_NODES, MOST_NODES, SHORT_BYTES, SHORT_NODES,
 };
 use node_table::{NodeRecord, put_nodes};
 
@@ -137,7 +137,9 @@ pub fn spatialjoin_merge(
         (nodes_of table.old)) plan.new scratch.new (nodes_of table.new) result }
 {
     let both = n.saturating_add(frame.len());
-    if both <= FEW_BYTES {
+    if both <= FEWEST_BYTES {
+        merge_by::<FEWEST_NODES>(frame, plan, n, scratch, table)
+    } else if both <= FEW_BYTES {
         merge_by::<FEW_NODES>(frame, plan, n, scratch, table)
     } else if both <= MIDDLE_BYTES {
         merge_by::<MIDDLE_NODES>(frame, plan, n, scratch, table)
