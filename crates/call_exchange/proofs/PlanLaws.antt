@@ -85,7 +85,8 @@ module _ (s : List ℕ) where
       let exchanged : List ℕ = predicate_bytes X.position (exchange_predicate X.predicate) in
       let rest : List ℕ = remainder_bytes X.remainder in
       let first = turned X.position (rest ++ tail) (is ∙ simp append_assoc) in
-      remainder-turned x.remainder X.remainder h.remainder middle after negated exchanged (omega (arith, ends, extraction-length X, predicate-as-long X.predicate))
+      remainder-turned x.remainder X.remainder h.remainder middle after negated exchanged
+      (omega (arith, ends, extraction-length X, predicate-as-long X.predicate))
       tail (first ∙ simp append_assoc) ∙ simp append_assoc
 
   -- ---- a plan

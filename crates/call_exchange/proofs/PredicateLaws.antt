@@ -59,7 +59,8 @@ module _ {s : List ℕ} (p : RelationPredicate) where
       }
 
   pub relation-turned : (P : Predicate) → RelationAt unchanged s p (exchange_predicate P) → {before after : List ℕ} {e number : ℕ}
-      → number ≡ relation_number (relation_of p.relation_type) → PutsAt (Pair s p.left p.left_end p.right p.right_end) pair_bytes 4 (set before 3 number) after e
+      → number ≡ relation_number (relation_of p.relation_type)
+      → PutsAt (Pair s p.left p.left_end p.right p.right_end) pair_bytes 4 (set before 3 number) after e
       → PredicateTurned P before after
   unfolding predicate_bytes predicate_kind predicate_fields big_endian exchange_predicate
   relation-turned (relation type l r) h {before} {after} {e} {number} is put position tail stood =
@@ -87,7 +88,8 @@ module _ {s : List ℕ} (p : DistancePredicate) where
       }
 
   pub distance-turned : (P : Predicate) → DistanceAt unchanged s p (exchange_predicate P) → {before after : List ℕ} {e number : ℕ}
-      → number ≡ side_number (join_side p.distance_side) → PutsAt (Pair s p.left p.left_end p.right p.right_end) pair_bytes 5 (set before 4 number) after e
+      → number ≡ side_number (join_side p.distance_side)
+      → PutsAt (Pair s p.left p.left_end p.right p.right_end) pair_bytes 5 (set before 4 number) after e
       → PredicateTurned P before after
   unfolding predicate_bytes predicate_kind predicate_fields big_endian exchange_predicate
   distance-turned (relation type l r) h is put position tail stood = cc h.is

@@ -9,7 +9,8 @@ use Rattle.byte_writer.specs.Written.{WroteAt}
 use Rattle.call_exchange.specs.Turned.{Turned, TurnedAt}
 
 -- What is written from a place on is there in place of as many bytes.
-pub wrote-turned : (x : List ℕ) {y before after : List ℕ} {w r : ℕ} → length x ≡ length y → WroteAt w y before after r → TurnedAt w x y before after
+pub wrote-turned : (x : List ℕ) {y before after : List ℕ} {w r : ℕ} → length x ≡ length y
+    → WroteAt w y before after r → TurnedAt w x y before after
 wrote-turned x {y} {before} {after} {w} {r} long wrote head at tail is =
     let front : take w before ≡ head = ap (take w) (is ∙ append_assoc head x tail) ∙ take_at head (x ++ tail) w (sym at) in
     let rest : drop (w + length y) before ≡ tail =

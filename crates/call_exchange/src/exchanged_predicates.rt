@@ -1,5 +1,5 @@
-// Predicates at a plan's start, exchanged where they stand: what an exchange changes of each, the arguments of which come from a copy of the
-// old plan. Before them stand the first byte and the position's two, which stay.
+// Predicates at a plan's start, exchanged where they stand: what an exchange changes of each, the arguments of which come from a copy of
+// the old plan. Before them stand the first byte and the position's two, which stay.
 ghost use Rattle.definitions.specs.Bytes.Encode.{predicate_fields};
 ghost use Rattle.sedona_query_planner.specs.Predicates.{unchanged, RelationAt, DistanceAt, PredicateAt};
 ghost use Rattle.byte_writer.specs.Writing.{Room};

@@ -20,7 +20,8 @@ module _ (test : List ℕ → Bool) (x : List ℕ) (fails : test x ≡ false) wh
   none-of : (names : List (List ℕ)) → all test names ≡ true → any (same_name x) names ≡ false
   unfolding all any
   none-of [] holds = refl
-  none-of (name ∷ names) holds = rw (apart name (parts (test name) holds).0 (same_name x name) refl) (none-of names (parts (test name) holds).1)
+  none-of (name ∷ names) holds = rw (apart name (parts (test name) holds).0 (same_name x name) refl)
+      (none-of names (parts (test name) holds).1)
     where
       parts : (t : Bool) {u : Bool} → t && u ≡ true → (t ≡ true) × (u ≡ true)
       parts true e = (refl, e)

@@ -259,7 +259,8 @@ module _ (to : List ℕ) {s : List ℕ} {start end w : ℕ} {before : List ℕ} 
     pub copy-fits : PatchFits s start end to w middle
     copy-fits = record { tree = p.it; stands = p.stands; copied = stood p.it p.stands }
 
-    pub copy-patched : {after : List ℕ} → Patched s start end to w middle after → PutsAt (InTable s start end to) (copy_of to) w before after v
+    pub copy-patched : {after : List ℕ} → Patched s start end to w middle after
+        → PutsAt (InTable s start end to) (copy_of to) w before after v
     copy-patched is = record {
       wrote = λ t h.
           over (omega (arith, p.room)) (copy.wrote (expr_bytes t) (spans-between h)) (sym (same-length t)) (is t h (stood t h));

@@ -6,9 +6,8 @@ use mathlib.Core.List.{List, ◌++◌, append_assoc}
 use lib.ListN.{length, drop, length-append, length-drop}
 use lib.Seq.{drop-drop, drop-append_seam}
 use Rattle.definitions.specs.Words.Expression.{Expr, Exprs, nil, cons}
-use Rattle.definitions.specs.Bytes.Encode.{expr_bytes, exprs_bytes}
-use Rattle.definitions.specs.Bytes.Decode.{Columns, index_below}
-use Rattle.definitions.specs.Bytes.Good.{InRangeAll}
+use Rattle.definitions.specs.Bytes.Encode.{exprs_bytes}
+use Rattle.definitions.specs.Bytes.Decode.{index_below}
 use Rattle.definitions.specs.Bytes.Printed.{printed}
 use Rattle.expression.specs.Nodes.{head_bytes, children_of, Tree, OfTree}
 use Rattle.expression.specs.Heads.{HeadIs}

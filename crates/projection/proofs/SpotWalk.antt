@@ -1,5 +1,5 @@
--- What the loop of `collect_columns` keeps: the spots of the nodes that were passed are in the row, and with those of the nodes that are left
--- they are the expression's.
+-- What the loop of `collect_columns` keeps: the spots of the nodes that were passed are in the row, and with those of the nodes that are
+-- left they are the expression's.
 use Prim.Native.Nat.{ℕ, ◌+◌, ◌-◌, ◌≤◌, ◌<◌}
 use native.Mathlib.Omega.{arith}
 use mathlib.Core.Path.{◌≡◌, refl, sym, ap, ap₂, ◌∙◌, subst}
@@ -10,7 +10,7 @@ use Rattle.definitions.specs.Words.Limits.{most_bytes, two_bytes}
 use Rattle.definitions.specs.Words.Expression.{Side, Expr, column, Exprs, nil, cons, count}
 use Rattle.definitions.specs.Bytes.Encode.{expr_bytes, exprs_bytes}
 use Rattle.definitions.specs.Bytes.Decode.{index_below}
-use Rattle.expression.specs.Places.{Holds, short_at}
+use Rattle.expression.specs.Places.{short_at}
 use Rattle.expression.specs.Nodes.{head_bytes, children_of, Stands, Row, Tree, OfTree}
 use Rattle.expression.specs.Heads.{HeadIs}
 use Rattle.expression.specs.declared.heads.Head.{Head}

@@ -18,8 +18,8 @@ fn spot_number(side: JoinSide, at: usize, child: usize) -> u32
     ((at * 4 + usize::from(u8::from(side))) * 65536 + child) as u32
 }
 
-// Puts the columns of the expression at a place, an argument's of a side, into the row from index i on. Its nodes stand one after another: a
-// step passes one, and then its children are the first that are left.
+// Puts the columns of the expression at a place, an argument's of a side, into the row from index i on. Its nodes stand one after another:
+// a step passes one, and then its children are the first that are left.
 pub fn collect_columns(row: &mut [u32], src: &[u8], at: usize, side: JoinSide, i: usize) -> Passed
     requires { ColumnsFit src.now at (join_side side) i row.old }
     ensures { ColumnsCollected src.now at (join_side side) i row.old row.new result }

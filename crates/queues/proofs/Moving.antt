@@ -3,12 +3,13 @@ use Prim.Native.Nat.{ℕ, ◌+◌, ◌-◌, ◌≤◌}
 use native.Mathlib.Omega.{arith}
 use mathlib.Core.Path.{◌≡◌, refl, sym, ap, ap₂, ◌∙◌}
 use mathlib.Core.List.{List, ◌++◌, append_assoc}
-use lib.ListN.{length, take, drop, length-append, length-drop}
+use lib.ListN.{length, take, drop, length-append}
 use lib.Seq.{length-take-le, take-append-add, drop-append-add, take-append-le, drop-append-le, drop-drop}
 use Rattle.byte_writer.specs.Written.{WroteAt}
 
 -- Bytes copied from behind a place of a buffer to before it were written there.
-pub copied-down : (s front back : List ℕ) (to from n : ℕ) {part after : List ℕ} → s ≡ front ++ back → length front ≡ from → back ≡ drop from s
+pub copied-down : (s front back : List ℕ) (to from n : ℕ) {part after : List ℕ} → s ≡ front ++ back → length front ≡ from
+    → back ≡ drop from s
     → to + n ≤ from → n ≤ length back → part ≡ take n back → after ≡ (take to front ++ (part ++ drop n (drop to front))) ++ back
     → WroteAt to (take n (drop from s)) s after (to + n)
 copied-down s front back to from n {part} {after} whole long behind below room same e =

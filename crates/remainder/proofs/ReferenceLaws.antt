@@ -1,17 +1,16 @@
 -- What the loop of `collect_column_references` keeps: marking the columns of the nodes that are left makes of the flags what they will be.
 use Prim.Native.Nat.{ℕ, ◌+◌, ◌≤◌, ◌<◌}
 use native.Mathlib.Omega.{arith}
-use mathlib.Core.Path.{◌≡◌, refl, sym, ap, ap₂, ◌∙◌, subst}
+use mathlib.Core.Path.{◌≡◌, refl, sym, ap, ◌∙◌, subst}
 use mathlib.Core.Bool.{Bool, true}
 use mathlib.Core.List.{List, [], ◌∷◌, ◌++◌, append-nil, append_assoc}
 use lib.ListN.{length, get_or, set, length-set}
 use Rattle.definitions.specs.Words.Basics.{big_endian}
 use Rattle.definitions.specs.Words.Expression.{Expr, column, Exprs, nil, cons}
-use Rattle.definitions.specs.Bytes.Encode.{expr_bytes}
 use Rattle.definitions.specs.Bytes.Decode.{index_below}
 use Rattle.definitions.specs.Words.References.{columns_of, columns_of_all}
 use Rattle.expression.specs.Places.{short_at}
-use Rattle.expression.specs.Nodes.{head_bytes, children_of, Stands, Spans, Tree, OfTree}
+use Rattle.expression.specs.Nodes.{head_bytes, children_of, Stands, Tree, OfTree}
 use Rattle.expression.specs.Heads.{HeadIs}
 use Rattle.expression.specs.declared.heads.Head.{Head}
 use Rattle.expression.proofs.OfKind.{no-own-columns}

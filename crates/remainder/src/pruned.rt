@@ -28,8 +28,8 @@ fn put_pruned_in<const N: usize>(out: &mut [u8], records: Records, from: &[u8], 
     reproject_column_references(out, w, from, at, end, &to)
 }
 
-// Writes the frame of the expression at the end of `from` over the records that it refers to; answers its length. Most frames have few records, and
-// need no longer rows cleared.
+// Writes the frame of the expression at the end of `from` over the records that it refers to; answers its length. Most frames have few
+// records, and need no longer rows cleared.
 pub fn put_pruned(out: &mut [u8], records: Records, from: &[u8], at: usize) -> usize
     requires { PrunedFits records.src.now records.rec records.count from.now at out.old }
     ensures { PrunedPut records.entry.src.now records.entry.rec records.entry.count from.now at

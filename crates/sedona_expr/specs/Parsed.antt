@@ -6,7 +6,7 @@ use Rattle.definitions.specs.Words.Leaves as definitions
 use Rattle.definitions.specs.Filter.Match.{Request, ask_relation, ask_distance, ask_knn, ask_nothing}
 use Rattle.definitions.specs.Bytes.Decode.{Columns}
 use Rattle.terms.specs.Forms.{form_number}
-use Rattle.expression.specs.Nodes.{Stands, Spans, Row}
+use Rattle.expression.specs.Nodes.{Spans, Row}
 use Rattle.node_rows.specs.Rows.{Tabled}
 use Rattle.expression.specs.declared.leaves.Called.{Called}
 use Rattle.sedona_expr.specs.declared.utils.Compared.{Compared}

@@ -1,4 +1,4 @@
--- What the loop of `list_matches` keeps: the leaves that it has passed are listed, and the others are those of the expressions still to come.
+-- What the loop of `list_matches` keeps: the leaves that it has passed are listed, the others are those of the expressions still to come.
 use Prim.Native.Nat.{ℕ, ◌+◌, ◌≤◌, ◌<◌}
 use native.Mathlib.Omega.{arith}
 use native.Mathlib.Nat.{add-zero}

@@ -1,13 +1,11 @@
 -- A frame's expression copied by a table that raises each index is that expression raised.
 use Prim.Native.Nat.{ℕ, ◌≤◌}
 use native.Mathlib.Omega.{arith}
-use mathlib.Core.Path.{◌≡◌, ap, ◌∙◌, subst}
+use mathlib.Core.Path.{◌≡◌, ap, subst}
 use mathlib.Core.List.{List}
 use lib.ListN.{length}
 use Rattle.definitions.specs.Words.Expression as tree
-use Rattle.definitions.specs.Bytes.Decode.{index_below}
 use Rattle.definitions.specs.Filter.Merge.{raised}
-use Rattle.expression.specs.Nodes.{Spans}
 use Rattle.frame_reader.specs.Frames.{FrameAt}
 use Rattle.frame_reader.specs.declared.frame_bodies.Frame.{Frame}
 use Rattle.frame_reader.proofs.Standing.{expr-spans}
@@ -30,7 +28,8 @@ module _ {s : List ℕ} {f : Frame} {end : ℕ} (by : ℕ) {to : List ℕ} (wide
   unfolding raised
   raises F h = table-copies (table-whole h.counted table) F.expr h.expr.readable.in_range
 
-  pub raised-fits : {w : ℕ} {out : List ℕ} → Room (FrameAt s f end) (raised_expr by) w out → Room (InTable s f.root end to) (copy_of to) w out
+  pub raised-fits : {w : ℕ} {out : List ℕ} → Room (FrameAt s f end) (raised_expr by) w out
+      → Room (InTable s f.root end to) (copy_of to) w out
   raised-fits p = record {
     it = p.it.expr;
     stands = in_table p.it p.stands;

@@ -3,9 +3,7 @@ use Prim.Native.Nat.{ℕ, ◌+◌}
 use native.Mathlib.Omega.{arith}
 use mathlib.Core.Path.{◌≡◌, refl, sym, ap, ap₂, ◌∙◌}
 use mathlib.Core.List.{List, [], ◌∷◌, ◌++◌, append_assoc}
-use lib.ListN.{length, take, drop, get_or, length-append}
-use lib.Seq.{take_at, drop_at}
-use Rattle.definitions.specs.Words.Basics.{big_endian}
+use lib.ListN.{length, get_or, length-append}
 use Rattle.definitions.specs.Words.Expression.{Expr, column, literal, and, binary, call, other, field, Exprs, nil, cons}
 use Rattle.definitions.specs.Bytes.Encode.{expr_bytes, exprs_bytes}
 use Rattle.definitions.specs.Words.References.{columns_of, columns_of_all, map_columns, map_columns_all}

@@ -8,7 +8,8 @@ use Rattle.call_extract_all.proofs.listing.list_matches.Given as goal
 abbrev pub invariant-loop-index : goal.invariant-loop-index
 invariant-loop-index l =
     let f = l.listing.filter in
-    Listing (match_under (settings_of l.listing.settings)) f.s.now f.rows.numbers.now f.rows.next.now f.rec l.listing.count l.fn.from.at l.last
+    Listing (match_under (settings_of l.listing.settings)) f.s.now f.rows.numbers.now f.rows.next.now f.rec l.listing.count
+    l.fn.from.at l.last
     l.place l.index l.fn.from.position l.fn.knns l.knns l.fn.others l.others l.fn.gone l.gone l.tally
 
 abbrev pub decreases-loop-index : goal.decreases-loop-index

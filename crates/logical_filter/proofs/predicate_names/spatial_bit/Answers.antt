@@ -1,6 +1,6 @@
 -- `spatial_bit`: a name that is none of the 15 has no bit, and no name stands twice among them.
 use native.Mathlib.Omega.{arith}
-use mathlib.Core.Path.{refl, sym}
+use mathlib.Core.Path.{refl}
 use Rattle.definitions.specs.Words.Basics.{ascii, same_name, any}
 use Rattle.definitions.specs.Filter.Names.{lower_case, spatial_names}
 use Rattle.logical_filter.specs.Logicals.{apart}

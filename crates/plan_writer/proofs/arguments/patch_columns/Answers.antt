@@ -1,9 +1,5 @@
 -- `patch_columns`: a turn passes one node; a column's new index is put where the copy has the old one.
 use native.Mathlib.Omega.{arith}
-use mathlib.Core.Path.{ap}
-use mathlib.Core.List.{List}
-use Rattle.byte_writer.specs.Written.{WroteAt}
-use Rattle.definitions.specs.Words.Basics.{big_endian}
 use Rattle.plan_writer.proofs.Copying.{Patching, patched, patching-begins, patching-ends, patching-tree, tree-there, column-within, column-room, column-passed, head-later, head-passed, all-patched}
 use Rattle.expression.proofs.Standing.{node-some}
 use Rattle.plan_writer.proofs.arguments.patch_columns.Goals as goal
