@@ -1,4 +1,3 @@
 -- Laws that several proofs use.
-pub mod NumberLaws
+pub mod Filling
 pub mod RecordLaws
-pub mod FillLaws

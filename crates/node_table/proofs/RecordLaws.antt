@@ -1,46 +1,34 @@
--- The structs of a lent table and the records that they are.
-use mathlib.Core.Path.{◌≡◌, sym, ◌∙◌, ap}
+-- The records of a table whose first structs are those of a tree.
+use mathlib.Core.Path.{◌≡◌, sym, ◌∙◌, ap, ap₂}
 use Prim.Native.Nat.{ℕ, ◌<◌}
 use native.Mathlib.Omega.{arith}
-use mathlib.Core.List.{List, ◌++◌, map, map-append, map-map}
-use lib.ListN.{length, get_or, take, drop, length-map, get_or-map}
-use Rattle.std.proofs.lemmas.List.{get_or_default}
-use Rattle.definitions.specs.Bytes.NodeTable as definitions
-use Rattle.node_rows.specs.Numbers.{number}
-use Rattle.node_table.specs.Numbers.{numbered}
-use Rattle.node_table.specs.Records.{node_of, nodes_of}
+use mathlib.Core.List.{List, ◌++◌, map, map-append, map-map, map-id}
+use lib.ListN.{length, take, drop, get_or}
+use lib.Seq.{length-take-le}
+use Rattle.std.proofs.lemmas.List.{ext_get_or}
+pub use Rattle.node_table.specs.Records.{struct_of, blank}
+use Rattle.expression.specs.Filling.{Records}
+use Rattle.node_table.specs.Records.{nodes_of, node_of, RowHas, FilledIs}
 use Rattle.node_table.specs.declared.NodeRecord.{NodeRecord}
-use Rattle.node_rows.proofs.Filling.{filled, map-take, map-drop}
+use Rattle.node_table.proofs.Filling.{map-take, map-drop}
 
-abbrev pub struct_of : definitions.NodeRecord → NodeRecord
-struct_of r = record { kind = r.kind; start = r.start; end = r.end }
+-- Structs that are these, one by one.
+pub same-first : (xs ys : List NodeRecord) → length ys ≡ length xs
+    → ((j : ℕ) → j < length xs → get_or ys j blank ≡ get_or xs j blank) → ys ≡ xs
+same-first xs ys long each = ext_get_or blank ys xs long (λ j h. each j (omega (arith, long)))
 
-abbrev pub blank : NodeRecord
-blank = record { kind = 0; start = 0; end = 0 }
+-- Structs of the same records are the same.
+pub same-structs : (xs ys : List NodeRecord) → nodes_of xs ≡ nodes_of ys → xs ≡ ys
+same-structs xs ys e = sym (back xs) ∙ ap (map struct_of) e ∙ back ys
+  where
+    back : (xs : List NodeRecord) → map struct_of (nodes_of xs) ≡ xs
+    back xs = map-map struct_of node_of xs ∙ map-id xs
 
--- the struct of a number
-abbrev pub lent : ℕ → NodeRecord
-lent n = struct_of (numbered n)
-
--- the table after n records of the row's numbers were put, as records
-pub put_all : (n : ℕ) (row : List ℕ) (xs : List NodeRecord)
-    → nodes_of (filled lent row xs n) ≡ take n (map numbered row) ++ drop n (nodes_of xs)
-put_all n row xs =
-    map-append node_of (take n (map lent row)) (drop n xs)
-    ∙ ap (λ (l : List definitions.NodeRecord). l ++ map node_of (drop n xs))
-    (map-take node_of n (map lent row) ∙ ap (take n) (map-map node_of lent row))
-    ∙ ap (λ (l : List definitions.NodeRecord). take n (map numbered row) ++ l) (map-drop node_of n xs)
-
--- the number of a struct
-abbrev pub number_of : NodeRecord → ℕ
-number_of r = number (node_of r)
-
--- the numbers of a table, and that at a place
-pub numbers_of : (xs : List NodeRecord) → map number_of xs ≡ map number (nodes_of xs)
-numbers_of xs = sym (map-map number node_of xs)
-
-pub number_at : (xs : List NodeRecord) (k : ℕ) → k < length xs → get_or (map number (nodes_of xs)) k 0 ≡ number_of (get_or xs k blank)
-number_at xs k l =
-    ap (λ (l : List ℕ). get_or l k 0) (sym (numbers_of xs))
-    ∙ get_or_default (map number_of xs) k 0 (number_of blank) (omega (arith, length-map xs number_of))
-    ∙ get_or-map number_of xs k blank
+-- A table whose first records became the first of such a row is filled with those of the expression.
+pub filled-first : (s : List ℕ) (root count : ℕ) (row table put : List NodeRecord) → RowHas s root count row
+    → put ≡ take count row ++ drop (length (take count row)) table → FilledIs s root count (nodes_of table) (nodes_of put)
+filled-first s root count row table put has is records so =
+    let size : length (take count row) ≡ count = length-take-le count row has.0 in
+    ap nodes_of is ∙ map-append node_of (take count row) (drop (length (take count row)) table)
+    ∙ ap₂ ◌++◌ (map-take node_of count row ∙ has.1 records so)
+    (ap (λ (k : ℕ). nodes_of (drop k table)) size ∙ map-drop node_of count table)

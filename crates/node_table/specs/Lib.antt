@@ -1,3 +1,2 @@
 -- What the contracts cite.
-pub mod Numbers
 pub mod Records

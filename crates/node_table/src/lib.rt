@@ -1,15 +1,10 @@
-// The lent table of a frame's nodes. Only `put_nodes` writes into it and only `same_nodes` reads it, which holds a plain row of numbers,
-// one number a node record, against it. Public for the crates of the calls with a table.
+// The records of nodes, as a host lends a table of them. Only `put_nodes` writes into a lent table.
 #![tactic(auto)]
 
-ghost use Rattle.std.specs.Prelude.{◌≡◌, map, ◌++◌, ◌<◌, ◌≤◌, length, take, drop};
-ghost use Rattle.node_rows.specs.Numbers.{number};
-ghost use Rattle.node_rows.specs.Stores.{SameIs};
-ghost use Rattle.node_table.specs.Numbers.{numbered};
-ghost use Rattle.node_table.specs.Records.{node_of, nodes_of};
+ghost use Rattle.std.specs.Prelude.{◌≡◌, ◌++◌, ◌<◌, ◌≤◌, length, drop};
+ghost use Rattle.node_table.specs.Records.{BeginsIs, SameIs};
 
-use node_rows::numbers::node_number;
-
+// A node's kind, where it starts, and where it and all below it end.
 #[repr(C)]
 #[derive(Clone, Copy, Debug, PartialEq, Eq)]
 pub struct NodeRecord {
@@ -18,40 +13,12 @@ pub struct NodeRecord {
     pub end: u16,
 }
 
-// A record as one number. The C interface lets a host lend any record: one that no good frame has gets a number that none of these has.
-impl From<NodeRecord> for u32 {
-    ghost from_gives = { λ node result. result ≡ number (node_of node) };
-
-    fn from(node: NodeRecord) -> u32 {
-        let kind = node.kind;
-        let start = node.start;
-        let end = node.end;
-        if 6 < kind {
-            return u32::MAX;
-        }
-        if 16383 < start {
-            return u32::MAX;
-        }
-        if 32767 < end {
-            return u32::MAX;
-        }
-        node_number(kind, usize::from(start), usize::from(end))
-    }
-}
-
-// The record of a number.
-impl From<u32> for NodeRecord {
-    ghost from_gives = { λ given node. node_of node ≡ numbered given };
-
-    #[tactic(auto, unfolding(crate::specs::Numbers::numbered))]
-    fn from(given: u32) -> NodeRecord {
-        NodeRecord {
-            kind: (given / 536870912) as u8,
-            start: (given / 32768 % 16384) as u16,
-            end: (given % 32768) as u16,
-        }
-    }
-}
+// What stands in a row before it is filled.
+pub const NO_RECORD: NodeRecord = NodeRecord {
+    kind: 0,
+    start: 0,
+    end: 0,
+};
 
 // The record at a place of a table becomes this one. It is written field by field, so that its byte of no field stays as the host left it.
 fn put_record(place: &mut NodeRecord, node: NodeRecord)
@@ -62,24 +29,33 @@ fn put_record(place: &mut NodeRecord, node: NodeRecord)
     place.end = node.end;
 }
 
-// The one function that fills a lent table: its first records become those of the row's numbers, the others stay.
-pub fn put_nodes(table: &mut [NodeRecord], row: &[u32], count: usize)
-    requires { (count ≤ length table.old) × (count ≤ length row.now) }
-    ensures { nodes_of table.new
-        ≡ take count (map numbered row.now) ++ drop count (nodes_of table.old) }
+// The one function that fills a lent table: its first records become these, the others stay.
+pub fn put_nodes(table: &mut [NodeRecord], nodes: &[NodeRecord])
+    requires { length nodes.now ≤ length table.old }
+    ensures { table.new ≡ nodes.now ++ drop (length nodes.now) table.old }
 {
+    let count = nodes.len();
     for (i, place) in table[..count].iter_mut().enumerate() {
-        put_record(place, NodeRecord::from(row[i]));
+        put_record(place, nodes[i]);
     }
 }
 
-// The one function that reads a lent table: whether its first records are those of the row's first numbers.
-pub fn same_nodes(row: &[u32], table: &[NodeRecord], count: usize) -> bool
-    requires { (count ≤ length row.now) × (count ≤ length table.now) }
-    ensures { SameIs row.now (map number (nodes_of table.now)) count result }
+// Whether two records are the same.
+fn same_record(a: NodeRecord, b: NodeRecord) -> bool
+    ensures { SameIs a b result }
 {
-    for (k, number) in row[..count].iter().enumerate() {
-        if *number != u32::from(table[k]) {
+    a.kind == b.kind && a.start == b.start && a.end == b.end
+}
+
+// Whether a table begins with these records.
+pub fn begins_with(table: &[NodeRecord], nodes: &[NodeRecord]) -> bool
+    ensures { BeginsIs table.now nodes.now result }
+{
+    if table.len() < nodes.len() {
+        return false;
+    }
+    for (k, node) in nodes.iter().enumerate() {
+        if !same_record(table[k], *node) {
             return false;
         }
     }
