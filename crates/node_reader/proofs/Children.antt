@@ -4,14 +4,18 @@ use native.Mathlib.Omega.{arith}
 use mathlib.Core.Path.{◌≡◌, refl, ◌∙◌}
 use mathlib.Core.List.{List}
 use lib.ListN.{length, drop}
-use borrow.Author.Tests.{ne_eqb}
+use borrow.Author.Tests.{ne_eqb, le-leb, lt-leb}
 use Rattle.definitions.specs.Words.Expression.{Expr, column, Exprs, nil, cons, count}
 use Rattle.definitions.specs.Bytes.Readers.{Read, read, stopped, Reader, continue, ◌>>=◌, give, byte_up_to}
-use Rattle.definitions.specs.Bytes.Decode.{repeat_exprs, Columns, node_of_kind, any_column, binary_expr, binary_node}
+use Rattle.definitions.specs.Bytes.Decode.{repeat_exprs, Columns, index_below, fields, allowed_kind, node_of_kind, any_column, binary_expr, binary_node}
 use Rattle.expression.specs.Nodes.{children_of}
-use Rattle.std.specs.Prelude.{Ok}
+use mathlib.Core.Bool.{true, false}
+use Rattle.std.specs.Prelude.{Result, Ok, Err}
+use Rattle.expression.specs.declared.heads.Head.{Head}
+use Rattle.terms.specs.declared.refusals.Refusal.{Refusal}
+use Rattle.terms.specs.declared.refusals.Refusal.TheVariants.{OutOfRange}
 use Rattle.node_reader.specs.Fields.{ReadsAt}
-use Rattle.node_reader.specs.Heads.{HeadIs}
+use Rattle.node_reader.specs.Heads.{HeadIs, any_kind, OtherKind, columns_in}
 use Rattle.theorems.proofs.ReaderLaws.{after}
 
 -- A node with no child has those of an empty list.
@@ -66,8 +70,45 @@ two s at end operator w h = (
   omega arith,
 )
 
+-- A kind that may stand there.
+pub allowed-head : (c : Columns) (s : List ℕ) (at kind : ℕ) (r : Result Head Refusal) → allowed_kind c kind ≡ true
+    → HeadIs s at r (λ child. node_of_kind c child kind) → HeadIs s at r (any_kind c kind)
+allowed-head c s at kind (Ok head) e h = (h.0, h.1, (λ child n. rw e (h.2 child n)), h.3, h.4)
+allowed-head c s at kind (Err why) e h = λ child n. rw e (h child n)
+
+-- Those of literals, operators, calls and other nodes always may.
+pub always : (c : Columns) (kind : ℕ) → 1 ≤ kind → kind ≤ 4 → allowed_kind c kind ≡ true
+unfolding allowed_kind
+always (index_below bound) kind low high = le-leb kind 4 high
+always fields kind low high = rw (le-leb 1 kind low, le-leb kind 5 (omega arith))
+
+-- One that may not is refused.
+pub kind-refused : (c : Columns) (s : List ℕ) (at kind : ℕ) → allowed_kind c kind ≡ false → HeadIs s at (Err OutOfRange) (any_kind c kind)
+kind-refused c s at kind e child n = rw e
+
 -- A kind that is none of 1 to 4 is a column's.
-pub column-kind : (columns : Columns) (kind : ℕ) → (kind ≡ 1 → ⊥) → (kind ≡ 2 → ⊥) → (kind ≡ 3 → ⊥) → (kind ≡ 4 → ⊥)
-    → (child : Reader Expr) → node_of_kind columns child kind ≡ any_column columns
+pub column-kind : (c : Columns) (kind : ℕ) → OtherKind kind → (child : Reader Expr) → node_of_kind c child kind ≡ any_column c
 unfolding node_of_kind
-column-kind columns kind a b c d child = rw (ne_eqb kind 1 a, ne_eqb kind 2 b, ne_eqb kind 3 c, ne_eqb kind 4 d)
+column-kind c kind other child = rw (ne_eqb kind 1 other.0, ne_eqb kind 2 other.1, ne_eqb kind 3 other.2, ne_eqb kind 4 other.3)
+
+pub column-head : (c : Columns) (s : List ℕ) (at kind : ℕ) (r : Result Head Refusal) → OtherKind kind → allowed_kind c kind ≡ true
+    → HeadIs s at r (λ child. any_column c) → HeadIs s at r (any_kind c kind)
+column-head c s at kind r other e h = allowed-head c s at kind r e (simp (column-kind c kind other) h)
+
+pub only-zero : (bound kind : ℕ) → OtherKind kind → (kind ≡ 0 → ⊥) → allowed_kind (index_below bound) kind ≡ false
+unfolding allowed_kind
+only-zero bound kind other none = lt-leb kind 4 (omega (arith, other.0, other.1, other.2, other.3, none))
+
+pub only-five : (kind : ℕ) → OtherKind kind → (kind ≡ 5 → ⊥) → allowed_kind fields kind ≡ false
+unfolding allowed_kind
+only-five zero other none = refl
+only-five (suc kind) other none = rw (le-leb 1 (suc kind) (omega arith), lt-leb (suc kind) 5 (omega (arith, other.0, other.1, other.2, other.3, none)))
+
+-- The columns of a walk, by the two kinds.
+pub physical : (kind bound : ℕ) → kind ≡ 0 → columns_in kind bound ≡ index_below bound
+physical zero bound e = refl
+physical (suc kind) bound e = absurd (omega arith)
+
+pub logical : (kind bound : ℕ) → (kind ≡ 0 → ⊥) → columns_in kind bound ≡ fields
+logical zero bound e = absurd (e refl)
+logical (suc kind) bound e = refl

@@ -1,22 +1,20 @@
 -- The bytes of a name, read one after the other, and looked at all at once.
-use Prim.Native.Nat.{ℕ, zero, suc, ◌+◌, ◌-◌, ◌%◌, ◌≤◌, ◌<◌, min}
+use Prim.Native.Nat.{ℕ, zero, suc, ◌+◌, ◌-◌, ◌*◌, ◌%◌, ◌≤◌, ◌<◌}
 use native.Mathlib.Numerals.{add-one}
 use native.Mathlib.Omega.{arith}
-use mathlib.Core.Path.{◌≡◌, refl, sym, ap, ◌∙◌}
-use mathlib.Core.Bool.{Bool, true, false, ◌&&◌, false≢true}
+use mathlib.Core.Path.{◌≡◌, refl, sym, ap, ap₂, ◌∙◌}
+use mathlib.Core.Bool.{Bool, true, false, ◌&&◌, false≢true, and_assoc}
 use mathlib.Core.List.{List, [], ◌∷◌, ◌++◌}
 use lib.ListN.{length, take, drop, get_or, length-drop}
 use lib.Dec.{leb}
 use borrow.Author.Tests.{leb-true, leb-false, le-leb, lt-leb}
-use lib.Seq.{take-suc, drop-drop}
-use Rattle.std.proofs.lemmas.List.{take_all}
+use lib.Seq.{take-suc, take-add, drop-drop}
+use native.Mathlib.Nat.{add_comm}
 use Rattle.definitions.specs.Words.Basics.{all}
 use Rattle.definitions.specs.Bytes.Readers.{read, stopped, byte_between, repeat}
 use Rattle.theorems.proofs.ReaderLaws.{after, halts}
 use Rattle.theorems.proofs.Taken.{and-both}
-use Rattle.terms.specs.declared.refusals.Refusal.TheVariants.{EndsInsideField, OutOfRange}
-use Rattle.std.specs.Prelude.{Ok, Err}
-use Rattle.node_reader.specs.Fields.{SkippedIs, name_like}
+use Rattle.node_reader.specs.Fields.{name_like}
 
 abbrev may : ℕ → Bool
 may b = leb 33 b && leb b 126
@@ -55,6 +53,43 @@ like-more s i h k = rw (add-one i, take-suc s i 0) (ap (λ (t : Bool). name_like
 pub like-none : (s : List ℕ) → true ≡ name_like (take 0 s)
 unfolding name_like all
 like-none s = refl
+
+-- ---- two windows
+
+like-both : (x y : List ℕ) → name_like (x ++ y) ≡ name_like x && name_like y
+unfolding name_like all
+like-both [] y = refl
+like-both (b ∷ x) y = ap (λ (t : Bool). may b && t) (like-both x y) ∙ sym (and_assoc (may b) (all may x) (all may y))
+
+parted : (k m : ℕ) (l : List ℕ) → name_like (take (k + m) l) ≡ name_like (take k l) && name_like (take m (drop k l))
+parted k m l = ap name_like (take-add k m l) ∙ like-both (take k l) (take m (drop k l))
+
+middle-twice : (x m z : Bool) → (x && m) && (m && z) ≡ x && (m && z)
+middle-twice true true z = refl
+middle-twice true false z = refl
+middle-twice false m z = refl
+
+-- What the first and the last window cover, the last of which begins after `k`, and m of which are in both.
+pub windows-cover : (l : List ℕ) (k m width size : ℕ) → width ≡ k + m → size ≡ k + width
+    → name_like (take width l) && name_like (take width (drop k l)) ≡ name_like (take size l)
+windows-cover l k m width size w n =
+    let first = ap (λ (j : ℕ). name_like (take j l)) w ∙ parted k m l in
+    let last = ap (λ (j : ℕ). name_like (take j (drop k l))) (w ∙ add_comm k m) ∙ parted m k (drop k l) in
+    let all = ap (λ (j : ℕ). name_like (take j l)) (n ∙ ap (λ (j : ℕ). k + j) (w ∙ add_comm k m)) ∙ parted k (m + k) l
+    ∙ ap (λ (t : Bool). name_like (take k l) && t) (parted m k (drop k l)) in
+    ap₂ ◌&&◌ first last
+    ∙ middle-twice (name_like (take k l)) (name_like (take m (drop k l))) (name_like (take k (drop m (drop k l))))
+    ∙ sym all
+
+pub windows-name : (s : List ℕ) (at size width last : ℕ) (x y : Bool) → width ≤ size → size ≤ 2 * width → last ≡ at + size - width
+    → x ≡ name_like (take (at + width - at) (drop at s)) → y ≡ name_like (take (last + width - last) (drop last s))
+    → x && y ≡ name_like (take size (drop at s))
+windows-name s at size width last x y low high is first second =
+    let begins : drop last s ≡ drop (size - width) (drop at s) =
+    ap (λ (k : ℕ). drop k s) (omega (arith, is)) ∙ sym (drop-drop (size - width) at s) in
+    ap₂ ◌&&◌ (first ∙ ap (λ (k : ℕ). name_like (take k (drop at s))) (omega arith))
+    (second ∙ ap₂ (λ (k : ℕ) (l : List ℕ). name_like (take k l)) (omega arith) begins)
+    ∙ windows-cover (drop at s) (size - width) (2 * width - size) width size (omega arith) (omega arith)
 
 -- ---- what the reader gives
 
@@ -101,29 +136,17 @@ names-stop (suc k) (suc size) n [] h e = absurd (false≢true (sym e))
 names-stop (suc k) (suc size) n (b ∷ s) h e =
     first_stops b n s size (may b) refl (λ f. names-stop k size n s (omega arith) (sym (ap (λ (t : Bool). t && all may (take k s)) f) ∙ e))
 
--- ---- the three answers, of the bytes that are there, at most `size`
+-- ---- the bytes at a place
 
-module _ (s : List ℕ) (at size there : ℕ) (some : there ≡ min size (length s - at)) where
-  part : take (at + there - at) (drop at s) ≡ take there (drop at s)
-  part = let e : at + there - at ≡ there = omega arith in ap (λ (k : ℕ). take k (drop at s)) e
+module _ (s : List ℕ) (at size n : ℕ) where
+  pub name-read : at + size ≤ length s → name_like (take size (drop at s)) ≡ true
+      → repeat size (byte_between 33 126) n (drop at s) ≡ read (take size (drop at s)) n (drop (at + size) s)
+  name-read fits e =
+      names-read size n (drop at s) (simp length-drop (omega arith)) e
+      ∙ ap (λ (t : List ℕ). read (take size (drop at s)) n t) (drop-drop size at s)
 
-  pub name-passed : at ≤ length s → size ≤ there → name_like (take (at + there - at) (drop at s)) ≡ true
-      → SkippedIs s at (Ok (at + there)) (repeat size (byte_between 33 126))
-  name-passed within enough e =
-      let all : there ≡ size = omega arith in (
-        omega arith,
-        take size (drop at s),
-        λ n. names-read size n (drop at s) (simp length-drop (omega arith)) (rw (← all) (sym (ap name_like part) ∙ e))
-            ∙ ap (λ (t : List ℕ). read (take size (drop at s)) n t) (drop-drop size at s)
-            ∙ ap (λ (k : ℕ). read (take size (drop at s)) n (drop (at + k) s)) (sym all),
-      )
+  pub name-bad : name_like (take size (drop at s)) ≡ false → repeat size (byte_between 33 126) n (drop at s) ≡ stopped 4
+  name-bad e = names-stop size size n (drop at s) (omega arith) e
 
-  pub name-stops : name_like (take (at + there - at) (drop at s)) ≡ false
-      → SkippedIs s at (Err OutOfRange) (repeat size (byte_between 33 126))
-  name-stops e n = names-stop there size n (drop at s) (omega arith) (sym (ap name_like part) ∙ e)
-
-  pub name-ends : there < size → name_like (take (at + there - at) (drop at s)) ≡ true
-      → SkippedIs s at (Err EndsInsideField) (repeat size (byte_between 33 126))
-  name-ends h e n =
-      names-end size n (drop at s) (simp length-drop (omega arith))
-      (ap name_like (sym (take_all there (drop at s) (simp length-drop (omega arith))) ∙ sym part) ∙ e)
+  pub name-cut : at ≤ length s → length s < at + size → name_like (drop at s) ≡ true → repeat size (byte_between 33 126) n (drop at s) ≡ stopped 3
+  name-cut w h e = names-end size n (drop at s) (simp length-drop (omega arith)) e

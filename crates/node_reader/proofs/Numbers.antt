@@ -33,7 +33,7 @@ unfolding number
 digits-none s at width = record { within = omega arith; small = lit< tt; left = λ n. rw (sub-zero, add-zero) }
 
 -- One digit more.
-digit : (s : List ℕ) (at value fewer more b n : ℕ) → at < length s → more ≡ suc fewer → b ≡ get_or s at 0
+pub digit : (s : List ℕ) (at value fewer more b n : ℕ) → at < length s → more ≡ suc fewer → b ≡ get_or s at 0
     → number_after value more n (drop at s) ≡ number_after (value * 256 + b) fewer n (drop (at + 1) s)
 unfolding number_after
 digit s at value fewer more b n h m e = rw m (after _ (there s at b n h e))

@@ -1,11 +1,11 @@
 -- What was read at a place stands there: its bytes are those up to the place after it.
-use Prim.Native.Nat.{ℕ, ◌+◌, ◌≤◌, ◌<◌}
+use Prim.Native.Nat.{ℕ, ◌+◌, ◌≤◌}
 use native.Mathlib.Omega.{arith}
-use mathlib.Core.Path.{◌≡◌, ap}
+use mathlib.Core.Path.{◌≡◌, ap, subst}
 use mathlib.Core.List.{List, ◌++◌}
 use lib.ListN.{length, drop, length-drop, length-append}
 use Rattle.definitions.specs.Bytes.Decode.{Columns, node, expression}
-use Rattle.definitions.specs.Bytes.Good.{AllBytes, depth, nodes}
+use Rattle.definitions.specs.Bytes.Good.{AllBytes, nodes}
 use Rattle.definitions.specs.Words.Expression.{Expr}
 use Rattle.definitions.specs.Bytes.Encode.{expr_bytes}
 use Rattle.definitions.specs.Bytes.Readers.{read}
@@ -14,13 +14,11 @@ use Rattle.theorems.proofs.Inverse.{NodeBack, node-back}
 use Rattle.node_reader.specs.declared.walk.Walked.{Walked}
 use Rattle.std.specs.Prelude.{Result, Ok, Err}
 use Rattle.terms.specs.declared.refusals.Refusal.{Refusal}
-use Rattle.node_reader.specs.Nodes.{WalkedIs, CountBounds, LentRows}
+use Rattle.node_reader.specs.Visits.{VisitIs}
 use Rattle.node_reader.specs.Places.{ExpressionIs}
 use Rattle.expression.specs.Places.{Between}
 use Rattle.expression.specs.Nodes.{Stands}
-use Rattle.node_rows.specs.Rows.{NodesCollected, TabledIfRoom}
-use Rattle.node_rows.proofs.RowLaws.{nodes-below}
-use Rattle.node_rows.proofs.TableLaws.{collected-tabled}
+use Rattle.std.proofs.Common.{inl, inr}
 
 pub between : (s x : List ℕ) (at end : ℕ) → at ≤ length s → end ≤ length s → drop at s ≡ x ++ drop end s → Between s at end x
 between s x at end low high e =
@@ -47,25 +45,22 @@ module _ (c : Columns) (s : List ℕ) (at levels count : ℕ) (bytes : AllBytes 
         counted = b.counted;
       }
 
--- The walk of a root is the reading of an expression, which stands there.
-pub expression-stands : (c : Columns) (s : List ℕ) (at before : ℕ) (r : Result Walked Refusal) (numbers indexes numbered indexed : List ℕ)
-    → AllBytes s → at ≤ length s → LentRows s numbers indexes → length numbered ≡ length numbers
-    → WalkedIs s at before r (node c 64) depth (length numbers) (NodesCollected at before numbers indexes numbered indexed)
-    → CountBounds before 0 r → ExpressionIs s at before r c (TabledIfRoom numbered indexed)
-unfolding expression
-expression-stands c s at before (Ok walked) numbers indexes numbered indexed bytes within lent same
-    (place, e, reads, deep, filled) counted =
-    let b = back c s at 64 before bytes within (omega arith) walked.next reads in
-    let there = node-there c s at 64 before bytes within (omega arith) place reads in (
-      e,
-      reads,
-      record { bytes = there.span; readable = record { in_range = b.in_range; shallow = b.shallow } },
-      there.counted,
-      deep,
-      b.few,
-      λ fits.
-          let some : 0 < length numbers = omega (arith, nodes-below e, there.counted) in
-          collected-tabled (omega arith) (omega (arith, lent.long)) (omega (arith, there.span.ends, place, lent.short some))
-          (filled (omega (arith, there.counted))),
-    )
-expression-stands c s at before (Err why) numbers indexes numbered indexed bytes within lent same stops counted = stops
+-- The walk of a root is the reading of an expression, which stands there; what its visitor holds then says what is claimed.
+module _ (c : Columns) (s : List ℕ) (at before : ℕ) (bytes : AllBytes s) (within : at ≤ length s) (few : before ≤ 1024)
+    (visited : (end index : ℕ) → Expr → Type 0) (claim : (at i : ℕ) → Expr → Type 0)
+    (says : (end : ℕ) (e : Expr) → visited end (before + nodes e) e → claim at before e) where
+  pub expression-stands : (r : Result Walked Refusal) → VisitIs s at before r (node c 64) ⊥ visited (λ e. ⊥)
+      → ExpressionIs s at before r c claim
+  unfolding expression
+  expression-stands (Ok walked) (place, e, reads, visits) =
+      let b = back c s at 64 before bytes within few walked.next reads in
+      let there = node-there c s at 64 before bytes within few place reads in (
+        e,
+        reads,
+        record { bytes = there.span; readable = record { in_range = b.in_range; shallow = b.shallow } },
+        there.counted,
+        b.few,
+        says walked.next e (subst (λ (k : ℕ). visited walked.next k e) there.counted visits),
+      )
+  expression-stands (Err why) (inl stops) = stops
+  expression-stands (Err why) (inr (some, refuse)) = absurd some

@@ -3,3 +3,5 @@ pub mod Fields
 pub mod Heads
 pub mod Nodes
 pub mod Places
+pub mod Visits
+pub mod Visitors

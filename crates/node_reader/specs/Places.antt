@@ -17,10 +17,13 @@ pub record ExprAt (c : Columns) (s : List ℕ) (at end : ℕ) (e : Expr) : Type 
   pub bytes : Between s at end (expr_bytes e)
   pub readable : Readable c e
 
--- An expression was read, `before` nodes counted up to its place and its own after them, from which index on rows may hold them: what is
--- claimed of these.
-abbrev pub ExpressionIs : List ℕ → (at before : ℕ) → Result Walked Refusal → Columns → (rows : (at i : ℕ) → Expr → Type 0) → Type 0
-ExpressionIs s at before (Ok walked) c rows =
+-- An expression was read, `before` nodes counted up to its place and its own after them; what is claimed of it, from that index on.
+abbrev pub ExpressionIs : List ℕ → (at before : ℕ) → Result Walked Refusal → Columns → (claim : (at i : ℕ) → Expr → Type 0) → Type 0
+ExpressionIs s at before (Ok walked) c claim =
     (e : Expr) × (expression c before (drop at s) ≡ read e walked.count (drop walked.next s)) × ExprAt c s at walked.next e
-    × (walked.count ≡ before + good.nodes e) × (walked.depth ≡ good.depth e) × (walked.count ≤ most_nodes) × rows at before e
-ExpressionIs s at before (Err why) c rows = expression c before (drop at s) ≡ stopped (number_of why)
+    × (walked.count ≡ before + good.nodes e) × (walked.count ≤ most_nodes) × claim at before e
+ExpressionIs s at before (Err why) c claim = expression c before (drop at s) ≡ stopped (number_of why)
+
+-- Nothing is claimed.
+abbrev pub NoClaim : (at i : ℕ) → Expr → Type 0
+NoClaim at i e = Unit {0}

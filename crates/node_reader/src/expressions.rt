@@ -1,41 +1,95 @@
-// Expressions of depth at most 64, read by the loop over their nodes, or by the walk in bytes that are too many for it.
-ghost use Rattle.std.specs.Prelude.{◌≤◌, length};
-ghost use Rattle.node_reader.specs.Heads.{columns_of};
-ghost use Rattle.node_reader.specs.Nodes.{LentRows};
-ghost use Rattle.node_reader.specs.Places.{ExpressionIs};
-ghost use Rattle.node_rows.specs.Rows.{NoRows, TabledIfRoom};
+// Expressions of depth at most 64, read by the two walks: into a row of records, against a lent table, or for their refusals alone.
+ghost use Rattle.std.specs.Prelude.{ℕ, ◌≡◌, ◌≤◌, ◌<◌, length};
+ghost use Rattle.definitions.specs.Words.Limits.{most_nodes, two_bytes};
+ghost use Rattle.definitions.specs.Bytes.Decode as decode;
+ghost use Rattle.node_reader.specs.Heads.{columns_of, columns_in};
+ghost use Rattle.node_reader.specs.Visits.{NodeVisit, VisitIs, Counted};
+ghost use Rattle.filter_tree.specs.Trees.{Recorded, RecordedIfRoom};
+ghost use Rattle.node_reader.specs.Places.{ExpressionIs, NoClaim};
+ghost use Rattle.node_reader.specs.Visitors.{RecordsAre};
 
 use super::call_heads::{Columns, Source};
-use super::reading_loop::read_node;
-use super::walk::{Walked, node};
-use node_rows::lengths::MOST_BYTES;
+use super::visitors::{Check, Fill, Nothing};
+use super::visits::Visit;
+use super::walk::{Walked, children};
+use node_table::NodeRecord;
 use terms::refusals::Refusal;
 
-// An expression of depth at most 64, whose nodes go into the rows from `count` on, where these are so long.
-pub fn expression_in(
-    numbers: &mut [u32],
-    indexes: &mut [u16],
+// The root is the one child of no node.
+#[inline(always)]
+fn only_child<V: Visit, const COLUMN: u8>(
+    v: &mut V,
+    source: &Source,
+    at: usize,
+    count: usize,
+) -> Result<Walked, Refusal>
+    requires place { (at ≤ length source.now.bytes.now) × (count ≤ most_nodes) }
+    requires places { (p : ℕ) → p ≤ length source.now.bytes.now → V.deeds.Place p }
+    ensures read { NodeVisit V.deeds source.now.bytes.now at count result
+        (decode.node (columns_in COLUMN source.now.bound) 64) v.old v.new }
+    ensures counted { Counted count 1 result }
+{
+    let mut reached = Walked { next: at, count };
+    children::<V, COLUMN>(v, source, &mut reached, 1, 64)?;
+    Ok(reached)
+}
+
+// The root, with the columns that the frame may have.
+#[inline(always)]
+pub fn root<V: Visit>(
+    v: &mut V,
     s: &[u8],
     at: usize,
     count: usize,
     columns: Columns,
 ) -> Result<Walked, Refusal>
-    requires { (at ≤ length s.now) × LentRows s.now numbers.old indexes.old }
-    ensures { ExpressionIs s.now at count result (columns_of columns)
-        (TabledIfRoom numbers.new indexes.new) }
+    requires place { (at ≤ length s.now) × (count ≤ most_nodes) }
+    requires places { (p : ℕ) → p ≤ length s.now → V.deeds.Place p }
+    ensures read { NodeVisit V.deeds s.now at count result
+        (decode.node (columns_of columns) 64) v.old v.new }
 {
-    let source = Source { bytes: s, columns };
-    if s.len() <= MOST_BYTES {
-        read_node(numbers, indexes, source, at, count)
-    } else {
-        node(numbers, indexes, source, at, 64, count)
+    match columns {
+        Columns::Below(bound) => { only_child::<V, 0>(v, &Source { bytes: s, bound }, at, count) }
+        Columns::Fields => only_child::<V, 5>(v, &Source { bytes: s, bound: 0 }, at, count),
     }
 }
 
-// An expression of depth at most 64, for those who have no rows to lend.
-pub fn expression(s: &[u8], at: usize, count: usize, columns: Columns) -> Result<Walked, Refusal>
-    requires { at ≤ length s.now }
-    ensures { ExpressionIs s.now at count result (columns_of columns) NoRows }
+// An expression of depth at most 64, whose nodes go into the row from `count` on, as far as this has places.
+pub fn fill_expression(
+    row: &mut [NodeRecord],
+    s: &[u8],
+    at: usize,
+    count: usize,
+    columns: Columns,
+) -> Result<Walked, Refusal>
+    requires { (at ≤ length s.now) × (length s.now < two_bytes) × (count ≤ most_nodes) }
+    ensures { ExpressionIs s.now at count result (columns_of columns) (RecordedIfRoom row.new) }
 {
-    expression_in(&mut [], &mut [], s, at, count, columns)
+    let mut fill = Fill { row };
+    root(&mut fill, s, at, count, columns)
+}
+
+// An expression whose nodes are the table's from `count` on: if it is not there, or the table has other nodes, it is refused.
+pub fn held_expression(
+    table: &[NodeRecord],
+    s: &[u8],
+    at: usize,
+    count: usize,
+    columns: Columns,
+) -> Result<Walked, Refusal>
+    requires { (at ≤ length s.now) × (count ≤ most_nodes) }
+    ensures { VisitIs s.now at count result (decode.node (columns_of columns) 64)
+        (Unit {0}) (RecordsAre at count table.now) (λ t. Recorded table.now at count t → ⊥) }
+{
+    let mut check = Check { table };
+    root(&mut check, s, at, count, columns)
+}
+
+// An expression, for its refusals and its end.
+pub fn expression(s: &[u8], at: usize, count: usize, columns: Columns) -> Result<Walked, Refusal>
+    requires { (at ≤ length s.now) × (count ≤ most_nodes) }
+    ensures { ExpressionIs s.now at count result (columns_of columns) NoClaim }
+{
+    let mut nothing = Nothing {};
+    root(&mut nothing, s, at, count, columns)
 }

@@ -1,10 +1,10 @@
-// Fields: a byte, a number of some width, a byte in a range, a side, a name. Each reader gives what it read and the place after it. That
+// Fields: a byte, a number of some width, a byte in a range, a side. Each reader gives what it read and the place after it. That
 // the place is within the bytes is a clause of each reader: with a ghost field of bytes and place, which was tried, each answer has to
 // promise the same bytes again.
-ghost use Rattle.std.specs.Prelude.{◌≡◌, ◌≤◌, length};
+ghost use Rattle.std.specs.Prelude.{◌≡◌, ◌≤◌, ◌+◌, length};
 ghost use Rattle.definitions.specs.Bytes.Decode as decode;
 ghost use Rattle.definitions.specs.Bytes.Readers as readers;
-ghost use Rattle.node_reader.specs.Fields.{FieldIs, SideIs, SkippedIs, name_like};
+ghost use Rattle.node_reader.specs.Fields.{FieldIs, SideIs, long_at};
 
 use terms::refusals::Refusal;
 use terms::sides::JoinSide;
@@ -23,6 +23,15 @@ pub fn number(s: &[u8], at: usize, width: usize) -> Result<(u64, usize), Refusal
         value = value * 256 + u64::from(*b);
     }
     Ok((value, end))
+}
+
+// The number in the eight bytes at a place.
+#[inline(always)]
+pub fn long_at(s: &[u8], at: usize) -> u64
+    requires { at + 8 ≤ length s.now }
+    ensures { result ≡ long_at s.now at }
+{
+    u64::from_be_bytes(*s[at..].first_chunk().unwrap())
 }
 
 // The byte at a place.
@@ -66,32 +75,4 @@ pub fn side_up_to(s: &[u8], at: usize, most: u64) -> Result<(JoinSide, usize), R
 {
     let (number, next) = byte_up_to(s, at, most)?;
     Ok((JoinSide::from(number), next))
-}
-
-// Whether each byte is from 33 to 126. It looks at all of them, so that several are compared at once.
-fn name_like(bytes: &[u8]) -> bool
-    ensures { result ≡ name_like bytes.now }
-{
-    let mut like = true;
-    for b in bytes {
-        like = like & (b.wrapping_sub(33) <= 93);
-    }
-    like
-}
-
-// A name's bytes, each 33 to 126. One that no name has is refused before the end is.
-pub fn name_bytes(s: &[u8], at: usize, size: u64) -> Result<usize, Refusal>
-    requires { at ≤ length s.now }
-    ensures { SkippedIs s.now at result (readers.repeat size (readers.byte_between 33 126)) }
-{
-    let size = size as usize;
-    let there = size.min(s.len() - at);
-    let end = at + there;
-    if !name_like(&s[at..end]) {
-        return Err(Refusal::OutOfRange);
-    }
-    if there < size {
-        return Err(Refusal::EndsInsideField);
-    }
-    Ok(end)
 }

@@ -1,117 +1,168 @@
 // A node's head: its kind, and the fields before its children.
-ghost use Rattle.std.specs.Prelude.{◌≡◌, ◌≤◌, length};
+ghost use Rattle.std.specs.Prelude.{ℕ, ◌≡◌, ◌<◌, ◌+◌, length};
 ghost use Rattle.definitions.specs.Bytes.Decode as decode;
-ghost use Rattle.node_reader.specs.Fields.{FieldIs};
-ghost use Rattle.node_reader.specs.Heads.{HeadIs, columns_of};
+ghost use Rattle.node_reader.specs.Heads.{HeadIs, CutFieldIs, BeyondIs, any_kind, OtherKind, columns_in};
 
-use super::call_heads::{Columns, Source, call_head};
-use super::field_readers::{byte, byte_up_to, number};
+use super::call_heads::{Source, call_head};
+use super::field_readers::long_at;
+use expression::fields::short_at;
 use expression::heads::Head;
 use expression::literals::literal_in_range;
 use terms::refusals::Refusal;
 
 // Whether a node of this kind may stand in the frame.
-fn allowed_kind(kind: u64, columns: Columns) -> bool
-    ensures { result ≡ decode.allowed_kind (columns_of columns) kind }
+fn allowed_kind<const COLUMN: u8>(kind: u8) -> bool
+    ensures { (bound : ℕ) → result ≡ decode.allowed_kind (columns_in COLUMN bound) kind }
 {
-    match columns {
-        Columns::Below(_) => kind <= 4,
-        Columns::Fields => 1 <= kind && kind <= 5,
+    if COLUMN == 0 {
+        kind <= 4
+    } else {
+        1 <= kind && kind <= 5
     }
 }
 
-// A kind byte.
-#[tactic(auto, unfolding(definitions::specs::Bytes::Decode::node_kind))]
-pub fn node_kind(source: Source, at: usize) -> Result<(u64, usize), Refusal>
-    requires { at ≤ length source.bytes.now }
-    ensures { FieldIs source.entry.bytes.now at result (decode.node_kind (columns_of source.entry.columns)) }
+// The refusal of a node that is beyond a limit: a kind that may not stand there comes first.
+#[cold]
+#[inline(never)]
+pub fn limit_refusal<const COLUMN: u8>(s: &[u8], at: usize) -> Refusal
+    requires { at < length s.now }
+    ensures { (bound : ℕ) → BeyondIs s.now at (columns_in COLUMN bound) result }
 {
-    let (kind, fields) = byte(source.bytes, at)?;
-    if !allowed_kind(kind, source.columns) {
-        return Err(Refusal::OutOfRange);
+    if allowed_kind::<COLUMN>(s[at]) {
+        Refusal::TooManyOrTooDeep
+    } else {
+        Refusal::OutOfRange
     }
-    Ok((kind, fields))
+}
+
+// The refusal of a head of two fields that runs over the end: a first field of more than `most` comes first.
+#[cold]
+#[inline(never)]
+fn cut_field(s: &[u8], at: usize, most: u8) -> Refusal
+    requires { at < length s.now }
+    ensures { CutFieldIs s.now (at + 1) most result }
+{
+    if 2 <= s.len() - at && most < s[at + 1] {
+        return Refusal::OutOfRange;
+    }
+    Refusal::EndsInsideField
 }
 
 // A physical column: its index and its name's tag.
-#[tactic(auto, unfolding(definitions::specs::Bytes::Decode::column_node))]
+#[inline(always)]
 fn column_head(s: &[u8], at: usize, bound: u64) -> Result<Head, Refusal>
-    requires { at ≤ length s.now }
-    ensures { HeadIs s.now at result (λ child. decode.column_node bound) }
+    requires { at < length s.now }
+    ensures { HeadIs s.now (at + 1) result (λ child. decode.column_node bound) }
 {
-    let (index, tag) = number(s, at, 2)?;
-    let (_, next) = number(s, tag, 2)?;
-    if bound <= index {
+    if s.len() - at < 5 {
+        return Err(Refusal::EndsInsideField);
+    }
+    if bound <= short_at(s, at + 1) as u64 {
         return Err(Refusal::NoSuchColumn);
     }
-    Ok(Head { next, children: 0 })
-}
-
-// A logical column: which schemas have it, and its tag.
-#[tactic(auto, unfolding(definitions::specs::Bytes::Decode::field_node))]
-fn field_head(s: &[u8], at: usize) -> Result<Head, Refusal>
-    requires { at ≤ length s.now }
-    ensures { HeadIs s.now at result (λ child. decode.field_node) }
-{
-    let (_, tag) = byte_up_to(s, at, 3)?;
-    let (_, next) = number(s, tag, 2)?;
-    Ok(Head { next, children: 0 })
-}
-
-// A column of the sort that the frame has.
-fn any_column_head(source: Source, at: usize) -> Result<Head, Refusal>
-    requires { at ≤ length source.bytes.now }
-    ensures { HeadIs source.entry.bytes.now at result (λ child. decode.any_column (columns_of source.entry.columns)) }
-{
-    match source.columns {
-        Columns::Below(bound) => column_head(source.bytes, at, bound),
-        Columns::Fields => field_head(source.bytes, at),
-    }
-}
-
-// A literal: its type and eight bytes.
-#[tactic(auto, unfolding(definitions::specs::Bytes::Decode::literal_node))]
-fn literal_head(s: &[u8], at: usize) -> Result<Head, Refusal>
-    requires { at ≤ length s.now }
-    ensures { HeadIs s.now at result (λ child. decode.literal_node) }
-{
-    let (kind, eight) = byte_up_to(s, at, 6)?;
-    let (bytes, next) = number(s, eight, 8)?;
-    if !literal_in_range(kind, bytes) {
-        return Err(Refusal::OutOfRange);
-    }
-    Ok(Head { next, children: 0 })
-}
-
-// A binary operator: And, a comparison or any other, with its two children to come.
-#[tactic(auto, unfolding(definitions::specs::Bytes::Decode::binary_node))]
-fn binary_head(s: &[u8], at: usize) -> Result<Head, Refusal>
-    requires { at ≤ length s.now }
-    ensures { HeadIs s.now at result decode.binary_node }
-{
-    let (_, next) = byte_up_to(s, at, 63)?;
-    Ok(Head { next, children: 2 })
-}
-
-// Any other node: its tag, and its children to come.
-#[tactic(auto, unfolding(definitions::specs::Bytes::Decode::other_node))]
-fn other_head(s: &[u8], at: usize) -> Result<Head, Refusal>
-    requires { at ≤ length s.now }
-    ensures { HeadIs s.now at result decode.other_node }
-{
-    let (_, many) = number(s, at, 2)?;
-    let (children, next) = byte_up_to(s, many, 16)?;
     Ok(Head {
-        next,
-        children: children as usize,
+        next: at + 5,
+        children: 0,
     })
 }
 
-// The fields of a node of this kind.
+// A logical column: which schemas have it, and its tag.
 #[inline(always)]
-pub fn head_of_kind(source: Source, at: usize, kind: u64) -> Result<Head, Refusal>
-    requires { at ≤ length source.bytes.now }
-    ensures { HeadIs source.entry.bytes.now at result (λ child. decode.node_of_kind (columns_of source.entry.columns) child kind) }
+fn field_head(s: &[u8], at: usize) -> Result<Head, Refusal>
+    requires { at < length s.now }
+    ensures { HeadIs s.now (at + 1) result (λ child. decode.field_node) }
+{
+    if s.len() - at < 4 {
+        return Err(cut_field(s, at, 3));
+    }
+    if 3 < s[at + 1] {
+        return Err(Refusal::OutOfRange);
+    }
+    Ok(Head {
+        next: at + 4,
+        children: 0,
+    })
+}
+
+// A column of the sort that the frame has, if it is one.
+#[inline(always)]
+fn any_column_head<const COLUMN: u8>(source: &Source, at: usize, kind: u8) -> Result<Head, Refusal>
+    requires place { at < length source.now.bytes.now }
+    requires other { OtherKind kind }
+    ensures { HeadIs source.now.bytes.now (at + 1) result (any_kind (columns_in COLUMN source.now.bound) kind) }
+{
+    if COLUMN == 0 {
+        if kind == 0 {
+            return column_head(source.bytes, at, source.bound);
+        }
+    } else if kind == 5 {
+        return field_head(source.bytes, at);
+    }
+    Err(Refusal::OutOfRange)
+}
+
+// A literal: its type and eight bytes.
+#[inline(always)]
+fn literal_head(s: &[u8], at: usize) -> Result<Head, Refusal>
+    requires { at < length s.now }
+    ensures { HeadIs s.now (at + 1) result (λ child. decode.literal_node) }
+{
+    if s.len() - at < 10 {
+        return Err(cut_field(s, at, 6));
+    }
+    let kind = s[at + 1];
+    if 6 < kind || !literal_in_range(u64::from(kind), long_at(s, at + 2)) {
+        return Err(Refusal::OutOfRange);
+    }
+    Ok(Head {
+        next: at + 10,
+        children: 0,
+    })
+}
+
+// A binary operator: And, a comparison or any other, with its two children to come.
+#[inline(always)]
+fn binary_head(s: &[u8], at: usize) -> Result<Head, Refusal>
+    requires { at < length s.now }
+    ensures { HeadIs s.now (at + 1) result decode.binary_node }
+{
+    if s.len() - at < 2 {
+        return Err(Refusal::EndsInsideField);
+    }
+    if 63 < s[at + 1] {
+        return Err(Refusal::OutOfRange);
+    }
+    Ok(Head {
+        next: at + 2,
+        children: 2,
+    })
+}
+
+// Any other node: its tag, and its children to come.
+#[inline(always)]
+fn other_head(s: &[u8], at: usize) -> Result<Head, Refusal>
+    requires { at < length s.now }
+    ensures { HeadIs s.now (at + 1) result decode.other_node }
+{
+    if s.len() - at < 4 {
+        return Err(Refusal::EndsInsideField);
+    }
+    let children = s[at + 3];
+    if 16 < children {
+        return Err(Refusal::OutOfRange);
+    }
+    Ok(Head {
+        next: at + 4,
+        children: usize::from(children),
+    })
+}
+
+// The fields of a node of this kind, which may be one that may not stand in the frame. Which columns may, those of kind 0 or those of
+// kind 5, is a parameter, so that it is not looked at for each node.
+#[inline(always)]
+pub fn head_of_kind<const COLUMN: u8>(source: &Source, at: usize, kind: u8) -> Result<Head, Refusal>
+    requires { at < length source.now.bytes.now }
+    ensures { HeadIs source.now.bytes.now (at + 1) result (any_kind (columns_in COLUMN source.now.bound) kind) }
 {
     let s = source.bytes;
     match kind {
@@ -119,6 +170,6 @@ pub fn head_of_kind(source: Source, at: usize, kind: u64) -> Result<Head, Refusa
         2 => binary_head(s, at),
         3 => call_head(s, at),
         4 => other_head(s, at),
-        _ => any_column_head(source, at),
+        _ => any_column_head::<COLUMN>(source, at, kind),
     }
 }

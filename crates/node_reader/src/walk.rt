@@ -1,107 +1,128 @@
-// The walk over a node and the walk over its children, which call each other. Nodes left to count fall.
-ghost use Rattle.std.specs.Prelude.{◌≤◌, length};
+// The walk over a node and the walk over its children, which call each other, whatever is done with the nodes. Nodes left to count fall.
+ghost use Rattle.std.specs.Prelude.{ℕ, ◌≤◌, ◌≡◌, length};
 ghost use Rattle.definitions.specs.Words.Limits.{most_nodes};
 ghost use Rattle.definitions.specs.Bytes.Decode as decode;
 ghost use Rattle.definitions.specs.Bytes.Decode.{repeat_exprs};
-ghost use Rattle.definitions.specs.Bytes.Good.{depth};
-ghost use Rattle.node_reader.specs.Heads.{columns_of, depth_above};
-ghost use Rattle.node_rows.specs.Rows.{NodesCollected, CollectedAll};
-ghost use Rattle.node_reader.specs.Nodes.{WalkedIs, CountBounds, NodeHead, LentRows};
+ghost use Rattle.node_reader.specs.Heads.{columns_in};
+ghost use Rattle.node_reader.specs.Nodes.{most_at};
+ghost use Rattle.node_reader.specs.Visits.{NodeOpened, NodeVisit, RowVisit, Counted, placed};
 
 use super::call_heads::Source;
-use super::head_readers::{head_of_kind, node_kind};
+use super::head_readers::{head_of_kind, limit_refusal};
+use super::visits::Visit;
 use expression::heads::Head;
-use node_rows::collecting::Passed;
-use node_rows::numbers::put_node;
+use filter_tree::lengths::MOST_NODES;
 use terms::refusals::Refusal;
 
-// The place after nodes, how many nodes there were up to it, and the depth of what was read.
+// The place after nodes, and how many nodes there were up to it.
 #[derive(Clone, Copy)]
 pub struct Walked {
     pub next: usize,
     pub count: usize,
-    pub depth: usize,
 }
 
-// A node's kind and fields, with this many levels left and so many nodes counted before it. The hint is for the loop.
+// How many nodes may be counted before one with this many levels left.
 #[inline(always)]
-pub fn node_head(source: Source, at: usize, levels: usize, count: usize) -> Result<Head, Refusal>
-    requires { at ≤ length source.bytes.now }
-    ensures { NodeHead source.entry.bytes.now at levels count (columns_of source.entry.columns) result }
+fn most_before(levels: usize) -> usize
+    ensures { result ≡ most_at levels }
 {
-    let (kind, fields) = node_kind(source, at)?;
-    if levels == 0 || 1024 <= count {
-        return Err(Refusal::TooManyOrTooDeep);
-    }
-    head_of_kind(source, fields, kind)
+    if levels == 0 { 0 } else { MOST_NODES }
 }
 
-// A node and all below it, with this many levels left. Its number and the index of the node after it go into the rows at `count`, where
-// these are so long.
-#[cycle(node_nodes)]
-pub fn node(
-    numbers: &mut [u32],
-    indexes: &mut [u16],
-    source: Source,
-    at: usize,
-    levels: usize,
-    count: usize,
-) -> Result<Walked, Refusal>
-    requires { (at ≤ length source.bytes.now) × LentRows source.bytes.now numbers.old indexes.old }
-    ensures read { WalkedIs source.entry.bytes.now at count result (decode.node (columns_of source.entry.columns) levels) depth
-        (length numbers.old)
-        (NodesCollected at count numbers.old indexes.old numbers.new indexes.new) }
-    ensures counted { CountBounds count 0 result }
+// A node's head is read, and the node is opened; a leaf is done with.
+#[inline(always)]
+fn open_node<V: Visit, const COLUMN: u8>(
+    v: &mut V,
+    source: &Source,
+    here: Walked,
+    most: usize,
+) -> Result<Head, Refusal>
+    requires place { here.next ≤ length source.now.bytes.now }
+    requires places { (p : ℕ) → p ≤ length source.now.bytes.now → V.deeds.Place p }
+    ensures { (levels : ℕ) → most ≡ most_at levels → NodeOpened V.deeds source.now.bytes.now here.next levels here.count
+        (columns_in COLUMN source.now.bound) result v.old v.new }
 {
-    let head = node_head(source, at, levels, count)?;
-    // Most nodes are leaves, and need no walk of children.
-    let walked = if head.children == 0 {
-        Walked {
-            next: head.next,
-            count: count + 1,
-            depth: 1,
-        }
-    } else {
-        nodes(numbers, indexes, source, head, levels - 1, count + 1)?
-    };
+    let at = here.next;
     let s = source.bytes;
-    let passed = Passed {
-        end: walked.next,
-        index: walked.count,
-    };
-    put_node(numbers, indexes, count, s[at], at, passed);
-    Ok(walked)
+    if s.len() <= at {
+        return Err(Refusal::EndsInsideField);
+    }
+    if most <= here.count {
+        return Err(limit_refusal::<COLUMN>(s, at));
+    }
+    let kind = s[at];
+    let head = head_of_kind::<COLUMN>(source, at, kind)?;
+    // Most nodes are leaves, and need no walk of children.
+    if head.children == 0 {
+        if !v.leaf(here.count, kind, at, head.next) {
+            return Err(Refusal::NoGoodPlan);
+        }
+        return Ok(head);
+    }
+    if !v.open(here.count, kind, at) {
+        return Err(Refusal::NoGoodPlan);
+    }
+    Ok(head)
 }
 
-// A node's children, one after the other, each with this many levels left; the depth is that of the node above them.
-#[cycle(node_nodes)]
-pub fn nodes(
-    numbers: &mut [u32],
-    indexes: &mut [u16],
-    source: Source,
-    head: Head,
+// A node and all below it, with this many levels left. What is below it counts on in `reached`: one place for all levels, since a place of
+// its own would be cleared for each node.
+#[inline(always)]
+#[cycle(walks)]
+fn node<V: Visit, const COLUMN: u8>(
+    v: &mut V,
+    source: &Source,
+    reached: &mut Walked,
+    here: Walked,
     levels: usize,
-    count: usize,
+    most: usize,
 ) -> Result<Walked, Refusal>
-    requires { (head.next ≤ length source.bytes.now) × (count ≤ most_nodes) × LentRows source.bytes.now numbers.old indexes.old }
-    ensures read { WalkedIs source.entry.bytes.now head.next count result
-        (repeat_exprs head.children (decode.node (columns_of source.entry.columns) levels)) depth_above
-        (length numbers.old)
-        (CollectedAll head.next count numbers.old indexes.old numbers.new indexes.new) }
-    ensures counted { CountBounds count 1 result }
+    requires place { here.next ≤ length source.now.bytes.now }
+    requires limit { most ≡ most_at levels }
+    requires places { (p : ℕ) → p ≤ length source.now.bytes.now → V.deeds.Place p }
+    ensures read { NodeVisit V.deeds source.now.bytes.now here.next here.count result
+        (decode.node (columns_in COLUMN source.now.bound) levels) v.old v.new }
+    ensures counted { Counted here.count 0 result }
 {
-    let mut next = head.next;
-    let mut total = count;
-    let mut deepest: usize = 0;
-    for _ in 0..head.children {
-        let child = node(numbers, indexes, source, next, levels, total)?;
-        next = child.next;
-        total = child.count;
-        deepest = deepest.max(child.depth);
+    let head = open_node::<V, COLUMN>(v, source, here, most)?;
+    let first = Walked {
+        next: head.next,
+        count: here.count + 1,
+    };
+    if head.children == 0 {
+        return Ok(first);
     }
-    Ok(Walked {
-        next,
-        count: total,
-        depth: deepest + 1,
-    })
+    *reached = first;
+    children::<V, COLUMN>(v, source, reached, head.children, levels - 1)?;
+    let after = *reached;
+    if !v.close(here.count, after.next) {
+        return Err(Refusal::NoGoodPlan);
+    }
+    Ok(after)
+}
+
+// A node's children, one after the other, each with this many levels left. Only the refusal is returned: it stands in registers, and the
+// place with it would not.
+#[inline(never)]
+#[cycle(walks)]
+pub fn children<V: Visit, const COLUMN: u8>(
+    v: &mut V,
+    source: &Source,
+    reached: &mut Walked,
+    many: usize,
+    levels: usize,
+) -> Result<(), Refusal>
+    requires place { (reached.old.next ≤ length source.now.bytes.now) × (reached.old.count ≤ most_nodes) }
+    requires places { (p : ℕ) → p ≤ length source.now.bytes.now → V.deeds.Place p }
+    ensures read { RowVisit V.deeds source.now.bytes.now reached.old.next reached.old.count (placed result reached.new)
+        (repeat_exprs many (decode.node (columns_in COLUMN source.now.bound) levels)) v.old v.new }
+    ensures counted { Counted reached.old.count 1 (placed result reached.new) }
+{
+    let most = most_before(levels);
+    let mut here = *reached;
+    for _ in 0..many {
+        here = node::<V, COLUMN>(v, source, reached, here, levels, most)?;
+    }
+    *reached = here;
+    Ok(())
 }

@@ -1,16 +1,44 @@
 -- The bound is tested last, after index and tag.
+use Prim.Native.Nat.{◌+◌}
+use native.Mathlib.Omega.{arith}
 use mathlib.Core.Path.{refl, ◌∙◌}
-use borrow.Author.Tests.{lt-ltb}
+use mathlib.Core.Logic.{⊎_elim}
+use borrow.Author.Tests.{lt-ltb, le-ltb}
+use Rattle.std.proofs.lemmas.Bool.{cases_lt}
+use lib.ListN.{length}
 use Rattle.definitions.specs.Words.Expression.{column}
 use Rattle.expression.specs.Nodes.{children_of}
+use Rattle.expression.specs.Places.{short_at}
 use Rattle.definitions.specs.Bytes.Decode.{column_node}
-use Rattle.theorems.proofs.ReaderLaws.{after, passes}
+use Rattle.theorems.proofs.ReaderLaws.{after, halts, passes, fails}
 use Rattle.node_reader.proofs.Children.{childless}
+use Rattle.node_reader.proofs.FieldBytes.{short-read}
+use Rattle.node_reader.proofs.Numbers.{number-ends}
 use Rattle.node_reader.proofs.head_readers.column_head.Goals as goal
+
+pub returns-then-s-at-lt5 : goal.returns-then-s-at-lt5
+unfolding column_node
+returns-then-s-at-lt5 c =
+    λ child n.
+    let a = c.args in
+    ⊎_elim (λ h. halts _ (number-ends a.s.now (a.at + 1) 2 n (omega arith)))
+    (λ h. after _ (short-read a.s.now (a.at + 1) (a.at + 3) n (omega arith) (omega arith))
+    ∙ halts _ (number-ends a.s.now (a.at + 3) 2 n (omega arith))) (cases_lt (length a.s.now) (a.at + 3))
+
+pub returns-then-bound-short_at : goal.returns-then-bound-short_at
+unfolding column_node
+returns-then-bound-short_at c =
+    λ child n.
+    let a = c.args in
+    after _ (short-read a.s.now (a.at + 1) (a.at + 3) n (omega arith) (omega arith))
+    ∙ after _ (short-read a.s.now (a.at + 3) (a.at + 5) n (omega arith) (omega arith))
+    ∙ fails 6 _ n _ (le-ltb (short_at a.s.now (a.at + 1)) a.bound (omega (arith, c.short_at.ensures)))
 
 pub returns : goal.returns
 unfolding column_node children_of
 returns c =
-    let tag = c.in_ok-next.ensures in
-    childless c.args.s.now c.args.at (column_node c.args.bound) (column c.in_ok-index.index c.in_ok-next.field-0-0) refl tag.0
-    (λ n. after _ (c.in_ok-index.ensures.1 n) ∙ after _ (tag.1 n) ∙ passes 6 _ n _ (lt-ltb _ _ c.if-bound-index.false))
+    let a = c.args in
+    childless a.s.now (a.at + 1) (column_node a.bound) (column (short_at a.s.now (a.at + 1)) (short_at a.s.now (a.at + 3))) refl (omega arith)
+    (λ n. after _ (short-read a.s.now (a.at + 1) (a.at + 3) n (omega arith) (omega arith))
+    ∙ after _ (short-read a.s.now (a.at + 3) (a.at + 5) n (omega arith) (omega arith))
+    ∙ passes 6 _ n _ (lt-ltb (short_at a.s.now (a.at + 1)) a.bound (omega (arith, c.short_at.ensures))))

@@ -1,19 +1,44 @@
 -- Tag and child count, and then so many children.
+use Prim.Native.Nat.{◌+◌}
+use native.Mathlib.Omega.{arith}
 use mathlib.Core.Path.{refl, ◌∙◌}
+use mathlib.Core.Logic.{⊎_elim}
+use lib.ListN.{length}
+use Rattle.std.proofs.lemmas.Bool.{cases_lt}
 use Rattle.definitions.specs.Words.Expression.{other}
 use Rattle.expression.specs.Nodes.{children_of}
+use Rattle.expression.specs.Places.{short_at}
 use Rattle.definitions.specs.Bytes.Decode.{other_node}
-use Rattle.theorems.proofs.Inverse.{byte-up-to-back}
-use Rattle.theorems.proofs.ReaderLaws.{after}
+use Rattle.theorems.proofs.ReaderLaws.{after, halts}
+use Rattle.node_reader.proofs.FieldBytes.{up-ends, up-out, up-read, short-read}
+use Rattle.node_reader.proofs.Numbers.{number-ends}
 use Rattle.node_reader.proofs.head_readers.other_head.Goals as goal
+
+pub returns-then-s-at-lt4 : goal.returns-then-s-at-lt4
+unfolding other_node
+returns-then-s-at-lt4 c =
+    λ child n.
+    let a = c.args in
+    ⊎_elim (λ h. halts _ (number-ends a.s.now (a.at + 1) 2 n (omega arith)))
+    (λ h. after _ (short-read a.s.now (a.at + 1) (a.at + 3) n (omega arith) (omega arith))
+    ∙ halts _ (up-ends a.s.now (a.at + 3) n 16 (omega arith))) (cases_lt (length a.s.now) (a.at + 3))
+
+pub returns-then-children-gt16 : goal.returns-then-children-gt16
+unfolding other_node
+returns-then-children-gt16 c =
+    λ child n.
+    let a = c.args in
+    after _ (short-read a.s.now (a.at + 1) (a.at + 3) n (omega arith) (omega arith))
+    ∙ halts _ (up-out a.s.now (a.at + 3) n 16 (omega arith) c.if-children-gt16.true)
 
 pub returns : goal.returns
 unfolding other_node children_of
 returns c =
-    let many = c.in_ok-children.ensures in (
-      many.0,
-      other _,
-      (λ child n. after _ (c.in_ok-many.ensures.1 n) ∙ after _ (many.1 n)),
-      λ es as-many. refl,
-      (byte-up-to-back 16 0 0 _ _ _ (many.1 0)).1,
+    let a = c.args in (
+      omega arith,
+      other (short_at a.s.now (a.at + 1)),
+      (λ child n. rw c.from.ensures (after _ (short-read a.s.now (a.at + 1) (a.at + 3) n (omega arith) (omega arith))
+          ∙ after _ (up-read a.s.now (a.at + 3) n 16 (a.at + 4) (omega arith) (omega arith) c.if-children-gt16.false))),
+      (λ es as-many. refl),
+      rw c.from.ensures c.if-children-gt16.false,
     )
