@@ -1,6 +1,5 @@
 -- Laws that the proofs use: records, arity and frames that were read.
 pub mod ArityLaws
-pub mod ByRows
 pub mod FrameRows
 pub mod Standing
 pub mod Wholes

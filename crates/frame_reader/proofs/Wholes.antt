@@ -12,7 +12,7 @@ use Rattle.definitions.specs.Words.Expression.{Expr, Record}
 use Rattle.definitions.specs.Bytes.Encode.{records_bytes}
 use Rattle.definitions.specs.Bytes.Readers.{Read, read, stopped, Reader, continue, ◌>>=◌, ◌>>◌, require, byte, repeat, require_length, none_left, at_end}
 use Rattle.definitions.specs.Bytes.Decode.{index_below, one_record}
-use Rattle.definitions.specs.Bytes.Good.{AllBytes, nodes, depth}
+use Rattle.definitions.specs.Bytes.Good.{AllBytes, nodes}
 use Rattle.theorems.proofs.ReaderLaws.{after, halts, passes, fails}
 use Rattle.std.specs.Prelude.{Result, Ok, Err}
 use Rattle.std.proofs.Common.{◌⊎◌, inl, inr}
@@ -25,12 +25,12 @@ use Rattle.frame_reader.proofs.Wholes.Recorded.{recorded}
 use Rattle.node_reader.proofs.Standing.{bytes-from, between}
 
 -- Records and an expression that were read one after the other are a frame there.
-pub frame-stands : (s : List ℕ) (first root next columns many levels : ℕ) (rs : List Record) (x : Expr) → AllBytes s → first ≤ length s
+pub frame-stands : (s : List ℕ) (first root next columns many : ℕ) (rs : List Record) (x : Expr) → AllBytes s → first ≤ length s
     → root ≤ length s
-    → ReadsAt s first root rs (repeat columns one_record) → ExprAt (index_below columns) s root next x → many ≡ nodes x → levels ≡ depth x
-    → FrameAt s (record { columns = columns; records = first; root = root; nodes = many; depth = levels }) next
+    → ReadsAt s first root rs (repeat columns one_record) → ExprAt (index_below columns) s root next x → many ≡ nodes x
+    → FrameAt s (record { columns = columns; records = first; root = root; nodes = many }) next
     (record { records = rs; expr = x })
-frame-stands s first root next columns many levels rs x bytes low high reads stands sized deep =
+frame-stands s first root next columns many rs x bytes low high reads stands sized =
     let back : (drop first s ≡ records_bytes rs ++ drop root s) × (length rs ≡ columns) =
     recorded columns 0 0 (drop first s) (drop root s) rs (bytes-from first s bytes) (reads 0) in
     record {
@@ -38,7 +38,6 @@ frame-stands s first root next columns many levels rs x bytes low high reads sta
       records = between s (records_bytes rs) first root low high back.0;
       expr = rw back.1 stands;
       sized = sized;
-      deep = deep;
     }
 
 -- ---- the length

@@ -1,28 +1,19 @@
--- What the answer about arity says.
-use Rattle.std.specs.Prelude.{ℕ, ◌+◌, ◌≡◌, Bool, true, false, List, Option, Some, None}
-use Rattle.definitions.specs.Words.Expression.{Expr, and}
-use Rattle.definitions.specs.Bytes.Good.{nodes}
-use Rattle.definitions.specs.Words.Leaves.{arity}
-use Rattle.expression.specs.Nodes.{Tree, OfTree}
-use Rattle.node_rows.specs.Numbers.{start_at}
-use Rattle.node_rows.specs.Rows.{Tabled}
+-- What is left to ask of the AND-leaves of an expression.
+use Rattle.std.specs.Prelude.{ℕ, ◌≡◌, List, drop}
+use Rattle.definitions.specs.Words.Basics.{all}
+use Rattle.definitions.specs.Words.Leaves.{leaves, leaf_arity, arity}
+use Rattle.definitions.specs.Bytes.Decode.{Columns}
+use Rattle.expression.specs.Nodes.{Stands}
+use Rattle.node_table.specs.declared.NodeRecord.{NodeRecord as Lent}
+use Rattle.filter_tree.specs.Trees.{Noded}
+use Rattle.filter_tree.specs.Spines.{Onward}
+use Rattle.definitions.specs.Words.Expression.{Expr}
 
--- The verdict, and where the expression ends if it is good.
-abbrev pub ArityIs : (good : Bool) → (end : ℕ) → Option ℕ → Type 0
-ArityIs good end (Some next) = (good ≡ true) × (next ≡ end)
-ArityIs good end None = good ≡ false
+-- Some leaves were passed, and all have their arguments exactly if those that are left do.
+pub record Asked (c : Columns) (s : List ℕ) (nodes : List Lent) (i : ℕ) (left : List ℕ) (t : Expr) : Type 0 where
+  pub position : ℕ
+  pub onward : Onward c s nodes i left position t
+  pub rest : arity t ≡ all leaf_arity (drop position (leaves t))
 
--- ---- by rows
-
--- An expression stands where the node of index i does, and its nodes are in the rows from there on.
-abbrev pub Listed : (s numbers indexes : List ℕ) (i : ℕ) → Type 0
-Listed s numbers indexes i = Tree s (start_at numbers i) × OfTree s (start_at numbers i) (Tabled numbers indexes (start_at numbers i) i)
-
--- The index to go on at: past an And to its left child, or past all of an expression that has enough.
-pub data Passes (i next : ℕ) : Expr → Type 0 where
-  into : {l r : Expr} → next ≡ i + 1 → Passes i next (and l r)
-  past : {t : Expr} → arity t ≡ true → next ≡ i + nodes t → Passes i next t
-
-abbrev pub ArityPassed : (i : ℕ) → Option ℕ → Expr → Type 0
-ArityPassed i (Some next) t = Passes i next t
-ArityPassed i None t = arity t ≡ false
+abbrev pub OfAsked : (s : List ℕ) (nodes : List Lent) (i : ℕ) (left : List ℕ) → Type 0
+OfAsked s nodes i left = (c : Columns) (at : ℕ) (t : Expr) → Stands c s at t → Noded nodes at i t → Asked c s nodes i left t

@@ -7,13 +7,15 @@ use Rattle.definitions.specs.Words.Expression as tree
 use Rattle.definitions.specs.Bytes.Encode.{records_bytes}
 use Rattle.definitions.specs.Bytes.Readers.{read, stopped, Reader, ◌>>=◌, ◌>>◌, require, byte, require_length}
 use Rattle.definitions.specs.Bytes.Decode.{index_below, fields}
-use Rattle.definitions.specs.Bytes.Good.{nodes, depth}
+use Rattle.definitions.specs.Bytes.Good.{nodes}
 use Rattle.terms.specs.Refusals.{number_of}
 use Rattle.terms.specs.declared.refusals.Refusal.{Refusal}
 use Rattle.node_reader.specs.Places.{ExprAt}
 use Rattle.expression.specs.Places.{Between}
 use Rattle.frame_reader.specs.declared.frame_bodies.Frame.{Frame}
 use Rattle.frame_reader.specs.declared.frame_bodies.Counted.{Counted}
+use Rattle.frame_reader.specs.declared.frames.LogicalFrame.{LogicalFrame}
+use Rattle.node_table.specs.declared.NodeRecord.{NodeRecord as Lent}
 
 -- The length (1) and the first byte.
 unfoldable pub first_of : Reader ℕ
@@ -27,34 +29,33 @@ opening sort = do
   first ← first_of
   require 2 (eqb first sort)
 
--- The frame F stands in s up to `end`: so many records from their place on, then its expression, of so many nodes and levels.
+-- The frame F stands in s up to `end`: so many records from their place on, then its expression, of so many nodes.
 pub record FrameAt (s : List ℕ) (f : Frame) (end : ℕ) (F : tree.Frame) : Type 0 where
   pub counted : f.columns ≡ length F.records
   pub records : Between s f.records f.root (records_bytes F.records)
   pub expr : ExprAt (index_below (length F.records)) s f.root end F.expr
   pub sized : f.nodes ≡ nodes F.expr
-  pub deep : f.depth ≡ depth F.expr
 
--- A frame after its first byte was read, `before` nodes counted up to its place and at most 1,024 in all; what is claimed of rows that may
--- hold its nodes from that index on.
+-- A frame after its first byte was read, `before` nodes counted up to its place and at most 1,024 in all; what is claimed of a row that
+-- may hold its nodes from that index on.
 abbrev pub BodyIs : List ℕ → (at before : ℕ) → Result (Counted Frame) Refusal → Reader tree.Frame
-    → (rows : (at i : ℕ) → tree.Expr → Type 0) → Type 0
-BodyIs s at before (Ok b) reader rows =
+    → (claim : (at i : ℕ) → tree.Expr → Type 0) → Type 0
+BodyIs s at before (Ok b) reader claim =
     (b.next ≤ length s) × (F : tree.Frame) × (reader before (drop at s) ≡ read F b.count (drop b.next s)) × FrameAt s b.read b.next F
-    × (b.count ≡ before + b.read.nodes) × (b.count ≤ most_nodes) × rows b.read.root before F.expr
-BodyIs s at before (Err why) reader rows = reader before (drop at s) ≡ stopped (number_of why)
+    × (b.count ≡ before + b.read.nodes) × (b.count ≤ most_nodes) × claim b.read.root before F.expr
+BodyIs s at before (Err why) reader claim = reader before (drop at s) ≡ stopped (number_of why)
 
--- Rows have room for the nodes of any frame in s: at most 1,024, and a third of its bytes.
-pub record Roomy (s numbers indexes : List ℕ) : Type 0 where
-  pub long : length numbers ≤ length indexes
-  pub room : min most_nodes (length s / 3) ≤ length numbers
+-- A row has room for the nodes of any frame in s: at most 1,024, and a third of its bytes.
+abbrev pub Roomy : (s : List ℕ) → List Lent → Type 0
+Roomy s row = min most_nodes (length s / 3) ≤ length row
 
--- A whole physical frame, and what is claimed of rows that may hold its nodes.
-abbrev pub PhysicalIs : List ℕ → Result Frame Refusal → basics.Result tree.Frame → (rows : (at i : ℕ) → tree.Expr → Type 0) → Type 0
-PhysicalIs s (Ok f) result rows = (F : tree.Frame) × FrameAt s f (length s) F × (result ≡ ok F) × rows f.root 0 F.expr
-PhysicalIs s (Err why) result rows = result ≡ refused (number_of why)
+-- A whole physical frame, and what is claimed of a row that may hold its nodes.
+abbrev pub PhysicalIs : List ℕ → Result Frame Refusal → basics.Result tree.Frame → (claim : (at i : ℕ) → tree.Expr → Type 0) → Type 0
+PhysicalIs s (Ok f) result claim = (F : tree.Frame) × FrameAt s f (length s) F × (result ≡ ok F) × claim f.root 0 F.expr
+PhysicalIs s (Err why) result claim = result ≡ refused (number_of why)
 
--- A whole logical frame: where its expression starts, and what is claimed of rows that may hold its nodes.
-abbrev pub LogicalIs : List ℕ → Result ℕ Refusal → basics.Result tree.Expr → (rows : (at i : ℕ) → tree.Expr → Type 0) → Type 0
-LogicalIs s (Ok root) result rows = (e : tree.Expr) × ExprAt fields s root (length s) e × (result ≡ ok e) × rows root 0 e
-LogicalIs s (Err why) result rows = result ≡ refused (number_of why)
+-- A whole logical frame: its expression stands there and has so many nodes; and what is claimed of a row that may hold them.
+abbrev pub LogicalIs : List ℕ → Result LogicalFrame Refusal → basics.Result tree.Expr → (claim : (at i : ℕ) → tree.Expr → Type 0) → Type 0
+LogicalIs s (Ok f) result claim =
+    (e : tree.Expr) × ExprAt fields s f.root (length s) e × (result ≡ ok e) × (f.nodes ≡ nodes e) × claim f.root 0 e
+LogicalIs s (Err why) result claim = result ≡ refused (number_of why)

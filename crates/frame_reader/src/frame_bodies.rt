@@ -1,28 +1,33 @@
 // A frame's parts, and what is said of a frame that was read.
-ghost use Rattle.std.specs.Prelude.{◌≡◌, ◌≤◌, length};
+ghost use Rattle.std.specs.Prelude.{◌≤◌, ◌<◌, length};
+ghost use Rattle.definitions.specs.Words.Limits.{most_nodes, two_bytes};
 ghost use Rattle.definitions.specs.Bytes.Decode as decode;
-ghost use Rattle.definitions.specs.Words.Leaves.{arity};
-ghost use Rattle.expression.specs.Nodes.{Tree, OfTree};
 ghost use Rattle.node_reader.specs.Fields.{FieldIs, SkippedIs};
-ghost use Rattle.node_reader.specs.Nodes.{LentRows};
-ghost use Rattle.node_rows.specs.Rows.{NoRows, TabledIfRoom};
+ghost use Rattle.filter_tree.specs.Trees.{RecordedIfRoom};
 ghost use Rattle.frame_reader.specs.Frames.{BodyIs, first_of, opening};
 
-use super::arity::check_arity;
 use super::column_records::{record_count, records};
+use filter_tree::tree::Tree;
 use node_reader::call_heads::Columns;
-use node_reader::expressions::expression_in;
+use node_reader::expressions::fill_expression;
 use node_reader::field_readers::byte;
+use node_table::NodeRecord;
 use terms::refusals::Refusal;
 
-// A physical frame: how many records it has, where they start, where its expression does, and how many nodes and levels that has.
+// A physical frame: how many records it has, where they start, where its expression does, and how many nodes that has.
 #[derive(Clone, Copy)]
 pub struct Frame {
     pub columns: usize,
     pub records: usize,
     pub root: usize,
     pub nodes: usize,
-    pub depth: usize,
+}
+
+// A frame that was read: where its parts stand in its bytes, and the tree of its nodes.
+#[derive(Clone, Copy)]
+pub struct FrameTree<'a> {
+    pub parts: Frame,
+    pub tree: Tree<'a>,
 }
 
 // What was read, the place after it, and how many nodes there were up to it.
@@ -33,42 +38,32 @@ pub struct Counted<T> {
     pub count: usize,
 }
 
-// A physical frame after its first byte, with so many nodes counted before it; its nodes go into the rows, where these are so long.
+// A physical frame after its first byte, with so many nodes counted before it; its own go into the row from there on, as far as this has
+// places.
 #[tactic(auto, unfolding(definitions::specs::Bytes::Decode::frame_body))]
-pub fn frame_body_in(
-    numbers: &mut [u32],
-    indexes: &mut [u16],
+pub fn frame_body(
+    row: &mut [NodeRecord],
     s: &[u8],
     at: usize,
     nodes: usize,
 ) -> Result<Counted<Frame>, Refusal>
-    requires { (at ≤ length s.now) × LentRows s.now numbers.old indexes.old }
-    ensures { BodyIs s.now at nodes result decode.frame_body
-        (TabledIfRoom numbers.new indexes.new) }
+    requires { (at ≤ length s.now) × (length s.now < two_bytes) × (nodes ≤ most_nodes) }
+    ensures { BodyIs s.now at nodes result decode.frame_body (RecordedIfRoom row.new) }
 {
     let (columns, first) = record_count(s, at)?;
     let root = records(s, first, columns)?;
-    let walked = expression_in(numbers, indexes, s, root, nodes, Columns::Below(columns))?;
+    let walked = fill_expression(row, s, root, nodes, Columns::Below(columns))?;
     let frame = Frame {
         columns: columns as usize,
         records: first,
         root,
         nodes: walked.count - nodes,
-        depth: walked.depth,
     };
     Ok(Counted {
         read: frame,
         next: walked.next,
         count: walked.count,
     })
-}
-
-// The same for those who have no rows to lend: memory is fixed.
-pub fn frame_body(s: &[u8], at: usize, nodes: usize) -> Result<Counted<Frame>, Refusal>
-    requires { at ≤ length s.now }
-    ensures { BodyIs s.now at nodes result decode.frame_body NoRows }
-{
-    frame_body_in(&mut [], &mut [], s, at, nodes)
 }
 
 // The first byte of a frame that is neither empty nor too long.
@@ -91,12 +86,4 @@ pub fn opened(s: &[u8], sort: u64) -> Result<usize, Refusal>
         return Err(Refusal::WrongFirstByte);
     }
     Ok(next)
-}
-
-// Whether the AND-leaves of the expression at a place have the arguments that they need. (Public for remainders.)
-pub fn enough_arguments(s: &[u8], root: usize) -> bool
-    requires { Tree s.now root }
-    ensures { OfTree s.now root (λ t. result ≡ arity t) }
-{
-    check_arity(s, root).is_some()
 }

@@ -2,56 +2,51 @@
 ghost use Rattle.std.specs.Prelude.{◌≤◌, ◌/◌, min, length};
 ghost use Rattle.definitions.specs.Words.Limits.{most_nodes};
 ghost use Rattle.definitions.specs.Bytes.Plans as plans;
-ghost use Rattle.node_rows.specs.Rows.{NoRows, Tabled};
+ghost use Rattle.filter_tree.specs.Trees.{Recorded};
+ghost use Rattle.node_reader.specs.Places.{NoClaim};
 ghost use Rattle.frame_reader.specs.Frames.{Roomy, PhysicalIs, LogicalIs};
 
-use super::by_rows::arity_by_rows;
-use super::frame_bodies::{Frame, frame_body_in, opened};
+use super::arity::all_have_arguments;
+use super::frame_bodies::{Frame, frame_body, opened};
+use filter_tree::lengths::{MIDDLE_BYTES, MIDDLE_NODES, MOST_NODES, SHORT_BYTES, SHORT_NODES};
+use filter_tree::tree::Tree;
 use node_reader::call_heads::Columns;
-use node_reader::expressions::expression_in;
-use node_rows::lengths::{MIDDLE_BYTES, MIDDLE_NODES, MOST_NODES, SHORT_BYTES, SHORT_NODES};
-use node_rows::rows::Rows;
+use node_reader::expressions::fill_expression;
+use node_table::{NO_RECORD, NodeRecord};
 use terms::refusals::Refusal;
 
-// A whole physical frame, whose nodes go into the rows.
-pub fn physical_frame_in(
-    numbers: &mut [u32],
-    indexes: &mut [u16],
-    s: &[u8],
-) -> Result<Frame, Refusal>
-    requires { Roomy s.now numbers.old indexes.old }
-    ensures { PhysicalIs s.now result (plans.frame_of s.now)
-        (Tabled numbers.new indexes.new) }
+// A whole physical frame, whose nodes go into the row.
+pub fn physical_frame_in(row: &mut [NodeRecord], s: &[u8]) -> Result<Frame, Refusal>
+    requires { Roomy s.now row.old }
+    ensures { PhysicalIs s.now result (plans.frame_of s.now) (Recorded row.new) }
 {
     let at = opened(s, 1)?;
-    let body = frame_body_in(numbers, indexes, s, at, 0)?;
+    let body = frame_body(row, s, at, 0)?;
     if body.next != s.len() {
         return Err(Refusal::BytesAfterEnd);
     }
-    let rows = Rows {
-        numbers,
-        next: indexes,
+    let tree = Tree {
+        bytes: s,
+        nodes: &row[..body.count],
     };
-    if !arity_by_rows(s, rows, 0, body.count) {
+    if !all_have_arguments(tree, 0) {
         return Err(Refusal::TooFewArguments);
     }
     Ok(body.read)
 }
 
-// A whole physical frame, by rows of N places on the stack, of which its nodes need no more.
+// A whole physical frame, by a row of N places on the stack, of which its nodes need no more.
 fn physical_frame_by<const N: usize>(s: &[u8]) -> Result<Frame, Refusal>
     requires { (min most_nodes (length s.now / 3) ≤ N) × (N ≤ most_nodes) }
-    ensures { PhysicalIs s.now result (plans.frame_of s.now) NoRows }
+    ensures { PhysicalIs s.now result (plans.frame_of s.now) NoClaim }
 {
-    let mut numbers = [0u32; N];
-    let mut indexes = [0u16; N];
-    physical_frame_in(&mut numbers, &mut indexes, s)
+    physical_frame_in(&mut [NO_RECORD; N], s)
 }
 
-// A whole physical frame. Short rows are enough for a short one, and the longer ones cost more to clear than such a frame to read. (No
-// closure is generic in N, so that each call with rows of its own chooses, and each function of N says its bound.)
+// A whole physical frame. A short row is enough for a short one, and the longer ones cost more to clear than such a frame to read. (No
+// closure is generic in N, so that each call with a row of its own chooses, and each function of N says its bound.)
 pub fn physical_frame(s: &[u8]) -> Result<Frame, Refusal>
-    ensures { PhysicalIs s.now result (plans.frame_of s.now) NoRows }
+    ensures { PhysicalIs s.now result (plans.frame_of s.now) NoClaim }
 {
     if s.len() <= SHORT_BYTES {
         physical_frame_by::<SHORT_NODES>(s)
@@ -62,16 +57,25 @@ pub fn physical_frame(s: &[u8]) -> Result<Frame, Refusal>
     }
 }
 
-// A whole logical frame, whose nodes go into the rows: where its expression starts.
-pub fn logical_frame(numbers: &mut [u32], indexes: &mut [u16], s: &[u8]) -> Result<usize, Refusal>
-    requires { Roomy s.now numbers.old indexes.old }
-    ensures { LogicalIs s.now result (plans.logical_of s.now)
-        (Tabled numbers.new indexes.new) }
+// A logical frame: where its expression starts, and how many nodes that has.
+#[derive(Clone, Copy)]
+pub struct LogicalFrame {
+    pub root: usize,
+    pub nodes: usize,
+}
+
+// A whole logical frame, whose nodes go into the row.
+pub fn logical_frame(row: &mut [NodeRecord], s: &[u8]) -> Result<LogicalFrame, Refusal>
+    requires { Roomy s.now row.old }
+    ensures { LogicalIs s.now result (plans.logical_of s.now) (Recorded row.new) }
 {
     let root = opened(s, 2)?;
-    let walked = expression_in(numbers, indexes, s, root, 0, Columns::Fields)?;
+    let walked = fill_expression(row, s, root, 0, Columns::Fields)?;
     if walked.next != s.len() {
         return Err(Refusal::BytesAfterEnd);
     }
-    Ok(root)
+    Ok(LogicalFrame {
+        root,
+        nodes: walked.count,
+    })
 }

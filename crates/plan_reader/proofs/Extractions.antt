@@ -23,7 +23,7 @@ use Rattle.theorems.proofs.InverseFrame.{opened}
 use Rattle.theorems.proofs.InversePlan.{predicate-bytes}
 use Rattle.sedona_query_planner.specs.declared.spatial_predicate.SpatialPredicate.{SpatialPredicate}
 use Rattle.node_reader.specs.Fields.{ReadsAt}
-use Rattle.node_rows.specs.Rows.{NoRows, Tabled}
+use Rattle.node_reader.specs.Places.{NoClaim}
 use Rattle.frame_reader.specs.Frames.{first_of, PhysicalIs}
 use Rattle.std.specs.Prelude.{Result, Ok, Err}
 use Rattle.std.specs.Prelude as std
@@ -71,6 +71,11 @@ pub first-place : (s : List ℕ) (first at : ℕ) → at ≤ length s → first_
 unfolding first_of
 first-place s first at low e =
     opened s byte e (λ short read. ends-at s (first ∷ []) 0 at (omega arith) low (byte-back 0 0 first s _ read).0)
+
+-- Its bytes are few enough.
+pub first-short : (s : List ℕ) (first : ℕ) (t : List ℕ) → first_of 0 s ≡ read first 0 t → length s ≤ 16384
+unfolding first_of
+first-short s first t e = opened s byte e (λ short g. short)
 
 -- ---- whole extractions
 
@@ -124,8 +129,8 @@ unfolding plan_of plan_of_kind
 extraction-held [] h e = absurd (omega arith)
 extraction-held (b ∷ s) h e = rw (ne_eqb b 1 e)
 
-module _ (s : List ℕ) (rows : (at i : ℕ) → Expr → Type 0) {empty : Bool} (is : empty ≡ eqb (length s) 0) where
-  pub empty-plan : empty ≡ true → HeldIs s (Err PlanEmpty) (plan_of s) rows
+module _ (s : List ℕ) (claim : (at i : ℕ) → Expr → Type 0) {empty : Bool} (is : empty ≡ eqb (length s) 0) where
+  pub empty-plan : empty ≡ true → HeldIs s (Err PlanEmpty) (plan_of s) claim
   empty-plan none = no_bytes (nothing-held s (eqb-true (length s) 0 (sym is ∙ none)))
 
   module _ (some : empty ≡ false) (other : get_or s 0 0 ≡ 1 → ⊥) where
@@ -133,22 +138,22 @@ module _ (s : List ℕ) (rows : (at i : ℕ) → Expr → Type 0) {empty : Bool}
     told = extraction-held s (omega (arith, eqb-false (length s) 0 (sym is ∙ some))) other
 
     pub extraction-plan : {x : extractions.Extraction} → WholeIs s (Ok x) (extraction_of s)
-        → HeldIs s (Ok (variants.Extraction x)) (plan_of s) rows
+        → HeldIs s (Ok (variants.Extraction x)) (plan_of s) claim
     extraction-plan h = (h.0, h.1, told ∙ ap (map_result extracted) h.2, h.3)
 
-    pub no-extraction : (why : Refusal) → WholeIs s (Err why) (extraction_of s) → HeldIs s (Err NoGoodPlan) (plan_of s) rows
+    pub no-extraction : (why : Refusal) → WholeIs s (Err why) (extraction_of s) → HeldIs s (Err NoGoodPlan) (plan_of s) claim
     no-extraction why h = no_good _ (told ∙ ap (map_result extracted) h)
 
-module _ (s : List ℕ) (rows : (at i : ℕ) → Expr → Type 0) (first : get_or s 0 0 ≡ 1) where
-  pub frame-plan : {f : frames.Frame} → PhysicalIs s (Ok f) (frame_of s) rows → HeldIs s (Ok (variants.Frame f)) (plan_of s) rows
+module _ (s : List ℕ) (claim : (at i : ℕ) → Expr → Type 0) (first : get_or s 0 0 ≡ 1) where
+  pub frame-plan : {f : frames.Frame} → PhysicalIs s (Ok f) (frame_of s) claim → HeldIs s (Ok (variants.Frame f)) (plan_of s) claim
   frame-plan h = (h.0, h.1, frame-held s first ∙ ap (map_result held) h.2, h.3)
 
-  pub no-frame : (why : Refusal) → PhysicalIs s (Err why) (frame_of s) rows → HeldIs s (Err NoGoodPlan) (plan_of s) rows
+  pub no-frame : (why : Refusal) → PhysicalIs s (Err why) (frame_of s) claim → HeldIs s (Err NoGoodPlan) (plan_of s) claim
   no-frame why h = no_good _ (frame-held s first ∙ ap (map_result held) h)
 
--- What rows hold left out.
-pub in-no-rows : (s : List ℕ) (result : definitions.Result Plan) (r : Result Held Refusal)
-    → ((numbers indexes : List ℕ) → HeldIs s r result (Tabled numbers indexes)) → HeldIs s r result NoRows
-in-no-rows s result (Ok (variants.Frame f)) h = let frame = h [] [] in (frame.0, frame.1, frame.2, tt)
-in-no-rows s result (Ok (variants.Extraction x)) h = h [] []
-in-no-rows s result (Err why) h = h [] []
+-- What the row holds left out.
+pub without-claim : (s : List ℕ) (claim : (at i : ℕ) → Expr → Type 0) (result : definitions.Result Plan) (r : Result Held Refusal)
+    → HeldIs s r result claim → HeldIs s r result NoClaim
+without-claim s claim result (Ok (variants.Frame f)) h = (h.0, h.1, h.2, tt)
+without-claim s claim result (Ok (variants.Extraction x)) h = h
+without-claim s claim result (Err why) h = h

@@ -57,14 +57,14 @@ pub data NotHeld (result : basics.Result tree.Plan) : Refusal → Type 0 where
   no_bytes : result ≡ ok tree.empty → NotHeld result PlanEmpty
   no_good : (number : ℕ) → result ≡ refused number → NotHeld result NoGoodPlan
 
--- A held plan: what stands there is what the bytes are; and what is claimed of rows that may hold a frame's nodes.
-abbrev pub HeldIs : List ℕ → Result Held Refusal → basics.Result tree.Plan → (rows : (at i : ℕ) → tree.Expr → Type 0) → Type 0
-HeldIs s (Ok (held.Frame f)) result rows =
-    (F : tree.Frame) × FrameAt s f (length s) F × (result ≡ ok (tree.held F)) × rows f.root 0 F.expr
-HeldIs s (Ok (held.Extraction x)) result rows =
+-- A held plan: what stands there is what the bytes are; and what is claimed of a row that may hold a frame's nodes.
+abbrev pub HeldIs : List ℕ → Result Held Refusal → basics.Result tree.Plan → (claim : (at i : ℕ) → tree.Expr → Type 0) → Type 0
+HeldIs s (Ok (held.Frame f)) result claim =
+    (F : tree.Frame) × FrameAt s f (length s) F × (result ≡ ok (tree.held F)) × claim f.root 0 F.expr
+HeldIs s (Ok (held.Extraction x)) result claim =
     (X : tree.Extraction) × ExtractionAt s x (length s) X × (result ≡ ok (tree.extracted X))
     × InRow x.predicate (3 + length (predicate_fields X.predicate))
-HeldIs s (Err why) result rows = NotHeld result why
+HeldIs s (Err why) result claim = NotHeld result why
 
 -- The plan's first n bytes are a good frame, which stands there.
 pub record HoldsFrame (n : ℕ) (plan : List ℕ) (f : Frame) : Type 0 where

@@ -1,5 +1,6 @@
 -- What the answers about held predicates say: which predicate it is, and where its arguments stand.
-use Rattle.std.specs.Prelude.{ℕ, ◌≤◌, ◌≡◌, List, length, drop, Result, Ok, Err}
+use Rattle.std.specs.Prelude.{ℕ, ◌*◌, ◌≤◌, ◌<◌, ◌≡◌, List, length, drop, Result, Ok, Err}
+use Rattle.definitions.specs.Words.Limits.{most_nodes, two_bytes}
 use Rattle.definitions.specs.Words.Expression as tree
 use Rattle.definitions.specs.Words.Expression.{Expr}
 use Rattle.definitions.specs.Bytes.Readers.{read, stopped, Reader, ◌>>=◌, give}
@@ -11,6 +12,16 @@ use Rattle.sedona_query_planner.specs.declared.spatial_predicate.SpatialPredicat
 use Rattle.sedona_query_planner.specs.declared.spatial_predicate.SpatialPredicate.TheVariants.{Distance, Relation, KNearestNeighbors}
 use Rattle.frame_reader.specs.declared.frame_bodies.Counted.{Counted}
 use Rattle.plan_reader.specs.declared.held_predicates.Pair.{Pair}
+
+-- So many nodes were counted up to a place: at most the limit, and a third of the bytes before it.
+abbrev pub CountedUpTo : (at count : ℕ) → Type 0
+CountedUpTo at count = (3 * count ≤ at) × (count ≤ most_nodes)
+
+-- Up to a place in bytes that are so few that two bytes hold a place.
+pub record Few (s : List ℕ) (at count : ℕ) : Type 0 where
+  pub within : at ≤ length s
+  pub short : length s < two_bytes
+  pub counted : CountedUpTo at count
 
 -- ---- two arguments
 
@@ -26,6 +37,7 @@ abbrev pub PairIs : List ℕ → (at : ℕ) → Result Pair Refusal → Type 0
 PairIs s at (Ok p) =
     (p.end ≤ length s) × (l r : Expr) × ArgumentAt unchanged s at p.right l × ArgumentAt unchanged s p.right p.end r
     × ((next : Expr → Expr → Reader tree.Predicate) → then_both next 0 (drop at s) ≡ next l r p.count (drop p.end s))
+    × CountedUpTo p.end p.count
 PairIs s at (Err why) = (next : Expr → Expr → Reader tree.Predicate) → then_both next 0 (drop at s) ≡ stopped (number_of why)
 
 -- ---- predicates
@@ -44,5 +56,5 @@ InRow (KNearestNeighbors p) end = (p.right ≡ p.left_end) × (end ≡ p.right_e
 abbrev pub PredicateIs : List ℕ → (at : ℕ) → Result (Counted SpatialPredicate) Refusal → Reader tree.Predicate → Type 0
 PredicateIs s at (Ok p) reader =
     (p.next ≤ length s) × (P : tree.Predicate) × PredicateAt unchanged s p.read P
-    × (reader 0 (drop at s) ≡ read P p.count (drop p.next s)) × InRow p.read p.next
+    × (reader 0 (drop at s) ≡ read P p.count (drop p.next s)) × InRow p.read p.next × CountedUpTo p.next p.count
 PredicateIs s at (Err why) reader = reader 0 (drop at s) ≡ stopped (number_of why)

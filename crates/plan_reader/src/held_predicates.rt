@@ -1,11 +1,10 @@
 // The predicate of a held extraction: which it is, and where its arguments stand.
 ghost use Rattle.std.specs.Prelude.{◌≤◌, length};
-ghost use Rattle.definitions.specs.Words.Limits.{two_bytes};
+ghost use Rattle.definitions.specs.Words.Limits.{most_nodes, two_bytes};
 ghost use Rattle.definitions.specs.Bytes.Decode as decode;
 ghost use Rattle.terms.specs.Forms.{form_number};
 ghost use Rattle.terms.specs.Sides.{join_side};
-ghost use Rattle.node_reader.specs.Places.{ExpressionIs};
-ghost use Rattle.node_rows.specs.Rows.{NoRows};
+ghost use Rattle.node_reader.specs.Places.{ExpressionIs, NoClaim};
 ghost use Rattle.plan_reader.specs.Predicates.{PairIs, PredicateIs, distance_arguments};
 
 use super::knn_fields::{k_field, knn_flags};
@@ -31,8 +30,8 @@ pub struct Pair {
 
 // An argument, whose columns have no bound but their width.
 fn argument(s: &[u8], at: usize, count: usize) -> Result<Walked, Refusal>
-    requires { at ≤ length s.now }
-    ensures { ExpressionIs s.now at count result (decode.index_below two_bytes) NoRows }
+    requires { (at ≤ length s.now) × (count ≤ most_nodes) }
+    ensures { ExpressionIs s.now at count result (decode.index_below two_bytes) NoClaim }
 {
     expression(s, at, count, Columns::Below(65536))
 }

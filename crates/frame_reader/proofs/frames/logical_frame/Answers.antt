@@ -1,19 +1,19 @@
 -- A frame of the sort 2 whose body is an expression with fields of the schemas; nothing is left to test, and there was room for it in the
--- rows.
+-- row.
 use native.Mathlib.Omega.{arith}
 use mathlib.Core.Path.{ap}
 use Rattle.definitions.specs.Bytes.Readers.{give, result_of}
 use Rattle.definitions.specs.Bytes.Decode.{fields, expression}
 use Rattle.definitions.specs.Bytes.Plans.{logical_frame, logical_of}
 use Rattle.node_reader.proofs.Reading.{kept}
-use Rattle.frame_reader.proofs.FrameRows.{opened-short, roomy-lent, read-tabled}
+use Rattle.frame_reader.proofs.FrameRows.{opened-short, read-recorded}
 use Rattle.frame_reader.proofs.Wholes.{unopened, body-stops, ends, goes_on}
 use Rattle.frame_reader.proofs.frames.logical_frame.Goals as goal
 
-pub expression_in-requires : goal.expression_in-requires
-expression_in-requires c =
+pub fill_expression-requires : goal.fill_expression-requires
+fill_expression-requires c =
     let begin = c.in_ok-root.ensures in
-    (begin.0, roomy-lent c.requires (opened-short 2 _ _ _ (begin.2 0)))
+    (begin.0, omega (arith, opened-short 2 _ _ _ (begin.2 0)), omega arith)
 
 pub returns-in_err-root : goal.returns-in_err-root
 unfolding logical_of logical_frame result_of
@@ -41,5 +41,6 @@ returns c =
       expr.0,
       rw end at expr.2,
       ap result_of (ends 2 (expression fields) give _ c.in_ok-root.root _ (c.in_ok-root.ensures.2 0) _ _ _ expr.1 end),
-      read-tabled c.requires c.expression_in.auto.numbers expr.2 (omega (arith, expr.3)) expr.5 expr.6,
+      omega (arith, expr.3),
+      read-recorded c.args.row.now c.fill_expression.new.row c.requires c.fill_expression.auto.row expr.2 (omega (arith, expr.3)) expr.4 expr.5,
     )

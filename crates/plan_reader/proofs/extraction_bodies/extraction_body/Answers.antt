@@ -17,6 +17,6 @@ returns c =
       record { position = refl; predicate = predicate.2; remainder = rest.2 },
       rest.3,
       after _ (c.in_ok-position.ensures.1 0) ∙ after _ predicate.3 ∙ after _ rest.4,
-      predicate-ends s c.args.at _ _ _ _ (all-bytes s c.shared_slice_known-1.given) c.requires c.in_ok-position.ensures predicate.0
+      predicate-ends s c.args.at _ _ _ _ (all-bytes s c.shared_slice_known-1.given) c.requires.place.0 c.in_ok-position.ensures predicate.0
           predicate.3 predicate.4,
     )

@@ -1,7 +1,14 @@
 -- An extraction after its first byte, up to the end.
+use native.Mathlib.Omega.{arith}
+use lib.ListN.{drop}
 use Rattle.node_reader.proofs.Reading.{kept}
-use Rattle.plan_reader.proofs.Extractions.{unopened, body-stops, ends, goes_on, first-place}
+use Rattle.plan_reader.proofs.Extractions.{unopened, body-stops, ends, goes_on, first-place, first-short}
 use Rattle.plan_reader.proofs.held_plans.whole_extraction.Goals as goal
+
+pub extraction_body-requires-clause-place : goal.extraction_body-requires-clause-place
+extraction_body-requires-clause-place c =
+    let first = c.in_ok-first.ensures in
+    (first.0, omega (arith, first-short c.args.s.now c.in_ok-first.first (drop c.in_ok-first.at c.args.s.now) (first.1 0)))
 
 pub returns-in_err-first : goal.returns-in_err-first
 returns-in_err-first c =

@@ -4,6 +4,7 @@ use Rattle.definitions.specs.Bytes.Decode.{argument}
 use Rattle.theorems.proofs.ReaderLaws.{after, halts}
 use Rattle.node_reader.proofs.Reading.{kept}
 use Rattle.frame_reader.proofs.Standing.{expr-spans}
+use Rattle.plan_reader.proofs.Fields.{counted-on}
 use Rattle.plan_reader.proofs.held_predicates.distance_arguments.Goals as goal
 
 pub returns-in_err-bound : goal.returns-in_err-bound
@@ -21,4 +22,5 @@ returns c =
       record { l = both.1; r = both.2; bound = bound.0; left = both.3; right = both.4; limit = expr-spans bound.2; is = refl },
       both.5 _ ∙ after _ bound.1,
       (refl, refl, refl),
+      counted-on both.6 bound.2 bound.3 bound.4,
     )

@@ -34,4 +34,5 @@ returns c =
       record { l = both.1; r = both.2; left = both.3; right = both.4; is = refl },
       after _ (c.in_ok-k.ensures.1 0) ∙ c.in_ok-flags.ensures.1 _ 0 ∙ both.5 _,
       (refl, refl),
+      both.6,
     )

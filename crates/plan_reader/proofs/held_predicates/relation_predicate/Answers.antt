@@ -22,4 +22,5 @@ returns c =
       record { l = both.1; r = both.2; left = both.3; right = both.4; is = same },
       after _ (c.in_ok-number.ensures.1 0) ∙ both.5 _,
       (refl, refl),
+      both.6,
     )

@@ -5,7 +5,7 @@ use Rattle.definitions.specs.Bytes.Decode.{frame_body}
 use Rattle.theorems.proofs.ReaderLaws.{after}
 use Rattle.node_reader.proofs.Standing.{all-bytes}
 use Rattle.frame_reader.proofs.Wholes.{frame-stands}
-use Rattle.frame_reader.proofs.frame_bodies.frame_body_in.Goals as goal
+use Rattle.frame_reader.proofs.frame_bodies.frame_body.Goals as goal
 
 pub returns : goal.returns
 unfolding frame_body
@@ -17,9 +17,9 @@ returns c =
       expr.2.bytes.within,
       _,
       after _ (many.1 _) ∙ after _ (records.2 _) ∙ after _ expr.1,
-      frame-stands s _ _ _ _ _ _ records.1 expr.0 (all-bytes s c.shared_slice_known-1.given) many.0 records.0 records.2 expr.2
-          (omega (arith, expr.3)) expr.4,
+      frame-stands s _ _ _ _ _ records.1 expr.0 (all-bytes s c.shared_slice_known-1.given) many.0 records.0 records.2 expr.2
+          (omega (arith, expr.3)),
       omega (arith, expr.3),
+      expr.4,
       expr.5,
-      expr.6,
     )
