@@ -5,7 +5,7 @@ use Rattle.terms.specs.declared.sides.JoinSide.TheVariants as side
 use Rattle.leaf_matching.specs.declared.sides.Sides.{Sides}
 use Rattle.leaf_matching.specs.declared.sides.Sides.TheVariants.{NoColumns, AllOn, Mixed}
 
--- The side of a distance: none without columns, undefined if they differ or are mark columns (request 8).
+-- The side of a distance: none without columns, undefined if they differ or are mark columns.
 abbrev pub distance_side : Sides → Option JoinSide
 distance_side NoColumns = Some side.None
 distance_side (AllOn side.Left) = Some side.Left

@@ -54,7 +54,7 @@ abbrev pub CallMatchingBy : (default_k : ℕ) (kind : Predicate → Bool) (s : L
     → (records : List Record) (name : List ℕ) (arguments : Exprs) → Type 0
 CallMatchingBy default_k kind s r records name arguments = LeafMatchingBy default_k kind s r records (call name arguments)
 
--- With 1, as 01 has it: a relation and a distance are the same with any (`Defaults`).
+-- With 1: a relation and a distance are the same with any (`Defaults`).
 abbrev pub LeafMatching : (kind : Predicate → Bool) (s : List ℕ) → Matching → (records : List Record) (leaf : Expr) → Type 0
 LeafMatching = LeafMatchingBy 1
 
@@ -62,7 +62,7 @@ abbrev pub CallMatching : (kind : Predicate → Bool) (s : List ℕ) → Matchin
     → (records : List Record) (name : List ℕ) (arguments : Exprs) → Type 0
 CallMatching = CallMatchingBy 1
 
--- ---- the answer under settings (request 13)
+-- ---- the answer under settings
 
 -- Whether what stands for p is allowed.
 abbrev pub AllowedIs : Settings → SpatialPredicate → Bool → Type 0

@@ -1,4 +1,4 @@
-// Which matches the session's settings leave (request 13 of document 02).
+// Which matches the session's settings leave.
 ghost use Rattle.terms.specs.Settings.{settings_of};
 ghost use Rattle.leaf_matching.specs.Matches.{AllowedIs, Allows};
 

@@ -1,10 +1,9 @@
 // What the matchers read.
-use node_rows::rows::Rows;
+use filter_tree::tree::Tree;
 
-// The bytes of a frame, where the records of its columns begin, and the rows of its nodes.
+// The tree of a frame's filter, and where the records of its columns begin.
 #[derive(Clone, Copy)]
 pub struct Filter<'a> {
-    pub s: &'a [u8],
+    pub tree: Tree<'a>,
     pub rec: usize,
-    pub rows: Rows<'a>,
 }

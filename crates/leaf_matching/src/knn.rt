@@ -5,7 +5,7 @@ ghost use Rattle.std.specs.Prelude.{◌≤◌};
 ghost use Rattle.definitions.specs.Filter.Extract.{is_knn};
 ghost use Rattle.expression.specs.Nodes.{Trees, OfTrees};
 ghost use Rattle.expression.specs.Leaves.{OfCall};
-ghost use Rattle.node_rows.specs.Rows.{TabledAll};
+ghost use Rattle.filter_tree.specs.Trees.{NodedAll};
 ghost use Rattle.leaf_matching.specs.Frames.{CallFramed, OfCallFrame};
 ghost use Rattle.leaf_matching.specs.Matches.{CallMatchingBy};
 ghost use Rattle.leaf_matching.specs.KnnOptions.{FlagsAre, OptionsAre};
@@ -79,19 +79,24 @@ fn knn_options(s: &[u8], at: usize, n: usize, default_k: u32) -> Option<KnnOptio
 
 // The first argument has index i.
 pub fn match_knn_predicate(filter: Filter, called: Called, i: usize, default_k: u32) -> Matching
-    requires call_framed { CallFramed filter.s.now filter.rec called }
-    requires of_call { OfCall filter.s.now called (λ c name. TabledAll filter.rows.numbers.now filter.rows.next.now called.first i) }
-    ensures { OfCallFrame filter.entry.s.now filter.entry.rec called
-        (CallMatchingBy default_k is_knn filter.entry.s.now result) }
+    requires call_framed { CallFramed filter.tree.bytes.now filter.rec called }
+    requires of_call { OfCall filter.tree.bytes.now called (λ c name. NodedAll filter.tree.nodes.now called.first i) }
+    ensures { OfCallFrame filter.entry.tree.bytes.now filter.entry.rec called
+        (CallMatchingBy default_k is_knn filter.entry.tree.bytes.now result) }
 {
-    if !same_name(called.name(filter.s), b"st_knn") {
+    if !same_name(called.name(filter.tree.bytes), b"st_knn") {
         return Err(NoMatch::NotAsked);
     }
     if called.count < 2 || 5 < called.count {
         return Err(NoMatch::NotAsked);
     }
-    let geometries = resolve_geometries(filter, called.first, i);
-    let given = knn_options(filter.s, geometries.end, called.count - 2, default_k);
+    let geometries = resolve_geometries(filter, i);
+    let given = knn_options(
+        filter.tree.bytes,
+        geometries.end,
+        called.count - 2,
+        default_k,
+    );
     let options = given.ok_or(NoMatch::Unmatched)?;
     let order = geometries.order.ok_or(NoMatch::Unmatched)?;
     let probe_side = match order {

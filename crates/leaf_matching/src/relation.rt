@@ -2,7 +2,7 @@
 // A port of `match_relation_predicate` of
 // rust/sedona-query-planner/src/spatial_expr_utils.rs.
 ghost use Rattle.expression.specs.Leaves.{OfCall};
-ghost use Rattle.node_rows.specs.Rows.{TabledAll};
+ghost use Rattle.filter_tree.specs.Trees.{NodedAll};
 ghost use Rattle.leaf_matching.specs.Frames.{CallFramed, OfCallFrame};
 ghost use Rattle.leaf_matching.specs.Matches.{is_relation, CallMatching};
 
@@ -17,17 +17,17 @@ use sedona_query_planner::spatial_predicate::{
 // The left geometry is stored first, the type inverted where that exchanges the arguments.
 // The first argument has index i.
 pub fn match_relation_predicate(filter: Filter, called: Called, i: usize) -> Matching
-    requires call_framed { CallFramed filter.s.now filter.rec called }
-    requires of_call { OfCall filter.s.now called (λ c name. TabledAll filter.rows.numbers.now filter.rows.next.now called.first i) }
-    ensures { OfCallFrame filter.entry.s.now filter.entry.rec called
-        (CallMatching is_relation filter.entry.s.now result) }
+    requires call_framed { CallFramed filter.tree.bytes.now filter.rec called }
+    requires of_call { OfCall filter.tree.bytes.now called (λ c name. NodedAll filter.tree.nodes.now called.first i) }
+    ensures { OfCallFrame filter.entry.tree.bytes.now filter.entry.rec called
+        (CallMatching is_relation filter.entry.tree.bytes.now result) }
 {
-    let named = SpatialRelationType::from_name(called.name(filter.s));
+    let named = SpatialRelationType::from_name(called.name(filter.tree.bytes));
     let relation_type = named.ok_or(NoMatch::NotAsked)?;
     if called.count < 2 {
         return Err(NoMatch::NotAsked);
     }
-    let geometries = resolve_geometries(filter, called.first, i);
+    let geometries = resolve_geometries(filter, i);
     let order = geometries.order.ok_or(NoMatch::Unmatched)?;
     Ok(SpatialPredicate::Relation(match order {
         Order::LeftRight => RelationPredicate {

@@ -1,11 +1,10 @@
 // The side of the columns that an argument references.
 // A port of `collect_column_references`, `side_of_column_references` and `resolve_column_reference_sides` of
 // rust/sedona-query-planner/src/spatial_expr_utils.rs.
-ghost use Rattle.std.specs.Prelude.{◌≡◌, get_or};
+ghost use Rattle.std.specs.Prelude.{◌≡◌};
 ghost use Rattle.definitions.specs.Filter.Match.{side_of, order_of};
 ghost use Rattle.terms.specs.Sides.{join_side};
-ghost use Rattle.node_rows.specs.Rows.{Begin};
-ghost use Rattle.leaf_matching.specs.Frames.{FramedTwo, OfFrameTwo, Argued, OfArgument};
+ghost use Rattle.leaf_matching.specs.Frames.{Argued, OfArgument, ArguedTwo, OfArgumentTwo};
 ghost use Rattle.leaf_matching.specs.Sides.{argument_side, order, see, sides_seen, side_flags, ColumnsSeen, GeometriesAre};
 
 use super::filter::Filter;
@@ -51,7 +50,7 @@ pub struct Geometries {
 
 impl SeenSides {
     // One column more.
-    fn with(self, side: JoinSide) -> SeenSides
+    pub(crate) fn with(self, side: JoinSide) -> SeenSides
         ensures { result ≡ see self (join_side side) }
     {
         let bit = match side {
@@ -65,7 +64,7 @@ impl SeenSides {
     }
 
     // The side of these columns.
-    fn sides(self) -> Sides
+    pub(crate) fn sides(self) -> Sides
         ensures { result ≡ sides_seen self }
     {
         match self.bits {
@@ -101,56 +100,42 @@ pub fn resolve_column_reference_sides(first: Sides, second: Sides) -> Option<Ord
     }
 }
 
-// The columns of an argument that has the nodes from one index up to another: they are those of the row.
-pub fn seen_by_rows(filter: Filter, first: usize, end: usize) -> SeenSides
-    requires { Argued filter.s.now filter.rec filter.rows.numbers.now filter.rows.next.now first end }
-    ensures { OfArgument filter.entry.s.now filter.entry.rec filter.entry.rows.numbers.now filter.entry.rows.next.now first end
+// The columns of the argument of an index.
+pub fn seen_sides(filter: Filter, i: usize) -> SeenSides
+    requires { Argued filter.tree.bytes.now filter.rec filter.tree.nodes.now i }
+    ensures { OfArgument filter.entry.tree.bytes.now filter.entry.rec filter.entry.tree.nodes.now i
         (ColumnsSeen result) }
 {
     let mut seen = SeenSides { bits: 0 };
-    for i in first..end {
-        let number = filter.rows.numbers[i];
-        if number < 536870912 {
-            let index = short_at(filter.s, number as usize / 32768 + 1);
-            let side = JoinSide::from(u64::from(filter.s[filter.rec + 5 * index]));
-            seen = seen.with(side);
-        }
+    for place in filter.tree.columns(i) {
+        let index = short_at(filter.tree.bytes, place + 1);
+        let side = JoinSide::from(u64::from(filter.tree.bytes[filter.rec + 5 * index]));
+        seen = seen.with(side);
     }
     seen
 }
 
 // The side of these columns.
-fn side_by_rows(filter: Filter, first: usize, end: usize) -> Sides
-    requires { Argued filter.s.now filter.rec filter.rows.numbers.now filter.rows.next.now first end }
-    ensures { OfArgument filter.entry.s.now filter.entry.rec filter.entry.rows.numbers.now filter.entry.rows.next.now first end
+pub fn side_of_column_references(filter: Filter, i: usize) -> Sides
+    requires { Argued filter.tree.bytes.now filter.rec filter.tree.nodes.now i }
+    ensures { OfArgument filter.entry.tree.bytes.now filter.entry.rec filter.entry.tree.nodes.now i
         (λ records t. argument_side result ≡ side_of records t) }
 {
-    seen_by_rows(filter, first, end).sides()
+    seen_sides(filter, i).sides()
 }
 
-// The side of the columns of the argument of an index.
-pub fn side_of_column_references(filter: Filter, i: usize) -> Sides
-    requires { Argued filter.s.now filter.rec filter.rows.numbers.now filter.rows.next.now i (get_or filter.rows.next.now i 0) }
-    ensures { OfArgument filter.entry.s.now filter.entry.rec filter.entry.rows.numbers.now filter.entry.rows.next.now i
-        (get_or filter.entry.rows.next.now i 0) (λ records t. argument_side result ≡ side_of records t) }
+// Two geometries in a row, the first of which has index i.
+pub fn resolve_geometries(filter: Filter, i: usize) -> Geometries
+    requires { ArguedTwo filter.tree.bytes.now filter.rec filter.tree.nodes.now i }
+    ensures { OfArgumentTwo filter.entry.tree.bytes.now filter.entry.rec filter.entry.tree.nodes.now i
+        (λ at. GeometriesAre at result) }
 {
-    side_by_rows(filter, i, filter.rows.after(i))
-}
-
-// The geometries at a place and after it, the first of which has index i. Where they end, and their columns, are read from the rows.
-pub fn resolve_geometries(filter: Filter, at: usize, i: usize) -> Geometries
-    requires framed_two { FramedTwo filter.s.now filter.rec at }
-    requires of_frame_two { OfFrameTwo filter.s.now filter.rec at
-        (λ records. Begin filter.rows.numbers.now filter.rows.next.now at i) }
-    ensures { OfFrameTwo filter.entry.s.now filter.entry.rec at (GeometriesAre at result) }
-{
-    let two = filter.rows.two(i);
-    let middle = filter.rows.after(i);
-    let first = side_by_rows(filter, i, middle);
-    let second = side_by_rows(filter, middle, two.after);
+    let middle = filter.tree.after(i);
+    let first = side_of_column_references(filter, i);
+    let second = side_of_column_references(filter, middle);
     Geometries {
-        second: two.middle,
-        end: two.end,
+        second: filter.tree.end(i),
+        end: filter.tree.end(middle),
         order: resolve_column_reference_sides(first, second),
     }
 }

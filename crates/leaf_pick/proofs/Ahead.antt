@@ -1,18 +1,16 @@
--- What the loop of the walk keeps: of the expressions that are still ahead of it, what is picked and reached among them.
-mod Forests
+-- What the loop of the walk keeps: of the nodes that are still ahead of it, what is picked and reached among them.
 use Rattle.std.specs.Prelude.{if◌then◌else◌, Some, None}
 use Prim.Native.Nat.{ℕ, suc, ◌+◌, ◌≤◌, ◌<◌}
 use native.Mathlib.Omega.{arith}
 use native.Mathlib.Nat.{zero-add, add-zero}
+use native.Mathlib.Numerals.{add-one}
 use mathlib.Core.Path.{◌≡◌, refl, sym, ap, ◌∙◌, subst}
-use mathlib.Core.Bool.{Bool}
-use mathlib.Core.List.{List, [], ◌∷◌, map, append-nil}
-use mathlib.Core.Logic.{inl, inr}
+use mathlib.Core.Bool.{Bool, true, false}
+use mathlib.Core.List.{List, [], ◌∷◌, map}
 use mathlib.Core.Option.{Option, none}
-use lib.ListN.{length, get_or}
-use Rattle.definitions.specs.Words.Expression.{Expr, and, Exprs, nil, cons, Record, Predicate}
-use Rattle.definitions.specs.Bytes.Encode.{expr_bytes, records_bytes}
-use Rattle.definitions.specs.Words.Leaves.{leaves}
+use lib.ListN.{length}
+use Rattle.definitions.specs.Words.Expression.{Expr, Record, Predicate}
+use Rattle.definitions.specs.Bytes.Encode.{records_bytes}
 use Rattle.definitions.specs.Bytes.Decode.{index_below}
 use Rattle.definitions.specs.Filter.Extract as definition
 use Rattle.definitions.specs.Filter.Extract.{is_knn_match, Matcher, matches_by}
@@ -20,293 +18,275 @@ use Rattle.definitions.specs.Filter.OneWalk as walks
 use Rattle.definitions.specs.Filter.OneWalk.{reading, stopped_at, read_leaf, walk_on, one_walk, remembered, count_to, walk_length_by}
 use Rattle.theorems.proofs.Proved.{one-walk-is-pick}
 use Rattle.expression.specs.Places.{Holds}
-use Rattle.expression.specs.Nodes.{left_of, OfTree, OfTreeIn}
-use Rattle.expression.specs.Leaves.{Both, NodeIs}
-use Rattle.expression.specs.declared.leaves.Node.{Node}
+use Rattle.expression.specs.Nodes.{OfTree, OfTreeIn}
+use Rattle.expression.specs.Leaves.{NodeIs}
+use Rattle.expression.specs.declared.leaves.Node.{Node as Found}
 use Rattle.expression.specs.declared.leaves.Node.TheVariants as node
-use Rattle.node_rows.specs.Numbers.{end_at}
-use Rattle.node_rows.specs.Rows.{Tabled}
-use Rattle.node_rows.proofs.RowLaws.{tabled-end, tabled-within}
 use Rattle.expression.proofs.OneTree.{of_tree}
-use Rattle.leaf_matching.specs.Frames.{Over, Framed, OfFrame}
+use Rattle.node_table.specs.declared.NodeRecord.{NodeRecord as Lent}
+use Rattle.filter_tree.specs.Trees.{Noded, Node, OfNode}
+use Rattle.filter_tree.specs.Spines.{Reach, is_leaf, leaves_among, matches_among, EachReached, EachLeaf, LeafThere, OfSpine}
+use Rattle.filter_tree.proofs.Onwards.{spine-few, found-and, found-leaf}
+use Rattle.leaf_matching.specs.Frames.{Over, Framed, OfFrame, Argued, OfArgument}
 use Rattle.leaf_pick.specs.Picks.{matches}
-use Rattle.leaf_pick.specs.Walks.{Memory, Remembers, Kept, same, here, StoppedIs, GoingIs, LeafSpot, SpotOf, WalkIs}
+use Rattle.leaf_pick.specs.Walks.{Memory, Remembers, Kept, same, here, StoppedIs, GoingIs, SpotOf, WalkIs}
 use Rattle.leaf_pick.specs.declared.one_walk.SeenLeaf.{SeenLeaf}
 use Rattle.leaf_pick.specs.declared.one_walk.Walk.{Walk}
-use Rattle.leaf_pick.proofs.Coming.{leaves_all, leaves-open, leaves-pass, left-begins, Coming, coming-begins, none-come, one-comes}
-use Rattle.leaf_pick.proofs.Coming.{next-stands, next-tabled, index-goes-on, coming-opens, coming-passes}
-use Rattle.leaf_pick.proofs.Ahead.Forests.{reached_all, reached-open, reached-pass, SpotAll, spot-open, spot-here, spot-later}
 
 -- ---- of a frame
 
--- The expressions ts are ahead, over their records; the walk goes on among them.
-pub record Ahead (match : Matcher) (s numbers next : List ℕ) (rec at last place index position : ℕ) (w : Walk SeenLeaf)
-    (records : List Record) (t : Expr)
-    (ts : Exprs) : Type 0 where
+-- These nodes are ahead, `left` by their indexes; the walk goes on among them.
+pub record Ahead (match : Matcher) (s : List ℕ) (nodes : List Lent) (rec : ℕ) (left : List ℕ) (position : ℕ) (w : Walk SeenLeaf)
+    (records : List Record) (t : Expr) (all : List Reach) : Type 0 where
   pub entries : Holds s rec (records_bytes records)
-  pub coming : Coming (index_below (length records)) s numbers next last place index ts
+  pub indexes : left ≡ map (λ x. x.index) all
+  pub each : EachReached (index_below (length records)) s nodes all
+  pub spots : EachLeaf (LeafThere t 0) position all
   pub first : Option definition.Pick
   pub remembers : Remembers s records w.found first
-  pub spot : SpotOf t at w.found
-  pub picks : one_walk (matches match records t) ≡ walk_on (reading position first) (map (match records) (leaves_all ts))
-  pub walked : walk_length_by match (record { records = records; expr = t })
-      ≡ w.read + count_to is_knn_match (reached_all (match records) ts)
-  pub spots : (leaf end p : ℕ) → SpotAll leaf end ts place p → LeafSpot leaf end t at (position + p)
+  pub spot : SpotOf t w.found
+  pub picks : one_walk (matches match records t) ≡ walk_on (reading position first) (map (match records) (leaves_among all))
+  pub walked : walk_length_by match (record { records = records; expr = t }) ≡ w.read + count_to is_knn_match (matches_among (match records) all)
 
--- ---- it begins
+abbrev pub SomeAhead : (match : Matcher) (s : List ℕ) (nodes : List Lent) (rec : ℕ) (left : List ℕ) (position : ℕ) (w : Walk SeenLeaf)
+    → List Record → Expr → Type 0
+SomeAhead match s nodes rec left position w records t = (all : List Reach) × Ahead match s nodes rec left position w records t all
 
-begins-spot : (t : Expr) (at leaf end p : ℕ) → SpotAll leaf end (cons t nil) at p → LeafSpot leaf end t at (0 + p)
-begins-spot t at leaf end p (inl spot) = subst (LeafSpot leaf end t at) (sym (zero-add p)) spot
-begins-spot t at leaf end p (inr (q, e, nowhere)) = absurd nowhere
+-- The first of those ahead, which has this index, and the others.
+pub record Now (match : Matcher) (s : List ℕ) (nodes : List Lent) (rec index : ℕ) (left more : List ℕ) (position : ℕ) (w : Walk SeenLeaf)
+    (records : List Record) (t : Expr) : Type 0 where
+  pub x : Reach
+  pub others : List Reach
+  pub ahead : Ahead match s nodes rec left position w records t (x ∷ others)
+  pub first-is : x.index ≡ index
+  pub rest-is : more ≡ map (λ x. x.index) others
 
-module _ {match : Matcher} {s numbers next : List ℕ} {rec at i last : ℕ} {records : List Record} {t : Expr} where
-  ahead-begins : Over s rec at records t → Tabled numbers next at i t → last ≡ get_or next i 0
-      → Ahead match s numbers next rec at last at i 0 (record { found = None; read = 0 }) records t (cons t nil)
-  unfolding one_walk walk_length_by leaves_all reached_all
-  ahead-begins over h e = record {
-    entries = over.entries;
-    coming = coming-begins over.tree h e;
-    first = none;
-    remembers = refl;
-    spot = tt;
-    picks = rw append-nil refl;
-    walked = rw append-nil (sym (zero-add _));
-    spots = begins-spot t at;
-  }
+module _ {match : Matcher} {s : List ℕ} {nodes : List Lent} {rec : ℕ} where
+  -- ---- it begins
 
--- ---- one step
+  begins : {left : List ℕ} → OfSpine s nodes 0 left
+      → OfArgument s rec nodes 0 (SomeAhead match s nodes rec left 0 (record { found = None; read = 0 }))
+  unfolding one_walk walk_length_by
+  begins is records t a =
+      let here = is (index_below (length records)) a.at t a.over.tree a.noded in (
+        here.all,
+        record {
+          entries = a.over.entries;
+          indexes = here.indexes;
+          each = here.each;
+          spots = here.spots;
+          first = none;
+          remembers = refl;
+          spot = tt;
+          picks = ap (λ (ls : List Expr). walk_on (reading 0 none) (map (match records) ls)) (sym here.leaves);
+          walked = ap (count_to is_knn_match) (sym (here.walk (match records))) ∙ sym (zero-add _);
+        },
+      )
 
-module _ {match : Matcher} {s numbers next : List ℕ} {rec at last place index position : ℕ} {w : Walk SeenLeaf} {records : List
-    Record} {t : Expr} where
-  -- An And opens.
-  ahead-and : {l r : Expr} {us : Exprs} → Ahead match s numbers next rec at last place index position w records t (cons (and l r) us)
-      → Ahead match s numbers next rec at last (left_of place) (index + 1) position
-      (record { found = w.found; read = w.read + 1 }) records t
-      (cons l (cons r us))
-  unfolding count_to is_knn_match
-  ahead-and {l} {r} {us} a = record {
-    entries = a.entries;
-    coming = coming-opens a.coming;
-    first = a.first;
-    remembers = a.remembers;
-    spot = a.spot;
-    picks = a.picks ∙ ap (λ (ls : List Expr). walk_on (reading position a.first) (map (match records) ls)) (leaves-open l r us);
-    walked =
-        a.walked ∙ ap (λ (ms : List (Option Predicate)). w.read + count_to is_knn_match ms) (reached-open l r us (match records))
-        ∙ omega arith;
-    spots = λ leaf end p spot. a.spots leaf end p (spot-open leaf end l r us place p spot);
-  }
+  module _ {left more : List ℕ} {index position : ℕ} {w : Walk SeenLeaf} {records : List Record} {t : Expr} where
+    now-of : left ≡ index ∷ more → (all : List Reach) → Ahead match s nodes rec left position w records t all
+        → Now match s nodes rec index left more position w records t
+    now-of is [] a = absurd (omega (arith, ap length (sym is ∙ a.indexes)))
+    now-of is (x ∷ others) a =
+        let same : index ∷ more ≡ x.index ∷ map (λ x. x.index) others = sym is ∙ a.indexes in
+        record { x = x; others = others; ahead = a; first-is = cc; rest-is = cc }
 
-  module _ {u : Expr} {us : Exprs} (a : Ahead match s numbers next rec at last place index position w records t (cons u us))
-      (single : leaves u ≡ u ∷ []) where
-    -- What a leaf makes of the pick and of the length.
-    leaf-picks : one_walk (matches match records t)
-        ≡ walk_on (read_leaf position a.first (match records u)) (map (match records) (leaves_all us))
-    unfolding walk_on
-    leaf-picks =
-        a.picks ∙ ap (λ (ls : List Expr). walk_on (reading position a.first) (map (match records) ls)) (leaves-pass single us)
+    module _ (n : Now match s nodes rec index left more position w records t) where
+      now-over : Over s rec n.x.at records n.x.tree
+      now-over = record { entries = n.ahead.entries; tree = n.ahead.each.0.stands }
 
-    leaf_walked : walk_length_by match (record { records = records; expr = t })
-        ≡ w.read + suc (if is_knn_match (match records u) then 0 else count_to is_knn_match (reached_all (match records) us))
-    unfolding count_to
-    leaf_walked =
-        a.walked ∙ ap (λ (ms : List (Option Predicate)). w.read + count_to is_knn_match ms) (reached-pass single us (match records))
+      now-noded : Noded nodes n.x.at index n.x.tree
+      now-noded = subst (λ (k : ℕ). Noded nodes n.x.at k n.x.tree) n.first-is n.ahead.each.0.noded
 
-    -- It is where the walk is.
-    here-spot : {leaf end : ℕ} → leaf ≡ place → end ≡ place + length (expr_bytes u) → LeafSpot leaf end t at position
-    here-spot {leaf} {end} e f =
-        subst (LeafSpot leaf end t at) (add-zero position) (a.spots leaf end 0 (spot-here leaf end us place single e f))
+      -- ---- an And
 
-    kept-spot : {before after : Memory} → Kept place position u before after → SpotOf t at before → SpotOf t at after
-    kept-spot same spot = spot
-    kept-spot (here {seen} h) spot = subst (LeafSpot seen.leaf seen.end t at) (sym h.counted) (here-spot h.place h.ends)
+      ahead-and : is_leaf n.x.tree ≡ false
+          → Ahead match s nodes rec more position (record { found = w.found; read = w.read + 1 }) records t n.others
+      unfolding leaves_among matches_among count_to is_knn_match
+      ahead-and k = record {
+        entries = n.ahead.entries;
+        indexes = n.rest-is;
+        each = n.ahead.each.1;
+        spots = subst (λ (b : Bool). EachLeaf (LeafThere t 0) (if b then suc position else position) n.others) k n.ahead.spots.1;
+        first = n.ahead.first;
+        remembers = n.ahead.remembers;
+        spot = n.ahead.spot;
+        picks =
+            n.ahead.picks
+            ∙ ap (λ (b : Bool). walk_on (reading position n.ahead.first)
+            (map (match records) (if b then n.x.tree ∷ leaves_among n.others else leaves_among n.others))) k;
+        walked =
+            n.ahead.walked
+            ∙ ap (λ (b : Bool). w.read + count_to is_knn_match ((if b then match records n.x.tree else none) ∷ matches_among (match records) n.others)) k
+            ∙ omega arith;
+      }
 
-    ahead-leaf : {kept : Memory} → GoingIs match s place position a.first w.found kept records u
-        → (p k : ℕ) → p ≡ end_at numbers index → k ≡ get_or next index 0
-        → Ahead match s numbers next rec at last p k (position + 1) (record { found = kept; read = w.read + 1 }) records t us
-    ahead-leaf {kept} g p k e f = record {
-      entries = a.entries;
-      coming = coming-passes a.coming p k e f;
-      first = g.now-first;
-      remembers = g.remembers;
-      spot = kept-spot g.kept a.spot;
-      picks =
-          leaf-picks ∙ ap (λ (m : walks.Memory). walk_on m (map (match records) (leaves_all us))) g.is
-          ∙ ap (λ (n : ℕ). walk_on (reading n g.now-first) (map (match records) (leaves_all us))) (omega arith);
-      walked =
-          leaf_walked
-          ∙ ap (λ (b : Bool). w.read + suc (if b then 0 else count_to is_knn_match (reached_all (match records) us))) g.far
-          ∙ omega arith;
-      spots = λ leaf end q spot.
-          subst (LeafSpot leaf end t at) (omega arith)
-          (a.spots leaf end (suc q) (spot-later leaf end us place single q
-          (subst (λ (b : ℕ). SpotAll leaf end us b q) (e ∙ tabled-end (next-tabled a.coming)) spot)));
-    }
+      -- ---- a leaf
 
-    leaf-stopped : {seen : SeenLeaf} → StoppedIs match s place position a.first seen records u
-        → WalkIs match s at (record { found = Some seen; read = w.read + 1 }) records t
-    unfolding matches_by remembered walk_on
-    leaf-stopped {seen} h = record {
-      remembers = (
-        h.p,
-        sym (one-walk-is-pick (matches match records t))
-            ∙ ap remembered
-            (leaf-picks ∙ ap (λ (m : walks.Memory). walk_on m (map (match records) (leaves_all us))) h.is
-            ∙ stays h.p (map (match records) (leaves_all us))),
-        h.seen-is,
-      );
-      spot = kept-spot {before = None} (here h.seen_here) tt;
-      walk = sym
-          (leaf_walked
-          ∙ ap (λ (b : Bool). w.read + suc (if b then 0 else count_to is_knn_match (reached_all (match records) us))) h.near
-          ∙ omega arith);
-    }
-      where
-        stays : (p : definition.Pick) (ms : List (Option Predicate)) → walk_on (stopped_at p) ms ≡ stopped_at p
-        stays p [] = refl
-        stays p (m ∷ ms) = refl
+      module _ (k : is_leaf n.x.tree ≡ true) where
+        leaf-picks : one_walk (matches match records t)
+            ≡ walk_on (read_leaf position n.ahead.first (match records n.x.tree)) (map (match records) (leaves_among n.others))
+        unfolding leaves_among walk_on
+        leaf-picks =
+            n.ahead.picks
+            ∙ ap (λ (b : Bool). walk_on (reading position n.ahead.first)
+            (map (match records) (if b then n.x.tree ∷ leaves_among n.others else leaves_among n.others))) k
+
+        leaf_walked : walk_length_by match (record { records = records; expr = t })
+            ≡ w.read + suc (if is_knn_match (match records n.x.tree) then 0 else count_to is_knn_match (matches_among (match records) n.others))
+        unfolding matches_among count_to
+        leaf_walked =
+            n.ahead.walked
+            ∙ ap (λ (b : Bool). w.read + count_to is_knn_match ((if b then match records n.x.tree else none) ∷ matches_among (match records) n.others)) k
+
+        kept-spot : {before after : Memory} → Kept index position before after → SpotOf t before → SpotOf t after
+        kept-spot same spot = spot
+        kept-spot (here {seen} h) spot =
+            subst (λ (p : ℕ). LeafThere t 0 p seen.index) (sym h.counted)
+            (subst (LeafThere t 0 position) (n.first-is ∙ sym h.same) (n.ahead.spots.0 k))
+
+        ahead-leaf : {kept : Memory} → GoingIs match s index position n.ahead.first w.found kept records n.x.tree
+            → Ahead match s nodes rec more (position + 1) (record { found = kept; read = w.read + 1 }) records t n.others
+        ahead-leaf g = record {
+          entries = n.ahead.entries;
+          indexes = n.rest-is;
+          each = n.ahead.each.1;
+          spots = subst (λ (p : ℕ). EachLeaf (LeafThere t 0) p n.others) (sym (add-one position))
+              (subst (λ (b : Bool). EachLeaf (LeafThere t 0) (if b then suc position else position) n.others) k n.ahead.spots.1);
+          first = g.now-first;
+          remembers = g.remembers;
+          spot = kept-spot g.kept n.ahead.spot;
+          picks =
+              leaf-picks ∙ ap (λ (m : walks.Memory). walk_on m (map (match records) (leaves_among n.others))) g.is
+              ∙ ap (λ (p : ℕ). walk_on (reading p g.now-first) (map (match records) (leaves_among n.others))) (omega arith);
+          walked =
+              leaf_walked
+              ∙ ap (λ (b : Bool). w.read + suc (if b then 0 else count_to is_knn_match (matches_among (match records) n.others))) g.far
+              ∙ omega arith;
+        }
+
+        leaf-stopped : {seen : SeenLeaf} → StoppedIs match s index position n.ahead.first seen records n.x.tree
+            → WalkIs match s (record { found = Some seen; read = w.read + 1 }) records t
+        unfolding matches_by remembered walk_on
+        leaf-stopped {seen} h = record {
+          remembers = (
+            h.p,
+            sym (one-walk-is-pick (matches match records t))
+                ∙ ap remembered
+                (leaf-picks ∙ ap (λ (m : walks.Memory). walk_on m (map (match records) (leaves_among n.others))) h.is
+                ∙ stays h.p (map (match records) (leaves_among n.others))),
+            h.seen-is,
+          );
+          spot = kept-spot {before = None} (here h.seen_here) tt;
+          walk = sym
+              (leaf_walked
+              ∙ ap (λ (b : Bool). w.read + suc (if b then 0 else count_to is_knn_match (matches_among (match records) n.others))) h.near
+              ∙ omega arith);
+        }
+          where
+            stays : (p : definition.Pick) (ms : List (Option Predicate)) → walk_on (stopped_at p) ms ≡ stopped_at p
+            stays p [] = refl
+            stays p (m ∷ ms) = refl
 
   -- ---- it ends
 
-  ahead-ends : Ahead match s numbers next rec at last place index position w records t nil → WalkIs match s at w records t
-  unfolding matches_by remembered walk_on leaves_all reached_all count_to
-  ahead-ends a = record {
-    remembers =
-        subst (Remembers s records w.found) (sym (ap remembered a.picks) ∙ one-walk-is-pick (matches match records t)) a.remembers;
+  ends : {position : ℕ} {w : Walk SeenLeaf} {records : List Record} {t : Expr} (all : List Reach)
+      → Ahead match s nodes rec [] position w records t all → WalkIs match s w records t
+  unfolding matches_by remembered walk_on leaves_among matches_among count_to
+  ends (x ∷ all) a = absurd (omega (arith, ap length a.indexes))
+  ends {w = w} {records} {t} [] a = record {
+    remembers = subst (Remembers s records w.found) (sym (ap remembered a.picks) ∙ one-walk-is-pick (matches match records t)) a.remembers;
     spot = a.spot;
     walk = sym (a.walked ∙ add-zero w.read);
   }
 
 -- ---- of every frame that stands there
 
--- Some expressions are ahead.
-abbrev pub SomeAhead : Matcher → (s numbers next : List ℕ) (rec at last place index position : ℕ) (w : Walk SeenLeaf)
-    (records : List Record) → Expr → Type 0
-SomeAhead match s numbers next rec at last place index position w records t =
-    (ts : Exprs) × Ahead match s numbers next rec at last place index position w records t ts
-
 -- What the loop keeps.
-pub record Along (match : Matcher) (s numbers next : List ℕ) (rec at last place index position : ℕ) (w : Walk SeenLeaf) : Type 0 where
-  pub there : Framed s rec at
-  pub ahead : OfFrame s rec at (SomeAhead match s numbers next rec at last place index position w)
-  pub few : w.read ≤ index
+pub record Along (match : Matcher) (s : List ℕ) (nodes : List Lent) (rec : ℕ) (left : List ℕ) (position : ℕ) (w : Walk SeenLeaf) : Type 0 where
+  pub ahead : OfArgument s rec nodes 0 (SomeAhead match s nodes rec left position w)
+  pub few : w.read + length left ≤ length nodes
   pub fewer : position ≤ w.read
 
-pub along-begins : {match : Matcher} {s numbers next : List ℕ} {rec at i last : ℕ} → Framed s rec at
-    → OfTree s at (Tabled numbers next at i)
-    → last ≡ get_or next i 0 → Along match s numbers next rec at last at i 0 (record { found = None; read = 0 })
-along-begins there tabled e = record {
-  there = there;
-  ahead = λ records t over. (cons t nil, ahead-begins over (tabled _ t over.tree) e);
-  few = omega arith;
-  fewer = omega arith;
-}
+module _ {match : Matcher} {s : List ℕ} {nodes : List Lent} {rec : ℕ} where
+  pub along-begins : {left : List ℕ} → Argued s rec nodes 0 → OfSpine s nodes 0 left
+      → Along match s nodes rec left 0 (record { found = None; read = 0 })
+  along-begins there is = record {
+    ahead = begins is;
+    few = omega (arith, spine-few (is _ _ _ there.2.over.tree there.2.noded) there.2.noded);
+    fewer = omega arith;
+  }
 
-module _ {match : Matcher} {s numbers next : List ℕ} {rec at last place index position : ℕ} {w : Walk SeenLeaf}
-    (inv : Along match s numbers next rec at last place index position w) where
-  pub along-ends : (index < last → ⊥) → OfFrame s rec at (WalkIs match s at w)
-  along-ends end records t over =
-      let some = inv.ahead records t over in
-      ahead-ends (subst (Ahead match s numbers next rec at last place index position w records t) (none-come end some.0 some.1.coming)
-      some.1)
+  module _ {left : List ℕ} {position : ℕ} {w : Walk SeenLeaf} (inv : Along match s nodes rec left position w) where
+    pub along-ends : left ≡ [] → OfArgument s rec nodes 0 (WalkIs match s w)
+    along-ends none-left records t a =
+        let some = inv.ahead records t a in
+        ends some.0 (subst (λ (l : List ℕ). Ahead match s nodes rec l position w records t some.0) none-left some.1)
 
-  module _ (more : index < last) where
-    -- The first of those ahead, and the others.
-    pub record Now (records : List Record) (t : Expr) : Type 0 where
-      pub u : Expr
-      pub us : Exprs
-      pub ahead : Ahead match s numbers next rec at last place index position w records t (cons u us)
+    module _ {index : ℕ} {more : List ℕ} (is : left ≡ index ∷ more) where
+      pub along-read : w.read < length nodes
+      along-read = omega (arith, inv.few, ap length is)
 
-    now : {records : List Record} {t : Expr} → Over s rec at records t → Now records t
-    now {records} {t} over =
-        let some = inv.ahead records t over in
-        let first = one-comes more some.0 some.1.coming in
-        record {
-          u = first.u;
-          us = first.us;
-          ahead = subst (Ahead match s numbers next rec at last place index position w records t) first.is some.1;
-        }
+      now : OfArgument s rec nodes 0 (Now match s nodes rec index left more position w)
+      now records t a = let some = inv.ahead records t a in now-of is some.0 some.1
 
-    over-now : {records : List Record} {t : Expr} (n : Now records t) → Over s rec place records n.u
-    over-now n = record { entries = n.ahead.entries; tree = next-stands n.ahead.coming }
+      module _ (there : Argued s rec nodes 0) where
+        pub here-node : Node nodes index
+        here-node = let n = now _ _ there.2 in (n.x.at, n.x.tree, now-noded n)
 
-    here-now : Now inv.there.0 inv.there.1
-    here-now = now inv.there.2
+        -- It stands at its place.
+        module _ {at : ℕ} (start : OfNode nodes index (λ p t. at ≡ p)) where
+          pub here-framed : Framed s rec at
+          here-framed =
+              let n = now _ _ there.2 in
+              (there.0, n.x.tree, subst (λ (p : ℕ). Over s rec p there.0 n.x.tree) (sym (start _ _ (now-noded n))) (now-over n))
 
-    pub here-framed : Framed s rec place
-    here-framed = (inv.there.0, here-now.u, over-now here-now)
+          pub here-noded : OfTree s at (Noded nodes at index)
+          unfolding here-framed
+          here-noded =
+              let n = now _ _ there.2 in
+              of_tree (Noded nodes at index) here-framed.2.tree
+              (subst (λ (p : ℕ). Noded nodes p index n.x.tree) (sym (start _ _ (now-noded n))) (now-noded n))
 
-    own : Tabled numbers next place index here-now.u
-    own = next-tabled here-now.ahead.coming
+      module _ {at : ℕ} (start : OfNode nodes index (λ p t. at ≡ p)) where
+        placed : {records : List Record} {t : Expr} (n : Now match s nodes rec index left more position w records t) → Over s rec at records n.x.tree
+        placed {records} n = subst (λ (p : ℕ). Over s rec p records n.x.tree) (sym (start _ _ (now-noded n))) (now-over n)
 
-    pub here-tabled : OfTree s place (Tabled numbers next place index)
-    unfolding here-framed here-now
-    here-tabled = of_tree (Tabled numbers next place index) here-framed.2.tree own
+        module _ {found : Found} (told : OfTreeIn s at (λ c t. NodeIs c s at found t)) where
+          -- ---- an And
 
-    pub here-within : (index < length numbers) × (index < length next)
-    here-within = tabled-within own
+          pub along-and : {first : ℕ} → found ≡ node.And first
+              → Along match s nodes rec more position (record { found = w.found; read = w.read + 1 })
+          along-and e = record {
+            ahead = λ records t a.
+                let n = now records t a in
+                (n.others, ahead-and n (found-and (rw e at (told _ n.x.tree (placed n).tree))));
+            few = omega (arith, inv.few, ap length is);
+            fewer = omega (arith, inv.fewer);
+          }
 
-    -- The index goes on.
-    pub next-index : (k : ℕ) → k ≡ get_or next index 0 → index < k
-    next-index = index-goes-on here-now.ahead.coming
+          -- ---- a leaf
 
-    -- ---- an And
+          module _ (never : (first : ℕ) → found ≡ node.And first → ⊥) where
+            its-leaf : {records : List Record} {t : Expr} (n : Now match s nodes rec index left more position w records t) → is_leaf n.x.tree ≡ true
+            its-leaf n = found-leaf found told (placed n).tree never
 
-    module _ {left : ℕ} {found : Node} (is : OfTreeIn s place (λ c t. NodeIs c s place found t)) (told : found ≡ node.And left) where
-      opened : (records : List Record) (t : Expr) → Over s rec at records t
-          → SomeAhead match s numbers next rec at last left (index + 1) position (record { found = w.found; read = w.read + 1 }) records t
-      opened records t over =
-          let n : Now records t = now over in
-          let b : Both and (index_below (length records)) s place left n.u =
-          rw told at (is (index_below (length records)) n.u (next-stands n.ahead.coming)) in (
-            cons b.l (cons b.r n.us),
-            subst
-                (λ (p : ℕ). Ahead match s numbers next rec at last p (index + 1) position (record { found = w.found; read = w.read + 1 })
-                records t (cons b.l (cons b.r n.us)))
-                (sym (left-begins b))
-                (ahead-and
-                (subst (λ (x : Expr). Ahead match s numbers next rec at last place index position w records t (cons x n.us)) b.is
-                n.ahead)),
-          )
+            pub along-stopped : {seen : SeenLeaf}
+                → OfFrame s rec at (λ records u. (first : Option definition.Pick) → Remembers s records w.found first
+                → StoppedIs match s index position first seen records u)
+                → OfArgument s rec nodes 0 (WalkIs match s (record { found = Some seen; read = w.read + 1 }))
+            along-stopped inner records t a =
+                let n = now records t a in
+                leaf-stopped n (its-leaf n) (inner records n.x.tree (placed n) n.ahead.first n.ahead.remembers)
 
-      pub along-and : Along match s numbers next rec at last left (index + 1) position (record { found = w.found; read = w.read + 1 })
-      along-and = record {
-        there = inv.there;
-        ahead = opened;
-        few = omega (arith, inv.few);
-        fewer = omega (arith, inv.fewer);
-      }
-
-    -- ---- a leaf
-
-    module _ (single : OfFrame s rec place (λ records u. leaves u ≡ u ∷ [])) where
-      pub along-stopped : {seen : SeenLeaf}
-          → OfFrame s rec place (λ records u. (first : Option definition.Pick) → Remembers s records w.found first
-          → StoppedIs match s place position first seen records u)
-          → OfFrame s rec at (WalkIs match s at (record { found = Some seen; read = w.read + 1 }))
-      along-stopped inner records t over =
-          let n : Now records t = now over in
-          let o : Over s rec place records n.u = over-now n in
-          leaf-stopped n.ahead (single records n.u o) (inner records n.u o n.ahead.first n.ahead.remembers)
-
-      module _ {kept : Memory}
-          (inner : OfFrame s rec place (λ records u. (first : Option definition.Pick) → Remembers s records w.found first
-          → GoingIs match s place position first w.found kept records u)) where
-        passed : (p k : ℕ) → p ≡ end_at numbers index → k ≡ get_or next index 0
-            → (records : List Record) (t : Expr) → Over s rec at records t
-            → SomeAhead match s numbers next rec at last p k (position + 1) (record { found = kept; read = w.read + 1 }) records t
-        passed p k e f records t over =
-            let n : Now records t = now over in
-            let o : Over s rec place records n.u = over-now n in (
-              n.us,
-              ahead-leaf n.ahead (single records n.u o) (inner records n.u o n.ahead.first n.ahead.remembers) p k e f,
-            )
-
-        pub along-going : (p k : ℕ) → p ≡ end_at numbers index → k ≡ get_or next index 0
-            → Along match s numbers next rec at last p k (position + 1) (record { found = kept; read = w.read + 1 })
-        along-going p k e f = record {
-          there = inv.there;
-          ahead = passed p k e f;
-          few = omega (arith, inv.few, next-index k f);
-          fewer = omega (arith, inv.fewer);
-        }
+            pub along-going : {kept : Memory}
+                → OfFrame s rec at (λ records u. (first : Option definition.Pick) → Remembers s records w.found first
+                → GoingIs match s index position first w.found kept records u)
+                → Along match s nodes rec more (position + 1) (record { found = kept; read = w.read + 1 })
+            along-going inner = record {
+              ahead = λ records t a.
+                  let n = now records t a in
+                  (n.others, ahead-leaf n (its-leaf n) (inner records n.x.tree (placed n) n.ahead.first n.ahead.remembers));
+              few = omega (arith, inv.few, ap length is);
+              fewer = omega (arith, inv.fewer);
+            }

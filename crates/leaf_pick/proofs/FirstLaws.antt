@@ -9,11 +9,12 @@ use mathlib.Core.Path.{◌≡◌, refl, sym, ap, ◌∙◌, subst, subst⁻¹}
 use mathlib.Core.Bool.{Bool}
 use mathlib.Core.List.{List, [], ◌∷◌, map, map-append}
 use mathlib.Core.Option.{Option, none, some}
-use lib.ListN.{length, get_or, length-append, length-map}
+use lib.ListN.{length, length-append, length-map}
 use Rattle.definitions.specs.Words.Expression.{Expr, and, Record, Predicate}
 use Rattle.definitions.specs.Bytes.Encode.{expr_bytes}
 use Rattle.definitions.specs.Words.Leaves.{leaves}
 use Rattle.definitions.specs.Bytes.Decode.{index_below}
+use Rattle.definitions.specs.Bytes.Good.{nodes as nodes_in}
 use Rattle.definitions.specs.Filter.Extract as definition
 use Rattle.definitions.specs.Filter.Extract.{is_knn, first_match, first_of, Matcher, matches_by}
 use Rattle.expression.proofs.AndLeaves.{leaves-few}
@@ -24,10 +25,11 @@ use Rattle.expression.specs.declared.leaves.Node.{Node}
 use Rattle.expression.specs.declared.leaves.Node.TheVariants as node
 use Rattle.expression.proofs.Standing.{node-some, first-stands, rest-stands}
 use Rattle.theorems.proofs.Walks.{moved}
-use Rattle.node_rows.specs.Numbers.{end_at}
-use Rattle.node_rows.specs.Rows.{Tabled}
-use Rattle.node_rows.proofs.RowLaws.{tabled-end, tabled-next, tabled-within}
-use Rattle.node_rows.proofs.IndexLaws.{left-tabled, right-tabled}
+use Rattle.node_table.specs.declared.NodeRecord.{NodeRecord as Lent}
+use Rattle.filter_tree.specs.Trees.{Noded, Node as Within, OfNode}
+use Rattle.filter_tree.proofs.Children.{noded-first, noded-rest}
+use Rattle.filter_tree.proofs.Scans.{noded-within}
+use Rattle.filter_tree.proofs.Indexes.{both-noded}
 use Rattle.expression.proofs.OneTree.{of_tree}
 use Rattle.leaf_matching.specs.Frames.{Over, Framed, OfFrame}
 use Rattle.leaf_matching.specs.Matches.{Lacks, Matches, MatchingIs}
@@ -186,37 +188,35 @@ module _ {s : List ℕ} {rec at left : ℕ} {found : Node} (is : OfTreeIn s at (
           })
 
 -- What the loop along the right children keeps: what is found from the node that it came to is found from the first.
-pub record Along (match : Matcher) (wanted : Wanted) (s numbers next : List ℕ) (rec : ℕ) (from : Stop) (parent : ℕ) (stop : Stop)
+pub record Along (match : Matcher) (wanted : Wanted) (s : List ℕ) (nodes : List Lent) (rec : ℕ) (from : Stop) (parent : ℕ) (stop : Stop)
     (above : ℕ) : Type 0 where
   pub there : Framed s rec stop.at
-  pub tabled : OfTree s stop.at (Tabled numbers next stop.at stop.index)
+  pub noded : OfTree s stop.at (Noded nodes stop.at stop.index)
   pub low : from.at ≤ stop.at
   pub few : stop.position ≤ stop.at
   pub rest : (r : Found) → OfFrame s rec stop.at (FoundIs match wanted s stop.at stop.position above r)
       → OfFrame s rec from.at (FoundIs match wanted s from.at from.position parent r)
 
-module _ {match : Matcher} {wanted : Wanted} {s numbers next : List ℕ} {rec : ℕ} {from : Stop} {parent : ℕ} where
-  pub along-begins : Framed s rec from.at → OfTree s from.at (Tabled numbers next from.at from.index) → from.position ≤ from.at
-      → Along match wanted s numbers next rec from parent from parent
-  along-begins there tabled few = record { there = there; tabled = tabled; low = omega arith; few = few; rest = λ r is. is }
+module _ {match : Matcher} {wanted : Wanted} {s : List ℕ} {nodes : List Lent} {rec : ℕ} {from : Stop} {parent : ℕ} where
+  pub along-begins : Framed s rec from.at → OfTree s from.at (Noded nodes from.at from.index) → from.position ≤ from.at
+      → Along match wanted s nodes rec from parent from parent
+  along-begins there noded few = record { there = there; noded = noded; low = omega arith; few = few; rest = λ r is. is }
 
-  module _ {stop : Stop} {above : ℕ} (inv : Along match wanted s numbers next rec from parent stop above) where
-    -- The rows have a place for the node that it came to.
-    pub along-within : (stop.index < length numbers) × (stop.index < length next)
-    along-within = tabled-within (inv.tabled _ _ inv.there.2.tree)
+  module _ {stop : Stop} {above : ℕ} (inv : Along match wanted s nodes rec from parent stop above) where
+    pub along-within : stop.index < length nodes
+    along-within = noded-within (inv.noded _ _ inv.there.2.tree)
 
     module _ {left : ℕ} {found : Node} (is : OfTreeIn s stop.at (λ c t. NodeIs c s stop.at found t)) (told : found ≡ node.And left) where
       its-both : Both and (index_below (length inv.there.0)) s stop.at left inv.there.1
       its-both = rw told at (is _ inv.there.1 inv.there.2.tree)
 
-      pub along-tabled : OfTree s left (Tabled numbers next left (stop.index + 1))
-      along-tabled =
-          of_tree (Tabled numbers next left (stop.index + 1)) (first-stands its-both.row)
-          (left-tabled (inv.tabled _ _ inv.there.2.tree) its-both)
+      pub along-noded : OfTree s left (Noded nodes left (stop.index + 1))
+      along-noded =
+          of_tree (Noded nodes left (stop.index + 1)) (first-stands its-both.row)
+          (noded-first (both-noded (inv.noded _ _ inv.there.2.tree) its-both))
 
-      -- So have they for its left side.
-      pub left-within : (stop.index + 1 < length numbers) × (stop.index + 1 < length next)
-      left-within = tabled-within (along-tabled _ _ (first-stands its-both.row))
+      pub left-node : Within nodes (stop.index + 1)
+      left-node = (_, _, along-noded _ _ (first-stands its-both.row))
 
       pub left_there : {m : ℕ} → length s - from.at ≡ m → (length s - left < m) × (Framed s rec left × (stop.position ≤ left))
       left_there whole =
@@ -230,10 +230,10 @@ module _ {match : Matcher} {wanted : Wanted} {s numbers next : List ℕ} {rec : 
       along-left {p} inner = inv.rest (Break p) (match-left is told inner)
 
       module _ {right counted : ℕ} (inner : OfFrame s rec left (NothingIs match wanted stop.position counted))
-          (ends : right ≡ end_at numbers (stop.index + 1))
+          (ends : OfNode nodes (stop.index + 1) (λ at t. right ≡ at + length (expr_bytes t)))
         where
           left-ends : OfTree s left (λ l. right ≡ left + length (expr_bytes l))
-          left-ends d l stands = ends ∙ tabled-end (along-tabled d l stands)
+          left-ends d l stands = ends left l (along-noded d l stands)
 
           after-left : Framed s rec right × (stop.at < right) × (counted ≤ right)
           after-left = right-framed is told inner left-ends inv.there inv.few
@@ -241,16 +241,16 @@ module _ {match : Matcher} {wanted : Wanted} {s numbers next : List ℕ} {rec : 
           pub along-less : length s - right < length s - stop.at
           along-less = omega (arith, after-left.1, node-some inv.there.2.tree)
 
-          pub along-right : (k : ℕ) → k ≡ get_or next (stop.index + 1) 0 → Along match wanted s numbers next rec from parent
+          pub along-right : (k : ℕ) → OfNode nodes (stop.index + 1) (λ at t. k ≡ stop.index + 1 + nodes_in t) → Along match wanted s nodes rec from parent
               (record { at = right; index = k; position = counted }) stop.at
           along-right k after =
               let b = its-both in
-              let h = inv.tabled _ _ inv.there.2.tree in
+              let h = inv.noded _ _ inv.there.2.tree in
               let e : right ≡ left + length (expr_bytes b.l) = left-ends _ b.l (first-stands b.row) in
               record {
                 there = after-left.0;
-                tabled = of_tree (Tabled numbers next right k) (first-stands (rest-stands b.row right 1 e refl))
-                    (right-tabled h b right k e (after ∙ tabled-next (left-tabled h b)));
+                noded = of_tree (Noded nodes right k) (first-stands (rest-stands b.row right 1 e refl))
+                    (noded-first (noded-rest (both-noded h b) right k e (after left b.l (noded-first (both-noded h b)))));
                 low = omega (arith, inv.low, after-left.1);
                 few = after-left.2;
                 rest = λ r outer. inv.rest r (match-right is told inner left-ends above r outer);

@@ -13,9 +13,10 @@ use Rattle.definitions.specs.Filter.Extract.{is_knn}
 use Rattle.expression.specs.Leaves.{CallIs, OfCall}
 use Rattle.expression.specs.declared.leaves.Called.{Called}
 use Rattle.expression.specs.declared.leaves.Node.TheVariants.{Call}
-use Rattle.node_rows.specs.Rows.{TabledAll}
-use Rattle.node_rows.proofs.RowLaws.{tabled-within}
-use Rattle.node_rows.proofs.IndexLaws.{call-tabled}
+use Rattle.node_table.specs.declared.NodeRecord.{NodeRecord as Lent}
+use Rattle.filter_tree.specs.Trees.{Node, NodedAll}
+use Rattle.filter_tree.proofs.Scans.{noded-within}
+use Rattle.filter_tree.proofs.Indexes.{call-noded}
 use Rattle.leaf_matching.specs.Frames.{Over, CallOver, CallFramed, OfCallFrame}
 use Rattle.leaf_matching.specs.Matches.{is_relation, is_distance, Lacks, Matching, MatchingIs, LeafMatchingBy, LeafMatching, CallMatchingBy}
 use Rattle.leaf_pick.specs.Picks.{is_other, LeafThere}
@@ -25,14 +26,15 @@ use Rattle.leaf_matching.specs.declared.matching.NoMatch.TheVariants.{Unmatched,
 
 -- ---- a leaf
 
--- The rows have a place for it.
-pub leaf-within : {s numbers next : List ℕ} {rec : ℕ} {leaf : Leaf} → LeafThere s numbers next rec leaf
-    → (leaf.stop.index < length numbers) × (leaf.stop.index < length next)
-leaf-within there = tabled-within (there.tabled _ _ there.framed.2.tree)
+pub leaf-node : {s : List ℕ} {nodes : List Lent} {rec : ℕ} {leaf : Leaf} → LeafThere s nodes rec leaf → Node nodes leaf.stop.index
+leaf-node there = (_, _, there.noded _ _ there.framed.2.tree)
+
+pub leaf-within : {s : List ℕ} {nodes : List Lent} {rec : ℕ} {leaf : Leaf} → LeafThere s nodes rec leaf → leaf.stop.index < length nodes
+leaf-within there = noded-within (leaf-node there).2
 
 -- ---- a leaf that is a function
 
-module _ {s numbers next : List ℕ} {rec : ℕ} {leaf : Leaf} (there : LeafThere s numbers next rec leaf) {k : Called}
+module _ {s : List ℕ} {nodes : List Lent} {rec : ℕ} {leaf : Leaf} (there : LeafThere s nodes rec leaf) {k : Called}
     (told : leaf.node ≡ Call k) where
   its-call : {records : List Record} {t : Expr} → Over s rec leaf.stop.at records t
       → CallIs (index_below (length records)) s leaf.stop.at k t
@@ -49,13 +51,13 @@ module _ {s numbers next : List ℕ} {rec : ℕ} {leaf : Leaf} (there : LeafTher
       subst (λ (t : Expr). MatchingIs kind s records (match_leaf_by d records t) r) (sym it.is)
       (answer records it.name it.arguments (call-over over))
 
-  -- Its arguments stand there, and are in the rows after it.
-  pub call-given : CallFramed s rec k × OfCall s k (λ c name. TabledAll numbers next k.first (leaf.stop.index + 1))
+  -- Its arguments stand there, and have the indexes after it.
+  pub call-given : CallFramed s rec k × OfCall s k (λ c name. NodedAll nodes k.first (leaf.stop.index + 1))
   call-given =
       let over = there.framed.2 in
       let it = its-call over in (
         (there.framed.0, it.name, it.arguments, call-over over),
-        call-tabled (there.tabled _ there.framed.1 over.tree) it,
+        call-noded (there.noded _ there.framed.1 over.tree) it,
       )
 
 -- ---- kinds that are not KNN

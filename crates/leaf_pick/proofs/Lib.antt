@@ -3,8 +3,6 @@ pub mod FirstLaws
 pub mod LeafLaws
 pub mod Nodes
 pub mod PickLaws
-pub mod Coming
 pub mod Ahead
-pub mod Parents
 pub mod OneWalkLeafLaws
 pub mod Engines

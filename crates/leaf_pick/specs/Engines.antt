@@ -1,4 +1,4 @@
--- Request 9 of document 02: two engines that pick by the same contract.
+-- Two engines that pick by the same contract.
 use Rattle.std.specs.Prelude.{ℕ, ◌≡◌, List, Option, Some, None}
 use Rattle.definitions.specs.Words.Expression.{Expr, Record, Predicate}
 use Rattle.definitions.specs.Filter.Extract.{Matcher}

@@ -10,7 +10,8 @@ use Rattle.definitions.specs.Filter.Extract.{is_knn, first_match, Matcher, match
 use Rattle.expression.specs.Nodes.{OfTree, OfTreeIn}
 use Rattle.expression.specs.Leaves.{NodeIs}
 use Rattle.expression.specs.Cuts.{CutAt}
-use Rattle.node_rows.specs.Rows.{Tabled}
+use Rattle.node_table.specs.declared.NodeRecord.{NodeRecord as Lent}
+use Rattle.filter_tree.specs.Trees.{Noded}
 use Rattle.leaf_matching.specs.Frames.{Framed}
 use Rattle.leaf_matching.specs.Matches.{Matching, MatchingIs}
 use Rattle.sedona_query_planner.specs.Predicates.{on_children, PredicateAt}
@@ -35,10 +36,10 @@ matches match records t = map (match records) (leaves t)
 
 -- ---- a leaf
 
--- An expression stands there over its records, it is in the rows at the leaf's index, and it is what the leaf's node says.
-pub record LeafThere (s numbers next : List ℕ) (rec : ℕ) (leaf : Leaf) : Type 0 where
+-- An expression stands there over its records, it has the leaf's index, and it is what the leaf's node says.
+pub record LeafThere (s : List ℕ) (nodes : List Lent) (rec : ℕ) (leaf : Leaf) : Type 0 where
   pub framed : Framed s rec leaf.stop.at
-  pub tabled : OfTree s leaf.stop.at (Tabled numbers next leaf.stop.at leaf.stop.index)
+  pub noded : OfTree s leaf.stop.at (Noded nodes leaf.stop.at leaf.stop.index)
   pub is : OfTreeIn s leaf.stop.at (λ c t. NodeIs c s leaf.stop.at leaf.node t)
 
 -- The answer for a leaf.

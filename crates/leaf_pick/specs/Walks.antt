@@ -1,10 +1,9 @@
--- Requests 9 and 10 of document 02: what the walk remembers stands for the definition's memory, and its length is the definition's.
-use Rattle.std.specs.Prelude.{ℕ, suc, ◌+◌, ◌≡◌, Bool, true, false, List, length, Option, Some, None}
+-- What the walk remembers stands for the definition's memory, and its length is the definition's.
+use Rattle.std.specs.Prelude.{ℕ, suc, ◌≡◌, Bool, true, false, List, Option, Some, None}
 use Rattle.std.specs.declared.ops.ControlFlow.{ControlFlow}
 use Rattle.std.specs.declared.ops.ControlFlow.TheVariants.{Continue, Break}
 use Rattle.std.proofs.Math.Option as optional
 use Rattle.definitions.specs.Words.Expression.{Expr, Record}
-use Rattle.definitions.specs.Bytes.Encode.{expr_bytes}
 use Rattle.definitions.specs.Bytes.Decode.{Columns}
 use Rattle.definitions.specs.Filter.Extract as definition
 use Rattle.definitions.specs.Filter.Extract.{is_knn, is_knn_match, pick, Matcher, matches_by}
@@ -12,10 +11,8 @@ use Rattle.definitions.specs.Filter.OneWalk.{reading, stopped_at, read_leaf, wal
 use Rattle.definitions.specs.Filter.Settings.{Settings, match_under}
 use Rattle.expression.specs.Leaves.{NodeIs}
 use Rattle.leaf_matching.specs.Matches.{Lacks}
-use Rattle.expression.specs.Cuts.{CutAt}
 use Rattle.expression.specs.declared.leaves.Node.{Node}
-use Rattle.node_rows.specs.Numbers.{end_at}
-use Rattle.node_rows.specs.Rows.{Tabled}
+use Rattle.filter_tree.specs.Spines.{LeafThere}
 use Rattle.sedona_query_planner.specs.Predicates.{on_children, PredicateAt}
 use Rattle.sedona_query_planner.specs.declared.spatial_predicate.SpatialPredicate.{SpatialPredicate}
 use Rattle.leaf_pick.specs.Picks.{PickedIs}
@@ -57,77 +54,58 @@ NoKnnIs node r =
     → Lacks is_knn (match_under S records t)
 
 -- The leaf with its match, as it is remembered.
-abbrev pub seen_here : (numbers : List ℕ) → Leaf → SpatialPredicate → SeenLeaf
-seen_here numbers leaf predicate =
-    record { predicate = predicate; position = leaf.stop.position; leaf = leaf.stop.at; end = end_at numbers leaf.stop.index }
+abbrev pub seen_here : Leaf → SpatialPredicate → SeenLeaf
+seen_here leaf predicate = record { predicate = predicate; position = leaf.stop.position; index = leaf.stop.index }
 
 -- It was seen here.
-pub record SeenHere (at position : ℕ) (seen : SeenLeaf) (t : Expr) : Type 0 where
-  pub place : seen.leaf ≡ at
-  pub ends : seen.end ≡ at + length (expr_bytes t)
+pub record SeenHere (index position : ℕ) (seen : SeenLeaf) : Type 0 where
+  pub same : seen.index ≡ index
   pub counted : seen.position ≡ position
 
 -- What is remembered afterwards is what was remembered, or this leaf.
-pub data Kept (at position : ℕ) (t : Expr) (before : Memory) : Memory → Type 0 where
-  same : Kept at position t before before
-  here : {seen : SeenLeaf} → SeenHere at position seen t → Kept at position t before (Some seen)
+pub data Kept (index position : ℕ) (before : Memory) : Memory → Type 0 where
+  same : Kept index position before before
+  here : {seen : SeenLeaf} → SeenHere index position seen → Kept index position before (Some seen)
 
 -- A KNN match stops the walk here;
-pub record StoppedIs (match : Matcher) (s : List ℕ) (at position : ℕ) (first : optional.Option definition.Pick) (seen : SeenLeaf)
+pub record StoppedIs (match : Matcher) (s : List ℕ) (index position : ℕ) (first : optional.Option definition.Pick) (seen : SeenLeaf)
     (records : List Record) (t : Expr) : Type 0 where
   pub p : definition.Pick
   pub is : read_leaf position first (match records t) ≡ stopped_at p
   pub near : is_knn_match (match records t) ≡ true
   pub seen-is : SeenIs s records seen p
-  pub seen_here : SeenHere at position seen t
+  pub seen_here : SeenHere index position seen
 
 -- any other leaf leaves it reading.
-pub record GoingIs (match : Matcher) (s : List ℕ) (at position : ℕ) (first : optional.Option definition.Pick) (before after : Memory)
+pub record GoingIs (match : Matcher) (s : List ℕ) (index position : ℕ) (first : optional.Option definition.Pick) (before after : Memory)
     (records : List Record) (t : Expr) : Type 0 where
   pub now-first : optional.Option definition.Pick
   pub is : read_leaf position first (match records t) ≡ reading (suc position) now-first
   pub far : is_knn_match (match records t) ≡ false
   pub remembers : Remembers s records after now-first
-  pub kept : Kept at position t before after
+  pub kept : Kept index position before after
 
 -- For whatever the memory stands for.
 abbrev pub ReadIs : Matcher → (s : List ℕ) → Leaf → Memory → ControlFlow SeenLeaf Memory → (records : List Record) → Expr → Type 0
 ReadIs match s leaf memory (Break seen) records t =
     (first : optional.Option definition.Pick) → Remembers s records memory first
-    → StoppedIs match s leaf.stop.at leaf.stop.position first seen records t
+    → StoppedIs match s leaf.stop.index leaf.stop.position first seen records t
 ReadIs match s leaf memory (Continue after) records t =
     (first : optional.Option definition.Pick) → Remembers s records memory first
-    → GoingIs match s leaf.stop.at leaf.stop.position first memory after records t
+    → GoingIs match s leaf.stop.index leaf.stop.position first memory after records t
 
 -- ---- the whole walk
 
--- The AND-leaf at a position stands from one place up to another, whatever And is above the root.
-abbrev pub LeafSpot : (leaf end : ℕ) (t : Expr) (at position : ℕ) → Type 0
-LeafSpot leaf end t at position = (up : ℕ) → (parent : ℕ) × CutAt (record { leaf = leaf; end = end; parent = parent }) up t at position
-
--- What is remembered does.
-abbrev pub SpotOf : (t : Expr) (at : ℕ) → Memory → Type 0
-SpotOf t at None = Unit {0}
-SpotOf t at (Some seen) = LeafSpot seen.leaf seen.end t at seen.position
+-- What is remembered is an AND-leaf, by its position and index.
+abbrev pub SpotOf : Expr → Memory → Type 0
+SpotOf t None = Unit {0}
+SpotOf t (Some seen) = LeafThere t 0 seen.position seen.index
 
 -- The walk ended with the definitions' pick in memory, and its length is the definitions'.
-pub record WalkIs (match : Matcher) (s : List ℕ) (at : ℕ) (w : Walk SeenLeaf) (records : List Record) (t : Expr) : Type 0 where
+pub record WalkIs (match : Matcher) (s : List ℕ) (w : Walk SeenLeaf) (records : List Record) (t : Expr) : Type 0 where
   pub remembers : Remembers s records w.found (pick (matches_by match (record { records = records; expr = t })))
-  pub spot : SpotOf t at w.found
+  pub spot : SpotOf t w.found
   pub walk : w.read ≡ walk_length_by match (record { records = records; expr = t })
-
--- ---- the And above a leaf
-
--- An AND-leaf of an expression that has the first rows stands at this place; the root counts as its own parent.
-abbrev pub Spotted : (numbers next : List ℕ) (at leaf : ℕ) → Type 0
-Spotted numbers next at leaf =
-    (t : Expr) × (end : ℕ) × (position : ℕ) × (parent : ℕ) × Tabled numbers next at 0 t
-    × CutAt (record { leaf = leaf; end = end; parent = parent }) at t at position
-
-abbrev pub ParentIs : (numbers next : List ℕ) (at leaf : ℕ) → ℕ → Type 0
-ParentIs numbers next at leaf r =
-    (t : Expr) (end position parent : ℕ) → Tabled numbers next at 0 t
-    → CutAt (record { leaf = leaf; end = end; parent = parent }) at t at position → r ≡ parent
 
 -- ---- the answer
 

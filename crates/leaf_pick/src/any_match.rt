@@ -16,11 +16,11 @@ use terms::settings::Settings;
 // A leaf that is no KNN match.
 #[inline]
 fn match_but_knn(filter: Filter, leaf: Leaf, settings: Settings) -> Option<SpatialPredicate>
-    requires leaf_there { LeafThere filter.s.now filter.rows.numbers.now filter.rows.next.now filter.rec leaf }
-    requires no_knn { OfFrame filter.s.now filter.rec leaf.stop.at
+    requires leaf_there { LeafThere filter.tree.bytes.now filter.tree.nodes.now filter.rec leaf }
+    requires no_knn { OfFrame filter.tree.bytes.now filter.rec leaf.stop.at
         (λ records t. Lacks is_knn (match_under (settings_of settings) records t)) }
-    ensures { OfFrame filter.entry.s.now filter.entry.rec leaf.stop.at
-        (AnyMatchIs (match_under (settings_of settings)) filter.entry.s.now result) }
+    ensures { OfFrame filter.entry.tree.bytes.now filter.entry.rec leaf.stop.at
+        (AnyMatchIs (match_under (settings_of settings)) filter.entry.tree.bytes.now result) }
 {
     match match_other(filter, leaf, settings) {
         Ok(predicate) => Some(predicate),
@@ -30,9 +30,9 @@ fn match_but_knn(filter: Filter, leaf: Leaf, settings: Settings) -> Option<Spati
 
 // Most leaves are passed without a call of a matcher, as in the walk for one.
 pub fn match_leaf(filter: Filter, leaf: Leaf, settings: Settings) -> Option<SpatialPredicate>
-    requires { LeafThere filter.s.now filter.rows.numbers.now filter.rows.next.now filter.rec leaf }
-    ensures { OfFrame filter.entry.s.now filter.entry.rec leaf.stop.at
-        (AnyMatchIs (match_under (settings_of settings)) filter.entry.s.now result) }
+    requires { LeafThere filter.tree.bytes.now filter.tree.nodes.now filter.rec leaf }
+    ensures { OfFrame filter.entry.tree.bytes.now filter.entry.rec leaf.stop.at
+        (AnyMatchIs (match_under (settings_of settings)) filter.entry.tree.bytes.now result) }
 {
     if is_passed(leaf.node) {
         return None;

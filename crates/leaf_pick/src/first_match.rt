@@ -5,7 +5,7 @@ ghost use Rattle.definitions.specs.Filter.Extract.{is_knn};
 ghost use Rattle.definitions.specs.Filter.Settings.{match_under};
 ghost use Rattle.expression.specs.Nodes.{OfTree};
 ghost use Rattle.leaf_matching.specs.Frames.{Framed, OfFrame};
-ghost use Rattle.node_rows.specs.Rows.{Tabled};
+ghost use Rattle.filter_tree.specs.Trees.{Noded};
 ghost use Rattle.leaf_matching.specs.Matches.{LeafMatching};
 ghost use Rattle.terms.specs.Settings.{settings_of};
 ghost use Rattle.leaf_pick.specs.Picks.{is_other, wants, LeafThere, LeafMatched, FoundIs};
@@ -49,7 +49,7 @@ pub struct Pick {
 // What a pass found below a node; if nothing, how many AND-leaves there are up to its end.
 pub type Found = ControlFlow<Pick, usize>;
 
-// A node that a walk comes to: where it stands, its index in the rows, and how many AND-leaves are before it.
+// A node that a walk comes to: where it stands, its index, and how many AND-leaves are before it.
 #[derive(Clone, Copy)]
 pub struct Stop {
     pub at: usize,
@@ -68,9 +68,9 @@ pub struct Leaf {
 // A leaf as KNN, which only a function is.
 #[inline]
 pub fn match_knn(filter: Filter, leaf: Leaf, settings: Settings) -> Matching
-    requires { LeafThere filter.s.now filter.rows.numbers.now filter.rows.next.now filter.rec leaf }
-    ensures { OfFrame filter.entry.s.now filter.entry.rec leaf.stop.at
-        (LeafMatched (match_under (settings_of settings)) is_knn filter.entry.s.now result) }
+    requires { LeafThere filter.tree.bytes.now filter.tree.nodes.now filter.rec leaf }
+    ensures { OfFrame filter.entry.tree.bytes.now filter.entry.rec leaf.stop.at
+        (LeafMatched (match_under (settings_of settings)) is_knn filter.entry.tree.bytes.now result) }
 {
     let Node::Call(called) = leaf.node else {
         return Err(NoMatch::NotAsked);
@@ -82,9 +82,9 @@ pub fn match_knn(filter: Filter, leaf: Leaf, settings: Settings) -> Matching
 // A leaf as a relation, else as a distance, whatever the settings.
 #[inline]
 fn match_relation_or_distance(filter: Filter, leaf: Leaf) -> Matching
-    requires { LeafThere filter.s.now filter.rows.numbers.now filter.rows.next.now filter.rec leaf }
-    ensures { OfFrame filter.entry.s.now filter.entry.rec leaf.stop.at
-        (LeafMatching is_other filter.entry.s.now result) }
+    requires { LeafThere filter.tree.bytes.now filter.tree.nodes.now filter.rec leaf }
+    ensures { OfFrame filter.entry.tree.bytes.now filter.entry.rec leaf.stop.at
+        (LeafMatching is_other filter.entry.tree.bytes.now result) }
 {
     let Node::Call(called) = leaf.node else {
         return match_distance_predicate(filter, leaf.stop.at, leaf.stop.index);
@@ -98,18 +98,18 @@ fn match_relation_or_distance(filter: Filter, leaf: Leaf) -> Matching
 // What the settings leave of it.
 #[inline]
 pub fn match_other(filter: Filter, leaf: Leaf, settings: Settings) -> Matching
-    requires { LeafThere filter.s.now filter.rows.numbers.now filter.rows.next.now filter.rec leaf }
-    ensures { OfFrame filter.entry.s.now filter.entry.rec leaf.stop.at
-        (LeafMatched (match_under (settings_of settings)) is_other filter.entry.s.now result) }
+    requires { LeafThere filter.tree.bytes.now filter.tree.nodes.now filter.rec leaf }
+    ensures { OfFrame filter.entry.tree.bytes.now filter.entry.rec leaf.stop.at
+        (LeafMatched (match_under (settings_of settings)) is_other filter.entry.tree.bytes.now result) }
 {
     only_allowed(settings, match_relation_or_distance(filter, leaf))
 }
 
 // A leaf as what the pass looks for.
 pub fn match_wanted(filter: Filter, leaf: Leaf, pass: Pass) -> Matching
-    requires { LeafThere filter.s.now filter.rows.numbers.now filter.rows.next.now filter.rec leaf }
-    ensures { OfFrame filter.entry.s.now filter.entry.rec leaf.stop.at
-        (LeafMatched (match_under (settings_of pass.settings)) (wants pass.wanted) filter.entry.s.now result) }
+    requires { LeafThere filter.tree.bytes.now filter.tree.nodes.now filter.rec leaf }
+    ensures { OfFrame filter.entry.tree.bytes.now filter.entry.rec leaf.stop.at
+        (LeafMatched (match_under (settings_of pass.settings)) (wants pass.wanted) filter.entry.tree.bytes.now result) }
 {
     match pass.wanted {
         Wanted::Knn => match_knn(filter, leaf, pass.settings),
@@ -119,11 +119,11 @@ pub fn match_wanted(filter: Filter, leaf: Leaf, pass: Pass) -> Matching
 
 // What a leaf is to a pass.
 pub fn leaf_match(filter: Filter, leaf: Leaf, pass: Pass, parent: usize) -> Found
-    requires leaf_there { LeafThere filter.s.now filter.rows.numbers.now filter.rows.next.now filter.rec leaf }
-    requires of_frame { OfFrame filter.s.now filter.rec leaf.stop.at (λ records t. leaves t ≡ t ∷ []) }
+    requires leaf_there { LeafThere filter.tree.bytes.now filter.tree.nodes.now filter.rec leaf }
+    requires of_frame { OfFrame filter.tree.bytes.now filter.rec leaf.stop.at (λ records t. leaves t ≡ t ∷ []) }
     requires position_le_at { leaf.stop.position ≤ leaf.stop.at }
-    ensures { OfFrame filter.entry.s.now filter.entry.rec leaf.stop.at
-        (FoundIs (match_under (settings_of pass.settings)) pass.wanted filter.entry.s.now
+    ensures { OfFrame filter.entry.tree.bytes.now filter.entry.rec leaf.stop.at
+        (FoundIs (match_under (settings_of pass.settings)) pass.wanted filter.entry.tree.bytes.now
         leaf.stop.at leaf.stop.position parent result) }
 {
     match match_wanted(filter, leaf, pass) {
@@ -132,7 +132,7 @@ pub fn leaf_match(filter: Filter, leaf: Leaf, pass: Pass, parent: usize) -> Foun
             position: leaf.stop.position,
             cut: Cut {
                 leaf: leaf.stop.at,
-                end: filter.rows.end(leaf.stop.index),
+                end: filter.tree.end(leaf.stop.index),
                 parent,
             },
         }),
@@ -143,17 +143,17 @@ pub fn leaf_match(filter: Filter, leaf: Leaf, pass: Pass, parent: usize) -> Foun
 // The first match that is wanted below a node; `parent` is where the And above it stands. A turn goes from an And to its right side: no
 // range has those, and a call for each would take its room on the stack.
 pub fn first_match(filter: Filter, pass: Pass, from: Stop, parent: usize) -> Found
-    requires framed { Framed filter.s.now filter.rec from.at }
-    requires of_tree { OfTree filter.s.now from.at (Tabled filter.rows.numbers.now filter.rows.next.now from.at from.index) }
+    requires framed { Framed filter.tree.bytes.now filter.rec from.at }
+    requires of_tree { OfTree filter.tree.bytes.now from.at (Noded filter.tree.nodes.now from.at from.index) }
     requires position_le_at { from.position ≤ from.at }
-    ensures { OfFrame filter.entry.s.now filter.entry.rec from.at
-        (FoundIs (match_under (settings_of pass.settings)) pass.wanted filter.entry.s.now
+    ensures { OfFrame filter.entry.tree.bytes.now filter.entry.rec from.at
+        (FoundIs (match_under (settings_of pass.settings)) pass.wanted filter.entry.tree.bytes.now
         from.at from.position parent result) }
 {
     let mut stop = from;
     let mut above = parent;
     loop {
-        let node = node_at(filter.s, stop.at);
+        let node = node_at(filter.tree.bytes, stop.at);
         let Node::And(left) = node else {
             return leaf_match(filter, Leaf { stop, node }, pass, above);
         };
@@ -166,8 +166,8 @@ pub fn first_match(filter: Filter, pass: Pass, from: Stop, parent: usize) -> Fou
         };
         let position = first_match(filter, pass, first, above)?;
         stop = Stop {
-            at: filter.rows.end(below),
-            index: filter.rows.after(below),
+            at: filter.tree.end(below),
+            index: filter.tree.after(below),
             position,
         };
     }

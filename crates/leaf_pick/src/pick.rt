@@ -2,11 +2,11 @@
 // which `engines-agree` is about and `oracle/engines` runs beside the one walk.
 // A port of `extract_spatial_predicate` and `extract_knn_predicate_prioritized` of
 // rust/sedona-query-planner/src/spatial_expr_utils.rs.
-// A node is given by its place and its index in the rows, which say where it ends and which node comes after it.
+// A node is given by its place and its index.
 ghost use Rattle.definitions.specs.Filter.Settings.{match_under};
 ghost use Rattle.expression.specs.Nodes.{OfTree};
 ghost use Rattle.leaf_matching.specs.Frames.{Framed, OfFrame};
-ghost use Rattle.node_rows.specs.Rows.{Tabled};
+ghost use Rattle.filter_tree.specs.Trees.{Noded};
 ghost use Rattle.terms.specs.Settings.{settings_of};
 ghost use Rattle.leaf_pick.specs.Picks.{FoundIs, PickedIs};
 
@@ -17,10 +17,10 @@ use terms::settings::Settings;
 
 // The first match that a pass is for, from the root on.
 fn from_root(filter: Filter, at: usize, i: usize, pass: Pass) -> Found
-    requires framed { Framed filter.s.now filter.rec at }
-    requires of_tree { OfTree filter.s.now at (Tabled filter.rows.numbers.now filter.rows.next.now at i) }
-    ensures { OfFrame filter.entry.s.now filter.entry.rec at
-        (FoundIs (match_under (settings_of pass.settings)) pass.wanted filter.entry.s.now at 0 at result) }
+    requires framed { Framed filter.tree.bytes.now filter.rec at }
+    requires of_tree { OfTree filter.tree.bytes.now at (Noded filter.tree.nodes.now at i) }
+    ensures { OfFrame filter.entry.tree.bytes.now filter.entry.rec at
+        (FoundIs (match_under (settings_of pass.settings)) pass.wanted filter.entry.tree.bytes.now at 0 at result) }
 {
     let root = Stop {
         at,
@@ -37,10 +37,10 @@ fn extract_knn_predicate_prioritized(
     i: usize,
     settings: Settings,
 ) -> Found
-    requires framed { Framed filter.s.now filter.rec at }
-    requires of_tree { OfTree filter.s.now at (Tabled filter.rows.numbers.now filter.rows.next.now at i) }
-    ensures { OfFrame filter.entry.s.now filter.entry.rec at
-        (FoundIs (match_under (settings_of settings)) Wanted.Knn filter.entry.s.now at 0 at result) }
+    requires framed { Framed filter.tree.bytes.now filter.rec at }
+    requires of_tree { OfTree filter.tree.bytes.now at (Noded filter.tree.nodes.now at i) }
+    ensures { OfFrame filter.entry.tree.bytes.now filter.entry.rec at
+        (FoundIs (match_under (settings_of settings)) Wanted.Knn filter.entry.tree.bytes.now at 0 at result) }
 {
     let wanted = Wanted::Knn;
     from_root(filter, at, i, Pass { wanted, settings })
@@ -53,10 +53,10 @@ pub fn extract_spatial_predicate(
     i: usize,
     settings: Settings,
 ) -> Option<Pick>
-    requires framed { Framed filter.s.now filter.rec at }
-    requires of_tree { OfTree filter.s.now at (Tabled filter.rows.numbers.now filter.rows.next.now at i) }
-    ensures { OfFrame filter.entry.s.now filter.entry.rec at
-        (PickedIs (match_under (settings_of settings)) filter.entry.s.now at result) }
+    requires framed { Framed filter.tree.bytes.now filter.rec at }
+    requires of_tree { OfTree filter.tree.bytes.now at (Noded filter.tree.nodes.now at i) }
+    ensures { OfFrame filter.entry.tree.bytes.now filter.entry.rec at
+        (PickedIs (match_under (settings_of settings)) filter.entry.tree.bytes.now at result) }
 {
     if let ControlFlow::Break(pick) = extract_knn_predicate_prioritized(filter, at, i, settings) {
         return Some(pick);

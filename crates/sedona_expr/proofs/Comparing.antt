@@ -7,7 +7,7 @@ use mathlib.Core.Path.{◌≡◌, refl, sym, ap, ◌∙◌, subst, subst⁻¹}
 use mathlib.Core.Bool.{Bool, true, false, ◌||◌}
 use mathlib.Core.List.{List}
 use mathlib.Core.Option.{none, some}
-use lib.ListN.{length, get_or}
+use lib.ListN.{length}
 use lib.Dec.{eqb}
 use borrow.Author.Tests.{ne_eqb}
 use Rattle.definitions.specs.Words.Basics.{ascii, same_name}
@@ -15,18 +15,19 @@ use Rattle.definitions.specs.Words.Expression.{Expr, nil, cons}
 use Rattle.definitions.specs.Bytes.Encode.{expr_bytes}
 use Rattle.definitions.specs.Words.Leaves.{compares, no_comparison, comparison, distance_arguments}
 use Rattle.definitions.specs.Bytes.Decode.{Columns}
+use Rattle.definitions.specs.Bytes.Good.{nodes as nodes_in}
 use Rattle.expression.specs.Places.{part}
 use Rattle.expression.specs.Nodes.{Stands, Row, Tree, OfTree}
-use Rattle.expression.specs.Leaves.{Pair, OfPair, CallIs, NodeIs, plain_column, plain_literal, plain_other, plain_field}
+use Rattle.expression.specs.Leaves.{Pair, CallIs, NodeIs, plain_column, plain_literal, plain_other, plain_field}
 use Rattle.expression.specs.declared.leaves.Called.{Called}
 use Rattle.expression.specs.declared.leaves.Node.{Node}
 use Rattle.expression.specs.declared.leaves.Node.TheVariants.{And, Binary, Call, Plain}
 use Rattle.expression.proofs.Standing.{first-stands}
 use Rattle.expression.proofs.Parts.{pair-right}
-use Rattle.node_rows.specs.Numbers.{start_at}
-use Rattle.node_rows.specs.Rows.{TabledAll}
-use Rattle.node_rows.proofs.RowLaws.{tabled-first, tabled-within}
-use Rattle.node_rows.proofs.IndexLaws.{Indexed, index-pair}
+use Rattle.node_table.specs.declared.NodeRecord.{NodeRecord as Lent}
+use Rattle.filter_tree.specs.Trees.{Node as Within, OfNode, Indexed, TreePair, OfTreePair}
+use Rattle.filter_tree.proofs.Children.{noded-first}
+use Rattle.filter_tree.proofs.Indexes.{index-first, index-second}
 use Rattle.sedona_expr.specs.Parsed.{compared, ComparedIs, DistanceIs}
 use Rattle.sedona_expr.specs.declared.utils.Compared.{Compared}
 
@@ -66,20 +67,20 @@ pub sides-found : {c : Columns} {s : List ℕ} {left : ℕ} {l r : Expr} → Row
 sides-found {c} {s} row right ends = told-sides (Stands c s) (first-stands row) (pair-right row right ends)
 
 -- The sides of two expressions that have indexes have them too.
-module _ {s numbers next : List ℕ} {i : ℕ}
-    (listed : OfPair s (start_at numbers i) (λ c l r. TabledAll numbers next (start_at numbers i) i (cons l (cons r nil)))) where
-  pub pair-within : Pair s (start_at numbers i) → i < length next
-  pair-within p = (tabled-within (tabled-first (listed _ _ _ p.3))).1
+module _ {s : List ℕ} {nodes : List Lent} {i : ℕ} where
+  pub pair-node : TreePair s nodes i → Within nodes i
+  pair-node p = (p.1, p.2, noded-first p.5)
 
-  pub index-sides : (operator : ℕ) {right : ℕ} {answer : Option Compared} → right ≡ get_or next i 0 → answer ≡ compared operator i right
-      → OfPair s (start_at numbers i) (λ c l r. ComparedIs (Indexed c s numbers next) answer (comparison operator l r))
-  index-sides operator e is c l r row =
-      let pair = index-pair row (listed c l r row) _ e in told-sides (Indexed c s numbers next) pair.0 pair.1 operator is
+  pub index-sides : (operator : ℕ) {right : ℕ} {answer : Option Compared} → OfNode nodes i (λ at t. right ≡ i + nodes_in t)
+      → answer ≡ compared operator i right
+      → OfTreePair s nodes i (λ c l r. ComparedIs (Indexed c s nodes) answer (comparison operator l r))
+  index-sides operator after is c at l r row h =
+      told-sides (Indexed c s nodes) (index-first row h) (index-second row h after) operator is
 
--- Each stands where its number says.
-pub starts : {c : Columns} {s numbers next : List ℕ} {k p : ℕ} {t : Expr} → Indexed c s numbers next k t → p ≡ start_at numbers k
+-- Each stands where its record says.
+pub starts : {c : Columns} {s : List ℕ} {nodes : List Lent} {k p : ℕ} {t : Expr} → Indexed c s nodes k t → OfNode nodes k (λ at t. p ≡ at)
     → Stands c s p t
-starts {c} {s} {t = t} h e = subst⁻¹ (λ p. Stands c s p t) e h.stands
+starts {c} {s} {t = t} h start = subst⁻¹ (λ p. Stands c s p t) (start h.at t h.noded) h.stands
 
 -- So there is something to measure.
 pub measured-there : {s : List ℕ} {left : ℕ} (pair : Pair s left) (right : ℕ) → OfTree s left (λ t. right ≡ left + length (expr_bytes t))

@@ -6,25 +6,24 @@ use native.Mathlib.Omega.{arith}
 use mathlib.Core.Path.{◌≡◌, refl, sym, ap, ◌∙◌, subst}
 use mathlib.Core.Bool.{Bool, true, false}
 use mathlib.Core.List.{List}
+use lib.ListN.{length}
 use mathlib.Core.Option.{Option, none, some, none-ne-some}
-use lib.ListN.{length, get_or}
 use Rattle.definitions.specs.Words.Basics.{ascii, same_name}
 use Rattle.definitions.specs.Words.Expression.{Relation, Expr, column, literal, and, binary, call, other, field, Exprs, nil, cons, count}
 use Rattle.definitions.specs.Words.Leaves.{Comparison, no_comparison, comparison, distance_arguments, relation_named}
 use Rattle.definitions.specs.Filter.Match.{relation_request, dwithin_request, knn_literals, knn_request, knn_request_by, call_request, call_request_by, distance_request, comparison_request, request, request_by}
 use Rattle.definitions.specs.Bytes.Decode.{Columns}
+use Rattle.definitions.specs.Bytes.Good.{nodes as nodes_in}
 use Rattle.theorems.proofs.Requests.{same-name}
 use Rattle.expression.specs.Places.{part}
 use Rattle.expression.specs.Nodes.{head_bytes, children_of, Row}
 use Rattle.expression.specs.Leaves.{Both, CallStands, CallIs, PlainNode, plain_column, plain_literal, plain_other, plain_field}
 use Rattle.expression.specs.declared.leaves.Called.{Called}
-use Rattle.expression.proofs.Standing.{first-stands}
 use Rattle.expression.proofs.Parts.{two-of, three-of}
-use Rattle.node_rows.specs.Numbers.{start_at, end_at}
-use Rattle.node_rows.specs.Rows.{Tabled, TabledAll, TwoTabled, OfTwo, TwoAre}
-use Rattle.node_rows.specs.declared.pairs.TwoExpressions.{TwoExpressions}
-use Rattle.node_rows.proofs.RowLaws.{tabled-end, tabled-next, tabled-within, tabled-first, second-tabled}
-use Rattle.node_rows.proofs.IndexLaws.{Indexed, index-spans, index-row, first-spans, second-spans, after-second, third-tabled}
+use Rattle.node_table.specs.declared.NodeRecord.{NodeRecord as Lent}
+use Rattle.filter_tree.specs.Trees.{NodedAll, Node, OfNode, Indexed}
+use Rattle.filter_tree.proofs.Children.{noded-first}
+use Rattle.filter_tree.proofs.Indexes.{index-first, index-node, index-second, row-more, noded-more, index-children}
 use Rattle.terms.specs.Forms.{form_number, FormIs}
 use Rattle.terms.specs.declared.refusals.Refusal.{Refusal}
 use Rattle.terms.specs.declared.forms.DistanceForm.{DistanceForm}
@@ -32,28 +31,13 @@ use Rattle.terms.specs.declared.forms.DistanceForm.TheVariants.{Dwithin}
 use Rattle.sedona_expr.specs.declared.utils.ParsedDistancePredicate.{ParsedDistancePredicate}
 use Rattle.sedona_expr.specs.Parsed.{SidesOf, Arguments, is_distance, Distance}
 
--- A distance whose geometries are these two, and whose bound stands from d to e; the first geometry has index i, the bound k.
-abbrev pub distance_at : DistanceForm → TwoExpressions → (d e i k : ℕ) → ParsedDistancePredicate
-distance_at form r d e i k = record {
-  form = form;
-  arg0 = r.start;
-  arg1 = r.middle;
-  arg1_end = r.end;
-  arg_distance = d;
-  distance_end = e;
-  arg0_index = i;
-  distance_index = k;
-}
+-- A distance of these indexes.
+abbrev pub distance_at : DistanceForm → (i j k : ℕ) → ParsedDistancePredicate
+distance_at form i j k = record { form = form; arg0 = i; arg1 = j; distance = k }
 
--- Both geometries are in the rows there.
-module _ {numbers next : List ℕ} {at i : ℕ} {a b : Expr} {more : Exprs} (h : TabledAll numbers next at i (cons a (cons b more)))
-    {r : TwoExpressions} (two : TwoAre i r at a b) where
-  first-rows : Tabled numbers next r.start i a
-  first-rows = subst (λ (p : ℕ). Tabled numbers next p i a) (sym two.start) (tabled-first h)
-
-  second-rows : Tabled numbers next r.middle (get_or next i 0) b
-  second-rows = subst (λ (p : ℕ). Tabled numbers next p (get_or next i 0) b) (sym two.middle)
-      (second-tabled h (get_or next i 0) (tabled-next (tabled-first h)))
+-- The index after the node of an index.
+abbrev After : (nodes : List Lent) (i j : ℕ) → Type 0
+After nodes i j = OfNode nodes i (λ at t. j ≡ i + nodes_in t)
 
 -- A form is the operator that it was read from, and none is read above 4.
 pub form-read : {n : ℕ} (read : Result DistanceForm Refusal) {form : DistanceForm} → FormIs n read → Some form ≡ result_ok read
@@ -98,8 +82,8 @@ module _ (form : ℕ) where
   not-compared e = rw e
 
   -- Its sides are told by their indexes.
-  module _ {c : Columns} {s numbers next : List ℕ} {measured bound : ℕ} {q : Comparison}
-      (sides : SidesOf (Indexed c s numbers next) measured bound q) where
+  module _ {c : Columns} {s : List ℕ} {nodes : List Lent} {measured bound : ℕ} {q : Comparison}
+      (sides : SidesOf (Indexed c s nodes) measured bound q) where
     asked : comparison_request form q ≡ distance_request form sides.b (distance_arguments sides.m)
     unfolding comparison_request
     asked = ap (comparison_request form) sides.is
@@ -120,30 +104,24 @@ module _ (form : ℕ) where
           (λ a b more is same. f a b more is same) found.all (omega (arith, found.row.counted)) found.is
           (argument-children sides.m found.all found.is)
 
-      pub two-measured : 2 ≤ n → TwoTabled numbers next (measured + 1)
-      two-measured = measured-two (λ args. TwoTabled numbers next (measured + 1))
+      pub first-measured : 2 ≤ n → Node nodes (measured + 1)
+      first-measured = measured-two (λ args. Node nodes (measured + 1))
           (λ a b more is same. (
-            start_at numbers measured + length (head_bytes sides.m),
+            sides.stands_measured.at + length (head_bytes sides.m),
             a,
-            b,
-            more,
-            subst (TabledAll numbers next (start_at numbers measured + length (head_bytes sides.m)) (measured + 1)) same
-                (index-row sides.stands_measured).1,
+            noded-first (subst (NodedAll nodes (sides.stands_measured.at + length (head_bytes sides.m)) (measured + 1)) same
+                (index-children sides.stands_measured).1),
           ))
 
-      pub compared-distance : 2 ≤ n → {r : TwoExpressions} → OfTwo numbers next (measured + 1) (TwoAre (measured + 1) r)
-          → (kind : DistanceForm) → form ≡ form_number kind
-          → (d e : ℕ) → d ≡ start_at numbers bound → e ≡ end_at numbers bound
-          → Distance c s numbers next (distance_at kind r d e (measured + 1) bound) (comparison_request form q)
+      pub compared-distance : 2 ≤ n → {j : ℕ} → After nodes (measured + 1) j → (kind : DistanceForm) → form ≡ form_number kind
+          → Distance c s nodes (distance_at kind (measured + 1) j bound) (comparison_request form q)
       unfolding distance_request
-      compared-distance h {r} told kind named d e start end = measured-two
-          (λ args. Distance c s numbers next (distance_at kind r d e (measured + 1) bound) (comparison_request form q))
+      compared-distance h {j} after kind named = measured-two
+          (λ args. Distance c s nodes (distance_at kind (measured + 1) j bound) (comparison_request form q))
           (λ a b more is same.
-          let place : ℕ = start_at numbers measured + length (head_bytes sides.m) in
-          let both = index-row sides.stands_measured in
-          let tabled : TabledAll numbers next place (measured + 1) (cons a (cons b more)) =
-          subst (TabledAll numbers next place (measured + 1)) same both.1 in
-          let two : TwoAre (measured + 1) r place a b = told place a b more tabled in
+          let place : ℕ = sides.stands_measured.at + length (head_bytes sides.m) in
+          let both = index-children sides.stands_measured in
+          let noded : NodedAll nodes place (measured + 1) (cons a (cons b more)) = subst (NodedAll nodes place (measured + 1)) same both.1 in
           let row : Row c s place (count (children_of sides.m)) (cons a (cons b more)) =
           subst (Row c s place (count (children_of sides.m))) same both.0 in
           record {
@@ -151,12 +129,9 @@ module _ (form : ℕ) where
             b = b;
             bound = sides.b;
             is = asked ∙ rw (is, named);
-            arg0 = first-spans row two;
-            arg1 = second-spans row two (omega (arith, ap count same, more-count a b more));
-            arg_distance = index-spans sides.stands_bound d e start end;
-            arg0_rows = first-rows tabled two;
-            arg1_rows = second-rows tabled two;
-            distance_rows = subst (λ (p : ℕ). Tabled numbers next p bound sides.b) (sym start) sides.stands_bound.tabled;
+            arg0 = index-first row noded;
+            arg1 = index-second row noded after;
+            distance = sides.stands_bound;
           }) h
 
 -- ---- functions
@@ -216,43 +191,31 @@ module _ {c : Columns} {s : List ℕ} {k : Called} {name : List ℕ} {args : Exp
     pub dwithin-too-few : k.count < 3 → is_distance (call_request name args) ≡ false
     dwithin-too-few h = rw (dwithin-asked name args (named ∙ f)) (few-dwithin args (omega (arith, st.row.counted)))
 
-    pub two-given : {numbers next : List ℕ} {i : ℕ} → TabledAll numbers next k.first i args → 3 ≤ k.count → TwoTabled numbers next i
-    two-given {numbers} {next} {i} tabled h = two-of (λ args. TabledAll numbers next k.first i args → TwoTabled numbers next i)
-        (λ a b more t. (k.first, a, b, more, t)) args (omega (arith, st.row.counted)) tabled
+    module _ {nodes : List Lent} {i : ℕ} (noded : NodedAll nodes k.first i args) (h : 3 ≤ k.count) where
+      pub first-given : Node nodes i
+      first-given = two-of (λ args. NodedAll nodes k.first i args → Node nodes i)
+          (λ a b more t. (k.first, a, noded-first t)) args (omega (arith, st.row.counted)) noded
 
-    pub dwithin-distance : 3 ≤ k.count → {numbers next : List ℕ} {i : ℕ} → TabledAll numbers next k.first i args → {r : TwoExpressions}
-        → OfTwo numbers next i (TwoAre i r) → (e : ℕ) → e ≡ end_at numbers r.after
-        → Distance c s numbers next (distance_at Dwithin r r.end e i r.after) (call_request name args)
-    unfolding dwithin_request
-    dwithin-distance h {numbers} {next} {i} tabled {r} told e end = three-of
-        (λ args. Row c s k.first k.count args → TabledAll numbers next k.first i args → call_request name args ≡ dwithin_request args
-        → Distance c s numbers next (distance_at Dwithin r r.end e i r.after) (call_request name args))
-        (λ a b d more row t is.
-        let two : TwoAre i r k.first a b = told k.first a b (cons d more) t in
-        record {
-          a = a;
-          b = b;
-          bound = d;
-          is = is;
-          arg0 = first-spans row two;
-          arg1 = second-spans row two (omega arith);
-          arg_distance = record {
-            stands = first-stands (after-second row two (omega arith));
-            ends = end ∙ tabled-end (third-tabled t two);
-          };
-          arg0_rows = first-rows t two;
-          arg1_rows = second-rows t two;
-          distance_rows = third-tabled t two;
-        })
-        args (omega (arith, st.row.counted)) st.row tabled (dwithin-asked name args (named ∙ f))
+      module _ {j : ℕ} (after : After nodes i j) where
+        pub second-given : Node nodes j
+        second-given = two-of (λ args. Row c s k.first k.count args → NodedAll nodes k.first i args → Node nodes j)
+            (λ a b more row t. index-node (index-second row t after)) args (omega (arith, st.row.counted)) st.row noded
 
-    -- The third argument has a place in the rows.
-    pub third-within : 3 ≤ k.count → {numbers next : List ℕ} {i : ℕ} → TabledAll numbers next k.first i args → {r : TwoExpressions}
-        → OfTwo numbers next i (TwoAre i r) → r.after < length numbers
-    third-within h {numbers} {next} {i} tabled {r} told = three-of
-        (λ args. TabledAll numbers next k.first i args → r.after < length numbers)
-        (λ a b d more t. (tabled-within (third-tabled t (told k.first a b (cons d more) t))).0)
-        args (omega (arith, st.row.counted)) tabled
+        pub dwithin-distance : {d : ℕ} → After nodes j d → Distance c s nodes (distance_at Dwithin i j d) (call_request name args)
+        unfolding dwithin_request
+        dwithin-distance {d} last = three-of
+            (λ args. Row c s k.first k.count args → NodedAll nodes k.first i args → call_request name args ≡ dwithin_request args
+            → Distance c s nodes (distance_at Dwithin i j d) (call_request name args))
+            (λ a b e more row t is. record {
+              a = a;
+              b = b;
+              bound = e;
+              is = is;
+              arg0 = index-first row t;
+              arg1 = index-second row t after;
+              distance = index-second (row-more row t after) (noded-more row t after) last;
+            })
+            args (omega (arith, st.row.counted)) st.row noded (dwithin-asked name args (named ∙ f))
 
 -- ---- any node
 

@@ -1,13 +1,14 @@
 -- What the answers about distances say of the definitions' requests.
-use Rattle.std.specs.Prelude.{ℕ, ◌≡◌, get_or, Bool, true, false, ◌||◌, List, eqb, if◌then◌else◌, Option, Some, None}
+use Rattle.std.specs.Prelude.{ℕ, ◌≡◌, Bool, true, false, ◌||◌, List, eqb, if◌then◌else◌, Option, Some, None}
 use Rattle.std.proofs.Math.Option as optional
 use Rattle.definitions.specs.Words.Expression.{Expr, Exprs}
 use Rattle.definitions.specs.Words.Leaves as definitions
 use Rattle.definitions.specs.Filter.Match.{Request, ask_relation, ask_distance, ask_knn, ask_nothing}
 use Rattle.definitions.specs.Bytes.Decode.{Columns}
 use Rattle.terms.specs.Forms.{form_number}
-use Rattle.expression.specs.Nodes.{Spans, Row}
-use Rattle.node_rows.specs.Rows.{Tabled}
+use Rattle.expression.specs.Nodes.{Row}
+use Rattle.node_table.specs.declared.NodeRecord.{NodeRecord as Lent}
+use Rattle.filter_tree.specs.Trees.{Indexed}
 use Rattle.expression.specs.declared.leaves.Called.{Called}
 use Rattle.sedona_expr.specs.declared.utils.Compared.{Compared}
 use Rattle.sedona_expr.specs.declared.utils.ParsedDistancePredicate.{ParsedDistancePredicate}
@@ -53,19 +54,16 @@ is_distance (ask_distance form a b bound) = true
 is_distance (ask_knn k spheroid ties a b) = false
 is_distance ask_nothing = false
 
--- A distance of this form whose arguments stand at these places, and are in the rows at these indexes.
-pub record Distance (c : Columns) (s numbers next : List ℕ) (p : ParsedDistancePredicate) (q : Request) : Type 0 where
+-- A distance of this form whose arguments have these indexes.
+pub record Distance (c : Columns) (s : List ℕ) (nodes : List Lent) (p : ParsedDistancePredicate) (q : Request) : Type 0 where
   pub a : Expr
   pub b : Expr
   pub bound : Expr
   pub is : q ≡ ask_distance (form_number p.form) a b bound
-  pub arg0 : Spans c s p.arg0 p.arg1 a
-  pub arg1 : Spans c s p.arg1 p.arg1_end b
-  pub arg_distance : Spans c s p.arg_distance p.distance_end bound
-  pub arg0_rows : Tabled numbers next p.arg0 p.arg0_index a
-  pub arg1_rows : Tabled numbers next p.arg1 (get_or next p.arg0_index 0) b
-  pub distance_rows : Tabled numbers next p.arg_distance p.distance_index bound
+  pub arg0 : Indexed c s nodes p.arg0 a
+  pub arg1 : Indexed c s nodes p.arg1 b
+  pub distance : Indexed c s nodes p.distance bound
 
-abbrev pub ParsedIs : Columns → (s numbers next : List ℕ) → Option ParsedDistancePredicate → Request → Type 0
-ParsedIs c s numbers next (Some p) q = Distance c s numbers next p q
-ParsedIs c s numbers next None q = is_distance q ≡ false
+abbrev pub ParsedIs : Columns → (s : List ℕ) → List Lent → Option ParsedDistancePredicate → Request → Type 0
+ParsedIs c s nodes (Some p) q = Distance c s nodes p q
+ParsedIs c s nodes None q = is_distance q ≡ false

@@ -1,23 +1,25 @@
 -- What each return of `match_distance_predicate` answers, and what its calls require.
 use Rattle.std.specs.Prelude.{Some, None, Ok, Err}
-use Prim.Native.Nat.{ℕ, ◌<◌}
+use Prim.Native.Nat.{ℕ, ◌+◌}
 use native.Mathlib.Omega.{arith}
 use mathlib.Core.Path.{◌≡◌, refl, sym, ap, ap₂, ◌∙◌}
 use mathlib.Core.Bool.{false}
 use mathlib.Core.List.{List}
 use mathlib.Core.Option as optional
 use mathlib.Core.Option.{none, some}
-use lib.ListN.{length, get_or}
+use lib.ListN.{length}
 use Rattle.definitions.specs.Words.Expression.{Expr, Record, Predicate, distance}
 use Rattle.sedona_query_planner.specs.Predicates.{bound_on, on_children, ArgumentAt}
+use Rattle.definitions.specs.Bytes.Encode.{expr_bytes}
 use Rattle.definitions.specs.Bytes.Decode.{index_below}
 use Rattle.definitions.specs.Filter.Match as definition
 use Rattle.definitions.specs.Filter.Match.{request, side_of, order_of, on_child, store_distance, match_distance, match_request, match_leaf, match_leaf_by}
-use Rattle.expression.specs.Nodes.{Stands, Spans, OfTreeIn}
+use Rattle.expression.specs.Nodes.{OfTreeIn}
 use Rattle.sedona_expr.specs.Parsed as parsed
 use Rattle.sedona_expr.specs.declared.utils.ParsedDistancePredicate.{ParsedDistancePredicate}
-use Rattle.node_rows.specs.Rows.{Tabled}
-use Rattle.node_rows.proofs.RowLaws.{tabled-next, tabled-within}
+use Rattle.node_table.specs.declared.NodeRecord.{NodeRecord as Lent}
+use Rattle.filter_tree.specs.Trees.{Node, OfNode, Indexed}
+use Rattle.filter_tree.proofs.Indexes.{index-node, index-spans}
 use Rattle.leaf_matching.specs.Frames as frames
 use Rattle.leaf_matching.specs.Frames.{Over, Framed, Argued, OfArgument}
 use Rattle.terms.specs.Forms.{form_number}
@@ -74,75 +76,79 @@ module _ (records : List Record) (form : ℕ) (a b bound : Expr) where
 -- ---- its arguments
 
 -- What was parsed is what the leaf asks for.
-abbrev pub Parses : (s numbers next : List ℕ) → (at : ℕ) → ParsedDistancePredicate → Type 0
-Parses s numbers next at p = OfTreeIn s at (λ c t. parsed.Distance c s numbers next p (request t))
+abbrev pub Parses : (s : List ℕ) → List Lent → (at : ℕ) → ParsedDistancePredicate → Type 0
+Parses s nodes at p = OfTreeIn s at (λ c t. parsed.Distance c s nodes p (request t))
 
 -- They have indexes.
-module _ {s numbers next : List ℕ} {rec at : ℕ} {p : ParsedDistancePredicate} (asked : Parses s numbers next at p) where
-  rows-at : {i q : ℕ} {records : List Record} {t e : Expr} → Over s rec at records t → Stands (index_below (length records)) s q e
-      → Tabled numbers next q i e → frames.ArgumentAt s rec numbers next i (get_or next i 0) records e
-  rows-at over stands tabled = record {
-    at = _;
-    over = record { entries = over.entries; tree = stands };
-    tabled = tabled;
-    ends = tabled-next tabled;
-  }
+module _ {s : List ℕ} {nodes : List Lent} {rec at : ℕ} {p : ParsedDistancePredicate} (asked : Parses s nodes at p) where
+  argument-of : {i : ℕ} {records : List Record} {t e : Expr} → Over s rec at records t → Indexed (index_below (length records)) s nodes i e
+      → frames.ArgumentAt s rec nodes i records e
+  argument-of over h = record { at = h.at; over = record { entries = over.entries; tree = h.stands }; noded = h.noded }
 
   module _ {records : List Record} {t : Expr} (over : Over s rec at records t) where
-    abbrev pub asks : parsed.Distance (index_below (length records)) s numbers next p (request t)
+    abbrev pub asks : parsed.Distance (index_below (length records)) s nodes p (request t)
     asks = asked _ t over.tree
 
-    pub arg0-rows : frames.ArgumentAt s rec numbers next p.arg0_index (get_or next p.arg0_index 0) records asks.a
-    arg0-rows = rows-at over asks.arg0.stands asks.arg0_rows
+    pub arg0-at : frames.ArgumentAt s rec nodes p.arg0 records asks.a
+    arg0-at = argument-of over asks.arg0
 
-    pub arg1-rows : frames.ArgumentAt s rec numbers next (get_or next p.arg0_index 0) (get_or next (get_or next p.arg0_index 0) 0)
-        records asks.b
-    arg1-rows = rows-at over asks.arg1.stands asks.arg1_rows
+    pub arg1-at : frames.ArgumentAt s rec nodes p.arg1 records asks.b
+    arg1-at = argument-of over asks.arg1
 
-    pub distance-rows : frames.ArgumentAt s rec numbers next p.distance_index (get_or next p.distance_index 0) records asks.bound
-    distance-rows = rows-at over asks.arg_distance.stands asks.distance_rows
+    pub distance-at : frames.ArgumentAt s rec nodes p.distance records asks.bound
+    distance-at = argument-of over asks.distance
 
   module _ (framed : Framed s rec at) where
-    pub arg0-within : p.arg0_index < length next
-    arg0-within = (tabled-within (asks framed.2).arg0_rows).1
+    pub arg0-argued : Argued s rec nodes p.arg0
+    arg0-argued = (framed.0, _, arg0-at framed.2)
 
-    pub arg0-argued : Argued s rec numbers next p.arg0_index (get_or next p.arg0_index 0)
-    arg0-argued = (framed.0, _, arg0-rows framed.2)
+    pub arg1-argued : Argued s rec nodes p.arg1
+    arg1-argued = (framed.0, _, arg1-at framed.2)
 
-    pub arg1-argued : (k : ℕ) → k ≡ get_or next p.arg0_index 0 → Argued s rec numbers next k (get_or next k 0)
-    arg1-argued k e = rw e (framed.0, _, arg1-rows framed.2)
+    pub distance-argued : Argued s rec nodes p.distance
+    distance-argued = (framed.0, _, distance-at framed.2)
 
-    pub distance-argued : Argued s rec numbers next p.distance_index (get_or next p.distance_index 0)
-    distance-argued = (framed.0, _, distance-rows framed.2)
+    pub arg0-node : Node nodes p.arg0
+    arg0-node = index-node (asks framed.2).arg0
+
+    pub arg1-node : Node nodes p.arg1
+    arg1-node = index-node (asks framed.2).arg1
+
+    pub distance-node : Node nodes p.distance
+    distance-node = index-node (asks framed.2).distance
 
 -- The side of the argument of an index.
-abbrev pub SideAt : (s : List ℕ) (rec : ℕ) (numbers next : List ℕ) (i : ℕ) → Sides → Type 0
-SideAt s rec numbers next i x = OfArgument s rec numbers next i (get_or next i 0) (λ records t. argument_side x ≡ side_of records t)
+abbrev pub SideAt : (s : List ℕ) (rec : ℕ) (nodes : List Lent) (i : ℕ) → Sides → Type 0
+SideAt s rec nodes i x = OfArgument s rec nodes i (λ records t. argument_side x ≡ side_of records t)
+
+-- Where the node of an index starts and ends.
+abbrev Between : (nodes : List Lent) (i start end : ℕ) → Type 0
+Between nodes i start end = OfNode nodes i (λ at t. start ≡ at) × OfNode nodes i (λ at t. end ≡ at + length (expr_bytes t))
 
 -- What is known once the arguments are read.
-pub record Walked (s numbers next : List ℕ) (rec at : ℕ) (p : ParsedDistancePredicate) (x y d : Sides) : Type 0 where
-  pub asked : Parses s numbers next at p
-  pub first : SideAt s rec numbers next p.arg0_index x
-  pub second : SideAt s rec numbers next (get_or next p.arg0_index 0) y
-  pub limit : SideAt s rec numbers next p.distance_index d
+pub record Walked (s : List ℕ) (nodes : List Lent) (rec at : ℕ) (p : ParsedDistancePredicate) (x y d : Sides) : Type 0 where
+  pub asked : Parses s nodes at p
+  pub first : SideAt s rec nodes p.arg0 x
+  pub second : SideAt s rec nodes p.arg1 y
+  pub limit : SideAt s rec nodes p.distance d
 
-module _ {s numbers next : List ℕ} {rec at : ℕ} {p : ParsedDistancePredicate} {x y d : Sides} (w : Walked s numbers next rec at p x y d)
+module _ {s : List ℕ} {nodes : List Lent} {rec at : ℕ} {p : ParsedDistancePredicate} {x y d : Sides} (w : Walked s nodes rec at p x y d)
     {records : List Record} {t : Expr} (over : Over s rec at records t) where
-  abbrev it : parsed.Distance (index_below (length records)) s numbers next p (request t)
+  abbrev it : parsed.Distance (index_below (length records)) s nodes p (request t)
   it = asks w.asked over
 
-  -- An argument, and its side.
-  spans : {q end : ℕ} {e : Expr} → Spans (index_below (length records)) s q end e → ArgumentAt (on_children records) s q end e
-  spans it = record { stands = it.stands; ends = it.ends }
+  spans : {i q end : ℕ} {e : Expr} → Indexed (index_below (length records)) s nodes i e → Between nodes i q end
+      → ArgumentAt (on_children records) s q end e
+  spans h is = let it = index-spans h is.0 is.1 in record { stands = it.stands; ends = it.ends }
 
   side-d : side_of records it.bound ≡ argument_side d
-  side-d = sym (w.limit records it.bound (distance-rows w.asked over))
+  side-d = sym (w.limit records it.bound (distance-at w.asked over))
 
   side-x : side_of records it.a ≡ argument_side x
-  side-x = sym (w.first records it.a (arg0-rows w.asked over))
+  side-x = sym (w.first records it.a (arg0-at w.asked over))
 
   side-y : side_of records it.b ≡ argument_side y
-  side-y = sym (w.second records it.b (arg1-rows w.asked over))
+  side-y = sym (w.second records it.b (arg1-at w.asked over))
 
   distance-match : match_leaf records t
       ≡ match_distance records (form_number p.form) (on_child records it.a) (on_child records it.b) it.bound (argument_side d)
@@ -169,41 +175,44 @@ module _ {s numbers next : List ℕ} {rec at : ℕ} {p : ParsedDistancePredicate
     distance-neither lie = known-match lie
 
     -- Two geometries in their places, and the bound.
-    abbrev distance_at : (left left_end right right_end : ℕ) → SpatialPredicate
-    distance_at left left_end right right_end = Distance (record {
+    abbrev distance_from : (left left_end right right_end limit limit_end : ℕ) → SpatialPredicate
+    distance_from left left_end right right_end limit limit_end = Distance (record {
       left = left;
       left_end = left_end;
       right = right;
       right_end = right_end;
-      distance = p.arg_distance;
-      distance_end = p.distance_end;
+      distance = limit;
+      distance_end = limit_end;
       distance_side = side;
       form = p.form;
     })
 
-    stored : {l r : Expr} {left left_end right right_end : ℕ} → ArgumentAt (on_children records) s left left_end l
-        → ArgumentAt (on_children records) s right right_end r
-        → match_leaf records t
-        ≡ some (distance (form_number p.form) (join_side side) (on_child records l) (on_child records r)
-        (bound_on records (join_side side) it.bound))
-        → LeafMatching is_distance s (Ok (distance_at left left_end right right_end)) records t
-    unfolding is_distance bound_on
-    stored {l} {r} a b m =
-        record {
-          q = distance (form_number p.form) (join_side side) (on_child records l) (on_child records r)
-              (bound_on records (join_side side) it.bound);
-          is = m;
-          passes = refl;
-          stands =
-              record { l = l; r = r; bound = it.bound; left = a; right = b; limit = spans it.arg_distance; is = refl };
-        }
+    module _ {left left_end right right_end limit limit_end : ℕ} (far : Between nodes p.distance limit limit_end) where
+      -- The geometries that are stored have these indexes.
+      stored : {i j : ℕ} {l r : Expr} → Indexed (index_below (length records)) s nodes i l → Indexed (index_below (length records)) s nodes j r
+          → Between nodes i left left_end → Between nodes j right right_end
+          → match_leaf records t
+          ≡ some (distance (form_number p.form) (join_side side) (on_child records l) (on_child records r)
+          (bound_on records (join_side side) it.bound))
+          → LeafMatching is_distance s (Ok (distance_from left left_end right right_end limit limit_end)) records t
+      unfolding is_distance bound_on
+      stored {l = l} {r = r} a b one two m = record {
+        q = distance (form_number p.form) (join_side side) (on_child records l) (on_child records r)
+            (bound_on records (join_side side) it.bound);
+        is = m;
+        passes = refl;
+        stands =
+            record { l = l; r = r; bound = it.bound; left = spans a one; right = spans b two; limit = spans it.distance far; is = refl };
+      }
 
-    pub distance-left : definition.left_right ≡ order_of (argument_side x) (argument_side y)
-        → LeafMatching is_distance s (Ok (distance_at p.arg0 p.arg1 p.arg1 p.arg1_end)) records t
-    unfolding store_distance
-    distance-left lie = stored (spans it.arg0) (spans it.arg1) (known-match lie)
+      pub distance-left : Between nodes p.arg0 left left_end → Between nodes p.arg1 right right_end
+          → definition.left_right ≡ order_of (argument_side x) (argument_side y)
+          → LeafMatching is_distance s (Ok (distance_from left left_end right right_end limit limit_end)) records t
+      unfolding store_distance
+      distance-left one two lie = stored it.arg0 it.arg1 one two (known-match lie)
 
-    pub distance-right : definition.right_left ≡ order_of (argument_side x) (argument_side y)
-        → LeafMatching is_distance s (Ok (distance_at p.arg1 p.arg1_end p.arg0 p.arg1)) records t
-    unfolding store_distance
-    distance-right lie = stored (spans it.arg1) (spans it.arg0) (known-match lie)
+      pub distance-right : Between nodes p.arg1 left left_end → Between nodes p.arg0 right right_end
+          → definition.right_left ≡ order_of (argument_side x) (argument_side y)
+          → LeafMatching is_distance s (Ok (distance_from left left_end right right_end limit limit_end)) records t
+      unfolding store_distance
+      distance-right one two lie = stored it.arg1 it.arg0 one two (known-match lie)

@@ -17,7 +17,10 @@ use Rattle.leaf_matching.specs.Sides.{order, GeometriesAre}
 use Rattle.sedona_query_planner.specs.Predicates.{bound_on, flag, ties_number}
 use Rattle.leaf_matching.specs.KnnOptions.{asked, OptionsAre}
 use Rattle.leaf_matching.specs.Matches.{Lacks, CallMatchingBy}
-use Rattle.leaf_matching.specs.Frames.{OfFrameTwo, CallOver}
+use Rattle.expression.specs.Leaves.{OfCall}
+use Rattle.node_table.specs.declared.NodeRecord.{NodeRecord as Lent}
+use Rattle.filter_tree.specs.Trees.{NodedAll}
+use Rattle.leaf_matching.specs.Frames.{OfArgumentTwo, CallOver}
 use Rattle.leaf_matching.specs.declared.matching.NoMatch.TheVariants.{Unmatched}
 use Rattle.terms.specs.declared.sides.JoinSide.TheVariants.{Left, Right}
 use Rattle.leaf_matching.specs.declared.sides.Order.{Order}
@@ -80,16 +83,18 @@ knn_at at g options side = KNearestNeighbors (record {
 })
 
 -- What is known once the geometries and the options are read.
-pub record Walked (d : ℕ) (s : List ℕ) (rec : ℕ) (k : Called) (g : Geometries) (read : Option KnnOptions) : Type 0 where
+pub record Walked (d : ℕ) (s : List ℕ) (nodes : List Lent) (rec i : ℕ) (k : Called) (g : Geometries) (read : Option KnnOptions) : Type 0 where
   pub same : true ≡ same_name (part s k.name k.end) (ascii "st_knn")
   pub enough : 2 ≤ k.count
-  pub geometries : OfFrameTwo s rec k.first (GeometriesAre k.first g)
+  pub noded : OfCall s k (λ c name. NodedAll nodes k.first i)
+  pub geometries : OfArgumentTwo s rec nodes i (λ at. GeometriesAre at g)
   pub options : OfTrees s g.end (k.count - 2) (OptionsAre d read)
 
-module _ {d : ℕ} {s : List ℕ} {rec : ℕ} {k : Called} {g : Geometries} {read : Option KnnOptions} (w : Walked d s rec k g read)
+module _ {d : ℕ} {s : List ℕ} {nodes : List Lent} {rec i : ℕ} {k : Called} {g : Geometries} {read : Option KnnOptions}
+    (w : Walked d s nodes rec i k g read)
     {records : List Record} {name : List ℕ} {ts : Exprs} (over : CallOver s rec k records name ts) where
   pair : Pair s rec k.first k.count records g ts
-  pair = call-pair g w.geometries w.enough ts over
+  pair = call-pair w.noded w.enough g w.geometries ts over
 
   knn-asks : match_leaf_by d records (call name ts) ≡ match_request records (asked read pair.a pair.b)
   knn-asks = knn-leaf d records name ts (named over true (ascii "st_knn") w.same)

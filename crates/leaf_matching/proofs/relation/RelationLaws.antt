@@ -17,7 +17,10 @@ use Rattle.expression.specs.Places.{part}
 use Rattle.expression.specs.declared.leaves.Called.{Called}
 use Rattle.sedona_query_planner.specs.Relations.{relation_of}
 use Rattle.sedona_query_planner.specs.declared.spatial_predicate.SpatialRelationType.{SpatialRelationType}
-use Rattle.leaf_matching.specs.Frames.{OfFrameTwo, CallOver}
+use Rattle.expression.specs.Leaves.{OfCall}
+use Rattle.node_table.specs.declared.NodeRecord.{NodeRecord as Lent}
+use Rattle.filter_tree.specs.Trees.{NodedAll}
+use Rattle.leaf_matching.specs.Frames.{OfArgumentTwo, CallOver}
 use Rattle.leaf_matching.specs.Sides.{order, GeometriesAre}
 use Rattle.leaf_matching.specs.Matches.{is_relation, Lacks, CallMatching}
 use Rattle.leaf_matching.specs.declared.sides.Geometries.{Geometries}
@@ -68,15 +71,17 @@ relation_at left left_end right right_end type = Relation (record {
 })
 
 -- What is known once the geometries are read.
-pub record Walked (s : List ℕ) (rec : ℕ) (k : Called) (g : Geometries) (type : SpatialRelationType) : Type 0 where
+pub record Walked (s : List ℕ) (nodes : List Lent) (rec i : ℕ) (k : Called) (g : Geometries) (type : SpatialRelationType) : Type 0 where
   pub named : relation_named (part s k.name k.end) ≡ some (relation_of type)
   pub enough : 2 ≤ k.count
-  pub geometries : OfFrameTwo s rec k.first (GeometriesAre k.first g)
+  pub noded : OfCall s k (λ c name. NodedAll nodes k.first i)
+  pub geometries : OfArgumentTwo s rec nodes i (λ at. GeometriesAre at g)
 
-module _ {s : List ℕ} {rec : ℕ} {k : Called} {g : Geometries} {type : SpatialRelationType} (w : Walked s rec k g type)
+module _ {s : List ℕ} {nodes : List Lent} {rec i : ℕ} {k : Called} {g : Geometries} {type : SpatialRelationType}
+    (w : Walked s nodes rec i k g type)
     {records : List Record} {name : List ℕ} {ts : Exprs} (over : CallOver s rec k records name ts) where
   pair : Pair s rec k.first k.count records g ts
-  pair = call-pair g w.geometries w.enough ts over
+  pair = call-pair w.noded w.enough g w.geometries ts over
 
   relation-match : (o : Option Order) → g.order ≡ o
       → match_leaf records (call name ts) ≡ match_relation (relation_of type) (on_child records pair.a) (on_child records pair.b) (order o)

@@ -1,22 +1,22 @@
 -- `match_distance_predicate`: the parsed arguments stand in the frame, so their sides are those of the definition.
 use Rattle.leaf_matching.proofs.Missing.{missed}
-use Rattle.leaf_matching.proofs.distance.DistanceLaws.{no_distance, Parses, Walked, distance-argued, arg0-within, arg0-argued, arg1-argued, distance-undefined, distance-neither, distance-left, distance-right}
+use Rattle.leaf_matching.proofs.distance.DistanceLaws.{no_distance, Parses, Walked, distance-argued, arg0-argued, arg1-argued, distance-undefined, distance-neither, distance-left, distance-right}
 use Rattle.leaf_matching.proofs.distance.match_distance_predicate.Goals as goal
-use Rattle.leaf_matching.proofs.distance.match_distance_predicate.Goals.{In_ok-parsed, After-side_of_column_references-arg1}
+use Rattle.leaf_matching.proofs.distance.match_distance_predicate.Goals.{In_ok-parsed, After-side_of_column_references-arg1, in-LeftRight, in-RightLeft}
 
 asked : (c : In_ok-parsed)
-    → let f = c.args.filter in Parses f.s.now f.rows.numbers.now f.rows.next.now c.args.at c.in_ok-parsed.parsed
+    → let f = c.args.filter in Parses f.tree.bytes.now f.tree.nodes.now c.args.at c.in_ok-parsed.parsed
 asked c = rw c.in_ok-parsed.ensures.ok_part at c.parse_distance_predicate.ensures
 
 walked : (c : After-side_of_column_references-arg1)
     → let f = c.args.filter in
-    Walked f.s.now f.rows.numbers.now f.rows.next.now f.rec c.args.at c.in_ok-parsed.parsed c.side_of_column_references-arg0.result
+    Walked f.tree.bytes.now f.tree.nodes.now f.rec c.args.at c.in_ok-parsed.parsed c.side_of_column_references-arg0.result
     c.side_of_column_references-arg1.result c.side_of_column_references-distance.result
 walked c =
     record {
       asked = rw c.in_ok-parsed.ensures.ok_part at c.parse_distance_predicate.ensures;
       first = c.side_of_column_references-arg0.ensures;
-      second = rw c.after-arg1_index.ensures at c.side_of_column_references-arg1.ensures;
+      second = c.side_of_column_references-arg1.ensures;
       limit = c.side_of_column_references-distance.ensures;
     }
 
@@ -24,17 +24,13 @@ pub side_of_column_references-distance-requires : goal.side_of_column_references
 side_of_column_references-distance-requires c =
     distance-argued (asked (goal.at.side_of_column_references-distance-requires c).In_ok-parsed) c.requires.framed
 
-pub after-arg1_index-requires : goal.after-arg1_index-requires
-after-arg1_index-requires c =
-    arg0-within (asked (goal.at.after-arg1_index-requires c).In_ok-parsed) c.requires.framed
-
 pub side_of_column_references-arg0-requires : goal.side_of_column_references-arg0-requires
 side_of_column_references-arg0-requires c =
     arg0-argued (asked (goal.at.side_of_column_references-arg0-requires c).In_ok-parsed) c.requires.framed
 
 pub side_of_column_references-arg1-requires : goal.side_of_column_references-arg1-requires
 side_of_column_references-arg1-requires c =
-    arg1-argued (asked (goal.at.side_of_column_references-arg1-requires c).In_ok-parsed) c.requires.framed _ c.after-arg1_index.ensures
+    arg1-argued (asked (goal.at.side_of_column_references-arg1-requires c).In_ok-parsed) c.requires.framed
 
 pub returns-in_err-parsed : goal.returns-in_err-parsed
 returns-in_err-parsed c =
@@ -56,16 +52,16 @@ returns-in_err-order c =
     rw none.1 (distance-neither (walked (goal.at.returns-in_err-order c).After-side_of_column_references-arg1) over
     (rw c.in_ok-distance_side.ensures.ok_part at c.side_of_distance.ensures) (rw none.0 at c.resolve_column_reference_sides.ensures))
 
-pub returns-in-LeftRight : goal.returns-in-LeftRight
-returns-in-LeftRight c =
+pub returns : goal.returns
+returns c =
     λ records t over.
-    distance-left (walked (goal.at.returns-in-LeftRight c).After-side_of_column_references-arg1) over
-    (rw c.in_ok-distance_side.ensures.ok_part at c.side_of_distance.ensures)
-    (rw (c.in_ok-order.ensures.ok_part, c.in-LeftRight.is) at c.resolve_column_reference_sides.ensures)
-
-pub returns-in-RightLeft : goal.returns-in-RightLeft
-returns-in-RightLeft c =
-    λ records t over.
-    distance-right (walked (goal.at.returns-in-RightLeft c).After-side_of_column_references-arg1) over
-    (rw c.in_ok-distance_side.ensures.ok_part at c.side_of_distance.ensures)
-    (rw (c.in_ok-order.ensures.ok_part, c.in-RightLeft.is) at c.resolve_column_reference_sides.ensures)
+    let w = walked (goal.at.returns c).After-side_of_column_references-arg1 in
+    let known = rw c.in_ok-distance_side.ensures.ok_part at c.side_of_distance.ensures in
+    elim c.match-order.branch [
+      | in-LeftRight v ↦ distance-left w over known (c.start-3.ensures, c.end-3.ensures)
+          (rw v.left-is at c.start.ensures, rw v.left-is at c.end.ensures) (rw v.left-is at c.start-2.ensures, rw v.left-is at c.end-2.ensures)
+          (rw (c.in_ok-order.ensures.ok_part, v.in-LeftRight.is) at c.resolve_column_reference_sides.ensures)
+      | in-RightLeft v ↦ distance-right w over known (c.start-3.ensures, c.end-3.ensures)
+          (rw v.left-is at c.start.ensures, rw v.left-is at c.end.ensures) (rw v.left-is at c.start-2.ensures, rw v.left-is at c.end-2.ensures)
+          (rw (c.in_ok-order.ensures.ok_part, v.in-RightLeft.is) at c.resolve_column_reference_sides.ensures)
+    ]

@@ -5,7 +5,7 @@ use mathlib.Core.Logic.{⊎_elim}
 use Rattle.std.specs.Prelude.{Some}
 use Rattle.definitions.specs.Words.Basics.{ascii}
 use Rattle.leaf_matching.proofs.Asked.{other_name}
-use Rattle.leaf_matching.proofs.MatchLaws.{pair-framed, pair-begins, rest-trees, named}
+use Rattle.leaf_matching.proofs.MatchLaws.{pair-argued, rest-trees, named}
 use Rattle.leaf_matching.proofs.Missing.{missed}
 use Rattle.leaf_matching.proofs.knn.KnnLaws.{few-lacks, many-lacks, Walked, knn-unread, knn-neither, knn-left, knn-right}
 use Rattle.leaf_matching.proofs.knn.match_knn_predicate.Goals as goal
@@ -13,13 +13,14 @@ use Rattle.leaf_matching.proofs.knn.match_knn_predicate.Goals.{After-knn_options
 
 walked : (c : After-knn_options-given)
     → let start = c.args in
-    Walked start.default_k start.filter.s.now start.filter.rec start.called c.resolve_geometries-geometries.result
+    Walked start.default_k start.filter.tree.bytes.now start.filter.tree.nodes.now start.filter.rec start.i start.called c.resolve_geometries-geometries.result
     c.knn_options-given.result
 unfolding ascii
 walked c =
     record {
       same = (rw c.name.ensures at c.if-not-same_name.ensures);
       enough = c.if-called-lt2.false;
+      noded = c.requires.of_call;
       geometries = c.resolve_geometries-geometries.ensures;
       options = c.knn_options-given.ensures;
     }
@@ -39,14 +40,11 @@ returns-then-called-lt2 c =
 
 pub resolve_geometries-geometries-requires : goal.resolve_geometries-geometries-requires
 resolve_geometries-geometries-requires c =
-    record {
-      framed_two = pair-framed c.requires.call_framed c.if-called-lt2.false;
-      of_frame_two = pair-begins c.requires.call_framed c.if-called-lt2.false c.requires.of_call;
-    }
+    pair-argued c.requires.of_call c.if-called-lt2.false c.requires.call_framed
 
 pub knn_options-given-requires-clause-trees : goal.knn_options-given-requires-clause-trees
 knn_options-given-requires-clause-trees c =
-    rest-trees c.requires.call_framed c.if-called-lt2.false _ c.resolve_geometries-geometries.ensures
+    rest-trees c.requires.of_call c.if-called-lt2.false _ c.resolve_geometries-geometries.ensures c.requires.call_framed
 
 pub returns-in_err-options : goal.returns-in_err-options
 returns-in_err-options c =

@@ -5,18 +5,19 @@ use Rattle.std.specs.Prelude.{Some}
 use Rattle.definitions.specs.Words.Leaves.{relation_named}
 use Rattle.leaf_matching.proofs.Asked.{no-relation}
 use Rattle.leaf_matching.proofs.Missing.{missed}
-use Rattle.leaf_matching.proofs.MatchLaws.{pair-framed, pair-begins}
+use Rattle.leaf_matching.proofs.MatchLaws.{pair-argued}
 use Rattle.leaf_matching.proofs.relation.RelationLaws.{few-lacks, Walked, relation-neither, relation-left, relation-right}
 use Rattle.leaf_matching.proofs.relation.match_relation_predicate.Goals as goal
 use Rattle.leaf_matching.proofs.relation.match_relation_predicate.Goals.{After-resolve_geometries-geometries}
 
 walked : (c : After-resolve_geometries-geometries)
     → let start = c.args in
-    Walked start.filter.s.now start.filter.rec start.called c.resolve_geometries-geometries.result c.in_ok-relation_type.relation_type
+    Walked start.filter.tree.bytes.now start.filter.tree.nodes.now start.filter.rec start.i start.called c.resolve_geometries-geometries.result c.in_ok-relation_type.relation_type
 walked c =
     record {
       named = sym (rw (c.in_ok-relation_type.ensures.ok_part, c.name.ensures) at c.from_name-named.ensures);
       enough = c.if-called-lt2.false;
+      noded = c.requires.of_call;
       geometries = c.resolve_geometries-geometries.ensures;
     }
 
@@ -36,10 +37,7 @@ returns-then-called-lt2 c =
 
 pub resolve_geometries-geometries-requires : goal.resolve_geometries-geometries-requires
 resolve_geometries-geometries-requires c =
-    record {
-      framed_two = pair-framed c.requires.call_framed c.if-called-lt2.false;
-      of_frame_two = pair-begins c.requires.call_framed c.if-called-lt2.false c.requires.of_call;
-    }
+    pair-argued c.requires.of_call c.if-called-lt2.false c.requires.call_framed
 
 pub returns-in_err-order : goal.returns-in_err-order
 returns-in_err-order c =

@@ -1,6 +1,7 @@
--- `side_of_column_references`: its nodes are those up to the one after it.
-use Rattle.leaf_matching.proofs.SideWalk.{argued-within}
+-- `side_of_column_references`: what was seen of the columns is the side of them all.
+use Rattle.leaf_matching.proofs.SideWalk.{side-seen}
 use Rattle.leaf_matching.proofs.sides.side_of_column_references.Goals as goal
 
-pub after-requires : goal.after-requires
-after-requires c = argued-within c.requires
+pub returns : goal.returns
+returns c =
+    λ records t is. side-seen records t c.sides.ensures (c.seen_sides.ensures records t is)

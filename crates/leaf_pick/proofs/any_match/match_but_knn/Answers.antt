@@ -17,4 +17,4 @@ returns-in-Err c =
     λ records t over.
     let match = match_under (settings_of c.args.settings) records t in
     no-match match (c.requires.no_knn records t over)
-    (no-match_lacks is_other c.args.filter.s.now records match c.in-Err.field-0 (c.in-Err.ensures records t over))
+    (no-match_lacks is_other c.args.filter.tree.bytes.now records match c.in-Err.field-0 (c.in-Err.ensures records t over))

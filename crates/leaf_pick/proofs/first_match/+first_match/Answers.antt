@@ -1,10 +1,10 @@
--- `first_match`: in an And, what the left side finds comes first, and the loop goes on with the right side, where the rows say that the
--- left one ends.
+-- `first_match`: in an And, what the left side finds comes first, and the loop goes on with the right side, where the left one
+-- ends.
 -- A call goes to a place further on, so the measure is the bytes left.
 use native.Mathlib.Omega.{arith}
 use Rattle.leaf_matching.proofs.Framing.{framed-tree}
 use Rattle.expression.proofs.AndLeaves.{single-leaf}
-use Rattle.leaf_pick.proofs.FirstLaws.{along-begins, along-within, along-tabled, left-within, left_there, along-left, along-less, along-right}
+use Rattle.leaf_pick.proofs.FirstLaws.{along-begins, along-within, along-noded, left-node, left_there, along-left, along-less, along-right}
 use Rattle.leaf_pick.proofs.first_match.+first_match.Goals as goal
 
 pub loop-left-init : goal.loop-left-init
@@ -19,7 +19,7 @@ pub leaf_match-requires : goal.leaf_match-requires
 leaf_match-requires t c =
     let inv = c.loop-left.invariant in
     let node = c.node_at-node in record {
-      leaf_there = record { framed = inv.there; tabled = inv.tabled; is = node.ensures };
+      leaf_there = record { framed = inv.there; noded = inv.noded; is = node.ensures };
       of_frame = (λ records u over. single-leaf node.result node.ensures over.tree c.in_default.not-And);
       position_le_at = inv.few;
     }
@@ -30,14 +30,14 @@ returns-in_default t c =
 
 pub overflow_add-below : goal.overflow_add-below
 overflow_add-below t c =
-    omega (arith, c.well_formed, (along-within c.loop-left.invariant).0)
+    omega (arith, c.well_formed, along-within c.loop-left.invariant)
 
 pub first_match-requires : goal.first_match-requires
 first_match-requires t c =
     let is = c.node_at-node.ensures in
     let told = c.in-And.is in
     let left = left_there c.loop-left.invariant is told c.decreases in
-    (left.0, (left.1.0, (along-tabled c.loop-left.invariant is told, left.1.1)))
+    (left.0, (left.1.0, (along-noded c.loop-left.invariant is told, left.1.1)))
 
 pub returns-in_err-position : goal.returns-in_err-position
 returns-in_err-position t c =
@@ -46,11 +46,11 @@ returns-in_err-position t c =
 
 pub end-requires : goal.end-requires
 end-requires t c =
-    (left-within c.loop-left.invariant c.node_at-node.ensures c.in-And.is).0
+    left-node c.loop-left.invariant c.node_at-node.ensures c.in-And.is
 
 pub after-requires : goal.after-requires
 after-requires t c =
-    (left-within c.loop-left.invariant c.node_at-node.ensures c.in-And.is).1
+    left-node c.loop-left.invariant c.node_at-node.ensures c.in-And.is
 
 pub loop-left-smaller : goal.loop-left-smaller
 loop-left-smaller t c =

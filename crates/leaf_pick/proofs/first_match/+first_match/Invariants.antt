@@ -1,5 +1,5 @@
--- `first_match`: in an And, what the left side finds comes first, and the loop goes on with the right side, where the rows say that the
--- left one ends.
+-- `first_match`: in an And, what the left side finds comes first, and the loop goes on with the right side, where the left one
+-- ends.
 -- A call goes to a place further on, so the measure is the bytes left.
 use lib.ListN.{length}
 use Rattle.definitions.specs.Filter.Settings.{match_under}
@@ -11,13 +11,13 @@ use Rattle.leaf_pick.proofs.first_match.+first_match.Given as goal
 abbrev pub invariant-loop-left : goal.invariant-loop-left
 invariant-loop-left l =
     let f = l.filter in
-    Along (match_under (settings_of l.pass.settings)) l.pass.wanted f.s.now f.rows.numbers.now f.rows.next.now f.rec l.fn.from l.fn.parent
+    Along (match_under (settings_of l.pass.settings)) l.pass.wanted f.tree.bytes.now f.tree.nodes.now f.rec l.fn.from l.fn.parent
     l.stop l.above
 
 abbrev pub decreases-loop-left : goal.decreases-loop-left
 decreases-loop-left l =
-    length l.filter.s.now - l.stop.at
+    length l.filter.tree.bytes.now - l.stop.at
 
 abbrev pub decreases-first_match : goal.decreases-first_match
 decreases-first_match l =
-    length l.filter.s.now - l.from.at
+    length l.filter.tree.bytes.now - l.from.at

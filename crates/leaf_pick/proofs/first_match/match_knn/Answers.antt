@@ -5,7 +5,8 @@ use Rattle.definitions.specs.Filter.Settings.{only_if, match_under}
 use Rattle.terms.specs.Settings.{settings_of}
 use Rattle.leaf_matching.proofs.AllowLaws.{passing-lacks}
 use Rattle.leaf_pick.proofs.Nodes.{no-function}
-use Rattle.leaf_pick.proofs.LeafLaws.{call-given, call-leaf}
+use native.Mathlib.Omega.{arith}
+use Rattle.leaf_pick.proofs.LeafLaws.{leaf-within, call-given, call-leaf}
 use Rattle.leaf_pick.proofs.first_match.match_knn.Goals as goal
 
 pub returns-in_default : goal.returns-in_default
@@ -26,6 +27,10 @@ returns c =
     λ records t over.
     let a = c.args in
     let k = a.settings.default_k in
-    c.only_allowed.ensures is_knn a.filter.s.now records (match_leaf_by k records t)
+    c.only_allowed.ensures is_knn a.filter.tree.bytes.now records (match_leaf_by k records t)
     (call-leaf c.requires c.in-Call.is k is_knn c.match_knn_predicate-matching.result
     c.match_knn_predicate-matching.ensures over)
+
+pub overflow_add-leaf : goal.overflow_add-leaf
+overflow_add-leaf c =
+    omega (arith, leaf-within c.requires, c.well_formed)

@@ -12,5 +12,5 @@ returns c =
     let found = c.match_relation_or_distance in
     let f = c.args.filter in
     let k = c.args.settings.default_k in
-    c.only_allowed.ensures is_other f.s.now records (match_leaf_by k records t)
-    (other-default 1 k f.s.now records t found.result (found.ensures records t over))
+    c.only_allowed.ensures is_other f.tree.bytes.now records (match_leaf_by k records t)
+    (other-default 1 k f.tree.bytes.now records t found.result (found.ensures records t over))

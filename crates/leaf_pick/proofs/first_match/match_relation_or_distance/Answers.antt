@@ -3,7 +3,8 @@ use borrow.Author.Rules.{rules}
 use Rattle.std.specs.Prelude.{Err}
 use Rattle.leaf_matching.specs.Matches.{is_relation}
 use Rattle.leaf_pick.proofs.Nodes.{no-function}
-use Rattle.leaf_pick.proofs.LeafLaws.{call-given, call-leaf, asked-matched, distance-matching}
+use native.Mathlib.Omega.{arith}
+use Rattle.leaf_pick.proofs.LeafLaws.{leaf-within, call-given, call-leaf, asked-matched, distance-matching}
 use Rattle.leaf_pick.proofs.first_match.match_relation_or_distance.Goals as goal
 
 pub returns-in_default : goal.returns-in_default
@@ -34,3 +35,7 @@ returns-in-Err-NotAsked c =
     λ records t over. distance-matching over c.match_distance_predicate-in-Err-NotAsked.result
     (rw arm.field-0-is at (call-leaf c.requires c.in-Call.is 1 is_relation (Err arm.field-0) arm.ensures over))
     (c.match_distance_predicate-in-Err-NotAsked.ensures records t over)
+
+pub overflow_add-leaf : goal.overflow_add-leaf
+overflow_add-leaf c =
+    omega (arith, leaf-within c.requires, c.well_formed)

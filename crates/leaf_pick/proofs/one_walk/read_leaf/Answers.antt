@@ -1,5 +1,4 @@
 -- `read_leaf`: a leaf that is passed matches nothing; a KNN match stops the walk; of any other the first match is remembered.
-use Rattle.leaf_pick.proofs.LeafLaws.{leaf-within}
 use Rattle.leaf_pick.proofs.OneWalkLeafLaws.{leaf-stops, leaf-unmatched}
 use Rattle.leaf_pick.proofs.one_walk.read_leaf.Goals as goal
 
@@ -9,14 +8,10 @@ returns-then-is_passed c =
     let there = c.requires in
     leaf-unmatched (c.is_passed.ensures c.if-is_passed.true _ records _ _ _ t (there.is _ t over.tree))
 
-pub seen_here-requires : goal.seen_here-requires
-seen_here-requires c =
-    (leaf-within c.requires).0
-
 pub returns-in-Ok : goal.returns-in-Ok
 returns-in-Ok c =
     λ records t over first known.
-    rw c.seen_here.ensures (leaf-stops c.requires over _ (c.in-Ok.ensures records t over) first)
+    rw c.seen_here.ensures (leaf-stops c.args.leaf _ (c.in-Ok.ensures records t over) first)
 
 pub returns-in-Err-Unmatched : goal.returns-in-Err-Unmatched
 returns-in-Err-Unmatched c =

@@ -14,5 +14,5 @@ returns-in-Break c =
 pub returns : goal.returns
 returns c =
     λ records t over. rw c.break_value.ensures.value
-    (second-pass _ c.args.filter.s.now _ records t _ (c.in_default.ensures records t over).first
+    (second-pass _ c.args.filter.tree.bytes.now _ records t _ (c.in_default.ensures records t over).first
     (c.from_root.ensures records t over))
